@@ -3,10 +3,10 @@
 
     python3 bench/captures.py [PROGRAM]
 
-PROGRAM is the built `uipd`, crates/uipd/out/uipd where none is named (`rt run` in crates/uipd builds it). The lines are made anew in
-bench/out: echo requests of 84 and of 1006 bytes, and a mixed line of these, of whole segments of 1500 bytes and of the bare
-acknowledgements between them; every byte value stands in the payloads. Instructions are those that `valgrind --tool=callgrind`
-counts, less those of a run on an empty line.
+PROGRAM is the built `uipd`, crates/uipd/out/uipd if none is given (`rt run` in crates/uipd builds it). The lines are written to
+bench/out: echo requests of 84 and of 1006 bytes, and a mixed line of these, of segments of 1500 bytes and of the bare
+acknowledgements between them. The payloads have every byte value. Instructions are those that `valgrind --tool=callgrind` counts,
+less those of a run on an empty line.
 """
 import os
 import re
@@ -63,7 +63,10 @@ def instructions(program, word, line):
     with open(line, "rb") as stdin:
         done = subprocess.run(["valgrind", "--tool=callgrind", "--callgrind-out-file=" + profile, program, word],
                               stdin=stdin, stdout=subprocess.PIPE, stderr=subprocess.PIPE, check=False)
-    return int(re.search(rb"Collected : (\d+)", done.stderr).group(1)), done.stdout
+    collected = re.search(rb"Collected : (\d+)", done.stderr)
+    if done.returncode or not collected:
+        sys.exit(f"captures.py: {program} {word} ended with status {done.returncode}: {done.stderr.decode(errors='replace')[-300:]}")
+    return int(collected.group(1)), done.stdout
 
 
 def main():
@@ -71,9 +74,9 @@ def main():
         sys.exit(print(__doc__))
     program = os.path.abspath(sys.argv[1] if len(sys.argv) > 1 else os.path.join(HERE, "..", "crates", "uipd", "out", "uipd"))
     if not os.access(program, os.X_OK):
-        sys.exit("no program at %s: run `rt run` in crates/uipd first, or name one" % program)
+        sys.exit(f"captures.py: no program at {program}: `rt run` in crates/uipd builds it, or name one")
     if not shutil.which("valgrind"):
-        sys.exit("no valgrind here: it counts the instructions")
+        sys.exit("captures.py: no command valgrind here, which counts the instructions")
     os.makedirs(OUT, exist_ok=True)
     count = 1000
     empty = record("empty.slip", b"")

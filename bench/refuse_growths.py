@@ -1,11 +1,11 @@
 #!/usr/bin/env python3
-"""Lets each growth of the program's memory fail in turn, and prints what every command answers. It asserts nothing.
+"""Lets each growth of the program's memory fail in turn, and prints how every command ends. It asserts nothing.
 
     python3 bench/refuse_growths.py [PROGRAM]
 
-PROGRAM is the built `uipd`, crates/uipd/out/uipd where none is named (`rt run` in crates/uipd builds it). `cc` has to be there: a library
-of a few lines, laid over the system's, refuses the N-th growth of a run. With N from 1 upwards each run is to answer out of memory
-(status 8) with nothing written, or what the run with all its memory answers; one that does neither is odd.
+PROGRAM is the built `uipd`, crates/uipd/out/uipd if none is given (`rt run` in crates/uipd builds it). It needs `cc`: a library of a
+few lines, loaded before the system's, refuses the N-th growth of a run. For each N from 1 on the run must end out of memory (status 8)
+with nothing written, or as the run with all its memory ends. A run that does neither is odd.
 """
 import os
 import subprocess
@@ -15,7 +15,7 @@ import tempfile
 HERE = os.path.dirname(os.path.abspath(__file__))
 EXAMPLES = os.path.join(HERE, "..", "examples")
 
-# The growths of the program, of which the one with the number REFUSED is refused.
+# Counts the growths of the program, and refuses the one with the number REFUSED.
 OVERLAY = r"""
 #define _GNU_SOURCE
 #include <dlfcn.h>
@@ -62,7 +62,7 @@ void *aligned_alloc(size_t align, size_t size) {
 }
 """
 
-# A run of so many growths without a refusal has none left.
+# If this number of growths in a row changes nothing, the run has no further growth.
 QUIET = 60
 
 BAD_WORDS, OUT_OF_MEMORY = 1, 8
@@ -77,13 +77,14 @@ def overlay(folder):
 
 
 def framed(datagram):
-    """The datagram as an Ethernet frame to the node, behind its length."""
+    """The datagram as an Ethernet frame to the node, after its length."""
     frame = bytes([2, 0, 0, 0, 0, 1, 2, 0, 0, 0, 0, 2, 8, 0]) + datagram
     return len(frame).to_bytes(2, "big") + frame
 
 
+# [add: command] a run of a command, in which each growth of memory is refused
 def commands(folder, program, ping):
-    """What is run: the words, and the bytes of the line."""
+    """The runs: their words, and the bytes of their line."""
     site, schedule = os.path.join(EXAMPLES, "site.img"), os.path.join(EXAMPLES, "page.schedule")
     files = sorted(os.listdir(os.path.join(EXAMPLES, "site")))[:3]
     words = [f"/{name}={os.path.join(EXAMPLES, 'site', name)}" for name in files]
@@ -115,7 +116,11 @@ def run(program, words, line, library, number):
 
 
 def main():
+    if "--help" in sys.argv or "-h" in sys.argv:
+        sys.exit(print(__doc__))
     program = os.path.abspath(sys.argv[1] if len(sys.argv) > 1 else os.path.join(HERE, "..", "crates", "uipd", "out", "uipd"))
+    if not os.access(program, os.X_OK):
+        sys.exit(f"refuse_growths.py: no program at {program}: `rt run` in crates/uipd builds it, or name one")
     with open(os.path.join(EXAMPLES, "ping.slip"), "rb") as file:
         ping = file.read()
     with tempfile.TemporaryDirectory() as folder:
@@ -125,18 +130,18 @@ def main():
             if good[0] == BAD_WORDS:
                 print(f"{words[0]}: no command of this program")
                 continue
-            last, told, odd = 0, 0, []
+            last, reported, odd = 0, 0, []
             number = 0
             while number <= last + QUIET:
                 number += 1
                 answer = run(program, words, line, library, number)
                 if answer == (OUT_OF_MEMORY, b"", b""):
-                    last, told = number, told + 1
+                    last, reported = number, reported + 1
                 elif answer != good:
                     last = number
                     odd.append((number, answer[0], len(answer[1])))
             shown = " ".join(os.path.basename(word) for word in words)
-            print(f"{shown}: status {good[0]} with all its memory, {told} refusals told; odd: {odd or 'none'}", flush=True)
+            print(f"{shown}: status {good[0]} with all its memory, {reported} refusals reported; odd: {odd or 'none'}", flush=True)
 
 
 if __name__ == "__main__":

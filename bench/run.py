@@ -3,17 +3,17 @@
 
     python3 bench/run.py [PROGRAM] [lines] [ether] [desk] [replay] [memory] [--markdown]
 
-PROGRAM is the built `uipd`, crates/uipd/out/uipd where none is named (`rt run` in crates/uipd builds it). With no further word all is
-measured.
+PROGRAM is the built `uipd`, crates/uipd/out/uipd if none is given (`rt run` in crates/uipd builds it). Without a further word it
+measures everything.
 
     lines     the recorded lines of bench/lines, beside uIP 1.0 and lwIP 2.2.1 on the same work
     ether     the echo requests of ping84 in Ethernet frames (`uipd ether`)
     desk      pages over `uipd desk`, beside the same over `uipd serve`
     replay    schedules: a made one of 16 and of 64 clients, one of n echo requests and one of n ticks at n, 2n and 4n
-    memory    what `serve` takes at the start, the greatest depth of the stack, and the size of the program
+    memory    the heap that `serve` allocates at the start, the greatest depth of the stack, and the size of the program
 
 Instructions are those that `valgrind --tool=callgrind` counts, less those of a run on an empty line (or an empty schedule). Two runs
-differ by less than a thousandth. With --markdown the first table is one for a document.
+differ by less than a thousandth. With --markdown the first table is in Markdown.
 """
 import json
 import lzma
@@ -42,7 +42,7 @@ def unpacked(name):
 
 
 def kept(name, data):
-    """The path of a file of bench/out with this content."""
+    """Writes a file of bench/out with this content, and returns its path."""
     path = os.path.join(OUT, name)
     with open(path, "wb") as file:
         file.write(data)
@@ -77,7 +77,7 @@ def measure_lines(program, is_markdown):
 
 
 def framed(data):
-    """A datagram in an Ethernet frame behind its length."""
+    """A datagram in an Ethernet frame, after its length."""
     frame = NODE_MAC + PEER_MAC + bytes([8, 0]) + data
     return len(frame).to_bytes(2, "big") + frame
 
@@ -87,7 +87,7 @@ def unescaped(frame):
 
 
 def measure_ether(program):
-    """The peer asks for the node's hardware address, and then for the echoes of ping84."""
+    """The peer asks for the node's hardware address, and then sends the echo requests of ping84."""
     pings = [unescaped(frame) for frame in unpacked("ping84.slip").split(b"\xc0") if frame]
     arp = bytes([0, 1, 8, 0, 6, 4, 0, 1]) + PEER_MAC + PEER + bytes(6) + NODE
     first = b"\xff" * 6 + PEER_MAC + bytes([8, 6]) + arp
@@ -121,7 +121,7 @@ def seconds_of(program, words):
 
 
 def heap_of(program, words, data=b""):
-    """The bytes that a run takes from the heap in all, and the most at once."""
+    """The most bytes of the heap that a run holds at once."""
     out = os.path.join(OUT, "massif")
     run((program, *words), data, ("valgrind", "--tool=massif", "--stacks=no", "--massif-out-file=" + out))
     with open(out, encoding="utf-8") as file:
@@ -193,4 +193,7 @@ def main():
         measure_memory(program)
 
 
-main()
+try:
+    main()
+except subprocess.CalledProcessError as error:
+    sys.exit(f"run.py: {' '.join(map(str, error.cmd))} ended with status {error.returncode}: {(error.stderr or b'').decode(errors='replace')[-300:]}")

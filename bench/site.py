@@ -1,12 +1,12 @@
 #!/usr/bin/env python3
-"""Measures what it takes to load a site and to find a name in it. It asserts nothing.
+"""Measures the instructions to load a site and to find a name in it. It asserts nothing.
 
     python3 bench/site.py [PROGRAM]
 
-PROGRAM is the built `uipd`, crates/uipd/out/uipd where none is named (`rt run` in crates/uipd builds it), which is run with
-`check` on images that are made anew in bench/out. Instructions are those that `valgrind --tool=callgrind` counts. A name is
-found once for each include of a script, so a script with many includes of one file tells what a look-up costs: the names are
-searched by halving, so among 1,024 files it is some ten looks, among 32 some five and among 2 one.
+PROGRAM is the built `uipd`, crates/uipd/out/uipd if none is given (`rt run` in crates/uipd builds it). It runs with `check` on
+images that are written to bench/out. Instructions are those that `valgrind --tool=callgrind` counts. Each include of a script is
+one look-up of a name, so a script with many includes of one file shows the cost of a look-up. Names are searched by bisection:
+about ten comparisons among 1,024 files, five among 32 and one among 2.
 """
 import os
 import re
@@ -25,7 +25,7 @@ def image(files):
 
 
 def site(count, includes):
-    """A site of so many files, of which the last is a script that includes the one in the middle so often."""
+    """A site of `count` files. The last is a script that includes the one in the middle `includes` times."""
     names = [b"/f%04d" % number for number in range(count - 1)]
     script = b"%%!:%s\n" % names[len(names) // 2] * includes
     return image([(name, name) for name in names] + [(b"/s.shtml", script)])
@@ -45,7 +45,7 @@ def main():
         sys.exit(print(__doc__))
     program = os.path.abspath(sys.argv[1] if len(sys.argv) > 1 else os.path.join(HERE, "..", "crates", "uipd", "out", "uipd"))
     if not os.access(program, os.X_OK):
-        sys.exit("no program at %s: run `rt run` in crates/uipd first, or name one" % program)
+        sys.exit(f"site.py: no program at {program}: `rt run` in crates/uipd builds it, or name one")
     os.makedirs(OUT, exist_ok=True)
     few, many = 1000, 3000
     print("files    instructions per name that is found")
@@ -53,7 +53,10 @@ def main():
         spent = instructions(program, site(count, many)) - instructions(program, site(count, few))
         print("%5d %39d" % (count, round(spent / (many - few))))
     spent = instructions(program, site(1024, 1)) - instructions(program, site(2, 1))
-    print("instructions per file that is loaded and told, of 1024: %d" % round(spent / 1022))
+    print("instructions per file that is loaded and listed, of 1024: %d" % round(spent / 1022))
 
 
-main()
+try:
+    main()
+except subprocess.CalledProcessError as error:
+    sys.exit(f"site.py: {' '.join(map(str, error.cmd))} ended with status {error.returncode}: {(error.stderr or b'').decode(errors='replace')[-300:]}")

@@ -1,15 +1,15 @@
 #!/usr/bin/env python3
 """Which definitions the contract of the program's top call rests on: all that a reader must believe of it.
 
-    python3 docs/trusted.py            compares docs/SPECIFICATION.md with the sources, and says where they differ (status 1)
-    python3 docs/trusted.py write      writes the lists of that page anew
-    python3 docs/trusted.py NAME ..    prints what a definition rests on, as link_world.specs.Headline.Tick
-    python3 docs/trusted.py names      says which definitions that another crate cites have a namesake in another crate (status 1)
+    python3 docs/trusted.py            compares docs/SPECIFICATION.md and docs/FIRST_PROOF.md with the sources (status 1 if they differ)
+    python3 docs/trusted.py write      writes the lists and texts of these pages again
+    python3 docs/trusted.py NAME ..    prints what a definition rests on, for example link_world.specs.Headline.Tick
+    python3 docs/trusted.py names      prints the definitions that another crate cites and that have a namesake in another crate (status 1)
 
 It follows the names of specs/ through their imports, from the clauses of `run_told` in crates/uipd/src/run_told.rt.
-A definition belongs to the part of its file; a file that no part names is told as one that the page lacks.
+A definition belongs to the part of its file; a file that no part names is reported as missing on the page.
 
-What stands between a mark and `<!-- end -->` on the page is written from the sources:
+The text between a mark and `<!-- end -->` on the page is written from the sources:
 
     <!-- list: CRATE CRATE/File .. -->   the definitions of these files, with their lines
     <!-- all -->                         how many definitions and lines the contract rests on
@@ -17,6 +17,7 @@ What stands between a mark and `<!-- end -->` on the page is written from the so
     <!-- arms: MODULE.NAME .. -->        the same of the arms of `TaskRuns` that name them: what a command rests on
     <!-- text: MODULE: NAME, NAME -->    these definitions, word for word
     <!-- trait: CRATE/src/FILE.rt -->    the clauses of a trait's calls
+    <!-- code: CRATE/src/FILE.rt: NAME -->   a function, word for word; without a NAME the whole file
     <!-- constants -->                   the constants of the code that the definitions name, with the values that theorems pin
 """
 import collections
@@ -28,9 +29,10 @@ import sys
 HERE = os.path.dirname(os.path.abspath(__file__))
 CRATES = os.path.join(HERE, "..", "crates")
 PAGE = os.path.join(HERE, "SPECIFICATION.md")
+FURTHER = [os.path.join(HERE, "FIRST_PROOF.md")]    # pages with marks and without lists
 NAME = re.compile(r"[A-Za-z_◌][\w'◌\-]*(?:\.[A-Za-z_][\w'\-]*)*")
 HEAD = re.compile(r"^\s{0,2}(?:(?:abbrev|unfoldable)(?: pub)?|pub (?:record|data)|record|data|pub)\s+([^\s:({]+)")
-IMPORT = re.compile(r"^(?:pub |ghost )?use (Rattle\.[^\s{;]+?)(?:\.\{([^}]*)\}| as (\S+?))?;?\s*$", re.M)
+IMPORT = re.compile(r"^(?:unfoldable )?(?:pub |ghost )?use (Rattle\.[^\s{;]+?)(?:\.\{([^}]*)\}| as (\S+?))?;?\s*$", re.M)
 
 
 class Definition:
@@ -180,6 +182,20 @@ def trait_of(path):
     return "\n".join(["```", found.group(0), "```"])
 
 
+def code_of(place):
+    """A function of a file with the comment above it, moved to the left edge; or the whole file."""
+    path, _, name = place.partition(": ")
+    with open(os.path.join(CRATES, path), encoding="utf8") as file:
+        text = file.read()
+    if name:
+        found = re.search(rf"^( *)(?:///[^\n]*\n *)*(?:pub )?fn {name}\b.*?^\1}}$", text, re.S | re.M)
+        if not found:
+            sys.exit(f"trusted.py: {path} has no function {name}")
+        text = re.sub(rf"^{found.group(1)}", "", found.group(0), flags=re.M)
+    return "\n".join(["```", text.rstrip("\n"), "```"])
+
+
+# [add: counter] each constant of the counters is a row of SPECIFICATION
 def constants_of(sources):
     """A row for each constant of the code that a definition of the closure names: its value by the theorem of its crate, and who names it.
     A constant that no theorem pins is told."""
@@ -242,21 +258,28 @@ def written(page, sources):
         mark = f"<!-- list: {' '.join(files)} -->"
         page = re.sub(re.escape(mark) + r".*?<!-- end -->", lambda _: "\n".join([mark, *lines, "<!-- end -->"]), page, flags=re.S)
     constants, unpinned = constants_of(sources)
+    page = with_marks(page, sources, needed, constants)
+    return page, lost + (unpinned if "<!-- constants -->" in page else [])
+
+
+def with_marks(page, sources, needed, constants):
+    """The page with the text of each mark but those of lists as the sources have it."""
     lines = {
         "all": lambda rest: counted(needed),
         "count": lambda rest: counts_of(sources, rest),
         "arms": lambda rest: arms_of(sources, rest),
         "text": lambda rest: "\n" + printed(sources, *rest.split(": ", 1)) + "\n",
         "trait": lambda rest: "\n" + trait_of(rest) + "\n",
+        "code": lambda rest: "\n" + code_of(rest) + "\n",
         "constants": lambda rest: "\n" + constants + "\n",
     }
 
     def filled(found):
         kind, rest = found.group(1), (found.group(2) or "").strip()
-        return f"<!-- {kind}{': ' + rest if rest else ''} -->{lines[kind](rest)}<!-- end -->"
+        text = re.sub(r"[ \t]*\[add: [a-z, -]*\]", "", lines[kind](rest))    # the tags of `dev.py add`
+        return f"<!-- {kind}{': ' + rest if rest else ''} -->{text}<!-- end -->"
 
-    page = re.sub(r"<!-- (all|count|arms|text|trait|constants)(?:: (.*?))? -->.*?<!-- end -->", filled, page, flags=re.S)
-    return page, lost + (unpinned if "<!-- constants -->" in page else [])
+    return re.sub(r"<!-- (all|count|arms|text|trait|code|constants)(?:: (.*?))? -->.*?<!-- end -->", filled, page, flags=re.S)
 
 
 def cited_elsewhere():
@@ -286,6 +309,24 @@ def namesakes(sources):
     return {name: found for name, found in places.items() if len(found) > 1 and any((crate, name) in cited for crate in found)}
 
 
+def hold(path, sources, is_written):
+    """Compares a page with the sources, or writes it; returns the lines that no part of the page has."""
+    with open(path, encoding="utf8") as file:
+        page = file.read()
+    new, lost = written(page, sources) if path == PAGE else (with_marks(page, sources, set(), ""), [])
+    if is_written:
+        with open(path, "w", encoding="utf8") as file:
+            file.write(new)
+    elif new != page:
+        name = os.path.relpath(path, os.path.dirname(HERE))
+        for old, now in zip(page.split("\n"), new.split("\n")):
+            if old != now:
+                print(f"trusted.py: the page has:    {old}\n            the sources have: {now}")
+                break
+        sys.exit(f"trusted.py: {name} differs from the sources; python3 docs/trusted.py write writes its lists again")
+    return lost
+
+
 def main():
     words = sys.argv[1:]
     if "--help" in words or "-h" in words:
@@ -305,24 +346,13 @@ def main():
             print("\n".join(line for _, line in sorted(lists_of(found).items())))
             print(f"{len(found)} definitions, {sum(len(d.lines) for d in found)} lines")
         return
-    with open(PAGE, encoding="utf8") as file:
-        page = file.read()
-    new, lost = written(page, sources)
+    lost = [line for path in (PAGE, *FURTHER) for line in hold(path, sources, words == ["write"])]
     for line in lost:
         print(f"trusted.py: {line}" if "no theorem" in line else f"trusted.py: no part of the page has {line}")
-    if words == ["write"]:
-        with open(PAGE, "w", encoding="utf8") as file:
-            file.write(new)
-    elif new != page:
-        for old, now in zip(page.split("\n"), new.split("\n")):
-            if old != now:
-                print(f"trusted.py: the page says: {old}\n            the sources:  {now}")
-                break
-        sys.exit("trusted.py: docs/SPECIFICATION.md differs from the sources; python3 docs/trusted.py write writes its lists anew")
     if lost:
         sys.exit(1)
     if not words:
-        print("docs/SPECIFICATION.md lists what the contract of the top call rests on")
+        print("docs/SPECIFICATION.md lists what the contract of the top call rests on, and docs/FIRST_PROOF.md has the text of the sources")
 
 
 main()

@@ -1,11 +1,11 @@
 #!/usr/bin/env python3
-"""Asks a running server for every file of a site, with this machine's own TCP, and compares what comes with the files.
+"""Fetches every file of a site from a running server, by this machine's own TCP, and compares it with the file.
 
     python3 examples/browse.py -- python3 examples/fetch.py [FOLDER]
 
-FOLDER is examples/site where none is named. A file that is no script has to come byte for byte; a script's page has to be the
-script with its includes, where each call stands for some text. Then a name is asked for that no file has. It ends with 0 where all
-came as it should, else with 1.
+FOLDER is examples/site if none is given. A file that is no script must be the same byte for byte. The page of a script must be the
+script with its includes, and any text in place of each call. Then a name is requested that no file has. The status is 0 if all is
+as it should be, else 1.
 """
 import os
 import re
@@ -33,7 +33,7 @@ def read(folder, name):
 
 
 def pattern(folder, name):
-    """What the body of a file's page has to match."""
+    """The pattern that the body of a file's page has to match."""
     content = read(folder, name)
     if not name.endswith(".shtml"):
         return re.escape(content)
@@ -67,5 +67,5 @@ if __name__ == "__main__":
     try:
         main()
     except OSError as error:
-        sys.exit(f"fetch.py: no server answers at {SERVER[0]}, port {SERVER[1]}: {error.strerror or error}; "
-                 "run it through examples/browse.py")
+        sys.exit(f"fetch.py: no server replies at {SERVER[0]}, port {SERVER[1]}: {error.strerror or error}; "
+                 "run it by examples/browse.py")

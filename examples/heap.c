@@ -1,5 +1,6 @@
-// A heap over one array, for a program that has no other. Blocks are handed out in turn; once all are given back, all is free again.
-// UIP_HEAP_SIZE is the array's size: UIP_MEMORY (uip.h) for each device that is open at the same time. It is for one thread.
+// A heap over one array, for a program that has no other heap. Blocks are allocated in ascending order. When all are freed, the whole
+// array is free again. UIP_HEAP_SIZE is the size of the array: UIP_MEMORY (uip.h) for each device that is open at the same time. It is for
+// one thread.
 #include "uip.h"
 
 #ifndef UIP_HEAP_SIZE
@@ -7,8 +8,8 @@
 #endif
 
 static _Alignas(16) unsigned char area[UIP_HEAP_SIZE];
-size_t heap_used;      // the place in the array behind the last block
-size_t heap_blocks;    // how many blocks are not given back
+size_t heap_used;      // the offset after the last block
+size_t heap_blocks;    // how many blocks are not freed
 
 uip_block rattle_alloc(size_t len, size_t align) {
     size_t at = (heap_used + align - 1) & ~(align - 1);

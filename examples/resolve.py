@@ -1,11 +1,11 @@
 #!/usr/bin/env python3
-"""Asks dnsmasq for names over a line.
+"""Sends queries for names to dnsmasq over a line.
 
     python3 examples/resolve.py [UIPD]
 
 In a network namespace of its own it makes a TUN interface (10.0.0.2, the other end is 10.0.0.1), starts dnsmasq at 10.0.0.2 with two
 names, starts `UIPD resolve 10.0.0.1 10.0.0.2 1 NAME .. tty` on a pseudo terminal, and carries datagrams between the two as SLIP frames.
-What the program tells of the names comes out on standard error.
+The program prints the results on standard error.
 """
 import os
 import select
@@ -21,7 +21,7 @@ RECORDS = ["--address=/www.example.test/192.0.2.7", "--address=/mail.example.tes
 
 
 def start_dns():
-    """A server that knows these names alone, and asks no other."""
+    """A server that knows only these names, and forwards no query."""
     words = ["dnsmasq", "--no-daemon", "--conf-file=/dev/null", "--no-resolv", "--no-hosts", "--user=root", "--pid-file=",
              "--listen-address=10.0.0.2", "--bind-interfaces", *RECORDS]
     server = subprocess.Popen(words, stderr=subprocess.DEVNULL)
@@ -32,7 +32,7 @@ def start_dns():
 
 
 def carry(interface, to_program, from_program):
-    """Carries datagrams until the program has ended its output."""
+    """Carries datagrams until the program has closed its output."""
     form = Slip()
     while True:
         for ready in select.select([interface, from_program], [], [])[0]:

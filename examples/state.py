@@ -1,13 +1,13 @@
 #!/usr/bin/env python3
-"""Asks a running device for its state again and again, and sees that each value in each page is one that the device gave, whole.
+"""Fetches the state of a running device many times, and checks that each value in each page is one that the device set, whole.
 
     sh examples/board/run.sh state -- python3 examples/state.py [PAGES]
     python3 examples/browse.py examples/linux-c/out/uip_state examples/state.img -- python3 examples/state.py [PAGES]
 
-PAGES are how many pages of the state are asked for, 1000 where no number is named. The device gives its values anew before each tick,
-by a rule that is known here: the board's level goes up and down with the ticks, and the C program tells the load of this machine.
-Each value of a page is of a tick from that of the page's seconds on, up to that of the next page's. After every 50th page the lamp is
-switched by its link, which is asked for twice. It ends with 0 where all was as it should be, else with 1.
+PAGES is the number of pages to fetch, 1000 if none is given. The device sets its values again before each tick, by a rule that is known
+here: the board's level rises and falls with the ticks, and the C program shows the load of this machine. Each value of a page belongs
+to a tick between that of the page's seconds and that of the next page's. After every 50th page the lamp is switched by its link, which
+is requested twice. The status is 0 if all is as it should be, else 1.
 """
 import html
 import json
@@ -25,7 +25,7 @@ PATIENCE = 10
 
 
 class Board:
-    """What examples/board/state.c gives at a tick."""
+    """The values that examples/board/state.c sets at a tick."""
     name = 'Lamp & level of the "virt" board'
 
     def level(self, tick):
@@ -40,7 +40,7 @@ class Board:
 
 
 class Linux:
-    """What examples/linux-c/state.c gives: the load of this machine, which is looked at here all the while."""
+    """The values that examples/linux-c/state.c sets: the load of this machine, which is read here all the time."""
     name = f'Lamp & load of "{socket.gethostname()}"'[:32]
 
     def __init__(self):
@@ -65,7 +65,7 @@ class Linux:
 
 
 class Page:
-    """A page of the state: its values, each as the text that stands there."""
+    """A page of the state: its values, each as its text in the page."""
 
     def __init__(self):
         head, body = fetch("/state.shtml")
@@ -79,11 +79,11 @@ class Page:
 
 
 class Visit:
-    """What was seen so far, and how much of it was wrong."""
+    """What has been checked, and how much of it was wrong."""
 
     def __init__(self):
         linux = Linux()
-        time.sleep(1)    # so that the load that the device tells was seen here too
+        time.sleep(1)    # the load that the device shows is then known here too
         self.page = Page()
         self.rule = linux if self.page.name == linux.name else Board()
         self.pages = self.later = self.switches = self.wrong = 0
@@ -105,7 +105,7 @@ class Visit:
         self.ticks.add(page.tick)
 
     def see_lamp(self, page):
-        """Behind its link the lamp is switched at a tick, and stays so."""
+        """After a request of its link the lamp is switched at a tick, and stays so."""
         if page.lamp == self.wanted:
             self.is_switched = True
         else:

@@ -1,5 +1,7 @@
 // Single calls of the library. What each answers is foretold from its words and from what the handle has, by include/uip.h: a call
 // that is refused leaves the handle, the area and the heap as they were, and one that is fine touches the heap in uip_open alone.
+// [add: c-call] a call, and the status that is foretold for it
+// [add: counter] the numbers that are read, and those that the model does not foretell
 #include <string.h>
 #include "fuzz.h"
 
@@ -41,71 +43,71 @@ static void is_untouched(const tested *t, const byte *out, size_t room, const ch
 
 // The status that a call answers: its own words go first, then whether there is a device, then whether a text is left.
 static unsigned foretold(const tested *t, int is_bad, int asks_idle) {
-    return is_bad ? UIP_BAD_CALL : !t->is_open ? UIP_NO_DEVICE : asks_idle && t->has_left ? UIP_TEXT_LEFT : UIP_FINE;
+    return is_bad ? UIP_BAD_ARGUMENT : !t->is_open ? UIP_NO_DEVICE : asks_idle && t->has_left ? UIP_OUTPUT_PENDING : UIP_OK;
 }
 
-static void end(tested *t, uip_done done, unsigned wanted, const byte *out, size_t room, text *to, const char *what) {
+static void end(tested *t, uip_result done, unsigned wanted, const byte *out, size_t room, text *to, const char *what) {
     counts.calls++;
     WANT(done.status == wanted, "%s answers %u, and %u was foretold", what, done.status, wanted);
     WANT(heap_calls == heap_before, "%s called the heap", what);
-    if (wanted != UIP_FINE) {
+    if (wanted != UIP_OK) {
         counts.refused++;
-        WANT(done.taken == 0 && done.wrote == 0, "%s was refused and took %zu, wrote %zu", what, done.taken, done.wrote);
+        WANT(done.consumed == 0 && done.written == 0, "%s was refused and took %zu, wrote %zu", what, done.consumed, done.written);
         is_untouched(t, out, room, what);
         return;
     }
-    WANT(done.wrote <= room, "%s wrote %zu bytes to an area of %zu", what, done.wrote, room);
-    WANT(done.left <= 1 && (done.left == 0 || done.wrote + 1 >= room), "%s left a text with room to go on", what);
-    WANT(done.left == 0 || room < UIP_ROOM, "%s left a text with all room", what);
+    WANT(done.written <= room, "%s wrote %zu bytes to an area of %zu", what, done.written, room);
+    WANT(done.pending <= 1 && (done.pending == 0 || done.written + 1 >= room), "%s left a text with room to go on", what);
+    WANT(done.pending == 0 || room < UIP_MAX_OUT, "%s left a text with all room", what);
     WANT(t->handle.is_open == 1, "%s closed the handle", what);
-    WANT(to->len + done.wrote <= LONGEST_TEXT, "the harness has no room for a text");
-    memcpy(to->bytes + to->len, out, done.wrote);
-    to->len += done.wrote;
-    t->has_left = (int)done.left;
+    WANT(to->len + done.written <= LONGEST_TEXT, "the harness has no room for a text");
+    memcpy(to->bytes + to->len, out, done.written);
+    to->len += done.written;
+    t->has_left = (int)done.pending;
 }
 
-uip_done call_hear(tested *t, const byte *bytes, size_t len, size_t room, text *to) {
+uip_result call_hear(tested *t, const byte *bytes, size_t len, size_t room, text *to) {
     byte *out = begin(t, room);
-    uip_done done = uip_hear(&t->handle, put_input(&line_in, bytes, len), len, out, room);
-    unsigned wanted = foretold(t, len == 0 || room < UIP_LEAST_ROOM, 1);
-    end(t, done, wanted, out, room, to, "uip_hear");
-    WANT(wanted != UIP_FINE || (done.taken >= 1 && done.taken <= len), "uip_hear took %zu of %zu bytes", done.taken, len);
+    uip_result done = uip_feed(&t->handle, put_input(&line_in, bytes, len), len, out, room);
+    unsigned wanted = foretold(t, len == 0 || room < UIP_MIN_OUT, 1);
+    end(t, done, wanted, out, room, to, "uip_feed");
+    WANT(wanted != UIP_OK || (done.consumed >= 1 && done.consumed <= len), "uip_feed took %zu of %zu bytes", done.consumed, len);
     return done;
 }
 
-uip_done call_slot(tested *t, unsigned slot, size_t room, text *to) {
+uip_result call_slot(tested *t, unsigned slot, size_t room, text *to) {
     byte *out = begin(t, room);
-    uip_done done = uip_call(&t->handle, slot, out, room);
-    end(t, done, foretold(t, slot >= UIP_SLOTS || room < UIP_LEAST_ROOM, 1), out, room, to, "uip_call");
-    WANT(done.taken == 0, "uip_call took bytes");
+    uip_result done = uip_periodic(&t->handle, slot, out, room);
+    end(t, done, foretold(t, slot >= UIP_SLOTS || room < UIP_MIN_OUT, 1), out, room, to, "uip_periodic");
+    WANT(done.consumed == 0, "uip_periodic took bytes");
     return done;
 }
 
-uip_done call_more(tested *t, size_t room, text *to) {
+uip_result call_more(tested *t, size_t room, text *to) {
     byte *out = begin(t, room);
-    uip_done done = uip_more(&t->handle, out, room);
+    uip_result done = uip_drain(&t->handle, out, room);
     int had_left = t->has_left;
-    end(t, done, foretold(t, room < UIP_LEAST_ROOM, 0), out, room, to, "uip_more");
-    WANT(done.taken == 0 && (had_left || done.wrote == 0), "uip_more wrote where nothing was left");
+    end(t, done, foretold(t, room < UIP_MIN_OUT, 0), out, room, to, "uip_drain");
+    WANT(done.consumed == 0 && (had_left || done.written == 0), "uip_drain wrote where nothing was left");
     return done;
 }
 
-uip_done call_datagram(tested *t, const byte *datagram, size_t len, text *to) {
+uip_result call_datagram(tested *t, const byte *datagram, size_t len, text *to) {
     size_t room = chance(90) ? LARGEST : between(LARGEST, 4000);
     byte *out = begin(t, room);
-    uip_done done = uip_hear_datagram(&t->handle, put_input(&datagram_in, datagram, len), len, out, room);
+    uip_result done = uip_input(&t->handle, put_input(&datagram_in, datagram, len), len, out, room);
     unsigned wanted = foretold(t, len == 0 || len > LARGEST, 1);
-    end(t, done, wanted, out, room, to, "uip_hear_datagram");
-    WANT(done.left == 0 && done.taken == (wanted == UIP_FINE ? len : 0), "uip_hear_datagram took %zu of %zu bytes", done.taken, len);
+    end(t, done, wanted, out, room, to, "uip_input");
+    WANT(done.pending == 0 && done.consumed == (wanted == UIP_OK ? len : 0), "uip_input took %zu of %zu bytes", done.consumed, len);
     return done;
 }
 
-uip_done call_slot_datagram(tested *t, unsigned slot, text *to) {
+uip_result call_slot_datagram(tested *t, unsigned slot, text *to) {
     size_t room = chance(90) ? LARGEST : between(LARGEST, 4000);
     byte *out = begin(t, room);
-    uip_done done = uip_call_datagram(&t->handle, slot, out, room);
-    end(t, done, foretold(t, slot >= UIP_SLOTS, 1), out, room, to, "uip_call_datagram");
-    WANT(done.left == 0 && done.taken == 0, "uip_call_datagram left a text");
+    uip_result done = uip_periodic_datagram(&t->handle, slot, out, room);
+    end(t, done, foretold(t, slot >= UIP_SLOTS, 1), out, room, to, "uip_periodic_datagram");
+    WANT(done.pending == 0 && done.consumed == 0, "uip_periodic_datagram left a text");
     return done;
 }
 
@@ -122,16 +124,16 @@ void call_open(tested *t, const byte *image, size_t len, const byte *own) {
     uip_opened opened = uip_open(&t->handle, at, len, put_input(&datagram_in, own, 4));
     heap_refuses = 0;
     counts.opens++, counts.calls++;
-    unsigned wanted = t->is_open ? UIP_HAS_DEVICE : heap_refused ? UIP_NO_MEMORY : word ? UIP_BAD_SITE : UIP_FINE;
+    unsigned wanted = t->is_open ? UIP_HAS_DEVICE : heap_refused ? UIP_NO_MEMORY : word ? UIP_BAD_IMAGE : UIP_OK;
     WANT(opened.status == wanted, "uip_open answers %u, and %u was foretold", opened.status, wanted);
-    counts.refusals += wanted == UIP_NO_MEMORY, counts.bad_images += wanted == UIP_BAD_SITE;
-    if (wanted == UIP_BAD_SITE) {
+    counts.refusals += wanted == UIP_NO_MEMORY, counts.bad_images += wanted == UIP_BAD_IMAGE;
+    if (wanted == UIP_BAD_IMAGE) {
         byte told[8] = {0};
         memcpy(told, word, strlen(word));
         WANT(!memcmp(opened.word, told, 8) && opened.entry == entry, "uip_open tells %.8s %u of an image, and %s %u was foretold",
              opened.word, opened.entry, word, entry);
     }
-    if (wanted == UIP_FINE) {
+    if (wanted == UIP_OK) {
         t->is_open = 1, t->has_left = 0;
         return;
     }
@@ -144,7 +146,7 @@ void call_close(tested *t) {
     (void)begin(t, 0);
     unsigned status = uip_close(&t->handle);
     counts.calls++;
-    WANT(status == (t->is_open ? UIP_FINE : UIP_NO_DEVICE), "uip_close answers %u", status);
+    WANT(status == (t->is_open ? UIP_OK : UIP_NO_DEVICE), "uip_close answers %u", status);
     WANT(t->is_open || heap_calls == heap_before, "uip_close called the heap without a device");
     t->is_open = t->has_left = 0;
 }
@@ -153,7 +155,7 @@ void call_close(tested *t) {
 static void told(const tested *t, unsigned status, int is_bad, const char *what) {
     unsigned wanted = foretold(t, is_bad, 0);
     counts.calls++;
-    counts.refused += wanted != UIP_FINE;
+    counts.refused += wanted != UIP_OK;
     WANT(status == wanted, "%s answers %u, and %u was foretold", what, status, wanted);
     WANT(heap_calls == heap_before, "%s called the heap", what);
     WANT(!memcmp(&t->handle, &handle_before, sizeof t->handle), "%s wrote to the handle", what);
@@ -161,8 +163,8 @@ static void told(const tested *t, unsigned status, int is_bad, const char *what)
 
 void call_value(tested *t, unsigned long number, const byte *bytes, size_t len) {
     (void)begin(t, 0);
-    unsigned status = uip_value(&t->handle, number, put_input(&words_in, bytes, len), len);
-    told(t, status, number >= UIP_VALUES || len > UIP_LONGEST_VALUE, "uip_value");
+    unsigned status = uip_set_value(&t->handle, number, put_input(&words_in, bytes, len), len);
+    told(t, status, number >= UIP_VALUES || len > UIP_MAX_VALUE, "uip_set_value");
 }
 
 unsigned call_hits(tested *t, const byte *name, size_t len) {
@@ -190,16 +192,16 @@ uip_row call_row(tested *t, unsigned long slot) {
 // These two are refused for their words or without a device; a name that no file has was asked for by nobody.
 static void refused_words(tested *t) {
     static byte words[1 << 16];
-    size_t len = chance(90) ? UIP_LONGEST_VALUE + 1 + below(40) : between(100, sizeof words);
+    size_t len = chance(90) ? UIP_MAX_VALUE + 1 + below(40) : between(100, sizeof words);
     random_bytes(words, 128);
     unsigned long no_number = chance(50) ? UIP_VALUES : UIP_VALUES + random_next();
-    call_value(t, no_number, words, below(UIP_LONGEST_VALUE + 1));
+    call_value(t, no_number, words, below(UIP_MAX_VALUE + 1));
     call_value(t, chance(80) ? below(UIP_VALUES) : no_number, words, len);
     (void)call_row(t, chance(50) ? UIP_SLOTS : UIP_SLOTS + random_next());
     words[0] = (byte)below('/');
     WANT(call_hits(t, words, chance(20) ? len : below(70)) == 0, "uip_hits counts what is no name");
     if (t->is_open) return;
-    call_value(t, below(UIP_VALUES), words, below(UIP_LONGEST_VALUE + 1));
+    call_value(t, below(UIP_VALUES), words, below(UIP_MAX_VALUE + 1));
     WANT(call_row(t, below(UIP_SLOTS)).state == UIP_CLOSED && !call_idle(t), "a row without a device");
 }
 
@@ -227,7 +229,7 @@ void refused_calls(tested *t) {
     if (chance(20)) {
         size_t number = chance(50) ? 0 : UIP_COUNTERS + 1 + random_next();
         uip_number read = uip_counter(&t->handle, number);
-        WANT(read.status == UIP_BAD_CALL && read.number == 0, "uip_counter of %zu answers %u", number, read.status);
+        WANT(read.status == UIP_BAD_ARGUMENT && read.number == 0, "uip_counter of %zu answers %u", number, read.status);
         counts.calls++;
     }
 }
@@ -238,7 +240,7 @@ unsigned numbers_of(tested *t, unsigned number) {
     uip_number read = number ? uip_counter(&t->handle, number) : uip_ticks(&t->handle);
     counts.calls++;
     WANT(heap_calls == heap_before, "a read called the heap");
-    WANT(read.status == (t->is_open ? UIP_FINE : UIP_NO_DEVICE), "a read answers %u", read.status);
+    WANT(read.status == (t->is_open ? UIP_OK : UIP_NO_DEVICE), "a read answers %u", read.status);
     return read.number;
 }
 

@@ -23,7 +23,7 @@ static size_t random_room(void) {
     unsigned kind = below(100);
     if (kind < 40) return between(2, 12);
     if (kind < 70) return between(2, 200);
-    return kind < 90 ? between(2, 3100) : kind < 99 ? UIP_ROOM : between(2, 1 << 20);
+    return kind < 90 ? between(2, 3100) : kind < 99 ? UIP_MAX_OUT : between(2, 1 << 20);
 }
 
 // Gives the device under test a value; the others get it before they hear anything more.
@@ -78,14 +78,14 @@ static void hear_in_parts(const byte *bytes, size_t len) {
         size_t part = chance(30) ? 1 : chance(50) ? between(1, 40) : len - at;
         if (part > len - at) part = len - at;
         if (chance(3)) refused_calls(&under_test);
-        at += call_hear(&under_test, bytes + at, part, random_room(), &said).taken;
+        at += call_hear(&under_test, bytes + at, part, random_room(), &said).consumed;
     }
 }
 
 static void hear_whole(const byte *bytes, size_t len) {
     int one_by_one = chance(5);
     for (size_t at = 0; at < len; counts.others++, counts.calls--)
-        at += call_hear(&whole, bytes + at, one_by_one ? 1 : len - at, UIP_ROOM, &said_whole).taken;
+        at += call_hear(&whole, bytes + at, one_by_one ? 1 : len - at, UIP_MAX_OUT, &said_whole).consumed;
 }
 
 // What the device by datagrams sent is told to the model and to the clients, and is due on the line as a frame.
@@ -158,6 +158,7 @@ static void compare(void) {
     if (said_file) fwrite(said.bytes, 1, said.len, said_file);
     said.len = said_whole.len = said_by_datagrams.len = 0;
     if (chance(2)) {
+        // [add: counter] a number that the model does not foretell
         unsigned number = between(19, 20), told = numbers_of(&under_test, number);
         WANT(told == numbers_of(&whole, number) && told == numbers_of(&by_datagrams, number), "counter %u differs", number);
     }
@@ -232,7 +233,7 @@ void devices_tick(unsigned slot) {
         call_slot(&under_test, slot, random_room(), &said);
         drain();
     }
-    call_slot(&whole, slot, UIP_ROOM, &said_whole);
+    call_slot(&whole, slot, UIP_MAX_OUT, &said_whole);
     counts.calls -= 2, counts.others += 2;
     compare();
     if (one.len && chance(30)) speaks(slot, sent_room, one.len);
@@ -288,7 +289,7 @@ void devices_close(void) {
     if (chance(20)) {
         byte ping[100], frame[300];
         size_t len = write_frame(frame, ping, write_ping(ping, (byte[]){10, 9, 8, 7}, counted.own, 40));
-        for (size_t at = 0; at < len && !under_test.has_left;) at += call_hear(&under_test, frame + at, len - at, 2, &said).taken;
+        for (size_t at = 0; at < len && !under_test.has_left;) at += call_hear(&under_test, frame + at, len - at, 2, &said).consumed;
         said.len = 0;
     }
     call_close(&under_test);

@@ -6,8 +6,8 @@
 
 typedef unsigned char byte;
 
-enum { MOST_FILES = 1024, LONGEST_TEXT = 1 << 21, LARGEST = UIP_DATAGRAM_ROOM, LONGEST_PAGE = 1 << 16,
-       LONGEST_SPELLED = 6 * UIP_LONGEST_VALUE };
+enum { MOST_FILES = 1024, LONGEST_TEXT = 1 << 21, LARGEST = UIP_MAX_DATAGRAM, LONGEST_PAGE = 1 << 16,
+       LONGEST_SPELLED = 6 * UIP_MAX_VALUE };
 
 // random.c: numbers that follow from a seed alone.
 void random_begin(unsigned long seed);
@@ -82,7 +82,7 @@ int value_has_changed(const page *p);
 int page_goes_on(page *p);                                                 // 1: by a call
 
 // values.c: the values that were given to all devices.
-typedef struct { byte bytes[UIP_LONGEST_VALUE]; size_t len; } value;
+typedef struct { byte bytes[UIP_MAX_VALUE]; size_t len; } value;
 void values_begin(void);
 void values_given(unsigned number, const value *given);
 value random_value(void);
@@ -97,6 +97,7 @@ unsigned least_hits(const byte *name, size_t len);                         // be
 void row_is_foretold(unsigned slot, const uip_row *row);
 
 // model.c: what a node counts of datagrams that come and go.
+/* [add: counter] the length of the array */
 typedef struct { unsigned numbers[21], ticks; byte own[4]; } model;
 void model_hears(model *m, const byte *datagram, size_t len);
 void model_sends(model *m, const byte *datagram, size_t len);
@@ -116,11 +117,11 @@ void record_end(void);
 // calls.c: single calls of the device under test, fine and refused, each as it was foretold.
 typedef struct { uip_device handle; int is_open, has_left; area image; } tested;    // the image stays while the device is open
 typedef struct { byte *bytes; size_t len; } text;
-uip_done call_hear(tested *t, const byte *bytes, size_t len, size_t room, text *to);
-uip_done call_slot(tested *t, unsigned slot, size_t room, text *to);
-uip_done call_more(tested *t, size_t room, text *to);
-uip_done call_datagram(tested *t, const byte *datagram, size_t len, text *to);
-uip_done call_slot_datagram(tested *t, unsigned slot, text *to);
+uip_result call_hear(tested *t, const byte *bytes, size_t len, size_t room, text *to);
+uip_result call_slot(tested *t, unsigned slot, size_t room, text *to);
+uip_result call_more(tested *t, size_t room, text *to);
+uip_result call_datagram(tested *t, const byte *datagram, size_t len, text *to);
+uip_result call_slot_datagram(tested *t, unsigned slot, text *to);
 void call_open(tested *t, const byte *image, size_t len, const byte *own);
 void call_close(tested *t);
 void refused_calls(tested *t);

@@ -1,4 +1,5 @@
 // What a node counts of the datagrams that come and go, by the order of its checks: docs/FORMATS.md, counters 1 to 18.
+// [add: counter] the datagrams by which the counter rises
 #include <string.h>
 #include "fuzz.h"
 
@@ -16,15 +17,15 @@ static unsigned ip_fault(const model *m, const byte *d, size_t len) {
 }
 
 static unsigned icmp_fault(const byte *message, size_t len) {
-    if (len < 8) return UIP_ICMP_REFUSED;
+    if (len < 8) return UIP_ICMP_DROPPED;
     if (sum_of(message, len, 0) != 0xffff) return UIP_ICMP_CHECKSUM;
-    return message[0] == 8 && message[1] == 0 ? 0 : UIP_ICMP_REFUSED;
+    return message[0] == 8 && message[1] == 0 ? 0 : UIP_ICMP_DROPPED;
 }
 
 static unsigned tcp_fault(const byte *d, const byte *s, size_t len) {
-    if (len < 20) return UIP_TCP_REFUSED;
+    if (len < 20) return UIP_TCP_DROPPED;
     size_t head = (size_t)(s[12] >> 4) * 4;
-    if (head < 20 || head > len) return UIP_TCP_REFUSED;
+    if (head < 20 || head > len) return UIP_TCP_DROPPED;
     return sum_of(s, len, sum_of(d + 12, 8, (unsigned)(6 + len))) != 0xffff ? UIP_TCP_CHECKSUM : 0;
 }
 

@@ -31,7 +31,7 @@ asan)
     build fuzz_asan -O1 -fsanitize=address,undefined -fno-sanitize-recover=all "$here"/*.c
     exec "$out/fuzz_asan" 1000000 "${2:-1000000}" "${3:-1}" $4;;
 planted)
-    calls="open hear call more hear_datagram call_datagram counter value hits is_idle connection close"
+    calls="open feed periodic drain input periodic_datagram counter set_value hits is_idle connection close"
     wraps=$(for call in $calls; do printf ' -Wl,--wrap=uip_%s' "$call"; done)
     rm -rf "$out/parts"
     mkdir "$out/parts"

@@ -69,6 +69,7 @@ static void add_kind(writer *w, const file *f) {
     add_text(w, f ? "application/octet-stream" : "text/html");
 }
 
+// [add: function] the text that is foretold for a call
 // The text of a call as it is at this moment, by the values and the hits; 0 where it is not foretold.
 static int add_call(writer *w, const byte *script, const piece *is) {
     size_t len = is->to - is->from, at = is->to, from = word(script, &at, is->end), argument_len = at - from;

@@ -12,7 +12,7 @@ void values_given(unsigned number, const value *given) { values[number] = *given
 // A text of any bytes, or of those that a page spells in a way of its own, or a number.
 value random_value(void) {
     static const byte marks[] = "\"\\&<>'/\0\n\x1f\x20\x7f\x80\xc0\xdb";
-    value v = {.len = chance(20) ? UIP_LONGEST_VALUE : below(UIP_LONGEST_VALUE + 1)};
+    value v = {.len = chance(20) ? UIP_MAX_VALUE : below(UIP_MAX_VALUE + 1)};
     unsigned kind = below(4);
     random_bytes(v.bytes, v.len);
     for (size_t at = 0; at < v.len && kind; at++) if (kind > 1 || chance(40)) v.bytes[at] = marks[below(sizeof marks - 1)];

@@ -1,37 +1,139 @@
 /*
- * The stack as a library: one IP node with ping and a web server, behind a serial line (SLIP, RFC 1055) or any link that
- * carries datagrams. Link libuip_c.a. It is proved to hand out, for whatever is called in turn, just what the node is defined to
- * send (docs/ARCHITECTURE.md). What C has to keep is all that stands here.
+ * Lowunbisa for C: one IP node with ping and a web server, on a serial line (SLIP, RFC 1055) or any link that carries
+ * datagrams. The web server at port 80 is the only application.
  *
- *     static uip_device device = UIP_INIT;
- *     static unsigned char out[UIP_ROOM];          with less room a text goes out in pieces: see uip_more
- *     uip_opened opened = uip_open(&device, image, image_len, own);
- *     unsigned status = opened.status;             of a bad image opened.word and opened.entry tell the fault
- *     while (status == UIP_FINE) {
- *         size_t len = read_line(bytes);
- *         status = uip_hear_all(&device, bytes, len, out, sizeof out, write_line, 0);
- *         if (status == UIP_FINE && half_a_second_went_by())
- *             status = uip_tick_all(&device, out, sizeof out, write_line, 0);
+ * SPDX-License-Identifier: MIT OR Apache-2.0
+ * Copyright 2026 The Lowunbisa authors
+ *
+ * THIS IS NOT THE uip.h OF uIP 1.0, although the names begin alike. Never include both in one file: both define
+ * uip_input and uip_periodic.
+ *
+ *     #include "uip.h"
+ *     #include "site.c"                                // site_image and SITE_IMAGE_LEN, by tools/pack.py
+ *
+ *     size_t read_serial(unsigned char *bytes, size_t room);
+ *     void write_serial(void *to, const unsigned char *bytes, size_t len);
+ *     int half_a_second_passed(void);
+ *
+ *     int main(void) {
+ *         static uip_device device = UIP_INIT;
+ *         static unsigned char bytes[64], out[32];     // `out` may have any size from UIP_MIN_OUT on
+ *         static const unsigned char own[4] = {10, 0, 0, 1};
+ *         unsigned status = uip_open(&device, site_image, SITE_IMAGE_LEN, own).status;
+ *         while (status == UIP_OK) {
+ *             size_t len = read_serial(bytes, sizeof bytes);
+ *             status = uip_feed_all(&device, bytes, len, out, sizeof out, write_serial, 0);
+ *             if (status == UIP_OK && half_a_second_passed())
+ *                 status = uip_tick_all(&device, out, sizeof out, write_serial, 0);
+ *         }
+ *         return (int)status;
  *     }
  *
- * Of every call C owes this, which nothing checks:
- *   - The handle: UIP_INIT, which is all bytes 0, before the first call, read and written by these calls alone, and not copied
- *     while it has a device. Each call writes it, uip_ticks and uip_counter too. It is used by one thread at a time, and by no
- *     interrupt that may come while a call runs. There may be any number of devices, each with its handle.
- *   - An area is a pointer, never null, and how many bytes there are behind it, which C may read; `out` may be written, and
- *     shares no byte with the other areas or the handle.
- *   - The image with which a device is open stays where it is, as it is, until uip_close: each call may read it, and nothing writes it.
- *   - The program has memcpy, memmove and memset, and a heap: rattle_alloc, rattle_realloc, rattle_dealloc (below).
- *   - There is enough stack. How much is measured and not proved: see README.md.
- * Whatever else is wrong is told by the status, and then nothing was done: the device, `out` and the counts are as they were, and all
- * that the call tells beside the status is 0, but that uip_open tells what is wrong with a bad image.
+ * The program supplies the three functions. read_serial stores the bytes that have arrived, and returns how many: it
+ * may return 0, and it may sleep until a byte arrives or a tick is due. write_serial is a uip_sink (below): it returns
+ * when `bytes` may be overwritten. half_a_second_passed returns 1 once for each half second, else 0. The size of
+ * `out` changes only the pieces in which the output is written.
  *
- * The language is C90 or later, or C++; the inline functions at the end want C99 or C++. The target has 64 bits: x86-64 of level
- * v2 or later (it has SSE4.2), or aarch64 with its SIMD registers turned on and memory that allows unaligned accesses. The
- * library does not look what processor it runs on.
+ * The same without waiting, for a port that sends by DMA or by interrupts. Call `step` in a loop. Each call of it makes
+ * one call of the library at most, and sends sizeof out bytes at most:
+ *
+ *     static uip_device device = UIP_INIT;             // opened as above
+ *     static unsigned char out[256];                   // in use until the DMA has ended
+ *     static unsigned pending, slot = UIP_SLOTS;
+ *
+ *     void step(void) {
+ *         const unsigned char *bytes;
+ *         size_t len;
+ *         uip_result done = {UIP_OK, 0, 0, 0};
+ *         if (dma_is_busy()) return;
+ *         if (pending) done = uip_drain(&device, out, sizeof out);
+ *         else if (slot < UIP_SLOTS) done = uip_periodic(&device, slot++, out, sizeof out);
+ *         else if (half_a_second_passed()) slot = 0;
+ *         else if ((len = received(&bytes)) != 0) {    // the bytes that wait in your ring
+ *             done = uip_feed(&device, bytes, len, out, sizeof out);
+ *             discard(done.consumed);                  // the ring may reuse these
+ *         }
+ *         pending = done.pending;
+ *         if (done.written) dma_send(out, done.written);
+ *     }
+ *
+ * To build a program (README.md, "Use it from C", has each command in full):
+ *   1. Get the library: from an archive that release.sh made, by `rt lib` in crates/uip_c (x86-64), or by ports/run.sh.
+ *   2. Pack the site: `python3 tools/pack.py FOLDER site.c` writes a constant array, which stays in flash. `uipd pack`
+ *      writes an image, for example to include in assembly (examples/board/site.S). Any alignment will do.
+ *   3. Link your program, a heap (examples/heap.c: one array, of UIP_HEAP_SIZE bytes, which you define for the
+ *      compiler as UIP_MEMORY of the number of files; examples/linux-c/heap.c: malloc) and the library.
+ *
+ * FIXED SIZES. Nothing is configured. The node announces an MSS and a window of 1460 bytes. It sends segments of at
+ * most 1460 bytes, or what the peer's MSS (536 if it announces none) and window allow. It has ten connections, each
+ * with at most one segment outstanding, and one packet buffer of 1500 bytes, in the heap. A site has at most 1,024
+ * files and 16,777,216 bytes. docs/FORMATS.md has the rest: names, content types, what a request may be.
+ *
+ * BUFFERING. No call of the library waits. uip_feed handles at most one frame, and writes at most one: UIP_MAX_OUT
+ * bytes, with all its uip_drain calls. uip_periodic writes at most one frame too. uip_feed_all and uip_tick_all wait
+ * as long as the sink does: for one frame for each received frame, and for at most ten frames (30,020 bytes) in a
+ * tick. At 115,200 bits a second the longest frame takes 0.26 s. As many bytes may arrive meanwhile, so let an
+ * interrupt store them. What is lost there damages a frame; the node drops it, and the peer's TCP sends it again.
+ * After an error of the receiver feed on: no call is needed.
+ *
+ * WHAT THE CALLER MUST KEEP. The library cannot check these rules:
+ *   1. The handle is UIP_INIT (all bytes 0) before its first call. A program that starts again without clearing its
+ *      memory, and without uip_close, sets all bytes of the handle to 0, and begins with an empty heap.
+ *   2. While a device is open, only these calls read or write its handle, and nothing copies the handle.
+ *   3. Two calls with one handle never overlap: not in two threads, and not in an interrupt during a call.
+ *   4. Each pointer is not null, even if its length is 0, and the whole area of that length may be read. Exception:
+ *      `to` of the inline functions, which only the sink uses, may be anything.
+ *   5. `out` may be written, and shares no byte with the handle or with another argument.
+ *   6. The image stays at its address, unchanged, until uip_close.
+ *   7. The program supplies the heap (at the end of this file), memcpy, memmove and memset.
+ *   8. The stack is deep enough. Its depth is measured and not proved: README.md, "Footprint".
+ *   9. The processor is set up by its row of this table:
+ *
+ *      target               library                  what the program must see to
+ *      x86-64               rt lib                   The processor has level v2 or later (SSE4.2).
+ *      aarch64              rt lib --target A        SIMD registers are on, and an interrupt handler saves those
+ *                                                    that it uses. Code, image and data lie in normal memory,
+ *                                                    which allows unaligned accesses.
+ *      Cortex-M4, M7, M33   ports/run.sh m4, m7, m33 CCR.UNALIGN_TRP is 0. Image and data lie in normal memory.
+ *      Cortex-M0+           ports/run.sh m0          Nothing more: the code makes aligned accesses alone.
+ *      rv32imac, rv64imac   ports/run.sh rv32, rv64  Nothing more: the code makes aligned accesses alone.
+ *      WebAssembly, 32 bits ports/run.sh wasm        Nothing more.
+ *
+ *      A is aarch64-unknown-linux-gnu. On each target the stack is aligned as the ABI demands, to 8 bytes at least.
+ *      On a 32-bit target no object has 2^31 bytes or more, and the program links the compiler's support library
+ *      (64-bit division). All targets are little-endian. The Cortex-M libraries use the soft-float ABI; a build with
+ *      FLOAT=.. uses another one (ports/README.md). The library does not check which processor it runs on.
+ *
+ * ERRORS. Any other mistake of the caller is reported in `status` and has no effect: the device, `out` and the
+ * counters are unchanged, and all other fields of the result are 0. Exception: for a bad image uip_open also reports
+ * the fault.
+ *
+ * A loop with correct arguments, as those above, sees UIP_OK alone. Nothing that arrives changes that. In full: after
+ * a successful uip_open a call returns only
+ *   UIP_OK;
+ *   UIP_BAD_ARGUMENT      if an argument is out of its range;
+ *   UIP_OUTPUT_PENDING    if output is pending and the call would make more of it (see uip_drain);
+ *   UIP_NO_DEVICE         after uip_close;
+ *   UIP_HAS_DEVICE        if it is another uip_open.
+ *
+ * TIME. The node has no clock: a tick is half a second (see uip_periodic). No bound on the time of a call is proved.
+ * ports/README.md has the instructions of a ping and of a small file on several processors.
+ *
+ * PROVED for any sequence of calls, successful or not, if the caller keeps the rules: memory safety, that each call
+ * returns, and that the output is exactly what the definition of the node sends. A peer receives each page from its
+ * start, without gaps or changes (docs/SPECIFICATION.md).
+ *
+ * NOT PROVED: the stack depth, the heap that is enough, and the inline functions. The machine code for Cortex-M,
+ * RISC-V and WebAssembly is made by a conversion that is tested and not proved (ports/README.md).
+ *
+ * The language is C90 or later, or C++. The inline functions need C99 or C++.
  */
 #ifndef UIP_H
 #define UIP_H
+
+#if defined(__UIP_H__) || defined(UIP_H_)
+#error "the uip.h of uIP or Contiki was included before: this one is Lowunbisa's, and the names of both clash"
+#endif
 
 #include <stddef.h>
 
@@ -39,165 +141,255 @@
 extern "C" {
 #endif
 
-/* Rises whenever a program that keeps to an older header may have to change. */
-#define UIP_VERSION 2
+/* Rises if a program that was written for an older header may have to change. Release 1.1 has 3 (CHANGELOG.md). */
+#define UIP_VERSION 3
 
-typedef char uip_wants_64_bits[sizeof(size_t) == 8 && sizeof(void *) == 8 ? 1 : -1];
+/* Refuses targets of 8 and 16 bits: size_t and pointers have 32 bits, or both have 64. Nothing else is checked. */
+typedef char uip_needs_32_or_64_bits[(sizeof(size_t) == 4 || sizeof(size_t) == 8) && sizeof(void *) == sizeof(size_t) ? 1 : -1];
 
 enum uip_status {
-    UIP_FINE = 0,
-    UIP_NO_DEVICE = 1,    /* the handle has no device */
-    UIP_BAD_CALL = 2,     /* `out` has less room than the call asks for, no bytes came or too many, no such slot, counter or value */
-    UIP_HAS_DEVICE = 3,   /* uip_open alone: the handle has a device already */
-    UIP_BAD_SITE = 4,     /* uip_open alone: the image is bad */
-    UIP_NO_MEMORY = 5,    /* uip_open alone; it may be told of a bad image too, whose tables found no room */
-    UIP_TEXT_LEFT = 6     /* a text is left that uip_more is to hand out first */
+    UIP_OK = 0,
+    UIP_NO_DEVICE = 1,         /* the handle has no device */
+    UIP_BAD_ARGUMENT = 2,      /* a length, room, slot, counter or value number is out of its range */
+    UIP_HAS_DEVICE = 3,        /* uip_open only: the handle already has a device */
+    UIP_BAD_IMAGE = 4,         /* uip_open only: the image is bad; `word` and `entry` name its first fault */
+    UIP_NO_MEMORY = 5,         /* uip_open only: the heap is too small. It may fail before the whole image is checked */
+    UIP_OUTPUT_PENDING = 6     /* uip_drain must first write the output that is pending */
 };
 
 enum {
-    UIP_ROOM = 3002,             /* the longest text of a datagram: with so much room nothing is ever left of one */
-    UIP_LEAST_ROOM = 2,          /* the room that uip_hear, uip_call and uip_more ask for */
-    UIP_DATAGRAM_ROOM = 1500,    /* that of uip_hear_datagram and uip_call_datagram, and the longest datagram */
-    UIP_SLOTS = 10,
-    UIP_COUNTERS = 20,
-    UIP_VALUES = 16,             /* the values of a device: the numbers 0 to 15 */
-    UIP_LONGEST_VALUE = 32       /* in bytes */
+    UIP_MAX_OUT = 3002,        /* bytes of the longest SLIP frame: with this room no output is ever pending */
+    UIP_MIN_OUT = 2,           /* the least room of uip_feed, uip_periodic and uip_drain, in bytes */
+    UIP_MAX_DATAGRAM = 1500,   /* bytes of the longest datagram, and the least room of the calls for datagrams */
+    UIP_SLOTS = 10,            /* connections: the slots 0 to 9 */
+    UIP_COUNTERS = 20,         /* counters: the numbers 1 to 20 */
+    UIP_VALUES = 16,           /* values of a device: the numbers 0 to 15 */
+    UIP_MAX_VALUE = 32         /* bytes of the longest value */
 };
 
-/* The counters, by the numbers that uip_counter takes. Each counts modulo 2^32. */
-enum uip_counted {
+/* The counters, by the numbers of uip_counter. Each counts modulo 2^32. */
+enum uip_counter_id {
     UIP_DATAGRAMS_IN = 1,
     UIP_DATAGRAMS_OUT = 2,
-    UIP_OVERLONG_FRAMES = 3,
-    UIP_IP_SHORT = 4,             /* dropped: shorter than a header */
-    UIP_IP_VERSION = 5,           /* of another version, or with options */
-    UIP_IP_LENGTH = 6,            /* of a wrong length */
-    UIP_IP_FRAGMENT = 7,
-    UIP_IP_CHECKSUM = 8,
-    UIP_IP_NOT_OURS = 9,          /* for another address */
-    UIP_IP_PROTOCOL = 10,         /* neither ICMP nor TCP */
+    UIP_OVERLONG_FRAMES = 3,   /* SLIP frames of more than 1500 bytes, dropped */
+    /* Datagrams that IP dropped: */
+    UIP_IP_SHORT = 4,          /* shorter than a header */
+    UIP_IP_VERSION = 5,        /* another version, or with options */
+    UIP_IP_LENGTH = 6,         /* a wrong length */
+    UIP_IP_FRAGMENT = 7,       /* a fragment */
+    UIP_IP_CHECKSUM = 8,       /* a wrong header checksum */
+    UIP_IP_NOT_OURS = 9,       /* for another address */
+    UIP_IP_PROTOCOL = 10,      /* neither ICMP nor TCP */
     UIP_ICMP_IN = 11,
     UIP_ECHO_REPLIES_OUT = 12,
-    UIP_ICMP_REFUSED = 13,        /* too short, or no echo request */
-    UIP_ICMP_CHECKSUM = 14,
+    UIP_ICMP_DROPPED = 13,     /* too short, or no echo request */
+    UIP_ICMP_CHECKSUM = 14,    /* dropped: a wrong checksum */
     UIP_TCP_IN = 15,
     UIP_TCP_OUT = 16,
-    UIP_TCP_REFUSED = 17,         /* too short, or a wrong data offset */
-    UIP_TCP_CHECKSUM = 18,
-    UIP_SENT_AGAIN = 19,          /* SYN-ACKs, texts and FINs that the timer sent again */
-    UIP_NO_SLOT = 20              /* SYNs to a served port that found no slot */
+    UIP_TCP_DROPPED = 17,      /* too short, or a wrong data offset */
+    UIP_TCP_CHECKSUM = 18,     /* dropped: a wrong checksum */
+    UIP_RETRANSMISSIONS = 19,  /* SYN-ACKs, data and FINs that the timer sent again */
+    UIP_SYN_DROPPED = 20       /* SYNs to a served port that found no free slot */
 };
 
-/* The states of a connection (RFC 793), by the numbers that uip_connection tells. */
+/* The states of a connection (RFC 793, section 3.2), by the numbers of uip_row. */
 enum uip_state {
     UIP_CLOSED = 0, UIP_SYN_RCVD = 1, UIP_ESTABLISHED = 2, UIP_CLOSE_WAIT = 3, UIP_FIN_WAIT_1 = 4, UIP_FIN_WAIT_2 = 5,
     UIP_CLOSING = 6, UIP_TIME_WAIT = 7, UIP_LAST_ACK = 8
 };
 
-/* A device, or none. */
+/* The handle of one device. There may be any number of devices, each with a handle of its own. */
 typedef struct { unsigned is_open; void *at; } uip_device;
 #define UIP_INIT {0, 0}
 
 /*
- * What uip_open came to. Of a bad image it tells the first fault: the word that `uipd check` has for it, with a 0 behind it, and
- * the number of the entry that has it, from 1; 0 stands for the whole image. With any other status entry and word are 0.
+ * The result of uip_open. If `status` is UIP_BAD_IMAGE:
+ *   entry    the number of the faulty entry, from 1; 0 if the fault is of the whole image
+ *   word     the word of the fault as `uipd check` prints it (docs/FORMATS.md), ended by a 0
+ * With any other status both are all zeros.
  */
 typedef struct { unsigned status; unsigned entry; char word[8]; } uip_opened;
 
 /*
- * What a call did: how many bytes it took, how many it wrote to the front of `out`, and whether (1) or not (0) a text is left: only
- * where at most one byte of room is left behind what was written, since some bytes go out as two.
+ * The result of a call that may send.
+ *   pending     1 if a part of the output did not fit into `out`, else 0
+ *   consumed    how many bytes of the input were consumed
+ *   written     how many bytes of output were written to the start of `out`; 0 if nothing is sent
  */
-typedef struct { unsigned status, left; size_t taken, wrote; } uip_done;
+typedef struct { unsigned status, pending; size_t consumed, written; } uip_result;
 
-/* A number that was read. */
+/* The result of a call that reads a number. */
 typedef struct { unsigned status; unsigned number; } uip_number;
 
 /*
- * A connection, as a row of the pages has it: its state; its peer; how often what is outstanding was sent again; the ticks left until
- * the timer acts; and whether (1) or not (0) something is outstanding. Of a slot that is CLOSED all of these are 0.
+ * The result of uip_connection. If the slot is CLOSED, all fields but `status` are 0.
+ *   state         an enum uip_state
+ *   peer, port    the address and the TCP port of the peer
+ *   tries         how often the outstanding segment was sent again
+ *   count         the ticks until the timer acts
+ *   waiting       1 if a segment is outstanding, else 0
  */
 typedef struct { unsigned status, state; unsigned char peer[4]; unsigned port, tries, count, waiting; } uip_row;
 
 /*
- * Opens a device at an address with the site of an image, which comes from `uipd pack`. The image is not copied: it is read where it
- * lies, as in flash, by each call until uip_close, and until then it stays as it is. Where the device is not opened the image is not
- * read after the call. All memory is taken here and by no later call; that was counted, and no proof says it.
+ * Opens a device with a site, at an address. Allocates all the memory of the device, in six blocks (see "The heap" at
+ * the end), and frees them only if it fails.
+ *
+ *   device        a handle without a device
+ *   image, len    the image of the site, from tools/pack.py, `uipd pack` or `uipd upgrade`; it is not copied, and
+ *                 rule 6 holds until uip_close; after an error it is not read any more
+ *   own           the IPv4 address, first byte first: {10, 0, 0, 1}; it is copied. To change it, close and open.
+ *                 There is no netmask and no router: every reply goes out on the link.
+ *
+ * Status: UIP_OK, UIP_HAS_DEVICE, UIP_BAD_IMAGE, UIP_NO_MEMORY.
+ * Not proved: that no later call allocates. Measured: none does.
  */
 uip_opened uip_open(uip_device *device, const unsigned char *image, size_t len, const unsigned char own[4]);
 
 /*
- * Takes the bytes that came over the serial line, all of them or those up to an END, of which one frame at most is complete, and
- * writes what the node sends for it, at most one datagram with its SLIP framing, as far as there is room. Call it again with the
- * bytes that it did not take. What a call that was fine left in `out` behind the bytes that it wrote, inside the room, means
- * nothing; behind the room nothing is written.
+ * Feeds bytes that were received on the serial line. Stops after the first complete frame, handles it, and writes the
+ * SLIP-framed reply, if there is one. If `consumed` is less than `len`, call it again with the rest; uip_feed_all does
+ * so. If bytes were lost on the way, their frame is damaged: the node drops a frame that fails a check, and the peer's
+ * TCP sends it again.
+ *
+ *   bytes, len    the bytes, cut in any way; `len` is 1 or more and has no upper limit
+ *   out, room     where the reply goes; `room` is UIP_MIN_OUT or more
+ *
+ * Result: `consumed` is 1 or more. If `pending` is 1, call uip_drain until it is 0. The rest of `out` is unspecified,
+ * and nothing is written beyond `room`.
+ * Status: UIP_OK, UIP_NO_DEVICE, UIP_BAD_ARGUMENT, UIP_OUTPUT_PENDING.
  */
-uip_done uip_hear(uip_device *device, const unsigned char *bytes, size_t len, unsigned char *out, size_t room);
+uip_result uip_feed(uip_device *device, const unsigned char *bytes, size_t len, unsigned char *out, size_t room);
 
 /*
- * The periodic call of a slot. Ten of them, for the slots 0 to 9 in this order, are a tick, which is due twice a second. Writes
- * what the slot's connection sends, as uip_hear.
+ * Makes the periodic call of one slot: timers and retransmission. Ten calls, for the slots 0 to 9 in this order, are
+ * one tick. A tick is due twice a second. uip_tick_all makes one tick.
+ *
+ * If two ticks are due, make two, one after the other. If you make only one, all timers run half a second late;
+ * nothing else changes, and the missing tick is never made up for.
+ *
+ *   slot         0 to 9
+ *   out, room    where the segment goes, SLIP-framed; `room` is UIP_MIN_OUT or more
+ *
+ * Result: as of uip_feed, with `consumed` 0.
+ * Status: UIP_OK, UIP_NO_DEVICE, UIP_BAD_ARGUMENT, UIP_OUTPUT_PENDING.
  */
-uip_done uip_call(uip_device *device, size_t slot, unsigned char *out, size_t room);
+uip_result uip_periodic(uip_device *device, size_t slot, unsigned char *out, size_t room);
 
 /*
- * Writes what is left of a text, as far as there is room, and nothing where none is left. While `left` of the last call is 1 no
- * other call but this one, uip_value, uip_close and those that only read does anything: the text is in the one packet that the node
- * has.
+ * Writes output that is pending, as far as there is room. Call it until `pending` is 0. If nothing is pending, it
+ * writes nothing.
+ *
+ *   out, room    where the bytes go; `room` is UIP_MIN_OUT or more
+ *
+ * Result: `consumed` is 0; `written` is 1 or more if output was pending. If `pending` stays 1, `out` is full except for
+ * at most one byte: an escape sequence of two bytes is not split.
+ * Status: UIP_OK, UIP_NO_DEVICE, UIP_BAD_ARGUMENT.
+ *
+ * While output is pending, uip_feed, uip_periodic, uip_input and uip_periodic_datagram return UIP_OUTPUT_PENDING: the
+ * output lies in the one packet buffer of the device. All other calls are allowed.
  */
-uip_done uip_more(uip_device *device, unsigned char *out, size_t room);
+uip_result uip_drain(uip_device *device, unsigned char *out, size_t room);
 
 /*
- * uip_hear and uip_call over a link that carries datagrams: a datagram of 1 to 1500 bytes comes, and what is sent is a datagram,
- * which is never left. Both kinds of call may be mixed on one device: a datagram is taken as it comes, also in the middle of a
- * frame of the line.
+ * Receives one datagram from a link that carries datagrams, and writes the datagram of the reply, if there is one.
+ *
+ *   datagram, len    the datagram, from the first byte of its IP header; `len` is 1 to 1500
+ *   out, room        where the reply goes; `room` is UIP_MAX_DATAGRAM or more
+ *
+ * Result: `consumed` is `len`; `written` is the length of the reply; `pending` is 0.
+ * Status: UIP_OK, UIP_NO_DEVICE, UIP_BAD_ARGUMENT, UIP_OUTPUT_PENDING.
+ *
+ * One device can have both kinds of link. A frame of the serial line that has come in part stays as it is. In each
+ * tick make one periodic call for each slot: the segment goes out by the link of that call. The device does not know
+ * on which link a peer is. Your program chooses the call by the address of the peer (uip_connection).
  */
-uip_done uip_hear_datagram(uip_device *device, const unsigned char *datagram, size_t len, unsigned char *out, size_t room);
-uip_done uip_call_datagram(uip_device *device, size_t slot, unsigned char *out, size_t room);
+uip_result uip_input(uip_device *device, const unsigned char *datagram, size_t len, unsigned char *out, size_t room);
 
-/* How many ticks there were, and the counter of a number from 1 to 20 (uip_counted), each modulo 2^32. */
+/*
+ * As uip_periodic, but writes a whole datagram.
+ *
+ *   slot         0 to 9
+ *   out, room    where the datagram goes; `room` is UIP_MAX_DATAGRAM or more
+ *
+ * Result: `written` is the length of the datagram; `consumed` and `pending` are 0.
+ * Status: UIP_OK, UIP_NO_DEVICE, UIP_BAD_ARGUMENT, UIP_OUTPUT_PENDING.
+ */
+uip_result uip_periodic_datagram(uip_device *device, size_t slot, unsigned char *out, size_t room);
+
+/*
+ * Returns the number of ticks since uip_open, modulo 2^32: the number of periodic calls of slot 0.
+ * Status: UIP_OK, UIP_NO_DEVICE.
+ */
 uip_number uip_ticks(uip_device *device);
+
+/* Returns a counter, by its number (enum uip_counter_id). Status: UIP_OK, UIP_NO_DEVICE, UIP_BAD_ARGUMENT. */
 uip_number uip_counter(uip_device *device, size_t number);
 
 /*
- * 1 where no connection is open, else 0. Then a tick does nothing but count: the processor may sleep until the next byte or datagram
- * comes, and ticks that are left out are not made up for.
+ * Returns 1 if all connections are CLOSED, else 0. While it is 1, a tick sends nothing. It only advances uip_ticks and
+ * the initial sequence number of the next connection (by 10). You may leave such ticks out: the processor can sleep
+ * until the next byte or datagram. Status: UIP_OK, UIP_NO_DEVICE.
  */
 uip_number uip_is_idle(uip_device *device);
 
-/* The connection in a slot from 0 to 9. */
+/* Returns the connection in a slot, 0 to 9. Status: UIP_OK, UIP_NO_DEVICE, UIP_BAD_ARGUMENT. */
 uip_row uip_connection(uip_device *device, size_t slot);
 
 /*
- * The device's own state in its pages. A script of the site calls `%! value 3`, and its text is the value of that number as it was
- * when the call came next; sent again, it is the same. `%! value-json 3` has it for a string of JSON, `%! value-html 3` for HTML.
+ * Sets a value that the pages show. In a script of the site `%! value 3` shows value 3; `%! value-json 3` shows it for
+ * a string of JSON, and `%! value-html 3` for HTML.
  *
- * uip_value gives the value of a number from 0 to 15: these bytes, at most 32, which are copied, from now on. A value that was never
- * given is empty. Give them whenever they change, between any two calls:
+ *   number       0 to 15
+ *   text, len    the bytes of the value; `len` is 0 to 32; they are copied
  *
- *     char text[UIP_LONGEST_VALUE];
+ * Status: UIP_OK, UIP_NO_DEVICE, UIP_BAD_ARGUMENT.
+ *
+ * You can call it between any two calls, while output is pending, and in a sink. A value that was never set is empty.
+ * A page shows the value at the time when its segment is first made: all of the page before it is acknowledged then. A
+ * retransmission has the same bytes, even if the value has changed.
+ *
+ *     char text[UIP_MAX_VALUE];
  *     int len = sprintf(text, "%d", read_level());
- *     uip_value(&device, 3, text, (size_t)len);
- *     if (uip_hits(&device, "/lamp-on.html", 13).number != seen_on) seen_on++, switch_lamp(1);
- *
- * uip_hits tells how often the file of a name was asked for, modulo 2^32; 0 where no file has the name. So a link to a file is a
- * button, although the server changes nothing.
+ *     uip_set_value(&device, 3, text, (size_t)len);
+ *     unsigned hits = uip_hits(&device, "/lamp-on.html", 13).number;    // a link to this page is a button:
+ *     if (hits != seen) { seen = hits; switch_lamp(1); }                // someone pressed it
  */
-unsigned uip_value(uip_device *device, size_t number, const void *text, size_t len);
+unsigned uip_set_value(uip_device *device, size_t number, const void *text, size_t len);
+
+/*
+ * Returns how often a file was requested since uip_open, modulo 2^32; 0 if no file of the site has that name. Each GET
+ * of the name counts, whatever follows a `?`. A link can be a button, but a browser may follow a link by itself, or
+ * twice: let it set a state, not toggle it.
+ *
+ *   name, len    the name of the file as the image has it, "/lamp-on.html", without a 0 at its end
+ *
+ * Status: UIP_OK, UIP_NO_DEVICE.
+ */
 uip_number uip_hits(uip_device *device, const void *name, size_t len);
 
-/* Closes the device and gives back its memory. The handle may be opened again. */
+/*
+ * Closes the device and frees its memory. Sends nothing: open connections are dropped, and values and hits are gone.
+ * The handle can be opened again. Status: UIP_OK, UIP_NO_DEVICE.
+ */
 unsigned uip_close(uip_device *device);
 
 /*
- * The heap, which the program has, and which the devices of all threads share. examples/linux-c/heap.c is one over malloc,
- * examples/heap.c one over an array.
+ * The heap, which the program supplies. Take examples/heap.c (an array of UIP_HEAP_SIZE bytes, for one thread),
+ * examples/linux-c/heap.c (malloc), or write your own. One heap serves all devices: if two threads have devices, it
+ * must be safe for both.
  *
- * rattle_alloc gives a block of `len` bytes, or of `align` bytes where `len` is 0, that begins at a multiple of `align` (1, 2, 4, 8
- * or 16; the library asks for 8 at most), with `ok` 1; or 0 and any address but null where there is no room.
- * rattle_realloc gives a block as rattle_alloc does, with the first `kept` bytes of the old one, which is given back; where it answers 0
- * the old block is as it was. It may always answer 0: the library has no use for it, since each list is made as long as it gets.
- * rattle_dealloc takes a block back.
+ *   rattle_alloc      returns a block of `len` bytes, or of `align` bytes if `len` is 0, at a multiple of `align` (1,
+ *                     2, 4, 8 or 16; the library asks for 8 at most), with `ok` 1. If there is no room: `ok` 0, and
+ *                     any address but null; the library does not use it.
+ *   rattle_realloc    returns a block as rattle_alloc does, copies the first `kept` bytes of the old block into it, and
+ *                     frees the old one. It may always fail (the library never needs it): `ok` 0, the old block stays.
+ *   rattle_dealloc    frees a block.
+ *
+ * Measured, not proved: uip_open makes six allocations, for f files of 28 f, 2 f, 4 f, 1500, 2880 and 2312 bytes. If
+ * one fails, it frees those before it. uip_close frees all six. No other call uses the heap, and nothing calls
+ * rattle_realloc. If you open one device and never close it, rattle_dealloc may do nothing. examples/heap.c reuses its
+ * array when all its devices are closed.
  */
 typedef struct { size_t ok; void *block; } uip_block;
 uip_block rattle_alloc(size_t len, size_t align);
@@ -205,8 +397,9 @@ uip_block rattle_realloc(void *block, size_t kept, size_t len, size_t align);
 void rattle_dealloc(void *block);
 
 /*
- * The memory of a device with a site of so many files, beside its image: its blocks, each rounded up to a multiple of 16. It was
- * counted, and no proof says it.
+ * The heap of one device, in bytes, for an image of `files` files, on every target: the six blocks, each rounded up to
+ * a multiple of 16. Add what your allocator adds to each block. The length of the image does not count. For several
+ * devices add theirs. Measured, not proved.
  */
 #define UIP_ROUNDED(len) (((size_t)(len) + 15) / 16 * 16)
 #define UIP_MEMORY(files) \
@@ -215,41 +408,56 @@ void rattle_dealloc(void *block);
 #if defined(__cplusplus) || (defined(__STDC_VERSION__) && __STDC_VERSION__ >= 199901L)
 
 /*
- * These go on until all is done that is due. Each hands every piece of a text to `sink`, with the `to` that it was given, and answers
- * the first status that is not fine. No proof speaks of them.
+ * Takes a piece of output: for example, writes it to the serial port. The functions below call it with each piece, in
+ * order. It must accept the whole piece: it waits until there is room, or until the bytes are gone.
+ *
+ *   to            the pointer that the caller of the function gave
+ *   bytes, len    the piece, 1 byte or more; it lies in `out`, and is valid until the sink returns
+ *
+ * A sink may call uip_set_value and the calls that read: uip_ticks, uip_counter, uip_is_idle, uip_connection, uip_hits.
+ * It may make no other call with this handle.
  */
 typedef void (*uip_sink)(void *to, const unsigned char *bytes, size_t len);
 
-/* Hands on what a call wrote, and what is left of its text. */
-static inline unsigned uip_send_all(uip_device *device, uip_done done, unsigned char *out, size_t room, uip_sink sink, void *to) {
-    while (done.status == UIP_FINE) {
-        if (done.wrote) sink(to, out, done.wrote);
-        if (!done.left) break;
-        done = uip_more(device, out, room);
+/*
+ * Passes the output of a call to `sink`, and then all that is pending. `done` is the result of that call, and `out` its
+ * area. Returns `done.status` if it is not UIP_OK, else the status of the last uip_drain, or UIP_OK.
+ */
+static inline unsigned uip_drain_all(uip_device *device, uip_result done, unsigned char *out, size_t room, uip_sink sink, void *to) {
+    while (done.status == UIP_OK) {
+        if (done.written) sink(to, out, done.written);
+        if (!done.pending) break;
+        done = uip_drain(device, out, room);
     }
     return done.status;
 }
 
-/* Takes all bytes of a line. */
-static inline unsigned uip_hear_all(uip_device *device, const unsigned char *bytes, size_t len,
+/*
+ * Feeds all bytes, and passes all output to `sink`: at most one frame for each frame that ends in `bytes`. If `len` is
+ * 0 it does nothing and returns UIP_OK; else it returns the first status that is not UIP_OK, or UIP_OK.
+ */
+static inline unsigned uip_feed_all(uip_device *device, const unsigned char *bytes, size_t len,
                                     unsigned char *out, size_t room, uip_sink sink, void *to) {
-    uip_done done = {UIP_FINE, 0, 0, 0};
+    uip_result done = {UIP_OK, 0, 0, 0};
     size_t at = 0;
-    while (done.status == UIP_FINE && (done.left || at < len)) {
-        done = done.left ? uip_more(device, out, room) : uip_hear(device, bytes + at, len - at, out, room);
-        at += done.taken;
-        if (done.wrote) sink(to, out, done.wrote);
+    while (done.status == UIP_OK && (done.pending || at < len)) {
+        done = done.pending ? uip_drain(device, out, room) : uip_feed(device, bytes + at, len - at, out, room);
+        at += done.consumed;
+        if (done.written) sink(to, out, done.written);
     }
     return done.status;
 }
 
-/* A tick: the periodic calls of all slots. */
+/*
+ * Makes one tick, and passes all output to `sink`: at most ten frames. Returns the first status that is not UIP_OK, or
+ * UIP_OK.
+ */
 static inline unsigned uip_tick_all(uip_device *device, unsigned char *out, size_t room, uip_sink sink, void *to) {
-    uip_done done = {UIP_FINE, 0, 0, 0};
+    uip_result done = {UIP_OK, 0, 0, 0};
     size_t slot = 0;
-    while (done.status == UIP_FINE && (done.left || slot < UIP_SLOTS)) {
-        done = done.left ? uip_more(device, out, room) : uip_call(device, slot++, out, room);
-        if (done.wrote) sink(to, out, done.wrote);
+    while (done.status == UIP_OK && (done.pending || slot < UIP_SLOTS)) {
+        done = done.pending ? uip_drain(device, out, room) : uip_periodic(device, slot++, out, room);
+        if (done.written) sink(to, out, done.written);
     }
     return done.status;
 }
@@ -260,4 +468,6 @@ static inline unsigned uip_tick_all(uip_device *device, unsigned char *out, size
 }
 #endif
 
+/* For who changes the library: [add: counter] a name and UIP_COUNTERS. [add: state] a name. [add: c-call] a declaration.
+   [add: c-application] an opening call. */
 #endif

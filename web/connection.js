@@ -21,11 +21,11 @@ export class Connection {
   #next = this.#first;
   #most = this.#first;
   #received = 0;         // the next number that has to come
-  #text = EMPTY;         // what is written and not acknowledged, from #una on (behind the SYN)
-  #isEnding = false;     // a FIN stands behind #text
+  #text = EMPTY;         // what is written and not acknowledged, from #una on (after the SYN)
+  #isEnding = false;     // a FIN follows #text
   #isSynOut = true;      // our SYN is not acknowledged
   #window = 1;           // the node's
-  #told = WINDOW;        // ours, as it was told last
+  #advertised = WINDOW;        // ours, as it was advertised last
   #timed = null;         // { seq, at } of one segment whose round trip is measured
   #timer = 0;
   #waited = 0;           // since something new came
@@ -65,7 +65,7 @@ export class Connection {
     this.fail("the connection was given up");
   }
 
-  // The error says `isReset` where the node ended it.
+  // The error has `isReset` if the node ended the connection.
   fail(why, isReset = false) {
     if (this.state === "CLOSED") return;
     const isRead = this.state === "SYN-SENT" || this.#isOpen();
@@ -98,14 +98,14 @@ export class Connection {
   }
 
   #send(flags, seq, text = EMPTY, mss = 0) {
-    this.#told = this.#room();
+    this.#advertised = this.#room();
     const ack = flags & ACK ? this.#received : 0;
-    this.host.sendSegment(this.port, this.toPort, flags, seq, ack, { text, mss, window: this.#told });
+    this.host.sendSegment(this.port, this.toPort, flags, seq, ack, { text, mss, window: this.#advertised });
   }
 
-  // A slow reader took text: the node hears of the room, once a whole segment has it.
+  // A slow reader took text: the window is advertised again once a whole segment fits.
   #widen() {
-    if (this.#told < LARGEST_TEXT && this.#isOpen() && this.#room() >= LARGEST_TEXT) this.#acknowledge();
+    if (this.#advertised < LARGEST_TEXT && this.#isOpen() && this.#room() >= LARGEST_TEXT) this.#acknowledge();
   }
 
   #acknowledge() {
@@ -170,8 +170,8 @@ export class Connection {
     this.#arm();
   }
 
-  hear(segment) {
-    if (this.state === "SYN-SENT") return this.#hearFirst(segment);
+  receive(segment) {
+    if (this.state === "SYN-SENT") return this.#receiveFirst(segment);
     const { seq, ack, flags, window, text } = segment, length = text.length + (flags & FIN ? 1 : 0);
     if (flags & RST) {
       if ((seq - this.#received >>> 0) < WINDOW) this.fail("the node reset the connection", true);
@@ -182,12 +182,12 @@ export class Connection {
     this.#window = window;
     if (this.state === "CLOSED") return;
     const skipped = this.#received - seq >>> 0;   // what came before; very many where the segment is ahead
-    if (skipped < length && this.#isOpen()) this.#hearText(text.slice(skipped), plus(seq, length), flags & FIN);
+    if (skipped < length && this.#isOpen()) this.#receiveText(text.slice(skipped), plus(seq, length), flags & FIN);
     if (!this.transmit() && length) this.#acknowledge();
   }
 
-  #hearFirst({ seq, ack, flags, window, mss }) {
-    if (flags & ACK && ack !== this.#next) {   // of an older connection that the node still has: it is told so, and asked again
+  #receiveFirst({ seq, ack, flags, window, mss }) {
+    if (flags & ACK && ack !== this.#next) {   // of an older connection that the node still has: it is reset, and the SYN sent again
       if (flags & RST) return;
       this.host.sendSegment(this.port, this.toPort, RST, ack, 0);
       this.#arm();
@@ -203,11 +203,11 @@ export class Connection {
     if (!this.transmit()) this.#acknowledge();
   }
 
-  #hearText(piece, next, isEnd) {
+  #receiveText(piece, next, isEnd) {
     this.#received = next;
     if (piece.length) try { this.#reader.enqueue(piece); } catch { /* it was cancelled */ }
     this.#hasMoved();
-    if (isEnd) this.#hearEnd();
+    if (isEnd) this.#receiveEnd();
   }
 
   // Our text up to `ack` came.
@@ -223,18 +223,18 @@ export class Connection {
       this.#timed = null;
     }
     this.#hasMoved();
-    if (isEnd) this.#hearOurEnd();
+    if (isEnd) this.#receiveAckOfEnd();
   }
 
   // Our FIN is acknowledged.
-  #hearOurEnd() {
+  #receiveAckOfEnd() {
     if (this.state === "FIN-WAIT-1") this.state = "FIN-WAIT-2";
     else if (this.state === "CLOSING") this.#rest();
     else if (this.state === "LAST-ACK") this.#leave();
   }
 
-  // The node's FIN came behind all its text. We close too, unless we did.
-  #hearEnd() {
+  // The node's FIN followed all its text. We close too, unless we did.
+  #receiveEnd() {
     try { this.#reader.close(); } catch { /* it was cancelled */ }
     if (this.state === "ESTABLISHED") {
       this.state = "LAST-ACK";

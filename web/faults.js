@@ -1,8 +1,8 @@
-// What can befall datagrams on their way, both ways, by chances that follow from a seed: they are lost, repeated, come out
-// of order, damaged or late. TCP has to make each of them good (RFC 793 section 1.5, "Reliability").
+// Network faults in both directions, by chances that follow from a seed: loss, duplication, reordering, corruption and delay.
+// TCP has to repair each of them (RFC 793 section 1.5, "Reliability").
 import { Clock } from "./clock.js";
 
-const LATEST = 300;   // milliseconds that a datagram is held back where no other comes to go in front of it
+const LATEST = 300;   // milliseconds that a datagram is held back if no other overtakes it
 
 // Numbers below 2^32 that follow from a seed (mulberry32).
 export function numbers(seed) {
@@ -16,10 +16,10 @@ export function numbers(seed) {
 
 export class Faults {
   // Chances from 0 to 1, and a delay in milliseconds.
-  lose = 0;
-  repeat = 0;
-  reorder = 0;
-  damage = 0;
+  loss = 0;
+  duplication = 0;
+  reordering = 0;
+  corruption = 0;
   delay = 0;
   #held = { true: null, false: null };   // by direction
   #isClosed = false;
@@ -30,18 +30,18 @@ export class Faults {
     this.clock = clock;
   }
 
-  // What befalls a datagram: the words for it, and `go`, which delivers it as that wants.
+  // The faults that hit a datagram, in words, and `go`, which delivers it so.
   pass(datagram, isToNode, deliver) {
-    if (this.chance() < this.lose) return { words: ["lost"], go() {} };
-    const isDamaged = this.chance() < this.damage, isTwice = this.chance() < this.repeat;
-    const isLate = this.chance() < this.reorder && !this.#held[isToNode];
+    if (this.chance() < this.loss) return { words: ["lost"], go() {} };
+    const isDamaged = this.chance() < this.corruption, isTwice = this.chance() < this.duplication;
+    const isLate = this.chance() < this.reordering && !this.#held[isToNode];
     const sent = isDamaged ? this.#damaged(datagram) : datagram;
     const give = () => { for (let n = 0; n < (isTwice ? 2 : 1); n++) this.#give(sent, deliver); };
     const go = () => {
       if (isLate) this.#hold(isToNode, give);
       else { give(); this.#release(isToNode); }
     };
-    return { words: [isDamaged && "damaged", isTwice && "twice", isLate && "late"].filter(Boolean), go };
+    return { words: [isDamaged && "corrupted", isTwice && "duplicated", isLate && "reordered"].filter(Boolean), go };
   }
 
   // One byte of a datagram changed. By the checksums of 16 bits each such change is found.
@@ -56,7 +56,7 @@ export class Faults {
     if (this.delay > 0) this.clock.later(this.delay, give); else give();
   }
 
-  // It goes behind the next one of its direction, or in a while.
+  // It follows the next one of its direction, or goes alone after a while.
   #hold(isToNode, give) {
     this.#held[isToNode] = { give, timer: this.clock.later(LATEST, () => this.#release(isToNode)) };
   }

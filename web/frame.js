@@ -1,5 +1,5 @@
-// The device's site in a frame, by the service worker: a page of the device is there as it is, with no byte changed, and so
-// is whatever it asks for. Its scripts have this page's origin; web/plain.js is for those that are not trusted.
+// The device's site in a frame, by the service worker: each page of the device and each file that it requests, with no byte
+// changed. Its scripts have this page's origin; plain.js is for scripts that are not trusted.
 
 const ID = crypto.randomUUID().slice(0, 8);
 
@@ -7,14 +7,17 @@ export class WorkerFrame {
   // The first page is mount + "/". A link to "/x" stays below it, also where this page does not lie at the origin's root.
   #mount = new URL(`at/${ID}`, document.baseURI).href;
   #followed = null;
+  #trail = [];       // the targets that were shown, the last is shown now
+  #isBack = false;   // a visit by Back is under way
+  #href = "";
 
-  // `get` gives a page's reply, and `shown` hears which target is shown.
+  // `get` returns a page's reply, and `shown` receives the target that is shown.
   constructor(element, { get, shown }) {
     Object.assign(this, { element, get, shown });
     this.answer = event => this.#answer(event);
   }
 
-  // Needs a page of https, of this machine, or none is there.
+  // Needs a page from https or from this machine: elsewhere there is no service worker.
   async start() {
     if (!navigator.serviceWorker) throw new Error("no service worker here");
     navigator.serviceWorker.addEventListener("message", this.answer);
@@ -33,8 +36,13 @@ export class WorkerFrame {
     this.element.contentWindow.location.reload();
   }
 
+  // A visit of the page before. The browser's own history is shared with this page, and a step back in it could leave this page.
   back() {
-    this.element.contentWindow.history.back();
+    this.#follow();
+    if (this.#trail.length < 2) return;
+    this.#trail.pop();
+    this.#isBack = true;
+    this.visit(this.#trail.at(-1));
   }
 
   // What the worker asks for.
@@ -52,10 +60,18 @@ export class WorkerFrame {
     const inside = this.element.contentWindow;
     let href;
     try { href = inside.location.href; } catch { return; }   // a link led to another origin
-    if (href.startsWith(this.#mount)) this.shown(href.slice(this.#mount.length));
+    if (href.startsWith(this.#mount)) this.#enter(href);
     if (!inside.navigation || inside.navigation === this.#followed) return;
     this.#followed = inside.navigation;
     this.#followed.addEventListener("navigate", event => this.#turn(event));
+  }
+
+  #enter(href) {
+    const target = href.slice(this.#mount.length);
+    if (href !== this.#href && !this.#isBack) this.#trail.push(target);
+    if (href !== this.#href) this.#isBack = false;
+    this.#href = href;
+    this.shown(target);
   }
 
   // A link that leads out of the worker's places, as "/x" where this page lies below a path.

@@ -1,10 +1,10 @@
 // A host that talks to one node: it pings (RFC 792), and opens TCP connections (RFC 793 section 3.4) from ports of its own,
-// as a browser's system would. It is handed each datagram that came (`hear`) and hands out each that goes (`send`).
+// as a browser's system would. It gets each datagram by `receive` and sends each by `send`.
 import { Clock } from "./clock.js";
 import { Connection, EMPTY, plus, random32 } from "./connection.js";
 import { ACK, FIN, LARGEST, RST, SYN, echoDatagram, read, tcpDatagram } from "./wire.js";
 
-const FIRST_PORT = 49152, PORTS = 16384, LEAST_WAIT = 1000;   // RFC 6335 section 6: ports for clients
+const FIRST_PORT = 49152, PORTS = 16384, LEAST_WAIT = 1000, MOST_WAIT = 3000;   // RFC 6335 section 6: ports for clients
 
 const isSame = (a, b) => a.length === b.length && a.every((byte, at) => byte === b[at]);
 
@@ -16,7 +16,7 @@ export class Host {
   #ping = random32();
   #trip = null;              // { mean, spread } of round trips: all connections share the line
 
-  // `waits` hears of a connection for which nothing came for some milliseconds.
+  // `waits` receives a connection for which nothing arrived for some milliseconds.
   constructor(send, options = {}) {
     const { own = [10, 0, 0, 2], node = [10, 0, 0, 1], mss = LARGEST - 40, clock = new Clock(), waits = () => {} } = options;
     Object.assign(this, { send, own, node, mss, clock, waits });
@@ -43,13 +43,13 @@ export class Host {
     return new Promise((resolve, reject) => {
       const fail = why => { this.#pings.delete(number); clearTimeout(timer); reject(new Error(why)); };
       const timer = this.clock.later(patience, () => fail("no reply"));
-      const hear = reply => {
+      const receive = reply => {
         if (!isSame(reply, payload)) return;
         this.#pings.delete(number);
         clearTimeout(timer);
         resolve(this.clock.now() - start);
       };
-      this.#pings.set(number, { hear, fail });
+      this.#pings.set(number, { receive, fail });
       this.send(echoDatagram(this.own, this.node, this.#nextId(), number, payload));
     });
   }
@@ -63,15 +63,15 @@ export class Host {
     this.send(tcpDatagram(this.own, this.node, this.#nextId(), segment));
   }
 
-  hear(datagram) {
+  receive(datagram) {
     const { bad, from, to, echo, segment } = read(datagram);
     if (bad || !isSame(from, this.node) || !isSame(to, this.own)) return;
     if (echo) {
-      if (echo.type === 0) this.#pings.get(echo.number)?.hear(echo.payload);
+      if (echo.type === 0) this.#pings.get(echo.number)?.receive(echo.payload);
       return;
     }
     const connection = this.connections.get(segment.toPort);
-    if (connection?.toPort === segment.fromPort) connection.hear(segment);
+    if (connection?.toPort === segment.fromPort) connection.receive(segment);
     else this.#refuse(segment);
   }
 
@@ -83,9 +83,10 @@ export class Host {
     else this.sendSegment(toPort, fromPort, RST | ACK, 0, plus(seq, length));
   }
 
-  // How long a first sending waits for its acknowledgement (RFC 6298 section 2).
+  // How long a first transmission waits for its acknowledgement (RFC 6298 section 2). It is bounded: a browser that stalls measures
+  // long round trips, and a node by uIP's rules resets a connection from which nothing arrives for ten seconds.
   firstWait() {
-    return this.#trip ? Math.max(LEAST_WAIT, this.#trip.mean + 4 * this.#trip.spread) : LEAST_WAIT;
+    return this.#trip ? Math.min(MOST_WAIT, Math.max(LEAST_WAIT, this.#trip.mean + 4 * this.#trip.spread)) : LEAST_WAIT;
   }
 
   learnTrip(time) {

@@ -4,7 +4,7 @@ const encoder = new TextEncoder(), decoder = new TextDecoder("latin1");
 const LONGEST_HEAD = 8192;
 
 // The reply's status, reason, headers and the stream of its body, once the head is there. The body fails where the
-// connection does, and where fewer bytes came than the head tells. `over` comes when nothing more will come.
+// connection does, or if fewer bytes arrive than the head announces. `over` resolves when nothing more will arrive.
 export async function get(host, target, { port = 80 } = {}) {
   const connection = host.connect(port), reader = connection.readable.getReader();
   connection.write(encoder.encode(`GET ${target} HTTP/1.0\r\nHost: ${host.node.join(".")}\r\n\r\n`));
@@ -49,7 +49,7 @@ function parseHead(text) {
   return { status: +status, reason, headers };
 }
 
-// What a header of a reply says, or undefined.
+// The value of a reply's header, or undefined.
 export function headerOf(headers, name) {
   return headers.find(([one]) => one.toLowerCase() === name)?.[1];
 }
@@ -80,5 +80,9 @@ function bodyOf(connection, reader, rest, length) {
 
 // All bytes of a stream.
 export async function all(stream) {
-  return new Uint8Array(await new Response(stream).arrayBuffer());
+  const parts = [], reader = stream.getReader();
+  for (let turn; !(turn = await reader.read()).done;) parts.push(turn.value);   // a Response would hide why it failed
+  const bytes = new Uint8Array(parts.reduce((sum, part) => sum + part.length, 0));
+  parts.reduce((at, part) => { bytes.set(part, at); return at + part.length; }, 0);
+  return bytes;
 }

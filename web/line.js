@@ -6,9 +6,9 @@ import { SlipReader, silence, slipText } from "./wire.js";
 // The errors after which Web Serial gives a port another `readable`.
 const PASSING = ["BreakError", "BufferOverrunError", "FramingError", "ParityError"];
 
-// Reads a line until it ends; gives how one is written. `tell` hears each datagram, `noise` each frame that is too long to
-// be one, `passing` each error after which the line goes on, `ended` the one after which it does not, or null.
-export function attach(line, { tell, noise = () => {}, passing = () => {}, ended = () => {} }) {
+// Reads a line until it ends; returns how to write to it. `received` gets each datagram, `noise` runs for each frame that is too
+// long, `passing` gets each error after which the line continues, `ended` the error that ended it, or null.
+export function attach(line, { received, noise = () => {}, passing = () => {}, ended = () => {} }) {
   const slip = new SlipReader(), writer = line.writable.getWriter(), counts = { read: 0, written: 0, waiting: 0 };
   let reader = null, isClosed = false, why = null;
 
@@ -17,7 +17,7 @@ export function attach(line, { tell, noise = () => {}, passing = () => {}, ended
     try {
       for (let turn; !(turn = await reader.read()).done;) {
         counts.read += turn.value.length;
-        slip.feed(turn.value, tell, noise);
+        slip.feed(turn.value, received, noise);
       }
       isClosed = true;
     } catch (error) {

@@ -1,6 +1,6 @@
-// A ladder drawn: two time lines, the client's and the node's, and an arrow for each datagram (as in RFC 793 section 3.4,
-// figures 7 to 13). It is one SVG file.
-import { verdictOf } from "./ladder.js";
+// The sequence diagram as a picture: two time lines, the client's and the node's, and an arrow for each datagram (as in
+// RFC 793 section 3.4, figures 7 to 13). It is one SVG file.
+import { wordsOf } from "./sequence.js";
 
 const LEFT = 190, RIGHT = 610, WIDTH = 800, TOP = 70, STEP = 34, SLOPE = 16, GAP = 26;
 
@@ -11,8 +11,8 @@ path { stroke: #142c24; stroke-width: 1.2; fill: none; } .line { stroke: #7a938a
 .from path { stroke: #06705a; } .again path { stroke: #b36b00; } .again .wire { stroke-dasharray: 6 3; }
 .again text { fill: #7a4900; } .other path, .lost path { stroke: #b00020; } .other text, .lost text { fill: #b00020; }`;
 
-// Rows as `Ladder` and `readReport` give them, each with its time as a text; `unit` is that of the times.
-export function drawLadder(rows, { title = "A ladder", unit = "s" } = {}) {
+// Rows as `Sequence` and `readReport` give them, each with its time as a text; `unit` is that of the times.
+export function drawSequence(rows, { title = "A sequence diagram", unit = "s" } = {}) {
   const long = unit === "s" ? 0.5 : 1, parts = [];
   let y = TOP, then = null;
   for (const row of rows) {
@@ -44,7 +44,7 @@ function arrow(row, y, unit) {
   const at = isLost ? (LEFT + RIGHT) / 2 + sign * 60 : end, low = y + SLOPE * Math.abs(at - start) / (RIGHT - LEFT);
   const cross = `M${at - 5} ${low - 5}l10 10m-10 0l10 -10`, tip = `M${at - sign * 9} ${low - 5}L${at} ${low}L${at - sign * 8} ${low + 4}`;
   const side = isToNode ? `x="${LEFT - 8}" text-anchor="end"` : `x="${RIGHT + 8}"`;
-  const words = [`${row.flags} ${row.seq} ${row.len}`, verdictOf(row)].filter(Boolean).join("  ");
+  const words = [`${row.flags} ${row.seq} ${row.len}`, wordsOf(row)].filter(Boolean).join("  ");
   return `<g class="${names.join(" ")}"><path class="wire" d="M${start} ${y}L${at} ${low}"/><path class="tip" d="${isLost ? cross : tip}"/>
 <text ${side} y="${y + 4}" class="time">${escaped(`${row.who}  ${row.time} ${unit === "s" ? "s" : "t"}`)}</text>
 <text x="${(LEFT + RIGHT) / 2}" y="${y + 2}" text-anchor="middle">${escaped(words)}</text></g>`;

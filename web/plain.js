@@ -38,10 +38,10 @@ const pathOf = url => url.pathname + url.search;
 export class PlainFrame {
   #visited = [];   // targets, the last is shown
 
-  // `get` gives a page's reply, `shown` hears which target is shown, and `failed` why none is.
+  // `get` returns a page's reply, `shown` receives the target that is shown, and `failed` the error if none is.
   constructor(element, { get, shown, failed }) {
     Object.assign(this, { element, get, shown, failed });
-    addEventListener("message", event => this.#hear(event));
+    addEventListener("message", event => this.#receive(event));
   }
 
   async visit(target) {
@@ -87,7 +87,7 @@ export class PlainFrame {
     element.setAttribute(name, dataUrl(type, bytes));
   }
 
-  async #hear({ source, data }) {
+  async #receive({ source, data }) {
     if (source !== this.element.contentWindow || typeof data !== "object") return;
     if (typeof data.visit === "string") {
       const url = new URL(data.visit, this.#base());

@@ -1,22 +1,26 @@
 #!/usr/bin/env python3
-"""Serves the page of this folder on this machine, and carries bytes between it and a node (a WebSocket, RFC 6455, to a terminal).
+"""Serves the page of this folder on this machine.
 
-    python3 web/serve.py [UIPD [SITE]] [OPTION ..] [-- COMMAND ARG ..]
+    python3 web/serve.py [UIPD] [SITE] [OPTION ..] [-- COMMAND ARG ..]
 
-It says where the page is; open it in Chromium. The node is `UIPD serve SITE 10.0.0.1` on a pseudo terminal of its own, a fresh one
-for each page that is opened; or what one of these says:
+It prints the page's address. The device of the page is
 
-    --line DEVICE RATE   the node at the other end of a serial port, as /dev/ttyUSB0 115200
-    --board FIRMWARE     the node on a board of its own, by qemu, at its serial port
-    --page               none: the page alone, for a port that the browser opens by itself
+    (no word)            inside the page; nothing has to be built
+    SITE                 inside the page, with this site
+    UIPD [SITE]          `UIPD serve SITE 10.0.0.1` on a pseudo terminal, a fresh one for each page that is opened
+    --line DEVICE RATE   at the other end of a serial port, as /dev/ttyUSB0 115200
+    --board FIRMWARE     a board by qemu, at its serial port
     -- COMMAND ARG ..    any program that speaks SLIP on standard input and output
 
-    --port N             the page is at this port (8080; 0 takes a free one)
-    --open               the page is opened in this machine's browser
-    --help               this text
+SITE is an image (a file that ends in .img) or a folder of files. If it changes, the page loads it again and shows the same path.
 
-The page fills the silence of the line with bytes that mean nothing, so that the server's `pace` is a clock of half seconds. Only this
-machine is served, and only the page itself may use the bridge.
+    --port N             serves the page at this port (8080; 0 takes a free one)
+    --open               opens the page in this machine's browser
+    --page               only the page, even if crates/uipd is built
+    --help               prints this text
+
+The page carries bytes to UIPD over a WebSocket (RFC 6455). It fills the silence of the line with idle bytes, so that `pace` is a
+clock of half seconds. Only this machine is served, and only the page itself may use the WebSocket.
 """
 import base64
 import hashlib
@@ -26,8 +30,12 @@ import os
 import select
 import signal
 import struct
+import subprocess
 import sys
+import tempfile
 import threading
+import time
+import urllib.parse
 import webbrowser
 from http.server import BaseHTTPRequestHandler, ThreadingHTTPServer
 
@@ -39,16 +47,61 @@ try:
 except ImportError:   # a system without terminals, as Windows
     browse = None
 
-TYPES = {".html": "text/html", ".js": "text/javascript", ".css": "text/css"}
+TYPES = {".html": "text/html", ".js": "text/javascript", ".css": "text/css", ".wasm": "application/wasm", ".img": "application/octet-stream"}
 OURS = ("localhost", "127.0.0.1", "[::1]")
 ACCEPT = "258EAFA5-E914-47DA-95CA-C5AB0DC85B11"   # RFC 6455 section 1.3
 BINARY, CLOSE, PING, PONG = 2, 8, 9, 10
 LONGEST = 1 << 20
+CHANGED = "the site has changed"                  # page.js knows this word
 FAULT = 1011                                      # RFC 6455 section 7.4.1
+STATUSES = {   # docs/uipd.1, EXIT STATUS
+    0: "the line ended",
+    1: "the command line is unknown",
+    2: "a file cannot be read or does not exist",
+    3: "reading the line failed",
+    4: "writing failed",
+    5: "it took the number of items that it was given",
+    6: "the image is bad",
+    7: "the schedule is bad",
+    8: "out of memory",
+    9: "the capture file is bad",
+}
 
 
 def fail(text):
     sys.exit(f"serve.py: {text}")
+
+
+def status_words(status):
+    """An exit status of uipd in words."""
+    if status < 0:
+        return f"the program was ended by {signal.Signals(-status).name}"
+    return f"the program ended with status {status}" + (f": {STATUSES[status]}" if status in STATUSES else "")
+
+
+def names_in(folder):
+    """The names of a folder's files, at any depth, without those that begin with a dot."""
+    names = []
+    for place, folders, files in os.walk(folder):
+        folders[:] = sorted(name for name in folders if not name.startswith("."))
+        names += [os.path.relpath(os.path.join(place, name), folder).replace(os.sep, "/") for name in sorted(files) if name[0] != "."]
+    return names
+
+
+def stamp_of(site):
+    """Changes whenever a file of a site does."""
+    paths = [os.path.join(site, name) for name in names_in(site)] if os.path.isdir(site) else [site]
+    return hashlib.sha256(repr([(path, os.stat(path).st_mtime_ns, os.stat(path).st_size) for path in paths]).encode()).hexdigest()[:16]
+
+
+def packed(uipd, folder, to):
+    """Writes the image of a folder by the program's own `pack`."""
+    files = [f"/{name}={os.path.join(folder, name)}" for name in names_in(folder)]
+    with open(to, "wb") as file:
+        status = subprocess.run([uipd, "pack", *files], stdout=file, check=False).returncode
+    if status:
+        fail(f"cannot pack {folder}: {status_words(status)}")
+    return to
 
 
 class Socket:
@@ -109,13 +162,26 @@ class Socket:
 
 
 class Program:
-    """A program behind a terminal, a fresh one for each page."""
+    """A program on a pseudo terminal, a fresh one for each page."""
 
-    def __init__(self, name, words, is_filled):
-        self.name, self.words, self.is_filled, self.rate = name, words, is_filled, browse.LOCAL_RATE
+    def __init__(self, name, words, is_filled, is_own=False):
+        self.name, self.words, self.is_filled, self.rate, self.has_statuses = name, words, is_filled, browse.LOCAL_RATE, is_own
 
     def open(self):
-        return Line(*browse.start_server(self.words))
+        return Line(*browse.start_server(self.words), has_statuses=self.has_statuses)
+
+
+class Watched:
+    """UIPD with a site that may change: a folder is packed for each page, and the line ends when a file has changed."""
+
+    def __init__(self, name, uipd, site):
+        self.name, self.uipd, self.site, self.is_filled, self.rate = name, uipd, site, True, browse.LOCAL_RATE
+
+    def open(self):
+        then, place = stamp_of(self.site), tempfile.TemporaryDirectory()
+        image = packed(self.uipd, self.site, os.path.join(place.name, "site.img")) if os.path.isdir(self.site) else self.site
+        words = [self.uipd, "serve", image, "10.0.0.1", "pace", str(browse.LOCAL_RATE // 2), "tty"]
+        return WatchedLine(lambda: stamp_of(self.site) != then, *browse.start_server(words), release=place.cleanup, has_statuses=True)
 
 
 class Board:
@@ -149,8 +215,9 @@ class Line:
     """A line to a node that runs: where bytes go in and come out."""
     running = set()
 
-    def __init__(self, process, put, output, kept=None, release=lambda: None):
+    def __init__(self, process, put, output, kept=None, release=lambda: None, has_statuses=False):
         self.process, self.put, self.output, self.kept, self.release, self.is_over = process, put, output, kept, release, False
+        self.has_statuses = has_statuses
         Line.running.add(self)
 
     def write(self, data):
@@ -158,8 +225,8 @@ class Line:
             data = data[os.write(self.put, data[:1024]):]
 
     def read(self):
-        """The next bytes of the node, or nothing where it went away or the line is over."""
-        while not self.is_over:
+        """The next bytes of the node, or nothing if it went away or the line is over."""
+        while not self.is_over and not self.has_changed():
             if select.select([self.output], [], [], 0.2)[0]:
                 return os.read(self.output, 65536)
         return b""
@@ -167,7 +234,11 @@ class Line:
     def why(self):
         if self.process is None:
             return "the port went away"
-        return f"the program ended with status {self.process.wait()}"
+        status = self.process.wait()
+        return status_words(status) if self.has_statuses or status < 0 else f"the program ended with status {status}"
+
+    def has_changed(self):
+        return False
 
     def close(self):
         self.is_over = True
@@ -178,8 +249,29 @@ class Line:
         self.release()
 
 
+class WatchedLine(Line):
+    """A line that ends when its site has changed. It looks twice a second."""
+    is_changed, then = False, 0
+
+    def __init__(self, look, *words, **more):
+        super().__init__(*words, **more)
+        self.look = look
+
+    def has_changed(self):
+        if time.monotonic() - self.then > 0.5:
+            self.then = time.monotonic()
+            try:
+                self.is_changed = self.look()
+            except OSError:
+                pass   # a file is being written
+        return self.is_changed
+
+    def why(self):
+        return CHANGED if self.is_changed else super().why()
+
+
 def carry_out(line, socket):
-    """Carries what the node says to the page."""
+    """Carries what the node sends to the page."""
     try:
         while data := line.read():
             socket.write(data)
@@ -201,7 +293,7 @@ def bridge(node, socket):
         while (data := socket.read()) is not None:
             line.write(data)
     except OSError:
-        socket.read()   # the node went away: its page answers the end that it was told of
+        socket.read()   # the node went away: the page answers the close frame
     line.close()
     out.join()
     for descriptor in {line.put, line.output}:
@@ -212,6 +304,7 @@ class Handler(BaseHTTPRequestHandler):
     protocol_version = "HTTP/1.1"
     disable_nagle_algorithm = True
     node = None
+    site = None   # of the device inside the page
 
     def log_message(self, *_):
         pass
@@ -224,7 +317,7 @@ class Handler(BaseHTTPRequestHandler):
         self.wfile.write(body)
 
     def is_ours(self):
-        """Asked for by a name of this machine: no other site may lead its own name here."""
+        """Requested by a name of this machine: no other site may point its own name here."""
         return self.headers.get("Host", "").rsplit(":", 1)[0] in OURS
 
     def do_GET(self):
@@ -233,6 +326,8 @@ class Handler(BaseHTTPRequestHandler):
             self.answer(403, "text/plain", b"this machine alone is served\n")
         elif path == "/line":
             self.upgrade()
+        elif path == "/folder" or path.startswith("/folder/"):
+            self.folder(urllib.parse.unquote(path[len("/folder/"):]))
         else:
             self.file(path[1:] or "index.html")
 
@@ -242,20 +337,38 @@ class Handler(BaseHTTPRequestHandler):
             return self.answer(404, "text/plain", b"not here\n")
         with open(os.path.join(HERE, name), "rb") as file:
             body = file.read()
-        self.answer(200, kind, body.replace(b"</head>", self.told() + b"</head>") if name == "index.html" else body)
+        self.answer(200, kind, body.replace(b"</head>", self.metas() + b"</head>") if name == "index.html" else body)
 
-    def told(self):
-        """What the page has to know of the node behind the bridge."""
-        if not self.node:
-            return b""
-        words = json.dumps({"name": self.node.name, "rate": self.node.rate, "fill": self.node.is_filled})
-        return f'<meta name="bridge" content="{html.escape(words)}">\n'.encode()
+    def folder(self, name):
+        """The site of the device inside the page: its list of files, or one of them."""
+        try:
+            if not self.site:
+                return self.answer(404, "text/plain", b"no site here\n")
+            names = names_in(self.site) if os.path.isdir(self.site) else [os.path.basename(self.site)]
+            if not name:
+                words = {"names": names, "isImage": not os.path.isdir(self.site), "stamp": stamp_of(self.site)}
+                return self.answer(200, "application/json", json.dumps(words).encode())
+            if name not in names:
+                return self.answer(404, "text/plain", b"not here\n")
+            with open(os.path.join(self.site, name) if os.path.isdir(self.site) else self.site, "rb") as file:
+                return self.answer(200, "application/octet-stream", file.read())
+        except OSError as error:   # a file is being written
+            return self.answer(503, "text/plain", f"{error.strerror}\n".encode())
+
+    def metas(self):
+        """What the page has to know of the node at the WebSocket, and of its own site."""
+        words = {}
+        if self.node:
+            words["bridge"] = {"name": self.node.name, "rate": self.node.rate, "fill": self.node.is_filled, "now": self.node.is_asked}
+        if self.site:
+            words["folder"] = {"name": os.path.basename(os.path.abspath(self.site))}
+        return "".join(f'<meta name="{name}" content="{html.escape(json.dumps(of))}">\n' for name, of in words.items()).encode()
 
     def upgrade(self):
         """The handshake (RFC 6455 section 4.2), with our own page alone."""
         key = self.headers.get("Sec-WebSocket-Key")
         if not self.node or not key or self.headers.get("Origin") != f"http://{self.headers['Host']}":
-            return self.answer(403, "text/plain", b"the bridge is for the page of this server\n")
+            return self.answer(403, "text/plain", b"this is for the page of this server\n")
         self.send_response(101)
         accept = base64.b64encode(hashlib.sha1((key + ACCEPT).encode()).digest()).decode()
         for name, value in (("Upgrade", "websocket"), ("Connection", "Upgrade"), ("Sec-WebSocket-Accept", accept)):
@@ -298,17 +411,29 @@ class Words:
             elif word == "--line" and len(words) > 1 and words[1].isdigit():
                 self.line, words = (words[0], int(words[1])), words[2:]
             elif word.startswith("-") or len(plain) == 2:
-                fail(f"unknown word {word}; --help says which there are")
+                fail(f"unknown word {word}; --help lists them")
             else:
                 plain.append(word)
-        self.uipd = plain[0] if plain else os.path.join(EXAMPLES, "../crates/uipd/out/uipd")
-        self.site = plain[1] if len(plain) > 1 else os.path.join(EXAMPLES, "site.img")
+        is_site = len(plain) == 1 and (os.path.isdir(plain[0]) or plain[0].endswith(".img"))
+        self.site = plain[0] if is_site else plain[1] if len(plain) > 1 else os.path.join(EXAMPLES, "site.img")
+        self.inside = plain[0] if is_site else None
+        self.is_asked = bool(plain)
+        self.uipd = plain[0] if plain and not is_site else os.path.join(EXAMPLES, "../crates/uipd/out/uipd")
 
     def node(self):
-        if self.is_alone:
+        """The node at the WebSocket, or None."""
+        if self.is_alone or self.inside:
+            return None
+        is_named = self.line or self.board or self.command or self.is_asked
+        if not is_named and (browse is None or not os.path.exists(self.uipd)):
             return None
         if browse is None:
-            fail("no pseudo terminals on this system: --page serves the page alone, for a port that the browser opens")
+            fail("no pseudo terminals on this system; without a word the device runs inside the page")
+        node = self.named()
+        node.is_asked = bool(is_named)   # the page then connects at once
+        return node
+
+    def named(self):
         if self.line:
             return Port(*self.line)
         if self.board:
@@ -317,10 +442,12 @@ class Words:
         if self.command:
             return Program(" ".join(self.command), self.command, False)
         self.has_to_exist(self.uipd, "no program at {}: `rt run` in crates/uipd builds it")
-        self.has_to_exist(self.site, "no image at {}: `sh examples/pack.sh` packs it")
-        words = ["serve", self.site, "10.0.0.1", "pace", str(browse.LOCAL_RATE // 2), "tty"]
-        name = f"{os.path.basename(self.uipd)} serve {os.path.basename(self.site)}"
-        return Program(name, [self.uipd, *words], True)
+        self.has_to_exist(self.site, "no image and no folder at {}")
+        return Watched(f"{os.path.basename(self.uipd)} serve {os.path.basename(os.path.abspath(self.site))}", self.uipd, self.site)
+
+    def device(self, node):
+        """The device in words."""
+        return node.name if node else f"inside the page, with {self.inside}" if self.inside else "inside the page"
 
     def has_to_exist(self, path, words):
         if not os.path.exists(path):
@@ -329,15 +456,19 @@ class Words:
 
 def main():
     words = Words(sys.argv[1:])
-    Handler.node = words.node()
+    if words.inside:
+        words.has_to_exist(words.inside, "no image and no folder at {}")
+    Handler.node, Handler.site = words.node(), words.inside
     try:
         server = Server(("127.0.0.1", words.port), Handler)
     except OSError as error:
         fail(f"no server at port {words.port}: {error.strerror}; --port names another")
     url = f"http://localhost:{server.server_address[1]}/"
-    print(f"The page is at {url} (Chromium; Ctrl-C ends it). The node: {Handler.node.name if Handler.node else 'none'}.", flush=True)
+    print(f"The page is at {url} (Ctrl-C ends it). The device: {words.device(Handler.node)}.", flush=True)
+    if not Handler.node and not words.inside:
+        print(f"At {url}#try it starts at once.", flush=True)
     if words.is_opened:
-        webbrowser.open(url)
+        webbrowser.open(url if Handler.node or words.inside or words.is_alone else f"{url}#try")
     signal.signal(signal.SIGTERM, lambda *_: sys.exit(0))   # what it started ends with it
     try:
         server.serve_forever()

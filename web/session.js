@@ -1,11 +1,11 @@
-// What is there while a line to a node is open: the host, the faults between the two, the ladder, the capture and the
-// counts; and pages by GET, of which it says whether each came whole. It knows no document: web/page.js shows it.
+// All that exists while a line to a node is open: the host, the faults between the two, the sequence diagram, the capture
+// and the counts. It fetches pages by GET and judges each: complete, wrong or truncated. It knows no document (page.js does).
 import { Clock } from "./clock.js";
 import { Host } from "./host.js";
 import { attach, fillSilence } from "./line.js";
 import { Faults } from "./faults.js";
 import { Capture } from "./capture.js";
-import { Ladder } from "./ladder.js";
+import { Sequence } from "./sequence.js";
 import { all, get } from "./http.js";
 
 const TEN = 10;           // the connections of a node by uIP's usual settings
@@ -16,14 +16,14 @@ const LONG = 3000;        // milliseconds without an answer that are worth a wor
 
 const isScript = target => /\.shtml(\?|$)/.test(target);
 
-// A sum over a page's bytes (FNV-1a), by which two copies are told apart.
+// A sum over a page's bytes (FNV-1a), by which two copies are compared.
 const SUM = 0x811c9dc5;
 const sumOver = (sum, bytes) => bytes.reduce((one, byte) => Math.imul(one ^ byte, 0x01000193), sum);
 
 export class Session {
-  ladder = new Ladder();
+  sequence = new Sequence();
   capture = new Capture();
-  sums = { datagrams: 0, struck: 0, again: 0, other: 0, noise: 0, anew: 0, whole: 0, wrong: 0, broken: 0, bytes: 0 };
+  sums = { datagrams: 0, hit: 0, retransmissions: 0, different: 0, noise: 0, retried: 0, complete: 0, wrong: 0, truncated: 0, bytes: 0 };
   atOnce = AT_ONCE;
   #running = 0;
   #waiting = [];
@@ -32,17 +32,17 @@ export class Session {
   #start = performance.now();
   #isClosed = false;
 
-  // `line` is as in line.js; `leave` is what is to do behind its end. `show` hears each row, `notice` words for people and
-  // perhaps their kind, `over` the error by which the line ended, or null. `words` says what an error of the line is.
-  constructor(line, { name = "a line", mss, clock = new Clock(), seed = 1, show = () => {}, notice = () => {}, over = () => {},
+  // `line` is as in line.js; `leave` runs after its end. `show` receives each row, `notice` words for people and perhaps their
+  // kind, and `over` the error that ended the line, or null. `words` describes an error of the line.
+  constructor(line, { name = "a line", mss, own, node, clock = new Clock(), seed = 1, show = () => {}, notice = () => {}, over = () => {},
     words = error => error.message, leave = () => {} } = {}) {
     Object.assign(this, { name, clock, show, notice, leave });
     this.faults = new Faults(seed, clock);
-    const waits = (connection, waited) => this.#tellWait(connection, waited);
-    this.host = new Host(datagram => this.#pass(datagram, true, it => this.wire.send(it)), { mss, clock, waits });
+    const waits = (connection, waited) => this.#reportWait(connection, waited);
+    this.host = new Host(datagram => this.#pass(datagram, true, it => this.wire.send(it)), { mss, own, node, clock, waits });
     this.wire = attach(line, {
-      tell: datagram => this.#pass(datagram, false, it => this.host.hear(it)),
-      noise: () => this.#tellNoise("overlong"),
+      received: datagram => this.#pass(datagram, false, it => this.host.receive(it)),
+      noise: () => this.#reportNoise("overlong"),
       passing: error => notice(words(error)),
       ended: error => over(error && words(error)),
     });
@@ -55,37 +55,39 @@ export class Session {
   }
 
   #pass(datagram, isToNode, deliver) {
-    const row = this.ladder.tell(datagram, isToNode), time = performance.now();
+    const row = this.sequence.add(datagram, isToNode), time = performance.now();
     this.capture.add(datagram, performance.timeOrigin + time);
     const { words, go } = this.faults.pass(datagram, isToNode, deliver);
     this.sums.datagrams++;
-    this.sums.struck += words.length > 0;
-    this.sums.again += row.isAgain;
-    if (row.bad) this.#tellNoise(row.bad);
-    if (row.otherAt !== null) this.#tellOther(row);
+    this.sums.hit += words.length > 0;
+    this.sums.retransmissions += row.isAgain;
+    if (row.bad) this.#reportNoise(row.bad);
+    if (row.otherAt !== null) this.#reportDifferent(row);
     this.show({ ...row, time: ((time - this.#start) / 1000).toFixed(3), fate: words });
     go();
   }
 
-  #tellNoise(word) {
+  #reportNoise(word) {
     this.sums.noise++;
-    this.notice(`what came is no datagram (${word}): the text of a starting board, noise, or another rate`, "noise");
+    this.notice(`received bytes that are no datagram (${word}): a starting board, noise, or another rate`, "noise");
   }
 
-  #tellOther({ who, otherAt, number }) {
-    this.sums.other++;
-    this.notice(`other bytes at one number: datagram ${number} of ${who} differs at ${otherAt} from what went before`);
+  #reportDifferent({ who, otherAt, number }) {
+    this.sums.different++;
+    this.notice(`datagram ${number} of ${who} is a retransmission with different bytes, from number ${otherAt} on`, "different");
   }
 
-  #tellWait({ state }, waited) {
-    if (waited < LONG) return;
-    const others = this.host.connections.size - 1, what = state === "SYN-SENT" ? " to a new connection" : "";
-    const many = others < TEN ? "is the node there, or still starting?" : `the node may have none free, ${others} are open;`;
-    this.notice(`no answer${what} for ${Math.round(waited / 1000)} s${what ? `: ${many}` : ";"} asked again`, "wait");
+  #reportWait({ state }, waited) {
+    if (waited < (this.faults.loss > 0 ? 20 : 1) * LONG) return;   // with loss, waits are no news
+    const others = this.host.connections.size - 1, seconds = Math.round(waited / 1000);
+    const why = state !== "SYN-SENT" ? ""
+      : others < TEN ? " to a SYN: is the device there, or still starting?"
+        : ` to a SYN: the device may have no slot free (${others} are open);`;
+    this.notice(`no answer for ${seconds} s${why || ";"} sent again`, "wait");
   }
 
-  // A page of the node; some at once, and the others wait.
-  async get(target) {
+  // Requests a page: at most `atOnce` in parallel, the others wait. `judged` receives its verdict: complete, wrong or truncated.
+  async get(target, judged = () => {}) {
     if (this.#running < this.atOnce) this.#running++;
     else await new Promise(resolve => this.#waiting.push(resolve));
     try {
@@ -93,43 +95,43 @@ export class Session {
       const reply = await this.#ask(target);
       reply.over.then(() => this.#free());
       const counted = { ...reply, isWrong: false };
-      counted.body = this.#counted(target, reply.body, counted);
+      counted.body = this.#counted(target, reply.body, counted, judged);
       return counted;
     } catch (error) {
       this.#free();
-      this.sums.broken++;
+      this.#cut(judged);
       throw error;
     }
   }
 
-  // Where the node resets the connection before the head of its reply is there, it is asked anew.
+  // If the node resets the connection before the head of its reply is complete, the request is retried.
   async #ask(target) {
     for (let left = TRIES - 1;; left--) {
       try {
         return await get(this.host, target);
       } catch (error) {
         if (!error.isReset || left === 0) throw error;
-        this.sums.anew++;
+        this.sums.retried++;
       }
     }
   }
 
-  // The next one that waits goes on in the place of one that is over.
+  // The next waiting request takes the place of one that is over.
   #free() {
     const next = this.#waiting.shift();
     if (next) next();
     else this.#running--;
   }
 
-  // The same stream, which is counted at its end. Where its reader gives it up it counts for nothing.
-  #counted(target, body, reply) {
+  // The same stream, judged at its end. If its reader cancels it, it is not counted.
+  #counted(target, body, reply, judged) {
     const reader = body.getReader();
     let sum = SUM;
     return new ReadableStream({
       pull: async out => {
-        const turn = await reader.read().catch(error => { this.sums.broken++; throw error; });
+        const turn = await reader.read().catch(error => { this.#cut(judged); throw error; });
         if (turn.done) {
-          this.#judge(target, sum, reply);
+          this.#judge(target, sum, reply, judged);
           return out.close();
         }
         this.sums.bytes += turn.value.length;
@@ -140,19 +142,23 @@ export class Session {
     });
   }
 
-  // A page that came to its end is whole, or wrong where an earlier copy had other bytes. What a script says may change.
-  #judge(target, sum, reply) {
+  // A page that failed before its end.
+  #cut(judged) {
+    this.sums.truncated++;
+    judged("truncated");
+  }
+
+  // A page that ended is complete, or wrong if its bytes differ from those of the first copy. The output of a script may change.
+  #judge(target, sum, reply, judged) {
     const first = this.#sumsOfPages.get(target);
     if (first === undefined && !isScript(target)) {
       this.#sumsOfPages.set(target, sum);
       if (this.#sumsOfPages.size > REMEMBERED) this.#sumsOfPages.delete(this.#sumsOfPages.keys().next().value);
     }
-    if (first === undefined || first === sum) this.sums.whole++;
-    else {
-      reply.isWrong = true;
-      this.sums.wrong++;
-      this.notice(`${target} came with other bytes than its first copy`);
-    }
+    reply.isWrong = first !== undefined && first !== sum;
+    this.sums[reply.isWrong ? "wrong" : "complete"]++;
+    judged(reply.isWrong ? "wrong" : "complete");
+    if (reply.isWrong) this.notice(`wrong page: the bytes of ${target} differ from those of its first copy`, "wrong");
   }
 
   async whole(target) {
@@ -160,16 +166,16 @@ export class Session {
     return { status: reply.status, headers: reply.headers, isWrong: reply.isWrong, bytes };
   }
 
-  // Many copies of a page; gives how many of them came whole, wrong and not at all, and how quickly.
-  async fetchMany(target, count, told = () => {}) {
-    const sums = { whole: 0, wrong: 0, broken: 0, bytes: 0 }, start = performance.now();
+  // Fetches a page `count` times; returns how many copies were complete, wrong and truncated, and the time.
+  async fetchMany(target, count, report = () => {}) {
+    const sums = { complete: 0, wrong: 0, truncated: 0, bytes: 0 }, start = performance.now();
     let left = count;
     const next = async () => {
       while (left-- > 0) {
         const page = await this.whole(target).catch(() => null);
-        sums[!page ? "broken" : page.isWrong ? "wrong" : "whole"]++;
+        sums[!page ? "truncated" : page.isWrong ? "wrong" : "complete"]++;
         sums.bytes += page?.bytes.length ?? 0;
-        told(sums);
+        report(sums);
       }
     };
     await Promise.all(Array.from({ length: Math.min(count, this.atOnce) }, next));

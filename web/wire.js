@@ -1,4 +1,4 @@
-// What stands on the line, made and read: SLIP frames (RFC 1055), IP without options (RFC 791 section 3.1), ICMP echo
+// What a line carries, written and read: SLIP frames (RFC 1055), IP without options (RFC 791 section 3.1), ICMP echo
 // (RFC 792, "Echo or Echo Reply Message") and TCP segments (RFC 793 section 3.1). Each check is made as it is read.
 
 const END = 0xC0, ESC = 0xDB, ESC_END = 0xDC, ESC_ESC = 0xDD;
@@ -19,17 +19,17 @@ export function slipText(datagram) {
 // Bytes that mean nothing between frames.
 export const silence = length => new Uint8Array(length).fill(END);
 
-// Takes bytes as they come and tells each frame that they complete. Of a frame that is too long `overlong` alone hears.
+// Decodes bytes as they arrive: `received` gets each complete frame, and `overlong` runs for one that is too long.
 export class SlipReader {
   #frame = new Uint8Array(LARGEST);
   #length = 0;
   #isEscaped = false;
 
-  feed(bytes, tell, overlong = () => {}) {
+  feed(bytes, received, overlong = () => {}) {
     for (const byte of bytes) {
       if (byte === END) {
         if (this.#length > LARGEST) overlong();
-        else if (this.#length > 0) tell(this.#frame.slice(0, this.#length));
+        else if (this.#length > 0) received(this.#frame.slice(0, this.#length));
         this.#length = 0;
         this.#isEscaped = false;
       } else if (this.#isEscaped) {
@@ -54,17 +54,17 @@ const put32 = (bytes, at, n) => { put16(bytes, at, n >>> 16); put16(bytes, at + 
 const get16 = (bytes, at) => bytes[at] << 8 | bytes[at + 1];
 const get32 = (bytes, at) => (get16(bytes, at) * 0x10000 + get16(bytes, at + 2)) >>> 0;
 
-// The Internet checksum (RFC 1071 section 1) of bytes behind a sum.
+// The Internet checksum (RFC 1071 section 1) of bytes, added to a sum.
 function checksum(bytes, sum = 0) {
   for (let at = 0; at < bytes.length; at += 2) sum += bytes[at] << 8 | (at + 1 < bytes.length ? bytes[at + 1] : 0);
   while (sum > 0xffff) sum = (sum & 0xffff) + Math.floor(sum / 0x10000);
   return ~sum & 0xffff;
 }
 
-// The checksum of a segment behind its pseudo header (RFC 793 section 3.1).
+// The checksum of a segment with its pseudo header (RFC 793 section 3.1).
 function tcpSum(from, to, message) {
-  const front = [...from, ...to, 0, TCP, message.length >> 8, message.length & 0xff];
-  return checksum(message, 0xffff ^ checksum(front));
+  const pseudo = [...from, ...to, 0, TCP, message.length >> 8, message.length & 0xff];
+  return checksum(message, 0xffff ^ checksum(pseudo));
 }
 
 function ipDatagram(from, to, protocol, id, message) {
@@ -105,7 +105,7 @@ export function echoDatagram(from, to, id, number, payload) {
   return ipDatagram(from, to, ICMP, id, message);
 }
 
-// The maximum segment size that options tell, or else the usual one (RFC 1122 section 4.2.2.6).
+// The maximum segment size in the options, or else the usual one (RFC 1122 section 4.2.2.6).
 function mssOf(options) {
   for (let at = 0; at < options.length && options[at] !== 0;) {
     if (options[at] === 1) { at++; continue; }
@@ -121,7 +121,7 @@ export function read(datagram) {
   const bad = ipFault(datagram);
   if (bad) return { bad };
   const from = datagram.subarray(12, 16), to = datagram.subarray(16, 20);
-  const message = datagram.subarray(IP_HEAD, get16(datagram, 2));   // bytes behind its length are no part of it
+  const message = datagram.subarray(IP_HEAD, get16(datagram, 2));   // bytes after its length are no part of it
   return datagram[9] === ICMP ? readEcho(from, to, message) : readSegment(from, to, message);
 }
 

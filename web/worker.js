@@ -1,4 +1,4 @@
-// The service worker: it hands what a device's page asks for to the page that has the line. A device's pages lie under
+// The service worker: it passes the requests of a device's page to the page that has the line. A device's pages lie under
 // at/ID/, ID the page's own; whatever such a page asks for of this origin, at whatever path, is the device's. It keeps
 // nothing, since a worker may be ended between two requests.
 const BASE = new URL("at/", registration.scope).href;
@@ -27,14 +27,14 @@ async function answer({ request, clientId }) {
   const place = placeAskedBy(asker ?? "", url);
   if (!place) return fetch(request);
   if (isPage && !url.href.startsWith(BASE)) return Response.redirect(BASE + place.id + place.target);   // by a link like "/x"
-  if (request.method !== "GET") return told(405, "the page asks a device by GET alone");
+  if (request.method !== "GET") return plainReply(405, "the page asks a device by GET alone");
   const { why, status, reason, headers, body } = await ask(place);
-  if (why) return told(504, why);
-  if (status < 200 || status > 599) return told(502, `the node answers with the status ${status}`);
+  if (why) return plainReply(504, why);
+  if (status < 200 || status > 599) return plainReply(502, `the node answers with the status ${status}`);
   return new Response(WITHOUT_BODY.includes(status) ? null : body, { status, statusText: reason, headers });
 }
 
-function told(status, words) {
+function plainReply(status, words) {
   return new Response(`${words}\n`, { status, headers: { "Content-Type": "text/plain" } });
 }
 

@@ -1,4 +1,4 @@
-// The firmware: a device behind the serial port, and a tick each half second. It ends with the first status that is not fine.
+// The firmware: a device on the serial port, and a tick each half second. It ends with the first status that is not UIP_OK.
 #include "board.h"
 #include "uip.h"
 
@@ -12,11 +12,11 @@ int main(void) {
     board_start();
     uip_opened opened = uip_open(&device, site_image, (size_t)(site_image_end - site_image), own);
     unsigned status = opened.status;
-    for (unsigned ticks = 0; status == UIP_FINE; board_sleep(ticks)) {
+    for (unsigned ticks = 0; status == UIP_OK; board_sleep(ticks)) {
         port_bytes came = port_waiting();
-        status = uip_hear_all(&device, came.at, came.len, out, sizeof out, port_send, 0);
+        status = uip_feed_all(&device, came.at, came.len, out, sizeof out, port_send, 0);
         port_taken(came.len);
-        if (status != UIP_FINE || ticks == clock_ticks()) continue;
+        if (status != UIP_OK || ticks == clock_ticks()) continue;
         ticks++;
         status = uip_tick_all(&device, out, sizeof out, port_send, 0);
     }

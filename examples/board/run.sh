@@ -1,19 +1,19 @@
 #!/bin/sh
-# Builds the firmware of a board on which nothing else runs (qemu's "virt", aarch64), starts it, and lets this machine's TCP talk
-# to it over its serial port.
+# Builds the firmware of a board without an operating system (qemu's "virt", aarch64), starts it, and connects this machine's TCP to its
+# serial port.
 #
-#     sh examples/board/run.sh                 builds it, starts it, and says how to open the pages
-#     sh examples/board/run.sh build           builds it alone
+#     sh examples/board/run.sh                 builds it, starts it, and prints how to open the pages
+#     sh examples/board/run.sh build           only builds it
 #     sh examples/board/run.sh -- COMMAND ..   runs a command beside it, and ends with its status
-#     sh examples/board/run.sh usage           fetches every file, and says what flash and memory the firmware used
-#     sh examples/board/run.sh map             asks the processor what the map of memory allows, and compares
-#     sh examples/board/run.sh early           lets bytes come before the port is open
-#     sh examples/board/run.sh line            two clients at once over a line of 19,200 bits a second that waits for nobody
-#     sh examples/board/run.sh stack           fetches every file, and says how far the stack pointer went
+#     sh examples/board/run.sh usage           fetches every file, and prints what flash and memory the firmware used
+#     sh examples/board/run.sh map             compares what the processor's map of memory allows with what it should
+#     sh examples/board/run.sh early           sends bytes before the port is open
+#     sh examples/board/run.sh line            two clients at once over a line of 19,200 bits a second without flow control
+#     sh examples/board/run.sh stack           fetches every file, and prints how far the stack pointer went
 #     sh examples/board/run.sh state [..]      the same with the firmware of a device with a state (state.c), and its site
 #
-# It wants qemu-system-aarch64 (Debian: qemu-system-arm), python3, `ip` and /dev/net/tun, and clang and ld.lld, which the kit of rt
-# has: CLANG, LLD and QEMU name others. The library is built by rt where it is not there; LIBRARY names another.
+# Needs qemu-system-aarch64 (Debian: qemu-system-arm), python3, `ip` and /dev/net/tun, and clang and ld.lld, which the kit of rt has: CLANG,
+# LLD and QEMU name others. If the library is not there, rt builds it; LIBRARY names another.
 case "$1" in -h|--help) sed -n '2,18s/^# \{0,1\}//p' "$0"; exit 0;; esac
 here=$(cd "$(dirname "$0")" && pwd)
 top=$(cd "$here/../.." && pwd)
@@ -48,13 +48,14 @@ compile() {
 }
 compile "$here/start.S" -o "$out/start.o"
 compile "$here/$main.c" -o "$out/$main.o"
-compile -mgeneral-regs-only "$here/board.c" -o "$out/board.o"
+for part in board ring runtime; do compile -mgeneral-regs-only "$here/$part.c" -o "$out/$part.o"; done
 compile "$heap" "$top/examples/heap.c" -o "$out/heap.o"
 compile -DSITE="\"$site\"" "$here/site.S" -o "$out/site.o"
 # A firmware by its name, of the object files that it has of its own.
 link() {
     to=$out/$1; shift
-    set -- -T "$here/link.ld" --gc-sections "$out/start.o" "$@" "$out/heap.o" "$out/site.o" "$library"
+    set -- -T "$here/link.ld" --defsym flash_at=0 --defsym ram_at=0x800000 --gc-sections \
+        "$out/start.o" "$@" "$out/ring.o" "$out/runtime.o" "$out/heap.o" "$out/site.o" "$library"
     "$lld" -Map="$to.map" -o "$to.elf" "$@" && "$lld" --oformat binary -o "$to.bin" "$@" || fail "ld.lld failed"
 }
 link $name "$out/board.o" "$out/$main.o"

@@ -5,3 +5,4 @@
 site_image:
     .incbin SITE
 site_image_end:
+    .section .note.GNU-stack, "", %progbits    // no executable stack

@@ -2,7 +2,7 @@
 // devices (compiled code makes unaligned accesses, which device memory refuses), clears .bss, paints the stack, so that its greatest
 // depth can be told, and runs main. A fault stops behind the reset code, where the table of vectors has its entries, with its cause in
 // x0 to x2; where main ends, the board stops with its answer in x0.
-    .section .text.start, "ax"
+    .section .start, "ax"
     .balign 2048
     .global _start
 _start:

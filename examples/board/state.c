@@ -8,7 +8,7 @@ extern const unsigned char site_image[], site_image_end[];
 
 enum { NAME, SECONDS, LEVEL, NOTE, LAMP };    // the numbers of the values
 
-typedef struct { char bytes[UIP_LONGEST_VALUE]; size_t len; } text;
+typedef struct { char bytes[UIP_MAX_VALUE]; size_t len; } text;
 
 static uip_device device = UIP_INIT;
 static unsigned char out[32];
@@ -27,7 +27,7 @@ static void add_number(text *value, unsigned number) {
     add(value, digits + at);
 }
 
-static unsigned give(size_t number, const text *value) { return uip_value(&device, number, value->bytes, value->len); }
+static unsigned give(size_t number, const text *value) { return uip_set_value(&device, number, value->bytes, value->len); }
 
 static unsigned give_words(size_t number, const char *words) {
     text value = {{0}, 0};
@@ -45,8 +45,8 @@ static unsigned give_state(unsigned ticks) {
     text note = number;
     add(&note, is_rising ? " of 100, rising" : " of 100, falling");
     unsigned status = give(SECONDS, &seconds);
-    if (status == UIP_FINE) status = give(LEVEL, &number);
-    if (status == UIP_FINE) status = give(NOTE, &note);
+    if (status == UIP_OK) status = give(LEVEL, &number);
+    if (status == UIP_OK) status = give(NOTE, &note);
     return status;
 }
 
@@ -62,22 +62,22 @@ static unsigned give_lamp(void) {
 
 static unsigned give_all(unsigned ticks) {
     unsigned status = give_state(ticks);
-    return status == UIP_FINE ? give_lamp() : status;
+    return status == UIP_OK ? give_lamp() : status;
 }
 
 int main(void) {
     static const unsigned char own[4] = {10, 0, 0, 1};
     board_start();
     unsigned status = uip_open(&device, site_image, (size_t)(site_image_end - site_image), own).status;
-    if (status == UIP_FINE) status = give_words(NAME, "Lamp & level of the \"virt\" board");
-    if (status == UIP_FINE) status = give_all(0);
-    for (unsigned ticks = 0; status == UIP_FINE; board_sleep(ticks)) {
+    if (status == UIP_OK) status = give_words(NAME, "Lamp & level of the \"virt\" board");
+    if (status == UIP_OK) status = give_all(0);
+    for (unsigned ticks = 0; status == UIP_OK; board_sleep(ticks)) {
         port_bytes came = port_waiting();
-        status = uip_hear_all(&device, came.at, came.len, out, sizeof out, port_send, 0);
+        status = uip_feed_all(&device, came.at, came.len, out, sizeof out, port_send, 0);
         port_taken(came.len);
-        if (status != UIP_FINE || ticks == clock_ticks()) continue;
+        if (status != UIP_OK || ticks == clock_ticks()) continue;
         status = give_all(++ticks);
-        if (status == UIP_FINE) status = uip_tick_all(&device, out, sizeof out, port_send, 0);
+        if (status == UIP_OK) status = uip_tick_all(&device, out, sizeof out, port_send, 0);
     }
     return (int)status;
 }

@@ -1,12 +1,11 @@
 #!/usr/bin/env python3
-"""Tells what flash and memory the firmware needs, and what a run of it used.
+"""Prints what flash and memory a firmware needs, and what a run of it used.
 
     python3 examples/board/usage.py FIRMWARE [MEMORY]
 
-FIRMWARE.elf and FIRMWARE.map are what the linker wrote, and MEMORY is the board's memory behind a run. The stack was painted at
-reset, so its greatest depth is where the paint ends: that is what this run used (stack.py looks at the stack pointer itself). Where
-llvm-objdump is there, the greatest depth of all is told too, by the frames of the functions and who calls whom, as the linked code
-has them: no proof speaks of the stack.
+The linker wrote FIRMWARE.elf and FIRMWARE.map. MEMORY is the board's memory after a run. The start code painted the stack, so the depth that
+this run used is where the paint ends (stack.py reads the stack pointer itself). If llvm-objdump is on the path, the greatest possible depth is
+printed too: it follows from the frames and the calls of the linked functions (aarch64, Cortex-M and RISC-V). Not proved: the stack.
 """
 import re
 import shutil
@@ -14,6 +13,10 @@ import subprocess
 import sys
 
 PAINT = 0xA5
+CORTEX_M_FRAME = 36    # what the processor itself saves in an interrupt, with its alignment
+INTERRUPTS = re.compile(r"(vector_)?interrupt(_\w+)?$")
+CALL = re.compile(r"(?:bl?(?:\.[wn])?|(?:c\.)?j(?:al)?)\t[^<]*<(.*)>$")
+CALL_BY_REGISTER = re.compile(r"(?:blr|blx|(?:c\.)?jalr|bx\tr\d)\b")    # a plain `jr` is a return or the jump of a table
 
 
 def read_map(path):
@@ -27,31 +30,93 @@ def read_map(path):
     return names
 
 
+class Frame:
+    """How far the instructions of a function lower the stack pointer."""
+
+    def __init__(self):
+        self.size, self.constants = 0, {}    # constants: the known contents of registers
+
+    def note_constant(self, words):
+        if found := re.fullmatch(r"(?:c\.)?lui\t(\w+), (0x[0-9a-f]+|\d+)", words):
+            upper = int(found[2], 0)
+            self.constants[found[1]] = (upper - (upper >> 19 << 20)) << 12
+        elif found := re.fullmatch(r"(?:c\.)?addiw?\t(\w+), (\w+), (-?(?:0x[0-9a-f]+|\d+))", words):
+            self.constants[found[1]] = self.constants.get(found[2], 0) + int(found[3], 0)
+        elif found := re.fullmatch(r"(?:c\.)?li\t(\w+), (-?(?:0x[0-9a-f]+|\d+))", words):
+            self.constants[found[1]] = int(found[2], 0)
+
+    def lowered(self, words):
+        """By how many bytes an instruction lowers the stack pointer."""
+        if found := re.fullmatch(r"push(?:\.w)?\t\{(.*)\}", words):
+            return 4 * len(found[1].split(","))
+        if found := re.fullmatch(r"subw?(?:\.w)?\tsp, (?:sp, )?#(0x[0-9a-f]+|\d+)(, lsl #12)?", words):
+            return int(found[1], 0) * (4096 if found[2] else 1)
+        if found := re.search(r"\[sp, #-(0x[0-9a-f]+|\d+)\]!", words):
+            return int(found[1], 0)
+        if found := re.fullmatch(r"(?:c\.)?addi(?:16sp)?\tsp, sp, -(0x[0-9a-f]+|\d+)", words):
+            return int(found[1], 0)
+        if found := re.fullmatch(r"(?:c\.)?(sub|add)\tsp, sp, (\w+)", words):
+            return max(self.constants[found[2]] * (1 if found[1] == "sub" else -1), 0)
+        return 0
+
+    def add(self, words):
+        self.size += self.lowered(words)
+        self.note_constant(words)
+
+
 def read_code(elf):
-    """How far each function moves the stack pointer, and which others it goes to; none may jump by a register."""
-    frames, calls, name = {}, {}, None
+    """The frame of each function and the functions that it calls, and the kind of processor. No function may call by a register."""
     text = subprocess.check_output(["llvm-objdump", "-d", "--no-show-raw-insn", elf], text=True)
+    processor = re.search(r"file format (\S+)", text)[1]
+    frames, calls, name = {}, {}, None
     for line in text.splitlines():
         if start := re.match(r"[0-9a-f]+ <(.*)>:$", line):
             name = start[1]
-            frames[name], calls[name] = 0, set()
-        elif moves := re.search(r"\tsub\tsp, sp, #(0x[0-9a-f]+|\d+)", line):
-            frames[name] += int(moves[1], 0) * (4096 if "lsl #12" in line else 1)
-        elif moves := re.search(r"\[sp, #-(0x[0-9a-f]+|\d+)\]!", line):
-            frames[name] += int(moves[1], 0)
-        elif goes := re.search(r"\tbl?\t0x[0-9a-f]+ <(.*)>$", line):
-            calls[name].add(re.sub(r"\+0x[0-9a-f]+$", "", goes[1]))
-        elif re.search(r"\tblr\t", line):
-            sys.exit(f"usage.py: {name} calls by a register, so the depth of the stack is not told")
-    return frames, calls
+            frames.setdefault(name, Frame())
+            calls.setdefault(name, set())
+            continue
+        found = re.match(r" *[0-9a-f]+:\s+(\S+)(?:\t| +)?(.*?)(?: +(?:@|//|[#;]) .*)?$", line)
+        if not found or name in (None, "vectors"):
+            continue
+        words = f"{found[1]}\t{found[2].strip()}"
+        frames[name].add(words)
+        if jump := CALL.match(words):
+            other = re.sub(r"\+0x[0-9a-f]+$", "", jump[1])
+            if other != name:
+                calls[name].add(other)
+        elif CALL_BY_REGISTER.match(words):
+            sys.exit(f"usage.py: {name} calls by a register, so the depth of the stack is unknown: {words}")
+    return frames, calls, processor
 
 
 def depth(name, frames, calls, above=()):
-    """The greatest depth of the stack under a function."""
+    """The greatest depth of the stack in a function and in those that it calls."""
     if name in above:
-        sys.exit(f"usage.py: {name} calls itself, so the depth of the stack is not told")
-    below = [depth(other, frames, calls, (*above, name)) for other in calls[name] if other != name]
-    return frames[name] + max(below, default=0)
+        sys.exit(f"usage.py: {name} calls itself, so the depth of the stack is unknown")
+    below = [depth(other, frames, calls, (*above, name)) for other in calls[name]]
+    return frames[name].size + max(below, default=0)
+
+
+def print_depth(elf):
+    frames, calls, processor = read_code(elf)
+    handlers = [depth(name, frames, calls) for name in frames if INTERRUPTS.match(name)]
+    interrupt = max(handlers) + (CORTEX_M_FRAME if "littlearm" in processor else 0)
+    print(f"stack: {depth('_start', frames, calls)} bytes at most, by the frames of the code, and {interrupt} of an interrupt")
+
+
+def print_run(at, path, static):
+    with open(path, "rb") as file:
+        memory = file.read()
+    start = at["__stack_low"]
+
+    def number(name):
+        return int.from_bytes(memory[at[name] - start:][:4], "little")
+
+    stack = memory[:at["__stack_top"] - start]
+    used = len(stack) - next((i for i, byte in enumerate(stack) if byte != PAINT), len(stack))
+    heap = number("heap_used")
+    print(f"memory in this run: {static + used + heap} bytes: static {static}, stack {used}, heap {heap}")
+    print(f"the port lost bytes {number('port_lost')} times")
 
 
 def main():
@@ -60,25 +125,13 @@ def main():
     firmware = sys.argv[1]
     at = read_map(firmware + ".map")
     image = at["site_image_end"] - at["site_image"]
-    start = at["__stack_low"]
     static = at["__bss_end"] - at["__bss_start"]
-    print(f"flash: {at['__flash_end'] - image} bytes, and {image} of the site's image")
+    print(f"flash: {at['__flash_end'] - at['__flash_start'] - image} bytes, and {image} of the site's image")
     print(f"static memory: {static} bytes")
     if shutil.which("llvm-objdump"):
-        frames, calls = read_code(firmware + ".elf")
-        own, further = depth("main", frames, calls), depth("vector_interrupt", frames, calls)
-        print(f"stack: {own} bytes at most, by the frames of the code, and {further} of an interrupt")
-    if len(sys.argv) == 2:
-        return
-    with open(sys.argv[2], "rb") as file:
-        memory = file.read()
-    stack = memory[at["__stack_low"] - start:at["__stack_top"] - start]
-    used = len(stack) - next((i for i, byte in enumerate(stack) if byte != PAINT), len(stack))
-    place = at["heap_used"] - start
-    heap = int.from_bytes(memory[place:place + 8], "little")
-    lost = int.from_bytes(memory[at["port_lost"] - start:][:4], "little")
-    print(f"memory in this run: {static + used + heap} bytes: static {static}, stack {used}, heap {heap}")
-    print(f"the port was overrun {lost} times")
+        print_depth(firmware + ".elf")
+    if len(sys.argv) == 3:
+        print_run(at, sys.argv[2], static)
 
 
 main()

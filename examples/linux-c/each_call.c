@@ -17,11 +17,11 @@ static const unsigned char request[] = REQUEST "\xc0\xdb", reply[] = REPLY "\xc0
 static const unsigned char request_text[] = "\xc0" REQUEST "\xdb\xdc\xdb\xdd\xc0", reply_text[] = "\xc0" REPLY "\xdb\xdc\xdb\xdd\xc0";
 static const unsigned char image[] = "UIPSITE1\0", own[4] = {10, 0, 0, 1};
 static uip_device device = UIP_INIT;
-static unsigned char out[UIP_ROOM];
+static unsigned char out[UIP_MAX_OUT];
 static int wrong;
 
 // What the inline functions hand on.
-typedef struct { unsigned char bytes[UIP_ROOM]; size_t len; } text;
+typedef struct { unsigned char bytes[UIP_MAX_OUT]; size_t len; } text;
 
 static void keep(void *to, const unsigned char *bytes, size_t len) {
     text *kept = (text *)to;
@@ -34,73 +34,73 @@ static void expect(int is_so, const char *what) {
     wrong += !is_so;
 }
 
-static int is(uip_done done, unsigned status, size_t taken, size_t wrote) {
-    return done.status == status && done.taken == taken && done.wrote == wrote;
+static int is(uip_result done, unsigned status, size_t taken, size_t wrote) {
+    return done.status == status && done.consumed == taken && done.written == wrote;
 }
 
 static void without_a_device(void) {
-    expect(is(uip_hear(&device, request_text, 34, out, sizeof out), UIP_NO_DEVICE, 0, 0), "uip_hear without a device");
-    expect(is(uip_call(&device, 0, out, sizeof out), UIP_NO_DEVICE, 0, 0), "uip_call without a device");
-    expect(is(uip_hear_datagram(&device, request, 30, out, sizeof out), UIP_NO_DEVICE, 0, 0), "uip_hear_datagram without a device");
-    expect(is(uip_call_datagram(&device, 0, out, sizeof out), UIP_NO_DEVICE, 0, 0), "uip_call_datagram without a device");
-    expect(is(uip_more(&device, out, sizeof out), UIP_NO_DEVICE, 0, 0), "uip_more without a device");
+    expect(is(uip_feed(&device, request_text, 34, out, sizeof out), UIP_NO_DEVICE, 0, 0), "uip_feed without a device");
+    expect(is(uip_periodic(&device, 0, out, sizeof out), UIP_NO_DEVICE, 0, 0), "uip_periodic without a device");
+    expect(is(uip_input(&device, request, 30, out, sizeof out), UIP_NO_DEVICE, 0, 0), "uip_input without a device");
+    expect(is(uip_periodic_datagram(&device, 0, out, sizeof out), UIP_NO_DEVICE, 0, 0), "uip_periodic_datagram without a device");
+    expect(is(uip_drain(&device, out, sizeof out), UIP_NO_DEVICE, 0, 0), "uip_drain without a device");
     expect(uip_ticks(&device).status == UIP_NO_DEVICE, "uip_ticks without a device");
     expect(uip_counter(&device, UIP_DATAGRAMS_IN).status == UIP_NO_DEVICE, "uip_counter without a device");
     expect(uip_hits(&device, "/", 1).status == UIP_NO_DEVICE, "uip_hits without a device");
     expect(uip_is_idle(&device).status == UIP_NO_DEVICE, "uip_is_idle without a device");
     expect(uip_connection(&device, 0).status == UIP_NO_DEVICE, "uip_connection without a device");
-    expect(uip_value(&device, 0, "7", 1) == UIP_NO_DEVICE, "uip_value without a device");
+    expect(uip_set_value(&device, 0, "7", 1) == UIP_NO_DEVICE, "uip_set_value without a device");
     expect(uip_close(&device) == UIP_NO_DEVICE, "uip_close without a device");
-    expect(uip_hear_all(&device, request_text, 34, out, sizeof out, keep, out) == UIP_NO_DEVICE, "uip_hear_all without a device");
+    expect(uip_feed_all(&device, request_text, 34, out, sizeof out, keep, out) == UIP_NO_DEVICE, "uip_feed_all without a device");
     expect(uip_tick_all(&device, out, sizeof out, keep, out) == UIP_NO_DEVICE, "uip_tick_all without a device");
 }
 
 static void opening(void) {
     uip_opened opened = uip_open(&device, (const unsigned char *)"UIPSITE1\0\1\2/", 12, own);
-    expect(opened.status == UIP_BAD_SITE && opened.entry == 1 && !strcmp(opened.word, "cut"), "uip_open with a bad image");
+    expect(opened.status == UIP_BAD_IMAGE && opened.entry == 1 && !strcmp(opened.word, "cut"), "uip_open with a bad image");
     expect(heap_blocks == 0, "the heap behind a bad image");
-    expect(uip_open(&device, image, 10, own).status == UIP_FINE, "uip_open");
+    expect(uip_open(&device, image, 10, own).status == UIP_OK, "uip_open");
     size_t blocks = heap_blocks;
     expect(uip_open(&device, image, 10, own).status == UIP_HAS_DEVICE, "uip_open twice");
     expect(blocks > 0 && heap_blocks == blocks, "the heap while a device is open");
 }
 
 static void bad_calls(void) {
-    expect(is(uip_hear(&device, request_text, 34, out, UIP_LEAST_ROOM - 1), UIP_BAD_CALL, 0, 0), "uip_hear with too little room");
-    expect(is(uip_hear(&device, request_text, 0, out, sizeof out), UIP_BAD_CALL, 0, 0), "uip_hear with no bytes");
-    expect(is(uip_call(&device, 10, out, sizeof out), UIP_BAD_CALL, 0, 0), "uip_call of slot 10");
-    expect(is(uip_hear_datagram(&device, request, UIP_DATAGRAM_ROOM + 1, out, sizeof out), UIP_BAD_CALL, 0, 0), "uip_hear_datagram, long");
-    expect(is(uip_call_datagram(&device, 0, out, UIP_DATAGRAM_ROOM - 1), UIP_BAD_CALL, 0, 0), "uip_call_datagram with too little room");
-    expect(uip_counter(&device, 0).status == UIP_BAD_CALL && uip_counter(&device, 21).status == UIP_BAD_CALL, "uip_counter of none");
-    expect(uip_connection(&device, UIP_SLOTS).status == UIP_BAD_CALL, "uip_connection of slot 10");
-    expect(uip_value(&device, UIP_VALUES, "7", 1) == UIP_BAD_CALL, "uip_value of no number");
-    expect(uip_value(&device, 0, out, UIP_LONGEST_VALUE + 1) == UIP_BAD_CALL, "uip_value, long");
-    expect(uip_hear_all(&device, request_text, 34, out, 1, keep, out) == UIP_BAD_CALL, "uip_hear_all with too little room");
+    expect(is(uip_feed(&device, request_text, 34, out, UIP_MIN_OUT - 1), UIP_BAD_ARGUMENT, 0, 0), "uip_feed with too little room");
+    expect(is(uip_feed(&device, request_text, 0, out, sizeof out), UIP_BAD_ARGUMENT, 0, 0), "uip_feed with no bytes");
+    expect(is(uip_periodic(&device, 10, out, sizeof out), UIP_BAD_ARGUMENT, 0, 0), "uip_periodic of slot 10");
+    expect(is(uip_input(&device, request, UIP_MAX_DATAGRAM + 1, out, sizeof out), UIP_BAD_ARGUMENT, 0, 0), "uip_input, long");
+    expect(is(uip_periodic_datagram(&device, 0, out, UIP_MAX_DATAGRAM - 1), UIP_BAD_ARGUMENT, 0, 0), "uip_periodic_datagram with too little room");
+    expect(uip_counter(&device, 0).status == UIP_BAD_ARGUMENT && uip_counter(&device, 21).status == UIP_BAD_ARGUMENT, "uip_counter of none");
+    expect(uip_connection(&device, UIP_SLOTS).status == UIP_BAD_ARGUMENT, "uip_connection of slot 10");
+    expect(uip_set_value(&device, UIP_VALUES, "7", 1) == UIP_BAD_ARGUMENT, "uip_set_value of no number");
+    expect(uip_set_value(&device, 0, out, UIP_MAX_VALUE + 1) == UIP_BAD_ARGUMENT, "uip_set_value, long");
+    expect(uip_feed_all(&device, request_text, 34, out, 1, keep, out) == UIP_BAD_ARGUMENT, "uip_feed_all with too little room");
 }
 
 static void fine_calls(void) {
-    expect(is(uip_hear(&device, request_text, 34, out, sizeof out), UIP_FINE, 34, 34) && !memcmp(out, reply_text, 34), "uip_hear");
-    for (size_t slot = 0; slot < UIP_SLOTS; slot++) expect(is(uip_call(&device, slot, out, sizeof out), UIP_FINE, 0, 0), "uip_call");
-    uip_done whole = uip_hear_datagram(&device, request, 30, out, UIP_DATAGRAM_ROOM);
-    expect(is(whole, UIP_FINE, 30, 30) && !memcmp(out, reply, 30), "uip_hear_datagram");
-    expect(is(uip_call_datagram(&device, 0, out, UIP_DATAGRAM_ROOM), UIP_FINE, 0, 0), "uip_call_datagram");
-    uip_done part = uip_hear(&device, request_text, 34, out, 20);
-    expect(part.status == UIP_FINE && part.left == 1 && part.taken == 34 && part.wrote == 19, "uip_hear with little room");
-    expect(is(uip_hear(&device, request_text, 34, out + 19, 15), UIP_TEXT_LEFT, 0, 0), "uip_hear while a text is left");
-    expect(is(uip_call(&device, 0, out + 19, 15), UIP_TEXT_LEFT, 0, 0), "uip_call while a text is left");
-    expect(uip_value(&device, UIP_VALUES - 1, out, UIP_LONGEST_VALUE) == UIP_FINE, "uip_value while a text is left");
-    expect(uip_value(&device, 0, "", 0) == UIP_FINE, "uip_value, empty");
-    part = uip_more(&device, out + 19, 15);
-    expect(is(part, UIP_FINE, 0, 15) && part.left == 0 && !memcmp(out, reply_text, 34), "uip_more");
+    expect(is(uip_feed(&device, request_text, 34, out, sizeof out), UIP_OK, 34, 34) && !memcmp(out, reply_text, 34), "uip_feed");
+    for (size_t slot = 0; slot < UIP_SLOTS; slot++) expect(is(uip_periodic(&device, slot, out, sizeof out), UIP_OK, 0, 0), "uip_periodic");
+    uip_result whole = uip_input(&device, request, 30, out, UIP_MAX_DATAGRAM);
+    expect(is(whole, UIP_OK, 30, 30) && !memcmp(out, reply, 30), "uip_input");
+    expect(is(uip_periodic_datagram(&device, 0, out, UIP_MAX_DATAGRAM), UIP_OK, 0, 0), "uip_periodic_datagram");
+    uip_result part = uip_feed(&device, request_text, 34, out, 20);
+    expect(part.status == UIP_OK && part.pending == 1 && part.consumed == 34 && part.written == 19, "uip_feed with little room");
+    expect(is(uip_feed(&device, request_text, 34, out + 19, 15), UIP_OUTPUT_PENDING, 0, 0), "uip_feed while a text is left");
+    expect(is(uip_periodic(&device, 0, out + 19, 15), UIP_OUTPUT_PENDING, 0, 0), "uip_periodic while a text is left");
+    expect(uip_set_value(&device, UIP_VALUES - 1, out, UIP_MAX_VALUE) == UIP_OK, "uip_set_value while a text is left");
+    expect(uip_set_value(&device, 0, "", 0) == UIP_OK, "uip_set_value, empty");
+    part = uip_drain(&device, out + 19, 15);
+    expect(is(part, UIP_OK, 0, 15) && part.pending == 0 && !memcmp(out, reply_text, 34), "uip_drain");
     uip_number ticks = uip_ticks(&device), replies = uip_counter(&device, UIP_ECHO_REPLIES_OUT);
-    expect(ticks.status == UIP_FINE && ticks.number == 2, "uip_ticks");
-    expect(replies.status == UIP_FINE && replies.number == 3, "uip_counter");
+    expect(ticks.status == UIP_OK && ticks.number == 2, "uip_ticks");
+    expect(replies.status == UIP_OK && replies.number == 3, "uip_counter");
     uip_number idle = uip_is_idle(&device);
-    expect(idle.status == UIP_FINE && idle.number == 1, "uip_is_idle");
+    expect(idle.status == UIP_OK && idle.number == 1, "uip_is_idle");
     uip_row row = uip_connection(&device, UIP_SLOTS - 1);
-    expect(row.status == UIP_FINE && row.state == UIP_CLOSED, "uip_connection");
+    expect(row.status == UIP_OK && row.state == UIP_CLOSED, "uip_connection");
     uip_number hits = uip_hits(&device, "/lamp-on.html", 13);
-    expect(hits.status == UIP_FINE && hits.number == 0, "uip_hits of no file");
+    expect(hits.status == UIP_OK && hits.number == 0, "uip_hits of no file");
 }
 
 // Two requests behind each other on the line, in the least room.
@@ -109,10 +109,10 @@ static void whole_lines(void) {
     unsigned char line[68];
     memcpy(line, request_text, 34);
     memcpy(line + 34, request_text, 34);
-    expect(uip_hear_all(&device, line, 68, out, UIP_LEAST_ROOM, keep, &kept) == UIP_FINE, "uip_hear_all");
-    expect(kept.len == 68, "how much uip_hear_all handed on");
-    expect(!memcmp(kept.bytes, reply_text, 34) && !memcmp(kept.bytes + 34, reply_text, 34), "what uip_hear_all handed on");
-    expect(uip_tick_all(&device, out, UIP_LEAST_ROOM, keep, &kept) == UIP_FINE && kept.len == 68, "uip_tick_all");
+    expect(uip_feed_all(&device, line, 68, out, UIP_MIN_OUT, keep, &kept) == UIP_OK, "uip_feed_all");
+    expect(kept.len == 68, "how much uip_feed_all handed on");
+    expect(!memcmp(kept.bytes, reply_text, 34) && !memcmp(kept.bytes + 34, reply_text, 34), "what uip_feed_all handed on");
+    expect(uip_tick_all(&device, out, UIP_MIN_OUT, keep, &kept) == UIP_OK && kept.len == 68, "uip_tick_all");
     expect(uip_ticks(&device).number == 3, "uip_ticks behind uip_tick_all");
 }
 
@@ -122,9 +122,9 @@ int main(void) {
     bad_calls();
     fine_calls();
     whole_lines();
-    expect(uip_close(&device) == UIP_FINE && heap_blocks == 0 && uip_close(&device) == UIP_NO_DEVICE, "uip_close");
-    expect(uip_open(&device, image, 10, own).status == UIP_FINE, "uip_open again");
-    expect(uip_close(&device) == UIP_FINE && heap_blocks == 0, "uip_close again");
+    expect(uip_close(&device) == UIP_OK && heap_blocks == 0 && uip_close(&device) == UIP_NO_DEVICE, "uip_close");
+    expect(uip_open(&device, image, 10, own).status == UIP_OK, "uip_open again");
+    expect(uip_close(&device) == UIP_OK && heap_blocks == 0, "uip_close again");
     if (!wrong) puts("each call answers as it should");
     return wrong != 0;
 }

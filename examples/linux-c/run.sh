@@ -1,13 +1,13 @@
 #!/bin/sh
-# Builds C programs over the library on this machine, makes each call of the library once, from C and from C++, and compares what a
-# program writes for recorded lines with what uipd writes, with a heap over malloc and with one over an array that just holds it. It
-# builds a program that shows this machine's load in its pages, too.
+# Builds C programs with the library on this machine, and makes each call of the library, from C and from C++. Compares what a
+# program writes for recorded lines with what uipd writes, with a heap over malloc and with one over an array of UIP_MEMORY bytes.
+# Also builds a program that shows this machine's load in its pages.
 #
 #     sh examples/linux-c/run.sh
 #
-# It wants a C compiler, and the library and the program as they are built by `rt lib` in crates/uip_c and `rt run` in crates/uipd;
-# what is not built there is built first where rt is on the path, which takes some minutes. CC and CXX name other compilers, LIBRARY
-# and UIPD another library and another program.
+# It needs a C compiler, the library that `rt lib` builds in crates/uip_c, and the program that `rt run` builds in crates/uipd. If one
+# is not built and rt is on the path, it is built first, which takes some minutes. CC and CXX name other compilers, LIBRARY and UIPD
+# another library and another program.
 case "$1" in -h|--help) sed -n '2,11s/^# \{0,1\}//p' "$0"; exit 0;; esac
 here=$(cd "$(dirname "$0")" && pwd)
 top=$(cd "$here/../.." && pwd)
@@ -17,7 +17,7 @@ site=$top/examples/site.img
 fail() { echo "linux-c: $1" >&2; exit 1; }
 cc=${CC:-cc}
 cxx=${CXX:-c++}
-command -v "$cc" >/dev/null || fail "no C compiler $cc here"
+command -v "$cc" >/dev/null || fail "there is no C compiler $cc"
 if [ -z "$LIBRARY" ] && { [ ! -f "$library" ] || [ -n "$(find "$top/crates" -name '*.rt' -newer "$library" | head -1)" ]; }; then
     command -v rt >/dev/null || fail "no library of these sources at $library, and no command rt to build it"
     (cd "$top/crates/uip_c" && rt lib) >/dev/null || fail "rt lib failed in crates/uip_c"
@@ -25,36 +25,36 @@ fi
 mkdir -p "$here/out"
 strict="-pedantic -Wall -Wextra -Wconversion -Werror"
 for standard in c90 c99; do
-    echo '#include "uip.h"' | "$cc" -std=$standard $strict -I"$top/include" -x c -fsyntax-only - || fail "the header is no $standard"
+    echo '#include "uip.h"' | "$cc" -std=$standard $strict -I"$top/include" -x c -fsyntax-only - || fail "the header does not compile as $standard"
 done
-# A program by its name, its heap and what the heap's compiler is told.
-build() { "$cc" -O2 -Wall -Wextra -I"$top/include" $4 "$here/$1.c" "$2" "$library" -o "$here/out/$3" || fail "no $3 was built"; }
+# build NAME HEAP OUTPUT WORDS: a program, with the words for its compiler.
+build() { "$cc" -O2 -Wall -Wextra -I"$top/include" $4 "$here/$1.c" "$2" "$library" -o "$here/out/$3" || fail "$3 was not built"; }
 build serve "$here/heap.c" uip_serve
 build state "$here/heap.c" uip_state
 build each_call "$here/heap.c" uip_each_call
 build each_call "$top/examples/heap.c" uip_each_call_array "-DUIP_HEAP_SIZE=UIP_MEMORY(1)"
-"$here/out/uip_each_call" || fail "not each call answers as it should"
-"$here/out/uip_each_call_array" || fail "not each call answers as it should over a heap of one array"
+"$here/out/uip_each_call" || fail "a call has an unexpected result"
+"$here/out/uip_each_call_array" || fail "a call has an unexpected result, with a heap of one array"
 if command -v "$cxx" >/dev/null; then
-    "$cc" -O2 -I"$top/include" -c "$here/heap.c" -o "$here/out/heap.o" || fail "no heap was built"
+    "$cc" -O2 -I"$top/include" -c "$here/heap.c" -o "$here/out/heap.o" || fail "the heap was not built"
     "$cxx" -std=c++11 $strict -I"$top/include" -x c++ "$here/each_call.c" -x none "$here/out/heap.o" "$library" -o "$here/out/uip_each_call_cxx" \
-        || fail "C++ does not link the library"
-    "$here/out/uip_each_call_cxx" || fail "not each call answers as it should from C++"
+        || fail "the C++ program was not built"
+    "$here/out/uip_each_call_cxx" || fail "a call has an unexpected result from C++"
 else
-    echo "skipped: nothing was built by a C++ compiler, since $cxx is not here"
+    echo "skipped: the C++ program, since there is no compiler $cxx"
 fi
-# The site over an array of just the memory that the header tells, and of one block less.
+# The site in an array of UIP_MEMORY bytes, and of 64 bytes less.
 files=$(od -An -j8 -N2 -tu1 "$site" | awk '{ print $1 * 256 + $2 }')
 build serve "$top/examples/heap.c" uip_serve_array "-DUIP_HEAP_SIZE=UIP_MEMORY($files)"
 build serve "$top/examples/heap.c" uip_serve_short "-DUIP_HEAP_SIZE=UIP_MEMORY($files)-64"
-"$here/out/uip_serve_short" serve "$site" 10.0.0.1 </dev/null 2>"$here/out/short" && fail "a device was opened in less memory than the header tells"
+"$here/out/uip_serve_short" serve "$site" 10.0.0.1 </dev/null 2>"$here/out/short" && fail "a device was opened in 64 bytes less than UIP_MEMORY"
 
 if [ ! -x "$uipd" ]; then
-    command -v rt >/dev/null || fail "no program at $uipd to compare with, and no command rt to build it"
+    command -v rt >/dev/null || fail "there is no program $uipd to compare with, and no command rt to build it"
     (cd "$top/crates/uipd" && rt run) >/dev/null
-    [ -x "$uipd" ] || fail "rt run built no program in crates/uipd"
+    [ -x "$uipd" ] || fail "rt run failed in crates/uipd"
 fi
-# A line by its file and the words behind the address.
+# compare LINE WORDS: a recorded line, with the words after the address.
 compare() {
     line=$1; shift
     "$uipd" serve "$site" 10.0.0.1 "$@" <"$line" >"$here/out/by_uipd" || fail "uipd failed on $line"
@@ -65,6 +65,7 @@ compare() {
     echo "the same $(wc -c <"$here/out/by_c") bytes for $(basename "$line") $*"
 }
 compare "$top/examples/ping.slip"
+# [add: counter] fetch.slip: the page that it fetches has all counters
 compare "$top/examples/fetch.slip"
 compare "$top/examples/fetch.slip" pace 97
 compare "$top/examples/fetch.slip" pace 1

@@ -1,7 +1,7 @@
 // Serves a serial line on standard input and output, as uipd does for the same words:
 //     uip_serve serve SITE ADDRESS [pace K] [tty]
 // With a pace each K-th byte makes a tick, and with tty each half second in which nothing comes. A text goes out in pieces of 256
-// bytes; with UIP_ROOM in its place each would go out at once.
+// bytes; with UIP_MAX_OUT in its place each would go out at once.
 #include <fcntl.h>
 #include <poll.h>
 #include <stdio.h>
@@ -29,11 +29,11 @@ static void write_line(void *to, const unsigned char *bytes, size_t len) {
 }
 
 static void tick(void) {
-    if (uip_tick_all(&device, out, sizeof out, write_line, 0) != UIP_FINE) stop(3, "a call was refused");
+    if (uip_tick_all(&device, out, sizeof out, write_line, 0) != UIP_OK) stop(3, "a call was refused");
 }
 
 static void hear(const unsigned char *bytes, size_t len) {
-    if (uip_hear_all(&device, bytes, len, out, sizeof out, write_line, 0) != UIP_FINE) stop(3, "a call was refused");
+    if (uip_feed_all(&device, bytes, len, out, sizeof out, write_line, 0) != UIP_OK) stop(3, "a call was refused");
 }
 
 // Opens the device with the site of a file at an address. The library reads the image where it lies, so it stays.
@@ -45,8 +45,8 @@ static void open_site(const char *path, const char *address) {
     ssize_t len = file < 0 ? -1 : read(file, image, sizeof image);
     if (len < 0) stop(3, "no such image");
     uip_opened opened = uip_open(&device, image, (size_t)len, own);
-    if (opened.status == UIP_BAD_SITE) fprintf(stderr, "bad site %s %u\n", opened.word, opened.entry);
-    if (opened.status != UIP_FINE) stop(3, "no device was opened");
+    if (opened.status == UIP_BAD_IMAGE) fprintf(stderr, "bad site %s %u\n", opened.word, opened.entry);
+    if (opened.status != UIP_OK) stop(3, "no device was opened");
 }
 
 int main(int argc, char **argv) {
@@ -68,5 +68,5 @@ int main(int argc, char **argv) {
             if (pace && (left -= part) == 0) { tick(); left = pace; }
         }
     }
-    return uip_close(&device) == UIP_FINE ? 0 : 3;
+    return uip_close(&device) == UIP_OK ? 0 : 3;
 }

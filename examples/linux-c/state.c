@@ -22,7 +22,7 @@ static void stop(int status, const char *why) {
 }
 
 static void need(unsigned status) {
-    if (status != UIP_FINE) stop(3, "a call was refused");
+    if (status != UIP_OK) stop(3, "a call was refused");
 }
 
 // Writes a piece of a text.
@@ -48,7 +48,7 @@ static long long clock_now(void) {
 // Gives a text, of which the first 32 bytes are kept, as a value.
 static void give(size_t number, const char *value) {
     size_t len = strlen(value);
-    need(uip_value(&device, number, value, len < UIP_LONGEST_VALUE ? len : UIP_LONGEST_VALUE));
+    need(uip_set_value(&device, number, value, len < UIP_MAX_VALUE ? len : UIP_MAX_VALUE));
 }
 
 static void give_name(void) {
@@ -103,7 +103,7 @@ static void open_site(const char *path, const char *address) {
     int file = open(path, O_RDONLY);
     ssize_t len = file < 0 ? -1 : read(file, image, sizeof image);
     if (len < 0) stop(3, "no such image");
-    if (uip_open(&device, image, (size_t)len, own).status != UIP_FINE) stop(3, "no device was opened");
+    if (uip_open(&device, image, (size_t)len, own).status != UIP_OK) stop(3, "no device was opened");
 }
 
 int main(int argc, char **argv) {
@@ -118,11 +118,11 @@ int main(int argc, char **argv) {
         if (poll(&line, 1, left > 0 ? (int)left : 0) > 0) {
             ssize_t count = read(0, bytes, sizeof bytes);
             if (count <= 0) break;
-            need(uip_hear_all(&device, bytes, (size_t)count, out, sizeof out, write_line, 0));
+            need(uip_feed_all(&device, bytes, (size_t)count, out, sizeof out, write_line, 0));
         }
         if (clock_now() < (ticks + 1) * 500ll) continue;
         give_state(++ticks);
         need(uip_tick_all(&device, out, sizeof out, write_line, 0));
     }
-    return uip_close(&device) == UIP_FINE ? 0 : 3;
+    return uip_close(&device) == UIP_OK ? 0 : 3;
 }

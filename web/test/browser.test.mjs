@@ -1,29 +1,21 @@
-// The page in Chromium: over a stand-in for a serial port, over the bridge of web/serve.py, and as one file. PICTURES names a
-// folder for pictures of it.
+// The page in Chromium with a node at its line: over a stand-in for a serial port, over web/serve.py, and as one file. PICTURES
+// names a folder for pictures of it. The device inside the page has tests of its own (page.test.mjs).
 import test from "node:test";
 import assert from "node:assert/strict";
 import { execFileSync, spawn } from "node:child_process";
 import { existsSync, mkdtempSync, readFileSync, rmSync, writeFileSync } from "node:fs";
 import { tmpdir } from "node:os";
 import { join } from "node:path";
-import { noChromium, startChromium } from "./chromium.mjs";
+import { PATIENCE, noChromium, startChromium } from "./chromium.mjs";
 import { serialAt, serve, startServe, startServeOfSite } from "./server.mjs";
 import { FILES, SITE, UIPD, bodyOf, dump, here, noProgram, page, startNode, startProgram, top } from "./node_process.mjs";
+import { READY, click, ends, says, set, shows } from "./tabs.mjs";
 
 const folder = mkdtempSync(join(tmpdir(), "browser-test-")), PICTURES = process.env.PICTURES ?? folder;
-const skip = noProgram || noChromium;
+const skip = noChromium;
 let browser;
 test.before(async () => { if (!skip) browser = await startChromium(); });
 test.after(async () => { await browser?.stop(); rmSync(folder, { recursive: true, force: true }); });
-
-const READY = `document.documentElement.dataset.ready`;
-const shows = title => `frames[0].document.readyState === "complete" && frames[0].document.title === ${JSON.stringify(title)}`;
-const click = (tab, id) => tab.run(`document.getElementById(${JSON.stringify(id)}).click()`);
-const says = words => `document.getElementById("notices").innerText.includes(${JSON.stringify(words)})`;
-const ends = words => `document.getElementById("state").textContent === ${JSON.stringify(words)}`;
-const set = (tab, values) => tab.run(`
-  for (const [name, value] of Object.entries(${JSON.stringify(values)})) document.getElementById(name).value = value;
-  document.getElementById("faults").dispatchEvent(new Event("input"))`);
 
 // What a page in the frame gets for a name.
 async function fetched(tab, name) {
@@ -97,7 +89,7 @@ async function withBridge(serving, what) {
   }
 }
 
-const inBrowser = (name, what, reason = false) => test(name, { skip: skip || reason, timeout: 120000 }, what);
+const inBrowser = (name, what, reason = false) => test(name, { skip: skip || reason, timeout: 120000 * PATIENCE }, what);
 
 // Other browsers have no Navigation API: there a link to "/x" is led back by the worker, where the page lies at the root.
 const WITHOUT_NAVIGATION = `;delete Window.prototype.navigation; Object.defineProperty(self, "navigation", { value: undefined });`;
@@ -112,15 +104,17 @@ for (const [name, options] of [["at /", { base: "/" }], ["at /some/where/", { ba
 
 inBrowser("a serial port is pinged, captured, closed and opened again", () => withPort({}, async tab => {
   await click(tab, "ping");
-  await tab.until(`document.getElementById("result").textContent.startsWith("a reply after")`);
+  await tab.until(`document.getElementById("result").textContent.startsWith("echo reply after")`);
   const capture = await tab.run(`
     return btoa(String.fromCharCode(...new Uint8Array(await node.session.capture.file().arrayBuffer())))`);
-  const line = execFileSync(UIPD, ["slip"], { input: Buffer.from(capture, "base64") });
-  assert.match(dump(line), /icmp 10\.0\.0\.2 10\.0\.0\.1 8 0\n[^]* icmp 10\.0\.0\.1 10\.0\.0\.2 0 0\n/);
+  if (!noProgram) {
+    const line = execFileSync(UIPD, ["slip"], { input: Buffer.from(capture, "base64") });
+    assert.match(dump(line), /icmp 10\.0\.0\.2 10\.0\.0\.1 8 0\n[^]* icmp 10\.0\.0\.1 10\.0\.0\.2 0 0\n/);
+  }
   await click(tab, "close");
   await tab.until(`navigator.serial.ports[0].readable === null`);
-  await tab.until(ends("no line is open"));
-  assert.deepEqual((await fetched(tab, "/gone-away")).bytes.toString(), "no line is open\n");
+  await tab.until(ends("not connected"));
+  assert.deepEqual((await fetched(tab, "/gone-away")).bytes.toString(), "not connected\n");
   await tab.run(`frames[0].document.title = ""`);
   await click(tab, "open-port");
   await tab.until(shows("Lowunbisa"));
@@ -157,28 +151,28 @@ const STARTING = `printf 'boot: board 7\\r\\n'; timeout 4 cat >/dev/null; exec "
 inBrowser("a board that opening the port resets: it is told, and its page comes", () =>
   withPort({ isOpened: false, node: () => startProgram(["sh", "-c", STARTING, UIPD, SITE]) }, async tab => {
     await click(tab, "open-port");
-    await tab.until(says("a board that the opening has reset answers when it has started"));
-    await tab.until(says("is the node there, or still starting? asked again"));
+    await tab.until(says("a board that was reset by it answers once it has started"));
+    await tab.until(says("is the device there, or still starting? sent again"));
     await tab.until(shows("Lowunbisa"));
-    await tab.until(says("what came is no datagram (ip short): the text of a starting board"));
+    await tab.until(says("received bytes that are no datagram (ip short): a starting board"));
   }));
 
 inBrowser("a page that never comes is told, and another comes", () => withPort({}, async tab => {
   await set(tab, { speed: 20 });
-  await tab.run(`node.session.faults.lose = 1; node.visit("/never")`);
-  await tab.until(says("asked again"));
+  await tab.run(`node.session.faults.loss = 1; node.visit("/never")`);
+  await tab.until(says("sent again"));
   await tab.until(`frames[0].document.body?.innerText === "the node does not answer\\n"`);
   await set(tab, { speed: 1 });
   await tab.run(`node.visit("/stats.shtml")`);
   await tab.until(shows("What it counts"));
-  assert.equal(await tab.run(`return node.session.sums.broken`), 1);
+  assert.equal(await tab.run(`return node.session.sums.truncated`), 1);
 }));
 
 inBrowser("an eleventh connection is told, and the page goes on", () => withPort({}, async tab => {
   await tab.run(`self.held = Array.from({ length: 10 }, () => node.session.host.connect())`);
   await tab.until(`self.held.every(it => it.state === "ESTABLISHED")`);
   await tab.run(`node.visit("/stats.shtml")`);
-  await tab.until(says("the node may have none free, 10 are open; asked again"));
+  await tab.until(says("the device may have no slot free (10 are open); sent again"));
   await tab.run(`self.held.forEach(it => it.abort())`);
   await tab.until(shows("What it counts"));
 }));
@@ -190,12 +184,12 @@ inBrowser("one command to the site: by the bridge, with a fifth lost and a tenth
     await tab.run(`node.visit("/stats.shtml")`);
     await tab.until(shows("What it counts"));
     await click(tab, "ping");
-    await tab.until(`document.getElementById("result").textContent.startsWith("a reply after")`);
-    await set(tab, { lose: 20, repeat: 10, reorder: 10, damage: 10, speed: 20 });
+    await tab.until(`document.getElementById("result").textContent.startsWith("echo reply after")`);
+    await set(tab, { loss: 20, duplication: 10, reordering: 10, corruption: 10, speed: 20 });
     await seesFiles(tab);
     const sums = await tab.run(`return node.session.sums`);
-    assert.deepEqual([sums.wrong, sums.broken, sums.other], [0, 0, 0]);
-    assert.ok(sums.struck > 20 && sums.again > 0);
+    assert.deepEqual([sums.wrong, sums.truncated, sums.different], [0, 0, 0]);
+    assert.ok(sums.hit > 20 && sums.retransmissions > 0);
     await tab.until(`document.querySelectorAll("#rows .again").length > 0`);
     await tab.picture(join(PICTURES, "page.png"));
     await click(tab, "draw");
@@ -214,18 +208,18 @@ inBrowser("very many pages in Chromium: none wrong, none cut, and no memory that
     await set(tab, { count: 300 });
     const first = await tab.run(`return node.fetchMany()`), before = await heap();
     const next = await tab.run(`return node.fetchMany()`), more = await heap() - before;
-    for (const { whole, wrong, broken } of [first, next]) assert.deepEqual([whole, wrong, broken], [300, 0, 0]);
+    for (const { complete, wrong, truncated } of [first, next]) assert.deepEqual([complete, wrong, truncated], [300, 0, 0]);
     assert.ok(more < 5e5, `${more} bytes more after 300 pages`);
-    await set(tab, { lose: 10, repeat: 10, reorder: 10, damage: 10, delay: 10, speed: 20, count: 60 });
-    const struck = await tab.run(`return node.fetchMany()`);
-    assert.deepEqual([struck.whole, struck.wrong, struck.broken], [60, 0, 0]);
+    await set(tab, { loss: 10, duplication: 10, reordering: 10, corruption: 10, delay: 10, speed: 20, count: 60 });
+    const hit = await tab.run(`return node.fetchMany()`);
+    assert.deepEqual([hit.complete, hit.wrong, hit.truncated], [60, 0, 0]);
   }));
 
 inBrowser("the bridge tells why a node ended, and is for its own page alone", () =>
   withBridge(startServe("--", "sh", "-c", "sleep 1; exit 3"), async (tab, { url }) => {
     await tab.until(ends("the line ended: the program ended with status 3"));
     await click(tab, "open-bridge");
-    await tab.until(`document.getElementById("state").textContent.startsWith("open:")`);
+    await tab.until(`document.getElementById("state").textContent.startsWith("connected:")`);
     const key = "AAAAAAAAAAAAAAAAAAAAAA==";
     const upgrade = { Connection: "Upgrade", Upgrade: "websocket", "Sec-WebSocket-Version": "13", "Sec-WebSocket-Key": key };
     const asked = headers => JSON.parse(execFileSync("python3", ["-c", `
@@ -248,25 +242,28 @@ print(link.getresponse().status)`, url, ...headers]).toString());
 inBrowser("a node by uIP's own rules is found in the page", () =>
   withBridge(startServe("--", "python3", join(here, "by_uips_rules.py")), async tab => {
     await tab.until(`frames[0].document.body?.innerText.startsWith("This text was made 1 times.")`);
-    await set(tab, { lose: 40, speed: 4 });
-    for (let n = 0; n < 40 && !await tab.run(`return ${says("other bytes at one number")}`); n++)
+    await set(tab, { loss: 40, speed: 4 });
+    for (let n = 0; n < 40 && !await tab.run(`return ${says("a retransmission with different bytes")}`); n++)
       await tab.run(`await node.session.whole("/").catch(() => {})`);
-    await tab.until(`[...document.querySelectorAll("#rows .other")].some(it => it.innerText.includes("OTHER BYTES at"))`);
-    assert.ok(await tab.run(`return node.session.sums.other`) > 0);
+    await tab.until(`[...document.querySelectorAll("#rows .other")].some(it => it.innerText.includes("DIFFERENT at"))`);
+    assert.ok(await tab.run(`return node.session.sums.different`) > 0);
     await tab.picture(join(PICTURES, "other.png"));
   }));
 
+// As docs/FORMATS.md has the form of a report.
+const REPORT = "1 0 c0 S 0 0\n2 0 n0 SA 0 0\n3 0 c0 AP 1 9\n4 6 n0 SA 0 0 again\nticks 6 datagrams 4\n";
+
 inBrowser("a report of a replay is drawn", () => withBridge(startServe("--page"), async tab => {
   const report = join(folder, "page.report"), { root } = await tab.call("DOM.getDocument");
-  writeFileSync(report, execFileSync(UIPD, ["replay", SITE, join(top, "examples/page.schedule"), "show"]));
+  writeFileSync(report, noProgram ? REPORT : execFileSync(UIPD, ["replay", SITE, join(top, "examples/page.schedule"), "show"]));
   const { nodeId } = await tab.call("DOM.querySelector", { nodeId: root.nodeId, selector: "#report" });
   await tab.call("DOM.setFileInputFiles", { nodeId, files: [report] });
   await tab.until(`document.getElementById("drawing").open && document.getElementById("picture").naturalWidth > 0`);
-  assert.equal(await tab.run(`return document.getElementById("picture").alt`), "page.report: 9 datagrams between a client and the node");
+  assert.equal(await tab.run(`return document.getElementById("picture").alt`), `page.report: ${noProgram ? 4 : 9} datagrams between a client and the node`);
   await tab.picture(join(PICTURES, "report.png"));
 }));
 
-inBrowser("the page is used by the keyboard, has labels, and is readable at 360 pixels", () => withBridge(startServeOfSite(), async tab => {
+inBrowser("the page is used by the keyboard, has labels, and fits 390 and 360 pixels", () => withBridge(startServeOfSite(), async tab => {
   await tab.until(shows("Lowunbisa"));
   const { nodes } = await tab.call("Accessibility.getFullAXTree");
   const fields = nodes.filter(it => ["button", "textbox", "slider", "checkbox", "combobox", "spinbutton"].includes(it.role?.value));
@@ -277,16 +274,18 @@ inBrowser("the page is used by the keyboard, has labels, and is readable at 360 
   await tab.key("Enter", "Enter", "\r");
   await tab.until(shows("What it counts"));
   const reached = new Set();
-  await tab.run(`document.getElementById("open-bridge").focus()`);
+  await tab.run(`document.querySelector(".menu").open = true; document.querySelector(".menu summary").focus()`);
   for (let n = 0; n < 40; n++) {
     reached.add(await tab.run(`return document.activeElement.id || document.activeElement.className`));
     await tab.key("Tab");
   }
-  for (const id of ["open-port", "baud", "fill", "close", "target", "lose", "speed", "ping", "many", "count", "draw", "ladder", "report"])
+  for (const id of ["fill", "apart", "close", "back", "address", "target", "loss", "speed", "no-faults", "ping", "many", "count", "draw", "save-capture", "diagram"])
     assert.ok(reached.has(id), `${id} is not reached: ${[...reached]}`);
-  await tab.size(360, 740);
-  await tab.until(`innerWidth === 360`);
-  assert.ok(await tab.run(`return document.documentElement.scrollWidth <= innerWidth`));
+  for (const width of [390, 360]) {
+    await tab.size(width, 740);
+    await tab.until(`innerWidth === ${width}`);
+    assert.ok(await tab.run(`return document.documentElement.scrollWidth <= innerWidth`), `${width}`);
+  }
   await tab.picture(join(PICTURES, "narrow.png"));
 }));
 
@@ -294,7 +293,7 @@ inBrowser("scripts are kept apart where that is wanted", () => withPort({}, asyn
   await tab.run(`document.getElementById("apart").click()`);
   await tab.until(`document.getElementById("frame").srcdoc.includes("data:image/png")`);
   assert.equal(await tab.run(`return document.getElementById("frame").getAttribute("sandbox")`), "allow-scripts");
-  assert.equal(await tab.run(`try { return frames[0].document.title } catch (error) { return error.name }`), "SecurityError");
+  await tab.until(`(() => { try { return frames[0].document.title && false; } catch (error) { return error.name === "SecurityError"; } })()`);
   await tab.run(`document.getElementById("apart").click()`);
   await tab.until(shows("Lowunbisa"));
 }));
@@ -380,6 +379,6 @@ for (const [name, words, reason] of [["the board under qemu", ["--board", BOARD]
   inBrowser(`${name}: its pages in the page`, () => withBridge(startServe(...words), async tab => {
     await tab.until(shows("Lowunbisa"));
     await seesSite(tab);
-    await set(tab, { lose: 10, repeat: 10, reorder: 10, damage: 10 });
+    await set(tab, { loss: 10, duplication: 10, reordering: 10, corruption: 10 });
     await seesFiles(tab);
   }), reason);

@@ -5,6 +5,8 @@ import { tmpdir } from "node:os";
 import { join } from "node:path";
 
 const CHROMIUM = process.env.CHROMIUM ?? "chromium";
+// PATIENCE=4 waits four times as long, for a busy machine.
+export const PATIENCE = +(process.env.PATIENCE ?? 1);
 const FLAGS = ["--headless", "--no-sandbox", "--disable-gpu", "--no-first-run", "--disable-background-networking",
   "--disable-component-update", "--disable-sync", "--disable-default-apps", "--disable-dev-shm-usage", "--no-proxy-server",
   "--remote-debugging-pipe", "--window-size=1400,900"];
@@ -60,7 +62,7 @@ class Tab {
   }
 
   async until(isSo, seconds = 30) {
-    for (const end = Date.now() + seconds * 1000; Date.now() < end;) {
+    for (const end = Date.now() + seconds * PATIENCE * 1000; Date.now() < end;) {
       if (await this.run(`return !!(${isSo})`).catch(() => false)) return;
       await new Promise(resolve => setTimeout(resolve, 50));
     }
@@ -71,6 +73,10 @@ class Tab {
   async picture(file) {
     const { data } = await this.call("Page.captureScreenshot", { format: "png" });
     writeFileSync(file, Buffer.from(data, "base64"));
+  }
+
+  close() {
+    return this.call("Page.close").catch(() => {});
   }
 
   size(width, height) {

@@ -31,7 +31,7 @@ test("errors of a port that pass end no line and are told; one that stays ends i
   const got = [], passed = [], names = ["FramingError", "ParityError", "BufferOverrunError", "BreakError", "NetworkError"];
   const port = faultyPort(names.map((name, n) => [slipText(Uint8Array.of(n)), name]));
   const why = await new Promise(ended =>
-    attach(port, { tell: it => got.push(it[0]), passing: it => passed.push(it.name), ended }));
+    attach(port, { received: it => got.push(it[0]), passing: it => passed.push(it.name), ended }));
   assert.deepEqual(got, [0, 1, 2, 3, 4]);
   assert.deepEqual(passed, names.slice(0, 4));
   assert.equal(why.name, "NetworkError");
@@ -39,7 +39,7 @@ test("errors of a port that pass end no line and are told; one that stays ends i
 
 test("a stream that fails ends the line, once", async () => {
   const failing = () => new ReadableStream({ start(out) { out.error(new Error("it failed")); } });
-  const why = await new Promise(ended => attach({ readable: failing(), writable: new WritableStream() }, { tell() {}, ended }));
+  const why = await new Promise(ended => attach({ readable: failing(), writable: new WritableStream() }, { received() {}, ended }));
   assert.equal(why.message, "it failed");
 });
 
@@ -51,7 +51,7 @@ test("each error of a port has its words", async () => {
   const raise = name => () => { throw new DOMException("why", name); };
   await assert.rejects(openPort(9600, null), /no Web Serial/);
   await assert.rejects(failing(raise("NotFoundError")), /no port was chosen/);
-  await assert.rejects(failing(raise("SecurityError")), /wants a click/);
+  await assert.rejects(failing(raise("SecurityError")), /needs a click/);
   await assert.rejects(failing(null, raise("NetworkError")), /another program has it/);
   await assert.rejects(failing(null, raise("InvalidStateError")), /open already/);
   assert.ok(await failing());
@@ -60,7 +60,7 @@ test("each error of a port has its words", async () => {
 
 test("a line that is closed is free: its streams are unlocked", async () => {
   const written = [], line = { readable: new ReadableStream(), writable: new WritableStream({ write: it => { written.push(...it); } }) };
-  const wire = attach(line, { tell() {} });
+  const wire = attach(line, { received() {} });
   wire.send(Uint8Array.of(1, 0xc0));
   await new Promise(setImmediate);
   await wire.close();
@@ -99,26 +99,26 @@ test("a clock may change its pace while something is under way", () => {
 });
 
 test("faults come as often as they should, and as they are told", () => {
-  const faults = Object.assign(new Faults(5), { lose: 0.1, repeat: 0.2, reorder: 0.3, damage: 0.4 }), counts = {};
+  const faults = Object.assign(new Faults(5), { loss: 0.1, duplication: 0.2, reordering: 0.3, corruption: 0.4 }), counts = {};
   const datagram = Uint8Array.from({ length: 50 }, (_, n) => n);
-  const delivered = { good: 0, damaged: 0 }, expected = { good: 0, damaged: 0 };
+  const delivered = { good: 0, corrupted: 0 }, expected = { good: 0, corrupted: 0 };
   for (let n = 0; n < 20000; n++) {
-    const deliver = it => { delivered[it.every((byte, at) => byte === at) ? "good" : "damaged"]++; };
+    const deliver = it => { delivered[it.every((byte, at) => byte === at) ? "good" : "corrupted"]++; };
     const { words, go } = faults.pass(datagram, true, deliver);
     for (const word of words) counts[word] = (counts[word] ?? 0) + 1;
-    if (!words.includes("lost")) expected[words.includes("damaged") ? "damaged" : "good"] += words.includes("twice") ? 2 : 1;
+    if (!words.includes("lost")) expected[words.includes("corrupted") ? "corrupted" : "good"] += words.includes("duplicated") ? 2 : 1;
     go();
   }
-  faults.reorder = faults.lose = 0;
+  faults.reordering = faults.loss = 0;
   faults.pass(datagram, true, () => {}).go();   // what was held back comes behind it
-  for (const [word, count] of [["lost", 2000], ["twice", 3600], ["damaged", 7200]])
+  for (const [word, count] of [["lost", 2000], ["duplicated", 3600], ["corrupted", 7200]])
     assert.ok(Math.abs(counts[word] / count - 1) < 0.1, `${counts[word]} were ${word}`);
-  assert.ok(counts.late > 2000);
+  assert.ok(counts.reordered > 2000);
   assert.deepEqual(delivered, expected);
 });
 
 test("a datagram that is late comes behind the next one, or in a while", async () => {
-  const faults = Object.assign(new Faults(1), { reorder: 1 }), got = [];
+  const faults = Object.assign(new Faults(1), { reordering: 1 }), got = [];
   faults.pass(Uint8Array.of(1), true, it => got.push(it[0])).go();
   assert.deepEqual(got, []);
   faults.pass(Uint8Array.of(3), false, it => got.push(it[0])).go();

@@ -4,11 +4,11 @@ import test from "node:test";
 import assert from "node:assert/strict";
 import { setFlagsFromString } from "node:v8";
 import { runInNewContext } from "node:vm";
-import { noProgram, page, bodyOf, withSession } from "./node_process.mjs";
+import { page, bodyOf, withSession } from "./node_process.mjs";
 
 setFlagsFromString("--expose-gc");
 const collect = runInNewContext("gc");
-const TENTH = { lose: 0.1, repeat: 0.1, reorder: 0.1, damage: 0.1, delay: 10 };
+const TENTH = { loss: 0.1, duplication: 0.1, reordering: 0.1, corruption: 0.1, delay: 10 };
 // Buffers that were given up are freed a moment behind the collection that finds them.
 const used = async () => {
   collect();
@@ -19,7 +19,7 @@ const used = async () => {
 };
 
 for (const [name, atOnce] of [["in a row", 1], ["eight at once", 8]])
-  test(`1,000 pages ${name}, a tenth of all struck`, { skip: noProgram, timeout: 300000 }, () =>
+  test(`1,000 pages ${name}, a tenth of all hit`, { timeout: 300000 }, () =>
     withSession({ faults: TENTH, speed: 50, seed: atOnce }, async session => {
       session.capture.room = 1 << 16;     // so that it is full before the first look at the memory
       session.atOnce = atOnce;
@@ -27,11 +27,11 @@ for (const [name, atOnce] of [["in a row", 1], ["eight at once", 8]])
       assert.ok(bodyOf(page("/index.html")).equals(Buffer.from(first.bytes)));
       const early = await session.fetchMany("/index.html", 200), before = await used();
       const late = await session.fetchMany("/index.html", 800), more = await used() - before;
-      for (const [{ whole, wrong, broken }, count] of [[early, 200], [late, 800]])
-        assert.deepEqual([whole, wrong, broken], [count, 0, 0]);
-      const { struck, datagrams, other, again } = session.sums;
-      assert.ok(struck > datagrams / 4 && again > 300, `${struck} of ${datagrams} were struck, ${again} went again`);
-      assert.equal(other, 0);
+      for (const [{ complete, wrong, truncated }, count] of [[early, 200], [late, 800]])
+        assert.deepEqual([complete, wrong, truncated], [count, 0, 0]);
+      const { hit, datagrams, different, retransmissions } = session.sums;
+      assert.ok(hit > datagrams / 4 && retransmissions > 300, `${hit} of ${datagrams} were hit, ${retransmissions} retransmissions`);
+      assert.equal(different, 0);
       assert.ok(more < 1e6, `${more} bytes more after 800 pages`);
       assert.ok(session.host.connections.size < 20);
     }));

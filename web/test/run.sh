@@ -1,43 +1,67 @@
 #!/bin/sh
-# Tests the page of web/: its client under node against the built program, the page in Chromium, and the planted faults that want
-# no browser. It says what it skipped, and ends with 0 where nothing failed.
+# Tests the page of web/. Reports what it skipped, and ends with 0 if nothing failed.
 #
-#     sh web/test/run.sh            all of it, some four minutes
-#     sh web/test/run.sh client     the client alone; browser: the page in Chromium alone; planted: all planted faults
+#     sh web/test/run.sh            all: the client under node, the page in the browsers, planted faults that need no browser
+#     sh web/test/run.sh client     the client alone; browser: the page alone; planted: all planted faults
+#     sh web/test/run.sh inside     what needs no program: the device inside, under node and in the browsers
 #
-# It wants node 20.14 or later and python3; for the pages Chromium (CHROMIUM names another), and for those of the board and of the C
-# program what examples/board/run.sh and examples/linux-c/run.sh build. UIPD names another program than crates/uipd/out/uipd.
-case "$1" in -h|--help) sed -n '2,9s/^# \{0,1\}//p' "$0"; exit 0;; esac
+# It needs node 20.14 or later and python3, and for the page Chromium or Firefox (CHROMIUM and FIREFOX name others). If crates/uipd is
+# not built (UIPD names another program), node.wasm takes its place, and tests that need the program are skipped. PATIENCE=4 waits four
+# times as long for the page, for a busy machine.
+case "$1" in -h|--help) sed -n '2,10s/^# \{0,1\}//p' "$0"; exit 0;; esac
 cd "$(dirname "$0")/../.." || exit 1
 command -v node >/dev/null || { echo "web: no node here: nothing was tested"; exit 1; }
 log=$(mktemp) || exit 1
 trap 'rm -f "$log"' EXIT
 status=0
 
-# Runs the tests of some files: says how many passed, what failed, and why what was skipped was.
+# Runs the tests of some files in at most LIMIT seconds. Reports how many passed, what failed, and why tests were skipped.
 tests() {
-    name=$1; shift
-    timeout 400 node --test --test-force-exit --test-concurrency=1 --test-reporter=spec "$@" >"$log" 2>&1 || { status=1; grep -A12 '^✖' "$log"; }
+    name=$1; limit=$2; shift 2
+    timeout $((limit * ${PATIENCE:-1})) node --test --test-force-exit --test-concurrency=1 --test-reporter=spec "$@" >"$log" 2>&1 ||
+        { status=1; grep -A12 '^✖' "$log"; }
     sed -n 's/^﹣.* # /skipped: /p' "$log" | sort | uniq -c | sed 's/^ *\([0-9]*\) skipped:/skipped: \1 tests of the page:/'
     count() { sed -n "s/^ℹ $1 //p" "$log"; }
     seconds=$(count duration_ms)
     echo "web: $name: $(count pass) passed, $(count fail) failed in $((${seconds%%.*} / 1000)) s"
 }
 
+suites() { for suite in "$@"; do printf 'web/test/%s.test.mjs ' "$suite"; done; }
+
+# shellcheck disable=SC2046
 client() {
-    suites=
-    for suite in wire scripted line ladder talk many; do suites="$suites web/test/$suite.test.mjs"; done
-    tests "the client under node" $suites
+    if [ -x "${UIPD:-crates/uipd/out/uipd}" ]; then
+        tests "the client under node, with uipd" 600 $(suites wire scripted line sequence parts stalls talk many inside)
+        more="talk many"
+    else
+        echo "web: uipd is not built: the device inside takes its place"
+        more="wire scripted line sequence parts stalls talk many inside"
+    fi
+    export INSIDE=1
+    # shellcheck disable=SC2086
+    tests "the client under node, with the device inside" 600 $(suites $more)
+    unset INSIDE
 }
-browser() { tests "the page in Chromium" web/test/browser.test.mjs; }
-# All, or with --quick those that want no browser, in so many seconds.
+# shellcheck disable=SC2046
+inside() {
+    export INSIDE=1
+    tests "the device inside, under node" 400 $(suites parts stalls talk many inside)
+    unset INSIDE
+    tests "the device inside the page" 900 web/test/page.test.mjs
+}
+browser() {
+    tests "the page with a node at its line" 600 web/test/browser.test.mjs
+    tests "the page with the device inside" 900 web/test/page.test.mjs
+}
+# All, or with --quick those that need no browser, in at most $1 seconds.
 planted() { timeout "$1" node web/test/planted.mjs $2 || { echo "web: a planted fault was not found, or not all were tried in time"; status=1; }; }
 
 case "${1:-all}" in
     client) client;;
+    inside) inside;;
     browser) browser;;
-    planted) planted 3000;;
-    all) client; browser; planted 400 --quick;;
-    *) echo "run.sh: unknown word $1; --help says which there are" >&2; exit 2;;
+    planted) planted 4000;;
+    all) client; browser; planted 900 --quick;;
+    *) echo "run.sh: unknown word $1; --help lists them" >&2; exit 2;;
 esac
 exit $status

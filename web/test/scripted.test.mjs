@@ -16,7 +16,7 @@ function played({ mss = 536, isOpened = true, connect = host => host.connect() }
   const connection = connect(host), first = sent[0].seq;
   const heard = () => sent.splice(0).map(it =>
     ({ flags: it.flags, seq: it.seq - first >>> 0, ack: it.ack - 5000 >>> 0, len: it.text.length, window: it.window }));
-  const say = (flags, seq, ack, text = "", window = 1460) => host.hear(tcpDatagram([10, 0, 0, 1], [10, 0, 0, 2], 1, {
+  const say = (flags, seq, ack, text = "", window = 1460) => host.receive(tcpDatagram([10, 0, 0, 1], [10, 0, 0, 2], 1, {
     fromPort: 80, toPort: sent.port, seq: 5000 + seq >>> 0, ack: first + ack >>> 0, flags, window,
     mss: flags & SYN ? mss : 0, text: Buffer.from(text) }));
   sent.port = sent[0].fromPort;
@@ -120,15 +120,24 @@ test("what is not acknowledged goes again, and less where the window shrank", ()
 test("the wait follows the round trips, and not those of what went again", () => {
   const { say, connection, goOff, pass, heard } = played();
   connection.write(Buffer.from("a"));
-  pass(4000);
+  pass(2000);
   say(ACK, 1, 2);
   connection.write(Buffer.from("b"));
-  assert.equal(goOff(), 4500);       // by RFC 6298 section 2: the round trips were 0 and 4000
+  assert.equal(goOff(), 2250);       // by RFC 6298 section 2: the round trips were 0 and 2000
   assert.deepEqual(sizes(heard()).at(-1), [2, 1]);
   pass(50000);
   say(ACK, 1, 3);                    // of which sending?
   connection.write(Buffer.from("c"));
-  assert.equal(goOff(), 4500);
+  assert.equal(goOff(), 2250);
+});
+
+test("the wait is bounded, however long the round trips were", () => {
+  const { say, connection, goOff, pass } = played();
+  connection.write(Buffer.from("a"));
+  pass(60000);
+  say(ACK, 1, 2);
+  connection.write(Buffer.from("b"));
+  assert.deepEqual([goOff(), goOff()], [3000, 3000]);
 });
 
 test("while text is awaited the acknowledgement goes again, and a silent node is given up", async () => {
@@ -217,7 +226,7 @@ test("our end goes again until it is acknowledged", () => {
 
 test("a segment to no connection is reset, and a reset is not", () => {
   const sent = [], host = new Host(it => sent.push(read(it).segment));
-  const say = flags => host.hear(tcpDatagram([10, 0, 0, 1], [10, 0, 0, 2], 1,
+  const say = flags => host.receive(tcpDatagram([10, 0, 0, 1], [10, 0, 0, 2], 1,
     { fromPort: 80, toPort: 9, seq: 7, ack: 8, flags, window: 1, mss: 0, text: Buffer.from("abc") }));
   say(ACK);
   say(SYN);
@@ -228,17 +237,17 @@ test("a segment to no connection is reset, and a reset is not", () => {
 test("a datagram of another host, or to another, changes nothing", () => {
   const { host, heard, connection } = played();
   const segment = { fromPort: 80, toPort: connection.port, seq: 5001, ack: 0, flags: RST, window: 1, mss: 0, text: [] };
-  host.hear(tcpDatagram([10, 0, 0, 3], [10, 0, 0, 2], 1, segment));
-  host.hear(tcpDatagram([10, 0, 0, 1], [10, 0, 0, 4], 1, segment));
+  host.receive(tcpDatagram([10, 0, 0, 3], [10, 0, 0, 2], 1, segment));
+  host.receive(tcpDatagram([10, 0, 0, 1], [10, 0, 0, 4], 1, segment));
   assert.deepEqual([heard(), connection.state], [[], "ESTABLISHED"]);
-  host.hear(tcpDatagram([10, 0, 0, 1], [10, 0, 0, 2], 1, segment));
+  host.receive(tcpDatagram([10, 0, 0, 1], [10, 0, 0, 2], 1, segment));
   assert.equal(connection.state, "CLOSED");
 });
 
 test("a segment of another port of the node is to no connection", () => {
   const { host, connection, timers } = played(), sent = [];
   host.send = it => sent.push(read(it).segment);
-  host.hear(tcpDatagram([10, 0, 0, 1], [10, 0, 0, 2], 1,
+  host.receive(tcpDatagram([10, 0, 0, 1], [10, 0, 0, 2], 1,
     { fromPort: 81, toPort: connection.port, seq: 5001, ack: 7, flags: ACK | FIN, window: 1, mss: 0, text: [] }));
   assert.deepEqual(sent.map(it => [it.flags, it.toPort, it.seq]), [[RST, 81, 7]]);
   assert.deepEqual([connection.state, timers.size], ["ESTABLISHED", 1]);
@@ -265,7 +274,7 @@ test("an echo reply with another payload, or of another number, is none", async 
     for (let at = 20; at < it.length; at += 2) sum += it[at] << 8 | it[at + 1];
     while (sum > 0xffff) sum = (sum & 0xffff) + (sum >>> 16);
     it.set([~sum >> 8 & 0xff, ~sum & 0xff], 22);
-    host.hear(it);
+    host.receive(it);
   };
   reply(it => { it[30] ^= 1; });
   reply(it => { it[25] ^= 1; });

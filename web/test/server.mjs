@@ -6,7 +6,7 @@ import { createServer } from "node:http";
 import { extname, join, normalize } from "node:path";
 import { here, UIPD } from "./node_process.mjs";
 
-const WEB = join(here, ".."), TYPES = { ".html": "text/html", ".js": "text/javascript", ".css": "text/css" };
+const WEB = join(here, ".."), TYPES = { ".html": "text/html", ".js": "text/javascript", ".css": "text/css", ".wasm": "application/wasm" };
 
 // A program that ends where this process does: its shell waits for the end of what it is told.
 const TIED = `"$@" & cat >/dev/null; kill $! 2>/dev/null; wait $!`;
@@ -126,7 +126,7 @@ class StandInPort extends EventTarget {
 function putSerialInPlace(Port) {
   if (self !== top) return;
   const ports = [], serial = new EventTarget();
-  serial.ports = ports;
+  Object.assign(serial, { ports, Port, getPorts: async () => [] });
   serial.requestPort = async () => {
     if (!navigator.userActivation.isActive) throw new DOMException("no gesture", "SecurityError");
     if (self.chooseNone) throw new DOMException("No port selected by the user.", "NotFoundError");

@@ -8,23 +8,23 @@ import { join } from "node:path";
 import { ACK, FIN, RST, SYN, read, slipText, tcpDatagram } from "../wire.js";
 import { Connection } from "../connection.js";
 import { all, get, headerOf } from "../http.js";
-import { Ladder } from "../ladder.js";
+import { Sequence } from "../sequence.js";
 import { numbers } from "../faults.js";
 import { FILES, UIPD, bodyOf, dump, noProgram, pack, page, until, withSession } from "./node_process.mjs";
 
 const folder = mkdtempSync(join(tmpdir(), "talk-test-")), BIG = join(folder, "big.img"), next = numbers(7);
 test.before(() => {
-  if (noProgram) return;
   writeFileSync(join(folder, "big"), Uint8Array.from({ length: 200000 }, () => next() & 0xff));
   writeFileSync(join(folder, "ends"), Uint8Array.from({ length: 30000 }, () => [0xc0, 0xdb, 0xdc, 0xdd, 1][next() % 5]));
   pack([`/big.bin=${join(folder, "big")}`, `/ends.bin=${join(folder, "ends")}`], BIG);
 });
 test.after(() => rmSync(folder, { recursive: true }));
 
-const talk = (name, options, what) => test(name, { skip: noProgram, timeout: 120000 }, () => withSession(options, what));
+const talk = (name, { skip = false, ...options }, what) => test(name, { skip, timeout: 120000 }, () => withSession(options, what));
 const isSame = ({ bytes }, target, site) => assert.ok(bodyOf(page(target, site)).equals(Buffer.from(bytes)), target);
 
 talk("every file of the site, byte for byte", {}, async session => {
+  await session.host.ping();   // it has started
   for (const name of [...FILES, "/"]) {
     const reply = await session.whole(name), type = headerOf(reply.headers, "content-type");
     assert.equal(reply.status, 200);
@@ -33,7 +33,7 @@ talk("every file of the site, byte for byte", {}, async session => {
   }
   assert.equal((await session.whole("/nothing")).status, 404);
   assert.match(Buffer.from((await session.whole("/stats.shtml")).bytes).toString(), /ESTABLISHED[\s\S]*<\/html>\n$/);
-  assert.equal(session.sums.again, 0);
+  assert.equal(session.sums.retransmissions, 0);
 });
 
 talk("pings of all sizes come back", {}, async ({ host }) => {
@@ -105,62 +105,62 @@ talk("a port on which the node still has an older connection", {}, async ({ host
   assert.ok(page("/style.css").equals(Buffer.from(await all(again.readable))));
 });
 
-talk("eleven connections: the eleventh is told of, and comes when there is room", { speed: 4 }, async session => {
+talk("eleven connections: the eleventh is reported, and comes when there is room", { speed: 4 }, async session => {
   const said = [], hosts = Array.from({ length: 10 }, () => session.host.connect());
   session.notice = words => said.push(words);
   await until(() => hosts.every(it => it.state === "ESTABLISHED"));
   session.atOnce = 11;
   const page = session.whole("/style.css");
-  await until(() => said.some(it => /may have none free, 10 are open; asked again/.test(it)));
+  await until(() => said.some(it => /may have no slot free \(10 are open\); sent again/.test(it)));
   hosts.forEach(it => it.abort());
   isSame(await page, "/style.css");
 });
 
 // Puts another datagram in the place of the first of the node for which `isIt`.
 function putInPlace(session, isIt, other) {
-  const { host } = session, hear = host.hear;
-  host.hear = datagram => {
+  const { host } = session, receive = host.receive;
+  host.receive = datagram => {
     const { segment } = read(datagram);
-    if (!segment || !isIt(segment)) return hear.call(host, datagram);
-    host.hear = hear;
-    host.hear(tcpDatagram(host.node, host.own, 1, { ...segment, mss: 0, text: [], ...other }));
+    if (!segment || !isIt(segment)) return receive.call(host, datagram);
+    host.receive = receive;
+    host.receive(tcpDatagram(host.node, host.own, 1, { ...segment, mss: 0, text: [], ...other }));
   };
 }
 
 talk("a page whose connection is reset is asked for anew, before its head is there alone", { site: BIG }, async session => {
   putInPlace(session, ({ flags }) => flags & SYN, { flags: RST | ACK });
   isSame(await session.whole("/ends.bin"), "/ends.bin", BIG);
-  assert.deepEqual([session.sums.anew, session.sums.whole, session.sums.broken], [1, 1, 0]);
+  assert.deepEqual([session.sums.retried, session.sums.complete, session.sums.truncated], [1, 1, 0]);
   const { body } = await session.get("/ends.bin");
   putInPlace(session, ({ text }) => text.length, { flags: RST | ACK });
   await assert.rejects(all(body), /reset the connection/);
-  assert.deepEqual([session.sums.anew, session.sums.whole, session.sums.broken], [1, 1, 1]);
+  assert.deepEqual([session.sums.retried, session.sums.complete, session.sums.truncated], [1, 1, 1]);
 });
 
-talk("a node that is gone: it is told, and the page is broken off", { speed: 50 }, async session => {
-  const said = [], lose = () => { session.faults.lose = 1; };
+talk("a node that is gone: it is reported, and the page is truncated", { speed: 50 }, async session => {
+  const said = [];
   session.notice = words => said.push(words);
   isSame(await session.whole("/style.css"), "/style.css");
-  lose();
+  session.faults.loss = 1;
   await assert.rejects(session.whole("/style.css"), /the node does not answer/);
-  assert.ok(said.some(it => /no answer to a new connection for \d+ s: is the node there/.test(it)), said.join("\n"));
-  session.faults.lose = 0;
+  assert.ok(said.some(it => /no answer for \d+ s to a SYN: is the device there/.test(it)), said.join("\n"));
+  session.faults.loss = 0;
   isSame(await session.whole("/style.css"), "/style.css");
-  assert.deepEqual([session.sums.whole, session.sums.wrong, session.sums.broken], [2, 0, 1]);
+  assert.deepEqual([session.sums.complete, session.sums.wrong, session.sums.truncated], [2, 0, 1]);
 });
 
 for (const [name, faults] of Object.entries({
-  lose: { lose: 0.2 }, repeat: { repeat: 0.5 }, reorder: { reorder: 0.3 }, damage: { damage: 0.2 },
-  all: { lose: 0.1, repeat: 0.1, reorder: 0.1, damage: 0.1, delay: 20 },
+  loss: { loss: 0.2 }, duplication: { duplication: 0.5 }, reordering: { reordering: 0.3 }, corruption: { corruption: 0.2 },
+  all: { loss: 0.1, duplication: 0.1, reordering: 0.1, corruption: 0.1, delay: 20 },
 }))
-  talk(`pages are whole though datagrams are struck: ${name}`, { site: BIG, faults, seed: 11, speed: 50 }, async session => {
+  talk(`pages are complete under faults: ${name}`, { site: BIG, faults, seed: 11, speed: 50 }, async session => {
     const got = await Promise.all(Array.from({ length: 5 }, () => session.whole("/ends.bin")));
     for (const reply of got) isSame(reply, "/ends.bin", BIG);
-    assert.ok(session.sums.struck > 0);
-    assert.equal(session.sums.other, 0);
+    assert.ok(session.sums.hit > 0);
+    assert.equal(session.sums.different, 0);
   });
 
-talk("a capture is what uipd reads as one", {}, async session => {
+talk("a capture is what uipd reads as one", { skip: noProgram }, async session => {
   const seen = [], { host, faults } = session, pass = faults.pass.bind(faults);
   faults.pass = (datagram, ...rest) => { seen.push(datagram); return pass(datagram, ...rest); };
   await session.whole("/");
@@ -169,7 +169,7 @@ talk("a capture is what uipd reads as one", {}, async session => {
   assert.ok(execFileSync(UIPD, ["slip"], { input: file }).equals(Buffer.concat(seen.map(slipText))));
 });
 
-talk("every datagram that the host sends passes uipd's own checks", {}, async session => {
+talk("every datagram that the host sends passes uipd's own checks", { skip: noProgram }, async session => {
   const sent = [], { host } = session, send = host.send;
   host.send = datagram => { sent.push(datagram); send(datagram); };
   await session.whole("/");
@@ -177,7 +177,7 @@ talk("every datagram that the host sends passes uipd's own checks", {}, async se
   const lines = dump(Buffer.concat(sent.map(slipText)));
   for (const line of lines.trim().split("\n"))
     assert.match(line, /^\d+ \d+ (tcp 10\.0\.0\.2:\d+ 10\.0\.0\.1:80 \S+ \d+ \d+ \d+|icmp 10\.0\.0\.2 10\.0\.0\.1 8 0)$/);
-  const ladder = new Ladder(), rows = sent.map(it => ladder.tell(it, true)).filter(it => it.flags !== "echo");
+  const sequence = new Sequence(), rows = sent.map(it => sequence.add(it, true)).filter(it => it.flags !== "echo");
   const dumped = [...lines.matchAll(/:80 (\S+) \d+ \d+ (\d+)$/gm)];
   assert.deepEqual(rows.map(it => `${it.flags} ${it.len}`), dumped.map(([, flags, len]) => `${flags} ${len}`));
   const flags = sent.map(read).filter(it => it.segment).map(it => it.segment.flags);

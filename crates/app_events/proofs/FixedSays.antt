@@ -1,42 +1,42 @@
--- What a value of `Fixed` can say.
+-- The text that a value of `Fixed` can send.
 use Rattle.std.specs.Prelude.{ℕ, ◌≡◌, ◌≤◌, ◌+◌, List, [], ◌∷◌, length, take, drop}
 use Rattle.std.proofs.Common.{refl, arith, sym, length-drop, subst}
 use Rattle.std.proofs.Math.Logic.{∥∥₁_elim}
 use Rattle.std.specs.Coded.{le_prop}
-use Rattle.app_events.specs.Part.{Part, Meaning, text_left, CanSay}
-use Rattle.app_events.specs.FixedMeaning.{fixed_meaning, fixed_text, hello, FixedStands}
+use Rattle.app_events.specs.AppSpec.{AppState, AppSpec, text_left, CanSay}
+use Rattle.app_events.specs.FixedSpec.{fixed_spec, fixed_text, hello, FixedRepresents}
 use Rattle.app_events.specs.Lemmas.FixedLaws.{fixed_same_left}
 use Rattle.app_events.specs.declared.fixed.Fixed.{Fixed}
 use Rattle.app_events.proofs.Says.{can_say_each}
 
-abbrev pub means : Unit {0} → Meaning
-means k = fixed_meaning
+abbrev pub means : Unit {0} → AppSpec
+means k = fixed_spec
 
-abbrev pub Stands : Fixed → Unit {0} → Part → Type 0
-Stands a k p = FixedStands a p
+abbrev pub Represents : Fixed → Unit {0} → AppState → Type 0
+Represents a k p = FixedRepresents a p
 
 text_short : (xs : List ℕ) → length (fixed_text xs) ≤ 6
 text_short [] = omega arith
 text_short (x ∷ xs) = omega arith
 
-pub room : (a : Fixed) (n : ℕ) → CanSay means Stands a tt n → a.at + n ≤ 6
+pub room : (a : Fixed) (n : ℕ) → CanSay means Represents a tt n → a.at + n ≤ 6
 room a n can =
-    ∥∥₁_elim can le_prop (λ c. omega (arith, text_short c.0.heard, c.1.at, c.1.within, c.2, length-drop c.0.acked (fixed_text c.0.heard)))
+    ∥∥₁_elim can le_prop (λ c. omega (arith, text_short c.0.delivered, c.1.at, c.1.within, c.2, length-drop c.0.acked (fixed_text c.0.delivered)))
 
-said : (xs : List ℕ) (at n : ℕ) → at ≤ length (fixed_text xs) → n ≤ length (drop at (fixed_text xs)) → take n (drop at hello) ≡ take n (drop at (fixed_text xs))
-said (x ∷ xs) at n h k = refl
-said [] at n h k =
+output : (xs : List ℕ) (at n : ℕ) → at ≤ length (fixed_text xs) → n ≤ length (drop at (fixed_text xs)) → take n (drop at hello) ≡ take n (drop at (fixed_text xs))
+output (x ∷ xs) at n h k = refl
+output [] at n h k =
     let z : n ≡ 0 = omega (arith, length-drop at (fixed_text []), h, k) in
     subst (λ (m : ℕ). take m (drop at hello) ≡ take m (drop at (fixed_text []))) (sym z) refl
 
 -- what is written is the text of any part
-pub written : (a : Fixed) (n : ℕ) → CanSay means Stands a tt n → (p : Part) → FixedStands a p → take n (drop a.at hello) ≡ take n (text_left fixed_meaning p)
+pub written : (a : Fixed) (n : ℕ) → CanSay means Represents a tt n → (p : AppState) → FixedRepresents a p → take n (drop a.at hello) ≡ take n (text_left fixed_spec p)
 written a n can p s =
-    let k : n ≤ length (text_left fixed_meaning p) = can_say_each means Stands (λ x y q r. fixed_same_left x q r) a tt n can p s in
-    rw s.at (said p.heard p.acked n s.within k)
+    let k : n ≤ length (text_left fixed_spec p) = can_say_each means Represents (λ x y q r. fixed_same_left x q r) a tt n can p s in
+    rw s.at (output p.delivered p.acked n s.within k)
 
 -- how far the offset may move
-pub moves : (a : Fixed) (n : ℕ) → CanSay means Stands a tt n → (p : Part) → FixedStands a p → p.acked + n ≤ length (fixed_text p.heard)
+pub moves : (a : Fixed) (n : ℕ) → CanSay means Represents a tt n → (p : AppState) → FixedRepresents a p → p.acked + n ≤ length (fixed_text p.delivered)
 moves a n can p s =
-    let k : n ≤ length (text_left fixed_meaning p) = can_say_each means Stands (λ x y q r. fixed_same_left x q r) a tt n can p s in
-    omega (arith, k, s.within, length-drop p.acked (fixed_text p.heard))
+    let k : n ≤ length (text_left fixed_spec p) = can_say_each means Represents (λ x y q r. fixed_same_left x q r) a tt n can p s in
+    omega (arith, k, s.within, length-drop p.acked (fixed_text p.delivered))

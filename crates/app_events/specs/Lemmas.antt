@@ -1,2 +1,2 @@
--- What is proved of the definitions beside: it need not be believed.
+-- Proofs about the definitions of this crate. They need not be read.
 pub mod FixedLaws

@@ -1,6 +1,6 @@
-pub mod Part
+pub mod AppSpec
 pub mod Laws
 pub mod Pages
-pub mod FixedMeaning
+pub mod FixedSpec
 pub mod States
 pub mod Lemmas

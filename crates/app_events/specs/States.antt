@@ -1,9 +1,10 @@
--- The states of a connection (RFC 793, section 3.2), told apart as far as a table of connections needs it.
+-- The states of a connection (RFC 793, section 3.2), as far as a table of connections distinguishes them.
+-- [add: state] Whether a connection of the state is live, open or waits.
 use Rattle.std.specs.Prelude.{Bool, true, false}
 use Rattle.app_events.specs.declared.state.State.{State}
 use Rattle.app_events.specs.declared.state.State.TheVariants.{Closed, TimeWait}
 
--- any state but CLOSED
+-- any state except CLOSED
 abbrev pub is_live : State → Bool
 is_live Closed = false
 is_live _ = true

@@ -1,5 +1,7 @@
-ghost use Rattle.std.specs.Prelude.{◌≡◌, ℕ, List, length, take, Bool};
-ghost use Rattle.app_events.specs.Part.{Part, Meaning, text_left, HasPart, CanSay};
+//! The trait of an application, one value for each connection.
+
+ghost use Rattle.std.specs.Prelude.{◌≡◌, ℕ, List, length, take, Bool, false};
+ghost use Rattle.app_events.specs.AppSpec.{AppState, AppSpec, text_left, IsRepresented, CanSay};
 ghost use Rattle.app_events.specs.Laws.{IsLawful, StartsAnew};
 
 use crate::ending::Ending;
@@ -7,102 +9,111 @@ use crate::now::Now;
 use crate::want::Want;
 use uip_wire::Port;
 
-/// An application, as the connection that it stands on calls it.
+/// An application, as its connection calls it.
 ///
-/// A value stands for a part: plain data that says what was heard, captured and acknowledged. `meaning` says what each call
-/// does to a part; a clause speaks of every part for which the value stands. What no call changes in `Shared` is `kept`,
-/// what calls may change in it is seen as `numbers`. A call for one connection changes nothing of another's value.
+/// A value represents an abstract state: plain data with what was delivered, captured and acknowledged. `app_spec` defines what
+/// each call does to that state; a clause holds for every state that the value represents. `config` is what no call changes in
+/// `Shared`, and `numbers` what calls may change in it. A call for one connection changes no other connection's value.
 pub trait App: Drop {
     /// What the values of all connections share.
     type Shared: Drop;
 
     /// What no call changes in the shared value.
-    ghost Kept: { Type 0 };
+    ghost Config: { Type 0 };
 
-    ghost kept: { Self.Shared → Self.Kept };
+    ghost config: { Self.Shared → Self.Config };
 
     /// What calls may change in the shared value.
     ghost numbers: { Self.Shared → List ℕ };
 
     /// What each call does, over plain data.
-    ghost meaning: { Self.Kept → Meaning };
+    ghost app_spec: { Self.Config → AppSpec };
 
-    /// The parts that a value stands for.
-    ghost stands_for: { Self → Self.Kept → Part → Type 0 };
+    /// The abstract states that a value represents.
+    ghost represents: { Self → Self.Config → AppState → Type 0 };
 
-    /// The ports at which it can be reached.
+    /// The ports at which the application can be reached.
     ghost served: { ℕ → Bool };
 
-    /// Whether a connection may be opened at this port.
+    /// Returns whether a connection may be opened at this port.
     fn serves(port: Port) -> bool
         ensures { result ≡ served port.0 };
 
-    /// A value for a connection that is not open. Nothing is claimed of it.
+    /// Returns a value for a connection that is not open. No clause states anything of it.
     fn idle() -> Self;
 
-    /// A connection is open: nothing is heard, captured or acknowledged, whatever was before.
+    /// Begins a connection: nothing is delivered, captured or acknowledged, whatever the value was before.
     fn connected(&mut self, shared: &mut Self::Shared, port: Port)
-        ensures same { kept shared.new ≡ kept shared.old }
-        ensures part { stands_for self.new (kept shared.old) ((meaning (kept shared.old)).connected (numbers shared.old) port.0).part }
-        ensures numbers { numbers shared.new ≡ ((meaning (kept shared.old)).connected (numbers shared.old) port.0).numbers };
+        ensures same { config shared.new ≡ config shared.old }
+        ensures part { represents self.new (config shared.old) ((app_spec (config shared.old)).connected (numbers shared.old) port.0).part }
+        ensures numbers { numbers shared.new ≡ ((app_spec (config shared.old)).connected (numbers shared.old) port.0).numbers };
 
-    /// The next bytes from the peer.
+    /// Delivers the next bytes from the peer.
     fn newdata(&mut self, shared: &mut Self::Shared, piece: &[u8])
-        requires { HasPart stands_for self.old (kept shared.old) }
-        ensures same { kept shared.new ≡ kept shared.old }
-        ensures part { (p : Part) → stands_for self.old (kept shared.old) p
-            → stands_for self.new (kept shared.old) ((meaning (kept shared.old)).newdata (numbers shared.old) p piece.now).part }
-        ensures numbers { (p : Part) → stands_for self.old (kept shared.old) p
-            → numbers shared.new ≡ ((meaning (kept shared.old)).newdata (numbers shared.old) p piece.now).numbers };
+        requires { IsRepresented represents self.old (config shared.old) }
+        ensures same { config shared.new ≡ config shared.old }
+        ensures part { (p : AppState) → represents self.old (config shared.old) p
+            → represents self.new (config shared.old) ((app_spec (config shared.old)).newdata (numbers shared.old) p piece.now).part }
+        ensures numbers { (p : AppState) → represents self.old (config shared.old) p
+            → numbers shared.new ≡ ((app_spec (config shared.old)).newdata (numbers shared.old) p piece.now).numbers };
 
-    /// It is about to be asked what it wants: the time to take a capture, where the text that comes next needs one.
+    /// Returns whether `prepare` may change something. If not, `prepare` changes nothing for any `Now`, and need not be called.
+    fn is_due(&self, shared: &Self::Shared) -> bool
+        requires { IsRepresented represents self.now (config shared.now) }
+        ensures not_due { result ≡ false → (p : AppState) (now : Now) → represents self.now (config shared.now) p
+            → (app_spec (config shared.now)).prepare (numbers shared.now) p now ≡ p }
+    {
+        true
+    }
+
+    /// Takes a capture, if the text that comes next needs one. Called before `want`.
     fn prepare(&mut self, shared: &Self::Shared, now: &Now)
-        requires { HasPart stands_for self.old (kept shared.now) }
-        ensures { (p : Part) → stands_for self.old (kept shared.now) p
-            → stands_for self.new (kept shared.now) ((meaning (kept shared.now)).prepare (numbers shared.now) p now.now) };
+        requires { IsRepresented represents self.old (config shared.now) }
+        ensures { (p : AppState) → represents self.old (config shared.now) p
+            → represents self.new (config shared.now) ((app_spec (config shared.now)).prepare (numbers shared.now) p now.now) };
 
-    /// What it wants next. Nothing is outstanding.
+    /// Returns what to send next. Called if nothing is outstanding.
     fn want(&self, shared: &Self::Shared) -> Want
-        requires { HasPart stands_for self.now (kept shared.now) }
-        ensures { (p : Part) → stands_for self.now (kept shared.now) p → result ≡ (meaning (kept shared.now)).want (numbers shared.now) p };
+        requires { IsRepresented represents self.now (config shared.now) }
+        ensures { (p : AppState) → represents self.now (config shared.now) p → result ≡ (app_spec (config shared.now)).want (numbers shared.now) p };
 
-    /// Writes its text from the acknowledged offset on, as much as `out` holds.
+    /// Writes the text after the acknowledged offset, as much as `out` holds.
     fn fill(&self, shared: &Self::Shared, out: &mut [u8])
-        requires { CanSay meaning stands_for self.now (kept shared.now) (length out.old) }
-        ensures { (p : Part) → stands_for self.now (kept shared.now) p
-            → out.new ≡ take (length out.old) (text_left (meaning (kept shared.now)) p) };
+        requires { CanSay app_spec represents self.now (config shared.now) (length out.old) }
+        ensures { (p : AppState) → represents self.now (config shared.now) p
+            → out.new ≡ take (length out.old) (text_left (app_spec (config shared.now)) p) };
 
-    /// So many bytes of its text are acknowledged.
+    /// Reports that `count` bytes of the text are acknowledged.
     fn acked(&mut self, shared: &mut Self::Shared, count: usize)
-        requires { CanSay meaning stands_for self.old (kept shared.old) count }
-        ensures same { kept shared.new ≡ kept shared.old }
-        ensures part { (p : Part) → stands_for self.old (kept shared.old) p
-            → stands_for self.new (kept shared.old) ((meaning (kept shared.old)).acked (numbers shared.old) p count).part }
-        ensures numbers { (p : Part) → stands_for self.old (kept shared.old) p
-            → numbers shared.new ≡ ((meaning (kept shared.old)).acked (numbers shared.old) p count).numbers };
+        requires { CanSay app_spec represents self.old (config shared.old) count }
+        ensures same { config shared.new ≡ config shared.old }
+        ensures part { (p : AppState) → represents self.old (config shared.old) p
+            → represents self.new (config shared.old) ((app_spec (config shared.old)).acked (numbers shared.old) p count).part }
+        ensures numbers { (p : AppState) → represents self.old (config shared.old) p
+            → numbers shared.new ≡ ((app_spec (config shared.old)).acked (numbers shared.old) p count).numbers };
 
-    /// A tick came with nothing outstanding.
+    /// Reports a tick with nothing outstanding.
     fn polled(&mut self, shared: &mut Self::Shared)
-        requires { HasPart stands_for self.old (kept shared.old) }
-        ensures same { kept shared.new ≡ kept shared.old }
-        ensures part { (p : Part) → stands_for self.old (kept shared.old) p
-            → stands_for self.new (kept shared.old) ((meaning (kept shared.old)).polled (numbers shared.old) p).part }
-        ensures numbers { (p : Part) → stands_for self.old (kept shared.old) p
-            → numbers shared.new ≡ ((meaning (kept shared.old)).polled (numbers shared.old) p).numbers };
+        requires { IsRepresented represents self.old (config shared.old) }
+        ensures same { config shared.new ≡ config shared.old }
+        ensures part { (p : AppState) → represents self.old (config shared.old) p
+            → represents self.new (config shared.old) ((app_spec (config shared.old)).polled (numbers shared.old) p).part }
+        ensures numbers { (p : AppState) → represents self.old (config shared.old) p
+            → numbers shared.new ≡ ((app_spec (config shared.old)).polled (numbers shared.old) p).numbers };
 
-    /// The connection ended while the application might still have spoken. Nothing is claimed of the value that is left.
+    /// Reports that the connection ended while the application could still send. No clause states anything of the value after this.
     fn ended(&mut self, shared: &mut Self::Shared, how: Ending)
-        requires { HasPart stands_for self.old (kept shared.old) }
-        ensures same { kept shared.new ≡ kept shared.old }
-        ensures numbers { (p : Part) → stands_for self.old (kept shared.old) p
-            → numbers shared.new ≡ (meaning (kept shared.old)).ended (numbers shared.old) p how };
+        requires { IsRepresented represents self.old (config shared.old) }
+        ensures same { config shared.new ≡ config shared.old }
+        ensures numbers { (p : AppState) → represents self.old (config shared.old) p
+            → numbers shared.new ≡ (app_spec (config shared.old)).ended (numbers shared.old) p how };
 
-    /// The definitions keep the laws of an application.
-    ghost lawful: { (a : Self) (k : Self.Kept) → IsLawful (meaning k) (stands_for a k) };
+    /// The definitions satisfy the laws of an application.
+    ghost lawful: { (a : Self) (k : Self.Config) → IsLawful (app_spec k) (represents a k) };
 
-    ghost starts: { (k : Self.Kept) → StartsAnew (meaning k) };
+    ghost starts: { (k : Self.Config) → StartsAnew (app_spec k) };
 
-    /// What is said past the offset is the same in all parts of a value.
-    ghost same_left: { (a : Self) (k : Self.Kept) (p q : Part) → stands_for a k p → stands_for a k q
-        → text_left (meaning k) p ≡ text_left (meaning k) q };
+    /// All states that a value represents have the same text after the offset.
+    ghost same_left: { (a : Self) (k : Self.Config) (p q : AppState) → represents a k p → represents a k q
+        → text_left (app_spec k) p ≡ text_left (app_spec k) q };
 }

@@ -1,5 +1,5 @@
 ghost use Rattle.std.specs.Prelude.{◌≡◌, ◌+◌, ◌≤◌, [], length, take, drop, ◌==◌};
-ghost use Rattle.app_events.specs.FixedMeaning.{fixed_meaning, hello};
+ghost use Rattle.app_events.specs.FixedSpec.{fixed_spec, hello};
 
 use crate::app::App;
 use crate::ending::Ending;
@@ -7,30 +7,30 @@ use crate::now::Now;
 use crate::want::Want;
 use uip_wire::{Port, WEB_PORT};
 
-/// The application that answers `hello` and a line feed to the first byte that it hears, at the port of the web.
+/// The application that replies `hello` and a line feed to the first byte delivered, at port 80.
 #[derive(Drop)]
 pub struct Fixed {
     pub heard: bool,
-    /// The bytes that are acknowledged.
+    /// The number of bytes that are acknowledged.
     pub at: u32,
 }
 
 impl App for Fixed {
     ghost use Rattle.uip_wire.specs.declared.port.TheConstants.{WEB_PORT};
-    ghost use Rattle.app_events.specs.FixedMeaning.{FixedStands};
+    ghost use Rattle.app_events.specs.FixedSpec.{FixedRepresents};
     ghost use Rattle.app_events.specs.Lemmas.FixedLaws.{fixed_lawful, fixed_starts, fixed_same_left};
 
     type Shared = ();
 
-    ghost Kept = { Unit {0} };
+    ghost Config = { Unit {0} };
 
-    ghost kept = { λ _. tt };
+    ghost config = { λ _. tt };
 
     ghost numbers = { λ _. [] };
 
-    ghost meaning = { λ _. fixed_meaning };
+    ghost app_spec = { λ _. fixed_spec };
 
-    ghost stands_for = { λ a _ p. FixedStands a p };
+    ghost represents = { λ a _ p. FixedRepresents a p };
 
     ghost served = { λ port. port == WEB_PORT };
 
@@ -54,6 +54,10 @@ impl App for Fixed {
         if !piece.is_empty() {
             self.heard = true;
         }
+    }
+
+    fn is_due(&self, _shared: &()) -> bool {
+        false
     }
 
     fn prepare(&mut self, _shared: &(), _now: &Now) {}
@@ -87,7 +91,7 @@ impl App for Fixed {
     ghost same_left = { λ a _ p q. fixed_same_left a p q };
 }
 
-/// Copies the text from a place on.
+/// Copies the text from an offset on.
 fn copy_hello(at: usize, out: &mut [u8])
     requires { at + length out.old ≤ 6 }
     ensures { out.new ≡ take (length out.old) (drop at hello) }

@@ -1,6 +1,6 @@
-//! What a connection and its application have to say to each other: the events of a connection as calls of the trait `App`,
-//! and the plain data of these calls. Each application states what its calls do as one record of definitions over plain data,
-//! so that the transport above is proved once for all applications.
+//! The interface between a connection and its application: the events of a connection as calls of the trait `App`, and the plain data of
+//! these calls. Each application defines what its calls do as one record over plain data, so that the transport above is proved once for
+//! all applications.
 #![tactic(auto)]
 
 mod app;

@@ -1,6 +1,7 @@
 use crate::row::RowList;
 
-/// The moment at which an application is asked, from which it takes its captures.
+/// A snapshot of the node, from which an application takes its captures.
+/// [add: counter] The length of the array `net`.
 #[derive(Drop)]
 pub struct Now {
     pub ticks: u32,

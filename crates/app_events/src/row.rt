@@ -1,3 +1,5 @@
+//! A connection as pages show it.
+
 use crate::state::State;
 use arrayvec::ArrayVec;
 use std::marker::Model;
@@ -10,11 +12,11 @@ pub struct Row {
     pub peer: Addr,
     pub port: Port,
     pub state: State,
-    /// How often what is outstanding was sent again.
+    /// The number of retransmissions of what is outstanding.
     pub tries: u8,
-    /// The ticks left until the timer acts.
+    /// The ticks until the timer acts.
     pub count: u8,
-    /// Something is outstanding.
+    /// Whether something is outstanding.
     pub waiting: bool,
 }
 

@@ -1,2 +1,2 @@
-pub mod CounterMeaning
+pub mod CounterSpec
 pub mod Lemmas

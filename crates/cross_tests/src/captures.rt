@@ -19,7 +19,7 @@ const LITTLE: &[u8] = &[
     9, 0, 0, 0xDB, 5,
 ];
 
-/// The first record's datagram, which ends at the place 43, and then the second one's.
+/// The first record's datagram, which ends at offset 43, and then the second one's.
 const LINE: &[u8] = &[0xC0, 1, 0xDB, 0xDC, 2, 0xC0, 0xC0, 0xDB, 0xDD, 5, 0xC0];
 
 fn items_of(alloc: Global, bytes: &[u8]) -> Result<Vec<Item>, AllocError> {
@@ -30,7 +30,7 @@ fn items_of(alloc: Global, bytes: &[u8]) -> Result<Vec<Item>, AllocError> {
     Ok(items)
 }
 
-/// Reads a file with so many bytes a call of the link, up to so many items.
+/// Reads a file with at most `most` bytes per read of the link, up to a number of items.
 fn check(
     rt: &impl Abort,
     alloc: Global,
@@ -53,7 +53,7 @@ const fn bad(number: u64, why: CaptureWhy) -> SlipEnd {
     SlipEnd::Bad { number, why }
 }
 
-/// What a file is that ends behind so many bytes, and what was written of the line.
+/// Returns the end of a file of this length, and what was written of the line.
 fn end_at(len: usize) -> (SlipEnd, &'static [u8]) {
     match len {
         0..=23 => (bad(0, CaptureWhy::Cut), b""),
@@ -65,7 +65,7 @@ fn end_at(len: usize) -> (SlipEnd, &'static [u8]) {
     }
 }
 
-/// Reads a front of a file, and the file up to as many items.
+/// Reads a prefix of a file, and the file up to as many items.
 fn check_cut(
     rt: &impl Abort,
     alloc: Global,
@@ -92,7 +92,7 @@ fn each_cut_is_told(rt: HostRuntime) -> Result<(), Fail> {
     Ok(())
 }
 
-/// The file in the first byte order, with these bytes at these places.
+/// Returns the file in the first byte order, with these bytes at these offsets.
 fn changed(alloc: Global, changes: &[(usize, u8)]) -> Result<Vec<u8>, AllocError> {
     let mut file = BIG.to_vec(alloc)?;
     for (place, byte) in changes {
@@ -103,7 +103,7 @@ fn changed(alloc: Global, changes: &[(usize, u8)]) -> Result<Vec<u8>, AllocError
     Ok(file)
 }
 
-/// Reads a changed file whole, and up to so many items, of which the last brings the fault.
+/// Reads a changed file whole, and up to the item that has the fault.
 fn check_fault(
     rt: &impl Abort,
     alloc: Global,
@@ -149,7 +149,7 @@ fn other_files_are_refused(rt: HostRuntime) -> Result<(), Fail> {
     check_fault(&rt, alloc, &[(53, 5), (54, 0xDD)], 59, long, &LINE[..6])?;
     check_fault(&rt, alloc, &[(52, 1)], 59, long, &LINE[..6])?;
     check_fault(&rt, alloc, &[(51, 1)], 59, long, &LINE[..6])?;
-    // One of 1500 bytes is cut, and one of none writes nothing.
+    // One of 1500 bytes is cut, and an empty one writes nothing.
     let longest = changed(alloc, &[(53, 5), (54, 0xDC)])?;
     let cut = bad(2, CaptureWhy::Cut);
     check(&rt, alloc, &longest, 7, u64::MAX, cut, &LINE[..6])?;

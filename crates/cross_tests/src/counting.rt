@@ -1,17 +1,19 @@
+//! An application that counts connections.
+
 ghost use Rattle.std.specs.Prelude.{◌≡◌, ◌+◌, ◌≤◌, [], ◌∷◌, length, take, drop, ◌==◌};
-ghost use Rattle.cross_tests.specs.CounterMeaning.{counter_meaning};
+ghost use Rattle.cross_tests.specs.CounterSpec.{counter_spec};
 
 use app_events::{App, Ending, Now, Want};
 use uip_wire::Port;
 
-/// How many connections have spoken, modulo 256.
+/// How many connections have sent, modulo 256.
 #[derive(Clone, Copy, Debug, PartialEq, Eq)]
 pub struct Tally {
     pub spoken: u8,
 }
 
-/// An application at port 7 whose connections share a count: each answers the first byte that it hears by the count, as one
-/// byte, and a line feed.
+/// An application at port 7 whose connections share a count. Each replies to the first byte that it receives with the count, as
+/// one byte, and a line feed.
 #[derive(Drop)]
 pub struct Counter {
     pub heard: bool,
@@ -21,20 +23,20 @@ pub struct Counter {
 }
 
 impl App for Counter {
-    ghost use Rattle.cross_tests.specs.CounterMeaning.{CounterStands};
+    ghost use Rattle.cross_tests.specs.CounterSpec.{CounterRepresents};
     ghost use Rattle.cross_tests.specs.Lemmas.CounterLaws.{counter_lawful, counter_starts, counter_same_left};
 
     type Shared = Tally;
 
-    ghost Kept = { Unit {0} };
+    ghost Config = { Unit {0} };
 
-    ghost kept = { λ _. tt };
+    ghost config = { λ _. tt };
 
     ghost numbers = { λ tally. tally.spoken ∷ [] };
 
-    ghost meaning = { λ _. counter_meaning };
+    ghost app_spec = { λ _. counter_spec };
 
-    ghost stands_for = { λ a _ p. CounterStands a p };
+    ghost represents = { λ a _ p. CounterRepresents a p };
 
     ghost served = { λ port. port == 7 };
 
@@ -62,6 +64,10 @@ impl App for Counter {
             self.number = shared.spoken;
             shared.spoken = shared.spoken.wrapping_add(1);
         }
+    }
+
+    fn is_due(&self, _shared: &Tally) -> bool {
+        false
     }
 
     fn prepare(&mut self, _shared: &Tally, _now: &Now) {}
@@ -95,7 +101,7 @@ impl App for Counter {
     ghost same_left = { λ a _ p q. counter_same_left a p q };
 }
 
-/// Copies the text of a number from a place on.
+/// Copies the text of a number from an offset on.
 fn copy_number(number: u8, at: usize, out: &mut [u8])
     requires { at + length out.old ≤ 2 }
     ensures { out.new ≡ take (length out.old) (drop at (number ∷ 10 ∷ [])) }

@@ -6,8 +6,9 @@ use std::test::Fail;
 use trace::dump;
 use uip_edge::{Item, MemSink, ServeEnd, SureLink};
 
-/// The bytes that a frame begins with, its length, all others being 0, and what its line says behind its number. No byte of
-/// a frame is escaped.
+/// The bytes that a frame begins with, its length in bytes (all others are 0), and its line after the number. No byte of a
+/// frame is escaped.
+/// [add: fate] A frame with the fate, and its line.
 const FRAMES: &[(&str, usize, &str)] = &[
     ("45", 1, " 1 ip short\n"),
     ("45", 19, " 19 ip short\n"),
@@ -145,30 +146,30 @@ const FRAMES: &[(&str, usize, &str)] = &[
     ("01", 4096, " overlong\n"),
 ];
 
-fn put_frame(items: &mut Vec<Item>, front: &[u8], len: usize) -> Result<(), AllocError> {
-    for byte in front {
+fn put_frame(items: &mut Vec<Item>, prefix: &[u8], len: usize) -> Result<(), AllocError> {
+    for byte in prefix {
         items.push(Item::Byte(*byte))?;
     }
-    for _ in front.len()..len {
+    for _ in prefix.len()..len {
         items.push(Item::Byte(0))?;
     }
     items.push(Item::Byte(0xC0))?;
     Ok(())
 }
 
-/// The line of all frames, and its dump.
+/// Returns the line of all frames, and its dump.
 fn line_and_dump(alloc: Global) -> Result<(Vec<Item>, Vec<u8>), Fail> {
     let mut items = Vec::new(alloc);
     let mut lines = Vec::new(alloc);
-    for (place, (front, len, words)) in FRAMES.iter().enumerate() {
-        put_frame(&mut items, &bytes_of(alloc, front)?, *len)?;
+    for (place, (prefix, len, words)) in FRAMES.iter().enumerate() {
+        put_frame(&mut items, &bytes_of(alloc, prefix)?, *len)?;
         lines.extend_from_slice(format!(in alloc; "{}", place + 1)?.as_bytes())?;
         lines.extend_from_slice(words.as_bytes())?;
     }
     Ok((items, lines))
 }
 
-/// Dumps the line with so many bytes a call of the link.
+/// Dumps the line with at most `most` bytes per read of the link.
 fn check(rt: &impl Abort, alloc: Global, most: usize) -> Result<(), Fail> {
     let (items, lines) = line_and_dump(alloc)?;
     let mut link = SureLink::new(items, most.max(1));

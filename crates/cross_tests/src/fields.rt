@@ -1,5 +1,5 @@
-//! The values of a running server hold what their fields say, and no copy of what was sent: each pattern below names exactly
-//! the fields of its types, so a further field or variant does not compile here.
+//! The values of a running server contain what their fields state, and no copy of what was sent. Each pattern names exactly the
+//! fields of its types, so a further field or variant does not compile here.
 
 use app_events::RowList;
 use file_tree::{FileId, Place, Site};
@@ -62,6 +62,7 @@ fn place(value: &Place) {
     } = value;
 }
 
+/// [add: piece] The fields of its variant of `Thread`.
 fn httpd(value: &Httpd) {
     let Httpd {
         stage: Stage::Method | Stage::Target | Stage::Reply { found: _ } | Stage::Refused,
@@ -88,6 +89,7 @@ fn httpd(value: &Httpd) {
     capture(record);
 }
 
+/// [add: function] The variant of its capture record.
 fn capture(value: &Capture) {
     let (Capture::Empty
     | Capture::Hits(_)
@@ -96,11 +98,12 @@ fn capture(value: &Capture) {
     | Capture::Rows(RowList { list: _ })) = value;
 }
 
-/// A desk is one of its two applications, and nothing beside.
+/// A desk is one of its two applications, and nothing else.
+/// [add: application] A pattern that names each field of its value, as these.
 pub(crate) fn desk(value: &Desk) {
     match value {
         Desk::Web(web) => httpd(web),
-        Desk::Shell(talk) => shell(talk),
+        Desk::Shell(session) => shell(session),
     }
 }
 

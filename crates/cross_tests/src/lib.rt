@@ -1,6 +1,6 @@
-//! Tests over the crates below, with ample memory: that a call which may answer NoMemory does what it is for. `Counter` is an
-//! application for these tests, which shows that the transport serves others than the program's own. No other crate stands on
-//! this one.
+//! Tests over the crates below, with ample memory: that a call which may fail with NoMemory does its work. `Counter` is an
+//! application for these tests; it shows that the node can serve others than those of the program. No crate depends on this
+//! one.
 #![tactic(auto)]
 
 mod counting;
@@ -22,6 +22,8 @@ mod loads;
 #[cfg(test)]
 mod node;
 #[cfg(test)]
+mod numbers;
+#[cfg(test)]
 mod shell;
 #[cfg(test)]
 mod site;
@@ -33,3 +35,5 @@ mod sizes;
 mod talking;
 #[cfg(test)]
 mod web;
+#[cfg(test)]
+mod worlds;

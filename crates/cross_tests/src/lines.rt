@@ -9,7 +9,7 @@ use std::test::Fail;
 use uip_edge::{Item, MemSink, ServeEnd, SureLink};
 use uip_node::Node;
 
-// Two clients of `Counter`: each opens and sends one byte, and is told its number.
+// Two clients of `Counter`: each opens and sends one byte, and receives its number.
 const SYN_0: &str =
     "45000028 00010000 400666CD 0A000002 0A000001 04010007 000003E8 00000000 50022000 73F00000";
 
@@ -40,7 +40,7 @@ const NUMBER_1: &str = "\
     4500002A 00040000 400666C8 0A000001 0A000002 00070402 00000001 0000138A 501805B4 7D760000 \
     010A";
 
-/// What comes in over a line: frames, then so many ENDs, then so many silences; at which pace; and what is sent.
+/// The input of a line: frames, then a number of ENDs, then a number of silences; its pace; and what is sent.
 #[derive(Drop)]
 struct Exchange<'a> {
     frames: &'a [&'a str],
@@ -63,7 +63,7 @@ impl<'a> Exchange<'a> {
     }
 }
 
-/// The text of frames in which no byte is escaped.
+/// Returns the text of frames in which no byte is escaped.
 fn text_of(alloc: Global, frames: &[&str]) -> Result<Vec<u8>, Fail> {
     let mut text = Vec::new(alloc);
     for frame in frames {
@@ -88,7 +88,7 @@ fn items_of(alloc: Global, exchange: &Exchange) -> Result<Vec<Item>, Fail> {
     Ok(items)
 }
 
-/// Serves the line to a new node, with so many bytes a call of the link.
+/// Serves the line by a new node, with at most `most` bytes per read of the link.
 fn check<A: App>(
     rt: &impl Abort,
     alloc: Global,

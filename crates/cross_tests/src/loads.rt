@@ -1,5 +1,4 @@
-// A schedule that a number makes is played by the web server of a site of one file, and told in one line, which was worked out apart
-// from this code.
+// The schedule of a seed is played by the web server of a site of one file. Its line was worked out without this code.
 use file_tree::Site;
 use link_replay::play;
 use std::test::Fail;

@@ -26,7 +26,7 @@ fn a_greeting_is_served(rt: HostRuntime) -> Result<(), Fail> {
     check_answer(&rt, alloc, &mut node, REQUEST, GREETING)
 }
 
-/// Whether no prefix of a datagram, up to this length, is answered.
+/// Returns whether no prefix of a datagram, up to this length, is answered.
 fn are_ignored<A: App>(node: &mut Node<A>, datagram: &[u8], end: usize) -> bool
     requires end { end ≤ length datagram.now }
     requires most { length datagram.now ≤ 1500 }
@@ -37,6 +37,7 @@ fn are_ignored<A: App>(node: &mut Node<A>, datagram: &[u8], end: usize) -> bool
     are_ignored(node, datagram, end - 1) && node.input(&datagram[..end]).is_none()
 }
 
+/// [add: counter] A datagram that raises the counter.
 #[test]
 fn cut_datagrams_are_counted(rt: HostRuntime) -> Result<(), Fail> {
     let alloc = rt.alloc();

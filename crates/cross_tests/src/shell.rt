@@ -1,4 +1,4 @@
-//! The desk over a node: worked talks datagram by datagram, and each of them with what is heard cut in two at every place.
+//! The desk over a node: worked sessions datagram by datagram, and each of them with its input cut in two at every offset.
 
 ghost use Rattle.std.specs.Prelude.{◌≤◌, length};
 
@@ -25,7 +25,7 @@ const SYN_ACK: &str = "\
     4500002C 00010000 400666C9 0A000001 0A000002 00170401 00000000 000003E9 601205B4 765F0000 \
     020405B4";
 
-// `ticks` CR LF, and what is said at tick 0.
+// `ticks` CR LF, and the reply at tick 0.
 const TICKS: &str = "\
     4500002F 00010000 400666C6 0A000002 0A000001 04010017 000003E9 00000001 50182000 1EDF0000 \
     7469636B 730D0A";
@@ -34,7 +34,7 @@ const TICKS_SAID: &str = "\
     45000036 00020000 400666BE 0A000001 0A000002 00170401 00000001 000003F0 501805B4 A2240000 \
     20202020 20202020 20300D0A 3E20";
 
-// An offer of an option (RFC 854) and `quit` LF, what is said, its acknowledgement, and the FIN.
+// An offer of an option (RFC 854) and `quit` LF, the reply, its acknowledgement, and the FIN.
 const QUIT: &str = "\
     45000030 00010000 400666C5 0A000002 0A000001 04010017 000003E9 00000001 50182000 88DF0000 \
     FFFB0171 7569740A";
@@ -49,10 +49,10 @@ const QUIT_TAKEN: &str =
 const FIN_SAID: &str =
     "45000028 00030000 400666CB 0A000001 0A000002 00170401 00000009 000003F1 501105B4 8E0B0000";
 
-// What is said to `help`.
+// The reply to `help`.
 const HELPED: &[u8] = b"help stats conns ticks quit\r\n> ";
 
-// The headers of a datagram with 33 lines `help` LF, such a line, and the RST that they are answered with.
+// The headers of a datagram with 33 lines `help` LF, such a line, and the RST that is the reply.
 const HELPS_HEAD: &str =
     "450000CD 00010000 40066628 0A000002 0A000001 04010017 000003E9 00000001 50182000 49020000";
 
@@ -63,12 +63,12 @@ const RESET: &str =
 
 const CLIENT: Addr = Addr([10, 0, 0, 2]);
 
-/// The site without files, for a server.
+/// Returns the site without files, for a server.
 fn empty_web(alloc: Global) -> Result<Web, Fail> {
     Ok(Web::new(alloc, Site::empty(alloc)).ok().ok_or("no memory")?)
 }
 
-/// So many times a text.
+/// Returns a text repeated `count` times.
 fn repeated(alloc: Global, text: &[u8], count: usize) -> Result<Vec<u8>, AllocError> {
     let mut all = Vec::new(alloc);
     for _ in 0..count {
@@ -77,18 +77,18 @@ fn repeated(alloc: Global, text: &[u8], count: usize) -> Result<Vec<u8>, AllocEr
     Ok(all)
 }
 
-/// A client opens, says something, and takes what it is told, to which there may be an answer: each datagram with its answer.
-fn check_talk(
+/// Opens, sends something, and acknowledges the reply: each datagram with its answer.
+fn check_session(
     rt: &impl Abort,
     alloc: Global,
-    (asked, said): (&str, &str),
+    (asked, output): (&str, &str),
     taken: Option<(&str, &str)>,
 ) -> Result<(), Fail> {
     let Ok(mut node) = Node::<Desk>::new(alloc, NODE, empty_web(alloc)?) else {
         return Err("no memory".into());
     };
     check_answer(rt, alloc, &mut node, SYN, SYN_ACK)?;
-    check_answer(rt, alloc, &mut node, asked, said)?;
+    check_answer(rt, alloc, &mut node, asked, output)?;
     if let Some((taken, closed)) = taken {
         check_answer(rt, alloc, &mut node, taken, closed)?;
     }
@@ -97,18 +97,18 @@ fn check_talk(
 }
 
 #[test]
-fn worked_talks_over_a_node(rt: HostRuntime) -> Result<(), Fail> {
+fn worked_sessions_over_a_node(rt: HostRuntime) -> Result<(), Fail> {
     let alloc = rt.alloc();
     let mut helps = String::from_str(alloc, HELPS_HEAD)?;
     for _ in 0..33 {
         helps.push_str(HELP)?;
     }
-    check_talk(&rt, alloc, (TICKS, TICKS_SAID), None)?;
-    check_talk(&rt, alloc, (QUIT, QUIT_SAID), Some((QUIT_TAKEN, FIN_SAID)))?;
-    check_talk(&rt, alloc, (&helps, RESET), None)
+    check_session(&rt, alloc, (TICKS, TICKS_SAID), None)?;
+    check_session(&rt, alloc, (QUIT, QUIT_SAID), Some((QUIT_TAKEN, FIN_SAID)))?;
+    check_session(&rt, alloc, (&helps, RESET), None)
 }
 
-/// A peer that has opened: the numbers that it sends and expects next, what it heard, and the flags that it heard last.
+/// A peer that has opened: the numbers that it sends and expects next, what it received, and the flags of the last segment.
 #[derive(Drop)]
 struct Peer {
     seq: u32,
@@ -118,7 +118,7 @@ struct Peer {
 }
 
 impl Peer {
-    /// Takes a datagram of the node, whose headers have 40 bytes.
+    /// Receives a datagram of the node, whose headers have 40 bytes.
     fn hear(&mut self, datagram: &[u8]) -> Result<(), AllocError> {
         if datagram.len() < 40 {
             return Ok(());
@@ -131,7 +131,7 @@ impl Peer {
         self.heard.extend_from_slice(text)
     }
 
-    /// Sends a piece behind an acknowledgement of all that was heard, and hears what the node answers.
+    /// Sends a piece after an acknowledgement of all that was received, and receives the reply of the node.
     fn say<A: App>(&mut self, node: &mut Node<A>, piece: &[u8]) -> Result<(), AllocError>
         requires short { length piece.now ≤ 1460 }
     {
@@ -159,10 +159,11 @@ impl Peer {
     }
 }
 
-/// What is heard of a talk that is cut in two, the front acknowledged before the rest is sent, and the flags that come last.
-fn talk(rt: &impl Abort, alloc: Global, said: &[u8], cut: usize) -> Result<Peer, Fail>
-    requires within { cut ≤ length said.now }
-    requires short { length said.now ≤ 1460 }
+/// Returns what is received in a session that is cut in two, the first part acknowledged before the rest is sent, and the last
+/// flags.
+fn session(rt: &impl Abort, alloc: Global, output: &[u8], cut: usize) -> Result<Peer, Fail>
+    requires within { cut ≤ length output.now }
+    requires short { length output.now ≤ 1460 }
 {
     let Ok(mut node) = Node::<Desk>::new(alloc, NODE, empty_web(alloc)?) else {
         return Err("no memory".into());
@@ -174,24 +175,24 @@ fn talk(rt: &impl Abort, alloc: Global, said: &[u8], cut: usize) -> Result<Peer,
         flags: 0,
     };
     check_answer(rt, alloc, &mut node, SYN, SYN_ACK)?;
-    peer.say(&mut node, &said[..cut])?;
-    peer.say(&mut node, &said[cut..])?;
+    peer.say(&mut node, &output[..cut])?;
+    peer.say(&mut node, &output[cut..])?;
     peer.say(&mut node, b"")?;
     Ok(peer)
 }
 
-/// Checks a talk at every cut: what is heard, and the flags that come last.
+/// Checks a session at every cut: what is received, and the last flags.
 fn check_cuts(
     rt: &impl Abort,
     alloc: Global,
-    said: &[u8],
+    output: &[u8],
     heard: &[u8],
     flags: u8,
 ) -> Result<(), Fail>
-    requires { length said.now ≤ 1460 }
+    requires { length output.now ≤ 1460 }
 {
-    for cut in 0..=said.len() {
-        let peer = talk(rt, alloc, said, cut)?;
+    for cut in 0..=output.len() {
+        let peer = session(rt, alloc, output, cut)?;
         assert_eq!(rt; peer.heard.as_slice(), heard);
         assert_eq!(rt; peer.flags, flags);
     }
@@ -199,7 +200,7 @@ fn check_cuts(
 }
 
 #[test]
-fn talks_go_so_at_every_cut(rt: HostRuntime) -> Result<(), Fail> {
+fn sessions_go_so_at_every_cut(rt: HostRuntime) -> Result<(), Fail> {
     let alloc = rt.alloc();
     check_cuts(&rt, alloc, b"ticks\r\n", b"         0\r\n> ", ACK + PSH)?;
     check_cuts(
@@ -218,15 +219,15 @@ fn talks_go_so_at_every_cut(rt: HostRuntime) -> Result<(), Fail> {
     )
 }
 
-/// With 33 lines in one piece the connection is given up. Where a front of them was answered and acknowledged before the rest came, all
-/// are answered.
+/// With 33 lines in one piece the connection is given up. If a prefix of them was answered and acknowledged before the rest
+/// arrived, all are answered.
 #[test]
 fn a_command_too_many_at_every_cut(rt: HostRuntime) -> Result<(), Fail> {
     let helps = repeated(rt.alloc(), b"help\n", 33)?;
     let all = repeated(rt.alloc(), HELPED, 33)?;
     assert_eq!(rt; helps.len(), 165);
     for cut in 0..=165 {
-        let peer = talk(&rt, rt.alloc(), helps.as_slice(), cut)?;
+        let peer = session(&rt, rt.alloc(), helps.as_slice(), cut)?;
         if cut < 5 || cut == 165 {
             assert_eq!(rt; peer.flags, ACK + RST);
             assert_eq!(rt; peer.heard.len(), 0);

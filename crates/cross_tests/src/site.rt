@@ -8,7 +8,7 @@ const IMAGE: &[u8] = b"UIPSITE1\0\x01\x0b/index.html\0\0\0\x06hello\n";
 
 const TYPED: &[u8] = b"UIPSITE2\0\x01\x0b/index.html\x09text/html\0\0\0\x06hello\n";
 
-/// A list of one.
+/// Returns a list of one item.
 fn one<T: Drop>(alloc: Global, item: T) -> Result<Vec<T>, AllocError> {
     let mut list = Vec::new(alloc);
     list.push(item)?;

@@ -4,6 +4,8 @@ use file_tree::{Held, Site, pack};
 use std::alloc::{AllocError, Global};
 use std::test::Fail;
 
+/// [add: counter] The greatest length of a page of counters.
+/// [add: content-type] A file of the site with that ending.
 #[test]
 fn reads_the_example_site(rt: HostRuntime) -> Result<(), Fail> {
     let rows: [(&[u8], &[u8], usize); 6] = [

@@ -1,5 +1,5 @@
-// At full size, so that no answer for want of memory hides a smaller limit: the longest schedule with 64 clients, the largest image,
-// and the longest name.
+// At full size, so that no failure for lack of memory hides a smaller limit: the longest schedule with 64 clients, the largest
+// image, and the longest name.
 use file_tree::{Held, Site, pack};
 use link_replay::play;
 use link_schedule::Schedule;
@@ -10,7 +10,7 @@ const LONGEST_TEXT: usize = 4_194_304;
 
 const LARGEST_IMAGE: usize = 16_777_216;
 
-/// 64 clients, each of which opens, and lines that lose everything up to the greatest length of a text.
+/// Returns 64 clients, each of which opens, and lines that lose everything up to the greatest length of a text.
 fn longest_schedule(alloc: Global) -> Result<Vec<u8>, AllocError> {
     let mut text = Vec::new(alloc);
     for number in 0..64 {
@@ -48,7 +48,7 @@ fn plays_the_longest_schedule(rt: HostRuntime) -> Result<(), Fail> {
     Ok(())
 }
 
-/// The image of one file that fills it.
+/// Returns the image of one file that fills it.
 fn image_of(alloc: Global, name: &[u8], size: usize) -> Result<Option<Vec<u8>>, AllocError> {
     let mut list = Vec::new(alloc);
     list.push(Held {

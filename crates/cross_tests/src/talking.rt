@@ -1,4 +1,4 @@
-//! Datagrams in hex digits, four bytes a word, the headers on a line, and a node to which they are said.
+//! Datagrams in hex digits, four bytes a word, the headers on a line, and a node that receives them.
 
 use app_events::App;
 use std::alloc::Global;
@@ -22,7 +22,7 @@ pub(crate) const SENT_AGAIN: &str = "\
     4500002C 00020000 400666C8 0A000001 0A000002 00500401 00000000 000003E9 601205B4 76260000 \
     020405B4";
 
-// The client's acknowledgement with one byte of text, and the greeting that it is answered with.
+// The client's acknowledgement with one byte of text, and the greeting that is the reply.
 pub(crate) const REQUEST: &str = "\
     45000029 00020000 400666CB 0A000002 0A000001 04010050 000003E9 00000001 50182000 FB8D0000 \
     78";
@@ -31,7 +31,7 @@ pub(crate) const GREETING: &str = "\
     4500002E 00020000 400666C6 0A000001 0A000002 00500401 00000001 000003EA 501805B4 49F80000 \
     68656C6C 6F0A";
 
-/// The bytes that hex digits write.
+/// Returns the bytes of hex digits.
 pub(crate) fn bytes_of(alloc: Global, digits: &str) -> Result<Vec<u8>, Fail> {
     let mut bytes = Vec::new(alloc);
     for word in digits.split_whitespace() {
@@ -43,7 +43,7 @@ pub(crate) fn bytes_of(alloc: Global, digits: &str) -> Result<Vec<u8>, Fail> {
     Ok(bytes)
 }
 
-/// Says a datagram to a node, which must answer so.
+/// Passes a datagram to a node, which must reply with this one.
 pub(crate) fn check_answer<A: App>(
     rt: &impl Abort,
     alloc: Global,
@@ -59,7 +59,7 @@ pub(crate) fn check_answer<A: App>(
     Ok(())
 }
 
-/// A new node, to which the usual SYN was said.
+/// Returns a new node that has received the usual SYN.
 pub(crate) fn opened<A: App>(
     rt: &impl Abort,
     alloc: Global,

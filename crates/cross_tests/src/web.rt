@@ -1,4 +1,4 @@
-//! The web server over a node, on its happy path: pages that are told by no clause of one crate alone.
+//! The web server over a node: pages that no contract of one crate alone determines.
 
 use crate::fields::node as see_fields;
 use crate::talking::{REQUEST, check_answer, opened};
@@ -14,7 +14,7 @@ use tcp_table::Conn;
 const BYTE_TAKEN: &str =
     "45000028 00020000 400666CC 0A000001 0A000002 00500401 00000001 000003EA 501005B4 8DE20000";
 
-// `GET /h.shtml HTTP/1.0` CR LF, and what comes of it: the header, then the hit count, then a FIN.
+// `GET /h.shtml HTTP/1.0` CR LF, and the replies: the header, then the hit count, then a FIN.
 const GET: &str = "\
     4500003F 00020000 400666B5 0A000002 0A000001 04010050 000003E9 00000001 50182000 744F0000 \
     47455420 2F682E73 68746D6C 20485454 502F312E 300D0A";
@@ -41,7 +41,7 @@ const HELLO: &[u8] = b"UIPSITE1\0\x01\x0b/index.html\0\0\0\x06hello\n";
 
 const COUNTED: &[u8] = b"UIPSITE1\0\x01\x08/h.shtml\0\0\0\x17%! file-stats /h.shtml\n";
 
-/// The site of an image, for a server.
+/// Returns the site of an image, for a server.
 fn web_of(alloc: Global, image: &[u8]) -> Result<Web, Fail> {
     let site = Site::read(alloc, image).ok().ok_or("a bad image")?;
     Ok(Web::new(alloc, site).ok().ok_or("no memory")?)
@@ -54,6 +54,7 @@ fn a_byte_of_a_request_is_taken(rt: HostRuntime) -> Result<(), Fail> {
     check_answer(&rt, alloc, &mut node, REQUEST, BYTE_TAKEN)
 }
 
+/// [add: piece] A page that has the piece.
 #[test]
 fn a_page_with_a_hit_count_is_served_and_ended(rt: HostRuntime) -> Result<(), Fail> {
     let alloc = rt.alloc();

@@ -1,39 +1,39 @@
--- What the desk says is bytes, where its pages are and where it hears bytes.
+-- The desk sends bytes, if its pages are bytes and it receives bytes.
 use Rattle.std.proofs.Common.{List}
 use Rattle.app_events.specs.Pages.{IsByte}
-use Rattle.app_events.specs.Part.{Meaning}
+use Rattle.app_events.specs.AppSpec.{AppSpec}
 use Rattle.site_image.specs.Files.{File}
 use Rattle.file_tree.specs.Site.{SiteContent, IsLoaded, files_of}
 use Rattle.web_pages.specs.Pages.{pages_of}
-use Rattle.web_pages.specs.WebMeaning.{web_meaning}
+use Rattle.web_pages.specs.WebMeaning.{web_spec}
 use Rattle.web_pages.proofs.PageLaws.{keeps_page_laws}
 use Rattle.tcp_machine.specs.OnSegment.{on_segment}
 use Rattle.tcp_machine.specs.OnTick.{on_tick}
 use Rattle.uip_node.specs.Laws.{HasBytes}
 use Rattle.uip_node.proofs.Fits.{all_nil}
-use Rattle.node_laws.specs.Speakers.{SaysBytes}
-use Rattle.node_laws.proofs.EveryTurn.{page_bytes}
+use Rattle.node_laws.specs.Speakers.{SendsBytes}
+use Rattle.node_laws.proofs.EveryTraceConforms.{page_bytes}
 use Rattle.node_laws.proofs.Hearing.{HeardBytes, asked_bytes, on_segment_bytes, on_tick_bytes}
 use Rattle.link_world.proofs.SaidBytes.{SaysBytesWhere}
-use Rattle.telnet_shell.specs.DeskMeaning.{desk_meaning}
+use Rattle.telnet_shell.specs.DeskMeaning.{desk_spec}
 use Rattle.telnet_shell.proofs.TwoBytes.{desk_bytes}
 
 module _ (site : SiteContent) (loaded : IsLoaded site) (page : HasBytes (pages_of (files_of site))) where
   abbrev files : List File
   files = files_of site
 
-  abbrev desk : Meaning
-  desk = desk_meaning (files_of site)
+  abbrev desk : AppSpec
+  desk = desk_spec (files_of site)
 
-  says_bytes : SaysBytes desk
-  says_bytes = desk_bytes files (page_bytes (web_meaning files) (pages_of files) (keeps_page_laws site loaded) page)
+  says_bytes : SendsBytes desk
+  says_bytes = desk_bytes files (page_bytes (web_spec files) (pages_of files) (keeps_page_laws site loaded) page)
 
-  -- so what has to be known of a connection is that it has heard bytes
+  -- what must be known of a connection is that it has received bytes
   pub desk_says : SaysBytesWhere desk HeardBytes
   desk_says = record {
     closed_knows = all_nil IsByte;
     accepted_knows = λ first sockets s. all_nil IsByte;
     segment_knows = λ at c numbers s are h. asked_bytes desk says_bytes at (on_segment desk c numbers s) (on_segment_bytes desk says_bytes c numbers s are h);
     tick_knows = λ at c numbers h. asked_bytes desk says_bytes at (on_tick desk c numbers) (on_tick_bytes desk says_bytes c numbers h);
-    says = λ c f h. says_bytes.said c.part h f.captures;
+    says = λ c f h. says_bytes.output c.part h f.captures;
   }

@@ -1,37 +1,37 @@
--- How the desk speaks to the clients of each port: by the shell's talk at port 23, and by the pages of its files at any other.
+-- The output model of the desk at each port: the shell's session at port 23, and the pages of its files at any other.
 use Rattle.std.specs.List.{All}
 use Rattle.std.proofs.Common.{◌≡◌, ℕ, ◌<◌, ◌≤◌, ◌==◌, Bool, true, false, not, inl, inr, List, [], ◌++◌, length, refl, sym, ap, ◌∙◌, subst, arith, append-nil, if◌then◌else◌}
 use Rattle.std.proofs.lemmas.Bool.{eqb-true}
-use Rattle.app_events.specs.Pages.{IsMoment, IsPaged, MayWant}
-use Rattle.app_events.specs.Part.{Meaning, Moment, Part}
+use Rattle.app_events.specs.Pages.{IsSnapshot, IsPaged, MayWant}
+use Rattle.app_events.specs.AppSpec.{AppSpec, Snapshot, AppState}
 use Rattle.app_events.specs.declared.now.Now.{Now}
 use Rattle.app_events.specs.declared.want.Want.{Want}
 use Rattle.app_events.specs.declared.want.Want.TheVariants.{Close}
 use Rattle.site_image.specs.Files.{File}
 use Rattle.file_tree.specs.Site.{SiteContent, IsLoaded, files_of}
 use Rattle.web_pages.specs.Pages.{pages_of}
-use Rattle.web_pages.specs.WebMeaning.{web_meaning}
+use Rattle.web_pages.specs.WebMeaning.{web_spec}
 use Rattle.web_pages.proofs.PageLaws.{keeps_page_laws}
 use Rattle.uip_node.proofs.Basics.{choose, not-true}
 use Rattle.link_world.specs.Headline.{IsServed}
 use Rattle.link_world.specs.World.{World, Side}
 use Rattle.link_world.proofs.Prefix.{AtPorts}
-use Rattle.link_world.proofs.Speaking.{HearsSome, KeepsHeard, Speaker, Speaks, page_by}
+use Rattle.link_world.proofs.Speaking.{HearsSome, KeepsHeard, Speaker, HasOutputModel, page_by}
 use Rattle.telnet_shell.specs.declared.shell.TheConstants.{TELNET_PORT}
-use Rattle.telnet_shell.specs.DeskMeaning.{desk_meaning, meaning_at}
-use Rattle.telnet_shell.specs.DeskStands.{at_shell, at_web}
+use Rattle.telnet_shell.specs.DeskMeaning.{desk_spec, app_spec_at}
+use Rattle.telnet_shell.specs.DeskRepresents.{at_shell, at_web}
 use Rattle.telnet_shell.specs.Lemmas.DeskLaws.{KeepsPort}
-use Rattle.telnet_shell.specs.ShellMeaning.{is_stopped, shell_meaning, take_capture}
-use Rattle.telnet_shell.specs.Talks.{HearsFront, talks}
+use Rattle.telnet_shell.specs.ShellMeaning.{is_stopped, shell_spec, take_capture}
+use Rattle.telnet_shell.specs.Traces.{DeliversPrefix, sessions}
 use Rattle.telnet_shell.proofs.DeskSteady.{desk_steady}
-use Rattle.telnet_shell.proofs.TalkLaws.{keeps_talk}
+use Rattle.telnet_shell.proofs.SessionLaws.{keeps_session}
 use Rattle.telnet_shell.proofs.TwoApplications.{two_applications}
-use Rattle.desk_world.proofs.ShortTalks.{talks_short}
+use Rattle.desk_world.proofs.ShortSessions.{sessions_short}
 
-abbrev pub talk_speaker : Speaker
-talk_speaker = record {
-  text = talks.text;
-  whole = talks.whole;
+abbrev pub session_speaker : Speaker
+session_speaker = record {
+  text = sessions.text;
+  whole = sessions.whole;
   at = λ port. port == TELNET_PORT;
   here = λ p. p.port == TELNET_PORT;
   lost = λ p. p.own == 1;
@@ -47,142 +47,142 @@ web_speaker files = record {
 }
 
 -- what holds of each application holds of the desk at its port
-as_shell : (files : List File) (port : ℕ) (P : Meaning → Type 0) → (port == TELNET_PORT) ≡ true → P shell_meaning → P (meaning_at files port)
+as_shell : (files : List File) (port : ℕ) (P : AppSpec → Type 0) → (port == TELNET_PORT) ≡ true → P shell_spec → P (app_spec_at files port)
 as_shell files port P h x = subst P (sym (at_shell files port h)) x
 
-as_web : (files : List File) (port : ℕ) (P : Meaning → Type 0) → not (port == TELNET_PORT) ≡ true → P (web_meaning files) → P (meaning_at files port)
+as_web : (files : List File) (port : ℕ) (P : AppSpec → Type 0) → not (port == TELNET_PORT) ≡ true → P (web_spec files) → P (app_spec_at files port)
 as_web files port P h x = subst P (sym (at_web files port (not-true (port == TELNET_PORT) h))) x
 
 module _ (site : SiteContent) (loaded : IsLoaded site) where
   abbrev files : List File
   files = files_of site
 
-  abbrev desk : Meaning
-  desk = desk_meaning (files_of site)
+  abbrev desk : AppSpec
+  desk = desk_spec (files_of site)
 
   keeps_port : KeepsPort desk
   keeps_port = two_applications.port files
 
   -- ---- the shell's talk
 
-  short_talk : (q : List ℕ) (k : List Moment) → length q ≤ 4096 → All IsMoment k → length (talks.text q k) < 1073741824
-  short_talk q k l all = omega (arith, talks_short q k all, l)
+  short_session : (q : List ℕ) (k : List Snapshot) → length q ≤ 4096 → All IsSnapshot k → length (sessions.text q k) < 1073741824
+  short_session q k l all = omega (arith, sessions_short q k all, l)
 
-  still_talk : (p q : Part) → q.port ≡ p.port → talk_speaker.here p ≡ true → talk_speaker.here q ≡ true
-  still_talk p q e h = ap (λ (n : ℕ). n == TELNET_PORT) e ∙ h
+  still_session : (p q : AppState) → q.port ≡ p.port → session_speaker.here p ≡ true → session_speaker.here q ≡ true
+  still_session p q e h = ap (λ (n : ℕ). n == TELNET_PORT) e ∙ h
 
-  talk_hears : (numbers : List ℕ) (p : Part) (piece : List ℕ) → talk_speaker.here p ≡ true → HearsSome talk_speaker p (desk.newdata numbers p piece).part piece
-  talk_hears numbers p piece h =
-      let f : HearsFront p (shell_meaning.newdata numbers p piece).part piece = keeps_talk.hears numbers p piece in
+  session_hears : (numbers : List ℕ) (p : AppState) (piece : List ℕ) → session_speaker.here p ≡ true → HearsSome session_speaker p (desk.newdata numbers p piece).part piece
+  session_hears numbers p piece h =
+      let f : DeliversPrefix p (shell_spec.newdata numbers p piece).part piece = keeps_session.hears numbers p piece in
       let port : (desk.newdata numbers p piece).part.port ≡ p.port = keeps_port.newdata numbers p piece in
-      as_shell files p.port (λ m. (m.newdata numbers p piece).part.port ≡ p.port → HearsSome talk_speaker p (m.newdata numbers p piece).part piece) h
+      as_shell files p.port (λ m. (m.newdata numbers p piece).part.port ≡ p.port → HearsSome session_speaker p (m.newdata numbers p piece).part piece) h
       (λ e. record {
-        here = still_talk p (shell_meaning.newdata numbers p piece).part e h;
-        front = f.front;
+        here = still_session p (shell_spec.newdata numbers p piece).part e h;
+        prefix = f.prefix;
         rest = f.rest;
         joined = f.joined;
-        heard = f.heard;
+        delivered = f.delivered;
         all = elim (f.all) [ inl e ↦ inl e | inr e ↦ inr (ap (λ (n : ℕ). n == 1) e) ];
         no_more = λ l. (let own : p.own ≡ 1 = eqb-true p.own 1 l in (
-          keeps_talk.hears_no_more numbers p piece own,
-          ap (λ (n : ℕ). n == 1) (keeps_talk.stays_lost numbers p piece own),
+          keeps_session.hears_no_more numbers p piece own,
+          ap (λ (n : ℕ). n == 1) (keeps_session.stays_lost numbers p piece own),
         ));
       }) port
 
-  -- a call that leaves what was heard
-  talk_keeps : (p q : Part) → q.port ≡ p.port → talk_speaker.here p ≡ true → (q.heard ≡ p.heard) × (q.own ≡ p.own) → KeepsHeard talk_speaker p q
-  talk_keeps p q e h x = record { here = still_talk p q e h; heard = x.0; lost = ap (λ (n : ℕ). n == 1) x.1 }
+  -- a call that leaves what was received unchanged
+  session_keeps : (p q : AppState) → q.port ≡ p.port → session_speaker.here p ≡ true → (q.delivered ≡ p.delivered) × (q.own ≡ p.own) → KeepsHeard session_speaker p q
+  session_keeps p q e h x = record { here = still_session p q e h; delivered = x.0; lost = ap (λ (n : ℕ). n == 1) x.1 }
 
-  talk_prepares : (numbers : List ℕ) (p : Part) (now : Now) → talk_speaker.here p ≡ true → KeepsHeard talk_speaker p (desk.prepare numbers p now)
-  talk_prepares numbers p now h =
-      as_shell files p.port (λ m. (m.prepare numbers p now).port ≡ p.port → KeepsHeard talk_speaker p (m.prepare numbers p now)) h
-      (λ e. talk_keeps p (shell_meaning.prepare numbers p now) e h
-      (choose (λ (q : Part). (q.heard ≡ p.heard) × (q.own ≡ p.own)) (is_stopped p) (take_capture numbers p now) p (λ s. (refl, refl)) (λ s. (refl, refl))))
+  session_prepares : (numbers : List ℕ) (p : AppState) (now : Now) → session_speaker.here p ≡ true → KeepsHeard session_speaker p (desk.prepare numbers p now)
+  session_prepares numbers p now h =
+      as_shell files p.port (λ m. (m.prepare numbers p now).port ≡ p.port → KeepsHeard session_speaker p (m.prepare numbers p now)) h
+      (λ e. session_keeps p (shell_spec.prepare numbers p now) e h
+      (choose (λ (q : AppState). (q.delivered ≡ p.delivered) × (q.own ≡ p.own)) (is_stopped p) (take_capture numbers p now) p (λ s. (refl, refl)) (λ s. (refl, refl))))
       (keeps_port.prepare numbers p now)
 
-  talk_acked : (numbers : List ℕ) (p : Part) (n : ℕ) → talk_speaker.here p ≡ true → KeepsHeard talk_speaker p (desk.acked numbers p n).part
-  talk_acked numbers p n h =
-      as_shell files p.port (λ m. (m.acked numbers p n).part.port ≡ p.port → KeepsHeard talk_speaker p (m.acked numbers p n).part) h
-      (λ e. talk_keeps p (shell_meaning.acked numbers p n).part e h (refl, refl)) (keeps_port.acked numbers p n)
+  session_acked : (numbers : List ℕ) (p : AppState) (n : ℕ) → session_speaker.here p ≡ true → KeepsHeard session_speaker p (desk.acked numbers p n).part
+  session_acked numbers p n h =
+      as_shell files p.port (λ m. (m.acked numbers p n).part.port ≡ p.port → KeepsHeard session_speaker p (m.acked numbers p n).part) h
+      (λ e. session_keeps p (shell_spec.acked numbers p n).part e h (refl, refl)) (keeps_port.acked numbers p n)
 
-  talk_polled : (numbers : List ℕ) (p : Part) → talk_speaker.here p ≡ true → KeepsHeard talk_speaker p (desk.polled numbers p).part
-  talk_polled numbers p h =
-      as_shell files p.port (λ m. (m.polled numbers p).part.port ≡ p.port → KeepsHeard talk_speaker p (m.polled numbers p).part) h
-      (λ e. talk_keeps p (shell_meaning.polled numbers p).part e h (refl, refl)) (keeps_port.polled numbers p)
+  session_polled : (numbers : List ℕ) (p : AppState) → session_speaker.here p ≡ true → KeepsHeard session_speaker p (desk.polled numbers p).part
+  session_polled numbers p h =
+      as_shell files p.port (λ m. (m.polled numbers p).part.port ≡ p.port → KeepsHeard session_speaker p (m.polled numbers p).part) h
+      (λ e. session_keeps p (shell_spec.polled numbers p).part e h (refl, refl)) (keeps_port.polled numbers p)
 
-  talk_closes : (numbers : List ℕ) (p : Part) → talk_speaker.here p ≡ true → p.acked ≤ length (desk.said p) → desk.want numbers p ≡ Close → MayWant (page_by talk_speaker) p Close
-  talk_closes numbers p h =
-      as_shell files p.port (λ m. p.acked ≤ length (m.said p) → m.want numbers p ≡ Close → MayWant (page_by talk_speaker) p Close) h
-      (λ fits e. subst (λ (w : Want). MayWant talks p w) e (keeps_talk.wants numbers p fits))
+  session_closes : (numbers : List ℕ) (p : AppState) → session_speaker.here p ≡ true → p.acked ≤ length (desk.output p) → desk.want numbers p ≡ Close → MayWant (page_by session_speaker) p Close
+  session_closes numbers p h =
+      as_shell files p.port (λ m. p.acked ≤ length (m.output p) → m.want numbers p ≡ Close → MayWant (page_by session_speaker) p Close) h
+      (λ fits e. subst (λ (w : Want). MayWant sessions p w) e (keeps_session.wants numbers p fits))
 
-  talk_speaks : Speaks desk talk_speaker
-  talk_speaks = record {
+  session_speaks : HasOutputModel desk session_speaker
+  session_speaks = record {
     steady = desk_steady site loaded;
-    grows = keeps_talk.grows;
-    stays = keeps_talk.stays;
-    stays_whole = keeps_talk.stays_whole;
-    short = short_talk;
-    said = λ p h. as_shell files p.port (λ m. m.said p ≡ talks.text p.heard p.captures) h (keeps_talk.said p);
+    grows = keeps_session.grows;
+    stays = keeps_session.stays;
+    stays_whole = keeps_session.stays_whole;
+    short = short_session;
+    output = λ p h. as_shell files p.port (λ m. m.output p ≡ sessions.text p.delivered p.captures) h (keeps_session.output p);
     connected_here = λ numbers port h. ap (λ (n : ℕ). n == TELNET_PORT) (keeps_port.connected numbers port) ∙ h;
-    connected_heard = λ numbers port h. as_shell files port (λ m. (m.connected numbers port).part.heard ≡ []) h refl;
-    newdata = talk_hears;
-    prepare = talk_prepares;
-    acked = talk_acked;
-    polled = talk_polled;
-    closes = talk_closes;
+    connected_heard = λ numbers port h. as_shell files port (λ m. (m.connected numbers port).part.delivered ≡ []) h refl;
+    newdata = session_hears;
+    prepare = session_prepares;
+    acked = session_acked;
+    polled = session_polled;
+    closes = session_closes;
   }
 
   -- ---- the pages of its files
 
-  web_laws : IsPaged (web_meaning files) (pages_of files)
+  web_laws : IsPaged (web_spec files) (pages_of files)
   web_laws = keeps_page_laws site loaded
 
-  still_web : (p q : Part) → q.port ≡ p.port → (web_speaker files).here p ≡ true → (web_speaker files).here q ≡ true
+  still_web : (p q : AppState) → q.port ≡ p.port → (web_speaker files).here p ≡ true → (web_speaker files).here q ≡ true
   still_web p q e h = ap (λ (n : ℕ). not (n == TELNET_PORT)) e ∙ h
 
-  web_keeps : (p q : Part) → q.port ≡ p.port → (web_speaker files).here p ≡ true → q.heard ≡ p.heard → KeepsHeard (web_speaker files) p q
-  web_keeps p q e h x = record { here = still_web p q e h; heard = x; lost = refl }
+  web_keeps : (p q : AppState) → q.port ≡ p.port → (web_speaker files).here p ≡ true → q.delivered ≡ p.delivered → KeepsHeard (web_speaker files) p q
+  web_keeps p q e h x = record { here = still_web p q e h; delivered = x; lost = refl }
 
-  web_hears : (numbers : List ℕ) (p : Part) (piece : List ℕ) → (web_speaker files).here p ≡ true → HearsSome (web_speaker files) p (desk.newdata numbers p piece).part piece
+  web_hears : (numbers : List ℕ) (p : AppState) (piece : List ℕ) → (web_speaker files).here p ≡ true → HearsSome (web_speaker files) p (desk.newdata numbers p piece).part piece
   web_hears numbers p piece h = record {
     here = still_web p (desk.newdata numbers p piece).part (keeps_port.newdata numbers p piece) h;
-    front = piece;
+    prefix = piece;
     rest = [];
     joined = append-nil piece;
-    heard = as_web files p.port (λ m. (m.newdata numbers p piece).part.heard ≡ p.heard ++ piece) h (web_laws.newdata_heard numbers p piece);
+    delivered = as_web files p.port (λ m. (m.newdata numbers p piece).part.delivered ≡ p.delivered ++ piece) h (web_laws.newdata_heard numbers p piece);
     all = inl refl;
     no_more = λ e. absurd (cc);
   }
 
-  web_closes : (numbers : List ℕ) (p : Part) → (web_speaker files).here p ≡ true → p.acked ≤ length (desk.said p) → desk.want numbers p ≡ Close → MayWant (page_by (web_speaker files)) p Close
+  web_closes : (numbers : List ℕ) (p : AppState) → (web_speaker files).here p ≡ true → p.acked ≤ length (desk.output p) → desk.want numbers p ≡ Close → MayWant (page_by (web_speaker files)) p Close
   web_closes numbers p h fits =
       as_web files p.port (λ m. m.want numbers p ≡ Close → MayWant (page_by (web_speaker files)) p Close) h
       (λ e. subst (λ (w : Want). MayWant (pages_of files) p w) e (web_laws.wants numbers p))
 
-  web_speaks : Speaks desk (web_speaker files)
+  web_speaks : HasOutputModel desk (web_speaker files)
   web_speaks = record {
     steady = desk_steady site loaded;
     grows = web_laws.grows;
     stays = web_laws.stays;
     stays_whole = web_laws.stays_whole;
     short = λ q k l all. web_laws.short q k all;
-    said = λ p h. as_web files p.port (λ m. m.said p ≡ (pages_of files).text p.heard p.captures) h (web_laws.said p);
+    output = λ p h. as_web files p.port (λ m. m.output p ≡ (pages_of files).text p.delivered p.captures) h (web_laws.output p);
     connected_here = λ numbers port h. ap (λ (n : ℕ). not (n == TELNET_PORT)) (keeps_port.connected numbers port) ∙ h;
-    connected_heard = λ numbers port h. as_web files port (λ m. (m.connected numbers port).part.heard ≡ []) h (web_laws.connected_heard numbers port);
+    connected_heard = λ numbers port h. as_web files port (λ m. (m.connected numbers port).part.delivered ≡ []) h (web_laws.connected_heard numbers port);
     newdata = web_hears;
-    prepare = λ numbers p now h. web_keeps p (desk.prepare numbers p now) (keeps_port.prepare numbers p now) h (as_web files p.port (λ m. (m.prepare numbers p now).heard ≡ p.heard) h (web_laws.prepare_heard numbers p now));
-    acked = λ numbers p n h. web_keeps p (desk.acked numbers p n).part (keeps_port.acked numbers p n) h (as_web files p.port (λ m. (m.acked numbers p n).part.heard ≡ p.heard) h (web_laws.acked_like numbers p n));
-    polled = λ numbers p h. web_keeps p (desk.polled numbers p).part (keeps_port.polled numbers p) h (as_web files p.port (λ m. (m.polled numbers p).part.heard ≡ p.heard) h (web_laws.polled_like numbers p).heard);
+    prepare = λ numbers p now h. web_keeps p (desk.prepare numbers p now) (keeps_port.prepare numbers p now) h (as_web files p.port (λ m. (m.prepare numbers p now).delivered ≡ p.delivered) h (web_laws.prepare_heard numbers p now));
+    acked = λ numbers p n h. web_keeps p (desk.acked numbers p n).part (keeps_port.acked numbers p n) h (as_web files p.port (λ m. (m.acked numbers p n).part.delivered ≡ p.delivered) h (web_laws.acked_like numbers p n));
+    polled = λ numbers p h. web_keeps p (desk.polled numbers p).part (keeps_port.polled numbers p) h (as_web files p.port (λ m. (m.polled numbers p).part.delivered ≡ p.delivered) h (web_laws.polled_like numbers p).delivered);
     closes = web_closes;
   }
 
   -- ---- at each port
 
   abbrev pub speaker_by : Bool → Speaker
-  speaker_by shell = if shell then talk_speaker else web_speaker files
+  speaker_by shell = if shell then session_speaker else web_speaker files
 
-  pub speaks_by : (shell : Bool) → Speaks desk (speaker_by shell)
-  speaks_by true = talk_speaks
+  pub speaks_by : (shell : Bool) → HasOutputModel desk (speaker_by shell)
+  speaks_by true = session_speaks
   speaks_by false = web_speaks
 
   pub there_by : (port : ℕ) (shell : Bool) → (port == TELNET_PORT) ≡ shell → (speaker_by shell).at port ≡ true
@@ -197,6 +197,6 @@ module _ (site : SiteContent) (loaded : IsLoaded site) where
   }
 
   -- what is served by a speaker is due
-  pub served_due : (w : World) (side : Side) (shell : Bool) → IsServed (page_by (speaker_by shell)) w side → IsServed (if shell then talks else pages_of files) w side
+  pub served_due : (w : World) (side : Side) (shell : Bool) → IsServed (page_by (speaker_by shell)) w side → IsServed (if shell then sessions else pages_of files) w side
   served_due w side true h = record { prefix = h.prefix; all = h.all; whole = h.whole }
   served_due w side false h = record { prefix = h.prefix; all = h.all; whole = h.whole }

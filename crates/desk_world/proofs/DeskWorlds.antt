@@ -1,6 +1,6 @@
 -- The laws of the link world at the desk.
 use Rattle.std.proofs.Common.{◌==◌, inl, inr}
-use Rattle.app_events.specs.Part.{Meaning}
+use Rattle.app_events.specs.AppSpec.{AppSpec}
 use Rattle.file_tree.specs.Site.{SiteContent, IsLoaded, files_of}
 use Rattle.web_pages.specs.Pages.{pages_of}
 use Rattle.node_laws.proofs.Hearing.{HeardBytes}
@@ -12,7 +12,7 @@ use Rattle.link_world.proofs.Runs.{reached_plainly, reached_where}
 use Rattle.link_world.proofs.Same.{again_exactly_plainly, again_exactly_where, same_bytes_plainly, same_bytes_where}
 use Rattle.link_world.proofs.Ticks.{tick}
 use Rattle.telnet_shell.specs.declared.shell.TheConstants.{TELNET_PORT}
-use Rattle.telnet_shell.specs.DeskMeaning.{desk_meaning}
+use Rattle.telnet_shell.specs.DeskMeaning.{desk_spec}
 use Rattle.telnet_shell.proofs.DeskSteady.{desk_steady}
 use Rattle.desk_world.specs.DeskWorlds.{DeskMarksRepeats, DeskOneSegment, DeskRepeatsSameBytes, DeskSendsAgain, DeskServes, IsReachedByDesk}
 use Rattle.desk_world.proofs.DeskBytes.{desk_says}
@@ -20,22 +20,22 @@ use Rattle.desk_world.proofs.DeskSpeakers.{desk_ports, served_due}
 
 pub repeats_same_bytes : DeskRepeatsSameBytes
 repeats_same_bytes site loaded w r = elim r [
-  | inl any ↦ same_bytes_where (desk_meaning (files_of site)) (pages_of (files_of site)) (desk_steady site loaded) HeardBytes (desk_says site loaded) w any
-  | inr plain ↦ same_bytes_plainly (desk_meaning (files_of site)) (desk_steady site loaded) w plain
+  | inl any ↦ same_bytes_where (desk_spec (files_of site)) (pages_of (files_of site)) (desk_steady site loaded) HeardBytes (desk_says site loaded) w any
+  | inr plain ↦ same_bytes_plainly (desk_spec (files_of site)) (desk_steady site loaded) w plain
 ]
 
 pub marks_repeats : DeskMarksRepeats
 marks_repeats site loaded w r = elim r [
-  | inl any ↦ again_exactly_where (desk_meaning (files_of site)) (pages_of (files_of site)) (desk_steady site loaded) HeardBytes (desk_says site loaded) w any
-  | inr plain ↦ again_exactly_plainly (desk_meaning (files_of site)) (desk_steady site loaded) w plain
+  | inl any ↦ again_exactly_where (desk_spec (files_of site)) (pages_of (files_of site)) (desk_steady site loaded) HeardBytes (desk_says site loaded) w any
+  | inr plain ↦ again_exactly_plainly (desk_spec (files_of site)) (desk_steady site loaded) w plain
 ]
 
 pub sends_again : DeskSendsAgain
-sends_again site served n slot c at x = tick (desk_meaning (files_of site)) served n slot c at x
+sends_again site served n slot c at x = tick (desk_spec (files_of site)) served n slot c at x
 
 module _ (site : SiteContent) (loaded : IsLoaded site) where
-  abbrev desk : Meaning
-  desk = desk_meaning (files_of site)
+  abbrev desk : AppSpec
+  desk = desk_spec (files_of site)
 
   abbrev ports : AtPorts desk
   ports = desk_ports site loaded
@@ -53,10 +53,10 @@ module _ (site : SiteContent) (loaded : IsLoaded site) where
 pub serves : DeskServes
 serves site loaded w r k side x clean =
     served_due site loaded w side (side.client.setup.server_port.0 == TELNET_PORT)
-    (served_in (desk_meaning (files_of site)) (desk_ports site loaded) w (walked site loaded w r) k side x clean)
+    (served_in (desk_spec (files_of site)) (desk_ports site loaded) w (walked site loaded w r) k side x clean)
 
 pub one_segment : DeskOneSegment
 one_segment site loaded w r = elim r [
-  | inl any ↦ in_step_where (desk_meaning (files_of site)) (desk_ports site loaded) (pages_of (files_of site)) HeardBytes (desk_says site loaded) w any
-  | inr plain ↦ in_step_plainly (desk_meaning (files_of site)) (desk_ports site loaded) w plain
+  | inl any ↦ in_step_where (desk_spec (files_of site)) (desk_ports site loaded) (pages_of (files_of site)) HeardBytes (desk_says site loaded) w any
+  | inr plain ↦ in_step_plainly (desk_spec (files_of site)) (desk_ports site loaded) w plain
 ]

@@ -1,5 +1,5 @@
 pub mod DeskWorlds
-pub mod ShortTalks
+pub mod ShortSessions
 pub mod DeskSpeakers
 pub mod DeskBytes
 pub mod Worked

@@ -1,22 +1,25 @@
-ghost use Rattle.desk_world.specs.DeskWorlds.{DeskMarksRepeats, DeskOneSegment, DeskRepeatsSameBytes, DeskSendsAgain, DeskServes, TalksAreShort};
+//! The laws of the link world for the desk. Each is the clause of a function without parameters.
+
+ghost use Rattle.desk_world.specs.DeskWorlds.{DeskMarksRepeats, DeskOneSegment, DeskRepeatsSameBytes, DeskSendsAgain, DeskServes, SessionsAreShort};
 ghost use Rattle.desk_world.specs.Worked.{AreWorkedWorlds};
 
-/// A clean client has received a front of what is due at its port, a page or a talk, and all of it where it saw a plain close.
+/// A clean client has received a prefix of the text that is due at its port, a page or a session, and all of it if it saw a
+/// normal close.
 pub fn desk_serves()
     ensures { DeskServes }
 {}
 
-/// A talk says at most 1,032 bytes for each byte that is heard.
-pub fn talks_are_short()
-    ensures { TalksAreShort }
+/// A session sends at most 1,032 bytes for each byte received.
+pub fn sessions_are_short()
+    ensures { SessionsAreShort }
 {}
 
-/// What is sent again, of a page or of a talk, has the number, flags and text of the first time.
+/// A retransmission, of a page or of a session, has the number, flags and text of the first sending.
 pub fn desk_repeats_same_bytes()
     ensures { DeskRepeatsSameBytes }
 {}
 
-/// Exactly what is sent again is marked so.
+/// Exactly the retransmissions are marked.
 pub fn desk_marks_repeats()
     ensures { DeskMarksRepeats }
 {}
@@ -31,7 +34,7 @@ pub fn desk_sends_again()
     ensures { DeskSendsAgain }
 {}
 
-/// Worked by hand: schedules of the desk, with what their clients have at the end.
+/// Schedules of the desk that were worked by hand, with what their clients have at the end.
 pub fn worked_worlds()
     ensures { AreWorkedWorlds }
 {}

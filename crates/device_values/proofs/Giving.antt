@@ -1,4 +1,4 @@
--- A value that is given is shown, and the others stay.
+-- A value that is set is shown, and the others stay.
 use Rattle.std.specs.List.{All}
 use Rattle.std.proofs.Common.{◌≡◌, ℕ, ◌+◌, ◌-◌, ◌*◌, ◌%◌, ◌<◌, ◌≤◌, Bool, true, false, List, ◌∷◌, ◌++◌, drop, get_or, length, ltb, map, min, replicate, take, refl, sym, ap, ◌∙◌, append_assoc, arith, length-append}
 use Rattle.std.proofs.lemmas.Bool.{ltb-false, ltb-true}
@@ -8,7 +8,7 @@ use Rattle.app_events.specs.Pages.{IsByte}
 use Rattle.device_values.specs.Values.{GivenIsShown, value_given, value_of}
 use Rattle.device_values.proofs.Bytes.{low_same}
 
--- a value is told by its length and by its 32 bytes
+-- a value is determined by its length and by its 32 bytes
 abbrev bytes_at : List ℕ → ℕ → List ℕ
 bytes_at own n = take 32 (drop (33 * n + 1) own)
 
@@ -24,37 +24,37 @@ same_value : (xs ys : List ℕ) (n : ℕ) → get_or xs (33 * n) 0 ≡ get_or ys
 same_value xs ys n len bytes =
     value_told xs n ∙ (λ i. value_by (len i) (bytes i)) ∙ sym (value_told ys n)
 
--- a value in front of others
-bytes_in_front : (front more : List ℕ) (n : ℕ) → 33 * n + 33 ≤ length front → bytes_at (front ++ more) n ≡ bytes_at front n
-bytes_in_front front more n within =
-    ap (λ l. take 32 l) (drop-append-le (33 * n + 1) front more (omega (arith, within)))
-    ∙ take-append-le 32 (drop (33 * n + 1) front) more (omega (arith, length-drop (33 * n + 1) front, within))
+-- a value before others
+bytes_in_prefix : (prefix more : List ℕ) (n : ℕ) → 33 * n + 33 ≤ length prefix → bytes_at (prefix ++ more) n ≡ bytes_at prefix n
+bytes_in_prefix prefix more n within =
+    ap (λ l. take 32 l) (drop-append-le (33 * n + 1) prefix more (omega (arith, within)))
+    ∙ take-append-le 32 (drop (33 * n + 1) prefix) more (omega (arith, length-drop (33 * n + 1) prefix, within))
 
-same_in_front : (front more others : List ℕ) (n : ℕ) → 33 * n + 33 ≤ length front → value_of (front ++ more) n ≡ value_of (front ++ others) n
-same_in_front front more others n within =
-    let inside : 33 * n < length front = omega (arith, within) in
-    same_value (front ++ more) (front ++ others) n
-    (get_or_append_left front more 0 (33 * n) inside ∙ sym (get_or_append_left front others 0 (33 * n) inside))
-    (bytes_in_front front more n within ∙ sym (bytes_in_front front others n within))
+same_in_prefix : (prefix more others : List ℕ) (n : ℕ) → 33 * n + 33 ≤ length prefix → value_of (prefix ++ more) n ≡ value_of (prefix ++ others) n
+same_in_prefix prefix more others n within =
+    let inside : 33 * n < length prefix = omega (arith, within) in
+    same_value (prefix ++ more) (prefix ++ others) n
+    (get_or_append_left prefix more 0 (33 * n) inside ∙ sym (get_or_append_left prefix others 0 (33 * n) inside))
+    (bytes_in_prefix prefix more n within ∙ sym (bytes_in_prefix prefix others n within))
 
--- and behind others
-bytes_behind : (front more : List ℕ) (n : ℕ) → length front ≤ 33 * n → bytes_at (front ++ more) n ≡ take 32 (drop (33 * n + 1 - length front) more)
-bytes_behind front more n past =
-    let split : 33 * n + 1 ≡ length front + (33 * n + 1 - length front) = omega (arith, past) in
-    ap (λ k. take 32 (drop k (front ++ more))) split ∙ ap (λ l. take 32 l) (drop-append-add front more (33 * n + 1 - length front))
+-- and after others
+trailing_bytes : (prefix more : List ℕ) (n : ℕ) → length prefix ≤ 33 * n → bytes_at (prefix ++ more) n ≡ take 32 (drop (33 * n + 1 - length prefix) more)
+trailing_bytes prefix more n history =
+    let split : 33 * n + 1 ≡ length prefix + (33 * n + 1 - length prefix) = omega (arith, history) in
+    ap (λ k. take 32 (drop k (prefix ++ more))) split ∙ ap (λ l. take 32 l) (drop-append-add prefix more (33 * n + 1 - length prefix))
 
-same_behind : (front other more : List ℕ) (n : ℕ) → length front ≡ length other → length front ≤ 33 * n → value_of (front ++ more) n ≡ value_of (other ++ more) n
-same_behind front other more n same past =
-    let past_other : length other ≤ 33 * n = omega (arith, same, past) in
-    same_value (front ++ more) (other ++ more) n
-    (get_or-append_right front more (length front) (33 * n) 0 refl past
+same_after : (prefix other more : List ℕ) (n : ℕ) → length prefix ≡ length other → length prefix ≤ 33 * n → value_of (prefix ++ more) n ≡ value_of (other ++ more) n
+same_after prefix other more n same history =
+    let past_other : length other ≤ 33 * n = omega (arith, same, history) in
+    same_value (prefix ++ more) (other ++ more) n
+    (get_or-append_right prefix more (length prefix) (33 * n) 0 refl history
     ∙ ap (λ k. get_or more (33 * n - k) 0) same
     ∙ sym (get_or-append_right other more (length other) (33 * n) 0 refl past_other))
-    (bytes_behind front more n past ∙ ap (λ k. take 32 (drop (33 * n + 1 - k) more)) same ∙ sym (bytes_behind other more n past_other))
+    (trailing_bytes prefix more n history ∙ ap (λ k. take 32 (drop (33 * n + 1 - k) more)) same ∙ sym (trailing_bytes other more n past_other))
 
 module _ (n : ℕ) (lt : n < 16) (text : List ℕ) (short : length text ≤ 32) (bytes : All IsByte text) (own : List ℕ) (long : length own ≡ 528) where
-  abbrev front : List ℕ
-  front = take (33 * n) own
+  abbrev prefix : List ℕ
+  prefix = take (33 * n) own
 
   abbrev behind : List ℕ
   behind = drop (33 * n + 33) own
@@ -65,8 +65,8 @@ module _ (n : ℕ) (lt : n < 16) (text : List ℕ) (short : length text ≤ 32) 
   abbrev row : List ℕ
   row = length text ∷ (text ++ zeros)
 
-  front_long : length front ≡ 33 * n
-  front_long = length-take-le (33 * n) own (omega (arith, lt, long))
+  prefix_long : length prefix ≡ 33 * n
+  prefix_long = length-take-le (33 * n) own (omega (arith, lt, long))
 
   padded_long : length (text ++ zeros) ≡ 32
   padded_long = omega (arith, length-append text zeros, length-replicate {A = ℕ} (32 - length text) 0, short)
@@ -74,23 +74,23 @@ module _ (n : ℕ) (lt : n < 16) (text : List ℕ) (short : length text ≤ 32) 
   row_long : length row ≡ 33
   row_long = omega (arith, padded_long)
 
-  head_long : length (front ++ row) ≡ 33 * n + 33
-  head_long = omega (arith, length-append front row, front_long, row_long)
+  head_long : length (prefix ++ row) ≡ 33 * n + 33
+  head_long = omega (arith, length-append prefix row, prefix_long, row_long)
 
-  from_front : value_given n text own ≡ front ++ (row ++ behind)
-  from_front = append_assoc front row behind
+  from_prefix : value_given n text own ≡ prefix ++ (row ++ behind)
+  from_prefix = append_assoc prefix row behind
 
   len_shown : get_or (value_given n text own) (33 * n) 0 ≡ length text
   len_shown =
-      ap (λ (l : List ℕ). get_or l (33 * n) 0) from_front ∙ ap (λ k. get_or (front ++ (row ++ behind)) k 0) (sym front_long)
-      ∙ get_or-append_seam front (length text) ((text ++ zeros) ++ behind) 0
+      ap (λ (l : List ℕ). get_or l (33 * n) 0) from_prefix ∙ ap (λ k. get_or (prefix ++ (row ++ behind)) k 0) (sym prefix_long)
+      ∙ get_or-append_seam prefix (length text) ((text ++ zeros) ++ behind) 0
 
   bytes_shown : bytes_at (value_given n text own) n ≡ text ++ zeros
   bytes_shown =
-      let here : 33 * n + 1 ≡ length front + 1 = omega (arith, front_long) in
-      ap (λ (l : List ℕ). take 32 (drop (33 * n + 1) l)) from_front
-      ∙ ap (λ k. take 32 (drop k (front ++ (row ++ behind)))) here
-      ∙ ap (λ (l : List ℕ). take 32 l) (drop-append-add front (row ++ behind) 1)
+      let here : 33 * n + 1 ≡ length prefix + 1 = omega (arith, prefix_long) in
+      ap (λ (l : List ℕ). take 32 (drop (33 * n + 1) l)) from_prefix
+      ∙ ap (λ k. take 32 (drop k (prefix ++ (row ++ behind)))) here
+      ∙ ap (λ (l : List ℕ). take 32 l) (drop-append-add prefix (row ++ behind) 1)
       ∙ take_at (text ++ zeros) behind 32 padded_long
 
   shown : value_of (value_given n text own) n ≡ text
@@ -108,14 +108,14 @@ module _ (n : ℕ) (lt : n < 16) (text : List ℕ) (short : length text ≤ 32) 
       by_place : (b c : Bool) → ltb other n ≡ b → ltb n other ≡ c → value_of (value_given n text own) other ≡ value_of own other
       by_place true c e f =
           let less : other < n = ltb-true other n e in
-          let within : 33 * other + 33 ≤ length front = omega (arith, less, front_long) in
-          ap (λ (l : List ℕ). value_of l other) from_front
-          ∙ same_in_front front (row ++ behind) (drop (33 * n) own) other within
+          let within : 33 * other + 33 ≤ length prefix = omega (arith, less, prefix_long) in
+          ap (λ (l : List ℕ). value_of l other) from_prefix
+          ∙ same_in_prefix prefix (row ++ behind) (drop (33 * n) own) other within
           ∙ ap (λ (l : List ℕ). value_of l other) (take-append-drop (33 * n) own)
       by_place false true e f =
           let more : n < other = ltb-true n other f in
           let kept : length (take (33 * n + 33) own) ≡ 33 * n + 33 = length-take-le (33 * n + 33) own (omega (arith, lt, long)) in
-          same_behind (front ++ row) (take (33 * n + 33) own) behind other (omega (arith, head_long, kept)) (omega (arith, head_long, more))
+          same_after (prefix ++ row) (take (33 * n + 33) own) behind other (omega (arith, head_long, kept)) (omega (arith, head_long, more))
           ∙ ap (λ (l : List ℕ). value_of l other) (take-append-drop (33 * n + 33) own)
       by_place false false e f =
           let one : n ≤ other = ltb-false other n e in
@@ -123,7 +123,7 @@ module _ (n : ℕ) (lt : n < 16) (text : List ℕ) (short : length text ≤ 32) 
           absurd (apart (omega (arith, one, two)))
 
   long_given : length (value_given n text own) ≡ 528
-  long_given = omega (arith, length-append (front ++ row) behind, head_long, length-drop (33 * n + 33) own, long, lt)
+  long_given = omega (arith, length-append (prefix ++ row) behind, head_long, length-drop (33 * n + 33) own, long, lt)
 
 pub given_is_shown : GivenIsShown
 given_is_shown n lt text short bytes own long = record {

@@ -1,4 +1,4 @@
--- A text that is spelled byte by byte.
+-- A text that is escaped byte by byte.
 use Rattle.std.proofs.Common.{◌≡◌, ℕ, ◌+◌, ◌<◌, List, ◌++◌, ap, ◌∙◌, flat_map, get_or, length, take}
 use Rattle.std.proofs.lemmas.List.{get_or_default}
 use Rattle.generators.proofs.Pasting.{flat_map_next}
@@ -7,5 +7,5 @@ use Rattle.generators.proofs.Pasting.{flat_map_next}
 pub one_more : (f : ℕ → List ℕ) (text before now : List ℕ) (at : ℕ) → before ≡ flat_map f (take at text) → now ≡ before ++ f (get_or text at 0)
     → at < length text → now ≡ flat_map f (take (at + 1) text)
 one_more f text before now at so_far is within =
-    is ∙ ap (λ front. front ++ f (get_or text at 0)) so_far
+    is ∙ ap (λ prefix. prefix ++ f (get_or text at 0)) so_far
     ∙ flat_map_next f text at (get_or text at 0) within (get_or_default text at 0 (get_or text at 0) within)

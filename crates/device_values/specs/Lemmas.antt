@@ -1,2 +1,2 @@
--- What is proved of the definitions beside: it need not be believed.
+-- Lemmas about the definitions of this crate; a reader need not believe them.
 pub mod Laws

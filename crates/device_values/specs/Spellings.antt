@@ -1,4 +1,4 @@
--- How the bytes of a value are spelled in a page.
+-- How the bytes of a value are escaped in a page.
 use Rattle.std.specs.Prelude.{ℕ, ◌+◌, ◌/◌, ◌%◌, ◌==◌, List, [], ◌∷◌, ◌++◌, codes, flat_map, nat_lt, if◌then◌else◌}
 use Rattle.device_values.specs.declared.spelling.Spelling.{Spelling}
 use Rattle.device_values.specs.declared.spelling.Spelling.TheVariants as spelling

@@ -1,4 +1,4 @@
--- The values of a device, as numbers: 33 for each of 16, its length first, and then its bytes in front.
+-- The values of a device, as numbers: 33 for each of 16, its length and then its bytes.
 use Rattle.std.specs.Prelude.{◌≡◌, ◌<◌, ◌≤◌, ℕ, ◌+◌, ◌-◌, ◌*◌, ◌%◌, List, [], ◌∷◌, ◌++◌, drop, length, map, min, nat_lt}
 use Rattle.std.specs.Prelude.{if◌then◌else◌, replicate, slice_range, take}
 use Rattle.std.specs.List.{All, slice_index_or}
@@ -6,25 +6,25 @@ use Rattle.std.specs.Option.{option_map_or}
 use Rattle.app_events.specs.Pages.{IsByte}
 use Rattle.uip_wire.specs.Numerals.{numeral}
 
--- no value was given
+-- No value is set.
 abbrev pub no_values : List ℕ
 no_values = replicate 528 0
 
--- the bytes of the value of a number
+-- The bytes of the value of a number.
 abbrev pub value_of : List ℕ → ℕ → List ℕ
 value_of own n =
     map (λ b. b % 256) (take (min 32 (slice_index_or own (33 * n) 0)) (slice_range own (33 * n + 1) (33 * n + 33)))
 
--- the bytes of the value whose number the argument is, 0 to 15 in decimal digits; none where it is no such number
+-- The bytes of the value whose number the argument is, 0 to 15 in decimal digits; none if it is no such number.
 abbrev pub value_named : List ℕ → List ℕ → List ℕ
 value_named own argument = option_map_or (λ n. if nat_lt n 16 then value_of own n else []) (numeral argument) []
 
--- the numbers after a text of at most 32 bytes was given for the value of a number
+-- The numbers after the value of a number is set to a text of at most 32 bytes.
 abbrev pub value_given : ℕ → List ℕ → List ℕ → List ℕ
 value_given n text own =
     take (33 * n) own ++ (length text ∷ text ++ replicate (32 - length text) 0) ++ drop (33 * n + 33) own
 
--- a text that is given for the value of a number is that value then, and each other value is what it was
+-- A text that is set for the value of a number is then that value, and every other value is unchanged.
 pub record IsGiven (n : ℕ) (text own : List ℕ) : Type 0 where
   pub long : length (value_given n text own) ≡ 528
   pub shown : value_of (value_given n text own) n ≡ text

@@ -20,7 +20,7 @@ word_named name =
     else if bytes_eq name (codes "value-html") then word.Value Html
     else word.Uip (function_named name)
 
--- each value takes a capture, one that was never given and one that there is not as well
+-- Each value takes a capture, even one that was never set and one that does not exist.
 abbrev pub word_takes : Word → Bool
 word_takes (word.Uip function) = takes_capture function
 word_takes (word.Value spelling) = true
@@ -34,12 +34,12 @@ word_at_most (word.Value Html) = 192
 abbrev pub word_calls : Calling Word
 word_calls = record { named = word_named; takes_capture = word_takes; length_at_most = word_at_most }
 
--- a value is said as it is when the call comes next
+-- The text of a value when its call is reached.
 abbrev pub word_said : Said Word
 word_said (word.Uip function) argument hits own now = uip_said function argument hits [] now
 word_said (word.Value spelling) argument hits own now = spelled spelling (value_named own argument)
 
--- what the scripts of a device give
+-- What the scripts of a device call.
 abbrev pub words : Giving Word
 words = gives word_calls word_said
 

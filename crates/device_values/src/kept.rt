@@ -1,6 +1,6 @@
 ghost use Rattle.std.specs.Prelude.{◌≡◌, ◌≤◌, length, take};
 
-/// The bytes that a value had.
+/// A copy of a value's bytes.
 #[derive(Drop)]
 pub struct Kept {
     pub len: u8,
@@ -9,7 +9,7 @@ pub struct Kept {
 }
 
 impl Kept {
-    /// The bytes.
+    /// Returns the bytes.
     pub(crate) fn text(&self) -> &[u8]
         ensures text { result.now ≡ take self.now.len self.now.bytes }
         ensures short { length result.now ≤ 32 }

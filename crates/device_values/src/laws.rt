@@ -1,8 +1,8 @@
-//! What is shown of a value that was given.
+//! The law of a value that is set.
 
 ghost use Rattle.device_values.specs.Values.{GivenIsShown};
 
-/// A value that was given is shown as it is, and every other value stays.
+/// A value that is set is shown as it is, and every other value is unchanged.
 pub fn given_is_shown()
     ensures { GivenIsShown }
 {}

@@ -1,4 +1,4 @@
-//! What a device shows of its own in its pages: sixteen values of at most 32 bytes, and the words by which a script shows one.
+//! The values that a device shows in its pages: sixteen values of at most 32 bytes, and the words by which a script shows one.
 #![tactic(auto)]
 
 mod kept;

@@ -1,3 +1,5 @@
+//! The record of a call: a copy of what it shows, taken once, so that a retransmission has the same bytes.
+
 ghost use Rattle.std.specs.Prelude.{◌≡◌, ◌≤◌, ◌+◌, drop, length, take};
 ghost use Rattle.device_values.specs.Spellings.{spelled};
 
@@ -7,17 +9,18 @@ use crate::values::{Values, kept_value};
 use crate::word::Word;
 use app_events::Now;
 use generators::{Capture, Record};
+use uip_wire::copy_bytes;
 
 /// The record of a call of a device's script.
 #[derive(Drop)]
 pub enum ValueCapture {
     /// Of a function of uIP.
     Uip(Capture),
-    /// The bytes of a value at the moment of the call, and how they are spelled.
+    /// The bytes of a value at the call, and how they are escaped.
     Value { spelling: Spelling, kept: Kept },
 }
 
-/// How long a value is as it is spelled. It stands by itself, so that its area is no part of a caller's frame.
+/// Returns the length of a value as it is escaped. It is not inlined, so that its area is no part of a caller's stack frame.
 #[inline(never)]
 fn value_len(spelling: Spelling, kept: &Kept) -> usize
     ensures length { result ≡ length (spelled spelling (take kept.now.len kept.now.bytes)) }
@@ -26,7 +29,7 @@ fn value_len(spelling: Spelling, kept: &Kept) -> usize
     spell(spelling, kept.text()).len()
 }
 
-/// Writes a part of a value as it is spelled. It stands by itself, too.
+/// Writes a part of a value as it is escaped. It is not inlined either.
 #[inline(never)]
 fn fill_value(spelling: Spelling, kept: &Kept, at: usize, out: &mut [u8])
     requires { at + length out.old ≤ length (spelled spelling (take kept.now.len kept.now.bytes)) }
@@ -34,7 +37,7 @@ fn fill_value(spelling: Spelling, kept: &Kept, at: usize, out: &mut [u8])
 {
     let text = spell(spelling, kept.text());
     let end = at + out.len();
-    out.copy_from_slice(&text.as_slice()[at..end]);
+    copy_bytes(out, &text.as_slice()[at..end]);
 }
 
 impl Record for ValueCapture {
@@ -45,7 +48,7 @@ impl Record for ValueCapture {
 
     type Own = Values;
 
-    ghost said = { word_said };
+    ghost output = { word_said };
 
     ghost text = { record_text };
 

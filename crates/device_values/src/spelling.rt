@@ -1,11 +1,11 @@
-//! How the bytes of a value are spelled in a page.
+//! How the bytes of a value are escaped in a page.
 
 ghost use Rattle.std.specs.Prelude.{◌≡◌, ◌+◌, ◌≤◌, ◌<◌, ◌++◌, [], flat_map, length};
 ghost use Rattle.device_values.specs.Spellings.{html_byte, json_byte, hex_digit, spelled};
 
 use arrayvec::ArrayVec;
 
-/// How a value is spelled.
+/// How a value is escaped.
 #[derive(Clone, Copy, Debug, PartialEq, Eq)]
 pub enum Spelling {
     /// Its bytes as they are.
@@ -16,10 +16,10 @@ pub enum Spelling {
     Html,
 }
 
-/// A text that is spelled: a value of 32 bytes, each of which is spelled in six at most.
+/// A text that is escaped: a value of 32 bytes, each of at most six when escaped.
 pub(crate) type Spelled = ArrayVec<u8, 192>;
 
-/// The text as it is spelled.
+/// Returns the text as it is escaped.
 pub(crate) fn spell(spelling: Spelling, text: &[u8]) -> Spelled
     requires { length text.now ≤ 32 }
     ensures items { result.items ≡ spelled spelling text.now }
@@ -34,7 +34,7 @@ pub(crate) fn spell(spelling: Spelling, text: &[u8]) -> Spelled
     out
 }
 
-/// The same for a string of JSON.
+/// The same for a string of JSON (RFC 8259, section 7).
 fn spell_json(out: &mut Spelled, text: &[u8])
     requires none { out.old.items ≡ [] }
     requires short { length text.now ≤ 32 }
@@ -56,7 +56,7 @@ fn spell_html(out: &mut Spelled, text: &[u8])
     }
 }
 
-/// Appends bytes. It stands by itself, since it is called in many places.
+/// Appends bytes. It is not inlined, since it is called in many places.
 #[inline(never)]
 fn push_all(out: &mut Spelled, piece: &[u8])
     requires { length out.old.items + length piece.now ≤ 192 }
@@ -115,7 +115,7 @@ fn push_html(out: &mut Spelled, byte: u8)
     }
 }
 
-/// A hexadecimal digit.
+/// Returns a hexadecimal digit.
 fn hex_digit(digit: u8) -> u8
     requires { digit < 16 }
     ensures { result ≡ hex_digit digit }

@@ -4,7 +4,8 @@ use arrayvec::ArrayVec;
 use generators::Record;
 use script_lang::{Calls, Function};
 
-/// A moment at which nothing has happened.
+/// A snapshot with an empty history.
+/// [add: counter] The length of the array.
 fn zero_now() -> Now {
     Now {
         ticks: 0,
@@ -25,7 +26,7 @@ fn words_by_their_names(rt: HostRuntime) {
 }
 
 /// The text of a call of value 3, which is `5 > "4"`.
-fn said(word: Word, argument: &[u8]) -> ValueCapture {
+fn output(word: Word, argument: &[u8]) -> ValueCapture {
     let mut values = Values::new();
     let text: [u8; 8] = [7, b'5', b' ', b'>', b' ', b'"', b'4', b'"'];
     values.bytes[99..107].copy_from_slice(&text);
@@ -40,7 +41,7 @@ fn a_value_is_spelled(rt: HostRuntime) {
         (Spelling::Html, b"5 &gt; &quot;4&quot;"),
     ];
     for (spelling, text) in rows {
-        let record = said(Word::Value(spelling), b"3");
+        let record = output(Word::Value(spelling), b"3");
         let mut out = [0; 20];
         let len = record.text_len();
         assert_eq!(rt; len, text.len());
@@ -50,8 +51,8 @@ fn a_value_is_spelled(rt: HostRuntime) {
 }
 
 #[test]
-fn no_value_of_a_number_with_a_zero_in_front(rt: HostRuntime) {
-    assert_eq!(rt; said(Word::Value(Spelling::Plain), b"03").text_len(), 0);
-    assert_eq!(rt; said(Word::Value(Spelling::Plain), b"16").text_len(), 0);
-    assert_eq!(rt; said(Word::Value(Spelling::Plain), b"").text_len(), 0);
+fn no_value_of_a_number_with_a_leading_zero(rt: HostRuntime) {
+    assert_eq!(rt; output(Word::Value(Spelling::Plain), b"03").text_len(), 0);
+    assert_eq!(rt; output(Word::Value(Spelling::Plain), b"16").text_len(), 0);
+    assert_eq!(rt; output(Word::Value(Spelling::Plain), b"").text_len(), 0);
 }

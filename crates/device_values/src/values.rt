@@ -8,27 +8,27 @@ ghost use Rattle.device_values.specs.Values.{no_values, value_given, value_named
 use crate::kept::Kept;
 use uip_wire::numeral;
 
-/// How many values there are.
+/// The number of values.
 pub const MOST_VALUES: usize = 16;
 
 /// The most bytes of a value.
 pub const LONGEST_VALUE: usize = 32;
 
-/// What a device has to tell: for each of sixteen values 33 bytes, the first of which is its length.
+/// The values of a device: for each of sixteen values 33 bytes, the first of which is its length.
 #[derive(Drop)]
 pub struct Values {
     pub bytes: [u8; 528],
 }
 
 impl Values {
-    /// No value is given.
+    /// Returns values of which none is set.
     pub fn new() -> Values
         ensures { result.bytes ≡ no_values }
     {
         Values { bytes: [0; 528] }
     }
 
-    /// The value of a number is this text from now on, whatever it was before. The others stay.
+    /// Sets the value of a number to this text, whatever it was before. The others are unchanged.
     pub fn give(&mut self, number: usize, text: &[u8])
         requires number { number < 16 }
         requires short { length text.now ≤ 32 }
@@ -39,7 +39,7 @@ impl Values {
     }
 }
 
-/// A value as it is kept: its length, its bytes, and zeros.
+/// Returns a value as it is stored: its length, its bytes, and zeros.
 fn row_of(text: &[u8]) -> [u8; 33]
     requires { length text.now ≤ 32 }
     ensures { result ≡ length text.now ∷ text.now ++ replicate (32 - length text.now) 0 }
@@ -50,7 +50,7 @@ fn row_of(text: &[u8]) -> [u8; 33]
     row
 }
 
-/// The bytes of the value whose number the argument is. There are none where it is no number of a value.
+/// Returns the bytes of the value whose number the argument is; none if it is no number of a value.
 #[inline(never)]
 pub(crate) fn kept_value(values: &Values, argument: &[u8]) -> Kept
     ensures { take result.len result.bytes ≡ value_named values.now.bytes argument.now }
@@ -67,7 +67,7 @@ pub(crate) fn kept_value(values: &Values, argument: &[u8]) -> Kept
     }
 }
 
-/// No bytes.
+/// Returns no bytes.
 fn no_value() -> Kept
     ensures { result.len ≡ 0 }
 {
@@ -77,7 +77,7 @@ fn no_value() -> Kept
     }
 }
 
-/// The bytes of the value of that number.
+/// Returns the bytes of the value of that number.
 fn value_at(values: &Values, number: usize) -> Kept
     requires { number < 16 }
     ensures { take result.len result.bytes ≡ value_of values.now.bytes number }
@@ -92,7 +92,7 @@ fn value_at(values: &Values, number: usize) -> Kept
     }
 }
 
-/// A text is bytes.
+/// States that a text consists of bytes.
 fn is_bytes(text: &[u8])
     ensures { All IsByte text.now }
 {}

@@ -1,3 +1,5 @@
+//! The words of a device's scripts.
+
 ghost use Rattle.std.specs.Prelude.{◌≡◌};
 ghost use Rattle.std.specs.Str.{bytes_eq};
 
@@ -9,11 +11,11 @@ use script_lang::{Calls, Function};
 pub enum Word {
     /// A function of uIP.
     Uip(Function),
-    /// A value of the device, spelled for where it stands.
+    /// A value of the device, escaped for its context.
     Value(Spelling),
 }
 
-/// Whether a name is that word. It stands by itself, since it is called in three places.
+/// Returns whether a name is that word. It is not inlined, since it is called in three places.
 #[inline(never)]
 fn is_word(name: &[u8], word: &[u8]) -> bool
     ensures { result ≡ bytes_eq name.now word.now }

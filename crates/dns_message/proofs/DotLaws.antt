@@ -20,13 +20,13 @@ pub cut : (text : List ℕ) (k : ℕ) → IsFirstByte (is_byte 46) text (Some k)
 cut text k found =
     let high : k < length text = found.0.high in
     let whole : text ≡ take k text ++ get_or text k 0 ∷ drop (k + 1) text = rw (add-one k) (split_at text k 0 high) in
-    let front : (i : ℕ) → i < length (take k text) → eqb (get_or (take k text) i 0) 46 ≡ false =
+    let prefix : (i : ℕ) → i < length (take k text) → eqb (get_or (take k text) i 0) 46 ≡ false =
     λ i h.
     let low : i < k = omega (arith, length-take k text) in
     ap (λ c. eqb c 46) (get_or-take k text i 0 low) ∙ not_true (eqb (get_or text i 0) 46) (found.0.before i (omega arith) low) in
     ap (λ l. labels l) whole
     ∙ slice_split_at (λ c. eqb c 46) (take k text) (get_or text k 0) (drop (k + 1) text)
-    (All-from_get_or (λ c. eqb c 46 ≡ false) (take k text) 0 front) found.1
+    (All-from_get_or (λ c. eqb c 46 ≡ false) (take k text) 0 prefix) found.1
 
 -- there is one label at least
 pub some_label : (text : List ℕ) → 1 ≤ length (labels text)

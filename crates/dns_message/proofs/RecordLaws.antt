@@ -1,17 +1,17 @@
 -- The walks over names and records, one step at a time.
 use Rattle.std.proofs.Common.{◌≡◌, ℕ, zero, suc, ◌+◌, ◌<◌, ◌≤◌, Bool, true, false, cond, eqb, if◌then◌else◌, ltb, slice_index, List, [], ◌∷◌, length, drop, refl, sym, ap, ◌∙◌, arith, add-one, Option, None, Some}
-use Rattle.dns_message.specs.Names.{behind_name, behind_pointer}
+use Rattle.dns_message.specs.Names.{after_the_name, after_pointer}
 use Rattle.dns_message.specs.Records.{Record, address_in, answer_by, answer_of_records, first_record, is_address, records, records_by}
 use Rattle.dns_message.specs.declared.answer.Answer.{Answer}
 use Rattle.dns_message.specs.declared.answer.Answer.TheVariants.{Address}
 use Rattle.std.specs.List.{find}
 
-pub skipped : (k : ℕ) (bytes : List ℕ) → k ≤ length bytes → behind_name k bytes ≡ behind_name 0 (drop k bytes)
+pub skipped : (k : ℕ) (bytes : List ℕ) → k ≤ length bytes → after_the_name k bytes ≡ after_the_name 0 (drop k bytes)
 skipped zero bytes h = refl
 skipped (suc k) [] h = absurd (omega arith)
 skipped (suc k) (b ∷ bytes) h = skipped k bytes (omega arith)
 
-pub cut_off : (k : ℕ) (bytes : List ℕ) → length bytes < k → behind_name k bytes ≡ None
+pub cut_off : (k : ℕ) (bytes : List ℕ) → length bytes < k → after_the_name k bytes ≡ None
 cut_off k [] h = refl
 cut_off zero (b ∷ bytes) h = absurd (omega arith)
 cut_off (suc k) (b ∷ bytes) h = cut_off k bytes (omega arith)
@@ -22,15 +22,15 @@ some_count count h = grind arith
 short_count : (count : ℕ) → count < 64 → ltb count 64 ≡ true
 short_count count h = grind arith
 
--- a name that begins with a label goes on behind it
+-- a name that begins with a label continues after it
 pub label_first : (bytes : List ℕ) (count : ℕ) → 1 ≤ length bytes → count ≡ slice_index bytes 0 → (count ≡ 0 → ⊥) → count < 64
-    → behind_name 0 bytes ≡ behind_name count (drop 1 bytes)
+    → after_the_name 0 bytes ≡ after_the_name count (drop 1 bytes)
 label_first [] count h same some short = absurd (omega arith)
 label_first (b ∷ bytes) count h same some short =
     let e : b ≡ count = sym same in
-    ap (λ c. behind_name 0 (c ∷ bytes)) e
-    ∙ ap (λ t. if t then Some bytes else if ltb count 64 then behind_name count bytes else if ltb count 192 then None else behind_pointer bytes) (some_count count some)
-    ∙ ap (λ t. if t then behind_name count bytes else if ltb count 192 then None else behind_pointer bytes) (short_count count short)
+    ap (λ c. after_the_name 0 (c ∷ bytes)) e
+    ∙ ap (λ t. if t then Some bytes else if ltb count 64 then after_the_name count bytes else if ltb count 192 then None else after_pointer bytes) (some_count count some)
+    ∙ ap (λ t. if t then after_the_name count bytes else if ltb count 192 then None else after_pointer bytes) (short_count count short)
 
 not_address_by : (b : Bool) (content : List ℕ) → ◌≡◌ {A = Option (List ℕ)} (if b then Some content else None) None → b ≡ false
 not_address_by true content e = absurd (cc e)

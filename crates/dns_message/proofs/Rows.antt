@@ -1,5 +1,4 @@
--- A query worked by hand and the replies to it: one with an address, and changes of it, each of which is ignored or says
--- something else.
+-- A query worked by hand and the replies to it: one with an address, and changes of it, each ignored or with another answer.
 use Rattle.std.proofs.Common.{◌≡◌, ℕ, List, [], ◌∷◌, Some, None, true, false, refl}
 use Rattle.uip_wire.specs.Checksum.{folded}
 use Rattle.uip_ipv4.specs.Head.{head_or_fate, numbered_head}

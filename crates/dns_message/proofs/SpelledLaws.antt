@@ -1,4 +1,4 @@
--- The records that are read of bytes are those that the bytes spell.
+-- The records that are read from bytes are those that the bytes represent.
 use Rattle.std.proofs.Common.{◌≡◌, ℕ, zero, suc, ◌+◌, ◌-◌, ◌*◌, ◌<◌, ◌≤◌, ◌⊎◌, inl, inr, Bool, true, false, ◌&&◌, eqb, leb, ltb, if◌then◌else◌, List, [], ◌∷◌, ◌++◌, length, length-append, length-take, length-drop, map, take, drop, slice_index, slice_range, Option, Some, None, option_and_then, refl, sym, ap, ◌∙◌, append_assoc, arith, subst}
 use Rattle.std.proofs.Math.ListN.{get_or-append}
 use Rattle.std.proofs.lemmas.List.Folds.{drop_split}
@@ -6,9 +6,9 @@ use Rattle.std.proofs.lemmas.List.{drop-drop, drop_at, get_or-take, take-append-
 use Rattle.std.specs.List.{AllByRecursion, flat_map, list_all}
 use Rattle.uip_wire.specs.Fields.{word_at}
 use Rattle.uip_ipv4.proofs.Back.{passes, not_less}
-use Rattle.dns_message.specs.Names.{behind_name, behind_pointer, label_bytes}
+use Rattle.dns_message.specs.Names.{after_the_name, after_pointer, label_bytes}
 use Rattle.dns_message.specs.ReadBack.{AreSpelled, IsSpelled, RecordsAreSpelled, Spelled, has_label_size, is_ending, record_of, spelled_bytes}
-use Rattle.dns_message.specs.Records.{Record, first_record, record_behind, records, records_by}
+use Rattle.dns_message.specs.Records.{Record, first_record, record_after, records, records_by}
 use Rattle.dns_message.proofs.RecordLaws.{label_first}
 
 both_true : (a b : Bool) → (a && b) ≡ true → (a ≡ true) × (b ≡ true)
@@ -61,22 +61,22 @@ none_in (a ∷ l) e = absurd (omega arith)
 
 -- ---- a name that is spelled is walked
 
-skip_label : (label rest : List ℕ) → behind_name (length label) (label ++ rest) ≡ behind_name 0 rest
+skip_label : (label rest : List ℕ) → after_the_name (length label) (label ++ rest) ≡ after_the_name 0 rest
 skip_label [] rest = refl
 skip_label (b ∷ label) rest = skip_label label rest
 
-ended : (ending rest : List ℕ) → is_ending ending ≡ true → behind_name 0 (ending ++ rest) ≡ Some rest
+ended : (ending rest : List ℕ) → is_ending ending ≡ true → after_the_name 0 (ending ++ rest) ≡ Some rest
 ended [] rest e = absurd (cc e)
-ended (b ∷ []) rest e = ap (λ t. if t then Some rest else if ltb b 64 then behind_name b rest else if ltb b 192 then None else behind_pointer rest) e
+ended (b ∷ []) rest e = ap (λ t. if t then Some rest else if ltb b 64 then after_the_name b rest else if ltb b 192 then None else after_pointer rest) e
 ended (b ∷ c ∷ []) rest e =
     let high = le_of 192 b e in
-    ap (λ t. if t then Some (c ∷ rest) else if ltb b 64 then behind_name b (c ∷ rest) else if ltb b 192 then None else Some rest) (unequal b 0 (omega arith))
-    ∙ ap (λ t. if t then behind_name b (c ∷ rest) else if ltb b 192 then None else Some rest) (not_less b 64 (omega arith))
+    ap (λ t. if t then Some (c ∷ rest) else if ltb b 64 then after_the_name b (c ∷ rest) else if ltb b 192 then None else Some rest) (unequal b 0 (omega arith))
+    ∙ ap (λ t. if t then after_the_name b (c ∷ rest) else if ltb b 192 then None else Some rest) (not_less b 64 (omega arith))
     ∙ ap (λ t. if t then None else Some rest) (not_less b 192 high)
 ended (b ∷ c ∷ d ∷ more) rest e = absurd (cc e)
 
 walked : (owner : List (List ℕ)) (ending rest : List ℕ) → list_all has_label_size owner ≡ true → is_ending ending ≡ true
-    → behind_name 0 ((flat_map label_bytes owner ++ ending) ++ rest) ≡ Some rest
+    → after_the_name 0 ((flat_map label_bytes owner ++ ending) ++ rest) ≡ Some rest
 walked [] ending rest sized e = ended ending rest e
 walked (label ∷ owner) ending rest sized e =
     let p = both_true (has_label_size label) (list_all has_label_size owner) sized in
@@ -86,7 +86,7 @@ walked (label ∷ owner) ending rest sized e =
     let later = flat_map label_bytes owner in
     let bytes = (flat_map label_bytes (label ∷ owner) ++ ending) ++ rest in
     label_first bytes (length label) (omega arith) refl (λ z. omega arith) (omega arith)
-    ∙ ap (λ l. behind_name (length label) l) (append_assoc (label ++ later) ending rest ∙ append_assoc label later (ending ++ rest) ∙ ap (λ l. label ++ l) (sym (append_assoc later ending rest)))
+    ∙ ap (λ l. after_the_name (length label) l) (append_assoc (label ++ later) ending rest ∙ append_assoc label later (ending ++ rest) ∙ ap (λ l. label ++ l) (sym (append_assoc later ending rest)))
     ∙ skip_label label ((later ++ ending) ++ rest) ∙ walked owner ending rest p.1 e
 
 -- ---- and what is walked was spelled
@@ -100,7 +100,7 @@ record Cut (k : ℕ) (bytes rest : List ℕ) : Type 0 where
   closed : is_ending ending ≡ true
   whole : bytes ≡ label ++ ((flat_map label_bytes owner ++ ending) ++ rest)
 
-pointer_cut : (b : ℕ) (bytes rest : List ℕ) → 192 ≤ b → behind_pointer bytes ≡ Some rest → Cut 0 (b ∷ bytes) rest
+pointer_cut : (b : ℕ) (bytes rest : List ℕ) → 192 ≤ b → after_pointer bytes ≡ Some rest → Cut 0 (b ∷ bytes) rest
 pointer_cut b [] rest h e = absurd (cc e)
 pointer_cut b (c ∷ bytes) rest h e = record {
   label = [];
@@ -128,8 +128,8 @@ label_cut b bytes rest some short c =
           ∙ sym (append_assoc c.label later (c.ending ++ rest)) ∙ sym (append_assoc (c.label ++ later) c.ending rest));
     }
 
-cut_by : (b : ℕ) (bytes rest : List ℕ) (x y z : Bool) → eqb b 0 ≡ x → ltb b 64 ≡ y → ltb b 192 ≡ z → (behind_name b bytes ≡ Some rest → Cut b bytes rest)
-    → (if x then Some bytes else if y then behind_name b bytes else if z then None else behind_pointer bytes) ≡ Some rest → Cut 0 (b ∷ bytes) rest
+cut_by : (b : ℕ) (bytes rest : List ℕ) (x y z : Bool) → eqb b 0 ≡ x → ltb b 64 ≡ y → ltb b 192 ≡ z → (after_the_name b bytes ≡ Some rest → Cut b bytes rest)
+    → (if x then Some bytes else if y then after_the_name b bytes else if z then None else after_pointer bytes) ≡ Some rest → Cut 0 (b ∷ bytes) rest
 cut_by b bytes rest true y z p q r more e = record {
   label = [];
   size = refl;
@@ -143,7 +143,7 @@ cut_by b bytes rest false true z p q r more e = label_cut b bytes rest (other_of
 cut_by b bytes rest false false true p q r more e = absurd (cc e)
 cut_by b bytes rest false false false p q r more e = pointer_cut b bytes rest (least_of b 192 r) e
 
-cut : (k : ℕ) (bytes rest : List ℕ) → behind_name k bytes ≡ Some rest → Cut k bytes rest
+cut : (k : ℕ) (bytes rest : List ℕ) → after_the_name k bytes ≡ Some rest → Cut k bytes rest
 cut k [] rest e = absurd (cc e)
 cut zero (b ∷ bytes) rest e = cut_by b bytes rest (eqb b 0) (ltb b 64) (ltb b 192) refl refl refl (cut b bytes rest) e
 cut (suc k) (b ∷ bytes) rest e =
@@ -160,8 +160,8 @@ cut (suc k) (b ∷ bytes) rest e =
 
 -- ---- the fields and the content
 
-word_front : (fields rest : List ℕ) (at : ℕ) → at + 2 ≤ length fields → word_at (fields ++ rest) at ≡ word_at fields at
-word_front fields rest at h =
+word_prefix : (fields rest : List ℕ) (at : ℕ) → at + 2 ≤ length fields → word_at (fields ++ rest) at ≡ word_at fields at
+word_prefix fields rest at h =
     ap (λ n. 256 * n + slice_index (fields ++ rest) (at + 1)) (get_or-append fields rest 0 at (omega arith))
     ∙ ap (λ n. 256 * slice_index fields at + n) (get_or-append fields rest 0 (at + 1) (omega arith))
 
@@ -170,16 +170,16 @@ same_pair : (a a' b b' : ℕ) (c c' r r' : List ℕ) → a ≡ a' → b ≡ b' �
 same_pair a a' b b' c c' r r' p q s t = cc
 
 read : (fields content more : List ℕ) → length fields ≡ 10 → word_at fields 8 ≡ length content
-    → record_behind (fields ++ (content ++ more)) ≡ Some (record { kind = word_at fields 0; class = word_at fields 2; content = content }, more)
+    → record_after (fields ++ (content ++ more)) ≡ Some (record { kind = word_at fields 0; class = word_at fields 2; content = content }, more)
 read fields content more ten size =
     let bytes = fields ++ (content ++ more) in
     let n = length content in
     let long : length bytes ≡ 10 + (n + length more) = omega (arith, length-append fields (content ++ more), length-append content more, ten) in
-    let told : word_at bytes 8 ≡ n = word_front fields (content ++ more) 8 (omega (arith, ten)) ∙ size in
+    let told : word_at bytes 8 ≡ n = word_prefix fields (content ++ more) 8 (omega (arith, ten)) ∙ size in
     let behind : drop 10 bytes ≡ content ++ more = drop_at fields (content ++ more) 10 ten in
     passes _ _ _ _ (not_less (length bytes) 10 (omega (arith, long)))
     (passes _ _ _ _ (not_less (length bytes) (10 + word_at bytes 8) (omega (arith, long, told)))
-    (same_pair _ _ _ _ _ _ _ _ (word_front fields (content ++ more) 0 (omega (arith, ten))) (word_front fields (content ++ more) 2 (omega (arith, ten)))
+    (same_pair _ _ _ _ _ _ _ _ (word_prefix fields (content ++ more) 0 (omega (arith, ten))) (word_prefix fields (content ++ more) 2 (omega (arith, ten)))
     (ap (λ k. take (10 + k - 10) (drop 10 bytes)) told ∙ ap (λ k. take k (drop 10 bytes)) (ten_less n) ∙ ap (λ l. take n l) behind ∙ take_at content more n refl)
     (ap (λ k. drop (10 + k) bytes) told ∙ sym (drop-drop n 10 bytes) ∙ ap (λ l. drop n l) behind ∙ drop_at content more n refl)))
 
@@ -226,7 +226,7 @@ fields_by bytes r rest false false p q e =
       same = sym first ∙ same_record _ _ _ _ content (sym (word_taken bytes 0 (omega arith))) (sym (word_taken bytes 2 (omega arith)));
     }
 
-fields_of : (bytes : List ℕ) (r : Record) (rest : List ℕ) → record_behind bytes ≡ Some (r, rest) → Fields bytes r rest
+fields_of : (bytes : List ℕ) (r : Record) (rest : List ℕ) → record_after bytes ≡ Some (r, rest) → Fields bytes r rest
 fields_of bytes r rest e = fields_by bytes r rest (ltb (length bytes) 10) (ltb (length bytes) (10 + word_at bytes 8)) refl refl e
 
 -- ---- the first record
@@ -237,7 +237,7 @@ record First (bytes : List ℕ) (r : Record) (rest : List ℕ) : Type 0 where
   whole : bytes ≡ spelled_bytes s ++ rest
   same : r ≡ record_of s
 
-first_by : (bytes : List ℕ) (r : Record) (rest : List ℕ) (o : Option (List ℕ)) → behind_name 0 bytes ≡ o → option_and_then record_behind o ≡ Some (r, rest) → First bytes r rest
+first_by : (bytes : List ℕ) (r : Record) (rest : List ℕ) (o : Option (List ℕ)) → after_the_name 0 bytes ≡ o → option_and_then record_after o ≡ Some (r, rest) → First bytes r rest
 first_by bytes r rest None is e = absurd (cc e)
 first_by bytes r rest (Some behind) is e =
     let c = cut 0 bytes behind is in
@@ -253,13 +253,13 @@ first_by bytes r rest (Some behind) is e =
     }
 
 first : (bytes : List ℕ) (r : Record) (rest : List ℕ) → first_record bytes ≡ Some (r, rest) → First bytes r rest
-first bytes r rest e = first_by bytes r rest (behind_name 0 bytes) refl e
+first bytes r rest e = first_by bytes r rest (after_the_name 0 bytes) refl e
 
 told : (s : Spelled) (more : List ℕ) → IsSpelled s → first_record (spelled_bytes s ++ more) ≡ Some (record_of s, more)
 told s more is =
     let name = flat_map label_bytes s.owner ++ s.ending in
     ap (λ l. first_record l) (append_assoc name (s.fields ++ s.content) more ∙ ap (λ l. name ++ l) (append_assoc s.fields s.content more))
-    ∙ ap (λ o. option_and_then record_behind o) (walked s.owner s.ending (s.fields ++ (s.content ++ more)) is.owner is.ending)
+    ∙ ap (λ o. option_and_then record_after o) (walked s.owner s.ending (s.fields ++ (s.content ++ more)) is.owner is.ending)
     ∙ read s.fields s.content more is.fields is.content
 
 -- ---- all of them

@@ -1,4 +1,4 @@
--- What a server reads in a query, and which records bytes spell.
+-- What a server reads in a query, and which records bytes represent.
 use Rattle.std.specs.Prelude.{◌≡◌, ◌⊎◌, ℕ, ◌&&◌, ◌==◌, nat_le, Bool, true, false, List, [], ◌∷◌, ◌++◌, length, drop, map, Some}
 use Rattle.std.specs.List.{AllByRecursion, flat_map, join_with_byte, list_all}
 use Rattle.uip_wire.specs.Fields.{word_at, bytes_of}
@@ -9,12 +9,12 @@ use Rattle.dns_message.specs.Records.{Record, records}
 use Rattle.dns_message.specs.Replies.{query_datagram, way_there}
 use Rattle.dns_message.specs.declared.asking.Asking.{Asking}
 
--- a label of a name, of which the empty one is the root's
+-- A label of a name; the empty one is the root's.
 abbrev pub has_label_size : List ℕ → Bool
 has_label_size label = nat_le 1 (length label) && nat_le (length label) 63
 
--- The datagram carries a query with this id, with the flag that recursion is desired, and with one question. However its
--- bytes are read as labels and the root, the labels are those of the name, and the type and the class stand behind them.
+-- The datagram carries a query with this id, the flag for recursion desired, and one question. However its bytes are read as labels and the
+-- root, the labels are those of the name, and the type and the class follow them.
 pub record IsAsked (asking : Asking) (text : List ℕ) (ident : ℕ) : Type 0 where
   pub message : List ℕ
   pub carried : udp_data (way_there asking) (query_datagram asking text ident) ≡ Some message
@@ -29,15 +29,15 @@ abbrev pub QueriesAreReadBack : Type 0
 QueriesAreReadBack = (asking : Asking) (text : List ℕ) (ident : ℕ) → is_domain text ≡ true
     → length asking.own.0 ≡ 4 → length asking.server.0 ≡ 4 → IsAsked asking text ident
 
--- a record as bytes spell it: the labels of its owner and what ends them, the ten bytes of its type, class, time to live and
--- length, and its content (RFC 1035, section 4.1.3)
+-- A record as its bytes (RFC 1035, section 4.1.3): the labels of its owner and what ends them; ten bytes of type, class, time to live and
+-- length; its content.
 pub record Spelled : Type 0 where
   pub owner : List (List ℕ)
   pub ending : List ℕ
   pub fields : List ℕ
   pub content : List ℕ
 
--- the root's empty label, or a pointer
+-- The root's empty label, or a pointer.
 abbrev pub is_ending : List ℕ → Bool
 is_ending (b ∷ []) = b == 0
 is_ending (b ∷ c ∷ []) = nat_le 192 b
@@ -52,11 +52,11 @@ pub record IsSpelled (s : Spelled) : Type 0 where
 abbrev pub spelled_bytes : Spelled → List ℕ
 spelled_bytes s = (flat_map label_bytes s.owner ++ s.ending) ++ (s.fields ++ s.content)
 
--- what it says
+-- Its fields.
 abbrev pub record_of : Spelled → Record
 record_of s = record { kind = word_at s.fields 0; class = word_at s.fields 2; content = s.content }
 
--- The records that are read of bytes are those that the bytes spell: n of them, or all in front of bytes that spell none.
+-- The records that are read from bytes are those that the bytes represent: n of them, or all before bytes that represent none.
 pub record AreSpelled (n : ℕ) (bytes : List ℕ) : Type 0 where
   pub list : List Spelled
   pub rest : List ℕ

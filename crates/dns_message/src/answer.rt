@@ -1,12 +1,12 @@
 use uip_wire::Addr;
 
-/// What a reply says of a name.
+/// What a reply answers for a name.
 #[derive(Clone, Copy, Debug, PartialEq, Eq)]
 pub enum Answer {
     /// The first address in it.
     Address(Addr),
     /// None of its answer records is an address.
     NoAddress,
-    /// The server gave this response code, which is not 0.
+    /// The server returned this response code, which is not 0.
     Code(u8),
 }

@@ -1,4 +1,4 @@
-//! What holds of the messages.
+//! The laws of the messages.
 
 ghost use Rattle.dns_message.specs.ReadBack.{QueriesAreReadBack, RecordsAreSpelled};
 ghost use Rattle.dns_message.specs.ConstantValues.{ConstantValues};
@@ -8,7 +8,7 @@ pub fn queries_are_read_back()
     ensures { QueriesAreReadBack }
 {}
 
-/// The records that an answer is told by are those that the bytes spell.
+/// The records by which an answer is defined are those that the bytes represent.
 pub fn records_are_spelled()
     ensures { RecordsAreSpelled }
 {}

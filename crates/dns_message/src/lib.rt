@@ -1,5 +1,5 @@
-//! The messages by which a host asks for the address of a name (RFC 1035) over UDP: the query, which reply matches it,
-//! and what the reply says. No call is given an allocator; that none takes memory is no clause.
+//! DNS messages over UDP (RFC 1035): the query for the address of a name, which reply matches it, and what the reply answers. No call is
+//! passed an allocator.
 #![tactic(auto)]
 
 mod answer;

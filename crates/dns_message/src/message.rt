@@ -1,3 +1,5 @@
+//! The messages (RFC 1035, section 4.1).
+
 ghost use Rattle.std.specs.Prelude.{◌≡◌, ◌+◌, ◌≤◌, ◌++◌, List, ℕ, length};
 ghost use Rattle.std.specs.List.{flat_map};
 ghost use Rattle.dns_message.specs.Messages.{answer_by_message, is_reply, query_message, question_bytes};
@@ -13,13 +15,13 @@ use uip_wire::get16;
 /// The bytes of a message's header.
 const HEADER: usize = 12;
 
-/// The most bytes of a question: a length before the name and a 0 behind it, the type and the class.
+/// The most bytes of a question: a length before the name and a 0 after it, the type and the class.
 const LONGEST_QUESTION: usize = LONGEST_NAME + 6;
 
 /// The most bytes of a query.
 const LONGEST_QUERY: usize = HEADER + LONGEST_QUESTION;
 
-/// Adds a label with its length.
+/// Appends a label with its length.
 fn put_label(out: &mut ArrayVec<u8, LONGEST_QUESTION>, label: &[u8])
     requires { length out.old.items + length label.now + 1 ≤ LONGEST_QUESTION }
     ensures { out.new.items ≡ out.old.items ++ label_bytes label.now }
@@ -28,7 +30,7 @@ fn put_label(out: &mut ArrayVec<u8, LONGEST_QUESTION>, label: &[u8])
     let _fits = out.try_extend_from_slice(label);
 }
 
-/// Adds the labels of a text.
+/// Appends the labels of a text.
 fn put_labels(out: &mut ArrayVec<u8, LONGEST_QUESTION>, text: &[u8])
     requires { length out.old.items + length text.now + 1 ≤ LONGEST_QUESTION }
     ensures text { out.new.items ≡ out.old.items ++ flat_map label_bytes (labels text.now) }
@@ -42,7 +44,7 @@ fn put_labels(out: &mut ArrayVec<u8, LONGEST_QUESTION>, text: &[u8])
     put_label(out, rest);
 }
 
-/// The question for the address of a name.
+/// Returns the question for the address of a name.
 fn question(name: &Name) -> ArrayVec<u8, LONGEST_QUESTION>
     ensures { result.items ≡ question_bytes name.now }
 {
@@ -52,7 +54,7 @@ fn question(name: &Name) -> ArrayVec<u8, LONGEST_QUESTION>
     question
 }
 
-/// The query of an id for the address of a name.
+/// Returns the query of an id for the address of a name.
 pub(crate) fn query_message(id: u16, name: &Name) -> ArrayVec<u8, LONGEST_QUERY>
     ensures { result.items ≡ query_message id name.now }
 {
@@ -64,7 +66,7 @@ pub(crate) fn query_message(id: u16, name: &Name) -> ArrayVec<u8, LONGEST_QUERY>
     message
 }
 
-/// What a message says to the query of an id for a name, where it is a reply to it.
+/// Returns the answer of a message to the query of an id for a name, if it is a reply to it.
 pub(crate) fn answer_by_message(id: u16, name: &Name, message: &[u8]) -> Option<Answer>
     ensures { result ≡ answer_by_message id name.now message.now }
 {
@@ -82,7 +84,7 @@ pub(crate) fn answer_by_message(id: u16, name: &Name, message: &[u8]) -> Option<
     answer_of_records(get16(message, 6), &message[HEADER + question.len()..])
 }
 
-/// Whether a message is the reply to the query of this id with this question.
+/// Returns whether a message is the reply to the query of this id with this question.
 fn is_reply(id: u16, question: &[u8], message: &[u8]) -> bool
     requires { 12 ≤ length message.now }
     ensures { (text : List ℕ) → question.now ≡ question_bytes text → result ≡ is_reply id text message.now }

@@ -1,3 +1,5 @@
+//! Names as text (RFC 1035, section 2.3.1).
+
 ghost use Rattle.std.specs.Prelude.{◌≡◌, ◌≤◌, [], None, Some, true, if◌then◌else◌, length, nat_le};
 ghost use Rattle.std.specs.List.{list_all};
 ghost use Rattle.dns_message.specs.Names.{is_label, is_label_byte, is_domain, labels};
@@ -6,10 +8,10 @@ use arrayvec::ArrayVec;
 use memchr::memchr;
 use std::marker::Model;
 
-/// The most bytes of a name that is asked for.
+/// The most bytes of a name that can be queried.
 pub const LONGEST_NAME: usize = 64;
 
-/// A name that is asked for, as a text. Contracts see its bytes.
+/// A name that can be queried, as a text. Contracts see its bytes.
 #[derive(Drop)]
 pub struct Name {
     pub text: ArrayVec<u8, LONGEST_NAME>,
@@ -24,7 +26,7 @@ impl Model for Name {
 }
 
 impl Default for Name {
-    /// The place of a name, with no text.
+    /// Returns a name without text.
     fn default() -> Name
         ensures { result ≡ [] }
     {
@@ -35,8 +37,8 @@ impl Default for Name {
 }
 
 impl Name {
-    /// The name that a text spells: at most 64 bytes, and two or more labels parted by dots, each of 1 to 63 letters, digits,
-    /// `-` or `_`.
+    /// Parses a name: at most 64 bytes, and two or more labels separated by dots, each of 1 to 63 letters, digits, `-` or `_`. Any other
+    /// text is `None`.
     pub fn parse(text: &[u8]) -> Option<Name>
         ensures { result ≡ if is_domain text.now then Some text.now else None }
     {
@@ -49,7 +51,7 @@ impl Name {
     }
 }
 
-/// Whether a text has the form of a name.
+/// Returns whether a text has the form of a name.
 #[tactic(auto, unfolding(crate::specs::Names::is_domain))]
 fn is_name(text: &[u8]) -> bool
     ensures exact { result ≡ is_domain text.now }
@@ -58,14 +60,14 @@ fn is_name(text: &[u8]) -> bool
     text.len() <= LONGEST_NAME && has_dot(text) && has_labels(text)
 }
 
-/// Whether there is a dot, and so two labels at least.
+/// Returns whether there is a dot, and so at least two labels.
 fn has_dot(text: &[u8]) -> bool
     ensures { result ≡ nat_le 2 (length (labels text.now)) }
 {
     memchr(b'.', text).is_some()
 }
 
-/// Whether each part between the dots is a label.
+/// Returns whether each part between the dots is a label.
 fn has_labels(text: &[u8]) -> bool
     ensures { result ≡ list_all is_label (labels text.now) }
 {
@@ -79,14 +81,14 @@ fn has_labels(text: &[u8]) -> bool
     is_label(rest)
 }
 
-/// Whether it is a label.
+/// Returns whether it is a label.
 fn is_label(label: &[u8]) -> bool
     ensures { result ≡ is_label label.now }
 {
     !label.is_empty() && label.len() <= 63 && are_label_bytes(label)
 }
 
-/// Whether each byte may stand in a label.
+/// Returns whether each byte is allowed in a label.
 fn are_label_bytes(label: &[u8]) -> bool
     ensures { result ≡ list_all is_label_byte label.now }
 {

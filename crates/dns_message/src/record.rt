@@ -1,11 +1,13 @@
+//! Resource records (RFC 1035, section 4.1.3).
+
 ghost use Rattle.std.specs.Prelude.{◌≡◌, None, if◌then◌else◌, nat_lt, option_map};
-ghost use Rattle.dns_message.specs.Names.{behind_name, behind_pointer};
-ghost use Rattle.dns_message.specs.Records.{address_in, answer_of_records, first_record, plain_record, record_behind};
+ghost use Rattle.dns_message.specs.Names.{after_the_name, after_pointer};
+ghost use Rattle.dns_message.specs.Records.{address_in, answer_of_records, first_record, plain_record, record_after};
 
 use crate::answer::Answer;
 use uip_wire::{Addr, get16};
 
-/// What a resource record says (RFC 1035, section 4.1.3).
+/// The fields of a resource record.
 #[derive(Clone, Copy)]
 struct Record<'a> {
     kind: u16,
@@ -13,7 +15,7 @@ struct Record<'a> {
     content: &'a [u8],
 }
 
-/// What so many answer records say: the first address among them, or that there is none. Nothing, where a record before the
+/// Returns the answer of `count` answer records: the first address among them, or that there is none. Returns `None` if a record before the
 /// first address is malformed.
 pub(crate) fn answer_of_records(count: u16, bytes: &[u8]) -> Option<Answer>
     ensures { result ≡ answer_of_records count bytes.now }
@@ -29,7 +31,7 @@ pub(crate) fn answer_of_records(count: u16, bytes: &[u8]) -> Option<Answer>
     Some(Answer::NoAddress)
 }
 
-/// The Internet address that a record gives, if it gives one.
+/// Returns the Internet address of a record, if it has one.
 fn address_in(found: Record<'_>) -> Option<Addr>
     ensures { option_map (λ a. a.0) result ≡ address_in (plain_record found.entry) }
 {
@@ -40,16 +42,16 @@ fn address_in(found: Record<'_>) -> Option<Addr>
     }
 }
 
-/// The record at the front, and what stands behind it.
+/// Returns the record at the start, and the bytes after it.
 fn first_record(bytes: &[u8]) -> Option<(Record<'_>, &[u8])>
     ensures { option_map (λ p. (plain_record p.0, p.1.now)) result ≡ first_record bytes.now }
 {
-    record_behind(behind_name(bytes)?)
+    record_after(after_the_name(bytes)?)
 }
 
-/// The record whose owner stood before these bytes, and what stands behind it.
-fn record_behind(bytes: &[u8]) -> Option<(Record<'_>, &[u8])>
-    ensures { option_map (λ p. (plain_record p.0, p.1.now)) result ≡ record_behind bytes.now }
+/// Returns the record whose owner was before these bytes, and the bytes after it.
+fn record_after(bytes: &[u8]) -> Option<(Record<'_>, &[u8])>
+    ensures { option_map (λ p. (plain_record p.0, p.1.now)) result ≡ record_after bytes.now }
 {
     if bytes.len() < 10 {
         return None;
@@ -66,9 +68,9 @@ fn record_behind(bytes: &[u8]) -> Option<(Record<'_>, &[u8])>
     Some((found, &bytes[end..]))
 }
 
-/// What stands behind the name at the front.
-fn behind_name(bytes: &[u8]) -> Option<&[u8]>
-    ensures { option_map (λ rest. rest.now) result ≡ behind_name 0 bytes.now }
+/// Returns the bytes after the name at the start.
+fn after_the_name(bytes: &[u8]) -> Option<&[u8]>
+    ensures { option_map (λ rest. rest.now) result ≡ after_the_name 0 bytes.now }
 {
     let mut rest = bytes;
     while let [first, behind @ ..] = rest {
@@ -77,7 +79,7 @@ fn behind_name(bytes: &[u8]) -> Option<&[u8]>
             return Some(behind);
         }
         if count >= 64 {
-            return behind_pointer(*first, behind);
+            return after_pointer(*first, behind);
         }
         if behind.len() < count {
             return None;
@@ -87,9 +89,9 @@ fn behind_name(bytes: &[u8]) -> Option<&[u8]>
     None
 }
 
-/// What stands behind a pointer, of which this was the first byte, if it was one.
-fn behind_pointer(first: u8, behind: &[u8]) -> Option<&[u8]>
-    ensures { option_map (λ rest. rest.now) result ≡ if nat_lt first 192 then None else behind_pointer behind.now }
+/// Returns the bytes after a pointer, if this was the first byte of one.
+fn after_pointer(first: u8, behind: &[u8]) -> Option<&[u8]>
+    ensures { option_map (λ rest. rest.now) result ≡ if nat_lt first 192 then None else after_pointer behind.now }
 {
     match behind {
         [_, rest @ ..] if first >= 192 => Some(rest),

@@ -1,4 +1,5 @@
--- What frames bring is bytes.
+-- Frames decode to bytes.
+-- [add: line-kind] A file as this one: a medium that is fed bytes decodes bytes.
 use Rattle.std.specs.List.{All}
 use Rattle.std.proofs.Common.{ℕ, ◌<◌, ◌&&◌, List, [], ◌∷◌, ◌++◌, drop, eqb, length}
 use Rattle.std.specs.Prelude.{◌||◌, if◌then◌else◌, nat_lt}
@@ -7,9 +8,9 @@ use Rattle.std.proofs.lemmas.List.Elements.{All-append, All-cons, All-drop, All-
 use Rattle.app_events.specs.Pages.{IsByte}
 use Rattle.uip_wire.specs.Fields.{word_at}
 use Rattle.uip_node.proofs.Basics.{choose}
-use Rattle.line_medium.specs.Ways.{Came, Datagram, Own}
+use Rattle.line_medium.specs.Media.{MediumInput, Datagram, Own}
 use Rattle.serve_loop.specs.Items.{BringsBytes, CarriesBytes}
-use Rattle.ethernet_arp.specs.EtherWay.{closed_by, ether_way, is_taken, is_whole, open_from}
+use Rattle.ethernet_arp.specs.EtherWay.{closed_by, ether_medium, is_taken, is_whole, open_from}
 use Rattle.ethernet_arp.specs.Frames.{Host, arp_brings, broadcast, frame_brings, is_arp, is_arp_for, is_datagram, mac_at, payload_brings, sender_of}
 use Rattle.ethernet_arp.specs.Learning.{Act, Asked, Pair, Replied}
 
@@ -22,7 +23,7 @@ open_bytes (b ∷ bytes) part a h =
     open_bytes bytes (if is_whole (part ++ b ∷ []) then [] else part ++ b ∷ []) (All-tail IsByte b bytes a)
     (choose (λ l. All IsByte l) (is_whole (part ++ b ∷ [])) [] (part ++ b ∷ []) (λ e. All-nil IsByte) (λ e. more_bytes part b h (All-head IsByte b bytes a)))
 
-abbrev AllOfBytes : List (Came Act) → Type 0
+abbrev AllOfBytes : List (MediumInput Act) → Type 0
 AllOfBytes cs = All CarriesBytes cs
 
 none : AllOfBytes []
@@ -33,24 +34,24 @@ own act = All-cons CarriesBytes (Own act) [] tt none
 
 arp_bytes : (operation : ℕ) (sender : Pair) → AllOfBytes (arp_brings operation sender)
 arp_bytes operation sender =
-    choose (λ (l : List (Came Act)). AllOfBytes l) (eqb operation 1) _ _ (λ e. own (Asked sender))
-    (λ e. choose (λ (l : List (Came Act)). AllOfBytes l) (eqb operation 2) _ _ (λ f. own (Replied sender)) (λ f. none))
+    choose (λ (l : List (MediumInput Act)). AllOfBytes l) (eqb operation 1) _ _ (λ e. own (Asked sender))
+    (λ e. choose (λ (l : List (MediumInput Act)). AllOfBytes l) (eqb operation 2) _ _ (λ f. own (Replied sender)) (λ f. none))
 
 payload_bytes : (k : Host) (kind : ℕ) (payload : List ℕ) → All IsByte payload → AllOfBytes (payload_brings k kind payload)
 payload_bytes k kind payload h =
-    choose (λ (l : List (Came Act)). AllOfBytes l) (is_datagram kind && nat_lt 0 (length payload)) _ _ (λ e. All-cons CarriesBytes (Datagram payload) [] h none)
-    (λ e. choose (λ (l : List (Came Act)). AllOfBytes l) (is_arp kind && is_arp_for k.addr payload) _ _ (λ f. arp_bytes (word_at payload 6) (sender_of payload)) (λ f. none))
+    choose (λ (l : List (MediumInput Act)). AllOfBytes l) (is_datagram kind && nat_lt 0 (length payload)) _ _ (λ e. All-cons CarriesBytes (Datagram payload) [] h none)
+    (λ e. choose (λ (l : List (MediumInput Act)). AllOfBytes l) (is_arp kind && is_arp_for k.addr payload) _ _ (λ f. arp_bytes (word_at payload 6) (sender_of payload)) (λ f. none))
 
 frame_bytes : (k : Host) (frame : List ℕ) → All IsByte frame → AllOfBytes (frame_brings k frame)
 frame_bytes k frame h =
-    choose (λ (l : List (Came Act)). AllOfBytes l) (bytes_eq (mac_at frame 0) k.mac || bytes_eq (mac_at frame 0) broadcast) _ _
+    choose (λ (l : List (MediumInput Act)). AllOfBytes l) (bytes_eq (mac_at frame 0) k.mac || bytes_eq (mac_at frame 0) broadcast) _ _
     (λ e. payload_bytes k (word_at frame 12) (drop 14 frame) (All-drop IsByte 14 frame h)) (λ e. none)
 
 closed_bytes : (k : Host) (part : List ℕ) → All IsByte part → AllOfBytes (closed_by k part)
 closed_bytes k part h =
-    choose (λ (l : List (Came Act)). AllOfBytes l) (is_whole part && is_taken (drop 2 part)) _ _ (λ e. frame_bytes k (drop 2 part) (All-drop IsByte 2 part h)) (λ e. none)
+    choose (λ (l : List (MediumInput Act)). AllOfBytes l) (is_whole part && is_taken (drop 2 part)) _ _ (λ e. frame_bytes k (drop 2 part) (All-drop IsByte 2 part h)) (λ e. none)
 
-pub ether_brings_bytes : (k : Host) → BringsBytes (ether_way k)
+pub ether_brings_bytes : (k : Host) → BringsBytes (ether_medium k)
 ether_brings_bytes k before b h low =
     let part : List ℕ = open_from [] before in
     closed_bytes k (part ++ b ∷ []) (more_bytes part b (open_bytes before [] h (All-nil IsByte)) low)

@@ -56,7 +56,7 @@ pub head_is : (to from : List ℕ) → length to ≡ 6 → length from ≡ 6 →
 head_is to from a b =
     ap (λ l. l ++ elements6 from ++ word_bytes 2048) (six to a) ∙ ap (λ l. to ++ l ++ word_bytes 2048) (six from b)
 
--- a datagram behind the head of its frame
+-- a datagram after the head of its frame
 module _ (to from datagram : List ℕ) (a : length to ≡ 6) (b : length from ≡ 6) where
   abbrev head : List ℕ
   head = to ++ from ++ word_bytes 2048
@@ -70,9 +70,9 @@ module _ (to from datagram : List ℕ) (a : length to ≡ 6) (b : length from �
   none_more : 0 + length datagram ≡ length datagram
   none_more = omega arith
 
-  pub frame_is : (out front rest : List ℕ) → front ≡ head → rest ≡ written (drop 14 out) 0 datagram
-      → Puts (frame_with to from 2048 datagram) (14 + length datagram) out (front ++ rest)
-  frame_is out front rest e f = record {
+  pub frame_is : (out prefix rest : List ℕ) → prefix ≡ head → rest ≡ written (drop 14 out) 0 datagram
+      → Puts (frame_with to from 2048 datagram) (14 + length datagram) out (prefix ++ rest)
+  frame_is out prefix rest e f = record {
     size = frame_size;
     there =
         ap (λ l. l ++ rest) e ∙ ap (λ l. head ++ l) (f ∙ ap (λ n. datagram ++ drop n (drop 14 out)) none_more)
@@ -83,7 +83,7 @@ module _ (to from datagram : List ℕ) (a : length to ≡ 6) (b : length from �
 no_more : (n : ℕ) → 0 + n ≡ n
 no_more n = omega arith
 
--- a frame behind its length
+-- a frame after its length
 pub framed_is : (head room frame new_head new_room : List ℕ) (len : ℕ) → length head ≡ 2 → new_head ≡ written head 0 (word_bytes len) → Puts frame len room new_room
     → take (2 + len) (new_head ++ new_room) ≡ framed frame
 framed_is head room frame new_head new_room len two e p =
@@ -96,7 +96,7 @@ framed_is head room frame new_head new_room len two e p =
     ∙ ap (λ l. word ++ l) (take-append_seam frame behind)
     ∙ ap (λ n. word_bytes n ++ frame) p.size
 
--- the payload of a frame that stands in an area
+-- the payload of a frame in an area
 pub payload_is : (area : List ℕ) (len : ℕ) → 14 ≤ len → len ≤ length area → drop 14 (take len area) ≡ take (length (take len area) - 14) (drop 14 area)
 payload_is area len least fits =
     let rest : 14 + (len - 14) ≡ len = omega (arith, least) in

@@ -1,4 +1,4 @@
--- The last learning of an address behind one more act.
+-- The last learning of an address after one more event.
 use Rattle.std.proofs.Common.{◌≡◌, ℕ, ◌+◌, ◌||◌, Bool, true, false, if◌then◌else◌, List, [], ◌∷◌, ◌++◌, Option, None, Some, length, refl, sym, ap, ◌∙◌, subst, arith}
 use Rattle.std.specs.Prelude.{⊤}
 use Rattle.std.specs.Option.{option_and_then, option_or}
@@ -27,7 +27,7 @@ other_way xs ys e =
       | false ↦ λ f. refl
     ] refl
 
--- a learning with one more act behind it
+-- a learning with one more event after it
 abbrev pub on_later : Act → Option Learning → Option Learning
 on_later act None = None
 on_later act (Some l) = Some (record { mac = l.mac; later = l.later ++ act ∷ [] })
@@ -62,7 +62,7 @@ last-more addr (x ∷ acts) act =
     ∙ ap (λ (l : Option Learning). option_or (option_or new (on_later act old)) l) (by_more addr (taught x) acts act)
     ∙ later_more new old first act
 
--- ticks behind one more act
+-- ticks after one more event
 pub ticks-tick : (acts : List Act) → ticks_in (acts ++ Ticked ∷ []) ≡ ticks_in acts + 1
 ticks-tick [] = refl
 ticks-tick (Ticked ∷ acts) = ap (λ n. n + 1) (ticks-tick acts)
@@ -80,7 +80,7 @@ ticks-learnt (Ticked ∷ acts) act pair e = ap (λ n. n + 1) (ticks-learnt acts 
 ticks-learnt (Asked p ∷ acts) act pair e = ticks-learnt acts act pair e
 ticks-learnt (Replied p ∷ acts) act pair e = ticks-learnt acts act pair e
 
--- addresses behind one more act
+-- addresses after one more event
 pub addresses-tick : (acts : List Act) → addresses_of (acts ++ Ticked ∷ []) ≡ addresses_of acts
 addresses-tick [] = refl
 addresses-tick (x ∷ acts) = ap (λ l. with_one (taught x) l) (addresses-tick acts)
@@ -164,7 +164,7 @@ pub addresses-learnt : (acts : List Act) (act : Act) (pair : Pair) → taught ac
 addresses-learnt [] act pair e = first_one act pair e
 addresses-learnt (x ∷ acts) act pair e = with_more (taught x) pair.addr _ _ (addresses-learnt acts act pair e)
 
--- the last learning of an address behind an act that taught a pair
+-- the last learning of an address after an event that taught a pair
 abbrev by_pair : List ℕ → List Act → Act → Option Pair → Option Learning
 by_pair addr acts act pair = option_or (learning_by addr pair []) (on_later act (last_learning addr acts))
 
@@ -239,7 +239,7 @@ found_later : (addr : List ℕ) (x y : Option Learning) (acts : List Act) (l : L
 found_later addr (Some m) y acts l some none by is e = some l (sym is ∙ e)
 found_later addr None y acts l some none by is e = ap (λ (a : List Act). among addr (addresses_of a)) (by l e) ∙ none (sym is)
 
--- behind the last learning of an address there is no other of it
+-- after the last learning of an address there is no other of it
 pub not_among : (addr : List ℕ) (acts : List Act) (l : Learning) → last_learning addr acts ≡ Some l → among addr (addresses_of l.later) ≡ false
 not_among addr [] l e = absurd (cc e)
 not_among addr (x ∷ acts) l e = found_later addr (last_learning addr acts) (learning_by addr (taught x) acts) acts l (λ m f. not_among addr acts m f) (λ f. not_later addr acts f) (by_later addr (taught x) acts) refl e

@@ -1,8 +1,8 @@
 -- What a run of bytes does to an Ethernet line.
 use Rattle.std.proofs.Common.{◌≡◌, ◌++◌, ◌∙◌, ◌&&◌, [], List, ℕ, if◌then◌else◌, true, false, nat_le, take, ap, append-nil, sym, subst}
-use Rattle.line_medium.specs.Ways.{Came, TellsBrought, acts_among, all_brought}
-use Rattle.line_medium.specs.declared.medium.Brought.{Brought}
-use Rattle.ethernet_arp.specs.EtherWay.{ether_way, open_from}
+use Rattle.line_medium.specs.Media.{MediumInput, TellsBrought, acts_among, all_decoded}
+use Rattle.line_medium.specs.declared.medium.Decoded.{Decoded}
+use Rattle.ethernet_arp.specs.EtherWay.{ether_medium, open_from}
 use Rattle.ethernet_arp.specs.Frames.{Host, frame_brings}
 use Rattle.ethernet_arp.specs.Learning.{Act}
 use Rattle.ethernet_arp.specs.Parts.{Holds, brought_from, whole_brings}
@@ -11,18 +11,18 @@ use Rattle.ethernet_arp.specs.declared.arp.Arp.{Arp}
 use Rattle.ethernet_arp.specs.declared.frame_part.FramePart.{FramePart}
 use Rattle.ethernet_arp.proofs.PartLaws.{brought_is, open-append}
 
--- the part behind more bytes
+-- the part after more bytes
 pub fed_more : (old new : FramePart) (before bytes : List ℕ) → ((part : List ℕ) → Holds old part → Holds new (open_from part bytes)) → Holds old (open_from [] before)
     → Holds new (open_from [] (before ++ bytes))
 fed_more old new before bytes on h = subst (λ (l : List ℕ). Holds new l) (sym (open-append [] before bytes)) (on (open_from [] before) h)
 
-pub brings_nothing : (k : Host) (before bytes : List ℕ) → brought_from k (open_from [] before) bytes ≡ [] → all_brought (ether_way k) before bytes ≡ []
+pub brings_nothing : (k : Host) (before bytes : List ℕ) → brought_from k (open_from [] before) bytes ≡ [] → all_decoded (ether_medium k) before bytes ≡ []
 brings_nothing k before bytes e = brought_is k before bytes ∙ e
 
 pub did_nothing : (arp : Arp) (k : Host) (before bytes : List ℕ) (acts : List Act) → brought_from k (open_from [] before) bytes ≡ [] → Knows arp acts
-    → Knows arp (acts ++ acts_among (all_brought (ether_way k) before bytes))
+    → Knows arp (acts ++ acts_among (all_decoded (ether_medium k) before bytes))
 did_nothing arp k before bytes acts e h =
-    subst (λ (l : List (Came Act)). Knows arp (acts ++ acts_among l)) (sym (brings_nothing k before bytes e)) (subst (λ (l : List Act). Knows arp l) (sym (append-nil acts)) h)
+    subst (λ (l : List (MediumInput Act)). Knows arp (acts ++ acts_among l)) (sym (brings_nothing k before bytes e)) (subst (λ (l : List Act). Knows arp l) (sym (append-nil acts)) h)
 
 -- a whole frame that is taken, and one that is not
 pub whole_frame : (k : Host) (p : FramePart) → (nat_le 14 p.len && nat_le p.len 1514) ≡ true → whole_brings k p ≡ frame_brings k (take p.len p.area)
@@ -34,16 +34,16 @@ whole_none k p e = ap (λ v. if v then frame_brings k (take p.len p.area) else [
 -- at a whole frame, of a host that is set as k
 module _ (k host : Host) (p : FramePart) (before bytes : List ℕ) where
   brings_frame : host ≡ k → brought_from k (open_from [] before) bytes ≡ whole_brings k p → (nat_le 14 p.len && nat_le p.len 1514) ≡ true
-      → frame_brings host (take p.len p.area) ≡ all_brought (ether_way k) before bytes
+      → frame_brings host (take p.len p.area) ≡ all_decoded (ether_medium k) before bytes
   brings_frame is e t =
       ap (λ (h : Host). frame_brings h (take p.len p.area)) is ∙ sym (brought_is k before bytes ∙ e ∙ whole_frame k p t)
 
-  pub told_whole : (shown : List ℕ) (brought : Brought) → host ≡ k → brought_from k (open_from [] before) bytes ≡ whole_brings k p → (nat_le 14 p.len && nat_le p.len 1514) ≡ true
-      → TellsBrought (ether_way host) shown brought (frame_brings host (take p.len p.area)) → TellsBrought (ether_way k) shown brought (all_brought (ether_way k) before bytes)
+  pub told_whole : (shown : List ℕ) (brought : Decoded) → host ≡ k → brought_from k (open_from [] before) bytes ≡ whole_brings k p → (nat_le 14 p.len && nat_le p.len 1514) ≡ true
+      → TellsBrought (ether_medium host) shown brought (frame_brings host (take p.len p.area)) → TellsBrought (ether_medium k) shown brought (all_decoded (ether_medium k) before bytes)
   told_whole shown brought is e t told =
-      subst (λ (h : Host). TellsBrought (ether_way h) shown brought (all_brought (ether_way k) before bytes)) is
-      (subst (λ (l : List (Came Act)). TellsBrought (ether_way host) shown brought l) (brings_frame is e t) told)
+      subst (λ (h : Host). TellsBrought (ether_medium h) shown brought (all_decoded (ether_medium k) before bytes)) is
+      (subst (λ (l : List (MediumInput Act)). TellsBrought (ether_medium host) shown brought l) (brings_frame is e t) told)
 
   pub did_whole : (arp : Arp) (acts : List Act) → host ≡ k → brought_from k (open_from [] before) bytes ≡ whole_brings k p → (nat_le 14 p.len && nat_le p.len 1514) ≡ true
-      → Knows arp (acts ++ acts_among (frame_brings host (take p.len p.area))) → Knows arp (acts ++ acts_among (all_brought (ether_way k) before bytes))
-  did_whole arp acts is e t h = subst (λ (l : List (Came Act)). Knows arp (acts ++ acts_among l)) (brings_frame is e t) h
+      → Knows arp (acts ++ acts_among (frame_brings host (take p.len p.area))) → Knows arp (acts ++ acts_among (all_decoded (ether_medium k) before bytes))
+  did_whole arp acts is e t h = subst (λ (l : List (MediumInput Act)). Knows arp (acts ++ acts_among l)) (brings_frame is e t) h

@@ -1,11 +1,11 @@
--- What more bytes make of the part behind the last whole frame, and what they bring.
+-- The part after the last whole frame, after more bytes, and what these decode to.
 use Rattle.std.proofs.Common.{◌≡◌, ℕ, ◌+◌, ◌-◌, ◌*◌, ◌<◌, ◌≤◌, ◌&&◌, Bool, true, false, if◌then◌else◌, min, nat_le, nat_lt, List, [], ◌∷◌, ◌++◌, Option, length, take, drop, option_to_list, refl, sym, ap, ◌∙◌, arith, inl, inr, ◌⊎◌, length-drop, append-nil, append_assoc, length-append, eq-eqb, ne_eqb}
 use Rattle.std.proofs.Math.Seq.{take-append-add, take-append_seam}
 use Rattle.std.proofs.lemmas.Bool.{leb-false, leb-true, ltb-false, ltb-true}
 use Rattle.std.proofs.lemmas.List.{length-take-le, take-append-le, take_all}
 use Rattle.uip_wire.specs.Fields.{written}
-use Rattle.line_medium.specs.Ways.{all_brought}
-use Rattle.ethernet_arp.specs.EtherWay.{closed_by, ether_way, is_taken, is_whole, open_from}
+use Rattle.line_medium.specs.Media.{all_decoded}
+use Rattle.ethernet_arp.specs.EtherWay.{closed_by, ether_medium, is_taken, is_whole, open_from}
 use Rattle.ethernet_arp.specs.Frames.{Host, frame_brings}
 use Rattle.ethernet_arp.specs.Parts.{Holds, InFrame, TakesIn, brought_from, whole_brings}
 use Rattle.ethernet_arp.specs.declared.frame_part.FramePart.{FramePart}
@@ -14,8 +14,8 @@ pub open-append : (part xs ys : List ℕ) → open_from part (xs ++ ys) ≡ open
 open-append part [] ys = refl
 open-append part (x ∷ xs) ys = open-append (if is_whole (part ++ x ∷ []) then [] else part ++ x ∷ []) xs ys
 
--- bytes behind others bring what they bring behind the part of these
-pub brought_is : (k : Host) (before bytes : List ℕ) → all_brought (ether_way k) before bytes ≡ brought_from k (open_from [] before) bytes
+-- bytes after others bring what they bring after the part of these
+pub brought_is : (k : Host) (before bytes : List ℕ) → all_decoded (ether_medium k) before bytes ≡ brought_from k (open_from [] before) bytes
 brought_is k before [] = refl
 brought_is k before (b ∷ bytes) =
     let part = open_from [] before in
@@ -153,9 +153,9 @@ kept_more area frame bytes room new at m size len below kept is least made =
     let count : length part ≡ m = length-take-le m bytes (omega (arith, least)) in
     let rest = drop (0 + length part) room in
     let left : length rest ≡ (1514 - at) - m = length-drop (0 + length part) room ∙ omega (arith, fits, count, least) in
-    let front : take at area ≡ frame = kept ∙ take_all 1514 frame (omega (arith, len, below)) in
+    let prefix : take at area ≡ frame = kept ∙ take_all 1514 frame (omega (arith, len, below)) in
     let room_left : length frame + (1514 - at) ≡ 1514 = omega (arith, len, below) in
-    ap (λ l. take (at + length bytes) l) (made ∙ ap (λ l. l ++ (part ++ rest)) front)
+    ap (λ l. take (at + length bytes) l) (made ∙ ap (λ l. l ++ (part ++ rest)) prefix)
     ∙ ap (λ n. take (n + length bytes) (frame ++ (part ++ rest))) (sym len)
     ∙ take-append-add frame (part ++ rest) (length bytes)
     ∙ ap (λ l. frame ++ l) (none_left (1514 - at) part rest bytes m refl (least ∙ ap (λ n. min (length bytes) n) fits) left refl)

@@ -1,9 +1,9 @@
--- Whatever a node answers on a line of Ethernet has 20 to 1500 bytes.
+-- Each reply of a node on an Ethernet line has 20 to 1500 bytes.
 use Rattle.std.proofs.Common.{◌≡◌, ℕ, zero, suc, ◌+◌, ◌*◌, ◌-◌, ◌%◌, ◌≤◌, ◌&&◌, ◌||◌, ◌==◌, Bool, true, false, not, if◌then◌else◌, nat_le, nat_lt, eqb, ltb, List, [], ◌∷◌, ◌++◌, Option, None, Some, Result, Ok, Err, length, set, take, drop, map, replicate, position, bytes_eq, slice_index, slice_get, slice_index_or, refl, sym, ap, ◌∙◌, subst, arith, inl, inr, ◌⊎◌, length-append, length-take, length-drop}
 use Rattle.std.specs.Prelude.{⊤, option_map, slice_range}
 use Rattle.std.specs.Option.{option_map_or}
 use Rattle.std.proofs.lemmas.Bool.{leb-true, le-leb, ltb-false, and_from, and_parts, or_parts}
-use Rattle.app_events.specs.Part.{Meaning}
+use Rattle.app_events.specs.AppSpec.{AppSpec}
 use Rattle.uip_edge.specs.declared.item.Item.{Item}
 use Rattle.uip_edge.specs.declared.item.Item.TheVariants.{Byte, Quiet}
 use Rattle.uip_wire.specs.Addr.{address_at}
@@ -28,14 +28,14 @@ use Rattle.tcp_machine.specs.Ask.{Outcome}
 use Rattle.tcp_machine.specs.Connection.{Connection, Sockets, closed, serves}
 use Rattle.tcp_machine.specs.OnSegment.{accept, on_segment}
 use Rattle.tcp_machine.specs.OnTick.{on_tick}
-use Rattle.tcp_machine.specs.Segments.{bare_ack, fin_of, is_plain_syn, reset_of, reset_to_none, segment_of, syn_ack, text_segment}
+use Rattle.tcp_machine.specs.Segments.{bare_ack, fin_of, is_plain_syn, reset_of, reset_for_no_connection, segment_of, syn_ack, text_segment}
 use Rattle.tcp_machine.specs.declared.step.Step.{Step}
 use Rattle.uip_node.specs.Counters.{initial_number}
 use Rattle.uip_node.specs.Edge.{by_head, by_proto, by_segment, datagram_to, event_of, reply_bytes}
 use Rattle.uip_node.specs.Events.{Event, Reply}
 use Rattle.uip_node.specs.Events.Event.{IpRefused, IcmpRefused, TcpRefused, EchoAsked, Arrived, Overlong, Periodic}
 use Rattle.uip_node.specs.Events.Reply.{Echo as EchoSent, Tcp as TcpSent}
-use Rattle.uip_node.specs.Node.{AbstractNode, NodeStep, arrives_at, connection_in, from_stranger, happened, moment, opening, opens, opens_in, slot_for_syn, step}
+use Rattle.uip_node.specs.Node.{AbstractNode, NodeStep, arrives_at, connection_in, for_no_connection, happened, snapshot, initial_node, opens, opens_in, slot_for_syn, step}
 use Rattle.uip_node.proofs.Basics.{choose, only_some}
 use Rattle.uip_node.proofs.Connections.{get_set}
 use Rattle.uip_node.proofs.DatagramsBack.{small_size}
@@ -43,11 +43,11 @@ use Rattle.uip_node.proofs.Stepping.{reply_length}
 use Rattle.uip_node.proofs.Connections.Written.{here, there}
 use Rattle.uip_node.proofs.Peers.{asked_keeps, on_segment_keeps, on_tick_keeps}
 use Rattle.uip_node.proofs.SoundSegments.{Lens, accepted_lens, asked_lens, closed_lens, on_segment_lens, on_tick_lens}
-use Rattle.line_medium.specs.Ways.{Came, Datagram, Overlong as OverlongFrame, Own}
-use Rattle.serve_loop.specs.DeedRuns.{Deed, Does, Happens, Station, after_deed, after_deeds}
-use Rattle.serve_loop.specs.LineDeeds.{beat_on, deed_by, deeds_behind, line_deeds, tick_on}
+use Rattle.line_medium.specs.Media.{MediumInput, Datagram, Overlong as OverlongFrame, Own}
+use Rattle.serve_loop.specs.StationRuns.{StationEvent, OfMedium, OfNode, Station, station_after, station_after_all}
+use Rattle.serve_loop.specs.LineStationEvents.{beat_on, station_event_by, station_events_after, station_events_of_line, tick_on}
 use Rattle.serve_loop.specs.Pace.{is_beat}
-use Rattle.ethernet_arp.specs.EtherWay.{closed_by, ether_way, is_taken, is_whole, open_from}
+use Rattle.ethernet_arp.specs.EtherWay.{closed_by, ether_medium, is_taken, is_whole, open_from}
 use Rattle.ethernet_arp.specs.Frames.{Host, broadcast, frame_brings, is_arp, is_arp_for, is_datagram, is_sendable, mac_at}
 use Rattle.ethernet_arp.specs.Learning.{Act}
 use Rattle.ethernet_arp.specs.Sendable.{DatagramsFitFrames}
@@ -92,10 +92,10 @@ echo_fits head bytes total most =
     (λ e. let size = short_no (payload_of head bytes) e in
     let cut = length-take (head.total - 20) (drop 20 bytes) in
     let behind = length-drop 20 bytes in
-    let front = length-take head.total bytes in
+    let prefix = length-take head.total bytes in
     choose P (not (checksum_of message == 0)) _ _ (λ f. tt)
     (λ f. choose P (not (slice_index message 0 == 8) || not (slice_index message 1 == 0)) _ _ (λ g. tt)
-    (λ g. (omega (arith, total, most, size, cut, behind, front), omega (arith, total, most, front)))))
+    (λ g. (omega (arith, total, most, size, cut, behind, prefix), omega (arith, total, most, prefix)))))
 
 proto_fits : (proto : Proto) (head : IpHead) (bytes : List ℕ) → head.total ≤ length bytes → length bytes ≤ 1500 → length head.source.0 ≡ 4 → EventFits (by_proto proto head bytes)
 proto_fits Icmp head bytes total most h = echo_fits head bytes total most
@@ -143,15 +143,15 @@ record StepFits (own : Addr) (r : NodeStep) : Type 0 where
   table : TableFits r.node.connections
   sent : (reply : Reply) → r.sent ≡ Some reply → Fits own reply
 
-abbrev DeedFits : Deed Act → Type 0
-DeedFits (Does a) = ⊤
-DeedFits (Happens e) = EventFits e
+abbrev StationEventFits : StationEvent Act → Type 0
+StationEventFits (OfMedium a) = ⊤
+StationEventFits (OfNode e) = EventFits e
 
-abbrev DeedsFit : List (Deed Act) → Type 0
-DeedsFit [] = ⊤
-DeedsFit (d ∷ deeds) = DeedFits d × DeedsFit deeds
+abbrev StationEventsFit : List (StationEvent Act) → Type 0
+StationEventsFit [] = ⊤
+StationEventsFit (d ∷ station_events) = StationEventFits d × StationEventsFit station_events
 
-abbrev CameFits : List (Came Act) → Type 0
+abbrev CameFits : List (MediumInput Act) → Type 0
 CameFits [] = ⊤
 CameFits (Own a ∷ cs) = CameFits cs
 CameFits (Datagram d ∷ cs) = (length d ≤ 1500) × CameFits cs
@@ -164,15 +164,15 @@ module _ (own : Addr) (four : length own.0 ≡ 4) where
       let most = small_size (datagram_to own sockets id s) small.short small.alone in
       within (datagram_bytes (datagram_to own sockets id s)) (omega (arith, whole)) (omega (arith, whole, most))
 
-  said_fits : (said : Option PlainSegment) (sockets : Sockets) (id : ℕ) (again : Bool) → length sockets.peer.0 ≡ 4 → ((s : PlainSegment) → said ≡ Some s → IsSmall s)
-      → (reply : Reply) → option_map (λ s. TcpSent sockets id again s) said ≡ Some reply → Fits own reply
+  said_fits : (output : Option PlainSegment) (sockets : Sockets) (id : ℕ) (again : Bool) → length sockets.peer.0 ≡ 4 → ((s : PlainSegment) → output ≡ Some s → IsSmall s)
+      → (reply : Reply) → option_map (λ s. TcpSent sockets id again s) output ≡ Some reply → Fits own reply
   said_fits None sockets id again peer small reply e = absurd (cc)
   said_fits (Some s) sockets id again peer small reply e = only_some (λ z. Fits own z) (TcpSent sockets id again s) reply e (tcp_fits sockets id again s peer (small s refl))
 
-  module _ (m : Meaning) where
+  module _ (m : AppSpec) where
     text_small : (c : Connection) → Lens c → IsSmall (text_segment m c)
     text_small c l = record {
-      short = (let e : length (take c.len (drop c.part.acked (m.said c.part))) ≤ c.len = simp length-take (omega arith) in omega (arith, e, l.len));
+      short = (let e : length (take c.len (drop c.part.acked (m.output c.part))) ≤ c.len = simp length-take (omega arith) in omega (arith, e, l.len));
       alone = inl refl;
     }
 
@@ -196,30 +196,30 @@ module _ (own : Addr) (four : length own.0 ≡ 4) where
     unfolding opens_in happened
     opens_fit n sockets s None peer f = record { table = f; sent = λ reply e. absurd (cc) }
     opens_fit n sockets s (Some slot) peer f =
-        let h : StepFits own (happened m n (Arrived sockets s) slot (connection_in slot n) (accept (initial_number n.past) sockets s n.numbers)) =
-        happened_fits n (Arrived sockets s) slot (connection_in slot n) (accept (initial_number n.past) sockets s n.numbers) f
-        (record { lens = accepted_lens (initial_number n.past) sockets s; peer = peer }) in
+        let h : StepFits own (happened m n (Arrived sockets s) slot (connection_in slot n) (accept (initial_number n.history) sockets s n.numbers)) =
+        happened_fits n (Arrived sockets s) slot (connection_in slot n) (accept (initial_number n.history) sockets s n.numbers) f
+        (record { lens = accepted_lens (initial_number n.history) sockets s; peer = peer }) in
         record { table = h.table; sent = h.sent }
 
-    stranger_fits : (served : ℕ → Bool) (n : AbstractNode) (sockets : Sockets) (s : PlainSegment) → length sockets.peer.0 ≡ 4 → TableFits n.connections → StepFits own (from_stranger m served n sockets s)
-    unfolding from_stranger
+    stranger_fits : (served : ℕ → Bool) (n : AbstractNode) (sockets : Sockets) (s : PlainSegment) → length sockets.peer.0 ≡ 4 → TableFits n.connections → StepFits own (for_no_connection m served n sockets s)
+    unfolding for_no_connection
     stranger_fits served n sockets s peer f =
         choose (λ x. StepFits own x) (is_plain_syn s && served sockets.own_port.0) _ _ (λ e. opens_fit n sockets s (slot_for_syn n.connections) peer f)
         (λ e. choose (λ x. StepFits own x) (has_rst s.flags) _ _ (λ g. record { table = f; sent = λ reply q. absurd (cc) })
         (λ g. record {
           table = f;
-          sent = λ reply q. only_some (λ z. Fits own z) (TcpSent sockets _ false (reset_to_none s)) reply q
-              (tcp_fits sockets _ false (reset_to_none s) peer (record { short = omega arith; alone = inr refl }));
+          sent = λ reply q. only_some (λ z. Fits own z) (TcpSent sockets _ false (reset_for_no_connection s)) reply q
+              (tcp_fits sockets _ false (reset_for_no_connection s) peer (record { short = omega arith; alone = inr refl }));
         }))
 
     arrives_fits : (served : ℕ → Bool) (n : AbstractNode) (sockets : Sockets) (s : PlainSegment) (found : Option ℕ) → length sockets.peer.0 ≡ 4 → TableFits n.connections → StepFits own (arrives_at m served n sockets s found)
     arrives_fits served n sockets s None peer f = stranger_fits served n sockets s peer f
     arrives_fits served n sockets s (Some slot) peer f =
         let old : ConnFits (connection_in slot n) = index_conn n.connections slot f in
-        let kept = asked_keeps m (moment n (Arrived sockets s) slot) (connection_in slot n) (on_segment m (connection_in slot n) n.numbers s) (on_segment_keeps m (connection_in slot n) n.numbers s) in
+        let kept = asked_keeps m (snapshot n (Arrived sockets s) slot) (connection_in slot n) (on_segment m (connection_in slot n) n.numbers s) (on_segment_keeps m (connection_in slot n) n.numbers s) in
         happened_fits n (Arrived sockets s) slot (connection_in slot n) _ f
         (record {
-          lens = asked_lens m (moment n (Arrived sockets s) slot) (on_segment m (connection_in slot n) n.numbers s) (on_segment_lens m (connection_in slot n) n.numbers s old.lens);
+          lens = asked_lens m (snapshot n (Arrived sockets s) slot) (on_segment m (connection_in slot n) n.numbers s) (on_segment_lens m (connection_in slot n) n.numbers s old.lens);
           peer = ap (λ (z : Sockets). length z.peer.0) kept ∙ old.peer;
         })
 
@@ -236,50 +236,50 @@ module _ (own : Addr) (four : length own.0 ≡ 4) where
     step_fits served n Overlong e f = record { table = f; sent = λ reply q. absurd (cc) }
     step_fits served n (Periodic slot) e f =
         let old : ConnFits (connection_in slot n) = index_conn n.connections slot f in
-        let kept = asked_keeps m (moment n (Periodic slot) slot) (connection_in slot n) (on_tick m (connection_in slot n) n.numbers) (on_tick_keeps m (connection_in slot n) n.numbers) in
+        let kept = asked_keeps m (snapshot n (Periodic slot) slot) (connection_in slot n) (on_tick m (connection_in slot n) n.numbers) (on_tick_keeps m (connection_in slot n) n.numbers) in
         happened_fits n (Periodic slot) slot (connection_in slot n) _ f
         (record {
-          lens = asked_lens m (moment n (Periodic slot) slot) (on_tick m (connection_in slot n) n.numbers) (on_tick_lens m (connection_in slot n) n.numbers old.lens);
+          lens = asked_lens m (snapshot n (Periodic slot) slot) (on_tick m (connection_in slot n) n.numbers) (on_tick_lens m (connection_in slot n) n.numbers old.lens);
           peer = ap (λ (z : Sockets). length z.peer.0) kept ∙ old.peer;
         })
 
     -- ---- over deeds
 
-    deed_keeps : (served : ℕ → Bool) (s : Station Act) (d : Deed Act) → DeedFits d → TableFits s.node.connections → TableFits (after_deed m served s d).node.connections
-    deed_keeps served s (Does a) h f = f
-    deed_keeps served s (Happens e) h f = (step_fits served s.node e h f).table
+    station_event_keeps : (served : ℕ → Bool) (s : Station Act) (d : StationEvent Act) → StationEventFits d → TableFits s.node.connections → TableFits (station_after m served s d).node.connections
+    station_event_keeps served s (OfMedium a) h f = f
+    station_event_keeps served s (OfNode e) h f = (step_fits served s.node e h f).table
 
-    each_fits : (served : ℕ → Bool) (deeds : List (Deed Act)) (s : Station Act) → DeedsFit deeds → TableFits s.node.connections
-        → (done : List (Deed Act)) (event : Event) (later : List (Deed Act)) (reply : Reply) → deeds ≡ done ++ Happens event ∷ later
-        → (step m served (after_deeds m served done s).node event).sent ≡ Some reply → Fits own reply
+    each_fits : (served : ℕ → Bool) (station_events : List (StationEvent Act)) (s : Station Act) → StationEventsFit station_events → TableFits s.node.connections
+        → (done : List (StationEvent Act)) (event : Event) (later : List (StationEvent Act)) (reply : Reply) → station_events ≡ done ++ OfNode event ∷ later
+        → (step m served (station_after_all m served done s).node event).sent ≡ Some reply → Fits own reply
     each_fits served [] s h f [] event later reply split e = absurd (cc)
     each_fits served [] s h f (x ∷ done) event later reply split e = absurd (cc)
-    each_fits served (d ∷ deeds) s h f [] event later reply split e =
-        let same : d ≡ Happens event = cc in
-        (step_fits served s.node event (subst (λ (x : Deed Act). DeedFits x) same h.0) f).sent reply e
-    each_fits served (d ∷ deeds) s h f (x ∷ done) event later reply split e =
+    each_fits served (d ∷ station_events) s h f [] event later reply split e =
+        let same : d ≡ OfNode event = cc in
+        (step_fits served s.node event (subst (λ (x : StationEvent Act). StationEventFits x) same h.0) f).sent reply e
+    each_fits served (d ∷ station_events) s h f (x ∷ done) event later reply split e =
         let same : x ≡ d = cc in
-        let rest : deeds ≡ done ++ Happens event ∷ later = cc in
-        each_fits served deeds (after_deed m served s d) h.1 (deed_keeps served s d h.0 f) done event later reply rest
-        (ap (λ (y : Deed Act). (step m served (after_deeds m served done (after_deed m served s y)).node event).sent) (sym same) ∙ e)
+        let rest : station_events ≡ done ++ OfNode event ∷ later = cc in
+        each_fits served station_events (station_after m served s d) h.1 (station_event_keeps served s d h.0 f) done event later reply rest
+        (ap (λ (y : StationEvent Act). (step m served (station_after_all m served done (station_after m served s y)).node event).sent) (sym same) ∙ e)
 
     -- ---- the deeds of a line
 
-    deeds_join : (xs ys : List (Deed Act)) → DeedsFit xs → DeedsFit ys → DeedsFit (xs ++ ys)
-    deeds_join [] ys a b = b
-    deeds_join (x ∷ xs) ys a b = (a.0, deeds_join xs ys a.1 b)
+    station_events_join : (xs ys : List (StationEvent Act)) → StationEventsFit xs → StationEventsFit ys → StationEventsFit (xs ++ ys)
+    station_events_join [] ys a b = b
+    station_events_join (x ∷ xs) ys a b = (a.0, station_events_join xs ys a.1 b)
 
-    tick_fits : (k : Host) → DeedsFit (tick_on (ether_way k))
+    tick_fits : (k : Host) → StationEventsFit (tick_on (ether_medium k))
     tick_fits k = (tt, (tt, (tt, (tt, (tt, (tt, (tt, (tt, (tt, (tt, (tt, tt)))))))))))
 
-    beat_fits : (k : Host) (pace number : ℕ) → DeedsFit (beat_on (ether_way k) pace number)
+    beat_fits : (k : Host) (pace number : ℕ) → StationEventsFit (beat_on (ether_medium k) pace number)
     beat_fits k pace number =
-        elim (is_beat pace number) as (λ v. DeedsFit (if v then tick_on (ether_way k) else [])) [
+        elim (is_beat pace number) as (λ v. StationEventsFit (if v then tick_on (ether_medium k) else [])) [
           | true ↦ tick_fits k
           | false ↦ tt
         ]
 
-    came_fits : (cs : List (Came Act)) → CameFits cs → DeedsFit (map (deed_by own) cs)
+    came_fits : (cs : List (MediumInput Act)) → CameFits cs → StationEventsFit (map (station_event_by own) cs)
     came_fits [] h = tt
     came_fits (Own a ∷ cs) h = (tt, came_fits cs h)
     came_fits (Datagram d ∷ cs) h = (bytes_fit own d h.0, came_fits cs h.1)
@@ -287,7 +287,7 @@ module _ (own : Addr) (four : length own.0 ≡ 4) where
 
     frame_fits : (k : Host) (frame : List ℕ) → length frame ≤ 1514 → CameFits (frame_brings k frame)
     frame_fits k frame most =
-        let P : List (Came Act) → Type 0 = λ cs. CameFits cs in
+        let P : List (MediumInput Act) → Type 0 = λ cs. CameFits cs in
         let size = length-drop 14 frame in
         choose P (bytes_eq (mac_at frame 0) k.mac || bytes_eq (mac_at frame 0) broadcast) _ _
         (λ e. choose P (is_datagram (word_at frame 12) && nat_lt 0 (length (drop 14 frame))) _ _ (λ f. (omega (arith, most, size), tt))
@@ -304,21 +304,21 @@ module _ (own : Addr) (four : length own.0 ≡ 4) where
         frame_fits k (drop 2 part) (leb-true (length (drop 2 part)) 1514 sizes.1))
         (λ e. tt)
 
-    line_fits : (k : Host) (pace : ℕ) (before : List ℕ) (items : List Item) → DeedsFit (deeds_behind (ether_way k) own pace before items)
+    line_fits : (k : Host) (pace : ℕ) (before : List ℕ) (items : List Item) → StationEventsFit (station_events_after (ether_medium k) own pace before items)
     line_fits k pace before [] = tt
     line_fits k pace before (Byte b ∷ items) =
-        let this = map (deed_by own) (closed_by k (open_from [] before ++ b ∷ [])) in
-        let beat = beat_on (ether_way k) pace (length before + 1) in
-        deeds_join (map (deed_by own) (closed_by k (open_from [] before ++ b ∷ [])) ++ beat_on (ether_way k) pace (length before + 1))
-        (deeds_behind (ether_way k) own pace (before ++ b ∷ []) items)
-        (deeds_join (map (deed_by own) (closed_by k (open_from [] before ++ b ∷ []))) (beat_on (ether_way k) pace (length before + 1))
+        let this = map (station_event_by own) (closed_by k (open_from [] before ++ b ∷ [])) in
+        let beat = beat_on (ether_medium k) pace (length before + 1) in
+        station_events_join (map (station_event_by own) (closed_by k (open_from [] before ++ b ∷ [])) ++ beat_on (ether_medium k) pace (length before + 1))
+        (station_events_after (ether_medium k) own pace (before ++ b ∷ []) items)
+        (station_events_join (map (station_event_by own) (closed_by k (open_from [] before ++ b ∷ []))) (beat_on (ether_medium k) pace (length before + 1))
         (came_fits (closed_by k (open_from [] before ++ b ∷ [])) (closes_fit k (open_from [] before ++ b ∷ []))) (beat_fits k pace (length before + 1)))
         (line_fits k pace (before ++ b ∷ []) items)
     line_fits k pace before (Quiet ∷ items) =
-        deeds_join (tick_on (ether_way k)) (deeds_behind (ether_way k) own pace before items) (tick_fits k) (line_fits k pace before items)
+        station_events_join (tick_on (ether_medium k)) (station_events_after (ether_medium k) own pace before items) (tick_fits k) (line_fits k pace before items)
 
 pub all_sendable : DatagramsFitFrames
 all_sendable m served k own pace items numbers four = record {
-  each = each_fits own four m served (line_deeds (ether_way k) own pace items) (record { acts = []; node = opening own numbers })
+  each = each_fits own four m served (station_events_of_line (ether_medium k) own pace items) (record { acts = []; node = initial_node own numbers })
       (line_fits own four m k pace [] items) (λ i c e. all_closed 10 i c e);
 }

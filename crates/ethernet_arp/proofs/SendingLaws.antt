@@ -4,7 +4,7 @@ use Rattle.std.specs.Prelude.{⊤, slice_get}
 use Rattle.std.specs.Option.{option_map_or, option_or}
 use Rattle.std.specs.Str.{bytes_eq}
 use Rattle.std.proofs.lemmas.Bool.{leb-true}
-use Rattle.app_events.specs.Part.{Meaning}
+use Rattle.app_events.specs.AppSpec.{AppSpec}
 use Rattle.uip_edge.specs.declared.item.Item.{Item}
 use Rattle.uip_edge.specs.declared.item.Item.TheVariants.{Byte, Quiet}
 use Rattle.uip_wire.specs.Addr.{address_at}
@@ -13,11 +13,11 @@ use Rattle.uip_wire.specs.declared.addr.Addr.{Addr}
 use Rattle.uip_node.specs.Edge.{reply_bytes}
 use Rattle.uip_node.specs.Events.{Event, Reply, tick}
 use Rattle.uip_node.specs.Node.{AbstractNode, step}
-use Rattle.line_medium.specs.Ways.{Came, Datagram, Overlong, Own}
-use Rattle.serve_loop.specs.DeedRuns.{Deed, Does, Happens, Station, after_deed, said, said_by_deed, text_behind}
-use Rattle.serve_loop.specs.LineDeeds.{beat_on, deed_by, deeds_behind, line_deeds, tick_on}
+use Rattle.line_medium.specs.Media.{MediumInput, Datagram, Overlong, Own}
+use Rattle.serve_loop.specs.StationRuns.{StationEvent, OfMedium, OfNode, Station, station_after, output, output_of_event, reply_text}
+use Rattle.serve_loop.specs.LineStationEvents.{beat_on, station_event_by, station_events_after, station_events_of_line, tick_on}
 use Rattle.serve_loop.specs.Pace.{is_beat}
-use Rattle.ethernet_arp.specs.EtherWay.{closed_by, ether_text, ether_way, is_taken, is_whole, open_from}
+use Rattle.ethernet_arp.specs.EtherWay.{closed_by, ether_text, ether_medium, is_taken, is_whole, open_from}
 use Rattle.ethernet_arp.specs.Frames.{Host, arp_brings, arp_packet, broadcast, frame_brings, frame_with, framed, is_arp, is_arp_for, is_datagram, is_sendable, mac_at, no_mac, payload_brings, arp_reply, arp_request, sender_of, wrapped}
 use Rattle.ethernet_arp.specs.Learning.{Act, Asked, Learning, Pair, Replied, Ticked, is_fresh, known, last_learning, learning_by, taught}
 use Rattle.ethernet_arp.proofs.LearningLaws.{mac_of}
@@ -37,13 +37,13 @@ abbrev AllSound : List Act → Type 0
 AllSound [] = ⊤
 AllSound (a ∷ acts) = IsActSound a × AllSound acts
 
-abbrev IsDeedSound : Deed Act → Type 0
-IsDeedSound (Does a) = IsActSound a
-IsDeedSound (Happens e) = ⊤
+abbrev IsStationEventSound : StationEvent Act → Type 0
+IsStationEventSound (OfMedium a) = IsActSound a
+IsStationEventSound (OfNode e) = ⊤
 
-abbrev AllDeeds : List (Deed Act) → Type 0
-AllDeeds [] = ⊤
-AllDeeds (d ∷ deeds) = IsDeedSound d × AllDeeds deeds
+abbrev AllStationEvents : List (StationEvent Act) → Type 0
+AllStationEvents [] = ⊤
+AllStationEvents (d ∷ station_events) = IsStationEventSound d × AllStationEvents station_events
 
 sound_more : (acts : List Act) (a : Act) → AllSound acts → IsActSound a → AllSound (acts ++ a ∷ [])
 sound_more [] a s h = (h, tt)
@@ -108,11 +108,11 @@ module _ (to from payload : List ℕ) (kind : ℕ) (a : length to ≡ 6) (b : le
       subst (λ (l : List ℕ). drop 14 (frame_with l from kind payload) ≡ payload) (six to a)
       (subst (λ (l : List ℕ). drop 14 (frame_with (elements6 to) l kind payload) ≡ payload) (six from b) refl)
 
-  size_of : length (frame_with to from kind payload) ≡ 14 + length payload
-  size_of =
+  sequence_length : length (frame_with to from kind payload) ≡ 14 + length payload
+  sequence_length =
       omega (arith, length-append to from, length-append (to ++ from) (word_bytes kind), length-append (to ++ from ++ word_bytes kind) payload, a, b)
 
--- the frames of a text that begins with a frame behind its length
+-- the frames of a text that begins with a frame after its length
 grows : (high low : ℕ) (frame run rest : List ℕ) → 0 < length run → length frame + length run ≡ 256 * high + low
     → frames_from (high ∷ low ∷ frame) (run ++ rest) ≡ (frame ++ run) ∷ frames_from [] rest
 grows high low frame [] rest some h = absurd (omega arith)
@@ -137,7 +137,7 @@ first_frame frame rest some most =
     (ne_eqb 0 (256 * high + low) (λ e. omega (arith, e, some, size)))
     ∙ grows high low [] frame rest some (omega (arith, size))
 
--- what is said at a deed: nothing, or one frame, which goes home if it carries a datagram
+-- the output at an event: nothing, or one frame, which goes home if it carries a datagram
 pub record IsFrame (acts : List Act) (text frame : List ℕ) : Type 0 where
   pub is : text ≡ framed frame
   pub some : 0 < length frame
@@ -169,7 +169,7 @@ module _ (k : Host) (mac6 : length k.mac ≡ 6) (addr4 : length k.addr ≡ 4) wh
       → IsFrame acts (framed (frame_with to k.mac 2054 (arp_packet operation k.mac k.addr mac target))) (frame_with to k.mac 2054 (arp_packet operation k.mac k.addr mac target))
   arp_says acts to operation mac target a b c =
       let packet = arp_packet operation k.mac k.addr mac target in
-      let size = size_of to k.mac packet 2054 a mac6 in
+      let size = sequence_length to k.mac packet 2054 a mac6 in
       record {
         is = refl;
         some = omega (arith, size);
@@ -186,7 +186,7 @@ module _ (k : Host) (mac6 : length k.mac ≡ 6) (addr4 : length k.addr ≡ 4) wh
   datagram_says acts d mac sound most e =
       let it = known_last (last_learning (address_at d 16) acts) mac e in
       let six : length mac ≡ 6 = ap (λ l. length l) (sym it.2) ∙ last_six (address_at d 16) acts it.0 sound it.1 in
-      let size = size_of mac k.mac d 2048 six mac6 in
+      let size = sequence_length mac k.mac d 2048 six mac6 in
       record {
         is = refl;
         some = omega (arith, size);
@@ -212,108 +212,108 @@ module _ (k : Host) (mac6 : length k.mac ≡ 6) (addr4 : length k.addr ≡ 4) wh
       short true n e = let most = leb-true n 1500 e in omega arith
       short false n e = absurd (cc e)
 
-  reply_says : (acts : List Act) (own : Addr) (o : Option Reply) → AllSound acts → Says acts (text_behind (ether_way k) acts own o)
+  reply_says : (acts : List Act) (own : Addr) (o : Option Reply) → AllSound acts → Says acts (reply_text (ether_medium k) acts own o)
   reply_says acts own None sound = inl refl
   reply_says acts own (Some reply) sound = text_says acts (reply_bytes own reply) sound
 
-  deed_says : (m : Meaning) (served : ℕ → Bool) (own : Addr) (s : Station Act) (d : Deed Act) → AllSound s.acts → IsDeedSound d → Says s.acts (said_by_deed m served (ether_way k) own s d)
-  deed_says m served own s (Does (Asked pair)) sound h = inr (arp_reply k pair, arp_says s.acts pair.mac 2 pair.mac pair.addr h.1 h.1 h.0)
-  deed_says m served own s (Does (Replied pair)) sound h = inl refl
-  deed_says m served own s (Does Ticked) sound h = inl refl
-  deed_says m served own s (Happens e) sound h = reply_says s.acts own (step m served s.node e).sent sound
+  station_event_says : (m : AppSpec) (served : ℕ → Bool) (own : Addr) (s : Station Act) (d : StationEvent Act) → AllSound s.acts → IsStationEventSound d → Says s.acts (output_of_event m served (ether_medium k) own s d)
+  station_event_says m served own s (OfMedium (Asked pair)) sound h = inr (arp_reply k pair, arp_says s.acts pair.mac 2 pair.mac pair.addr h.1 h.1 h.0)
+  station_event_says m served own s (OfMedium (Replied pair)) sound h = inl refl
+  station_event_says m served own s (OfMedium Ticked) sound h = inl refl
+  station_event_says m served own s (OfNode e) sound h = reply_says s.acts own (step m served s.node e).sent sound
 
-  sound_after : (m : Meaning) (served : ℕ → Bool) (s : Station Act) (d : Deed Act) → AllSound s.acts → IsDeedSound d → AllSound (after_deed m served s d).acts
-  sound_after m served s (Does a) sound h = sound_more s.acts a sound h
-  sound_after m served s (Happens e) sound h = sound
+  sound_after : (m : AppSpec) (served : ℕ → Bool) (s : Station Act) (d : StationEvent Act) → AllSound s.acts → IsStationEventSound d → AllSound (station_after m served s d).acts
+  sound_after m served s (OfMedium a) sound h = sound_more s.acts a sound h
+  sound_after m served s (OfNode e) sound h = sound
 
-  module _ (m : Meaning) (served : ℕ → Bool) (own : Addr) where
-    abbrev texts : List (Deed Act) → Station Act → List ℕ
-    texts deeds s = said m served (ether_way k) own deeds s
+  module _ (m : AppSpec) (served : ℕ → Bool) (own : Addr) where
+    abbrev texts : List (StationEvent Act) → Station Act → List ℕ
+    texts station_events s = output m served (ether_medium k) own station_events s
 
-    -- behind a deed at which nothing is said
-    quiet_home : (d : Deed Act) (deeds : List (Deed Act)) (s : Station Act) (frame : List ℕ) (i : ℕ)
-        → said_by_deed m served (ether_way k) own s d ≡ []
-        → GoesHome m served k own deeds (after_deed m served s d) i frame → GoesHome m served k own (d ∷ deeds) s i frame
-    quiet_home d deeds s frame i quiet h = record {
+    -- after an event without output
+    quiet_home : (d : StationEvent Act) (station_events : List (StationEvent Act)) (s : Station Act) (frame : List ℕ) (i : ℕ)
+        → output_of_event m served (ether_medium k) own s d ≡ []
+        → GoesHome m served k own station_events (station_after m served s d) i frame → GoesHome m served k own (d ∷ station_events) s i frame
+    quiet_home d station_events s frame i quiet h = record {
       done = d ∷ h.done;
       now = h.now;
       later = h.later;
       split = ap (λ l. d ∷ l) h.split;
-      place = ap (λ l. length (frames_from [] (l ++ texts h.done (after_deed m served s d)))) quiet ∙ h.place;
+      place = ap (λ l. length (frames_from [] (l ++ texts h.done (station_after m served s d)))) quiet ∙ h.place;
       sent = h.sent;
       to = h.to;
     }
 
-    -- behind a deed at which a frame is said
-    later_home : (d : Deed Act) (deeds : List (Deed Act)) (s : Station Act) (f frame : List ℕ) (i : ℕ)
-        → IsFrame s.acts (said_by_deed m served (ether_way k) own s d) f
-        → GoesHome m served k own deeds (after_deed m served s d) i frame → GoesHome m served k own (d ∷ deeds) s (suc i) frame
-    later_home d deeds s f frame i g h = record {
+    -- after an event with a frame as output
+    later_home : (d : StationEvent Act) (station_events : List (StationEvent Act)) (s : Station Act) (f frame : List ℕ) (i : ℕ)
+        → IsFrame s.acts (output_of_event m served (ether_medium k) own s d) f
+        → GoesHome m served k own station_events (station_after m served s d) i frame → GoesHome m served k own (d ∷ station_events) s (suc i) frame
+    later_home d station_events s f frame i g h = record {
       done = d ∷ h.done;
       now = h.now;
       later = h.later;
       split = ap (λ l. d ∷ l) h.split;
-      place = ap (λ l. length (frames_from [] (l ++ texts h.done (after_deed m served s d)))) g.is
-          ∙ ap (λ (l : List (List ℕ)). length l) (first_frame f (texts h.done (after_deed m served s d)) g.some g.most)
+      place = ap (λ l. length (frames_from [] (l ++ texts h.done (station_after m served s d)))) g.is
+          ∙ ap (λ (l : List (List ℕ)). length l) (first_frame f (texts h.done (station_after m served s d)) g.some g.most)
           ∙ ap (λ n. suc n) h.place;
       sent = h.sent;
       to = h.to;
     }
 
-    this_or_later : (d : Deed Act) (deeds : List (Deed Act)) (s : Station Act) (f frame : List ℕ) (i : ℕ) → IsFrame s.acts (said_by_deed m served (ether_way k) own s d) f
-        → ((j : ℕ) (g : List ℕ) → slice_get (frames_from [] (texts deeds (after_deed m served s d))) j ≡ Some g → is_datagram (word_at g 12) ≡ true → GoesHome m served k own deeds (after_deed m served s d) j g)
-        → slice_get (f ∷ frames_from [] (texts deeds (after_deed m served s d))) i ≡ Some frame → is_datagram (word_at frame 12) ≡ true → GoesHome m served k own (d ∷ deeds) s i frame
-    this_or_later d deeds s f frame zero h more at e =
+    this_or_later : (d : StationEvent Act) (station_events : List (StationEvent Act)) (s : Station Act) (f frame : List ℕ) (i : ℕ) → IsFrame s.acts (output_of_event m served (ether_medium k) own s d) f
+        → ((j : ℕ) (g : List ℕ) → slice_get (frames_from [] (texts station_events (station_after m served s d))) j ≡ Some g → is_datagram (word_at g 12) ≡ true → GoesHome m served k own station_events (station_after m served s d) j g)
+        → slice_get (f ∷ frames_from [] (texts station_events (station_after m served s d))) i ≡ Some frame → is_datagram (word_at frame 12) ≡ true → GoesHome m served k own (d ∷ station_events) s i frame
+    this_or_later d station_events s f frame zero h more at e =
         let same : f ≡ frame = cc at in
         record {
           done = [];
           now = d;
-          later = deeds;
+          later = station_events;
           split = refl;
           place = refl;
           sent = h.is ∙ ap (λ l. framed l) same;
           to = subst (λ (l : List ℕ). known s.acts (target_in l) ≡ Some (mac_at l 0)) same (h.home (ap (λ l. is_datagram (word_at l 12)) same ∙ e));
         }
-    this_or_later d deeds s f frame (suc i) h more at e = later_home d deeds s f frame i h (more i frame at e)
+    this_or_later d station_events s f frame (suc i) h more at e = later_home d station_events s f frame i h (more i frame at e)
 
-    homes : (deeds : List (Deed Act)) (s : Station Act) → AllSound s.acts → AllDeeds deeds → (i : ℕ) (frame : List ℕ)
-        → slice_get (frames_from [] (texts deeds s)) i ≡ Some frame → is_datagram (word_at frame 12) ≡ true → GoesHome m served k own deeds s i frame
+    homes : (station_events : List (StationEvent Act)) (s : Station Act) → AllSound s.acts → AllStationEvents station_events → (i : ℕ) (frame : List ℕ)
+        → slice_get (frames_from [] (texts station_events s)) i ≡ Some frame → is_datagram (word_at frame 12) ≡ true → GoesHome m served k own station_events s i frame
     homes [] s sound h i frame at e = absurd (cc at)
-    homes (d ∷ deeds) s sound h i frame at e =
-        let next = after_deed m served s d in
-        let rest = texts deeds next in
-        let more = homes deeds next (sound_after m served s d sound h.0) h.1 in
-        elim (deed_says m served own s d sound h.0) [
-          | inl quiet ↦ quiet_home d deeds s frame i quiet (more i frame (ap (λ l. slice_get (frames_from [] (l ++ rest)) i) (sym quiet) ∙ at) e)
-          | inr said ↦
-              let f = said.0 in
+    homes (d ∷ station_events) s sound h i frame at e =
+        let next = station_after m served s d in
+        let rest = texts station_events next in
+        let more = homes station_events next (sound_after m served s d sound h.0) h.1 in
+        elim (station_event_says m served own s d sound h.0) [
+          | inl quiet ↦ quiet_home d station_events s frame i quiet (more i frame (ap (λ l. slice_get (frames_from [] (l ++ rest)) i) (sym quiet) ∙ at) e)
+          | inr output ↦
+              let f = output.0 in
               let cut : slice_get (f ∷ frames_from [] rest) i ≡ Some frame =
-              ap (λ l. slice_get l i) (sym (ap (λ l. frames_from [] (l ++ rest)) said.1.is ∙ first_frame f rest said.1.some said.1.most)) ∙ at in
-              this_or_later d deeds s f frame i said.1 more cut e
+              ap (λ l. slice_get l i) (sym (ap (λ l. frames_from [] (l ++ rest)) output.1.is ∙ first_frame f rest output.1.some output.1.most)) ∙ at in
+              this_or_later d station_events s f frame i output.1 more cut e
         ]
 
 -- the deeds of a line are sound
-all_deeds : (xs ys : List (Deed Act)) → AllDeeds xs → AllDeeds ys → AllDeeds (xs ++ ys)
-all_deeds [] ys a b = b
-all_deeds (x ∷ xs) ys a b = (a.0, all_deeds xs ys a.1 b)
+all_station_events : (xs ys : List (StationEvent Act)) → AllStationEvents xs → AllStationEvents ys → AllStationEvents (xs ++ ys)
+all_station_events [] ys a b = b
+all_station_events (x ∷ xs) ys a b = (a.0, all_station_events xs ys a.1 b)
 
-events_sound : (events : List Event) → AllDeeds (map Happens events)
+events_sound : (events : List Event) → AllStationEvents (map OfNode events)
 events_sound [] = tt
 events_sound (e ∷ events) = (tt, events_sound events)
 
-abbrev IsCameSound : List (Came Act) → Type 0
+abbrev IsCameSound : List (MediumInput Act) → Type 0
 IsCameSound [] = ⊤
 IsCameSound (Own a ∷ cs) = IsActSound a × IsCameSound cs
 IsCameSound (Datagram d ∷ cs) = IsCameSound cs
 IsCameSound (Overlong ∷ cs) = IsCameSound cs
 
-came_sound : (own : Addr) (cs : List (Came Act)) → IsCameSound cs → AllDeeds (map (deed_by own) cs)
+came_sound : (own : Addr) (cs : List (MediumInput Act)) → IsCameSound cs → AllStationEvents (map (station_event_by own) cs)
 came_sound own [] h = tt
 came_sound own (Own a ∷ cs) h = (h.0, came_sound own cs h.1)
 came_sound own (Datagram d ∷ cs) h = (tt, came_sound own cs h)
 came_sound own (Overlong ∷ cs) h = (tt, came_sound own cs h)
 
-if_sound : (b : Bool) (xs ys : List (Came Act)) → IsCameSound xs → IsCameSound ys → IsCameSound (if b then xs else ys)
+if_sound : (b : Bool) (xs ys : List (MediumInput Act)) → IsCameSound xs → IsCameSound ys → IsCameSound (if b then xs else ys)
 if_sound true xs ys a b = a
 if_sound false xs ys a b = b
 
@@ -335,28 +335,28 @@ module _ (k : Host) where
   closes_sound : (part : List ℕ) → IsCameSound (closed_by k part)
   closes_sound part = if_sound (is_whole part && is_taken (drop 2 part)) (frame_brings k (drop 2 part)) [] (frame_sound (drop 2 part)) tt
 
-  tick_sound : AllDeeds (tick_on (ether_way k))
+  tick_sound : AllStationEvents (tick_on (ether_medium k))
   tick_sound = (tt, events_sound tick)
 
-  beat_sound : (pace number : ℕ) → AllDeeds (beat_on (ether_way k) pace number)
+  beat_sound : (pace number : ℕ) → AllStationEvents (beat_on (ether_medium k) pace number)
   beat_sound pace number =
-      elim (is_beat pace number) as (λ v. AllDeeds (if v then tick_on (ether_way k) else [])) [
+      elim (is_beat pace number) as (λ v. AllStationEvents (if v then tick_on (ether_medium k) else [])) [
         | true ↦ tick_sound
         | false ↦ tt
       ]
 
-  line_sound : (own : Addr) (pace : ℕ) (before : List ℕ) (items : List Item) → AllDeeds (deeds_behind (ether_way k) own pace before items)
+  line_sound : (own : Addr) (pace : ℕ) (before : List ℕ) (items : List Item) → AllStationEvents (station_events_after (ether_medium k) own pace before items)
   line_sound own pace before [] = tt
   line_sound own pace before (Byte b ∷ items) =
-      let this = map (deed_by own) (closed_by k (open_from [] before ++ b ∷ [])) in
-      let beat = beat_on (ether_way k) pace (length before + 1) in
-      all_deeds (this ++ beat) (deeds_behind (ether_way k) own pace (before ++ b ∷ []) items)
-      (all_deeds this beat (came_sound own (closed_by k (open_from [] before ++ b ∷ [])) (closes_sound (open_from [] before ++ b ∷ []))) (beat_sound pace (length before + 1)))
+      let this = map (station_event_by own) (closed_by k (open_from [] before ++ b ∷ [])) in
+      let beat = beat_on (ether_medium k) pace (length before + 1) in
+      all_station_events (this ++ beat) (station_events_after (ether_medium k) own pace (before ++ b ∷ []) items)
+      (all_station_events this beat (came_sound own (closed_by k (open_from [] before ++ b ∷ [])) (closes_sound (open_from [] before ++ b ∷ []))) (beat_sound pace (length before + 1)))
       (line_sound own pace (before ++ b ∷ []) items)
-  line_sound own pace before (Quiet ∷ items) = all_deeds (tick_on (ether_way k)) (deeds_behind (ether_way k) own pace before items) tick_sound (line_sound own pace before items)
+  line_sound own pace before (Quiet ∷ items) = all_station_events (tick_on (ether_medium k)) (station_events_after (ether_medium k) own pace before items) tick_sound (line_sound own pace before items)
 
-pub all_go_home : (m : Meaning) (served : ℕ → Bool) (k : Host) (own : Addr) (pace : ℕ) (items : List Item) (n : AbstractNode) → length k.mac ≡ 6 → length k.addr ≡ 4
-    → AllGoHome m served k own (line_deeds (ether_way k) own pace items) (record { acts = []; node = n })
+pub all_go_home : (m : AppSpec) (served : ℕ → Bool) (k : Host) (own : Addr) (pace : ℕ) (items : List Item) (n : AbstractNode) → length k.mac ≡ 6 → length k.addr ≡ 4
+    → AllGoHome m served k own (station_events_of_line (ether_medium k) own pace items) (record { acts = []; node = n })
 all_go_home m served k own pace items n mac6 addr4 = record {
-  each = homes k mac6 addr4 m served own (line_deeds (ether_way k) own pace items) (record { acts = []; node = n }) tt (line_sound k own pace [] items);
+  each = homes k mac6 addr4 m served own (station_events_of_line (ether_medium k) own pace items) (record { acts = []; node = n }) tt (line_sound k own pace [] items);
 }

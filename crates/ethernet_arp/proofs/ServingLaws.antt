@@ -1,17 +1,17 @@
--- A serving, told of other words for what its medium did.
+-- Serving a line, restated for other predicates on its medium's events.
 use Rattle.std.proofs.Common.{ℕ, Bool, List, Option}
-use Rattle.app_events.specs.Part.{Meaning}
+use Rattle.app_events.specs.AppSpec.{AppSpec}
 use Rattle.app_events.specs.declared.app.App.{Ghosts}
 use Rattle.uip_edge.specs.declared.serve_end.ServeEnd.{ServeEnd}
 use Rattle.uip_edge.specs.declared.serve_end.ServeEnd.TheVariants as ends
 use Rattle.uip_wire.specs.declared.addr.Addr.{Addr}
 use Rattle.uip_node.specs.State.{Node}
-use Rattle.line_medium.specs.Ways.{Way}
-use Rattle.serve_loop.specs.DeedRuns.{AllSaid, Deed, FrontSaid, Station}
-use Rattle.serve_loop.specs.DeedServing.{IsStationed, SaidBy, ServesOver}
-use Rattle.uip_edge.specs.Told.{LineTold}
+use Rattle.line_medium.specs.Media.{MediumSpec}
+use Rattle.serve_loop.specs.StationRuns.{AllSaid, StationEvent, PrefixWritten, Station}
+use Rattle.serve_loop.specs.StationServing.{IsStationed, SaidBy, ServesOver}
+use Rattle.uip_edge.specs.Views.{LineView}
 
-module _ {A S C : Type 0} (g : Ghosts A S) (w : Way C) (did did' told told' : List C → Type 0) (before after : Node A S)
+module _ {A S C : Type 0} (g : Ghosts A S) (w : MediumSpec C) (did did' told told' : List C → Type 0) (before after : Node A S)
     (first : (acts : List C) → told acts → did acts) (last : (acts : List C) → did' acts → told' acts) where
   starts : (s : Station C) → IsStationed g told before s → IsStationed g did before s
   starts s p = record { stands = p.stands; acted = first s.acts p.acted }
@@ -19,30 +19,30 @@ module _ {A S C : Type 0} (g : Ghosts A S) (w : Way C) (did did' told told' : Li
   stops : (s : Station C) → IsStationed g did' after s → IsStationed g told' after s
   stops s p = record { stands = p.stands; acted = last s.acts p.acted }
 
-  all_told : (m : Meaning) (served : ℕ → Bool) (own : Addr) (deeds : List (Deed C)) (a b : Option (List ℕ))
-      → AllSaid m served w own deeds (IsStationed g did before) (IsStationed g did' after) a b → AllSaid m served w own deeds (IsStationed g told before) (IsStationed g told' after) a b
-  all_told m served own deeds a b v = record { each = λ s p. let it = v.each s (starts s p) in (stops _ it.0, it.1) }
+  all_told : (m : AppSpec) (served : ℕ → Bool) (own : Addr) (station_events : List (StationEvent C)) (a b : Option (List ℕ))
+      → AllSaid m served w own station_events (IsStationed g did before) (IsStationed g did' after) a b → AllSaid m served w own station_events (IsStationed g told before) (IsStationed g told' after) a b
+  all_told m served own station_events a b v = record { each = λ s p. let it = v.each s (starts s p) in (stops _ it.0, it.1) }
 
-  front_told : (m : Meaning) (served : ℕ → Bool) (own : Addr) (deeds : List (Deed C)) (a b : Option (List ℕ))
-      → FrontSaid m served w own deeds (IsStationed g did before) (IsStationed g did' after) a b → FrontSaid m served w own deeds (IsStationed g told before) (IsStationed g told' after) a b
-  front_told m served own deeds a b v = record {
+  prefix_told : (m : AppSpec) (served : ℕ → Bool) (own : Addr) (station_events : List (StationEvent C)) (a b : Option (List ℕ))
+      → PrefixWritten m served w own station_events (IsStationed g did before) (IsStationed g did' after) a b → PrefixWritten m served w own station_events (IsStationed g told before) (IsStationed g told' after) a b
+  prefix_told m served own station_events a b v = record {
     each = λ s p.
         let it = v.each s (starts s p) in
         record { done = it.done; last = it.last; later = it.later; split = it.split; after = stops _ it.after; broke = it.broke };
   }
 
-  told_by : (end : ServeEnd) (m : Meaning) (served : ℕ → Bool) (own : Addr) (deeds : List (Deed C)) (a b : Option (List ℕ))
-      → SaidBy end m served w own deeds (IsStationed g did before) (IsStationed g did' after) a b → SaidBy end m served w own deeds (IsStationed g told before) (IsStationed g told' after) a b
-  told_by ends.End m served own deeds a b v = all_told m served own deeds a b v
-  told_by ends.Budget m served own deeds a b v = all_told m served own deeds a b v
-  told_by ends.LinkFault m served own deeds a b v = all_told m served own deeds a b v
-  told_by ends.WriteFault m served own deeds a b v = front_told m served own deeds a b v
+  reported_by : (end : ServeEnd) (m : AppSpec) (served : ℕ → Bool) (own : Addr) (station_events : List (StationEvent C)) (a b : Option (List ℕ))
+      → SaidBy end m served w own station_events (IsStationed g did before) (IsStationed g did' after) a b → SaidBy end m served w own station_events (IsStationed g told before) (IsStationed g told' after) a b
+  reported_by ends.End m served own station_events a b v = all_told m served own station_events a b v
+  reported_by ends.Budget m served own station_events a b v = all_told m served own station_events a b v
+  reported_by ends.LinkFault m served own station_events a b v = all_told m served own station_events a b v
+  reported_by ends.WriteFault m served own station_events a b v = prefix_told m served own station_events a b v
 
-  pub serves_told : (pace n : ℕ) (old new : LineTold) (end : ServeEnd) → ServesOver g w did did' pace n before after old new end → ServesOver g w told told' pace n before after old new end
+  pub serves_told : (pace n : ℕ) (old new : LineView) (end : ServeEnd) → ServesOver g w did did' pace n before after old new end → ServesOver g w told told' pace n before after old new end
   serves_told pace n old new end v = record {
     taken = v.taken;
     are = v.are;
     consumed = v.consumed;
     ends = v.ends;
-    wrote = told_by end _ _ _ _ _ _ v.wrote;
+    wrote = reported_by end _ _ _ _ _ _ v.wrote;
   }

@@ -1,4 +1,4 @@
--- A table after one more act.
+-- A table after one more event.
 use Rattle.std.proofs.Common.{add-one, ◌≡◌, ℕ, zero, suc, ◌+◌, ◌-◌, ◌<◌, ◌≤◌, ◌&&◌, ◌||◌, Bool, true, false, if◌then◌else◌, cond, nat_lt, min, List, [], ◌∷◌, ◌++◌, Option, None, Some, length, map, take, drop, get_or, refl, sym, ap, ◌∙◌, subst, arith, inl, inr, ◌⊎◌}
 use Rattle.std.specs.List.{find, list_any, position_or_len}
 use Rattle.std.specs.Prelude.{option_map, slice_get}
@@ -8,7 +8,7 @@ use Rattle.std.proofs.lemmas.List.{length-map}
 use Rattle.std.proofs.lemmas.List.Folds.{find_at}
 use Rattle.std.proofs.lemmas.List.Recursion.{is_position_or_len}
 use Rattle.ethernet_arp.specs.Learning.{Act, Learning, Pair, Ticked, addresses_of, among, is_fresh, known, last_learning, taught, ticks_in}
-use Rattle.ethernet_arp.specs.Table.{AllRemember, AreOlder, AreOrdered, IsAlike, Knows, Remembers, aged, in_table, is_of, moved_front}
+use Rattle.ethernet_arp.specs.Table.{AllRemember, AreOlder, AreOrdered, IsAlike, Knows, Remembers, aged, in_table, is_of, moved_prefix}
 use Rattle.ethernet_arp.specs.declared.arp.Arp.{Arp}
 use Rattle.ethernet_arp.specs.declared.arp.Entry.{Entry}
 use Rattle.ethernet_arp.proofs.LearningLaws.{addresses-learnt, addresses-tick, is_same, last-learnt, last-other, last-tick, mac_of, not_among, not_both, on_later, or_parts, same, ticks-learnt, ticks-tick}
@@ -61,7 +61,7 @@ is_live age =
       | false ↦ λ e. inr (ltb-false age 2400 e)
     ] refl
 
--- where no hardware address is told, the learning is not fresh
+-- if no hardware address is known, the learning is not fresh
 some_none : (m : List ℕ) → Some m ≡ None → ⊥
 some_none m e = cc
 
@@ -90,18 +90,18 @@ module _ (acts : List Act) (act : Act) (pair : Pair) (is : taught act ≡ Some p
   now = acts ++ act ∷ []
 
   -- how many other addresses there are then, by whether the pair's is among them
-  sized : (l : Learning) (front : List (List ℕ)) (b : Bool) → IsAlike (addresses_of l.later) front → among pair.addr front ≡ b
-      → length (addresses_of (l.later ++ act ∷ [])) ≡ length front + (if b then 0 else 1)
-  sized l front b e there =
+  sized : (l : Learning) (prefix : List (List ℕ)) (b : Bool) → IsAlike (addresses_of l.later) prefix → among pair.addr prefix ≡ b
+      → length (addresses_of (l.later ++ act ∷ [])) ≡ length prefix + (if b then 0 else 1)
+  sized l prefix b e there =
       let one = (addresses-learnt l.later act pair is).size ∙ ap (λ v. length (addresses_of l.later) + (if v then 0 else 1)) (e.same pair.addr ∙ there) in
       let s = e.size in omega arith
 
-  grown : (l : Learning) (front front' : List (List ℕ)) → IsAlike (addresses_of l.later) front → among pair.addr front ≡ false → IsAlike (pair.addr ∷ front) front'
-      → IsAlike (addresses_of (l.later ++ act ∷ [])) front'
-  grown l front front' e new f =
+  grown : (l : Learning) (prefix prefix' : List (List ℕ)) → IsAlike (addresses_of l.later) prefix → among pair.addr prefix ≡ false → IsAlike (pair.addr ∷ prefix) prefix'
+      → IsAlike (addresses_of (l.later ++ act ∷ [])) prefix'
+  grown l prefix prefix' e new f =
       record {
-        size = let one = sized l front false e new in let t = f.size in omega arith;
-        same = λ y. (addresses-learnt l.later act pair is).same y ∙ ap (λ v. v || bytes_eq pair.addr y) (e.same y) ∙ or_comm (among y front) (bytes_eq pair.addr y) ∙ f.same y;
+        size = let one = sized l prefix false e new in let t = f.size in omega arith;
+        same = λ y. (addresses-learnt l.later act pair is).same y ∙ ap (λ v. v || bytes_eq pair.addr y) (e.same y) ∙ or_comm (among y prefix) (bytes_eq pair.addr y) ∙ f.same y;
       }
     where
       or_comm : (a b : Bool) → (a || b) ≡ (b || a)
@@ -110,11 +110,11 @@ module _ (acts : List Act) (act : Act) (pair : Pair) (is : taught act ≡ Some p
       or_comm false true = refl
       or_comm false false = refl
 
-  kept : (l : Learning) (front front' : List (List ℕ)) → IsAlike (addresses_of l.later) front → among pair.addr front ≡ true → IsAlike front front'
-      → IsAlike (addresses_of (l.later ++ act ∷ [])) front'
-  kept l front front' e old f =
+  kept : (l : Learning) (prefix prefix' : List (List ℕ)) → IsAlike (addresses_of l.later) prefix → among pair.addr prefix ≡ true → IsAlike prefix prefix'
+      → IsAlike (addresses_of (l.later ++ act ∷ [])) prefix'
+  kept l prefix prefix' e old f =
       record {
-        size = let one = sized l front true e old in let t = f.size in omega arith;
+        size = let one = sized l prefix true e old in let t = f.size in omega arith;
         same = λ y. (addresses-learnt l.later act pair is).same y ∙ or_known (among y (addresses_of l.later)) (bytes_eq pair.addr y)
             (λ b. ap (λ z. among z (addresses_of l.later)) (sym (is_same pair.addr y b)) ∙ e.same pair.addr ∙ old)
             ∙ e.same y ∙ f.same y;
@@ -128,44 +128,44 @@ module _ (acts : List Act) (act : Act) (pair : Pair) (is : taught act ≡ Some p
   abbrev later : Learning → Learning
   later l = record { mac = l.mac; later = l.later ++ act ∷ [] }
 
-  other : (e : Entry) (front : List (List ℕ)) (l : Learning) → last_learning e.addr.0 acts ≡ Some l → bytes_eq pair.addr e.addr.0 ≡ false
+  other : (e : Entry) (prefix : List (List ℕ)) (l : Learning) → last_learning e.addr.0 acts ≡ Some l → bytes_eq pair.addr e.addr.0 ≡ false
       → last_learning e.addr.0 now ≡ Some (later l)
-  other e front l last new = last-other e.addr.0 acts act pair is new ∙ ap (λ (o : Option Learning). on_later act o) last
+  other e prefix l last new = last-other e.addr.0 acts act pair is new ∙ ap (λ (o : Option Learning). on_later act o) last
 
-  remember_new : (e : Entry) (front front' : List (List ℕ)) → bytes_eq pair.addr e.addr.0 ≡ false → among pair.addr front ≡ false → IsAlike (pair.addr ∷ front) front'
-      → Remembers acts front e → Remembers now front' e
-  remember_new e front front' away new f r = record {
+  remember_new : (e : Entry) (prefix prefix' : List (List ℕ)) → bytes_eq pair.addr e.addr.0 ≡ false → among pair.addr prefix ≡ false → IsAlike (pair.addr ∷ prefix) prefix'
+      → Remembers acts prefix e → Remembers now prefix' e
+  remember_new e prefix prefix' away new f r = record {
     learning = later r.learning;
-    last = other e front r.learning r.last away;
+    last = other e prefix r.learning r.last away;
     mac = r.mac;
     age = ticks-learnt r.learning.later act pair is ∙ r.age;
-    others = grown r.learning front front' r.others new f;
+    others = grown r.learning prefix prefix' r.others new f;
   }
 
-  -- the front of an entry does not have its own address
-  not_own : (e : Entry) (front : List (List ℕ)) → among pair.addr front ≡ true → Remembers acts front e → bytes_eq pair.addr e.addr.0 ≡ false
-  not_own e front old r =
+  -- the entries before an entry do not have its own address
+  not_own : (e : Entry) (prefix : List (List ℕ)) → among pair.addr prefix ≡ true → Remembers acts prefix e → bytes_eq pair.addr e.addr.0 ≡ false
+  not_own e prefix old r =
       elim (bytes_eq pair.addr e.addr.0) as (λ v. bytes_eq pair.addr e.addr.0 ≡ v → v ≡ false) [
-        | true ↦ λ h. absurd (not_both (among pair.addr front) old
+        | true ↦ λ h. absurd (not_both (among pair.addr prefix) old
             (sym (r.others.same pair.addr) ∙ ap (λ z. among z (addresses_of r.learning.later)) (is_same pair.addr e.addr.0 h) ∙ not_among e.addr.0 acts r.learning r.last))
         | false ↦ λ h. refl
       ] refl
 
-  remember_old : (e : Entry) (front front' : List (List ℕ)) → among pair.addr front ≡ true → IsAlike front front' → Remembers acts front e → Remembers now front' e
-  remember_old e front front' old f r = record {
+  remember_old : (e : Entry) (prefix prefix' : List (List ℕ)) → among pair.addr prefix ≡ true → IsAlike prefix prefix' → Remembers acts prefix e → Remembers now prefix' e
+  remember_old e prefix prefix' old f r = record {
     learning = later r.learning;
-    last = other e front r.learning r.last (not_own e front old r);
+    last = other e prefix r.learning r.last (not_own e prefix old r);
     mac = r.mac;
     age = ticks-learnt r.learning.later act pair is ∙ r.age;
-    others = kept r.learning front front' r.others old f;
+    others = kept r.learning prefix prefix' r.others old f;
   }
 
-  -- entries behind the one that was learnt again
-  all_old : (es : List Entry) (front front' : List (List ℕ)) → among pair.addr front ≡ true → IsAlike front front' → AllRemember acts front es → AllRemember now front' es
-  all_old [] front front' old f r = tt
-  all_old (e ∷ es) front front' old f r = (
-    λ live. remember_old e front front' old f (r.0 live),
-    all_old es (e.addr.0 ∷ front) (e.addr.0 ∷ front') (or_right (bytes_eq e.addr.0 pair.addr) (among pair.addr front) old) (like_more e.addr.0 front front' f) r.1,
+  -- entries after the one that was learnt again
+  all_old : (es : List Entry) (prefix prefix' : List (List ℕ)) → among pair.addr prefix ≡ true → IsAlike prefix prefix' → AllRemember acts prefix es → AllRemember now prefix' es
+  all_old [] prefix prefix' old f r = tt
+  all_old (e ∷ es) prefix prefix' old f r = (
+    λ live. remember_old e prefix prefix' old f (r.0 live),
+    all_old es (e.addr.0 ∷ prefix) (e.addr.0 ∷ prefix') (or_right (bytes_eq e.addr.0 pair.addr) (among pair.addr prefix) old) (like_more e.addr.0 prefix prefix' f) r.1,
   )
     where
       or_right : (a b : Bool) → b ≡ true → (a || b) ≡ true
@@ -178,10 +178,10 @@ without addr [] = []
 without addr (e ∷ []) = []
 without addr (e ∷ x ∷ es) = if is_of addr e then x ∷ es else e ∷ without addr (x ∷ es)
 
--- no entry behind one that is forgotten is remembered
-all_gone : (acts : List Act) (age : ℕ) (es : List Entry) (front : List (List ℕ)) → 2400 ≤ age → AreOlder age es → AllRemember acts front es
-all_gone acts age [] front old o = tt
-all_gone acts age (e ∷ es) front old o = (λ live. absurd (let it = o.0 in omega arith), all_gone acts age es (e.addr.0 ∷ front) old o.1)
+-- no entry after a forgotten one is remembered
+all_gone : (acts : List Act) (age : ℕ) (es : List Entry) (prefix : List (List ℕ)) → 2400 ≤ age → AreOlder age es → AllRemember acts prefix es
+all_gone acts age [] prefix old o = tt
+all_gone acts age (e ∷ es) prefix old o = (λ live. absurd (let it = o.0 in omega arith), all_gone acts age es (e.addr.0 ∷ prefix) old o.1)
 
 length_without : (addr : List ℕ) (es : List Entry) → 0 < length es → length (without addr es) + 1 ≡ length es
 length_without addr [] some = absurd (omega arith)
@@ -226,11 +226,11 @@ module _ (acts : List Act) (act : Act) (pair : Pair) (is : taught act ≡ Some p
   abbrev after : List Act
   after = acts ++ act ∷ []
 
-  not_in : (x : List ℕ) (front : List (List ℕ)) → bytes_eq x pair.addr ≡ false → among pair.addr front ≡ false → among pair.addr (x ∷ front) ≡ false
-  not_in x front e f = ap (λ v. v || among pair.addr front) e ∙ f
+  not_in : (x : List ℕ) (prefix : List (List ℕ)) → bytes_eq x pair.addr ≡ false → among pair.addr prefix ≡ false → among pair.addr (x ∷ prefix) ≡ false
+  not_in x prefix e f = ap (λ v. v || among pair.addr prefix) e ∙ f
 
-  in_front : (x : List ℕ) (front : List (List ℕ)) → x ≡ pair.addr → among pair.addr (x ∷ front) ≡ true
-  in_front x front e = ap (λ l. bytes_eq l pair.addr || among pair.addr front) e ∙ ap (λ v. v || among pair.addr front) (same pair.addr)
+  with_newest : (x : List ℕ) (prefix : List (List ℕ)) → x ≡ pair.addr → among pair.addr (x ∷ prefix) ≡ true
+  with_newest x prefix e = ap (λ l. bytes_eq l pair.addr || among pair.addr prefix) e ∙ ap (λ v. v || among pair.addr prefix) (same pair.addr)
 
   away_from : (e : Entry) → bytes_eq e.addr.0 pair.addr ≡ false → bytes_eq pair.addr e.addr.0 ≡ false
   away_from e h =
@@ -239,25 +239,25 @@ module _ (acts : List Act) (act : Act) (pair : Pair) (is : taught act ≡ Some p
         | false ↦ λ f. refl
       ] refl
 
-  like_found : (x : List ℕ) (front front' : List (List ℕ)) → x ≡ pair.addr → IsAlike (pair.addr ∷ front) front' → IsAlike (x ∷ front) front'
-  like_found x front front' e f = subst (λ (l : List ℕ). IsAlike (l ∷ front) front') (sym e) f
+  like_found : (x : List ℕ) (prefix prefix' : List (List ℕ)) → x ≡ pair.addr → IsAlike (pair.addr ∷ prefix) prefix' → IsAlike (x ∷ prefix) prefix'
+  like_found x prefix prefix' e f = subst (λ (l : List ℕ). IsAlike (l ∷ prefix) prefix') (sym e) f
 
   -- the entries that stay remember the learning too
-  all_learnt : (es : List Entry) (front front' : List (List ℕ)) → among pair.addr front ≡ false → IsAlike (pair.addr ∷ front) front'
-      → AreOrdered es → AllRemember acts front es → AllRemember after front' (without pair.addr es)
-  all_learnt [] front front' new f o r = tt
-  all_learnt (e ∷ []) front front' new f o r = tt
-  all_learnt (e ∷ x ∷ es) front front' new f o r =
-      elim (is_of pair.addr e) as (λ v. is_of pair.addr e ≡ v → AllRemember after front' (if v then x ∷ es else e ∷ without pair.addr (x ∷ es))) [
+  all_learnt : (es : List Entry) (prefix prefix' : List (List ℕ)) → among pair.addr prefix ≡ false → IsAlike (pair.addr ∷ prefix) prefix'
+      → AreOrdered es → AllRemember acts prefix es → AllRemember after prefix' (without pair.addr es)
+  all_learnt [] prefix prefix' new f o r = tt
+  all_learnt (e ∷ []) prefix prefix' new f o r = tt
+  all_learnt (e ∷ x ∷ es) prefix prefix' new f o r =
+      elim (is_of pair.addr e) as (λ v. is_of pair.addr e ≡ v → AllRemember after prefix' (if v then x ∷ es else e ∷ without pair.addr (x ∷ es))) [
         | true ↦ λ h.
             let here = (live_entry pair.addr e h).1 in
-            all_old acts act pair is (x ∷ es) (e.addr.0 ∷ front) front' (in_front e.addr.0 front here) (like_found e.addr.0 front front' here f) r.1
+            all_old acts act pair is (x ∷ es) (e.addr.0 ∷ prefix) prefix' (with_newest e.addr.0 prefix here) (like_found e.addr.0 prefix prefix' here f) r.1
         | false ↦ λ h. (
-          λ live. remember_new acts act pair is e front front' (away_from e (other_entry pair.addr e live h)) new f (r.0 live),
+          λ live. remember_new acts act pair is e prefix prefix' (away_from e (other_entry pair.addr e live h)) new f (r.0 live),
           elim (is_live e.age) [
-            | inl live ↦ all_learnt (x ∷ es) (e.addr.0 ∷ front) (e.addr.0 ∷ front') (not_in e.addr.0 front (other_entry pair.addr e live h) new)
-                (like_turn pair.addr e.addr.0 front front' f) o.1 r.1
-            | inr old ↦ all_gone after e.age (without pair.addr (x ∷ es)) (e.addr.0 ∷ front') old (older_without pair.addr e.age (x ∷ es) o.0)
+            | inl live ↦ all_learnt (x ∷ es) (e.addr.0 ∷ prefix) (e.addr.0 ∷ prefix') (not_in e.addr.0 prefix (other_entry pair.addr e live h) new)
+                (like_turn pair.addr e.addr.0 prefix prefix' f) o.1 r.1
+            | inr old ↦ all_gone after e.age (without pair.addr (x ∷ es)) (e.addr.0 ∷ prefix') old (older_without pair.addr e.age (x ∷ es) o.0)
           ],
         )
       ] refl
@@ -282,12 +282,12 @@ module _ (acts : List Act) (act : Act) (pair : Pair) (is : taught act ≡ Some p
   still_unknown addr away e = ap (λ (o : Option Learning). mac_of o) (last-other addr acts act pair is away) ∙ mac_none (last_learning addr acts) e
 
   -- the last entry is forgotten at the eighth other address
-  last_unknown : (e : Entry) (front : List (List ℕ)) → length front ≡ 7 → bytes_eq pair.addr e.addr.0 ≡ false → among pair.addr front ≡ false → Remembers acts front e
+  last_unknown : (e : Entry) (prefix : List (List ℕ)) → length prefix ≡ 7 → bytes_eq pair.addr e.addr.0 ≡ false → among pair.addr prefix ≡ false → Remembers acts prefix e
       → known after e.addr.0 ≡ None
-  last_unknown e front seven away new r =
+  last_unknown e prefix seven away new r =
       let l = r.learning in
-      let more : length (addresses_of (l.later ++ act ∷ [])) ≡ length (pair.addr ∷ front) = (grown acts act pair is l front (pair.addr ∷ front) r.others new (like_same (pair.addr ∷ front))).size in
-      ap (λ (o : Option Learning). mac_of o) (other acts act pair is e front l r.last away)
+      let more : length (addresses_of (l.later ++ act ∷ [])) ≡ length (pair.addr ∷ prefix) = (grown acts act pair is l prefix (pair.addr ∷ prefix) r.others new (like_same (pair.addr ∷ prefix))).size in
+      ap (λ (o : Option Learning). mac_of o) (other acts act pair is e prefix l r.last away)
       ∙ ap (λ v. if v then Some l.mac else None) (full (nat_lt (ticks_in (l.later ++ act ∷ [])) 2400) (length (addresses_of (l.later ++ act ∷ []))) (omega (arith, more, seven)))
     where
       full : (b : Bool) (n : ℕ) → n ≡ 8 → (b && nat_lt n 8) ≡ false
@@ -295,26 +295,26 @@ module _ (acts : List Act) (act : Act) (pair : Pair) (is : taught act ≡ Some p
       full false n e = refl
 
   -- what is in no entry after a learning was in none before, or is not known
-  dropped : (addr : List ℕ) (es : List Entry) (front : List (List ℕ)) → bytes_eq pair.addr addr ≡ false → among pair.addr front ≡ false → length front + length es ≡ 8
-      → AreOrdered es → AllRemember acts front es → list_any (λ e. is_of addr e) (without pair.addr es) ≡ false
+  dropped : (addr : List ℕ) (es : List Entry) (prefix : List (List ℕ)) → bytes_eq pair.addr addr ≡ false → among pair.addr prefix ≡ false → length prefix + length es ≡ 8
+      → AreOrdered es → AllRemember acts prefix es → list_any (λ e. is_of addr e) (without pair.addr es) ≡ false
       → (list_any (λ e. is_of addr e) es ≡ false) ⊎ (known after addr ≡ None)
-  dropped addr [] front away new size o r none = inl refl
-  dropped addr (e ∷ []) front away new size o r none =
+  dropped addr [] prefix away new size o r none = inl refl
+  dropped addr (e ∷ []) prefix away new size o r none =
       elim (is_of addr e) as (λ v. is_of addr e ≡ v → ((v || false) ≡ false) ⊎ (known after addr ≡ None)) [
         | true ↦ λ h.
             let it = live_entry addr e h in
             inr (subst (λ (l : List ℕ). known after l ≡ None) it.1
-            (last_unknown e front (omega (arith, size)) (ap (λ l. bytes_eq pair.addr l) it.1 ∙ away) new (r.0 it.0)))
+            (last_unknown e prefix (omega (arith, size)) (ap (λ l. bytes_eq pair.addr l) it.1 ∙ away) new (r.0 it.0)))
         | false ↦ λ h. inl refl
       ] refl
-  dropped addr (e ∷ x ∷ es) front away new size o r none =
+  dropped addr (e ∷ x ∷ es) prefix away new size o r none =
       elim (is_of pair.addr e) as (λ v. is_of pair.addr e ≡ v → list_any (λ y. is_of addr y) (if v then x ∷ es else e ∷ without pair.addr (x ∷ es)) ≡ false
       → (list_any (λ y. is_of addr y) (e ∷ x ∷ es) ≡ false) ⊎ (known after addr ≡ None)) [
         | true ↦ λ h rest. inl (ap (λ v. v || list_any (λ y. is_of addr y) (x ∷ es)) (not_here e (live_entry pair.addr e h).1) ∙ rest)
         | false ↦ λ h rest.
             let parts = or_parts (is_of addr e) (list_any (λ y. is_of addr y) (without pair.addr (x ∷ es))) rest in
             elim (is_live e.age) [
-              | inl live ↦ elim (dropped addr (x ∷ es) (e.addr.0 ∷ front) away (not_in e.addr.0 front (other_entry pair.addr e live h) new) (omega (arith, size)) o.1 r.1 parts.1) [
+              | inl live ↦ elim (dropped addr (x ∷ es) (e.addr.0 ∷ prefix) away (not_in e.addr.0 prefix (other_entry pair.addr e live h) new) (omega (arith, size)) o.1 r.1 parts.1) [
                 | inl was ↦ inl (ap (λ v. v || list_any (λ y. is_of addr y) (x ∷ es)) parts.0 ∙ was)
                 | inr not ↦ inr not
               ]
@@ -390,15 +390,15 @@ moved_is addr (e ∷ x ∷ es) p some h =
           (ap (λ l. e ∷ l) (moved_is addr (x ∷ es) q (omega arith) refl))
     ] h
 
-pub moved_front_is : (addr : List ℕ) (e : Entry) (es : List Entry) (p : ℕ) → length es ≡ 8 → p ≡ min (position_or_len (λ x. is_of addr x) es) 7
-    → moved_front e p es ≡ e ∷ without addr es
-moved_front_is addr e es p size h =
+pub moved_prefix_is : (addr : List ℕ) (e : Entry) (es : List Entry) (p : ℕ) → length es ≡ 8 → p ≡ min (position_or_len (λ x. is_of addr x) es) 7
+    → moved_prefix e p es ≡ e ∷ without addr es
+moved_prefix_is addr e es p size h =
     ap (λ n. e ∷ take p es ++ drop n es) (add-one p)
     ∙ ap (λ l. e ∷ l) (moved_is addr es p (omega (arith, size)) (h ∙ ap (λ n. min n 7) (sym (place_is addr es)) ∙ ap (λ n. min (place_in addr es) n) (omega (arith, size))))
 
--- what an entry tells is known
-tells : (acts : List Act) (e : Entry) (front : List (List ℕ)) → e.age < 2400 → length front < 8 → Remembers acts front e → Some e.mac.0 ≡ known acts e.addr.0
-tells acts e front young few r =
+-- what an entry has is known
+tells : (acts : List Act) (e : Entry) (prefix : List (List ℕ)) → e.age < 2400 → length prefix < 8 → Remembers acts prefix e → Some e.mac.0 ≡ known acts e.addr.0
+tells acts e prefix young few r =
     let l = r.learning in
     let ticks : ticks_in l.later < 2400 = (let a = r.age in omega arith) in
     let others : length (addresses_of l.later) < 8 = (let s = r.others.size in omega arith) in
@@ -406,18 +406,18 @@ tells acts e front young few r =
     ∙ sym (ap (λ v. if v then Some l.mac else None) (ap (λ v. v && nat_lt (length (addresses_of l.later)) 8) (lt-ltb (ticks_in l.later) 2400 ticks) ∙ lt-ltb (length (addresses_of l.later)) 8 others))
     ∙ sym (ap (λ (o : Option Learning). mac_of o) r.last)
 
-found_is : (acts : List Act) (addr : List ℕ) (es : List Entry) (front : List (List ℕ)) (n : ℕ) (none : Entry) → length front + length es ≡ 8 → AllRemember acts front es
+found_is : (acts : List Act) (addr : List ℕ) (es : List Entry) (prefix : List (List ℕ)) (n : ℕ) (none : Entry) → length prefix + length es ≡ 8 → AllRemember acts prefix es
     → n ≡ place_in addr es → n < length es → Some (get_or es n none).mac.0 ≡ known acts addr
-found_is acts addr [] front n none size r e below = absurd (omega arith)
-found_is acts addr (x ∷ es) front n none size r e below =
+found_is acts addr [] prefix n none size r e below = absurd (omega arith)
+found_is acts addr (x ∷ es) prefix n none size r e below =
     elim (is_of addr x) as (λ v. is_of addr x ≡ v → n ≡ (if v then 0 else suc (place_in addr es)) → Some (get_or (x ∷ es) n none).mac.0 ≡ known acts addr) [
       | true ↦ λ h k.
           let it = live_entry addr x h in
           subst (λ (m : ℕ). Some (get_or (x ∷ es) m none).mac.0 ≡ known acts addr) (sym k)
-          (subst (λ (l : List ℕ). Some x.mac.0 ≡ known acts l) it.1 (tells acts x front it.0 (omega (arith, size)) (r.0 it.0)))
+          (subst (λ (l : List ℕ). Some x.mac.0 ≡ known acts l) it.1 (tells acts x prefix it.0 (omega (arith, size)) (r.0 it.0)))
       | false ↦ λ h k.
           subst (λ (m : ℕ). Some (get_or (x ∷ es) m none).mac.0 ≡ known acts addr) (sym k)
-          (found_is acts addr es (x.addr.0 ∷ front) (place_in addr es) none (omega (arith, size)) r.1 refl (omega (arith, below, k)))
+          (found_is acts addr es (x.addr.0 ∷ prefix) (place_in addr es) none (omega (arith, size)) r.1 refl (omega (arith, below, k)))
     ] refl e
 
 pub known_is : (arp : Arp) (acts : List Act) (addr : List ℕ) (n : ℕ) (none : Entry) → Knows arp acts → n ≡ position_or_len (λ e. is_of addr e) arp.entries → n < 8
@@ -473,23 +473,23 @@ module _ (acts : List Act) where
   last_ticked : (addr : List ℕ) (l : Learning) → last_learning addr acts ≡ Some l → last_learning addr ticked ≡ Some (record { mac = l.mac; later = l.later ++ Ticked ∷ [] })
   last_ticked addr l e = last-tick addr acts ∙ ap (λ (o : Option Learning). on_later Ticked o) e
 
-  remember_tick : (e : Entry) (front : List (List ℕ)) → e.age < 2400 → Remembers acts front e → Remembers ticked front (aged e)
-  remember_tick e front young r = record {
+  remember_tick : (e : Entry) (prefix : List (List ℕ)) → e.age < 2400 → Remembers acts prefix e → Remembers ticked prefix (aged e)
+  remember_tick e prefix young r = record {
     learning = record { mac = r.learning.mac; later = r.learning.later ++ Ticked ∷ [] };
     last = last_ticked e.addr.0 r.learning r.last;
     mac = r.mac;
     age = ticks-tick r.learning.later ∙ ap (λ n. n + 1) r.age ∙ sym (grow_young e.age young);
-    others = subst (λ (l : List (List ℕ)). IsAlike l front) (sym (addresses-tick r.learning.later)) r.others;
+    others = subst (λ (l : List (List ℕ)). IsAlike l prefix) (sym (addresses-tick r.learning.later)) r.others;
   }
 
-  all_aged : (es : List Entry) (front : List (List ℕ)) → AllRemember acts front es → AllRemember ticked front (map aged es)
-  all_aged [] front r = tt
-  all_aged (e ∷ es) front r = (
+  all_aged : (es : List Entry) (prefix : List (List ℕ)) → AllRemember acts prefix es → AllRemember ticked prefix (map aged es)
+  all_aged [] prefix r = tt
+  all_aged (e ∷ es) prefix r = (
     λ young. elim (is_live e.age) [
-      | inl live ↦ remember_tick e front live (r.0 live)
+      | inl live ↦ remember_tick e prefix live (r.0 live)
       | inr old ↦ absurd (omega (arith, young, grow_old e.age old))
     ],
-    all_aged es (e.addr.0 ∷ front) r.1,
+    all_aged es (e.addr.0 ∷ prefix) r.1,
   )
 
   mac_ticked : (o : Option Learning) → mac_of o ≡ None → mac_of (on_later Ticked o) ≡ None
@@ -498,23 +498,23 @@ module _ (acts : List Act) where
       (omega (arith, ticks-tick l.later)) (omega (arith, ap (λ (x : List (List ℕ)). length x) (addresses-tick l.later))) (stale l e))
 
   -- an entry at its last tick
-  ends_unknown : (e : Entry) (front : List (List ℕ)) → e.age + 1 ≡ 2400 → Remembers acts front e → known ticked e.addr.0 ≡ None
-  ends_unknown e front last r =
+  ends_unknown : (e : Entry) (prefix : List (List ℕ)) → e.age + 1 ≡ 2400 → Remembers acts prefix e → known ticked e.addr.0 ≡ None
+  ends_unknown e prefix last r =
       let l = r.learning in
       let ticks : ticks_in (l.later ++ Ticked ∷ []) ≡ 2400 = ticks-tick l.later ∙ ap (λ n. n + 1) r.age ∙ last in
       ap (λ (o : Option Learning). mac_of o) (last_ticked e.addr.0 l r.last)
       ∙ ap (λ n. if nat_lt n 2400 && nat_lt (length (addresses_of (l.later ++ Ticked ∷ []))) 8 then Some l.mac else None) ticks
 
-  lost : (addr : List ℕ) (es : List Entry) (front : List (List ℕ)) → AllRemember acts front es → list_any (λ e. is_of addr e) (map aged es) ≡ false
+  lost : (addr : List ℕ) (es : List Entry) (prefix : List (List ℕ)) → AllRemember acts prefix es → list_any (λ e. is_of addr e) (map aged es) ≡ false
       → (list_any (λ e. is_of addr e) es ≡ false) ⊎ (known ticked addr ≡ None)
-  lost addr [] front r none = inl refl
-  lost addr (e ∷ es) front r none =
+  lost addr [] prefix r none = inl refl
+  lost addr (e ∷ es) prefix r none =
       let parts = or_parts (is_of addr (aged e)) (list_any (λ y. is_of addr y) (map aged es)) none in
       elim (is_of addr e) as (λ v. is_of addr e ≡ v → ((v || list_any (λ y. is_of addr y) es) ≡ false) ⊎ (known ticked addr ≡ None)) [
         | true ↦ λ h.
             let it = live_entry addr e h in
-            inr (subst (λ (l : List ℕ). known ticked l ≡ None) it.1 (ends_unknown e front (at_end e it.0 it.1 parts.0) (r.0 it.0)))
-        | false ↦ λ h. lost addr es (e.addr.0 ∷ front) r.1 parts.1
+            inr (subst (λ (l : List ℕ). known ticked l ≡ None) it.1 (ends_unknown e prefix (at_end e it.0 it.1 parts.0) (r.0 it.0)))
+        | false ↦ λ h. lost addr es (e.addr.0 ∷ prefix) r.1 parts.1
       ] refl
     where
       at_end : (y : Entry) → y.age < 2400 → y.addr.0 ≡ addr → is_of addr (aged y) ≡ false → y.age + 1 ≡ 2400
@@ -568,8 +568,8 @@ none_in arp addr n e over =
     sym (ap (λ (o : Option Entry). option_map (λ x. x.mac.0) o)
     (find_at (λ x. is_of addr x) arp.entries ∙ ap (λ (m : ℕ). slice_get arp.entries m) (sym e) ∙ past_end arp.entries n over))
 
--- what was learnt stands in front
-pub learnt_is : (es : List Entry) (e : Entry) (place : ℕ) (old : List Entry) → es ≡ moved_front e place old → e.age ≡ 0
+-- what was learnt comes first
+pub learnt_is : (es : List Entry) (e : Entry) (place : ℕ) (old : List Entry) → es ≡ moved_prefix e place old → e.age ≡ 0
     → option_map (λ (x : Entry). x.mac.0) (find (λ x. is_of e.addr.0 x) es) ≡ Some e.mac.0
 learnt_is es e place old is young =
     ap (λ (l : List Entry). option_map (λ (x : Entry). x.mac.0) (find (λ x. is_of e.addr.0 x) l)) is

@@ -2,7 +2,7 @@
 use Rattle.std.specs.Prelude.{ℕ, ◌+◌, ◌-◌, ◌*◌, ◌==◌, ◌&&◌, nat_le, if◌then◌else◌, List, [], ◌∷◌, Option, None, Some}
 use Rattle.uip_wire.specs.Addr.{◌>>=◌}
 
--- the value of a digit of either case
+-- The value of a digit of either case.
 abbrev pub digit_of : ℕ → Option ℕ
 digit_of c =
     if nat_le 48 c && nat_le c 57 then Some (c - 48)
@@ -10,7 +10,7 @@ digit_of c =
     else if nat_le 65 c && nat_le c 70 then Some (c - 65 + 10)
     else None
 
--- the byte of two digits
+-- The byte of two digits.
 abbrev pub pair_of : ℕ → ℕ → Option ℕ
 pair_of high low = do
   h ← digit_of high
@@ -27,7 +27,7 @@ six_of first second third fourth fifth sixth = do
   f ← sixth
   Some (a ∷ b ∷ c ∷ d ∷ e ∷ f ∷ [])
 
--- the six bytes, or none where the text has another form
+-- The six bytes, or none if the text has another form.
 abbrev pub mac_of_text : List ℕ → Option (List ℕ)
 mac_of_text (a ∷ b ∷ p ∷ c ∷ d ∷ q ∷ e ∷ f ∷ r ∷ g ∷ h ∷ s ∷ i ∷ j ∷ t ∷ k ∷ l ∷ []) =
     if p == 58 && q == 58 && r == 58 && s == 58 && t == 58

@@ -1,12 +1,12 @@
 -- Lines of frames worked by hand, at a host 10.0.0.1 with the hardware address 02:00:00:00:00:01: all that is written for them.
 use Rattle.std.specs.Prelude.{ℕ, Bool, List, [], ◌∷◌}
-use Rattle.app_events.specs.Part.{Meaning}
+use Rattle.app_events.specs.AppSpec.{AppSpec}
 use Rattle.uip_edge.specs.declared.item.Item.{Item}
 use Rattle.uip_wire.specs.declared.addr.Addr.{Addr}
-use Rattle.uip_node.specs.Node.{opening}
-use Rattle.serve_loop.specs.DeedRuns.{said}
-use Rattle.serve_loop.specs.LineDeeds.{line_deeds}
-use Rattle.ethernet_arp.specs.EtherWay.{ether_way}
+use Rattle.uip_node.specs.Node.{initial_node}
+use Rattle.serve_loop.specs.StationRuns.{output}
+use Rattle.serve_loop.specs.LineStationEvents.{station_events_of_line}
+use Rattle.ethernet_arp.specs.EtherWay.{ether_medium}
 use Rattle.ethernet_arp.specs.Frames.{Host}
 
 abbrev pub own : Addr
@@ -15,12 +15,12 @@ own = record { 0 = 10 ∷ 0 ∷ 0 ∷ 1 ∷ [] }
 abbrev pub host : Host
 host = record { addr = own.0; mac = 2 ∷ 0 ∷ 0 ∷ 0 ∷ 0 ∷ 1 ∷ [] }
 
--- what is written for the items, whatever the application is
-abbrev pub written_for : Meaning → (ℕ → Bool) → List Item → List ℕ
+-- What is written for the items, whatever the application is.
+abbrev pub written_for : AppSpec → (ℕ → Bool) → List Item → List ℕ
 written_for m served items =
-    said m served (ether_way host) own (line_deeds (ether_way host) own 0 items) (record { acts = []; node = opening own [] })
+    output m served (ether_medium host) own (station_events_of_line (ether_medium host) own 0 items) (record { acts = []; node = initial_node own [] })
 
--- a request of 10.0.0.2 at 02:00:00:00:00:02 for the address of the host, and its reply
+-- A request of 10.0.0.2 at 02:00:00:00:00:02 for the address of the host, and its reply.
 abbrev pub request : List ℕ
 request =
     0 ∷ 42 ∷ 255 ∷ 255 ∷ 255 ∷ 255 ∷ 255 ∷ 255 ∷ 2 ∷ 0 ∷ 0 ∷ 0 ∷ 0 ∷ 2 ∷ 8 ∷ 6 ∷ 0 ∷ 1 ∷ 8 ∷ 0 ∷ 6 ∷ 4 ∷ 0 ∷
@@ -31,7 +31,7 @@ reply =
     0 ∷ 42 ∷ 2 ∷ 0 ∷ 0 ∷ 0 ∷ 0 ∷ 2 ∷ 2 ∷ 0 ∷ 0 ∷ 0 ∷ 0 ∷ 1 ∷ 8 ∷ 6 ∷ 0 ∷ 1 ∷ 8 ∷ 0 ∷ 6 ∷ 4 ∷ 0 ∷ 2 ∷ 2 ∷ 0 ∷
     0 ∷ 0 ∷ 0 ∷ 1 ∷ 10 ∷ 0 ∷ 0 ∷ 1 ∷ 2 ∷ 0 ∷ 0 ∷ 0 ∷ 0 ∷ 2 ∷ 10 ∷ 0 ∷ 0 ∷ 2 ∷ []
 
--- an echo request of the same, and the echo reply
+-- An echo request of the same, and the echo reply.
 abbrev pub ping : List ℕ
 ping =
     0 ∷ 42 ∷ 2 ∷ 0 ∷ 0 ∷ 0 ∷ 0 ∷ 1 ∷ 2 ∷ 0 ∷ 0 ∷ 0 ∷ 0 ∷ 2 ∷ 8 ∷ 0 ∷ 69 ∷ 0 ∷ 0 ∷ 28 ∷ 0 ∷ 1 ∷ 0 ∷ 0 ∷ 64 ∷
@@ -42,7 +42,7 @@ pong =
     0 ∷ 42 ∷ 2 ∷ 0 ∷ 0 ∷ 0 ∷ 0 ∷ 2 ∷ 2 ∷ 0 ∷ 0 ∷ 0 ∷ 0 ∷ 1 ∷ 8 ∷ 0 ∷ 69 ∷ 0 ∷ 0 ∷ 28 ∷ 0 ∷ 1 ∷ 0 ∷ 0 ∷ 64 ∷
     1 ∷ 102 ∷ 222 ∷ 10 ∷ 0 ∷ 0 ∷ 1 ∷ 10 ∷ 0 ∷ 0 ∷ 2 ∷ 0 ∷ 0 ∷ 255 ∷ 253 ∷ 0 ∷ 1 ∷ 0 ∷ 1 ∷ []
 
--- the host's request for the address of 10.0.0.2
+-- The host's request for the address of 10.0.0.2.
 abbrev pub question : List ℕ
 question =
     0 ∷ 42 ∷ 255 ∷ 255 ∷ 255 ∷ 255 ∷ 255 ∷ 255 ∷ 2 ∷ 0 ∷ 0 ∷ 0 ∷ 0 ∷ 1 ∷ 8 ∷ 6 ∷ 0 ∷ 1 ∷ 8 ∷ 0 ∷ 6 ∷ 4 ∷ 0 ∷

@@ -1,8 +1,8 @@
--- What it means that a frame stands in front of an area.
+-- A frame at the start of an area.
 use Rattle.std.specs.Prelude.{◌≡◌, ℕ, List, length}
 use Rattle.uip_wire.specs.Fields.{written}
 
--- the frame was written in front, this is its length, and all behind it is as it was
+-- The frame was written at the start, this is its length, and all after it is unchanged.
 pub record Puts (frame : List ℕ) (len : ℕ) (old new : List ℕ) : Type 0 where
   pub size : len ≡ length frame
   pub there : new ≡ written old 0 frame

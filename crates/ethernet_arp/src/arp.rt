@@ -1,13 +1,15 @@
+//! A host on Ethernet and its ARP table (RFC 826).
+
 ghost use Rattle.std.specs.List.{position_or_len};
 ghost use Rattle.std.specs.Prelude.{◌≡◌, ◌<◌, ◌++◌, [], ◌∷◌, List, Some, map, option_map};
 ghost use Rattle.ethernet_arp.specs.Learning.{Act, Ticked, known, taught};
-ghost use Rattle.ethernet_arp.specs.Table.{Knows, aged, host_of, in_table, is_of, moved_front};
+ghost use Rattle.ethernet_arp.specs.Table.{Knows, aged, host_of, in_table, is_of, moved_prefix};
 
 use crate::mac::Mac;
 use crate::sizes::{ARP_ENTRIES, ARP_TICKS};
 use uip_wire::Addr;
 
-/// An address that was learnt, how, and how many ticks ago; at 2400 ticks it is forgotten.
+/// A pair that was learnt, and the ticks since; at 2400 ticks it is forgotten.
 #[derive(Clone, Copy, Debug, PartialEq, Eq)]
 pub(crate) struct Entry {
     addr: Addr,
@@ -16,7 +18,7 @@ pub(crate) struct Entry {
 }
 
 impl Entry {
-    /// An entry of which nothing is known.
+    /// Returns an entry in which nothing is known.
     fn forgotten() -> Entry
         ensures { result.age ≡ ARP_TICKS }
     {
@@ -33,7 +35,7 @@ impl Entry {
         self.age < ARP_TICKS && self.addr == addr
     }
 
-    /// The entry after a tick.
+    /// Returns the entry after a tick.
     fn older(self) -> Entry
         ensures { result ≡ aged self }
     {
@@ -46,7 +48,7 @@ impl Entry {
     }
 }
 
-/// A host on an Ethernet, and the hardware addresses that it has learnt, the last first.
+/// A host on Ethernet, and the hardware addresses that it has learnt, the last first.
 #[derive(Clone, Copy, Debug, PartialEq, Eq)]
 pub struct Arp {
     pub own: Addr,
@@ -55,7 +57,7 @@ pub struct Arp {
 }
 
 impl Arp {
-    /// A host that has learnt nothing.
+    /// Returns a host that has learnt nothing.
     pub fn new(own: Addr, mac: Mac) -> Arp
         ensures host { host_of result ≡ record { addr = own.0; mac = mac.0 } }
         ensures knows { Knows result [] }
@@ -67,7 +69,7 @@ impl Arp {
         }
     }
 
-    /// Learns the hardware address of an address.
+    /// Learns the hardware address of an IP address.
     pub fn learn(&mut self, addr: Addr, mac: Mac)
         ensures host { host_of self.new ≡ host_of self.old }
         ensures table { in_table self.new addr.0 ≡ Some mac.0 }
@@ -76,10 +78,10 @@ impl Arp {
             → Knows self.old acts → Knows self.new (acts ++ act ∷ []) }
     {
         let place = place_of(&self.entries, addr).min(ARP_ENTRIES - 1);
-        put_front(&mut self.entries, place, Entry { addr, mac, age: 0 });
+        put_prefix(&mut self.entries, place, Entry { addr, mac, age: 0 });
     }
 
-    /// A tick goes by.
+    /// Counts a tick.
     pub fn tick(&mut self)
         ensures host { host_of self.new ≡ host_of self.old }
         ensures knows { (acts : List Act) → Knows self.old acts → Knows self.new (acts ++ Ticked ∷ []) }
@@ -87,7 +89,7 @@ impl Arp {
         grow_older(&mut self.entries);
     }
 
-    /// Knows what another host has learnt, and no more.
+    /// Takes over what another host has learnt, and nothing else.
     pub(crate) fn learn_all(&mut self, other: &Arp)
         ensures host { host_of self.new ≡ host_of self.old }
         ensures knows { self.new.entries ≡ other.now.entries }
@@ -95,7 +97,7 @@ impl Arp {
         self.entries = other.entries;
     }
 
-    /// The hardware address that is known of an address.
+    /// Returns the hardware address of an IP address, if it is known.
     pub fn known(&self, addr: Addr) -> Option<Mac>
         ensures table { option_map (λ m. m.0) result ≡ in_table self.now addr.0 }
         ensures known { (acts : List Act) → Knows self.now acts → option_map (λ m. m.0) result ≡ known acts addr.0 }
@@ -109,7 +111,7 @@ impl Arp {
     }
 }
 
-/// The place of the entry of an address, or their number.
+/// Returns the index of the entry of an address, or the number of entries.
 fn place_of(entries: &[Entry], addr: Addr) -> usize
     ensures { result ≡ position_or_len (λ e. is_of addr.0 e) entries.now }
 {
@@ -121,17 +123,17 @@ fn place_of(entries: &[Entry], addr: Addr) -> usize
     entries.len()
 }
 
-/// Puts an entry in front, in place of that at a place.
-fn put_front(entries: &mut [Entry; ARP_ENTRIES], place: usize, entry: Entry)
+/// Puts an entry first, in place of that at an index.
+fn put_prefix(entries: &mut [Entry; ARP_ENTRIES], place: usize, entry: Entry)
     requires { place < ARP_ENTRIES }
-    ensures { entries.new ≡ moved_front entry place entries.old }
+    ensures { entries.new ≡ moved_prefix entry place entries.old }
 {
     let old = *entries;
     entries[1..place + 1].copy_from_slice(&old[..place]);
     entries[0] = entry;
 }
 
-/// All entries after a tick.
+/// Counts a tick for all entries.
 fn grow_older(entries: &mut [Entry])
     ensures { entries.new ≡ map aged entries.old }
 {

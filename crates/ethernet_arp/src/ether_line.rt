@@ -1,6 +1,8 @@
+//! Ethernet with ARP as a medium.
+
 ghost use Rattle.std.specs.Prelude.{◌≡◌, ◌≤◌, ◌++◌, [], List, length, take};
-ghost use Rattle.line_medium.specs.Ways.{ShowsBrought, TellsBrought, acts_among};
-ghost use Rattle.ethernet_arp.specs.EtherWay.{ether_way};
+ghost use Rattle.line_medium.specs.Media.{ShowsBrought, TellsBrought, acts_among};
+ghost use Rattle.ethernet_arp.specs.EtherWay.{ether_medium};
 ghost use Rattle.ethernet_arp.specs.Frames.{frame_brings};
 ghost use Rattle.ethernet_arp.specs.Learning.{Act};
 ghost use Rattle.ethernet_arp.specs.Parts.{Holds};
@@ -12,11 +14,11 @@ use crate::frame_part::FramePart;
 use crate::framing::{frame_datagram, frame_reply};
 use crate::sizes::{LARGEST_FRAME, LARGEST_FRAMED, SMALLEST_DATAGRAM, SMALLEST_FRAME};
 use crate::taking::{Sorted, sort};
-use line_medium::{Brought, BroughtRun, Medium};
+use line_medium::{Decoded, DecodedRun, Medium};
 use uip_edge::{Failed, Sink};
 use uip_wire::LARGEST_DATAGRAM;
 
-/// A line of Ethernet frames, each behind its length in two bytes.
+/// A line of Ethernet frames, each after its length in two bytes.
 #[derive(Drop)]
 pub(crate) struct EtherLine {
     pub arp: Arp,
@@ -27,7 +29,7 @@ pub(crate) struct EtherLine {
 }
 
 impl EtherLine {
-    /// A line of which nothing was read.
+    /// Returns a line from which nothing was read.
     pub fn new(arp: Arp) -> EtherLine
         ensures arp { result.arp ≡ arp }
         ensures part { Holds result.part [] }
@@ -42,35 +44,35 @@ impl EtherLine {
     }
 
     /// Takes the frame that has just become whole.
-    fn take_whole(&mut self) -> Brought
+    fn take_whole(&mut self) -> Decoded
         requires least { SMALLEST_FRAME ≤ self.old.part.len }
         requires most { self.old.part.len ≤ LARGEST_FRAME }
         ensures part { self.new.part ≡ self.old.part }
         ensures host { host_of self.new.arp ≡ host_of self.old.arp }
-        ensures told { TellsBrought (ether_way (host_of self.old.arp)) (shown_of self.new) result
+        ensures told { TellsBrought (ether_medium (host_of self.old.arp)) (shown_of self.new) result
             (frame_brings (host_of self.old.arp) (take self.old.part.len self.old.part.area)) }
         ensures knows { (acts : List Act) → Knows self.old.arp acts → Knows self.new.arp
             (acts ++ acts_among (frame_brings (host_of self.old.arp) (take self.old.part.len self.old.part.area))) }
         ensures shows { ShowsBrought (λ n. IsShown self.new n) (shown_of self.new) result }
     {
         match sort(&self.arp, self.part.frame()) {
-            Sorted::Nothing => Brought::Nothing,
+            Sorted::Nothing => Decoded::Nothing,
             Sorted::Datagram => {
                 self.replied = false;
                 self.count = self.part.frame().len() - SMALLEST_FRAME;
-                Brought::Datagram(self.count)
+                Decoded::Datagram(self.count)
             }
             Sorted::Asked(addr, mac) => {
                 self.arp.learn(addr, mac);
                 self.replied = true;
                 self.count = frame_reply(&self.arp, addr, mac, &mut self.out);
-                Brought::Own(self.count)
+                Decoded::Own(self.count)
             }
             Sorted::Replied(addr, mac) => {
                 self.arp.learn(addr, mac);
                 self.replied = true;
                 self.count = 0;
-                Brought::Own(0)
+                Decoded::Own(0)
             }
         }
     }
@@ -78,7 +80,7 @@ impl EtherLine {
 
 impl Medium for EtherLine {
     ghost use Rattle.std.specs.Prelude.{◌≡◌, [], List};
-    ghost use Rattle.ethernet_arp.specs.EtherWay.{ether_way, open_from};
+    ghost use Rattle.ethernet_arp.specs.EtherWay.{ether_medium, open_from};
     ghost use Rattle.ethernet_arp.specs.Frames.{Host};
     ghost use Rattle.ethernet_arp.specs.Learning.{Act as EtherAct};
     ghost use Rattle.ethernet_arp.specs.Parts.{Holds};
@@ -87,9 +89,9 @@ impl Medium for EtherLine {
 
     ghost Act = { EtherAct };
 
-    ghost Set = { Host };
+    ghost Config = { Host };
 
-    ghost way = { λ k. ether_way k };
+    ghost spec = { λ k. ether_medium k };
 
     ghost fed = { λ s k before. (host_of s.arp ≡ k) × Holds s.part (open_from [] before) };
 
@@ -99,10 +101,10 @@ impl Medium for EtherLine {
 
     ghost shows = { λ s n. IsShown s n };
 
-    fn feed_run(&mut self, bytes: &[u8]) -> BroughtRun {
-        let mut run = BroughtRun {
+    fn feed_run(&mut self, bytes: &[u8]) -> DecodedRun {
+        let mut run = DecodedRun {
             count: 0,
-            brought: Brought::Nothing,
+            brought: Decoded::Nothing,
         };
         if !self.part.is_waiting() {
             run.count = self.part.take_length(bytes);

@@ -1,12 +1,14 @@
+//! The frame that is being received.
+
 ghost use Rattle.std.specs.Prelude.{◌≡◌, ◌<◌, ◌≤◌, ◌+◌, ◌*◌, ◌&&◌, ◌++◌, [], List, ℕ, None, drop, length, nat_le, nat_lt, take};
 ghost use Rattle.ethernet_arp.specs.Parts.{GoesOn, Holds, IsWaiting, TakesIn};
 
-use crate::packets::put_front;
+use crate::packets::put_prefix;
 use crate::sizes::{LARGEST_FRAME, SMALLEST_FRAME};
 use uip_wire::LARGEST_DATAGRAM;
 
-/// What a line brought behind its last whole frame: a length, of which the first byte may have come, or as many bytes of a
-/// frame as came. Of a frame that is too long the bytes are counted, and a front of them is kept.
+/// What was received after the last whole frame: the first byte of a length, or a length and the bytes of a frame so far. For a frame that
+/// is too long the bytes are counted, and only a prefix is stored.
 #[derive(Drop)]
 pub(crate) struct FramePart {
     area: [u8; LARGEST_FRAME],
@@ -16,7 +18,7 @@ pub(crate) struct FramePart {
 }
 
 impl FramePart {
-    /// The part of a line of which nothing was read.
+    /// Returns the part of a line from which nothing was read.
     pub fn new() -> FramePart
         ensures { Holds result [] }
     {
@@ -28,14 +30,14 @@ impl FramePart {
         }
     }
 
-    /// A frame waits for more bytes.
+    /// Returns whether a frame waits for more bytes.
     pub fn is_waiting(&self) -> bool
         ensures { result ≡ nat_lt self.now.len self.now.size }
     {
         self.len < self.size
     }
 
-    /// The bytes of the last frame.
+    /// Returns the bytes of the last frame.
     pub fn frame(&self) -> &[u8]
         requires { self.now.len ≤ LARGEST_FRAME }
         ensures { result.now ≡ take self.now.len self.now.area }
@@ -43,7 +45,7 @@ impl FramePart {
         &self.area[..self.len]
     }
 
-    /// So many bytes of the payload of the last frame.
+    /// Returns `count` bytes of the payload of the last frame.
     pub fn payload(&self, count: usize) -> &[u8]
         requires { count ≤ LARGEST_DATAGRAM }
         ensures { result.now ≡ take count (drop 14 self.now.area) }
@@ -51,14 +53,14 @@ impl FramePart {
         &self.area[SMALLEST_FRAME..SMALLEST_FRAME + count]
     }
 
-    /// The last frame has a length that is taken.
+    /// Returns whether the length of the last frame is accepted.
     pub fn is_taken(&self) -> bool
         ensures { result ≡ (nat_le SMALLEST_FRAME self.now.len && nat_le self.now.len LARGEST_FRAME) }
     {
         self.len >= SMALLEST_FRAME && self.len <= LARGEST_FRAME
     }
 
-    /// Takes the bytes of a length in front, and tells how many.
+    /// Feeds the bytes of a length, and returns how many they are.
     pub fn take_length(&mut self, bytes: &[u8]) -> usize
         requires some { 0 < length bytes.now }
         requires between { self.old.size ≤ self.old.len }
@@ -78,7 +80,7 @@ impl FramePart {
         2
     }
 
-    /// A frame of this length begins.
+    /// Begins a frame of this length.
     fn begin(&mut self, high: u8, low: u8)
         ensures { self.new ≡ record { area = self.old.area; len = 0; size = 256 * high + low; high = None } }
     {
@@ -87,7 +89,7 @@ impl FramePart {
         self.high = None;
     }
 
-    /// Takes the bytes of the frame in front, and tells how many.
+    /// Feeds the bytes of the frame, and returns how many they are.
     pub fn take_frame(&mut self, bytes: &[u8]) -> usize
         requires some { 0 < length bytes.now }
         requires waiting { IsWaiting self.old }
@@ -102,7 +104,7 @@ impl FramePart {
     }
 }
 
-/// Keeps the bytes of a frame behind so many others, as far as there is room.
+/// Stores the bytes of a frame at an offset, as far as there is room.
 fn keep(area: &mut [u8; LARGEST_FRAME], at: usize, bytes: &[u8])
     ensures { (frame : List ℕ) → length frame ≡ at → take at area.old ≡ take LARGEST_FRAME frame
         → take (at + length bytes.now) area.new ≡ take LARGEST_FRAME (frame ++ bytes.now) }
@@ -110,6 +112,6 @@ fn keep(area: &mut [u8; LARGEST_FRAME], at: usize, bytes: &[u8])
     if at < LARGEST_FRAME {
         let (_, room) = area.split_at_mut(at);
         let count = bytes.len().min(room.len());
-        put_front(room, &bytes[..count]);
+        put_prefix(room, &bytes[..count]);
     }
 }

@@ -1,3 +1,5 @@
+//! Frames after their length.
+
 ghost use Rattle.std.specs.Prelude.{◌≡◌, ◌≤◌, ◌+◌, List, length, take};
 ghost use Rattle.ethernet_arp.specs.Frames.{framed, arp_reply, wrapped};
 ghost use Rattle.ethernet_arp.specs.Learning.{Act};
@@ -5,13 +7,13 @@ ghost use Rattle.ethernet_arp.specs.Table.{Knows, host_of};
 
 use crate::arp::Arp;
 use crate::mac::Mac;
-use crate::packets::put_front;
+use crate::packets::put_prefix;
 use crate::sizes::{ARP_FRAME, LARGEST_FRAMED, SMALLEST_DATAGRAM};
 use crate::taking::reply;
 use crate::wrapping::wrap;
 use uip_wire::{Addr, LARGEST_DATAGRAM, put16};
 
-/// Writes the frame for a datagram behind its length, and tells how long that is.
+/// Writes the frame for a datagram after its length, and returns how many bytes these are.
 pub(crate) fn frame_datagram(arp: &Arp, datagram: &[u8], out: &mut [u8]) -> usize
     requires least { SMALLEST_DATAGRAM ≤ length datagram.now }
     requires most { length datagram.now ≤ LARGEST_DATAGRAM }
@@ -26,7 +28,7 @@ pub(crate) fn frame_datagram(arp: &Arp, datagram: &[u8], out: &mut [u8]) -> usiz
     2 + len
 }
 
-/// Writes the reply to a request from this pair behind its length, and tells how long that is.
+/// Writes the reply to a request from this pair after its length, and returns how many bytes these are.
 pub(crate) fn frame_reply(arp: &Arp, addr: Addr, mac: Mac, out: &mut [u8]) -> usize
     requires { LARGEST_FRAMED ≤ length out.old }
     ensures len { result ≡ ARP_FRAME + 2 }
@@ -34,7 +36,7 @@ pub(crate) fn frame_reply(arp: &Arp, addr: Addr, mac: Mac, out: &mut [u8]) -> us
         ≡ framed (arp_reply (host_of arp.now) (record { addr = addr.0; mac = mac.0 })) }
 {
     let (length, frame) = out.split_at_mut(2);
-    put_front(frame, &reply(arp, addr, mac));
+    put_prefix(frame, &reply(arp, addr, mac));
     put16(length, 0, ARP_FRAME as u16);
     2 + ARP_FRAME
 }

@@ -1,4 +1,4 @@
-//! What holds of the definitions.
+//! The laws of this medium.
 
 ghost use Rattle.ethernet_arp.specs.ConstantValues.{ConstantValues};
 ghost use Rattle.ethernet_arp.specs.Sendable.{DatagramsFitFrames, FramesBringBytes};
@@ -9,19 +9,18 @@ pub fn constant_values()
     ensures { ConstantValues }
 {}
 
-/// In all that is written for a whole line, each frame with a datagram goes to the hardware address that the datagram's target
-/// taught last.
+/// In the output for a whole line each frame with a datagram goes to the hardware address that the datagram's target taught last.
 pub fn datagrams_go_home()
     ensures { DatagramsGoHome }
 {}
 
-/// Whatever the node answers on a line has 20 to 1500 bytes, and goes out in a frame.
+/// Each reply of the node on a line has 20 to 1500 bytes, and is sent in a frame.
 #[tactic(auto, using(crate::proofs::SendableLaws::all_sendable))]
 pub fn datagrams_fit_frames()
     ensures { DatagramsFitFrames }
 {}
 
-/// Frames that are fed bytes bring bytes.
+/// Frames that are fed bytes decode to bytes.
 pub fn frames_bring_bytes()
     ensures { FramesBringBytes }
 {}

@@ -1,5 +1,5 @@
-//! Ethernet with ARP (RFC 894, RFC 826): a node's datagrams in frames, each to the hardware address that its target taught
-//! last. Over a line of bytes each frame stands behind its length.
+//! Ethernet with ARP (RFC 894, RFC 826): a node's datagrams in frames, each to the hardware address that its target taught last. Over a
+//! line of bytes each frame follows its length.
 #![tactic(auto)]
 
 mod arp;

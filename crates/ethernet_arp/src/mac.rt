@@ -1,3 +1,5 @@
+//! Hardware addresses, in frames and as words.
+
 ghost use Rattle.std.specs.Prelude.{◌≡◌, ◌+◌, ◌≤◌, length, option_map};
 ghost use Rattle.ethernet_arp.specs.Frames.{mac_at};
 ghost use Rattle.ethernet_arp.specs.Words.{digit_of, mac_of_text, pair_of};
@@ -10,7 +12,7 @@ pub struct Mac(pub [u8; 6]);
 pub(crate) const BROADCAST: Mac = Mac([255; 6]);
 
 impl Mac {
-    /// The address that a text spells: six pairs of hexadecimal digits of either case, with colons between them.
+    /// Parses six pairs of hexadecimal digits of either case, with colons between them. Any other text is `None`.
     pub fn parse(text: &[u8]) -> Option<Mac>
         ensures { option_map (λ m. m.0) result ≡ mac_of_text text.now }
     {
@@ -45,7 +47,7 @@ impl Mac {
         }
     }
 
-    /// The address that stands at a place of a frame.
+    /// Returns the address at an offset of a frame.
     pub fn get(bytes: &[u8], at: usize) -> Mac
         requires { at + 6 ≤ length bytes.now }
         ensures { result.0 ≡ mac_at bytes.now at }
@@ -61,14 +63,14 @@ impl Mac {
     }
 }
 
-/// The byte that two hexadecimal digits spell.
+/// Returns the byte of two hexadecimal digits.
 fn pair(high: u8, low: u8) -> Option<u8>
     ensures { result ≡ pair_of high low }
 {
     Some(digit(high)? * 16 + digit(low)?)
 }
 
-/// The value of a hexadecimal digit.
+/// Returns the value of a hexadecimal digit.
 fn digit(c: u8) -> Option<u8>
     ensures { result ≡ digit_of c }
 {

@@ -1,3 +1,5 @@
+//! Frames and ARP packets that are sent (RFC 894, RFC 826).
+
 ghost use Rattle.std.specs.Prelude.{◌≡◌, ◌≤◌, ◌++◌, length};
 ghost use Rattle.uip_wire.specs.Fields.{word_bytes, written};
 ghost use Rattle.ethernet_arp.specs.Frames.{arp_packet, frame_with};
@@ -9,24 +11,24 @@ use uip_wire::Addr;
 /// The type of a payload that is a datagram (RFC 894).
 pub(crate) const DATAGRAM: u16 = 0x0800;
 
-/// The type of a payload that is a packet of ARP (RFC 826).
+/// The type of a payload that is an ARP packet (RFC 826).
 pub(crate) const ARP: u16 = 0x0806;
 
-/// The operation of a packet that asks for a hardware address.
+/// The operation of a packet that requests a hardware address.
 pub(crate) const REQUEST: u8 = 1;
 
-/// The operation of a packet that tells a hardware address.
+/// The operation of a packet that replies with a hardware address.
 pub(crate) const REPLY: u8 = 2;
 
-/// Writes a part in front of an area.
-pub(crate) fn put_front(out: &mut [u8], part: &[u8])
+/// Writes a part to the start of an area.
+pub(crate) fn put_prefix(out: &mut [u8], part: &[u8])
     requires { length part.now ≤ length out.old }
     ensures { out.new ≡ written out.old 0 part.now }
 {
     out[..part.len()].copy_from_slice(part);
 }
 
-/// The bytes of a frame with a datagram in front of that.
+/// Returns the bytes of a frame before its datagram.
 pub(crate) fn datagram_head(to: Mac, from: Mac) -> [u8; SMALLEST_FRAME]
     ensures { result ≡ to.0 ++ from.0 ++ word_bytes 2048 }
 {
@@ -37,7 +39,7 @@ pub(crate) fn datagram_head(to: Mac, from: Mac) -> [u8; SMALLEST_FRAME]
     ]
 }
 
-/// A frame with a packet of ARP from a host.
+/// Returns a frame with an ARP packet from a host.
 pub(crate) fn arp_frame(
     to: Mac,
     operation: u8,

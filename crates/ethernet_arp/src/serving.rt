@@ -1,8 +1,8 @@
 ghost use Rattle.std.specs.Prelude.{◌≡◌};
-ghost use Rattle.serve_loop.specs.DeedServing.{ServesOver};
-ghost use Rattle.ethernet_arp.specs.EtherWay.{ether_way};
+ghost use Rattle.serve_loop.specs.StationServing.{ServesOver};
+ghost use Rattle.ethernet_arp.specs.EtherWay.{ether_medium};
 ghost use Rattle.ethernet_arp.specs.Table.{Knows, host_of};
-ghost use Rattle.uip_edge.specs.Telling.{line_told};
+ghost use Rattle.uip_edge.specs.ViewsOf.{line_view};
 
 use crate::arp::Arp;
 use crate::ether_line::EtherLine;
@@ -11,8 +11,8 @@ use serve_loop::serve_over;
 use uip_edge::{Link, ServeEnd, Sink};
 use uip_node::Node;
 
-/// Serves a line of Ethernet frames, each behind its length in two bytes, at the node and its host, up to so many items. At a
-/// pace above 0 every so many bytes make a tick, and each silence makes one. No call in it is given an allocator.
+/// Serves a line of Ethernet frames, each after its length in two bytes, at the node and its host, up to `items` items. At a pace above 0
+/// every `pace` bytes make a tick; each silence makes one. It is not passed an allocator.
 #[inline(never)]
 pub fn serve_ether<A: App, L: Link, K: Sink>(
     node: &mut Node<A>,
@@ -22,12 +22,12 @@ pub fn serve_ether<A: App, L: Link, K: Sink>(
     pace: u64,
     items: u64,
 ) -> ServeEnd
-    ensures same { A.kept node.new.shared ≡ A.kept node.old.shared }
+    ensures same { A.config node.new.shared ≡ A.config node.old.shared }
     ensures host { host_of arp.new ≡ host_of arp.old }
-    ensures serves { ServesOver A.App (ether_way (host_of arp.old))
+    ensures serves { ServesOver A.App (ether_medium (host_of arp.old))
         (λ acts. Knows arp.old acts) (λ acts. Knows arp.new acts) pace items node.old node.new
-        (line_told L.Link K.Sink link.old sink.old)
-        (line_told L.Link K.Sink link.new sink.new) result }
+        (line_view L.Link K.Sink link.old sink.old)
+        (line_view L.Link K.Sink link.new sink.new) result }
 {
     let mut line = EtherLine::new(*arp);
     let end = serve_over(&mut line, node, link, sink, pace, items);

@@ -1,7 +1,9 @@
+//! A received frame (RFC 894, RFC 826).
+
 ghost use Rattle.std.specs.Prelude.{◌≡◌, ◌≤◌, ◌-◌, ◌++◌, ◌&&◌, ◌||◌, List, ℕ, drop, length, nat_lt};
 ghost use Rattle.std.specs.Str.{bytes_eq};
 ghost use Rattle.uip_wire.specs.Fields.{word_at};
-ghost use Rattle.line_medium.specs.Ways.{acts_among};
+ghost use Rattle.line_medium.specs.Media.{acts_among};
 ghost use Rattle.ethernet_arp.specs.Frames.{arp_brings, broadcast, frame_brings, is_arp, is_arp_for, is_datagram};
 ghost use Rattle.ethernet_arp.specs.Frames.{payload_brings, arp_reply, sender_of};
 ghost use Rattle.ethernet_arp.specs.Learning.{Act};
@@ -10,25 +12,25 @@ ghost use Rattle.ethernet_arp.specs.Taking.{IsTaught, TellsTaken, SomeBytes, cam
 
 use crate::arp::Arp;
 use crate::mac::{BROADCAST, Mac};
-use crate::packets::{ARP, DATAGRAM, REPLY, REQUEST, arp_frame, put_front};
+use crate::packets::{ARP, DATAGRAM, REPLY, REQUEST, arp_frame, put_prefix};
 use crate::sizes::{ARP_FRAME, LARGEST_FRAME, SMALLEST_FRAME};
 use uip_wire::{Addr, get16};
 
-/// What became of a frame.
+/// The result of a frame.
 #[derive(Clone, Copy, Debug, PartialEq, Eq)]
 pub enum Taken {
     /// Nothing is sent, and nothing is for the node.
     Nothing,
-    /// A reply of so many bytes was written.
+    /// A reply of this many bytes was written.
     Reply(usize),
-    /// A datagram for the node stands in the frame.
+    /// A datagram for the node is in the frame.
     Datagram { at: usize, len: usize },
 }
 
-/// What a frame is found to be.
+/// The kind of a frame.
 #[derive(Clone, Copy, Debug, PartialEq, Eq)]
 pub(crate) enum Sorted {
-    /// It is not for this host, or brings nothing.
+    /// It is not for this host, or has nothing for it.
     Nothing,
     /// A datagram.
     Datagram,
@@ -38,7 +40,7 @@ pub(crate) enum Sorted {
     Replied(Addr, Mac),
 }
 
-/// Takes a frame: learns from a packet of ARP for this host, writes the reply to a request, and tells where a datagram stands.
+/// Takes a frame: learns from an ARP packet for this host, writes the reply to a request, and reports where a datagram is.
 pub fn take(arp: &mut Arp, frame: &[u8], out: &mut [u8]) -> Taken
     requires least { SMALLEST_FRAME ≤ length frame.now }
     requires most { length frame.now ≤ LARGEST_FRAME }
@@ -58,7 +60,7 @@ pub fn take(arp: &mut Arp, frame: &[u8], out: &mut [u8]) -> Taken
         },
         Sorted::Asked(addr, mac) => {
             arp.learn(addr, mac);
-            put_front(out, &reply(arp, addr, mac));
+            put_prefix(out, &reply(arp, addr, mac));
             Taken::Reply(ARP_FRAME)
         }
         Sorted::Replied(addr, mac) => {
@@ -68,10 +70,10 @@ pub fn take(arp: &mut Arp, frame: &[u8], out: &mut [u8]) -> Taken
     }
 }
 
-/// What a frame is, to this host.
+/// Returns the kind of a frame, for this host.
 pub(crate) fn sort(arp: &Arp, frame: &[u8]) -> Sorted
     requires { SMALLEST_FRAME ≤ length frame.now }
-    ensures brings { frame_brings (host_of arp.now) frame.now ≡ came_of (drop 14 frame.now) result }
+    ensures decodes { frame_brings (host_of arp.now) frame.now ≡ came_of (drop 14 frame.now) result }
     ensures some { SomeBytes result (drop 14 frame.now) }
 {
     if is_for(Mac::get(frame, 0), arp.mac) {
@@ -80,16 +82,16 @@ pub(crate) fn sort(arp: &Arp, frame: &[u8]) -> Sorted
     Sorted::Nothing
 }
 
-/// A frame to this hardware address is for the host.
+/// Returns whether a frame to this hardware address is for the host.
 fn is_for(to: Mac, own: Mac) -> bool
     ensures { result ≡ (bytes_eq to.0 own.0 || bytes_eq to.0 broadcast) }
 {
     to == own || to == BROADCAST
 }
 
-/// What a payload of this type is, to the host at this address.
+/// Returns the kind of a payload of this type, for the host at this address.
 fn sort_payload(kind: u16, payload: &[u8], own: Addr) -> Sorted
-    ensures brings { (mac : List ℕ) → payload_brings (record { addr = own.0; mac = mac }) kind payload.now
+    ensures decodes { (mac : List ℕ) → payload_brings (record { addr = own.0; mac = mac }) kind payload.now
         ≡ came_of payload.now result }
     ensures some { SomeBytes result payload.now }
 {
@@ -102,21 +104,21 @@ fn sort_payload(kind: u16, payload: &[u8], own: Addr) -> Sorted
     Sorted::Nothing
 }
 
-/// The payload is a datagram.
+/// Returns whether the payload is a datagram.
 fn holds_datagram(kind: u16, payload: &[u8]) -> bool
     ensures { result ≡ (is_datagram kind && nat_lt 0 (length payload.now)) }
 {
     kind == DATAGRAM && !payload.is_empty()
 }
 
-/// The payload is a sound packet of ARP that asks or tells the hardware address of this host.
+/// Returns whether the payload is a sound ARP packet whose target is this host.
 fn holds_packet(kind: u16, payload: &[u8], own: Addr) -> bool
     ensures { result ≡ (is_arp kind && is_arp_for own.0 payload.now) }
 {
     kind == ARP && is_arp_for(payload, own)
 }
 
-/// A packet of ARP is sound, and asks or tells the hardware address of this host.
+/// Returns whether an ARP packet is sound and its target is the host at this address.
 fn is_arp_for(packet: &[u8], own: Addr) -> bool
     ensures { result ≡ is_arp_for own.0 packet.now }
 {
@@ -128,7 +130,7 @@ fn is_arp_for(packet: &[u8], own: Addr) -> bool
         && Addr::get(packet, 24) == own
 }
 
-/// What a packet is that is sound.
+/// Returns the kind of a sound packet.
 fn sort_packet(packet: &[u8]) -> Sorted
     requires { ARP_FRAME - SMALLEST_FRAME ≤ length packet.now }
     ensures { (payload : List ℕ) → arp_brings (word_at packet.now 6) (sender_of packet.now)
@@ -146,7 +148,7 @@ fn sort_packet(packet: &[u8]) -> Sorted
     Sorted::Nothing
 }
 
-/// The reply of this host to a request from this pair.
+/// Returns the reply of this host to a request from this pair.
 pub(crate) fn reply(arp: &Arp, addr: Addr, mac: Mac) -> [u8; ARP_FRAME]
     ensures { result ≡ arp_reply (host_of arp.now) (record { addr = addr.0; mac = mac.0 }) }
 {

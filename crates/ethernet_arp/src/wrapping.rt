@@ -1,3 +1,5 @@
+//! The frame of a datagram that is sent (RFC 894).
+
 ghost use Rattle.std.specs.Prelude.{◌≤◌, List, length};
 ghost use Rattle.uip_wire.specs.Addr.{address_at};
 ghost use Rattle.ethernet_arp.specs.Frames.{frame_with, arp_request, wrapped, wrapped_to};
@@ -7,12 +9,12 @@ ghost use Rattle.ethernet_arp.specs.Wrapping.{Puts};
 
 use crate::arp::Arp;
 use crate::mac::{BROADCAST, Mac};
-use crate::packets::{REQUEST, arp_frame, datagram_head, put_front};
+use crate::packets::{REQUEST, arp_frame, datagram_head, put_prefix};
 use crate::sizes::{ARP_FRAME, LARGEST_FRAME, SMALLEST_DATAGRAM, SMALLEST_FRAME};
 use uip_wire::{Addr, LARGEST_DATAGRAM};
 
-/// Writes the frame for a datagram, and tells its length: to the hardware address that is known of its target; where none is,
-/// the request for that, and the datagram is lost.
+/// Writes the frame for a datagram, and returns its length in bytes: to the hardware address of its target, if it is known. Else it is the
+/// request for that address, and the datagram is lost.
 pub fn wrap(arp: &Arp, datagram: &[u8], out: &mut [u8]) -> usize
     requires least { SMALLEST_DATAGRAM ≤ length datagram.now }
     requires most { length datagram.now ≤ LARGEST_DATAGRAM }
@@ -39,7 +41,7 @@ fn put_datagram(to: Mac, from: Mac, datagram: &[u8], out: &mut [u8]) -> usize
 {
     let (head, rest) = out.split_at_mut(SMALLEST_FRAME);
     head.copy_from_slice(&datagram_head(to, from));
-    put_front(rest, datagram);
+    put_prefix(rest, datagram);
     SMALLEST_FRAME + datagram.len()
 }
 
@@ -50,7 +52,7 @@ fn put_request(arp: &Arp, target: Addr, out: &mut [u8]) -> usize
     ensures puts { Puts (arp_request (host_of arp.now) target.0) result out.old out.new }
 {
     let nobody = Mac([0; 6]);
-    put_front(
+    put_prefix(
         out,
         &arp_frame(BROADCAST, REQUEST, arp.own, arp.mac, nobody, target),
     );

@@ -1,4 +1,4 @@
--- The fault of an entry by its parts, and the file that an entry without fault stands for.
+-- The fault of an entry by its parts, and the file that an entry without fault represents.
 use Rattle.std.proofs.Common.{◌≡◌, ℕ, ◌+◌, true, false, cond, List, drop, Option, Some, None, sym, ap, ◌∙◌, arith}
 use Rattle.std.specs.Prelude.{slice_range}
 use Rattle.std.specs.Option.{option_or}

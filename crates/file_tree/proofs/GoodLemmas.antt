@@ -1,4 +1,5 @@
--- The names and content types of a site are good, and so is every content type by a name.
+-- The names and content types of a site are well-formed, and so is every content type by a name.
+-- [add: content-type] The type has allowed bytes.
 use Rattle.std.proofs.Common.{◌≡◌, ℕ, Bool, true, false, cond, ◌-◌, List, length, get_or, Option, Some, None, refl, arith, sym, ap, ◌∙◌}
 use Rattle.std.specs.Prelude.{IsTrue, slice_get, codes, nat_eq, unwrap_or, option_map, reverse, find, All}
 use Rattle.std.specs.Str.{bytes_eq}

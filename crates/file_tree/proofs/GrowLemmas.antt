@@ -1,4 +1,4 @@
--- An image that grows at its end keeps its files and their order.
+-- An image that grows at its end preserves its files and their order.
 use Rattle.std.proofs.Common.{◌≡◌, ℕ, ◌+◌, ◌-◌, ◌≤◌, List, [], ◌∷◌, ◌++◌, length, take, drop, refl, sym, ap, subst, ◌∙◌, add-one, arith}
 use Rattle.std.specs.Prelude.{slice_range, slice_get}
 use Rattle.std.specs.List.{insert}

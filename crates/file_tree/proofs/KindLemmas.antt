@@ -1,4 +1,5 @@
 -- A content type by the name is short.
+-- [add: content-type] The type is short.
 use Rattle.std.proofs.Common.{ℕ, ◌≤◌, Bool, true, false, cond, List, length, lit≤}
 use Rattle.std.specs.Prelude.{codes, nat_eq}
 use Rattle.std.specs.List.{ends_with}

@@ -69,7 +69,7 @@ named-length image places order id name d table lt e =
     let within = place-at image places id d table.within lt in
     sym (slice-length image place.at place.len within.content) ∙ sym (ap (λ found. option_map_or (λ (file : File). length file.content) found 0) named)
 
--- no file has a name that stands nowhere in the order
+-- no file has a name that is not in the order
 pub named-nowhere : (files : List File) (name : List ℕ) → has_name files name ≡ false → file_named files name ≡ None
 named-nowhere [] name e = refl
 named-nowhere (f ∷ files) name e =

@@ -1,4 +1,4 @@
--- The order of names: which names are there, and a further name at its rank.
+-- The order of names: which names are in it, and a further name at its rank.
 use Rattle.std.proofs.Common.{◌≡◌, ℕ, zero, suc, ◌+◌, ◌-◌, ◌<◌, ◌≤◌, true, false, List, [], ◌∷◌, ◌++◌, length, refl, sym, ap, subst, inl, inr, ◌∙◌, arith}
 use Rattle.std.specs.List.{insert}
 use Rattle.std.specs.Str.{bytes_eq}
@@ -27,7 +27,7 @@ name-id (f ∷ files) name t =
       | inr later ↦ let found = name-id files name later in (suc found.0, omega (arith, found.1), found.2)
     ]
 
--- ---- which names stand in the order
+-- ---- which names are in the order
 
 pub found-name : (files : List File) (order : List FileId) (name : List ℕ) (rank : ℕ) → IsOrder files order → rank < length order → name_at files order rank ≡ name → has_name files name ≡ true
 found-name files order name rank is lt e = has-name-at files (id_at order rank) name (is.ids rank lt) e
@@ -124,7 +124,7 @@ module _ (files : List File) (order : List FileId) (file : File) (slot : ℕ) (i
                 | inr not_under ↦ elim (cases_eq slot low) [
                   | inl here ↦ subst (λ k. IsBefore (name k) (name (h + 1))) here
                       (before-at (name slot) (name (h + 1)) file.name (old h) name-here (name-above h above h_in) (s.above h above h_in))
-                  | inr past ↦
+                  | inr history ↦
                       let l : ℕ = low - 1 in
                       let low_up : l + 1 ≡ low = omega arith in
                       subst (λ k. IsBefore (name k) (name (h + 1))) low_up

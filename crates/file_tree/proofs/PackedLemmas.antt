@@ -39,22 +39,22 @@ pub packed-long : (files : List File) → LONGEST_IMAGE < length (image One file
 unfolding packed
 packed-long files lt = ap (λ t. refuse t TooLong >>= λ _. many files) (lt-ltb LONGEST_IMAGE (length (image One files)) lt)
 
-past-long : (files : List File) → length (image One files) ≤ LONGEST_IMAGE → packed files ≡ many files
+history-long : (files : List File) → length (image One files) ≤ LONGEST_IMAGE → packed files ≡ many files
 unfolding packed
-past-long files le = ap (λ t. refuse t TooLong >>= λ _. many files) (le-ltb LONGEST_IMAGE (length (image One files)) le)
+history-long files le = ap (λ t. refuse t TooLong >>= λ _. many files) (le-ltb LONGEST_IMAGE (length (image One files)) le)
 
 pub packed-many : (files : List File) → length (image One files) ≤ LONGEST_IMAGE → MOST_FILES < length files → packed files ≡ Err (fault TooMany 0)
-packed-many files le lt = past-long files le ∙ ap (λ t. refuse t TooMany >>= λ _. names files) (lt-ltb MOST_FILES (length files) lt)
+packed-many files le lt = history-long files le ∙ ap (λ t. refuse t TooMany >>= λ _. names files) (lt-ltb MOST_FILES (length files) lt)
 
-past-many : (files : List File) → length (image One files) ≤ LONGEST_IMAGE → length files ≤ MOST_FILES → packed files ≡ names files
-past-many files le few = past-long files le ∙ ap (λ t. refuse t TooMany >>= λ _. names files) (le-ltb MOST_FILES (length files) few)
+history-many : (files : List File) → length (image One files) ≤ LONGEST_IMAGE → length files ≤ MOST_FILES → packed files ≡ names files
+history-many files le few = history-long files le ∙ ap (λ t. refuse t TooMany >>= λ _. names files) (le-ltb MOST_FILES (length files) few)
 
 pub packed-names : (files : List File) (e : SiteError) → length (image One files) ≤ LONGEST_IMAGE → length files ≤ MOST_FILES → named [] files ≡ Err e → packed files ≡ Err e
-packed-names files e le few h = past-many files le few ∙ ap (λ r. r >>= λ _. last files) h
+packed-names files e le few h = history-many files le few ∙ ap (λ r. r >>= λ _. last files) h
 
 pub packed-scripts : (files : List File) (r : Result ⊤ SiteError) → length (image One files) ≤ LONGEST_IMAGE → length files ≤ MOST_FILES → named [] files ≡ Ok tt → r ≡ scripts files 0 files
     → packed files ≡ (r >>= λ _. Ok (image One files))
-packed-scripts files r le few h s = past-many files le few ∙ ap (λ x. x >>= λ _. last files) h ∙ ap (λ x. x >>= λ _. Ok (image One files)) (sym s)
+packed-scripts files r le few h s = history-many files le few ∙ ap (λ x. x >>= λ _. last files) h ∙ ap (λ x. x >>= λ _. Ok (image One files)) (sym s)
 
 -- ---- a list without fault is read again from its image
 

@@ -25,27 +25,27 @@ pub read-at-head : (bytes : List ℕ) (e : SiteError) → image_head bytes ≡ E
 unfolding read_image
 read-at-head bytes e h = ap (λ r. r >>= after_head bytes) h
 
-past-head : (bytes : List ℕ) (head : Version × ℕ) → image_head bytes ≡ Ok head → read_image bytes ≡ after_head bytes head
+history-head : (bytes : List ℕ) (head : Version × ℕ) → image_head bytes ≡ Ok head → read_image bytes ≡ after_head bytes head
 unfolding read_image
-past-head bytes head h = ap (λ r. r >>= after_head bytes) h
+history-head bytes head h = ap (λ r. r >>= after_head bytes) h
 
 pub read-at-entries : (bytes : List ℕ) (head : Version × ℕ) (e : SiteError) → image_head bytes ≡ Ok head → entries head.0 head.1 [] (drop 10 bytes) ≡ Err e → read_image bytes ≡ Err e
-read-at-entries bytes head e h r = past-head bytes head h ∙ ap (λ x. x >>= after_entries) r
+read-at-entries bytes head e h r = history-head bytes head h ∙ ap (λ x. x >>= after_entries) r
 
-past-entries : (bytes : List ℕ) (head : Version × ℕ) (files : List File) (rest : List ℕ) → image_head bytes ≡ Ok head → entries head.0 head.1 [] (drop 10 bytes) ≡ Ok (files, rest)
+history-entries : (bytes : List ℕ) (head : Version × ℕ) (files : List File) (rest : List ℕ) → image_head bytes ≡ Ok head → entries head.0 head.1 [] (drop 10 bytes) ≡ Ok (files, rest)
     → read_image bytes ≡ after_entries (files, rest)
-past-entries bytes head files rest h r = past-head bytes head h ∙ ap (λ x. x >>= after_entries) r
+history-entries bytes head files rest h r = history-head bytes head h ∙ ap (λ x. x >>= after_entries) r
 
 pub read-at-rest : (bytes : List ℕ) (head : Version × ℕ) (files : List File) (rest : List ℕ) → image_head bytes ≡ Ok head → entries head.0 head.1 [] (drop 10 bytes) ≡ Ok (files, rest)
     → 0 < length rest → read_image bytes ≡ Err (fault Rest 0)
 read-at-rest bytes head files rest h r some =
-    past-entries bytes head files rest h r ∙ ap (λ t. refuse t Rest >>= λ _. after_rest (files, rest)) (lt-ltb 0 (length rest) some)
+    history-entries bytes head files rest h r ∙ ap (λ t. refuse t Rest >>= λ _. after_rest (files, rest)) (lt-ltb 0 (length rest) some)
 
 -- with nothing left, the scripts decide
 pub read-at-end : (bytes : List ℕ) (head : Version × ℕ) (files : List File) (rest : List ℕ) (r : Result ⊤ SiteError) → image_head bytes ≡ Ok head → entries head.0 head.1 [] (drop 10 bytes) ≡ Ok (files, rest)
     → length rest ≤ 0 → r ≡ scripts files 0 files → read_image bytes ≡ (r >>= λ _. Ok files)
 read-at-end bytes head files rest r h e none s =
-    past-entries bytes head files rest h e
+    history-entries bytes head files rest h e
     ∙ ap (λ t. refuse t Rest >>= λ _. after_rest (files, rest)) (le-ltb 0 (length rest) none)
     ∙ ap (λ x. x >>= λ _. Ok files) (sym s)
 

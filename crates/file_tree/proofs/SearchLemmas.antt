@@ -1,4 +1,4 @@
--- What the search keeps: ranks below the low one have smaller names, ranks from the high one on have greater names.
+-- The invariant of the search: ranks below the low one have smaller names, ranks from the high one on have greater names.
 use Rattle.std.proofs.Common.{◌≡◌, ℕ, ◌+◌, ◌<◌, ◌≤◌, List, length, subst, inl, inr, arith}
 use Rattle.std.proofs.lemmas.Bool.{cases_lt, cases_eq}
 use Rattle.site_image.specs.Files.{File}

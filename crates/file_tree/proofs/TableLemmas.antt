@@ -15,7 +15,7 @@ use Rattle.file_tree.specs.Index.{IsOrder, IsSlot, AreWithin, IsIndex}
 use Rattle.file_tree.specs.Reading.{IsEntry}
 use Rattle.file_tree.proofs.OrderLemmas.{order-empty, order-insert}
 
--- of so many entries this many were read, and the next one begins there
+-- of n entries this many were read, and the next one begins there
 pub record Reading (image : List ℕ) (version : Version) (count number next : ℕ) (places : List Place) (order : List FileId) : Type 0 where
   pub same : entries version (count - number) (files_in image places) (drop next image) ≡ entries version count [] (drop 10 image)
   pub number_is : length places ≡ number

@@ -1,4 +1,4 @@
--- The files of an upgraded site that were appended so far, and what the whole gives.
+-- The files of an upgraded site that were appended so far, and the result of the whole.
 use Rattle.std.proofs.Common.{◌≡◌, ℕ, Bool, true, false, ◌+◌, ◌<◌, ◌≤◌, List, [], ◌∷◌, ◌++◌, length, get_or, take, Option, Some, None, Result, Ok, Err, refl, sym, ap, subst, ◌∙◌, append_assoc, arith}
 use Rattle.std.specs.Prelude.{⊤, All, IsTrue, slice_get, nat_lt, option_map}
 use Rattle.std.specs.List.{flat_map}
@@ -68,7 +68,7 @@ refuse-more : (one other : Bool) (why : SiteWhy) (e : SiteError) → (one ≡ tr
 refuse-more true other why e more h = ap (λ b. refuse b why) (more refl) ∙ h
 refuse-more false other why e more h = absurd cc
 
--- an entry that does not fit tells that the whole does not fit
+-- if an entry does not fit, the whole does not fit
 pub upgrades-long : (files : List File) (i : ℕ) (made : List ℕ) (places : List Place) (file : File) (fault : LoadFault) → Upgrades files i made places → slice_get files i ≡ Some file
     → Fails fault (refuse (nat_lt LONGEST_IMAGE (length made + length (entry Two file))) TooLong) → Fails fault (refuse (nat_lt LONGEST_IMAGE (length (image Two files))) TooLong)
 upgrades-long files i made places file NoMemory p s h = tt
@@ -82,7 +82,7 @@ upgrades-long files i made places file (Bad e) p s h =
     let all = entries-le Two files (i + 1) in
     let whole = image-size Two files in
     refuse-more (nat_lt LONGEST_IMAGE (length made + length (entry Two file))) (nat_lt LONGEST_IMAGE (length (image Two files))) TooLong e
-    (λ t. lt-ltb LONGEST_IMAGE (length (image Two files)) (let past = ltb-true LONGEST_IMAGE (length made + length (entry Two file)) t in omega arith)) h
+    (λ t. lt-ltb LONGEST_IMAGE (length (image Two files)) (let history = ltb-true LONGEST_IMAGE (length made + length (entry Two file)) t in omega arith)) h
 upgrades-long files i made places file Shelf p s h = absurd h
 
 pub record Upgraded (files : List File) (made : List ℕ) (places : List Place) : Type 0 where

@@ -10,7 +10,7 @@ use Rattle.site_image.specs.Grammar.{short_text, long_text, entry, IsKindIn}
 use Rattle.site_image.specs.Places.{IsWithin, file_in}
 use Rattle.file_tree.specs.Packing.{place_after}
 
--- a part of a list by what stands before it and after it
+-- a part of a list by what is before it and after it
 part-at : (xs before part after : List ℕ) (at len : ℕ) → xs ≡ before ++ (part ++ after) → at ≡ length before → len ≡ length part → slice_range xs at (at + len) ≡ part
 part-at xs before part after at len is here size =
     let n : (at + len) - at ≡ len = omega arith in
@@ -77,7 +77,7 @@ written Two old file kind =
     after_name ∙ sym (append_assoc (old ++ short_text name) (short_text own) (number ++ body))
     ∙ sym (append_assoc ((old ++ short_text name) ++ short_text own) number body)
     ∙ ap (λ x. (((old ++ short_text name) ++ short_text own) ++ number) ++ x) (sym (append-nil body)) in
-    let front = length-append old (short_text name) in
+    let prefix = length-append old (short_text name) in
     let before_kind = length-append (old ++ short_text name) (length own ∷ []) in
     let with_kind = length-append (old ++ short_text name) (short_text own) in
     let before_body = length-append ((old ++ short_text name) ++ short_text own) number in
@@ -85,8 +85,8 @@ written Two old file kind =
       within = record { name = omega (arith, n, m, k, l); kind = omega (arith, n, m, k, l); content = omega (arith, n, m, k, l) };
       file_is = λ i. record {
         name = part-at whole (old ++ length name ∷ []) name tail (length old + 1) (length name) first (sym (length-append old (length name ∷ []))) refl i;
-        kind = part-at whole ((old ++ short_text name) ++ length own ∷ []) own (long_text body) (length old + 1 + length name + 1) (length own) middle (omega (arith, front, before_kind)) refl i;
+        kind = part-at whole ((old ++ short_text name) ++ length own ∷ []) own (long_text body) (length old + 1 + length name + 1) (length own) middle (omega (arith, prefix, before_kind)) refl i;
         content = part-at whole (((old ++ short_text name) ++ short_text own) ++ number) body [] (length old + 1 + length name + 1 + length own + 4) (length body) last
-            (omega (arith, front, with_kind, before_body)) refl i;
+            (omega (arith, prefix, with_kind, before_body)) refl i;
       };
     }

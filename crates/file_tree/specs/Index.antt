@@ -33,13 +33,13 @@ pub record IsOrder (files : List File) (order : List FileId) : Type 0 where
   pub each : (id : ℕ) → id < length files → (rank : ℕ) × (rank < length order) × (id_at order rank ≡ id)
   pub rising : (low high : ℕ) → low < high → high < length order → IsBefore (name_at files order low) (name_at files order high)
 
--- the rank at which a name that no file has would stand
+-- the rank at which a name that no file has would be inserted
 pub record IsSlot (files : List File) (order : List FileId) (name : List ℕ) (slot : ℕ) : Type 0 where
   pub within : slot ≤ length order
   pub below : (rank : ℕ) → rank < slot → IsBefore (name_at files order rank) name
   pub above : (rank : ℕ) → slot ≤ rank → rank < length order → IsBefore name (name_at files order rank)
 
--- each place lies within the image
+-- each place is within the image
 abbrev pub AreWithin : List ℕ → List Place → Type 0
 AreWithin image places = (k : ℕ) (place : Place) → slice_get places k ≡ Some place → IsWithin image place
 

@@ -10,16 +10,16 @@ use Rattle.file_tree.specs.declared.load_fault.LoadFault.{LoadFault}
 use Rattle.file_tree.specs.declared.load_fault.LoadFault.TheVariants.{Shelf, Bad, NoMemory}
 use Rattle.file_tree.specs.Site.{SiteContent, files_of}
 
--- what reading the image under the name gives, and `-` is the site without files; nothing where the file is missing
+-- What reading the image under the name gives; `-` is the site without files. None if the file is missing.
 abbrev pub site_read : List ℕ → Files → Option (Result (List File) SiteError)
 site_read name files = if bytes_eq name (codes "-") then Some (Ok []) else option_map read_image (files name)
 
--- this is what a way to read finds in the files, where the shelf tells them
+-- the value is what this way to read finds in the files, if they are known
 abbrev pub FindsInFiles : {A : Type 0} → (Files → Option A) → Option Files → A → Type 0
 FindsInFiles read None found = ⊤
 FindsInFiles read (Some files) found = read files ≡ Some found
 
--- the shelf tells its files, and one that the way to read asks for is missing
+-- the files are known, and one that the way to read needs is missing
 abbrev pub LacksFile : {A : Type 0} → (Files → Option A) → Option Files → Type 0
 LacksFile read None = ⊥
 LacksFile read (Some files) = read files ≡ None

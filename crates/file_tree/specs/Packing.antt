@@ -1,4 +1,4 @@
--- Packing a list of files: its image, or its first fault. And the place of an entry that is written.
+-- Packing a list of files: its image, or its first fault; and the place of an entry that is written.
 use Rattle.std.specs.Prelude.{ℕ, ◌+◌, not, ⊤, List, [], ◌∷◌, ◌++◌, length, map, nat_lt, Option, Result, Ok}
 use Rattle.uip_edge.specs.Shelving.{HeldFile}
 use Rattle.site_image.specs.declared.TheConstants.{LONGEST_IMAGE, MOST_FILES}
@@ -18,15 +18,15 @@ use Rattle.site_image.specs.Faults.{◌>>=◌, refuse, unless, scripts}
 abbrev pub file_of : List ℕ → List ℕ → File
 file_of name content = record { name = name; kind = []; content = content }
 
--- the files of a list that is to be packed
+-- the files of a list to pack
 abbrev pub listed : List HeldFile → List File
 listed list = map (λ entry. file_of entry.name entry.content) list
 
--- what is wrong with a name behind the earlier files: the name itself, else it stands twice
+-- what is wrong with a name after the earlier files: the name itself, or else that an earlier file has it
 abbrev pub listed_fault : List File → List ℕ → Option SiteWhy
 listed_fault earlier name = first_of ((not (is_name name), Name) ∷ (has_name earlier name, Twice) ∷ [])
 
--- the files in turn, behind the earlier ones
+-- the files in turn, after the earlier ones
 unfoldable pub named : List File → List File → Result ⊤ SiteError
 named earlier [] = Ok tt
 named earlier (file ∷ files) = unless (listed_fault earlier file.name) (length earlier + 1) (named (earlier ++ file ∷ []) files)
@@ -40,12 +40,12 @@ packed files = do
   _ ← scripts files 0 files
   Ok (image One files)
 
--- where an entry's content type begins, and where its content does, by the version and the place of its name's end
+-- where an entry's content type begins, and where its content does, by the version and the offset after its name
 abbrev pub kind_start : Version → ℕ → ℕ
 kind_start One at = at
 kind_start Two at = at + 1
 
--- the place of an entry that begins at a place, by the lengths of its parts
+-- the place of an entry that begins at an offset, by the lengths of its parts
 abbrev pub place_after : Version → ℕ → ℕ → ℕ → ℕ → Place
 place_after version start name kind content = record {
   name_at = start + 1;

@@ -21,8 +21,8 @@ place_by name kind body = record {
   greatest = 0;
 }
 
--- the entry at a place of the image has no fault, its file lies at its own place, the next entry follows it, and its name
--- goes to the slot of the order
+-- The entry at an offset of the image has no fault, its file is at its own place, the next entry follows it, and its name goes
+-- to the slot of the order.
 pub record IsEntry (image : List ℕ) (version : Version) (earlier : List File) (order : List FileId) (at : ℕ)
     (place : Place) (slot next : ℕ) : Type 0 where
   pub none : entry_fault version earlier (drop at image) ≡ None

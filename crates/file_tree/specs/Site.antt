@@ -1,4 +1,4 @@
--- A site, and what it stands for.
+-- A site, and the files that it represents.
 use Rattle.std.specs.Prelude.{◌≡◌, ◌≤◌, ℕ, List, [], ◌∷◌, length, slice_get, IsTrue, Some, None, Result, Ok}
 use Rattle.script_lang.specs.Calling.{Calling}
 use Rattle.site_image.specs.declared.TheConstants.{LONGEST_IMAGE, MOST_FILES}
@@ -12,22 +12,22 @@ use Rattle.site_image.specs.Places.{files_in}
 use Rattle.file_tree.specs.declared.file_id.FileId.{FileId}
 use Rattle.file_tree.specs.Index.{IsIndex, AreMeasured}
 
--- the image, where its files lie, and their ids in the order of their names
+-- the image, the places of its files, and their ids in the order of their names
 pub record SiteContent : Type 0 where
   pub image : List ℕ
   pub files : List Place
   pub order : List FileId
 
--- the files that the site stands for
+-- the files that the site represents
 abbrev pub files_of : SiteContent → List File
 files_of site = files_in site.image site.files
 
--- the files of an image; no bytes stand for the site without files
+-- the files of an image; the empty list of bytes represents the site without files
 abbrev pub image_files : List ℕ → Result (List File) SiteError
 image_files [] = Ok []
 image_files (byte ∷ bytes) = read_image (byte ∷ bytes)
 
--- each name and each content type is good
+-- each name and each content type is well-formed
 abbrev pub AreGood : List File → Type 0
 AreGood files = (k : ℕ) (file : File) → slice_get files k ≡ Some file → IsTrue (is_name file.name) × IsTrue (is_kind file.kind)
 
@@ -36,7 +36,7 @@ abbrev pub AreApart : List File → Type 0
 AreApart files =
     (j k : ℕ) (one other : File) → slice_get files j ≡ Some one → slice_get files k ≡ Some other → one.name ≡ other.name → j ≡ k
 
--- no script has a fault, where scripts call these functions
+-- no script has a fault, if scripts call these functions
 abbrev pub HasSoundScripts : {F : Type 0} → Calling F → List File → Type 0
 HasSoundScripts c files = (k : ℕ) (file : File) → slice_get files k ≡ Some file → script_fault_by c files file ≡ None
 

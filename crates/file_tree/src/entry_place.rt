@@ -1,6 +1,6 @@
 use site_image::Place;
 
-/// An entry that was read: where its file lies, the rank of its name in the order, and where the next entry begins.
+/// An entry that was read: the place of its file, the rank of its name in the order, and the offset of the next entry.
 #[derive(Clone, Copy)]
 pub(crate) struct EntryPlace {
     pub place: Place,

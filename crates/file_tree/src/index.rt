@@ -1,3 +1,5 @@
+//! Finds a file by its name, by binary search in the order of the names.
+
 ghost use Rattle.std.specs.Prelude.{◌≡◌, ◌<◌, Some, length, is_some, option_and_then, option_map, slice_get, IfOk, IfErr, IfSome};
 ghost use Rattle.site_image.specs.Files.{file_named, has_name};
 ghost use Rattle.site_image.specs.Places.{files_in};
@@ -7,7 +9,7 @@ use crate::file_id::FileId;
 use site_image::Place;
 use std::cmp::Ordering;
 
-/// The name of the file with the id.
+/// Returns the name of the file with the id.
 pub(crate) fn name_in<'a>(image: &'a [u8], files: &[Place], id: FileId) -> &'a [u8]
     requires within { AreWithin image.now files.now }
     requires id { id.0 < length files.now }
@@ -18,7 +20,7 @@ pub(crate) fn name_in<'a>(image: &'a [u8], files: &[Place], id: FileId) -> &'a [
     &image[at..at + place.name_len as usize]
 }
 
-/// The rank at which the name stands in the order, or the one at which it would.
+/// Returns the rank of the name in the order, or the rank at which it would be inserted.
 pub(crate) fn search(
     image: &[u8],
     files: &[Place],
@@ -43,7 +45,7 @@ pub(crate) fn search(
     Err(low)
 }
 
-/// The id of the file of that name.
+/// Returns the id of the file with this name.
 pub(crate) fn find_id(
     image: &[u8],
     files: &[Place],

@@ -1,6 +1,6 @@
 use std::marker::Model;
 
-/// A word that gives the file of that name a content type.
+/// A word that gives the file with this name a content type.
 #[derive(Drop)]
 pub struct KindWord {
     pub name: Vec<u8>,

@@ -1,11 +1,11 @@
-//! A site: one image of files, held as one list of bytes, with the place of each file and the order of their names. It is
-//! loaded from a shelf or read from bytes, and finds a file by its name in a sorted index. Lists of files are packed into
-//! an image here, and an image is upgraded to the version that gives each file a content type.
+//! A site: one image of files, with the place of each file and the order of their names. A site is loaded from a shelf, read
+//! from bytes, or read in place, and finds a file by its name in a sorted index. Lists of files are packed into an image, and
+//! an image is upgraded to version 2.
 #![tactic(auto)]
 
 mod entry_place;
 mod file_id;
-mod flash_site;
+mod image;
 mod index;
 mod kind_word;
 mod load_fault;
@@ -15,18 +15,16 @@ mod pages;
 mod reading;
 mod site;
 mod table;
-mod tree;
 mod upgrading;
 mod writing;
 
 pub use file_id::FileId;
-pub use flash_site::FlashSite;
+pub use image::Image;
 pub use kind_word::KindWord;
 pub use load_fault::LoadFault;
 pub use loading::read_file;
-pub use packing::pack;
-pub use site::Site;
+pub use packing::{Entry, pack};
+pub use site::{FlashSite, Site, SiteOf};
 pub use site_image::{LONGEST_IMAGE, Place, SiteError, SiteWhy, content_kind};
-pub use tree::Tree;
 pub use uip_edge::Held;
 pub use upgrading::upgrade;

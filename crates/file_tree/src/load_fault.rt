@@ -1,3 +1,5 @@
+//! Why a site cannot be loaded.
+
 ghost use Rattle.std.specs.Prelude.{◌≡◌};
 ghost use Rattle.file_tree.specs.declared.load_fault.LoadFault.TheVariants.{Bad, NoMemory};
 
@@ -9,9 +11,9 @@ use std::alloc::{AllocError, AllocFailed};
 pub enum LoadFault {
     /// The shelf failed, or does not hold the file.
     Shelf,
-    /// The image, or the list that was to be made into one, has this first fault.
+    /// The image, or the list from which one was to be made, has this first fault.
     Bad(SiteError),
-    /// There was not enough memory.
+    /// Memory ran out.
     NoMemory,
 }
 

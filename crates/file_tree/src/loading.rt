@@ -1,3 +1,5 @@
+//! Reads files from a shelf.
+
 ghost use Rattle.std.specs.Prelude.{◌≡◌, ◌+◌, ◌≤◌, take, IfOk, IfErr};
 ghost use Rattle.site_image.specs.declared.TheConstants.{LONGEST_IMAGE};
 ghost use Rattle.file_tree.specs.Loading.{HoldsFile, HasLoadCause, IsOutside};
@@ -6,10 +8,10 @@ use crate::load_fault::LoadFault;
 use std::alloc::Global;
 use uip_edge::Shelf;
 
-/// The size of the block that a file is read by.
+/// The size of the block by which a file is read, in bytes.
 const BLOCK: usize = 4096;
 
-/// The bytes of a file from its front on, to its end or to one byte more than the limit.
+/// Returns the bytes of a file from its start, up to its end or one byte past the limit.
 pub fn read_file<H: Shelf>(
     alloc: Global,
     shelf: &mut H,

@@ -1,3 +1,5 @@
+//! Packs a list of files into an image.
+
 ghost use Rattle.std.specs.Prelude.{◌≡◌, ◌+◌, ◌≤◌, ◌<◌, ◌++◌, ◌∷◌, [], ◌^◌, ◌-◌, length, min, IsTrue, Ok, Some, None, IfOk, IfSome, IfNone, OnOk, IfErr};
 ghost use Rattle.std.specs.Int.{w16, to_be_bytes};
 ghost use Rattle.site_image.specs.declared.TheConstants.{LONGEST_IMAGE, MOST_FILES};
@@ -30,7 +32,7 @@ pub(crate) struct Draft {
     pub order: Vec<FileId>,
 }
 
-/// The rank of a further name in the order, or what is wrong with the name.
+/// Returns the rank of a further name in the order, or what is wrong with the name.
 fn slot_of(image: &[u8], files: &[Place], order: &[FileId], name: &[u8]) -> Result<usize, SiteWhy>
     requires { IsIndex image.now files.now order.now }
     ensures sound { IfOk result (λ _. listed_fault (files_in image.now files.now) name.now ≡ None) }
@@ -47,7 +49,7 @@ fn slot_of(image: &[u8], files: &[Place], order: &[FileId], name: &[u8]) -> Resu
     }
 }
 
-/// Appends a file of a list behind the earlier ones.
+/// Appends a file of a list after the earlier ones.
 fn push_named(draft: &mut Draft, name: &[u8], content: &[u8]) -> Result<(), LoadFault>
     requires table { IsIndex draft.old.image.items draft.old.files.items draft.old.order.items }
     requires few { length draft.old.files.items < MOST_FILES }
@@ -71,7 +73,10 @@ fn push_named(draft: &mut Draft, name: &[u8], content: &[u8]) -> Result<(), Load
     Ok(())
 }
 
-/// The same of an entry.
+/// A file of a list to pack: its name and its content.
+pub type Entry = Held;
+
+/// Does the same for an entry of the list.
 fn push_listed(draft: &mut Draft, entry: &Held) -> Result<(), LoadFault>
     requires table { IsIndex draft.old.image.items draft.old.files.items draft.old.order.items }
     requires few { length draft.old.files.items < MOST_FILES }
@@ -87,7 +92,7 @@ fn push_listed(draft: &mut Draft, entry: &Held) -> Result<(), LoadFault>
     push_named(draft, &entry.name, &entry.content)
 }
 
-/// The fault of the file with that number, counted from 0.
+/// Returns the fault of the file with this number, counted from 0.
 fn fault_of(why: SiteWhy, number: usize) -> LoadFault
     requires { number < MOST_FILES }
     ensures { result ≡ Bad (record { why = why; entry = number + 1 }) }
@@ -98,7 +103,7 @@ fn fault_of(why: SiteWhy, number: usize) -> LoadFault
     })
 }
 
-/// The length of a file's entry.
+/// Returns the length of a file's entry, in bytes.
 fn entry_len(entry: &Held) -> usize
     ensures { result ≡ min (length entry.now.name + length entry.now.content + 5) (2 ^ 64 - 1) }
 {
@@ -106,7 +111,7 @@ fn entry_len(entry: &Held) -> usize
     texts.saturating_add(5)
 }
 
-/// The length of the list's image, and `None` where it is longer than an image may be.
+/// Returns the length of the list's image in bytes, or `None` if it is longer than an image may be.
 fn packed_len(list: &[Held]) -> Option<usize>
     ensures fits { IfSome result (λ size. (size ≡ length (image One (listed list.now))) × (size ≤ LONGEST_IMAGE)) }
     ensures long { IfNone result (LONGEST_IMAGE < length (image One (listed list.now))) }
@@ -121,11 +126,11 @@ fn packed_len(list: &[Held]) -> Option<usize>
     Some(size)
 }
 
-/// The image of the list in version 1, or the first fault of the list.
-pub fn pack(alloc: Global, list: &[Held]) -> Result<Vec<u8>, LoadFault>
+/// Makes the image of the list in version 1, or returns the first fault of the list.
+pub fn pack(alloc: Global, list: &[Entry]) -> Result<Vec<u8>, LoadFault>
     ensures exact { Gives (λ image. image.items) result (packed (listed list.now)) }
 
-    // The image is read again as the list.
+    // The image is read back as the list.
     ensures reads { IfOk result (λ image. read_image image.items ≡ Ok (listed list.now)) }
 {
     let Some(size) = packed_len(list) else {

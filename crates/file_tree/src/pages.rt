@@ -1,3 +1,5 @@
+//! The greatest lengths of pages, and the faults of scripts.
+
 ghost use Rattle.std.specs.Prelude.{◌≡◌, ◌≤◌, ◌<◌, ◌+◌, ◌*◌, ◌↔◌, true, false, [], length, IfOk, IfErr, OnOk, IfSome, IsTrue, MatchOption, Some, None, sum_by, slice_range};
 ghost use Rattle.std.specs.List.{list_any};
 ghost use Rattle.std.specs.Option.{option_map_or};
@@ -17,7 +19,7 @@ use site_image::{
     HEAD_LEN, KIND_LINE_LEN, PAGE_LIMIT, Place, SiteError, SiteWhy, content_kind, is_script,
 };
 
-/// The greatest length of what a piece of a script gives, and `None` where it is an include that names no file.
+/// Returns the greatest length of a piece's text, or `None` for an include that names no file.
 fn piece_len<F: Calls>(
     image: &[u8],
     files: &[Place],
@@ -41,7 +43,7 @@ fn piece_len<F: Calls>(
     }
 }
 
-/// The length of the file of that name.
+/// Returns the length of the file with this name.
 fn included_len(image: &[u8], files: &[Place], order: &[FileId], name: &[u8]) -> Option<usize>
     requires table { IsIndex image.now files.now order.now }
     requires image_fits { length image.now ≤ LONGEST_IMAGE }
@@ -57,7 +59,7 @@ fn included_len(image: &[u8], files: &[Place], order: &[FileId], name: &[u8]) ->
     }
 }
 
-/// The greatest length of what a script gives, and `None` where one of its includes names no file.
+/// Returns the greatest length of a script's text, or `None` if one of its includes names no file.
 fn script_len<F: Calls>(
     image: &[u8],
     files: &[Place],
@@ -83,7 +85,7 @@ fn script_len<F: Calls>(
     Some(sum)
 }
 
-/// The content type of a file's page: its own, or where that is empty the one by the name.
+/// Returns the content type of a file's page: its own, or by its name if its own is empty.
 pub(crate) fn page_kind<'a>(name: &[u8], kind: &'a [u8]) -> &'a [u8]
     requires { length kind.now ≤ LONGEST_IMAGE }
     ensures kind { result.now ≡ kind_of (record { name = name.now; kind = kind.now; content = [] }) }
@@ -95,7 +97,7 @@ pub(crate) fn page_kind<'a>(name: &[u8], kind: &'a [u8]) -> &'a [u8]
     kind
 }
 
-/// The greatest length of a file's page, or what is wrong with the file as a script.
+/// Returns the greatest length of a file's page, or what is wrong with the file as a script.
 fn page_len<F: Calls>(
     image: &[u8],
     files: &[Place],
@@ -112,20 +114,20 @@ fn page_len<F: Calls>(
     let name = bytes_at(image, place.name_at, place.name_len);
     let kind = bytes_at(image, place.kind_at, place.kind_len);
     let content = bytes_at(image, place.at, place.len);
-    let front = HEAD_LEN + KIND_LINE_LEN + page_kind(name, kind).len();
+    let prefix = HEAD_LEN + KIND_LINE_LEN + page_kind(name, kind).len();
     if !is_script(name) {
-        return Ok((front + content.len()) as u32);
+        return Ok((prefix + content.len()) as u32);
     }
     let Some(body) = script_len::<F>(image, files, order, content) else {
         return Err(SiteWhy::Include);
     };
-    if front + body >= PAGE_LIMIT {
+    if prefix + body >= PAGE_LIMIT {
         return Err(SiteWhy::PageTooLong);
     }
-    Ok((front + body) as u32)
+    Ok((prefix + body) as u32)
 }
 
-/// A part of an image.
+/// Returns a slice of an image.
 pub(crate) fn bytes_at(image: &[u8], at: u32, len: u32) -> &[u8]
     requires { at + len ≤ length image.now }
     ensures bytes { result.now ≡ slice_range image.now at (at + len) }
@@ -134,7 +136,7 @@ pub(crate) fn bytes_at(image: &[u8], at: u32, len: u32) -> &[u8]
     &image[at as usize..at as usize + len as usize]
 }
 
-/// Writes the greatest length of each file's page into its place, up to the first script with a fault.
+/// Stores the greatest length of each file's page in its place, up to the first script with a fault.
 pub(crate) fn measure(image: &[u8], files: &mut [Place], order: &[FileId]) -> Result<(), SiteError>
     requires table { IsIndex image.now files.old order.now }
     requires image_fits { length image.now ≤ LONGEST_IMAGE }
@@ -158,7 +160,7 @@ pub(crate) fn measure(image: &[u8], files: &mut [Place], order: &[FileId]) -> Re
     Ok(())
 }
 
-/// Whether no script has a fault, where scripts call these functions.
+/// Returns whether no script has a fault, if scripts call these functions.
 pub(crate) fn are_scripts_sound<F: Calls>(image: &[u8], files: &[Place], order: &[FileId]) -> bool
     requires table { IsIndex image.now files.now order.now }
     requires image_fits { length image.now ≤ LONGEST_IMAGE }

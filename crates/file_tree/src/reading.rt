@@ -1,3 +1,5 @@
+//! Reads the table of an image.
+
 ghost use Rattle.std.specs.Prelude.{◌≡◌, ◌+◌, ◌≤◌, ◌<◌, ◌^◌, [], drop, length, IfOk, IfErr, Some, Ok};
 ghost use Rattle.site_image.specs.declared.TheConstants.{LONGEST_IMAGE, MOST_FILES};
 ghost use Rattle.site_image.specs.Faults.{entry_fault, entries, read_image};
@@ -18,7 +20,7 @@ use site_image::{
 };
 use std::alloc::Global;
 
-/// The place of a file by its three parts.
+/// Returns the place of a file by its three parts.
 fn place_of(name: Part, kind: Part, content: Part) -> Place
     requires name_fits { name.at + name.len < 2 ^ 32 }
     requires kind_fits { kind.at + kind.len < 2 ^ 32 }
@@ -36,7 +38,7 @@ fn place_of(name: Part, kind: Part, content: Part) -> Place
     }
 }
 
-/// The entry at `at`, behind the files that were read before.
+/// Reads the entry at `at`, after the files that were read before.
 fn read_entry(
     image: &[u8],
     version: Version,
@@ -65,7 +67,7 @@ fn read_entry(
     })
 }
 
-/// All entries of an image, so many as the head says.
+/// Reads the entries of an image, as many as its head states.
 pub(crate) fn read_entries(
     alloc: Global,
     image: &[u8],
@@ -96,13 +98,13 @@ pub(crate) fn read_entries(
             }
         };
         order.insert(entry.slot, FileId(number as u16))?;
-        files.push(entry.place)?;
+        files.push_reserved(entry.place);
         next = entry.next;
     }
     Ok(Table { files, order, next })
 }
 
-/// The table of a whole image.
+/// Reads the table of a whole image, or returns its first fault.
 pub(crate) fn read_table(alloc: Global, image: &[u8]) -> Result<Table, LoadFault>
     ensures exact { Gives (λ table. files_in image.now table.files.items) result (read_image image.now) }
     ensures loaded { IfOk result (λ table. IsLoaded (record { image = image.now; files = table.files.items; order = table.order.items })) }

@@ -1,7 +1,7 @@
 use crate::file_id::FileId;
 use site_image::Place;
 
-/// Where the files of an image lie, the order of their names, and where what follows the last entry begins.
+/// The places of the files of an image, the order of their names, and the offset after the last entry.
 #[derive(Drop)]
 pub(crate) struct Table {
     pub files: Vec<Place>,

@@ -1,3 +1,5 @@
+//! Upgrades an image to version 2.
+
 ghost use Rattle.std.specs.Prelude.{◌≡◌, ◌+◌, ◌≤◌, ◌<◌, ◌++◌, ◌∷◌, [], length, nat_lt, find, reverse, option_map, slice_get, All, IsTrue, Ok, Err, Some, IfOk, OnOk, IfErr};
 ghost use Rattle.std.specs.Int.{w16, to_be_bytes};
 ghost use Rattle.std.specs.Option.{option_copied};
@@ -23,7 +25,7 @@ use crate::writing::push_file;
 use site_image::{LONGEST_IMAGE, Place, SiteError, SiteWhy, Version, push_head};
 use std::alloc::Global;
 
-/// The content type that the last word with the name gives.
+/// Returns the content type that the last word with the name gives.
 fn word_kind<'a>(words: &'a [KindWord], name: &[u8]) -> Option<&'a [u8]>
     ensures { option_copied result ≡ option_map (λ word. word.kind) (find (λ word. bytes_eq word.name name.now) (reverse words.now)) }
 {
@@ -34,7 +36,7 @@ fn word_kind<'a>(words: &'a [KindWord], name: &[u8]) -> Option<&'a [u8]>
         .map(|word| word.kind.as_slice())
 }
 
-/// The content type that the file gets: by the words, else the one that it had.
+/// Returns the content type of the file in the new image: by the words, else the one that it had.
 fn chosen_kind<'a>(site: &'a Site, words: &'a [KindWord], id: FileId) -> &'a [u8]
     requires { id.0 < length (files_of site.now) }
     ensures { option_map (chosen words.now) (slice_get (files_of site.now) id.0) ≡ Some result.now }
@@ -45,7 +47,7 @@ fn chosen_kind<'a>(site: &'a Site, words: &'a [KindWord], id: FileId) -> &'a [u8
     site.kind(id)
 }
 
-/// What the new entry of a file is made of.
+/// The parts of a file's new entry.
 #[derive(Clone, Copy)]
 struct NewFile<'a> {
     name: &'a [u8],
@@ -53,7 +55,7 @@ struct NewFile<'a> {
     content: &'a [u8],
 }
 
-/// The file with the id, as it is in the new list.
+/// Returns the file with the id, as it is in the new list.
 fn new_file<'a>(site: &'a Site, words: &'a [KindWord], id: FileId) -> NewFile<'a>
     requires { id.0 < length (files_of site.now) }
     ensures { slice_get (upgraded words.now (files_of site.now)) id.0
@@ -66,7 +68,7 @@ fn new_file<'a>(site: &'a Site, words: &'a [KindWord], id: FileId) -> NewFile<'a
     }
 }
 
-/// Appends a new file, and fails where the image would be longer than an image may be.
+/// Appends a new file. Fails if the image would be longer than an image may be.
 fn push_new(image: &mut Vec<u8>, files: &mut Vec<Place>, file: NewFile<'_>) -> Result<(), LoadFault>
     requires name { IsTrue (is_name file.name.now) }
     requires kind { IsTrue (is_kind file.kind.now) }
@@ -95,7 +97,7 @@ fn push_new(image: &mut Vec<u8>, files: &mut Vec<Place>, file: NewFile<'_>) -> R
     Ok(())
 }
 
-/// The files of the new list behind the head of an image.
+/// Appends the files of the new list after the head of an image.
 fn push_new_files(
     image: &mut Vec<u8>,
     files: &mut Vec<Place>,
@@ -120,12 +122,13 @@ fn push_new_files(
     Ok(())
 }
 
-/// The image of a site in version 2, with the content types that the words give, or the first fault of the new list.
+/// Makes the image of a site in version 2, with the content types that the words give, or returns the first fault of the new
+/// list.
 pub fn upgrade(alloc: Global, site: &Site, words: &[KindWord]) -> Result<Vec<u8>, LoadFault>
     requires { All (λ word. IsTrue (is_kind word.kind)) words.now }
     ensures exact { Gives (λ image. image.items) result (second_image (upgraded words.now (files_of site.now))) }
 
-    // The image stands for the same names and contents, each with its new content type.
+    // The image represents the same names and contents, each with its new content type.
     ensures reads { IfOk result (λ image. read_image image.items ≡ Ok (upgraded words.now (files_of site.now))) }
 {
     let order = &site.order;

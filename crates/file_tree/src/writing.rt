@@ -1,3 +1,5 @@
+//! Appends the entry of a file to an image.
+
 ghost use Rattle.std.specs.Prelude.{◌≡◌, ◌+◌, ◌≤◌, ◌<◌, ◌++◌, length, IsTrue, IfOk, OnOk};
 ghost use Rattle.site_image.specs.declared.TheConstants.{LONGEST_IMAGE};
 ghost use Rattle.site_image.specs.Names.{is_name};
@@ -8,7 +10,7 @@ ghost use Rattle.file_tree.specs.Packing.{place_after};
 use site_image::{Place, Version, push_entry};
 use std::alloc::AllocError;
 
-/// The place of an entry that begins at `start`, by the lengths of its parts.
+/// Returns the place of an entry that begins at `start`, by the lengths of its parts.
 fn place_at(start: usize, version: Version, name: usize, kind: usize, content: usize) -> Place
     requires start_fits { start ≤ LONGEST_IMAGE }
     requires name_fits { name ≤ LONGEST_IMAGE }
@@ -32,7 +34,7 @@ fn place_at(start: usize, version: Version, name: usize, kind: usize, content: u
     }
 }
 
-/// Appends the entry of a file to an image, and says where the file lies.
+/// Appends the entry of a file to an image, and returns the file's place.
 pub(crate) fn push_file(
     image: &mut Vec<u8>,
     version: Version,

@@ -3,9 +3,9 @@ use Rattle.std.proofs.Common.{◌≡◌, ℕ, List, [], ◌∷◌, ◌++◌, app
 use Rattle.std.specs.List.{concat}
 
 abbrev pub joined : List ℕ → List (List ℕ) → List ℕ
-joined front [] = front
-joined front (text ∷ texts) = joined (front ++ text) texts
+joined prefix [] = prefix
+joined prefix (text ∷ texts) = joined (prefix ++ text) texts
 
-pub joined_is : (front : List ℕ) (texts : List (List ℕ)) → joined front texts ≡ front ++ concat texts
-joined_is front [] = sym (append-nil front)
-joined_is front (text ∷ texts) = joined_is (front ++ text) texts ∙ append_assoc front text (concat texts)
+pub joined_is : (prefix : List ℕ) (texts : List (List ℕ)) → joined prefix texts ≡ prefix ++ concat texts
+joined_is prefix [] = sym (append-nil prefix)
+joined_is prefix (text ∷ texts) = joined_is (prefix ++ text) texts ∙ append_assoc prefix text (concat texts)

@@ -1,4 +1,4 @@
--- A piece of a text written where the buffer is to hold it.
+-- A piece of a text, written at its offset of the buffer.
 use Rattle.std.proofs.Common.{◌≡◌, ℕ, ◌+◌, ◌-◌, ◌<◌, ◌≤◌, List, [], ◌∷◌, ◌++◌, append_assoc, replicate, flat_map, subst, length, take, drop, min, get_or, refl, sym, ap, ◌∙◌, arith, inl, inr, slice_range, length-append, length-drop}
 use Rattle.std.proofs.lemmas.List.{get_or_append_left, get_or-append_right, get_or-take, get_or-drop, length-take, take_all, flat_map_more, take_more, drop-replicate, length-replicate}
 use Rattle.std.proofs.lemmas.Bool.{cases_lt}
@@ -95,7 +95,7 @@ padding n =
     let m : length spaces ≤ 10 - n = omega (arith, l) in
     ap (λ (xs : List ℕ). take (10 - n) xs) e ∙ take_all (10 - n) spaces m
 
--- two pieces that a text went on with are one
+-- two pieces that were appended to a text are one
 pub holds_joined : (text a b c : List ℕ) (place : Place) (out : List ℕ) → HoldsPart (text ++ a ++ b) place out → a ++ b ≡ c → HoldsPart (text ++ c) place out
 holds_joined text a b c place out h e =
     let P : List ℕ → Type 0 = λ xs. HoldsPart xs place out in

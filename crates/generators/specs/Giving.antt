@@ -1,7 +1,7 @@
--- What the calls of a script give, over plain data.
+-- The texts of a script's calls, over plain data.
 use Rattle.std.specs.List.{All}
 use Rattle.std.specs.Prelude.{ℕ, ◌≤◌, List, length}
-use Rattle.app_events.specs.Pages.{IsNow, IsWord, IsByte}
+use Rattle.app_events.specs.Pages.{IsNow, IsU32, IsByte}
 use Rattle.app_events.specs.declared.now.Now.{Now}
 use Rattle.script_lang.specs.Calling.{Calling}
 use Rattle.script_lang.specs.Functions.{uip_calls}
@@ -9,16 +9,16 @@ use Rattle.script_lang.specs.declared.function.Function.{Function}
 use Rattle.generators.specs.Captures.{capture_of}
 use Rattle.generators.specs.Text.{capture_text}
 
--- the text of a call: of a function with an argument, by the hits of the file that it names, the own state and the moment
+-- The text of a call: of a function with an argument, by the hits of the file that it names, the own state and the snapshot.
 abbrev pub Said : Type 0 → Type 0
 Said F = F → (argument : List ℕ) (hits : ℕ) (own : List ℕ) (now : Now) → List ℕ
 
 pub record Giving (F : Type 0) : Type 0 where
   pub calling : Calling F
-  pub said : Said F
+  pub output : Said F
 
 abbrev pub gives : {F : Type 0} → Calling F → Said F → Giving F
-gives calling said = record { calling = calling; said = said }
+gives calling output = record { calling = calling; output = output }
 
 -- the functions of uIP
 abbrev pub uip_said : Said Function
@@ -27,12 +27,12 @@ uip_said function argument hits own now = capture_text (capture_of function hits
 abbrev pub uip : Giving Function
 uip = gives uip_calls uip_said
 
--- no text is longer than its function's greatest length, at every moment that a node can make
+-- no text is longer than its function's greatest length, in every snapshot that a node can make
 abbrev pub AreShort : {F : Type 0} → Giving F → Type 0
-AreShort {F} g = (function : F) (argument : List ℕ) (hits : ℕ) (own : List ℕ) (now : Now) → IsWord hits → IsNow now →
-    length (g.said function argument hits own now) ≤ g.calling.length_at_most function
+AreShort {F} g = (function : F) (argument : List ℕ) (hits : ℕ) (own : List ℕ) (now : Now) → IsU32 hits → IsNow now →
+    length (g.output function argument hits own now) ≤ g.calling.length_at_most function
 
 -- every text is bytes, whatever it is made from
 abbrev pub AreBytes : {F : Type 0} → Said F → Type 0
-AreBytes {F} said = (function : F) (argument : List ℕ) (hits : ℕ) (own : List ℕ) (now : Now) →
-    All IsByte (said function argument hits own now)
+AreBytes {F} output = (function : F) (argument : List ℕ) (hits : ℕ) (own : List ℕ) (now : Now) →
+    All IsByte (output function argument hits own now)

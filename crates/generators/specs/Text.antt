@@ -1,4 +1,6 @@
 -- The generated text: a function of the capture record alone.
+-- [add: function] Function: the text of its capture record.
+-- [add: state] State: its name, in `state_name`.
 use Rattle.std.specs.Prelude.{ℕ, ◌-◌, List, [], ◌∷◌, ◌++◌, Bool, codes, decimal, flat_map, length, replicate, slice_index, if◌then◌else◌}
 use Rattle.std.specs.List.{concat}
 use Rattle.app_events.specs.declared.row.Row.{Row}
@@ -7,7 +9,7 @@ use Rattle.app_events.specs.declared.state.State.TheVariants.{Closed, SynRcvd, E
 use Rattle.generators.specs.declared.capture.Capture.{Capture}
 use Rattle.generators.specs.declared.capture.Capture.TheVariants as capture
 
--- a number in ten places, right, filled with spaces
+-- a number in ten places, right-aligned and filled with spaces
 abbrev pub in_ten_places : ℕ → List ℕ
 in_ten_places n = replicate (10 - length (decimal n)) 32 ++ decimal n
 

@@ -5,7 +5,9 @@ use crate::rows::copy_rows;
 use app_events::{Now, RowList};
 use script_lang::Function;
 
-/// What a generator's text is made from, fixed when the generator begins.
+/// What the text of a call is made from, captured once.
+/// [add: counter] The length of the array of `Net`.
+/// [add: function] A variant with what its text is made from, and its arm in `take`.
 #[derive(Drop)]
 pub enum Capture {
     /// No text.
@@ -20,8 +22,7 @@ pub enum Capture {
     Rows(RowList),
 }
 
-/// The record of this function at this moment. `hits` is the hit count of the file that the argument names, 0 if there is
-/// none.
+/// Captures the record of the function in this snapshot. `hits` is the hit count of the file that the argument names, or 0.
 pub fn take(function: Function, hits: u32, now: &Now) -> Capture
     ensures { result ≡ capture_of function hits now.now }
 {

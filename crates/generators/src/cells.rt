@@ -9,10 +9,11 @@ use crate::written::Written;
 use app_events::{Row, State};
 use itoa::Buffer;
 
-/// The length of what is the same in each row: the cells' ends, three dots, a colon and the mark.
+/// The length of what is the same in each row: the ends of the cells, three dots, a colon and the mark.
 const FIXED_LEN: usize = 8 + 5 * 9 + 3 + 1 + 1 + 12;
 
-/// The name of a state as it is shown.
+/// Returns the name of a state as pages show it.
+/// [add: state] Its name in a row of a page.
 #[inline(always)]
 fn name_of(state: State) -> &'static [u8]
     ensures text { result.now ≡ state_name state }
@@ -31,7 +32,7 @@ fn name_of(state: State) -> &'static [u8]
     }
 }
 
-/// The mark of a connection with something outstanding, or its place.
+/// Returns the mark of a connection with something outstanding, or a space.
 fn mark_of(waiting: bool) -> &'static [u8]
     ensures text { result.now ≡ waiting_mark waiting }
     ensures short { length result.now ≤ 20 }
@@ -39,10 +40,10 @@ fn mark_of(waiting: bool) -> &'static [u8]
     if waiting { b"*" } else { b" " }
 }
 
-/// So much room has the text of each row.
+/// Room for the text of any row, in bytes.
 const ROW_ROOM: usize = 192;
 
-/// Appends a piece to the text at the front of a room, and says how long the text is then.
+/// Appends a piece to the text at the start of the room, and returns the new length.
 #[inline(always)]
 fn append(room: &mut [u8], len: usize, piece: &[u8]) -> usize
     requires { len + length piece.now ≤ length room.old }
@@ -56,7 +57,6 @@ fn append(room: &mut [u8], len: usize, piece: &[u8]) -> usize
 }
 
 /// Appends a number.
-#[inline(always)]
 fn append_number(room: &mut [u8], len: usize, number: u32) -> usize
     requires { len + 10 ≤ length room.old }
     ensures long { length room.new ≡ length room.old }
@@ -69,7 +69,8 @@ fn append_number(room: &mut [u8], len: usize, number: u32) -> usize
     append_digits(room, len, number)
 }
 
-/// Appends a number of any length.
+/// Appends the digits of a number of any length. It is a function of its own because a row has nine numbers.
+#[inline(never)]
 fn append_digits(room: &mut [u8], len: usize, number: u32) -> usize
     requires { len + 10 ≤ length room.old }
     ensures long { length room.new ≡ length room.old }
@@ -80,7 +81,7 @@ fn append_digits(room: &mut [u8], len: usize, number: u32) -> usize
     append(room, len, digits.format(number).as_bytes())
 }
 
-/// Appends a number and what ends it.
+/// Appends a number and its terminator.
 #[inline(always)]
 fn append_ended(room: &mut [u8], len: usize, number: u32, end: &[u8]) -> usize
     requires { len + 10 + length end.now ≤ length room.old }
@@ -92,7 +93,7 @@ fn append_ended(room: &mut [u8], len: usize, number: u32, end: &[u8]) -> usize
     append(room, numbered, end)
 }
 
-/// Writes the text of a row to the front of a room, and says how long it is.
+/// Writes the text of a row to the start of the room, and returns its length.
 #[tactic(auto, unfolding(crate::specs::Text::row_parts))]
 fn row_into(row: &Row, room: &mut [u8]) -> usize
     requires { length room.old ≡ ROW_ROOM }

@@ -1,22 +1,22 @@
 ghost use Rattle.std.specs.Prelude.{◌≡◌, ℕ, ◌+◌, ◌≤◌, List, [], length, take, drop};
-ghost use Rattle.app_events.specs.declared.now.Now.{Now as Moment};
+ghost use Rattle.app_events.specs.declared.now.Now.{Now as Snapshot};
 ghost use Rattle.generators.specs.Giving.{AreBytes, AreShort, gives};
 
 use app_events::Now;
 use script_lang::Calls;
 
-/// What the text of a call is made from, fixed when the call comes next.
+/// What the text of a call is made from, captured once, when the call is next.
 ///
-/// `said` is the text of a call with an argument at a moment, by the hits of the file that the argument names, by the own
-/// state and by what the node tells. A record is taken once, and its text is a function of it alone.
+/// `output` is the text of a call: a function of its argument, the hits of the file that the argument names, the own state and
+/// the snapshot. A record is captured once, and its text depends on it alone.
 pub trait Record: Drop {
     /// The functions that a script can call.
     type Function: Calls;
 
-    /// What is shown beside the hits and the moment.
+    /// What a call shows beside the hits and the snapshot.
     type Own: Drop;
 
-    ghost said: { Self.Function → List ℕ → ℕ → List ℕ → Moment → List ℕ };
+    ghost output: { Self.Function → List ℕ → ℕ → List ℕ → Snapshot → List ℕ };
 
     /// The text of a record.
     ghost text: { Self → List ℕ };
@@ -24,11 +24,11 @@ pub trait Record: Drop {
     /// The own state as numbers.
     ghost own_numbers: { Self.Own → List ℕ };
 
-    /// The record without text.
+    /// Returns the record without text.
     fn empty() -> Self
         ensures { text result ≡ [] };
 
-    /// The record of a call at this moment.
+    /// Captures the record of a call in this snapshot.
     fn take(
         function: Self::Function,
         argument: &[u8],
@@ -36,21 +36,21 @@ pub trait Record: Drop {
         own: &Self::Own,
         now: &Now,
     ) -> Self
-        ensures { text result ≡ said function argument.now hits (own_numbers own.now) now.now };
+        ensures { text result ≡ output function argument.now hits (own_numbers own.now) now.now };
 
-    /// The length of its text, in bytes.
+    /// Returns the length of its text, in bytes.
     fn text_len(&self) -> usize
         ensures length { result ≡ length (text self.now) }
         ensures short { result ≤ 4200 };
 
-    /// Writes its text from place `at` on, as much as `out` holds.
+    /// Writes its text from offset `at` on, to fill `out`.
     fn fill_at(&self, at: usize, out: &mut [u8])
         requires { at + length out.old ≤ length (text self.now) }
         ensures { out.new ≡ take (length out.old) (drop at (text self.now)) };
 
     /// No text is longer than its function's greatest length.
-    ghost short: { AreShort (gives Self.Function.calling said) };
+    ghost short: { AreShort (gives Self.Function.calling output) };
 
     /// Each text is bytes.
-    ghost bytes: { AreBytes said };
+    ghost bytes: { AreBytes output };
 }

@@ -1,4 +1,4 @@
-//! What holds of all generated text.
+//! What holds for all generated text.
 
 ghost use Rattle.generators.specs.Short.{TextsAreShort};
 

@@ -1,6 +1,5 @@
-//! Generated text: what the functions of a script give. A generator first fixes one capture record of the moment, and
-//! takes all its bytes from that record, so text that is sent again is made again byte for byte. No call is given an
-//! allocator; that none takes memory is no clause.
+//! The text of the functions of a script. A call is first captured as one record, and all its bytes are made from that record,
+//! so a retransmission is identical. No call is passed an allocator.
 #![tactic(auto)]
 
 mod capture;

@@ -8,13 +8,13 @@ use crate::parts::{Place, put};
 use crate::written::Written;
 use itoa::Buffer;
 
-/// The length of a number in ten places.
+/// The number of places of a number.
 pub(crate) const PLACES: usize = 10;
 
 /// The length of a counter's line.
 const LINE_LEN: usize = PLACES + 1;
 
-/// How many digits a number has.
+/// Returns the number of digits.
 #[inline(always)]
 pub(crate) fn decimal_len(number: u32) -> usize
     ensures length { result ≡ length (decimal number) }
@@ -33,7 +33,7 @@ pub(crate) fn decimal_len(number: u32) -> usize
     digits.format(number).len()
 }
 
-/// The length of a number in ten places.
+/// Returns the length of a number in ten places.
 pub(crate) fn in_ten_places_len(_number: u32) -> usize
     ensures length { result ≡ length (in_ten_places _number) }
     ensures places { result ≡ 10 }
@@ -41,8 +41,8 @@ pub(crate) fn in_ten_places_len(_number: u32) -> usize
     PLACES
 }
 
-/// A number in ten places, right, filled with spaces.
-#[inline(always)]
+/// Returns a number in ten places, right-aligned and filled with spaces.
+#[inline(never)]
 fn in_ten(number: u32) -> [u8; PLACES]
     ensures { result ≡ in_ten_places number }
 {
@@ -53,7 +53,7 @@ fn in_ten(number: u32) -> [u8; PLACES]
     text
 }
 
-/// The text goes on with a number in ten places.
+/// Appends a number in ten places.
 #[inline(always)]
 pub(crate) fn put_in_ten_places(place: Place, out: &mut [u8], number: u32) -> Place
     requires { place.so_far < 2 ^ 63 - 10 }

@@ -1,18 +1,20 @@
-//! Writing the part of a long text that a short buffer is to hold, piece after piece, without the whole text.
+//! Writes a slice of a long text into a short buffer, piece after piece, without the whole text in memory.
 
 ghost use Rattle.std.specs.Prelude.{◌≡◌, ℕ, ◌+◌, ◌++◌, ◌<◌, ◌≤◌, ◌^◌, List, drop, length, take};
 ghost use Rattle.generators.specs.Parts.{HoldsPart};
 
-/// How far a text has come, of which a buffer is to hold the part from place `at` on.
+use uip_wire::copy_bytes;
+
+/// The length of a text so far; the buffer holds its slice from offset `at` on.
 #[derive(Clone, Copy, Drop)]
 pub(crate) struct Place {
-    /// The first place of the part.
+    /// The first offset of the slice.
     pub at: usize,
     /// The length of the text so far.
     pub so_far: usize,
 }
 
-/// The text goes on with a piece.
+/// Appends a piece to the text.
 pub(crate) fn put(place: Place, out: &mut [u8], piece: &[u8]) -> Place
     requires { place.so_far + length piece.now < 2 ^ 63 }
     ensures at { result.at ≡ place.at }
@@ -29,10 +31,10 @@ pub(crate) fn put(place: Place, out: &mut [u8], piece: &[u8]) -> Place
     }
 }
 
-/// Writes the piece at a place of the buffer.
+/// Writes the piece at an offset of the buffer.
 fn paste(out: &mut [u8], to: usize, piece: &[u8])
     requires { to + length piece.now ≤ length out.old }
     ensures { out.new ≡ take to out.old ++ piece.now ++ drop (to + length piece.now) out.old }
 {
-    out[to..to + piece.len()].copy_from_slice(piece);
+    copy_bytes(&mut out[to..to + piece.len()], piece);
 }

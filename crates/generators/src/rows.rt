@@ -1,11 +1,11 @@
-//! Rows of connections.
+//! The rows of connections.
 
 ghost use Rattle.std.specs.Prelude.{◌≡◌, ◌≤◌, length};
 
 use app_events::{Row, RowList};
 use arrayvec::ArrayVec;
 
-/// The rows as a slice.
+/// Returns the rows as a slice.
 pub(crate) fn rows_of(rows: &RowList) -> &[Row]
     ensures rows { result.now ≡ rows.now }
     ensures few { length result.now ≤ 10 }
@@ -13,7 +13,7 @@ pub(crate) fn rows_of(rows: &RowList) -> &[Row]
     rows.list.as_slice()
 }
 
-/// The same rows, copied without memory.
+/// Copies the rows, without allocation.
 pub(crate) fn copy_rows(rows: &RowList) -> RowList
     ensures { result ≡ rows.now }
 {

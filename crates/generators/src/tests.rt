@@ -1,4 +1,5 @@
-//! The printed forms, against texts worked out by hand.
+//! The printed forms, against texts worked by hand.
+//! [add: function] The text of its capture record, worked by hand.
 
 use crate::{Capture, fill_at, text_len};
 use app_events::{Row, RowList, State};

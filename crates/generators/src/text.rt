@@ -1,4 +1,4 @@
-//! The text of a capture record, from any place of it.
+//! The text of a capture record, from any offset.
 
 ghost use Rattle.std.specs.Prelude.{◌≡◌, ◌+◌, ◌≤◌, [], drop, length, take};
 ghost use Rattle.generators.specs.Parts.{HoldsPart};
@@ -10,7 +10,8 @@ use crate::parts::Place;
 use crate::rows::rows_of;
 use crate::written::{len_all, put_all};
 
-/// The length of the capture's text, in bytes. No record has a long text, whatever its numbers are.
+/// Returns the length of the capture's text, in bytes. Whatever its numbers are, it is at most 4,200 bytes.
+/// [add: function] The length and the text of its capture record.
 pub fn text_len(capture: &Capture) -> usize
     ensures length { result ≡ length (capture_text capture.now) }
     ensures short { result ≤ 4200 }
@@ -24,7 +25,7 @@ pub fn text_len(capture: &Capture) -> usize
     }
 }
 
-/// Writes the capture's text from place `at` on, as much as `out` holds.
+/// Writes the capture's text from offset `at` on, to fill `out`.
 pub fn fill_at(capture: &Capture, at: usize, out: &mut [u8])
     requires { at + length out.old ≤ length (capture_text capture.now) }
     ensures { out.new ≡ take (length out.old) (drop at (capture_text capture.now)) }
@@ -33,7 +34,7 @@ pub fn fill_at(capture: &Capture, at: usize, out: &mut [u8])
     put_text(place, out, capture);
 }
 
-/// An empty text goes on with the capture's text.
+/// Appends the capture's text to an empty text.
 fn put_text(place: Place, out: &mut [u8], capture: &Capture) -> Place
     requires { place.so_far ≡ 0 }
     ensures so_far { result.so_far ≡ length (capture_text capture.now) }

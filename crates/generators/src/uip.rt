@@ -15,7 +15,7 @@ impl Record for Capture {
 
     type Own = ();
 
-    ghost said = { uip_said };
+    ghost output = { uip_said };
 
     ghost text = { capture_text };
 

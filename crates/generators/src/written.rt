@@ -1,11 +1,11 @@
-//! Things with a text, written one after another.
+//! Values with a text, written one after another.
 
 ghost use Rattle.std.specs.Prelude.{◌≡◌, ℕ, ◌+◌, ◌*◌, ◌++◌, ◌≤◌, ◌<◌, ◌^◌, List, flat_map, length};
 ghost use Rattle.generators.specs.Parts.{HoldsPart};
 
 use crate::parts::Place;
 
-/// A thing that has a text.
+/// A value that has a text.
 pub(crate) trait Written {
     /// Its text.
     ghost text: { Self → List ℕ };
@@ -13,12 +13,12 @@ pub(crate) trait Written {
     /// The greatest length of a text, in bytes.
     ghost longest: { ℕ };
 
-    /// The length of its text, in bytes.
+    /// Returns the length of its text, in bytes.
     fn len(&self) -> usize
         ensures length { result ≡ length (text self.now) }
         ensures bound { result ≤ longest };
 
-    /// The text so far goes on with the thing's own.
+    /// Appends its text to the text so far.
     fn put(&self, place: Place, out: &mut [u8]) -> Place
         requires short { place.so_far + longest < 2 ^ 63 }
         ensures at { result.at ≡ place.at }
@@ -27,7 +27,7 @@ pub(crate) trait Written {
         ensures part { (before : List ℕ) → HoldsPart before place out.old → HoldsPart (before ++ text self.now) result out.new };
 }
 
-/// The text goes on with each thing in turn.
+/// Appends the text of each value in turn.
 pub(crate) fn put_all<T: Written>(items: &[T], place: Place, out: &mut [u8]) -> Place
     requires { place.so_far + T.longest * length items.now < 2 ^ 63 }
     ensures at { result.at ≡ place.at }
@@ -42,7 +42,7 @@ pub(crate) fn put_all<T: Written>(items: &[T], place: Place, out: &mut [u8]) -> 
     come
 }
 
-/// The text goes on with the thing's own, of which nothing is made where the buffer holds none of it.
+/// Appends the text of a value. If the buffer holds none of it, nothing is made.
 fn put_needed<T: Written>(item: &T, place: Place, out: &mut [u8]) -> Place
     requires { place.so_far + T.longest < 2 ^ 63 }
     ensures at { result.at ≡ place.at }
@@ -60,7 +60,7 @@ fn put_needed<T: Written>(item: &T, place: Place, out: &mut [u8]) -> Place
     item.put(place, out)
 }
 
-/// The length of the texts of all things, in bytes.
+/// Returns the length of the texts of all values, in bytes.
 pub(crate) fn len_all<T: Written>(items: &[T]) -> usize
     requires { T.longest * length items.now < 2 ^ 63 }
     ensures length { result ≡ length (flat_map T.text items.now) }

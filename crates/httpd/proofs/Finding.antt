@@ -1,4 +1,4 @@
--- Where the file of a name stands among the files.
+-- The index of the file of a name.
 use Rattle.std.proofs.Common.{◌≡◌, ℕ, ◌<◌, ◌≤◌, Bool, true, false, List, [], ◌∷◌, Option, None, Some, length, ◌++◌, take, drop, refl, sym, ap, subst, ◌∙◌, arith, true≢false, option_map, position, get_or, cond, is_some, codes, if◌then◌else◌}
 use Rattle.std.specs.Prelude.{slice_get, IfSome}
 use Rattle.std.specs.List.{position_or_len}
@@ -31,7 +31,7 @@ other_before files apart id file s k h = by (named file.name (get_or files k fil
         let same : k ≡ id = apart k id (get_or files k file) file (slice_get-get_or files k file (omega (arith, there, h))) s ((bytes_eq-Decides (get_or files k file).name file.name).0 e) in
         absurd (omega (arith, same, h))
 
--- a file stands at its own place
+-- a file is at its own index
 pub place_is : (files : List File) → AreApart files → (id : ℕ) (file : File) → slice_get files id ≡ Some file → place_of files file.name ≡ Some id
 place_is files apart id file s =
     let there = slice_get_within files id file s in
@@ -66,7 +66,7 @@ pub found_place : (files : List File) → AreApart files → (name : List ℕ) (
 found_place files apart name None named there = sym (no_place files name (sym there))
 found_place files apart name (Some id) named there = named_by files apart name id.0 (slice_get files id.0) refl named
 
--- the hits that a request leaves stand in front of what is kept of them, and are those of the site that both name
+-- the hits after a request are a prefix of what is kept of them, and are those of the site that both name
 pub hits_left : (new all : List ℕ) (n : ℕ) (site other : SiteContent) (hits others : List ℕ) (before after : Wanted) → n ≡ length new → new ≡ hits_by (files_of site) hits before after → site ≡ other → hits ≡ others
     → take n (new ++ drop (length new) all) ≡ hits_by (files_of other) others before after
 hits_left new all n site other hits others before after size told is same =

@@ -1,41 +1,41 @@
--- What a request line has come to after one more piece.
+-- The request line after one more piece.
 use Rattle.std.proofs.Common.{◌≡◌, ℕ, ◌+◌, ◌&&◌, true, false, not, List, ◌++◌, length, drop, codes, sym, ap, ◌∙◌, if◌then◌else◌}
 use Rattle.std.specs.Prelude.{nat_eq}
 use Rattle.std.specs.List.{list_any, starts_with}
 use Rattle.std.specs.Str.{bytes_eq}
 use Rattle.protosocket.specs.declared.stops.Stops.TheVariants.{Space, SpaceOrLine}
-use Rattle.protosocket.specs.Line.{Line, after, fresh, heard, is_stop, part_taken, word_of}
+use Rattle.protosocket.specs.Line.{Line, after, fresh, delivered, is_stop, part_taken, word_of}
 use Rattle.web_pages.specs.Requests.{after_method, has_ended, method_of, name_in, target_of, wanted}
 use Rattle.web_pages.specs.Requests.Wanted.{Name, Refused}
 use Rattle.web_pages.specs.Lemmas.Deciding.{after_more, ended_more, word_more}
 use Rattle.httpd.specs.Hearing.{HasName, HearsMethod, HearsTarget}
 use Rattle.web_pages.specs.Lemmas.Deciding.{decided_by_target, other_method}
-use Rattle.httpd.proofs.Words.{EndsHere, ends_here, front_of, get_heard, heard_more, path_heard, rest_of}
+use Rattle.httpd.proofs.Words.{EndsHere, ends_here, prefix_of, get_heard, heard_more, path_heard, rest_of}
 
 -- ---- the first word
 
-method_holds : (old line : Line) (request piece : List ℕ) → HearsMethod old request → line ≡ after old piece → line ≡ heard Space (request ++ piece)
+method_holds : (old line : Line) (request piece : List ℕ) → HearsMethod old request → line ≡ after old piece → line ≡ delivered Space (request ++ piece)
 method_holds old line request piece is e = e ∙ ap (λ l. after l piece) is.holds ∙ heard_more Space request piece
 
 pub method_goes_on : (old line : Line) (request piece : List ℕ) → HearsMethod old request → line ≡ after old piece → line.done ≡ false → HearsMethod line (request ++ piece)
 method_goes_on old line request piece is e open_still =
-    let holds : line ≡ heard Space (request ++ piece) = method_holds old line request piece is e in
+    let holds : line ≡ delivered Space (request ++ piece) = method_holds old line request piece is e in
     record { goes_on = sym (ap (λ (l : Line). l.done) holds) ∙ open_still; holds = holds }
 
 -- the method has ended, and whether it is `GET`
-is_get_told : (line : Line) (bytes : List ℕ) → line ≡ heard Space bytes → (not line.query && bytes_eq line.name (codes "GET")) ≡ bytes_eq (word_of Space bytes) (codes "GET")
+is_get_told : (line : Line) (bytes : List ℕ) → line ≡ delivered Space bytes → (not line.query && bytes_eq line.name (codes "GET")) ≡ bytes_eq (word_of Space bytes) (codes "GET")
 is_get_told line bytes holds = ap (λ (l : Line). not l.query && bytes_eq l.name (codes "GET")) holds ∙ get_heard (word_of Space bytes)
 
 pub method_refused : (old line : Line) (request piece : List ℕ) → HearsMethod old request → line ≡ after old piece → line.done ≡ true → (not line.query && bytes_eq line.name (codes "GET")) ≡ false
     → wanted (request ++ piece) ≡ Refused
 method_refused old line request piece is e done other =
-    let holds : line ≡ heard Space (request ++ piece) = method_holds old line request piece is e in
+    let holds : line ≡ delivered Space (request ++ piece) = method_holds old line request piece is e in
     other_method (request ++ piece) (sym (ap (λ (l : Line). l.done) holds) ∙ done) (sym (is_get_told line (request ++ piece) holds) ∙ other)
 
--- the target begins behind what was taken
+-- the target begins after what was consumed
 pub record Begins (request piece : List ℕ) (count : ℕ) : Type 0 where
-  pub hears : HearsTarget (fresh SpaceOrLine) (request ++ front_of piece)
-  pub joined : (request ++ front_of piece) ++ drop count piece ≡ request ++ piece
+  pub hears : HearsTarget (fresh SpaceOrLine) (request ++ prefix_of piece)
+  pub joined : (request ++ prefix_of piece) ++ drop count piece ≡ request ++ piece
 
 taken_of : (line : Line) (piece : List ℕ) → line.done ≡ false → line.stops ≡ Space → list_any (is_stop Space) piece ≡ true → part_taken line piece ≡ length (word_of Space piece) + 1
 taken_of line piece open_still stops stop = λ i. if open_still i then 0 else length (word_of (stops i) piece) + (if stop_at i then 1 else 0)
@@ -46,7 +46,7 @@ taken_of line piece open_still stops stop = λ i. if open_still i then 0 else le
 pub target_begins : (old line : Line) (request piece : List ℕ) (count : ℕ) → HearsMethod old request → line ≡ after old piece → count ≡ part_taken old piece → line.done ≡ true
     → (not line.query && bytes_eq line.name (codes "GET")) ≡ true → Begins request piece count
 target_begins old line request piece count is e size done get =
-    let holds : line ≡ heard Space (request ++ piece) = method_holds old line request piece is e in
+    let holds : line ≡ delivered Space (request ++ piece) = method_holds old line request piece is e in
     let ended : has_ended Space (request ++ piece) ≡ true = sym (ap (λ (l : Line). l.done) holds) ∙ done in
     let here : EndsHere request piece = ends_here request piece is.goes_on ended in
     let stop : list_any (is_stop Space) piece ≡ true = Rattle.httpd.proofs.Words.or_second (list_any (is_stop Space) request) (list_any (is_stop Space) piece) (sym (Rattle.std.proofs.lemmas.List.Folds.list_any-append (is_stop Space) request piece) ∙ ended) is.goes_on in
@@ -57,9 +57,9 @@ target_begins old line request piece count is e size done get =
         method_ended = here.ended;
         method = ap (λ w. bytes_eq w (codes "GET")) here.method ∙ sym (is_get_told line (request ++ piece) holds) ∙ get;
         goes_on = ap (has_ended SpaceOrLine) here.nothing;
-        holds = sym (ap (heard SpaceOrLine) here.nothing);
+        holds = sym (ap (delivered SpaceOrLine) here.nothing);
       };
-      joined = ap (λ n. (request ++ front_of piece) ++ drop n piece) count_is ∙ here.joined;
+      joined = ap (λ n. (request ++ prefix_of piece) ++ drop n piece) count_is ∙ here.joined;
     }
 
 -- ---- the second word
@@ -67,14 +67,14 @@ target_begins old line request piece count is e size done get =
 record Goes (old line : Line) (request piece : List ℕ) : Type 0 where
   method_ended : has_ended Space (request ++ piece) ≡ true
   method : bytes_eq (method_of (request ++ piece)) (codes "GET") ≡ true
-  holds : line ≡ heard SpaceOrLine (after_method (request ++ piece))
+  holds : line ≡ delivered SpaceOrLine (after_method (request ++ piece))
 
 goes : (old line : Line) (request piece : List ℕ) → HearsTarget old request → line ≡ after old piece → Goes old line request piece
 goes old line request piece is e = record {
   method_ended = ended_more Space request piece is.method_ended;
   method = ap (λ w. bytes_eq w (codes "GET")) (word_more Space request piece is.method_ended) ∙ is.method;
   holds = e ∙ ap (λ l. after l piece) is.holds ∙ heard_more SpaceOrLine (after_method request) piece
-      ∙ ap (heard SpaceOrLine) (sym (after_more request piece is.method_ended));
+      ∙ ap (delivered SpaceOrLine) (sym (after_more request piece is.method_ended));
 }
 
 pub target_goes_on : (old line : Line) (request piece : List ℕ) → HearsTarget old request → line ≡ after old piece → line.done ≡ false → HearsTarget line (request ++ piece)

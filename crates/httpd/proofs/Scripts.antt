@@ -1,4 +1,4 @@
--- What a thread sees in a script.
+-- The span at a thread in a script.
 use Rattle.std.proofs.Common.{◌≡◌, ℕ, ◌+◌, ◌-◌, ◌<◌, ◌≤◌, Bool, true, false, ◌⊎◌, inl, inr, List, [], ◌∷◌, length, take, drop, map, min, refl, sym, ap, subst, ◌∙◌, arith, true≢false, if◌then◌else◌}
 use Rattle.std.specs.Prelude.{slice_range, nat_lt, ◌&&◌, not}
 use Rattle.std.proofs.lemmas.List.{drop-drop, drop-take, take-take}
@@ -20,9 +20,9 @@ use Rattle.httpd.specs.Reply.{FileReply, body, body_from, is_scripted, left_from
 use Rattle.httpd.specs.Places.{Fits, IsBodyPlace, IsInner}
 use Rattle.httpd.specs.Kept.{EndsCall, EndsDirective, EndsInclude}
 use Rattle.httpd.specs.Looking.{IsSpan, Sees}
-use Rattle.httpd.proofs.Seeing.{IsFurther, sees_first, sees_front, span_along}
+use Rattle.httpd.proofs.Seeing.{IsFurther, sees_first, sees_prefix, span_along}
 
--- what `next_piece` tells of a piece that it found
+-- what `next_piece` returns for a piece that it found
 pub record Reads {F : Type 0} (named : List ℕ → F) (script : List ℕ) (at : ℕ) (found : FoundOf F) : Type 0 where
   pub pieces : pieces_by named script at ≡ found ∷ pieces_by named script found.next
   pub after : at < found.next
@@ -123,7 +123,7 @@ length-slice xs a b = omega (arith, Rattle.std.proofs.Common.length-take (b - a)
 pub run_short : (text : List ℕ) (at : ℕ) → at ≤ length text → run_end text at ≤ length text
 run_short text at h = (first_place-is (is_directive_mark text) at (length text) h).high
 
--- a thread in a text run says the rest of it
+-- a thread in a text run generates the rest of it
 run_further : {F : Type 0} (r : FileReply F) (at n : ℕ) → is_scripted r.file ≡ true → length (body r) ≤ 16777216 → is_inside_directive (body r) at ≡ false → at ≤ length (body r) → at + n < run_end (body r) at
     → IsFurther r (slice_range (body r) at (run_end (body r) at)) (body_from r (run_end (body r) at)) (Body at) n
 unfolding left_from Fits
@@ -150,10 +150,10 @@ run_seen {F = F} text r at from len next s script is short read span =
     let closed : is_inside_directive (body r) at ≡ false = closed_at (body r) at before place.1 in
     let run : IsRun (body r) at from len next = run_of r.gives.calling.named (body r) at from len next (piece_read r.gives.calling.named (body r) at (text_found from len next) place before read.pieces) in
     let more : List (Say F) = body_from r next in
-    let front : slice_range (body r) at (at + len) ≡ slice_range (body r) from (from + len) = ap (λ a. slice_range (body r) a (a + len)) (sym run.from_is) in
+    let prefix : slice_range (body r) at (at + len) ≡ slice_range (body r) from (from + len) = ap (λ a. slice_range (body r) a (a + len)) (sym run.from_is) in
     let end_is : at + len ≡ run_end (body r) at = omega (arith, run.len_is, run.next_is, read.after) in
     subst (λ ps. Sees text r ps (record { span = s; here = Body at; next = Body next }))
-    (ap (λ f. Plain f ∷ more) front ∙ sym (script_step r at (text_found from len next) script read.pieces))
+    (ap (λ f. Plain f ∷ more) prefix ∙ sym (script_step r at (text_found from len next) script read.pieces))
     (sees_first text r (slice_range (body r) at (at + len)) more (record { span = s; here = Body at; next = Body next }) span refl (body_place r next read.place) (λ captures. tt)
     (λ n h.
     let inside : at + n < run_end (body r) at = omega (arith, end_is, h, length-slice (body r) at (at + len)) in
@@ -161,7 +161,7 @@ run_seen {F = F} text r at from len next s script is short read span =
     (subst (λ b. IsFurther r (slice_range (body r) at (run_end (body r) at)) (body_from r b) (Body at) n) (sym run.next_is)
     (run_further r at n script short closed (omega (arith, before)) inside))))
 
--- a front of a long text run
+-- a prefix of a long text run
 pub long_seen : {R F : Type 0} (text : R → List ℕ) (r : FileReply F) (at n : ℕ) (s : Span R F) → is_scripted r.file ≡ true → IsBodyPlace r at → length (body r) ≤ 16777216 → 0 < n → at + n < run_end (body r) at
     → IsSpan text s (slice_range (body r) at (at + n)) → Sees text r (left_from r (Body at)) (record { span = s; here = Body at; next = Body (at + n) })
 unfolding left_from Fits
@@ -169,15 +169,15 @@ long_seen {F = F} text r at n s script is short some long span =
     let high = run_short (body r) at is.within in
     let before : at < length (body r) = omega (arith, long, high) in
     let closed : is_inside_directive (body r) at ≡ false = closed_at (body r) at before (is_place r at script is).1 in
-    let front : List ℕ = slice_range (body r) at (run_end (body r) at) in
+    let prefix : List ℕ = slice_range (body r) at (run_end (body r) at) in
     let more : List (Say F) = body_from r (run_end (body r) at) in
-    let further : (k : ℕ) → at + k < run_end (body r) at → IsFurther r front more (Body at) k = λ k inside. run_further r at k script short closed (omega (arith, before)) inside in
-    let here : left_from r (Body at) ≡ Plain front ∷ more = ap (λ a. left_from r (Body a)) (omega arith) ∙ (further 0 (omega (arith, long))).pieces in
-    let size : length front ≡ run_end (body r) at - at = omega (arith, Rattle.std.proofs.Common.length-take (run_end (body r) at - at) (drop at (body r)), Rattle.std.proofs.Common.length-drop at (body r), high) in
-    let part : slice_range (body r) at (at + n) ≡ take n front =
+    let further : (k : ℕ) → at + k < run_end (body r) at → IsFurther r prefix more (Body at) k = λ k inside. run_further r at k script short closed (omega (arith, before)) inside in
+    let here : left_from r (Body at) ≡ Plain prefix ∷ more = ap (λ a. left_from r (Body a)) (omega arith) ∙ (further 0 (omega (arith, long))).pieces in
+    let size : length prefix ≡ run_end (body r) at - at = omega (arith, Rattle.std.proofs.Common.length-take (run_end (body r) at - at) (drop at (body r)), Rattle.std.proofs.Common.length-drop at (body r), high) in
+    let part : slice_range (body r) at (at + n) ≡ take n prefix =
     ap (λ k. take k (drop at (body r))) (omega arith) ∙ sym (take-take n (run_end (body r) at - at) (drop at (body r)) (omega (arith, long))) in
     subst (λ ps. Sees text r ps (record { span = s; here = Body at; next = Body (at + n) })) (sym here)
-    (sees_front text r front more s (Body at) n some (omega (arith, size, long)) (span_along text s _ _ part span) (λ captures. tt) (λ k h. further k (omega (arith, h, long))))
+    (sees_prefix text r prefix more s (Body at) n some (omega (arith, size, long)) (span_along text s _ _ part span) (λ captures. tt) (λ k h. further k (omega (arith, h, long))))
 
 -- a text run is read from the place on
 pub text_at : {F : Type 0} (named : List ℕ → F) (script : List ℕ) (at from len next : ℕ) → IsPlace script at → Reads named script at (text_found from len next) → from ≡ at
@@ -199,7 +199,7 @@ call_step r at script read f from len e scripted reads is =
     ∙ ap (λ p. says r.files (body r) p ∷ body_from r read.next) (sym is)
     ∙ sym (script_step r at read scripted reads.pieces)
 
--- ---- the directive that ends where a script goes on
+-- ---- the directive that ends where a script continues
 
 mark_by : {F : Type 0} (named : List ℕ → F) (m : Bool) (script : List ℕ) (at : ℕ) (found : FoundOf F) → ((from len : ℕ) → found.piece ≡ Text from len → ⊥)
     → found ≡ (if m then record { piece = directive named script at; next = min (line_end script (at + 2) + 1) (length script) } else record { piece = Text at (run_end script at - at); next = run_end script at })
@@ -212,7 +212,7 @@ begins_at : {F : Type 0} (named : List ℕ → F) (script : List ℕ) (at : ℕ)
 begins_at named script at found place before other e =
     (λ i. mark_by named (is_directive_mark script at) script at found other e i && not (closed_at script at before place.1 i))
 
--- a directive that is read ends where the script goes on
+-- a directive that is read ends where the script continues
 ends_directive : {F : Type 0} (named : List ℕ → F) (script : List ℕ) (at : ℕ) (read : FoundOf F) (kind : ℕ → ℕ → PieceOf F) (from len : ℕ) → IsPlace script at → Reads named script at read → ((a n : ℕ) → kind from len ≡ Text a n → ⊥) → read.piece ≡ kind from len
     → EndsDirective named script read.next kind (slice_range script from (from + len))
 ends_directive named script at read kind from len place reads other is =

@@ -1,4 +1,5 @@
--- What is seen of the first piece that is left.
+-- The span of the first piece that is left.
+-- [add: piece] The first span of the piece.
 use Rattle.std.proofs.Common.{◌≡◌, ℕ, ◌+◌, ◌<◌, ◌≤◌, List, [], ◌∷◌, ◌++◌, length, take, drop, refl, sym, ap, ◌∙◌, arith, append_assoc}
 use Rattle.std.proofs.lemmas.List.{drop-append-le, drop-drop, length-take-le, take-append-drop}
 use Rattle.generators.specs.Giving.{Giving}
@@ -29,32 +30,32 @@ sees_by text r pieces look span.End t sees = absurd t
 pub sees_text : {R F : Type 0} (text : R → List ℕ) (r : FileReply F) (pieces : List (Say F)) (look : Look R F) → IsText look.span → SpanFits text look.span → SeesText text r pieces look → Sees text r pieces look
 sees_text text r pieces look t fits sees = record { sees = sees_by text r pieces look look.span t sees; fits = fits }
 
-pub leads_first : {F : Type 0} (g : Giving F) (files : List File) (front : List ℕ) (more : List (Say F)) → Leads g files (Plain front ∷ more) front more
-leads_first g files front more = record { text = λ later. refl; whole = λ later. refl; calls = refl }
+pub leads_first : {F : Type 0} (g : Giving F) (files : List File) (prefix : List ℕ) (more : List (Say F)) → Leads g files (Plain prefix ∷ more) prefix more
+leads_first g files prefix more = record { text = λ later. refl; whole = λ later. refl; calls = refl }
 
--- a thread n bytes further says the rest of the first piece
-pub record IsFurther {F : Type 0} (r : FileReply F) (front : List ℕ) (more : List (Say F)) (here : Thread) (n : ℕ) : Type 0 where
+-- a thread n bytes further generates the rest of the first piece
+pub record IsFurther {F : Type 0} (r : FileReply F) (prefix : List ℕ) (more : List (Say F)) (here : Thread) (n : ℕ) : Type 0 where
   pub fits : Fits r (moved here n)
   pub small : thread_place here + n < 2147483648
-  pub pieces : left_from r (moved here n) ≡ Plain (drop n front) ∷ more
+  pub pieces : left_from r (moved here n) ≡ Plain (drop n prefix) ∷ more
 
-in_piece : {F : Type 0} (r : FileReply F) (front : List ℕ) (more : List (Say F)) (here : Thread) (n : ℕ) → n ≤ length front → IsFurther r front more here n → IsInPiece r (Plain front ∷ more) here n
-in_piece r front more here n h is = record {
+in_piece : {F : Type 0} (r : FileReply F) (prefix : List ℕ) (more : List (Say F)) (here : Thread) (n : ℕ) → n ≤ length prefix → IsFurther r prefix more here n → IsInPiece r (Plain prefix ∷ more) here n
+in_piece r prefix more here n h is = record {
   fits = is.fits;
   small = is.small;
-  past = record {
-    text = λ later. ap (λ p. text_by r.gives r.files p later) is.pieces ∙ sym (drop-append-le n front (text_by r.gives r.files more later) h);
+  history = record {
+    text = λ later. ap (λ p. text_by r.gives r.files p later) is.pieces ∙ sym (drop-append-le n prefix (text_by r.gives r.files more later) h);
     whole = λ later. ap (λ p. reach_by r.gives p later) is.pieces;
     calls = ap (calls_in r.gives.calling) is.pieces;
   };
 }
 
-pub sees_first : {R F : Type 0} (text : R → List ℕ) (r : FileReply F) (front : List ℕ) (more : List (Say F)) (look : Look R F) → IsSpan text look.span front → left_from r look.next ≡ more → Fits r look.next → KeepsAll r look.next
-    → ((n : ℕ) → n < length front → IsFurther r front more look.here n) → Sees text r (Plain front ∷ more) look
-sees_first text r front more look is e next begins further =
-    let size : length (span_text text look.span) ≡ length front = ap length is.text in
+pub sees_first : {R F : Type 0} (text : R → List ℕ) (r : FileReply F) (prefix : List ℕ) (more : List (Say F)) (look : Look R F) → IsSpan text look.span prefix → left_from r look.next ≡ more → Fits r look.next → KeepsAll r look.next
+    → ((n : ℕ) → n < length prefix → IsFurther r prefix more look.here n) → Sees text r (Plain prefix ∷ more) look
+sees_first text r prefix more look is e next begins further =
+    let size : length (span_text text look.span) ≡ length prefix = ap length is.text in
     let fewer : length (left_from r look.next) ≡ length more = ap length e in
-    sees_text text r (Plain front ∷ more) look is.plain is.fits (record {
+    sees_text text r (Plain prefix ∷ more) look is.plain is.fits (record {
       leads = record {
         text = λ later. λ i. (sym is.text i) ++ text_by r.gives r.files (sym e i) later;
         whole = λ later. λ i. reach_by r.gives (sym e i) later;
@@ -64,21 +65,21 @@ sees_first text r front more look is e next begins further =
       fewer = λ none. omega (arith, fewer);
       next = next;
       begins = begins;
-      within = λ n h. in_piece r front more look.here n (omega (arith, size, h)) (further n (omega (arith, size, h)));
+      within = λ n h. in_piece r prefix more look.here n (omega (arith, size, h)) (further n (omega (arith, size, h)));
     })
 
--- a front of a piece that goes on
-pub sees_front : {R F : Type 0} (text : R → List ℕ) (r : FileReply F) (front : List ℕ) (more : List (Say F)) (s : Span R F) (here : Thread) (n : ℕ) → 0 < n → n < length front → IsSpan text s (take n front) → KeepsAll r (moved here n)
-    → ((k : ℕ) → k ≤ n → IsFurther r front more here k) → Sees text r (Plain front ∷ more) (record { span = s; here = here; next = moved here n })
-sees_front text r front more s here n some within is begins further =
+-- a prefix of a piece that continues
+pub sees_prefix : {R F : Type 0} (text : R → List ℕ) (r : FileReply F) (prefix : List ℕ) (more : List (Say F)) (s : Span R F) (here : Thread) (n : ℕ) → 0 < n → n < length prefix → IsSpan text s (take n prefix) → KeepsAll r (moved here n)
+    → ((k : ℕ) → k ≤ n → IsFurther r prefix more here k) → Sees text r (Plain prefix ∷ more) (record { span = s; here = here; next = moved here n })
+sees_prefix text r prefix more s here n some within is begins further =
     let there = further n (omega arith) in
-    let size : length (span_text text s) ≡ n = ap length is.text ∙ length-take-le n front (omega (arith, within)) in
-    let same : length (left_from r (moved here n)) ≡ length (Plain (drop n front) ∷ more) = ap length there.pieces in
-    sees_text text r (Plain front ∷ more) (record { span = s; here = here; next = moved here n }) is.plain is.fits (record {
+    let size : length (span_text text s) ≡ n = ap length is.text ∙ length-take-le n prefix (omega (arith, within)) in
+    let same : length (left_from r (moved here n)) ≡ length (Plain (drop n prefix) ∷ more) = ap length there.pieces in
+    sees_text text r (Plain prefix ∷ more) (record { span = s; here = here; next = moved here n }) is.plain is.fits (record {
       leads = record {
         text = λ later.
-            ap (λ xs. xs ++ text_by r.gives r.files more later) (sym (take-append-drop n front))
-            ∙ append_assoc (take n front) (drop n front) (text_by r.gives r.files more later)
+            ap (λ xs. xs ++ text_by r.gives r.files more later) (sym (take-append-drop n prefix))
+            ∙ append_assoc (take n prefix) (drop n prefix) (text_by r.gives r.files more later)
             ∙ (λ i. (sym is.text i) ++ text_by r.gives r.files (sym there.pieces i) later);
         whole = λ later. ap (λ p. reach_by r.gives p later) (sym there.pieces);
         calls = ap (calls_in r.gives.calling) (sym there.pieces);
@@ -87,10 +88,10 @@ sees_front text r front more s here n some within is begins further =
       fewer = λ none. absurd (omega (arith, none, size, some));
       next = there.fits;
       begins = begins;
-      within = λ k h. in_piece r front more here k (omega (arith, size, h, within)) (further k (omega (arith, size, h)));
+      within = λ k h. in_piece r prefix more here k (omega (arith, size, h, within)) (further k (omega (arith, size, h)));
     })
 
--- a thread that says a text from a place on, whatever the place
+-- a thread that generates a text from an offset on, whatever the offset
 pub rest_seen : {R F : Type 0} (text : R → List ℕ) (r : FileReply F) (T : ℕ → Thread) (world : List ℕ) (more : List (Say F)) (at : ℕ) (s : Span R F) (next : Thread) → IsSpan text s (drop at world) → at ≤ length world → length world ≤ 16777216
     → ((n : ℕ) → moved (T at) n ≡ T (at + n)) → thread_place (T at) ≡ at → ((a : ℕ) → left_from r (T a) ≡ Plain (drop a world) ∷ more) → ((a : ℕ) → a ≤ length world → Fits r (T a))
     → left_from r next ≡ more → Fits r next → KeepsAll r next → Sees text r (Plain (drop at world) ∷ more) (record { span = s; here = T at; next = next })
@@ -101,7 +102,7 @@ rest_seen text r T world more at s next is h short goes place pieces fits e next
     record {
       fits = Rattle.std.proofs.Common.subst (λ t. Fits r t) (sym (goes n)) (fits (at + n) inside);
       small = omega (arith, place, inside, short);
-      pieces = ap (λ t. left_from r t) (goes n) ∙ pieces (at + n) ∙ ap (λ front. Plain front ∷ more) (sym (drop-drop n at world));
+      pieces = ap (λ t. left_from r t) (goes n) ∙ pieces (at + n) ∙ ap (λ prefix. Plain prefix ∷ more) (sym (drop-drop n at world));
     })
 
 -- nothing is left
@@ -111,7 +112,7 @@ end_seen text r pieces look none e = record {
   fits = Rattle.std.proofs.Common.subst (SpanFits text) (sym e) tt;
 }
 
--- a piece that says nothing
+-- a piece without text
 pub nothing_seen : {R F : Type 0} (text : R → List ℕ) (r : FileReply F) (piece : Say F) (more : List (Say F)) (look : Look R F) → IsSpan text look.span [] → left_from r look.next ≡ more → Fits r look.next → KeepsAll r look.next → Leads r.gives r.files (piece ∷ more) [] more → Sees text r (piece ∷ more) look
 nothing_seen text r piece more look is e next begins leads =
     let size : length (span_text text look.span) ≡ 0 = ap length is.text in

@@ -1,6 +1,6 @@
--- The parts after a piece was heard.
+-- The states after a piece was delivered.
 use Rattle.std.proofs.Common.{◌≡◌, ℕ, ◌≤◌, List, ◌++◌, Option, None, Some, length, drop, refl, sym, ap, subst, ◌∙◌, arith}
-use Rattle.app_events.specs.Part.{Part}
+use Rattle.app_events.specs.AppSpec.{AppState}
 use Rattle.site_image.specs.Files.{File, file_named}
 use Rattle.file_tree.specs.declared.file_id.FileId.{FileId}
 use Rattle.file_tree.specs.Site.{SiteContent, files_of}
@@ -19,16 +19,16 @@ use Rattle.httpd.specs.Reply.{FileReply, calls_in, found_file, left_from, reply_
 use Rattle.httpd.specs.Places.{Fits, IsFound}
 use Rattle.httpd.specs.Kept.{KeepsDirective}
 use Rattle.httpd.specs.Hearing.{HearsMethod, HearsTarget, IsDecided}
-use Rattle.httpd.specs.HttpdStands.{PagesStand, IsLeft, IsReplying, SaysNothing, StandsIn}
+use Rattle.httpd.specs.HttpdRepresents.{PagesRepresent, IsLeft, IsReplying, SaysNothing, StandsIn}
 
--- from the front of its head a reply says its pieces
+-- from the start of its head a reply generates its pieces
 pub reply_start : {F : Type 0} (g : Giving F) (files : List File) (file : Option File) (made : List ℕ) → left_from (record { gives = g; files = files; file = file; made = made }) (Head 0) ≡ reply_to_by g.calling.named files file
 unfolding left_from
 reply_start g files None made = refl
 reply_start g files (Some file) made = refl
 
-front_left : {F : Type 0} (r : FileReply F) (name : List ℕ) (p : Part) → r.file ≡ file_named r.files name → SaysNothing p → IsLeft r (Head 0) name p
-front_left r name p e none =
+prefix_left : {F : Type 0} (r : FileReply F) (name : List ℕ) (p : AppState) → r.file ≡ file_named r.files name → SaysNothing p → IsLeft r (Head 0) name p
+prefix_left r name p e none =
     let pieces : left_from r (Head 0) ≡ reply_pieces_by r.gives.calling.named r.files name = reply_start r.gives r.files r.file r.made ∙ ap (reply_to_by r.gives.calling.named r.files) e in
     record {
       text = λ later. ap (λ ps. text_by r.gives r.files ps later) pieces
@@ -38,49 +38,49 @@ front_left r name p e none =
       within = subst (λ n. n ≤ length (text_by r.gives r.files (reply_pieces_by r.gives.calling.named r.files name) p.captures)) (sym none.acked) (omega arith);
     }
 
-pub front_fits : {F : Type 0} (r : FileReply F) → Fits r (Head 0)
+pub prefix_fits : {F : Type 0} (r : FileReply F) → Fits r (Head 0)
 unfolding Fits
-front_fits r = omega arith
+prefix_fits r = omega arith
 
-begins : {F R : Type 0} (g : Giving F) (text : R → List ℕ) (a : Pages R) (site : SiteContent) (p : Part) (found : Option FileId) (name : List ℕ) → a.thread ≡ Head 0 → SaysNothing p → wanted p.heard ≡ Name name → IsFound (files_of site) found
+begins : {F R : Type 0} (g : Giving F) (text : R → List ℕ) (a : Pages R) (site : SiteContent) (p : AppState) (found : Option FileId) (name : List ℕ) → a.thread ≡ Head 0 → SaysNothing p → wanted p.delivered ≡ Name name → IsFound (files_of site) found
     → found_file (files_of site) found ≡ file_named (files_of site) name → IsReplying g text a site name found p
 begins g text a site p found name e none is there file = record {
   wanted = is;
   there = there;
   file = file;
-  fits = subst (λ t. Fits (reply_by g text site found a.capture) t) (sym e) (front_fits (reply_by g text site found a.capture));
+  fits = subst (λ t. Fits (reply_by g text site found a.capture) t) (sym e) (prefix_fits (reply_by g text site found a.capture));
   kept = subst (λ t. KeepsDirective (reply_by g text site found a.capture) p.captures t) (sym e) tt;
-  left = subst (λ t. IsLeft (reply_by g text site found a.capture) t name p) (sym e) (front_left (reply_by g text site found a.capture) name p file none);
+  left = subst (λ t. IsLeft (reply_by g text site found a.capture) t name p) (sym e) (prefix_left (reply_by g text site found a.capture) name p file none);
 }
 
 -- where a stage was decided
-pub decided_stands : {F R : Type 0} (g : Giving F) (text : R → List ℕ) (a : Pages R) (site : SiteContent) (p : Part) (s : Stage) → a.thread ≡ Head 0 → SaysNothing p → IsDecided (files_of site) a.line p.heard s → StandsIn g text a site p s
+pub decided_stands : {F R : Type 0} (g : Giving F) (text : R → List ℕ) (a : Pages R) (site : SiteContent) (p : AppState) (s : Stage) → a.thread ≡ Head 0 → SaysNothing p → IsDecided (files_of site) a.line p.delivered s → StandsIn g text a site p s
 decided_stands g text a site p stage.Method e none is = (is, none)
 decided_stands g text a site p stage.Target e none is = (is, none)
 decided_stands g text a site p stage.Refused e none is = (is, none)
 decided_stands g text a site p (stage.Reply found) e none is = (is.name, begins g text a site p found is.name e none is.wanted is.there is.file)
 
-abbrev pub with_more : Part → List ℕ → Part
-with_more p piece = record p { heard = p.heard ++ piece; polls = 0 }
+abbrev pub with_more : AppState → List ℕ → AppState
+with_more p piece = record p { delivered = p.delivered ++ piece; polls = 0 }
 
-still_nothing : (p : Part) (piece : List ℕ) → SaysNothing p → SaysNothing (with_more p piece)
+still_nothing : (p : AppState) (piece : List ℕ) → SaysNothing p → SaysNothing (with_more p piece)
 still_nothing p piece none = record { captures = none.captures; acked = none.acked }
 
-pub method_heard : {F R : Type 0} (g : Giving F) (text : R → List ℕ) (a : Pages R) (site : SiteContent) (p : Part) → a.stage ≡ stage.Method → PagesStand g text a site p → HearsMethod a.line p.heard × SaysNothing p
+pub method_heard : {F R : Type 0} (g : Giving F) (text : R → List ℕ) (a : Pages R) (site : SiteContent) (p : AppState) → a.stage ≡ stage.Method → PagesRepresent g text a site p → HearsMethod a.line p.delivered × SaysNothing p
 method_heard g text a site p e s = subst (λ st. StandsIn g text a site p st) e s.stands
 
-pub target_heard : {F R : Type 0} (g : Giving F) (text : R → List ℕ) (a : Pages R) (site : SiteContent) (p : Part) → a.stage ≡ stage.Target → PagesStand g text a site p → HearsTarget a.line p.heard × SaysNothing p
+pub target_heard : {F R : Type 0} (g : Giving F) (text : R → List ℕ) (a : Pages R) (site : SiteContent) (p : AppState) → a.stage ≡ stage.Target → PagesRepresent g text a site p → HearsTarget a.line p.delivered × SaysNothing p
 target_heard g text a site p e s = subst (λ st. StandsIn g text a site p st) e s.stands
 
-pub refused_heard : {F R : Type 0} (g : Giving F) (text : R → List ℕ) (a : Pages R) (site : SiteContent) (p : Part) → a.stage ≡ stage.Refused → PagesStand g text a site p → (wanted p.heard ≡ Refused) × SaysNothing p
+pub refused_heard : {F R : Type 0} (g : Giving F) (text : R → List ℕ) (a : Pages R) (site : SiteContent) (p : AppState) → a.stage ≡ stage.Refused → PagesRepresent g text a site p → (wanted p.delivered ≡ Refused) × SaysNothing p
 refused_heard g text a site p e s = subst (λ st. StandsIn g text a site p st) e s.stands
 
 -- a request that a piece may decide
-pub heard_stands : {F R : Type 0} (g : Giving F) (text : R → List ℕ) (a b : Pages R) (site : SiteContent) (p : Part) (piece : List ℕ) → SaysNothing p → b.thread ≡ Head 0 → b.polls ≡ 0 → IsDecided (files_of site) b.line (p.heard ++ piece) b.stage → PagesStand g text b site (with_more p piece)
+pub heard_stands : {F R : Type 0} (g : Giving F) (text : R → List ℕ) (a b : Pages R) (site : SiteContent) (p : AppState) (piece : List ℕ) → SaysNothing p → b.thread ≡ Head 0 → b.polls ≡ 0 → IsDecided (files_of site) b.line (p.delivered ++ piece) b.stage → PagesRepresent g text b site (with_more p piece)
 heard_stands g text a b site p piece none e polls is = record { polls = polls; stands = decided_stands g text b site (with_more p piece) b.stage e (still_nothing p piece none) is }
 
 -- a request that was decided
-pub reply_stays : {F R : Type 0} (g : Giving F) (text : R → List ℕ) (a : Pages R) (site : SiteContent) (p : Part) (piece : List ℕ) (found : Option FileId) → a.stage ≡ stage.Reply found → PagesStand g text a site p → PagesStand g text (record a { polls = 0 }) site (with_more p piece)
+pub reply_stays : {F R : Type 0} (g : Giving F) (text : R → List ℕ) (a : Pages R) (site : SiteContent) (p : AppState) (piece : List ℕ) (found : Option FileId) → a.stage ≡ stage.Reply found → PagesRepresent g text a site p → PagesRepresent g text (record a { polls = 0 }) site (with_more p piece)
 reply_stays g text a site p piece found e s =
     let is : (name : List ℕ) × IsReplying g text a site name found p = subst (λ st. StandsIn g text a site p st) e s.stands in
     record {
@@ -88,7 +88,7 @@ reply_stays g text a site p piece found e s =
       stands = subst (λ st. StandsIn g text (record a { polls = 0 }) site (with_more p piece) st) (sym e) (
         is.0,
         record {
-          wanted = more_by (Name is.0) p.heard piece is.1.wanted (λ h. cc);
+          wanted = more_by (Name is.0) p.delivered piece is.1.wanted (λ h. cc);
           there = is.1.there;
           file = is.1.file;
           fits = is.1.fits;
@@ -98,13 +98,13 @@ reply_stays g text a site p piece found e s =
       );
     }
 
-pub refused_stays : {F R : Type 0} (g : Giving F) (text : R → List ℕ) (a : Pages R) (site : SiteContent) (p : Part) (piece : List ℕ) → a.stage ≡ stage.Refused → PagesStand g text a site p → PagesStand g text (record a { polls = 0 }) site (with_more p piece)
+pub refused_stays : {F R : Type 0} (g : Giving F) (text : R → List ℕ) (a : Pages R) (site : SiteContent) (p : AppState) (piece : List ℕ) → a.stage ≡ stage.Refused → PagesRepresent g text a site p → PagesRepresent g text (record a { polls = 0 }) site (with_more p piece)
 refused_stays g text a site p piece e s =
     let is = refused_heard g text a site p e s in
     record {
       polls = refl;
       stands = subst (λ st. StandsIn g text (record a { polls = 0 }) site (with_more p piece) st) (sym e)
-          (more_by Refused p.heard piece is.0 (λ h. cc), still_nothing p piece is.1);
+          (more_by Refused p.delivered piece is.0 (λ h. cc), still_nothing p piece is.1);
     }
 
 -- ---- the hits

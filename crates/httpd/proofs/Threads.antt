@@ -1,4 +1,5 @@
--- What each kind of thread sees.
+-- The span at each kind of thread.
+-- [add: piece] What a thread in the piece finds.
 use Rattle.std.proofs.Common.{◌≡◌, ℕ, ◌<◌, ◌≤◌, false, List, [], ◌∷◌, ◌++◌, length, drop, codes, refl, sym, ap, ◌∙◌, arith, true≢false, length-append, if◌then◌else◌}
 use Rattle.file_tree.specs.declared.file_id.FileId.{FileId}
 use Rattle.web_pages.specs.Pieces.{kind_line, says}
@@ -14,9 +15,9 @@ pub line_short : (kind : List ℕ) → length kind ≤ 64 → length (kind_line 
 line_short kind h =
     omega (arith, length-append (codes "Content-type: " ++ kind) (codes "\r\n\r\n"), length-append (codes "Content-type: ") kind, h)
 
--- no directive is open at the front
-pub front_place : {F : Type 0} (r : FileReply F) → IsBodyPlace r 0
-front_place r = record { within = omega arith; between = λ s opened. absurd (true≢false (sym opened)) }
+-- no directive is open at the start
+pub prefix_place : {F : Type 0} (r : FileReply F) → IsBodyPlace r 0
+prefix_place r = record { within = omega arith; between = λ s opened. absurd (true≢false (sym opened)) }
 
 pub head_seen : {R F : Type 0} (text : R → List ℕ) (r : FileReply F) (at : ℕ) (s : Span R F) → at ≤ length (head_text r.file) → length (head_text r.file) ≤ 60 → IsSpan text s (drop at (head_text r.file))
     → Sees text r (left_from r (Head at)) (record { span = s; here = Head at; next = Kind 0 })
@@ -30,7 +31,7 @@ pub kind_seen : {R F : Type 0} (text : R → List ℕ) (r : FileReply F) (at : �
 unfolding left_from Fits
 kind_seen text r at s h short is =
     rest_seen text r (λ a. Kind a) (kind_line (kind_text r.file)) (body_from r 0) at s (Body 0) is h (line_short (kind_text r.file) short)
-    (λ n. refl) refl (λ a. refl) (λ a k. k) refl (front_place r) (λ captures. tt)
+    (λ n. refl) refl (λ a. refl) (λ a k. k) refl (prefix_place r) (λ captures. tt)
 
 pub plain_from : {F : Type 0} (r : FileReply F) (a : ℕ) → is_scripted r.file ≡ false → body_from r a ≡ Plain (drop a (body r)) ∷ []
 plain_from r a e = ap (λ b. if b then Rattle.std.specs.Prelude.map (λ found. says r.files (body r) found.piece) (Rattle.script_lang.specs.Pieces.pieces_by r.gives.calling.named (body r) a) else Plain (drop a (body r)) ∷ []) e

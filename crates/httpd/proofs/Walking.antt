@@ -1,4 +1,5 @@
 -- Going from piece to piece.
+-- [add: piece] The step to the next piece.
 use Rattle.std.proofs.Common.{◌≡◌, ℕ, ◌+◌, ◌-◌, ◌<◌, ◌≤◌, ◌==◌, ◌&&◌, min, Bool, true, false, List, [], ◌∷◌, ◌++◌, length, take, drop, nat_lt, refl, sym, ap, subst, ◌∙◌, arith, length-append, length-drop, true≢false, inl, inr, if◌then◌else◌}
 use Rattle.std.proofs.lemmas.Bool.{cases_eq, ne_eqb, lt-ltb}
 use Rattle.std.proofs.lemmas.List.{drop-drop, drop_at}
@@ -36,9 +37,9 @@ past_more g files n m a b c p q = record {
 pub past_to : {F : Type 0} (g : Giving F) (files : List File) (n m : ℕ) (a b : List (Say F)) → n ≡ m → IsPast g files n a b → IsPast g files m a b
 past_to g files n m a b e p = subst (λ k. IsPast g files k a b) e p
 
-past_leads : {F : Type 0} (g : Giving F) (files : List File) (a b : List (Say F)) (front : List ℕ) (n : ℕ) → n ≡ length front → Leads g files a front b → IsPast g files n a b
-past_leads g files a b front n e leads = record {
-  text = λ later. sym (ap (λ xs. drop n xs) (leads.text later) ∙ drop_at front (text_by g files b later) n (sym e));
+past_leads : {F : Type 0} (g : Giving F) (files : List File) (a b : List (Say F)) (prefix : List ℕ) (n : ℕ) → n ≡ length prefix → Leads g files a prefix b → IsPast g files n a b
+past_leads g files a b prefix n e leads = record {
+  text = λ later. sym (ap (λ xs. drop n xs) (leads.text later) ∙ drop_at prefix (text_by g files b later) n (sym e));
   whole = λ later. sym (leads.whole later);
   calls = sym leads.calls;
 }
@@ -87,10 +88,10 @@ some_seen text r pieces look sees h = some_by text r pieces look look.span sees.
 pub record Walks {F : Type 0} (r : FileReply F) (start thread : Thread) (n : ℕ) : Type 0 where
   pub fits : Fits r thread
   pub kept : KeepsOn r start thread
-  pub past : IsPast r.gives r.files n (left_from r start) (left_from r thread)
+  pub history : IsPast r.gives r.files n (left_from r start) (left_from r thread)
 
 pub walks_none : {F : Type 0} (r : FileReply F) (start : Thread) → Fits r start → Walks r start start 0
-walks_none r start fits = record { fits = fits; kept = λ captures keeps. keeps; past = past_none r.gives r.files (left_from r start) }
+walks_none r start fits = record { fits = fits; kept = λ captures keeps. keeps; history = past_none r.gives r.files (left_from r start) }
 
 pub walks_to : {F : Type 0} (r : FileReply F) (start thread : Thread) (n m : ℕ) → n ≡ m → Walks r start thread n → Walks r start thread m
 walks_to r start thread n m e w = subst (λ k. Walks r start thread k) e w
@@ -99,7 +100,7 @@ pub walks_on : {R F : Type 0} (text : R → List ℕ) (r : FileReply F) (start t
 walks_on text r start thread n len look w sees e = record {
   fits = sees.next;
   kept = λ captures keeps. sees.begins captures;
-  past = past_more r.gives r.files n len (left_from r start) (left_from r thread) (left_from r look.next) w.past
+  history = past_more r.gives r.files n len (left_from r start) (left_from r thread) (left_from r look.next) w.history
       (past_leads r.gives r.files (left_from r thread) (left_from r look.next) (span_text text look.span) len e sees.leads);
 }
 
@@ -110,16 +111,16 @@ walks_in text r start thread n m look w sees here h =
     record {
       fits = inside.fits;
       kept = λ captures keeps. keeps_in r look.here m captures (here captures (w.kept captures keeps));
-      past = past_more r.gives r.files n m (left_from r start) (left_from r thread) (left_from r (moved look.here m)) w.past inside.past;
+      history = past_more r.gives r.files n m (left_from r start) (left_from r thread) (left_from r (moved look.here m)) w.history inside.history;
     }
 
 -- what is left of the text where the walk has come
 pub walks_left : {F : Type 0} (r : FileReply F) (start thread : Thread) (n : ℕ) → Walks r start thread n → length (text_by r.gives r.files (left_from r thread) []) ≡ length (text_by r.gives r.files (left_from r start) []) - n
-walks_left r start thread n w = left_past r.gives r.files n (left_from r start) (left_from r thread) w.past
+walks_left r start thread n w = left_past r.gives r.files n (left_from r start) (left_from r thread) w.history
 
 -- ---- filling
 
--- the front of a buffer is the front of the text, and the thread stands behind it unless the buffer is full
+-- a prefix of the buffer is a prefix of the text, and the thread is after it unless the buffer is full
 pub record Fills {F : Type 0} (r : FileReply F) (start thread : Thread) (from : ℕ) (out : List ℕ) : Type 0 where
   pub inside : from ≤ length out
   pub filled : take from out ≡ take from (text_by r.gives r.files (left_from r start) [])
@@ -154,7 +155,7 @@ fills_on text r start thread from len count out look fits enough is lt sees size
       least,
       lt,
     ) in
-    let here : drop from page ≡ span_text text look.span ++ text_by r.gives r.files (left_from r look.next) [] = sym (walks.past.text []) ∙ some.leads.text [] in
+    let here : drop from page ≡ span_text text look.span ++ text_by r.gives r.files (left_from r look.next) [] = sym (walks.history.text []) ∙ some.leads.text [] in
     record {
       inside = omega (arith, long, least, lt);
       filled =
@@ -199,12 +200,12 @@ pub less_by : (a b len room left : ℕ) → a ≤ b → (len ≡ 0 → a < b) �
 less_by a b len room left more fewer some shorter most =
     elim (cases_eq len 0) [ inl none ↦ omega (arith, fewer none, most) | inr apart ↦ omega (arith, shorter (omega (arith, apart)), more) ]
 
--- ---- wanting
+-- ---- what is requested
 
 abbrev pub sent_or : Want → ℕ → Want
 sent_or other n = if n == 0 then other else Send n
 
--- what is wanted of some text
+-- what is requested for some text
 some_wanted : (whole : Bool) (n : ℕ) → 0 < n → n < 1460 → Send n ≡ (if whole && (n == 0) then Close else (if nat_lt 0 n then Send (min 1460 n) else Nothing))
 some_wanted whole n pos h =
     let more : (whole && (n == 0)) ≡ false = ap (λ b. whole && b) (ne_eqb n 0 (λ e. omega (arith, pos, e))) ∙ Rattle.std.proofs.Math.Bool.and-false whole in
@@ -235,7 +236,7 @@ pub want_at : {F : Type 0} (r : FileReply F) (start thread : Thread) (n : ℕ) (
 want_at r start thread n other whole walks h lt none end e =
     wanted_by other whole n lt e
     ∙ ap (λ m. if whole && (m == 0) then Close else (if nat_lt 0 m then Send (min 1460 m) else Nothing)) (sym (all_left r start thread n walks h none))
-    ∙ ap (λ w. want_left (text_by r.gives r.files (left_from r start) []) w) (sym (sym (walks.past.whole []) ∙ end))
+    ∙ ap (λ w. want_left (text_by r.gives r.files (left_from r start) []) w) (sym (sym (walks.history.whole []) ∙ end))
 
 -- ---- what a span is
 
@@ -263,7 +264,7 @@ call_seen text r pieces look f argument e sees = subst (λ s. SeesBy text r piec
 pub end_reached : {R F : Type 0} (text : R → List ℕ) (r : FileReply F) (pieces : List (Say F)) (look : Look R F) → look.span ≡ span.End → Sees text r pieces look → pieces ≡ []
 end_reached text r pieces look e sees = subst (λ s. SeesBy text r pieces look s) e sees.sees
 
--- a walk goes on behind a piece that takes no capture
+-- a walk continues after a piece that takes no capture
 pub ready_on : {R F : Type 0} (text : R → List ℕ) (r : FileReply F) (start thread : Thread) (n len : ℕ) (look : Look R F) → Walks r start thread n → n ≤ length (text_by r.gives r.files (left_from r start) []) → IsText look.span → Sees text r (left_from r thread) look
     → len ≡ length (span_text text look.span) → Walks r start look.next (n + len) × (n + len ≤ length (text_by r.gives r.files (left_from r start) []))
 ready_on text r start thread n len look walks h t sees size =

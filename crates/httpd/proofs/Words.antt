@@ -1,4 +1,4 @@
--- What a line holds of the words that it heard.
+-- What a line holds of the words delivered.
 use Rattle.std.proofs.Common.{◌≡◌, ℕ, suc, ◌+◌, ◌-◌, ◌<◌, ◌≤◌, ◌||◌, ◌&&◌, Bool, true, false, not, cond, List, [], ◌∷◌, ◌++◌, length, take, drop, nat_lt, codes, refl, sym, ap, subst, ◌∙◌, inl, inr, arith, if◌then◌else◌, true≢false, length-append, length-take, append_assoc}
 use Rattle.std.specs.Prelude.{nat_eq}
 use Rattle.std.specs.List.{before_first, list_any, starts_with}
@@ -12,12 +12,12 @@ use Rattle.file_tree.specs.Site.{IsLoaded, SiteContent, files_of}
 use Rattle.httpd.proofs.Sizes.{name_short}
 use Rattle.protosocket.specs.declared.stops.Stops.{Stops}
 use Rattle.protosocket.specs.declared.stops.Stops.TheVariants.{Space, SpaceOrLine}
-use Rattle.protosocket.specs.Line.{Line, after, fresh, heard, is_query_mark, is_stop, word_of}
+use Rattle.protosocket.specs.Line.{Line, after, fresh, delivered, is_query_mark, is_stop, word_of}
 use Rattle.protosocket.specs.Lemmas.Hearing.{hears_joined, none_at_all, none_before, one_before}
 use Rattle.web_pages.specs.Requests.{after_method, has_ended, method_of, name_in}
 
--- a line that heard some bytes hears more
-pub heard_more : (stops : Stops) (bytes piece : List ℕ) → after (heard stops bytes) piece ≡ heard stops (bytes ++ piece)
+-- a line that was fed some bytes is fed more
+pub heard_more : (stops : Stops) (bytes piece : List ℕ) → after (delivered stops bytes) piece ≡ delivered stops (bytes ++ piece)
 heard_more stops bytes piece = sym ((hears_joined (fresh stops) bytes piece).0)
 
 -- ---- the method
@@ -37,7 +37,7 @@ long_other xs ys n short long =
     not_same (take n xs) ys (λ e. omega (arith, ap length e, length-take n xs, short, long))
     ∙ sym (not_same xs ys (λ e. omega (arith, ap length e, short, long)))
 
--- the front of a word is told from a short word as the word is
+-- the prefix of a word differs from a short word as the word does
 cut_test : (xs ys : List ℕ) (n : ℕ) → length ys < n → bytes_eq (take n xs) ys ≡ bytes_eq xs ys
 cut_test xs ys n short = elim (cases_lt n (length xs)) [
   | inl h ↦ long_other xs ys n short (omega (arith, h))
@@ -54,7 +54,7 @@ get_heard word = by (list_any is_query_mark word) refl
         ap (λ w. bytes_eq (take 64 w) (codes "GET")) (none_at_all is_query_mark word e)
         ∙ cut_test word (codes "GET") 64 (omega arith)
 
--- ---- the front of a piece up to its first stop
+-- ---- the prefix of a piece up to its first stop
 
 pub cut_stops : (p : ℕ → Bool) (xs : List ℕ) → list_any p xs ≡ true
     → (list_any p (take (length (before_first p xs) + 1) xs) ≡ true) × (before_first p (take (length (before_first p xs) + 1) xs) ≡ before_first p xs) × (length (before_first p xs) + 1 ≤ length xs)
@@ -67,23 +67,23 @@ cut_stops p xs e =
         → (list_any p (take n xs) ≡ true) × (before_first p (take n xs) ≡ before_first p xs) × (n ≤ length xs)
     by n size whole fits true stop = (stop, sym (one_before p (take n xs) (drop n xs) stop) ∙ ap (before_first p) whole, fits)
     by n size whole fits false stop =
-        let front : before_first p xs ≡ take n xs ++ before_first p (drop n xs) = ap (before_first p) (sym whole) ∙ none_before p (take n xs) (drop n xs) stop in
-        absurd (omega (arith, size, ap length front, length-append (take n xs) (before_first p (drop n xs)), length-take n xs, fits))
+        let prefix : before_first p xs ≡ take n xs ++ before_first p (drop n xs) = ap (before_first p) (sym whole) ∙ none_before p (take n xs) (drop n xs) stop in
+        absurd (omega (arith, size, ap length prefix, length-append (take n xs) (before_first p (drop n xs)), length-take n xs, fits))
 
 -- ---- where the first word ends in a piece
 
 -- the bytes that are taken of the piece
-abbrev pub front_of : List ℕ → List ℕ
-front_of piece = take (length (word_of Space piece) + 1) piece
+abbrev pub prefix_of : List ℕ → List ℕ
+prefix_of piece = take (length (word_of Space piece) + 1) piece
 
 abbrev pub rest_of : List ℕ → List ℕ
 rest_of piece = drop (length (word_of Space piece) + 1) piece
 
 pub record EndsHere (bytes piece : List ℕ) : Type 0 where
-  pub ended : has_ended Space (bytes ++ front_of piece) ≡ true
-  pub method : method_of (bytes ++ front_of piece) ≡ method_of (bytes ++ piece)
-  pub nothing : after_method (bytes ++ front_of piece) ≡ []
-  pub joined : (bytes ++ front_of piece) ++ rest_of piece ≡ bytes ++ piece
+  pub ended : has_ended Space (bytes ++ prefix_of piece) ≡ true
+  pub method : method_of (bytes ++ prefix_of piece) ≡ method_of (bytes ++ piece)
+  pub nothing : after_method (bytes ++ prefix_of piece) ≡ []
+  pub joined : (bytes ++ prefix_of piece) ++ rest_of piece ≡ bytes ++ piece
 
 pub or_second : (a b : Bool) → (a || b) ≡ true → a ≡ false → b ≡ true
 or_second a b e h = sym (ap (λ c. c || b) h) ∙ e
@@ -92,21 +92,21 @@ pub ends_here : (bytes piece : List ℕ) → has_ended Space bytes ≡ false →
 ends_here bytes piece none some =
     let stop : list_any (is_stop Space) piece ≡ true = or_second (list_any (is_stop Space) bytes) (list_any (is_stop Space) piece) (sym (list_any-append (is_stop Space) bytes piece) ∙ some) none in
     let cut = cut_stops (is_stop Space) piece stop in
-    let word : method_of (bytes ++ front_of piece) ≡ bytes ++ word_of Space piece =
-    none_before (is_stop Space) bytes (front_of piece) none ∙ ap (λ w. bytes ++ w) cut.1 in
+    let word : method_of (bytes ++ prefix_of piece) ≡ bytes ++ word_of Space piece =
+    none_before (is_stop Space) bytes (prefix_of piece) none ∙ ap (λ w. bytes ++ w) cut.1 in
     record {
-      ended = list_any-append (is_stop Space) bytes (front_of piece) ∙ ap (λ b. b || list_any (is_stop Space) (front_of piece)) none ∙ cut.0;
+      ended = list_any-append (is_stop Space) bytes (prefix_of piece) ∙ ap (λ b. b || list_any (is_stop Space) (prefix_of piece)) none ∙ cut.0;
       method = word ∙ sym (none_before (is_stop Space) bytes piece none);
-      nothing = drop_all (length (method_of (bytes ++ front_of piece)) + 1) (bytes ++ front_of piece)
+      nothing = drop_all (length (method_of (bytes ++ prefix_of piece)) + 1) (bytes ++ prefix_of piece)
           (omega (
             arith,
             ap length word,
             length-append bytes (word_of Space piece),
-            length-append bytes (front_of piece),
+            length-append bytes (prefix_of piece),
             length-take (length (word_of Space piece) + 1) piece,
             cut.2,
           ));
-      joined = append_assoc bytes (front_of piece) (rest_of piece) ∙ ap (λ r. bytes ++ r) (take-append-drop (length (word_of Space piece) + 1) piece);
+      joined = append_assoc bytes (prefix_of piece) (rest_of piece) ∙ ap (λ r. bytes ++ r) (take-append-drop (length (word_of Space piece) + 1) piece);
     }
 
 -- ---- the target
@@ -117,7 +117,7 @@ first_here p x xs e = Rattle.std.proofs.lemmas.List.Sums.take_while-cons (λ b. 
 first_later : (p : ℕ → Bool) (x : ℕ) (xs : List ℕ) → p x ≡ false → before_first p (x ∷ xs) ≡ x ∷ before_first p xs
 first_later p x xs e = Rattle.std.proofs.lemmas.List.Sums.take_while-cons (λ b. not (p b)) x xs ∙ ap (λ b. cond (not b) (x ∷ before_first p xs) []) e
 
--- whether a word begins with `/` is told from the front of its name
+-- the prefix of its name determines whether a word begins with `/`
 pub path_heard : (word : List ℕ) → starts_with nat_eq (take 64 (before_first is_query_mark word)) (codes "/") ≡ starts_with nat_eq word (codes "/")
 path_heard [] = refl
 path_heard (x ∷ xs) = by (is_query_mark x) refl
@@ -157,13 +157,13 @@ nobody_named files good word long =
 abbrev asked : Line → List ℕ
 asked line = if bytes_eq line.name (codes "/") then codes "/index.html" else line.name
 
--- a line that heard all of a name holds it
-pub asked_name : (inside line : Line) (bytes : List ℕ) → inside ≡ line → line ≡ heard SpaceOrLine bytes → inside.over ≡ false → asked line ≡ name_in (word_of SpaceOrLine bytes)
+-- a line that was fed all of a name holds it
+pub asked_name : (inside line : Line) (bytes : List ℕ) → inside ≡ line → line ≡ delivered SpaceOrLine bytes → inside.over ≡ false → asked line ≡ name_in (word_of SpaceOrLine bytes)
 asked_name inside line bytes e holds short =
     ap asked holds ∙ name_heard (word_of SpaceOrLine bytes) (sym (ap (λ (l : Line). l.over) (e ∙ holds)) ∙ short)
 
 -- and of one that is too long for it no file has the name
-pub asked_nobody : (site : SiteContent) (inside line : Line) (bytes : List ℕ) → IsLoaded site → inside ≡ line → line ≡ heard SpaceOrLine bytes → inside.over ≡ true
+pub asked_nobody : (site : SiteContent) (inside line : Line) (bytes : List ℕ) → IsLoaded site → inside ≡ line → line ≡ delivered SpaceOrLine bytes → inside.over ≡ true
     → has_name (files_of site) (name_in (word_of SpaceOrLine bytes)) ≡ false
 asked_nobody site inside line bytes is e holds over =
     nobody_named (files_of site) (name_short site is) (word_of SpaceOrLine bytes) (sym (ap (λ (l : Line). l.over) (e ∙ holds)) ∙ over)

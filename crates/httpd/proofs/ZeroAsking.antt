@@ -1,4 +1,4 @@
--- What a target asks for, as it is heard.
+-- What a target requests, word by word.
 use Rattle.std.proofs.Common.{◌≡◌, ℕ, true, List, [], ◌∷◌, ◌++◌, Option, Some, refl, sym, ap, ◌∙◌, true≢false}
 use Rattle.std.specs.Prelude.{codes}
 use Rattle.std.proofs.lemmas.Bool.{or_right}
@@ -6,7 +6,7 @@ use Rattle.std.proofs.lemmas.List.Folds.{list_any-append}
 use Rattle.std.specs.List.{list_any}
 use Rattle.protosocket.specs.declared.stops.Stops.TheVariants.{Space, SpaceOrLine}
 use Rattle.protosocket.specs.Line.{Line, is_stop, word_of}
-use Rattle.protosocket.specs.Line.{heard as heard_line}
+use Rattle.protosocket.specs.Line.{delivered as heard_line}
 use Rattle.file_tree.specs.declared.file_id.FileId.{FileId}
 use Rattle.site_image.specs.Files.{File, file_named}
 use Rattle.web_pages.specs.Requests.{wanted, has_ended, after_method, name_in, target_of}
@@ -20,7 +20,7 @@ use Rattle.httpd.specs.Zero.{IsAsked}
 pub hears_method : (line : Line) → line ≡ heard_line SpaceOrLine [] → HearsTarget line (codes "GET ")
 hears_method line e = record { method_ended = refl; method = refl; goes_on = refl; holds = e }
 
--- a name that was heard is asked for
+-- a name that was received is requested
 pub asked_name : (files : List File) (line : Line) (request : List ℕ) (found : Option FileId) → HasName line request → IsFound files found
     → ((bytes : List ℕ) → line ≡ heard_line SpaceOrLine bytes → found_file files found ≡ file_named files (name_in (word_of SpaceOrLine bytes)))
     → IsAsked files (wanted request) (Some found)

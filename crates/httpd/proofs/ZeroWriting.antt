@@ -1,10 +1,10 @@
--- A reply is written piece by piece, as its thread says it.
+-- A reply is written piece by piece, as its thread generates it.
 use Rattle.std.proofs.Common.{◌≡◌, ℕ, ◌+◌, ◌<◌, List, [], ◌++◌, length, replicate, Option, Some, Result, Ok, Err, IsErr, refl, sym, ap, ◌∙◌, subst, arith, append_assoc, length-append, if◌then◌else◌, inl, inr}
 use Rattle.std.proofs.lemmas.Bool.{cases_eq}
 use Rattle.std.specs.List.{flat_map}
 use Rattle.std.specs.Io.KnownBytes.{Appends}
 use Rattle.uip_edge.specs.declared.failed.Failed.{Failed}
-use Rattle.uip_edge.specs.Told.{SinkTold}
+use Rattle.uip_edge.specs.Views.{SinkView}
 use Rattle.uip_edge.specs.Writing.{Writes}
 use Rattle.uip_edge.proofs.Told.{Appends-none, Appends-then}
 use Rattle.uip_edge.proofs.Writes.{writes_broken, writes_by, writes_none, writes_then}
@@ -19,7 +19,7 @@ use Rattle.web_pages.specs.Requests.{wanted}
 use Rattle.web_pages.specs.Requests.Wanted.{Refused, Name}
 use Rattle.web_pages.specs.Pieces.{Say, reply_to_by}
 use Rattle.web_pages.specs.Pages.{text_by}
-use Rattle.web_pages.specs.ZeroPages.{request_for, zero_moment, zero_page, zero_reply, zero_said}
+use Rattle.web_pages.specs.ZeroPages.{request_for, zero_snapshot, zero_page, zero_reply, zero_said}
 use Rattle.web_pages.proofs.ZeroLaws.{zero_asked, zero_text}
 use Rattle.file_tree.specs.declared.file_id.FileId.{FileId}
 use Rattle.file_tree.specs.Site.{SiteContent}
@@ -31,27 +31,27 @@ use Rattle.httpd.specs.Places.{Fits}
 use Rattle.httpd.specs.Looking.{SeesCall, SeesText, span_text}
 use Rattle.httpd.specs.Zero.{IsAsked}
 use Rattle.httpd.proofs.Asking.{other_inner}
-use Rattle.httpd.proofs.Telling.{front_fits, reply_start}
+use Rattle.httpd.proofs.Telling.{prefix_fits, reply_start}
 use Rattle.httpd.proofs.Walking.{call_before}
 
--- what a thread has left to say where each call is given the zero record of its kind
+-- what a thread has left to generate if each call has the zero record of its kind
 pub zero_left : FileReply Function → Thread → List ℕ
 zero_left r t = flat_map zero_said (left_from r t)
 
--- what was written of a reply so far, and what its thread still says
-pub record Saying (r : FileReply Function) (thread : Thread) (first now : SinkTold) : Type 0 where
-  pub front : List ℕ
-  pub parts : zero_reply r.files r.file ≡ front ++ zero_left r thread
+-- what was written of a reply so far, and what its thread still generates
+pub record Saying (r : FileReply Function) (thread : Thread) (first now : SinkView) : Type 0 where
+  pub prefix : List ℕ
+  pub parts : zero_reply r.files r.file ≡ prefix ++ zero_left r thread
   pub fits : Fits r thread
-  pub told : Appends first.written now.written front
+  pub told : Appends first.written now.written prefix
   pub same : now.faults ≡ first.faults
 
-pub saying_starts : (r : FileReply Function) → r.gives ≡ uip → (first : SinkTold) → Saying r (Head 0) first first
+pub saying_starts : (r : FileReply Function) → r.gives ≡ uip → (first : SinkView) → Saying r (Head 0) first first
 unfolding zero_left
 saying_starts r e first = record {
-  front = [];
+  prefix = [];
   parts = sym (ap (flat_map zero_said) (reply_start r.gives r.files r.file r.made ∙ ap (λ g. reply_to_by g.calling.named r.files r.file) e));
-  fits = front_fits r;
+  fits = prefix_fits r;
   told = Appends-none first.written;
   same = refl;
 }
@@ -62,32 +62,32 @@ unfolding zero_left
 leads_zero r e thread look sees =
     let n = length (left_from r thread) in
     sym (zero_text r.files (left_from r thread) n (omega arith))
-    ∙ ap (λ g. text_by g r.files (left_from r thread) (replicate n zero_moment)) (sym e)
-    ∙ sees.leads.text (replicate n zero_moment)
+    ∙ ap (λ g. text_by g r.files (left_from r thread) (replicate n zero_snapshot)) (sym e)
+    ∙ sees.leads.text (replicate n zero_snapshot)
     ∙ ap (λ more. span_text capture_text look.span ++ more)
-    (ap (λ g. text_by g r.files (left_from r look.next) (replicate n zero_moment)) e ∙ zero_text r.files (left_from r look.next) n sees.no_more)
+    (ap (λ g. text_by g r.files (left_from r look.next) (replicate n zero_snapshot)) e ∙ zero_text r.files (left_from r look.next) n sees.no_more)
 
 -- a text more
-pub saying_more : {T : Type 0} (r : FileReply Function) → r.gives ≡ uip → (thread : Thread) (look : Look Capture Function) (first mid now : SinkTold) (t : T) → Saying r thread first mid → SeesText capture_text r (left_from r thread) look
+pub saying_more : {T : Type 0} (r : FileReply Function) → r.gives ≡ uip → (thread : Thread) (look : Look Capture Function) (first mid now : SinkView) (t : T) → Saying r thread first mid → SeesText capture_text r (left_from r thread) look
     → Writes {T = T} {E = Failed} mid now (Ok t) (span_text capture_text look.span) → Saying r look.next first now
 saying_more r is_uip thread look first mid now t s sees w = record {
-  front = s.front ++ span_text capture_text look.span;
-  parts = s.parts ∙ ap (λ rest. s.front ++ rest) (leads_zero r is_uip thread look sees) ∙ sym (append_assoc s.front (span_text capture_text look.span) (zero_left r look.next));
+  prefix = s.prefix ++ span_text capture_text look.span;
+  parts = s.parts ∙ ap (λ rest. s.prefix ++ rest) (leads_zero r is_uip thread look sees) ∙ sym (append_assoc s.prefix (span_text capture_text look.span) (zero_left r look.next));
   fits = sees.next;
-  told = Appends-then first.written mid.written now.written s.front (span_text capture_text look.span) s.told w.whole;
+  told = Appends-then first.written mid.written now.written s.prefix (span_text capture_text look.span) s.told w.whole;
   same = w.cause.same ∙ s.same;
 }
 
 -- a text failed
-pub saying_stops : {T U : Type 0} (r : FileReply Function) → r.gives ≡ uip → (thread : Thread) (look : Look Capture Function) (first mid now : SinkTold) (e : Failed) (result : Result U Failed) → IsErr result → Saying r thread first mid → SeesText capture_text r (left_from r thread) look
+pub saying_stops : {T U : Type 0} (r : FileReply Function) → r.gives ≡ uip → (thread : Thread) (look : Look Capture Function) (first mid now : SinkView) (e : Failed) (result : Result U Failed) → IsErr result → Saying r thread first mid → SeesText capture_text r (left_from r thread) look
     → Writes {T = T} {E = Failed} mid now (Err e) (span_text capture_text look.span) → Writes first now result (zero_reply r.files r.file)
 saying_stops {T = T} r is_uip thread look first mid now e result fails s sees w =
-    writes_broken {U = T} result fails e first mid now s.front (span_text capture_text look.span) (zero_left r look.next) (zero_reply r.files r.file)
-    (append_assoc s.front (span_text capture_text look.span) (zero_left r look.next) ∙ sym (s.parts ∙ ap (λ rest. s.front ++ rest) (leads_zero r is_uip thread look sees))) s.told s.same w
+    writes_broken {U = T} result fails e first mid now s.prefix (span_text capture_text look.span) (zero_left r look.next) (zero_reply r.files r.file)
+    (append_assoc s.prefix (span_text capture_text look.span) (zero_left r look.next) ∙ sym (s.parts ∙ ap (λ rest. s.prefix ++ rest) (leads_zero r is_uip thread look sees))) s.told s.same w
 
 -- the text of a call's record comes next
 call_zero : (site : SiteContent) (found : Option FileId) (old new : Capture) (pieces : List (Say Function)) (f : Function) (argument : List ℕ) (next : Thread) → SeesCall (reply_in site found old) pieces f argument next
-    → new ≡ capture_of f 0 zero_moment.now
+    → new ≡ capture_of f 0 zero_snapshot.now
     → (flat_map zero_said pieces ≡ zero_left (reply_in site found new) next) × Fits (reply_in site found new) next × (calls_in uip_calls pieces ≡ 1 + calls_in uip_calls (left_from (reply_in site found new) next)) × (length pieces ≡ length (left_from (reply_in site found new) next))
 unfolding zero_left left_from Fits
 call_zero site found old new pieces f argument next sees made =
@@ -101,19 +101,19 @@ call_zero site found old new pieces f argument next sees made =
     )
 
 -- a record is taken
-pub saying_taken : (site : SiteContent) (found : Option FileId) (old new : Capture) (thread next : Thread) (f : Function) (argument : List ℕ) (first now : SinkTold) → Saying (reply_in site found old) thread first now
-    → SeesCall (reply_in site found old) (left_from (reply_in site found old) thread) f argument next → new ≡ capture_of f 0 zero_moment.now → Saying (reply_in site found new) next first now
+pub saying_taken : (site : SiteContent) (found : Option FileId) (old new : Capture) (thread next : Thread) (f : Function) (argument : List ℕ) (first now : SinkView) → Saying (reply_in site found old) thread first now
+    → SeesCall (reply_in site found old) (left_from (reply_in site found old) thread) f argument next → new ≡ capture_of f 0 zero_snapshot.now → Saying (reply_in site found new) next first now
 unfolding zero_left
 saying_taken site found old new thread next f argument first now s sees made =
     let call = call_zero site found old new (left_from (reply_in site found old) thread) f argument next sees made in
-    record { front = s.front; parts = s.parts ∙ ap (λ rest. s.front ++ rest) call.0; fits = call.1; told = s.told; same = s.same }
+    record { prefix = s.prefix; parts = s.parts ∙ ap (λ rest. s.prefix ++ rest) call.0; fits = call.1; told = s.told; same = s.same }
 
 -- nothing is left
-pub saying_ends : {T E : Type 0} (r : FileReply Function) (thread : Thread) (first now : SinkTold) (t : T) → Saying r thread first now → left_from r thread ≡ [] → Writes {T = T} {E = E} first now (Ok t) (zero_reply r.files r.file)
+pub saying_ends : {T E : Type 0} (r : FileReply Function) (thread : Thread) (first now : SinkView) (t : T) → Saying r thread first now → left_from r thread ≡ [] → Writes {T = T} {E = E} first now (Ok t) (zero_reply r.files r.file)
 unfolding zero_left
 saying_ends r thread first now t s none =
-    writes_by (Ok t) first now (s.front ++ []) (zero_reply r.files r.file) (s.parts ∙ ap (λ ps. s.front ++ flat_map zero_said ps) none)
-    (writes_then (Ok t) first now now s.front [] s.told s.same (writes_none now t))
+    writes_by (Ok t) first now (s.prefix ++ []) (zero_reply r.files r.file) (s.parts ∙ ap (λ ps. s.prefix ++ flat_map zero_said ps) none)
+    (writes_then (Ok t) first now now s.prefix [] s.told s.same (writes_none now t))
 
 -- ---- each look brings fewer calls, fewer pieces or fewer bytes
 
@@ -130,7 +130,7 @@ smaller_text r is_uip thread look sees =
     ]
 
 pub smaller_call : (site : SiteContent) (found : Option FileId) (old new : Capture) (thread next : Thread) (f : Function) (argument : List ℕ)
-    → SeesCall (reply_in site found old) (left_from (reply_in site found old) thread) f argument next → new ≡ capture_of f 0 zero_moment.now
+    → SeesCall (reply_in site found old) (left_from (reply_in site found old) thread) f argument next → new ≡ capture_of f 0 zero_snapshot.now
     → zero_size (reply_in site found new) next < zero_size (reply_in site found old) thread
 unfolding zero_size zero_left
 smaller_call site found old new thread next f argument sees made =

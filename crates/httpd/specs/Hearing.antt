@@ -1,9 +1,9 @@
--- How far a request was heard, and what the line holds of it.
+-- How much of a request was received, and what the line buffer keeps of it.
 use Rattle.std.specs.Prelude.{◌≡◌, ℕ, false, true, List, codes, Option}
 use Rattle.std.specs.Str.{bytes_eq}
 use Rattle.protosocket.specs.declared.stops.Stops.TheVariants.{Space, SpaceOrLine}
 use Rattle.protosocket.specs.Line.{Line}
-use Rattle.protosocket.specs.Line.{heard as heard_line}
+use Rattle.protosocket.specs.Line.{delivered as heard_line}
 use Rattle.web_pages.specs.Requests.{Wanted, wanted, has_ended, method_of, after_method, name_in, target_of}
 use Rattle.web_pages.specs.Requests.Wanted.{Refused, Name}
 use Rattle.site_image.specs.Files.{File, file_named}
@@ -13,38 +13,38 @@ use Rattle.httpd.specs.declared.stage.Stage.TheVariants as stage
 use Rattle.httpd.specs.Reply.{found_file}
 use Rattle.httpd.specs.Places.{IsFound}
 use Rattle.httpd.specs.declared.hearing.Heard.{Heard}
-use Rattle.httpd.specs.declared.hearing.Heard.TheVariants as heard
+use Rattle.httpd.specs.declared.hearing.Heard.TheVariants as delivered
 
--- the first word has not ended, and the line holds it
+-- The first word has not ended, and the buffer keeps it.
 pub record HearsMethod (line : Line) (request : List ℕ) : Type 0 where
   pub goes_on : has_ended Space request ≡ false
   pub holds : line ≡ heard_line Space request
 
--- the first word was `GET`, the second has not ended, and the line holds it
+-- The first word was `GET`, the second has not ended, and the buffer keeps it.
 pub record HearsTarget (line : Line) (request : List ℕ) : Type 0 where
   pub method_ended : has_ended Space request ≡ true
   pub method : bytes_eq (method_of request) (codes "GET") ≡ true
   pub goes_on : has_ended SpaceOrLine (after_method request) ≡ false
   pub holds : line ≡ heard_line SpaceOrLine (after_method request)
 
--- a name is asked for, and the line holds its target
+-- A name is requested, and the buffer keeps its target.
 pub record HasName (line : Line) (request : List ℕ) : Type 0 where
   pub wanted : wanted request ≡ Name (name_in (target_of request))
   pub holds : line ≡ heard_line SpaceOrLine (after_method request)
 
--- a name is wanted, and what was found is the file of that name
+-- If a name is requested, the file found is the one with that name.
 pub record IsFileAsked (files : List File) (asked : Wanted) (found : Option FileId) : Type 0 where
   pub name : List ℕ
   pub wanted : asked ≡ Name name
   pub there : IsFound files found
   pub file : found_file files found ≡ file_named files name
 
--- what was heard of a request
+-- what was received of a request
 abbrev pub HearsTo : Heard → Line → List ℕ → Type 0
-HearsTo heard.Method line request = HearsMethod line request
-HearsTo heard.Target line request = HearsTarget line request
-HearsTo heard.Named line request = HasName line request
-HearsTo heard.Refused line request = wanted request ≡ Refused
+HearsTo delivered.Method line request = HearsMethod line request
+HearsTo delivered.Target line request = HearsTarget line request
+HearsTo delivered.Named line request = HasName line request
+HearsTo delivered.Refused line request = wanted request ≡ Refused
 
 -- the stage of a request
 abbrev pub IsDecided : List File → Line → List ℕ → Stage → Type 0

@@ -1,6 +1,7 @@
--- What a thread keeps while it says something inside a script: the file of the include, and the record of the last capture.
+-- What a thread keeps while it sends something inside a script: the file of the include, and the record of the last snapshot.
+-- [add: piece] An arm of `KeepsDirective`.
 use Rattle.std.specs.Prelude.{◌≡◌, ℕ, ◌+◌, true, List, [], ◌∷◌, ◌++◌, slice_range, Some}
-use Rattle.app_events.specs.Part.{Moment}
+use Rattle.app_events.specs.AppSpec.{Snapshot}
 use Rattle.file_tree.specs.declared.file_id.FileId.{FileId}
 use Rattle.script_lang.specs.declared.piece.PieceOf.{PieceOf}
 use Rattle.script_lang.specs.declared.piece.PieceOf.TheVariants.{Include, Call}
@@ -11,7 +12,7 @@ use Rattle.httpd.specs.declared.thread.Thread.{Thread}
 use Rattle.httpd.specs.declared.thread.Thread.TheVariants.{Head, Kind, Body, Inside, Making, End}
 use Rattle.httpd.specs.Reply.{FileReply, body}
 
--- the directive that ends at `next`: what it is, and the word that it names
+-- The directive that ends at `next`: its kind, and the word that it names.
 pub record EndsDirective {F : Type 0} (named : List ℕ → F) (script : List ℕ) (next : ℕ)
     (directive : ℕ → ℕ → PieceOf F) (word : List ℕ) : Type 0 where
   pub from : ℕ
@@ -25,29 +26,29 @@ pub record EndsDirective {F : Type 0} (named : List ℕ → F) (script : List �
 abbrev pub EndsInclude : {F : Type 0} → FileReply F → ℕ → List ℕ → Type 0
 EndsInclude reply next name = EndsDirective reply.gives.calling.named (body reply) next (λ at len. Include at len) name
 
--- it is a call of the function with the argument
+-- It is a call of the function with the argument.
 abbrev pub EndsCall : {F : Type 0} → FileReply F → ℕ → F → List ℕ → Type 0
 EndsCall reply next function argument = EndsDirective reply.gives.calling.named (body reply) next (λ at len. Call function at len) argument
 
--- it is an include of the file
+-- It is an include of the file.
 pub record Includes {F : Type 0} (reply : FileReply F) (next : ℕ) (file : FileId) : Type 0 where
   pub name : List ℕ
   pub directive : EndsInclude reply next name
   pub place : place_of reply.files name ≡ Some file.0
 
--- it is a call, and the record is the one that was taken for it at the last capture
-pub record IsTaken {F : Type 0} (reply : FileReply F) (next : ℕ) (captures : List Moment) : Type 0 where
+-- It is a call, and the record is the one captured for it with the last snapshot.
+pub record IsTaken {F : Type 0} (reply : FileReply F) (next : ℕ) (captures : List Snapshot) : Type 0 where
   pub function : F
   pub argument : List ℕ
-  pub earlier : List Moment
-  pub last : Moment
+  pub earlier : List Snapshot
+  pub last : Snapshot
   pub directive : EndsCall reply next function argument
   pub takes : reply.gives.calling.takes_capture function ≡ true
   pub taken : captures ≡ earlier ++ last ∷ []
   pub record_is : reply.made ≡ made_by reply.gives reply.files function argument last
 
--- what the thread keeps is right
-abbrev pub KeepsDirective : {F : Type 0} → FileReply F → List Moment → Thread → Type 0
+-- What the thread keeps is right.
+abbrev pub KeepsDirective : {F : Type 0} → FileReply F → List Snapshot → Thread → Type 0
 KeepsDirective reply captures (Inside next file at) = Includes reply next file
 KeepsDirective reply captures (Making next at) = IsTaken reply next captures
 KeepsDirective reply captures (Head at) = Unit {0}
@@ -55,10 +56,10 @@ KeepsDirective reply captures (Kind at) = Unit {0}
 KeepsDirective reply captures (Body at) = Unit {0}
 KeepsDirective reply captures End = Unit {0}
 
--- and that whatever was captured
+-- It is right for any snapshots.
 abbrev pub KeepsAll : {F : Type 0} → FileReply F → Thread → Type 0
-KeepsAll reply thread = (captures : List Moment) → KeepsDirective reply captures thread
+KeepsAll reply thread = (captures : List Snapshot) → KeepsDirective reply captures thread
 
--- where it is right at one thread, it is right at the other
+-- If it is right for one thread, it is right for the other.
 abbrev pub KeepsOn : {F : Type 0} → FileReply F → Thread → Thread → Type 0
-KeepsOn reply thread other = (captures : List Moment) → KeepsDirective reply captures thread → KeepsDirective reply captures other
+KeepsOn reply thread other = (captures : List Snapshot) → KeepsDirective reply captures thread → KeepsDirective reply captures other

@@ -6,6 +6,6 @@ pub mod Looking
 pub mod Saying
 pub mod Web
 pub mod Hearing
-pub mod HttpdStands
+pub mod HttpdRepresents
 pub mod Zero
 pub mod Lemmas

@@ -1,6 +1,7 @@
--- What a thread sees where it stands.
+-- The piece of a reply at which a thread is.
+-- [add: piece] What the function of the piece finds, as `SeesCall`.
 use Rattle.std.specs.Prelude.{◌≡◌, ◌≤◌, ◌<◌, ℕ, ◌+◌, ◌^◌, true, List, [], ◌∷◌, ◌++◌, length, drop, slice_range}
-use Rattle.app_events.specs.Part.{Moment}
+use Rattle.app_events.specs.AppSpec.{Snapshot}
 use Rattle.generators.specs.Giving.{Giving}
 use Rattle.site_image.specs.Files.{File}
 use Rattle.site_image.specs.declared.TheConstants.{LONGEST_IMAGE, LONGEST_KIND}
@@ -17,7 +18,7 @@ use Rattle.httpd.specs.Reply.{FileReply, body_from, calls_in, left_from}
 use Rattle.httpd.specs.Places.{Fits, IsInner, moved, thread_place}
 use Rattle.httpd.specs.Kept.{EndsCall, KeepsAll}
 
--- What is left of the piece; `text` tells the text of a record.
+-- the rest of the piece; `text` gives the text of a record
 abbrev pub span_text : {R F : Type 0} → (R → List ℕ) → Span R F → List ℕ
 span_text text (span.Bytes world send) = slice_range world.now send.run.at send.run.end
 span_text text (span.Line kind at) = drop at (kind_line kind.now)
@@ -25,7 +26,7 @@ span_text text (span.Made capture at end) = drop at (text capture.now)
 span_text text (span.Call function argument) = []
 span_text text span.End = []
 
--- the places lie within the texts
+-- The offsets are within the texts.
 abbrev pub SpanFits : {R F : Type 0} → (R → List ℕ) → Span R F → Type 0
 SpanFits text (span.Bytes world send) =
     (send.run.at ≤ send.run.end) × (send.run.end ≤ length world.now) × (length world.now ≤ LONGEST_IMAGE)
@@ -34,26 +35,26 @@ SpanFits text (span.Made capture at end) = (at ≤ end) × (end ≡ length (text
 SpanFits text (span.Call function argument) = Unit {0}
 SpanFits text span.End = Unit {0}
 
--- The pieces say the text first and then what the others say, whatever captures they have.
-pub record Leads {F : Type 0} (g : Giving F) (files : List File) (pieces : List (Say F)) (front : List ℕ)
+-- The pieces are the text first, and then the others, for any snapshots.
+pub record Leads {F : Type 0} (g : Giving F) (files : List File) (pieces : List (Say F)) (prefix : List ℕ)
     (others : List (Say F)) : Type 0 where
-  pub text : (later : List Moment) → text_by g files pieces later ≡ front ++ text_by g files others later
-  pub whole : (later : List Moment) → reach_by g pieces later ≡ reach_by g others later
+  pub text : (later : List Snapshot) → text_by g files pieces later ≡ prefix ++ text_by g files others later
+  pub whole : (later : List Snapshot) → reach_by g pieces later ≡ reach_by g others later
   pub calls : calls_in g.calling pieces ≡ calls_in g.calling others
 
--- The others say what the pieces say past the first n bytes.
+-- The others are the pieces after their first n bytes.
 pub record IsPast {F : Type 0} (g : Giving F) (files : List File) (n : ℕ) (pieces others : List (Say F)) : Type 0 where
-  pub text : (later : List Moment) → text_by g files others later ≡ drop n (text_by g files pieces later)
-  pub whole : (later : List Moment) → reach_by g others later ≡ reach_by g pieces later
+  pub text : (later : List Snapshot) → text_by g files others later ≡ drop n (text_by g files pieces later)
+  pub whole : (later : List Snapshot) → reach_by g others later ≡ reach_by g pieces later
   pub calls : calls_in g.calling others ≡ calls_in g.calling pieces
 
--- a place n bytes further in the same piece
+-- an offset n bytes further in the same piece
 pub record IsInPiece {F : Type 0} (reply : FileReply F) (pieces : List (Say F)) (here : Thread) (n : ℕ) : Type 0 where
   pub fits : Fits reply (moved here n)
   pub small : thread_place here + n < 2 ^ 31
-  pub past : IsPast reply.gives reply.files n pieces (left_from reply (moved here n))
+  pub history : IsPast reply.gives reply.files n pieces (left_from reply (moved here n))
 
--- The first piece takes no capture. What is seen is all that is left of it, or a front of a long one.
+-- The first piece takes no snapshot. The span is its whole rest, or a prefix of a long one.
 pub record SeesText {R F : Type 0} (text : R → List ℕ) (reply : FileReply F) (pieces : List (Say F)) (look : Look R F) : Type 0 where
   pub leads : Leads reply.gives reply.files pieces (span_text text look.span) (left_from reply look.next)
   pub no_more : length (left_from reply look.next) ≤ length pieces
@@ -62,7 +63,7 @@ pub record SeesText {R F : Type 0} (text : R → List ℕ) (reply : FileReply F)
   pub begins : KeepsAll reply look.next
   pub within : (n : ℕ) → n < length (span_text text look.span) → IsInPiece reply pieces look.here n
 
--- It is a call that takes a capture. The script goes on where the call's directive ends.
+-- The piece is a call that takes a snapshot. The script continues after the directive of the call.
 pub record IsCallBefore {F : Type 0} (reply : FileReply F) (pieces : List (Say F)) (function : F) (argument : List ℕ)
     (next : ℕ) : Type 0 where
   pub first : pieces ≡ Made function argument ∷ body_from reply next
@@ -70,7 +71,7 @@ pub record IsCallBefore {F : Type 0} (reply : FileReply F) (pieces : List (Say F
   pub inner : IsInner reply next
   pub directive : EndsCall reply next function argument
 
--- The thread stands at the front of the text of its record.
+-- The thread is at the start of the text of its record.
 abbrev pub SeesCall : {F : Type 0} → FileReply F → List (Say F) → F → List ℕ → Thread → Type 0
 SeesCall reply pieces function argument (Making next at) = IsCallBefore reply pieces function argument next × (at ≡ 0)
 SeesCall reply pieces function argument (Head at) = ⊥
@@ -86,12 +87,12 @@ SeesBy text reply pieces look (span.Made capture at end) = SeesText text reply p
 SeesBy text reply pieces look (span.Call function argument) = SeesCall reply pieces function argument.now look.next
 SeesBy text reply pieces look span.End = pieces ≡ []
 
--- what is seen where the pieces are left
+-- what the thread sees of the remaining pieces
 pub record Sees {R F : Type 0} (text : R → List ℕ) (reply : FileReply F) (pieces : List (Say F)) (look : Look R F) : Type 0 where
   pub sees : SeesBy text reply pieces look look.span
   pub fits : SpanFits text look.span
 
--- no call, and not the end
+-- neither a call nor the end
 abbrev pub IsText : {R F : Type 0} → Span R F → Type 0
 IsText (span.Bytes world send) = Unit {0}
 IsText (span.Line kind at) = Unit {0}
@@ -99,8 +100,8 @@ IsText (span.Made capture at end) = Unit {0}
 IsText (span.Call function argument) = ⊥
 IsText span.End = ⊥
 
--- the text is left of the piece
-pub record IsSpan {R F : Type 0} (text_of : R → List ℕ) (span : Span R F) (front : List ℕ) : Type 0 where
+-- The text is the rest of the piece.
+pub record IsSpan {R F : Type 0} (text_of : R → List ℕ) (span : Span R F) (prefix : List ℕ) : Type 0 where
   pub plain : IsText span
-  pub text : span_text text_of span ≡ front
+  pub text : span_text text_of span ≡ prefix
   pub fits : SpanFits text_of span

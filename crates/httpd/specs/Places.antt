@@ -1,4 +1,5 @@
--- The places at which a thread can stand: each `at` is at most the length of its text.
+-- The offsets at which a thread can be: each `at` is at most the length of its text.
+-- [add: piece] An arm of `Fits` and of `moved`.
 use Rattle.std.specs.Prelude.{◌≡◌, ◌≤◌, ◌<◌, ℕ, ◌+◌, true, List, length, Option, None, Some}
 use Rattle.script_lang.specs.Directives.{is_inside_directive}
 use Rattle.site_image.specs.Files.{File}
@@ -8,17 +9,17 @@ use Rattle.httpd.specs.Reply.{FileReply, body, head_text, included, is_scripted,
 use Rattle.httpd.specs.declared.thread.Thread.{Thread}
 use Rattle.httpd.specs.declared.thread.Thread.TheVariants.{Head, Kind, Body, Inside, Making, End}
 
--- the id is that of a file
+-- The id is that of a file.
 abbrev pub IsFound : List File → Option FileId → Type 0
 IsFound files None = Unit {0}
 IsFound files (Some id) = id.0 < length files
 
--- a place of the body; in a script it is at or inside a text run, at the start of a directive, or the end
+-- An offset of the body. In a script it is in or at a text run, at the start of a directive, or at the end.
 pub record IsBodyPlace {F : Type 0} (reply : FileReply F) (at : ℕ) : Type 0 where
   pub within : at ≤ length (body reply)
   pub between : is_scripted reply.file ≡ true → is_inside_directive (body reply) at ≡ true → at ≡ length (body reply)
 
--- a place inside a piece of a script, which goes on at another
+-- an offset inside a piece of a script, which continues at another
 pub record IsInner {F : Type 0} (reply : FileReply F) (next : ℕ) : Type 0 where
   pub script : is_scripted reply.file ≡ true
   pub goes_on : IsBodyPlace reply next
@@ -31,7 +32,7 @@ Fits reply (Inside next file at) = IsInner reply next × (file.0 < length reply.
 Fits reply (Making next at) = IsInner reply next × (at ≤ length reply.made)
 Fits reply End = Unit {0}
 
--- the thread after so many more bytes of its piece
+-- the thread, n bytes further in its piece
 abbrev pub moved : Thread → ℕ → Thread
 moved (Head at) n = Head (at + n)
 moved (Kind at) n = Kind (at + n)

@@ -1,4 +1,5 @@
--- What a thread has still to say of a reply, as pieces.
+-- What a thread has still to send of a reply, as pieces.
+-- [add: piece] An arm of `left_from`: what the thread has still to send.
 use Rattle.std.specs.Prelude.{ℕ, ◌+◌, Bool, false, List, [], ◌∷◌, map, drop, codes, slice_get, if◌then◌else◌, Option, None, Some}
 use Rattle.std.specs.Option.{option_and_then}
 use Rattle.script_lang.specs.declared.function.Function.{Function}
@@ -16,15 +17,14 @@ use Rattle.web_pages.specs.Pieces.Say.{Plain, Made}
 use Rattle.httpd.specs.declared.thread.Thread.{Thread}
 use Rattle.httpd.specs.declared.thread.Thread.TheVariants.{Head, Kind, Body, Inside, Making, End}
 
--- What a reply is said from: what the calls of its script give, the files, the file that was found, and the text of the record of
--- the call that is being said.
+-- The sources of a reply: the functions of its script, the files, the file found, and the text of the record of the current call.
 pub record FileReply (F : Type 0) : Type 0 where
   pub gives : Giving F
   pub files : List File
   pub file : Option File
   pub made : List ℕ
 
--- the file that was found
+-- the file found
 abbrev pub found_file : List File → Option FileId → Option File
 found_file files found = option_and_then (λ id. slice_get files id.0) found
 
@@ -33,7 +33,7 @@ abbrev pub reply_by : {F R : Type 0} → Giving F → (R → List ℕ) → SiteC
 reply_by g text site found capture =
     record { gives = g; files = files_of site; file = found_file (files_of site) found; made = text capture }
 
--- where the functions are those of uIP
+-- with the functions of uIP
 abbrev pub reply_in : SiteContent → Option FileId → Capture → FileReply Function
 reply_in = reply_by uip capture_text
 
@@ -45,7 +45,7 @@ abbrev pub kind_text : Option File → List ℕ
 kind_text None = codes "text/html"
 kind_text (Some file) = kind_of file
 
--- the bytes from which the body is said
+-- the bytes from which the body is sent
 abbrev pub body_bytes : List File → Option File → List ℕ
 body_bytes files None = bytes_or (codes "not found\n") (file_named files (codes "/404.html"))
 body_bytes files (Some file) = file.content
@@ -57,7 +57,7 @@ is_scripted (Some file) = is_script file.name
 abbrev pub body : {F : Type 0} → FileReply F → List ℕ
 body reply = body_bytes reply.files reply.file
 
--- the pieces of the body from a place on
+-- the pieces of the body from an offset on
 abbrev pub body_from : {F : Type 0} → FileReply F → ℕ → List (Say F)
 body_from reply at =
     if is_scripted reply.file
@@ -68,7 +68,7 @@ body_from reply at =
 abbrev pub included : {F : Type 0} → FileReply F → FileId → List ℕ
 included reply file = bytes_or [] (slice_get reply.files file.0)
 
--- what is left to be said
+-- what is left to be sent
 unfoldable pub left_from : {F : Type 0} → FileReply F → Thread → List (Say F)
 left_from reply (Head at) = Plain (drop at (head_text reply.file)) ∷ Plain (kind_line (kind_text reply.file)) ∷ body_from reply 0
 left_from reply (Kind at) = Plain (drop at (kind_line (kind_text reply.file))) ∷ body_from reply 0
@@ -77,7 +77,7 @@ left_from reply (Inside next file at) = Plain (drop at (included reply file)) �
 left_from reply (Making next at) = Plain (drop at reply.made) ∷ body_from reply next
 left_from reply End = []
 
--- the calls among pieces that take a capture
+-- the number of calls among pieces that take a snapshot
 abbrev pub calls_in : {F : Type 0} → Calling F → List (Say F) → ℕ
 calls_in c [] = 0
 calls_in c (Plain text ∷ more) = calls_in c more

@@ -1,4 +1,4 @@
--- What is wanted by what is left, and the call that is due.
+-- What the rest of a reply requests, and the call that is due.
 use Rattle.std.specs.Prelude.{◌≡◌, ℕ, ◌==◌, ◌&&◌, Bool, true, List, [], length, min, nat_lt, if◌then◌else◌}
 use Rattle.app_events.specs.declared.want.Want.{Want}
 use Rattle.app_events.specs.declared.want.Want.TheVariants.{Nothing, Send, Close}
@@ -10,27 +10,27 @@ use Rattle.httpd.specs.declared.thread.Thread.{Thread}
 use Rattle.httpd.specs.Reply.{FileReply, left_from}
 use Rattle.httpd.specs.Looking.{IsPast, SeesCall}
 
--- the text that is left, as far as no further capture is needed
+-- the rest of the text, as far as no further snapshot is needed
 abbrev pub left_text : {F : Type 0} → FileReply F → Thread → List ℕ
 left_text reply thread = text_by reply.gives reply.files (left_from reply thread) []
 
--- and whether it reaches the end of the page
+-- whether it reaches the end of the page
 abbrev pub left_whole : {F : Type 0} → FileReply F → Thread → Bool
 left_whole reply thread = reach_by reply.gives (left_from reply thread) []
 
--- what is wanted by the two
+-- the request that follows from both
 abbrev pub want_left : List ℕ → Bool → Want
 want_left text whole =
     if whole && (length text == 0) then Close
     else if nat_lt 0 (length text) then Send (min LARGEST_SEGMENT (length text))
     else Nothing
 
--- text is left, or the end is reached
+-- Text is left, or the end is reached.
 abbrev pub IsNotDue : {F : Type 0} → FileReply F → Thread → Type 0
 IsNotDue reply thread = length (left_text reply thread) ≡ 0 → left_whole reply thread ≡ true
 
--- what is left is what a call and the rest of the script behind it say
+-- The rest is a call and then the rest of the script.
 pub record IsDueReply {F : Type 0} (reply : FileReply F) (thread : Thread) (due : Due F) : Type 0 where
   pub pieces : List (Say F)
-  pub past : IsPast reply.gives reply.files 0 (left_from reply thread) pieces
+  pub history : IsPast reply.gives reply.files 0 (left_from reply thread) pieces
   pub call : SeesCall reply pieces due.function due.argument.now due.next

@@ -6,6 +6,6 @@ pub record WebContent : Type 0 where
   pub site : SiteContent
   pub hits : List ℕ
 
--- there is one hit count for each file
+-- There is one hit count for each file.
 abbrev pub IsCounted : SiteContent → List ℕ → Type 0
 IsCounted site hits = length hits ≡ length (files_of site)

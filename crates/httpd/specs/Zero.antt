@@ -1,4 +1,4 @@
--- What is asked for by a target.
+-- What a target requests.
 use Rattle.std.specs.Prelude.{◌≡◌, List, Option, None, Some}
 use Rattle.file_tree.specs.declared.file_id.FileId.{FileId}
 use Rattle.site_image.specs.Files.{File}
@@ -6,7 +6,7 @@ use Rattle.web_pages.specs.Requests.{Wanted}
 use Rattle.web_pages.specs.Requests.Wanted.{Refused}
 use Rattle.httpd.specs.Hearing.{IsFileAsked}
 
--- the file that was found, or nothing
+-- the file found, or nothing
 abbrev pub IsAsked : List File → Wanted → Option (Option FileId) → Type 0
 IsAsked files asked None = asked ≡ Refused
 IsAsked files asked (Some found) = IsFileAsked files asked found

@@ -1,4 +1,4 @@
-//! A request line is heard word by word.
+//! Parses a request line, word by word, as its bytes are delivered.
 
 ghost use Rattle.std.specs.Prelude.{◌≡◌, ◌≤◌, ◌++◌, ◌&&◌, ℕ, List, length, not, nat_eq, codes, option_map, if◌then◌else◌};
 ghost use Rattle.std.specs.Str.{bytes_eq};
@@ -6,7 +6,7 @@ ghost use Rattle.std.specs.List.{starts_with};
 ghost use Rattle.file_tree.specs.Site.{files_of};
 ghost use Rattle.site_image.specs.Files.{file_named};
 ghost use Rattle.protosocket.specs.declared.stops.Stops.TheVariants.{SpaceOrLine};
-ghost use Rattle.protosocket.specs.Line.{after, heard, part_taken, word_of};
+ghost use Rattle.protosocket.specs.Line.{after, delivered, part_taken, word_of};
 ghost use Rattle.web_pages.specs.Pages.{place_of};
 ghost use Rattle.web_pages.specs.Requests.{name_in, wanted};
 ghost use Rattle.web_pages.specs.Requests.Wanted.{NotYet};
@@ -19,23 +19,23 @@ ghost use Rattle.httpd.specs.Web.{IsCounted};
 use crate::stage::Stage;
 use crate::texts::see_loaded;
 use crate::web::{hit, place_in};
-use file_tree::{FileId, Tree};
+use file_tree::{FileId, Image, SiteOf};
 use protosocket::{LineIn, Stops};
 use protothread::Hears;
 
-/// How far a request line was heard.
+/// How much of a request line was received.
 pub(crate) enum Heard {
-    /// The first word goes on.
+    /// The first word is not complete.
     Method,
-    /// The second word goes on.
+    /// The second word is not complete.
     Target,
-    /// It asks for the name that the line holds.
+    /// It requests the name that the line holds.
     Named,
     /// It is no request for a file.
     Refused,
 }
 
-/// The word goes on with a piece, of which so many bytes are taken.
+/// Appends bytes of a piece to the word, and returns how many were consumed.
 fn feed(line: &mut LineIn, piece: &[u8]) -> usize
     ensures after { line.new ≡ after line.old piece.now }
     ensures taken { result ≡ part_taken line.old piece.now }
@@ -44,7 +44,7 @@ fn feed(line: &mut LineIn, piece: &[u8]) -> usize
     line.feed(piece)
 }
 
-/// The first word goes on with a piece.
+/// Feeds a piece to the first word.
 pub(crate) fn hear_method(line: &mut LineIn, piece: &[u8]) -> Heard
     ensures { (request : List ℕ) → HearsMethod line.old request → HearsTo result line.new (request ++ piece.now) }
 {
@@ -59,7 +59,7 @@ pub(crate) fn hear_method(line: &mut LineIn, piece: &[u8]) -> Heard
     hear_target(line, &piece[count..])
 }
 
-/// The second word goes on with a piece.
+/// Feeds a piece to the second word.
 pub(crate) fn hear_target(line: &mut LineIn, piece: &[u8]) -> Heard
     ensures { (request : List ℕ) → HearsTarget line.old request → HearsTo result line.new (request ++ piece.now) }
 {
@@ -74,7 +74,7 @@ pub(crate) fn hear_target(line: &mut LineIn, piece: &[u8]) -> Heard
     }
 }
 
-/// Whether the word is `GET`.
+/// Returns whether the word is `GET`.
 fn is_get(line: &LineIn) -> bool
     ensures { result ≡ (not line.now.query && bytes_eq line.now.name (codes "GET")) }
 {
@@ -82,7 +82,7 @@ fn is_get(line: &LineIn) -> bool
     !line.query && line.name.as_slice() == get
 }
 
-/// Whether the word begins with `/`.
+/// Returns whether the word begins with `/`.
 fn is_path(line: &LineIn) -> bool
     ensures { result ≡ starts_with nat_eq line.now.name (codes "/") }
 {
@@ -90,7 +90,7 @@ fn is_path(line: &LineIn) -> bool
     line.name.as_slice().starts_with(root)
 }
 
-/// The name that the line holds, `/` being short for `/index.html`.
+/// Returns the name that the line holds; `/` is short for `/index.html`.
 fn name_asked(line: &LineIn) -> &[u8]
     ensures { result.now ≡ (if bytes_eq line.now.name (codes "/") then codes "/index.html" else line.now.name) }
 {
@@ -102,12 +102,12 @@ fn name_asked(line: &LineIn) -> &[u8]
     name
 }
 
-/// The file of the name that the line holds. No file has a name that is longer than what a line keeps.
-pub(crate) fn file_asked(site: &Tree<'_>, line: &LineIn) -> Option<FileId>
-    ensures place { (bytes : List ℕ) → line.now ≡ heard SpaceOrLine bytes
+/// Returns the file of the name that the line holds. No file has a name that is longer than what a line keeps.
+pub(crate) fn file_asked<B: Image>(site: &SiteOf<B>, line: &LineIn) -> Option<FileId>
+    ensures place { (bytes : List ℕ) → line.now ≡ delivered SpaceOrLine bytes
         → option_map (λ id. id.0) result ≡ place_of (files_of site.now) (name_in (word_of SpaceOrLine bytes)) }
     ensures found { IsFound (files_of site.now) result }
-    ensures file { (bytes : List ℕ) → line.now ≡ heard SpaceOrLine bytes
+    ensures file { (bytes : List ℕ) → line.now ≡ delivered SpaceOrLine bytes
         → found_file (files_of site.now) result ≡ file_named (files_of site.now) (name_in (word_of SpaceOrLine bytes)) }
 {
     see_loaded(site);
@@ -117,14 +117,19 @@ pub(crate) fn file_asked(site: &Tree<'_>, line: &LineIn) -> Option<FileId>
     place_in(site, name_asked(line))
 }
 
-/// The stage that a request has come to. Where it asks for a file, that file is hit.
-pub(crate) fn decide(site: &Tree<'_>, hits: &mut [u32], line: &LineIn, heard: Heard) -> Stage
+/// Returns the stage of a request. If it requests a file, counts a hit of that file.
+pub(crate) fn decide<B: Image>(
+    site: &SiteOf<B>,
+    hits: &mut [u32],
+    line: &LineIn,
+    delivered: Heard,
+) -> Stage
     requires counted { IsCounted site.now hits.old }
-    ensures stage { (request : List ℕ) → HearsTo heard line.now request → IsDecided (files_of site.now) line.now request result }
-    ensures hits { (request : List ℕ) → HearsTo heard line.now request
+    ensures stage { (request : List ℕ) → HearsTo delivered line.now request → IsDecided (files_of site.now) line.now request result }
+    ensures hits { (request : List ℕ) → HearsTo delivered line.now request
         → hits.new ≡ hits_by (files_of site.now) hits.old NotYet (wanted request) }
 {
-    match heard {
+    match delivered {
         Heard::Method => Stage::Method,
         Heard::Target => Stage::Target,
         Heard::Refused => Stage::Refused,

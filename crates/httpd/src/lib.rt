@@ -1,6 +1,6 @@
-//! The web server: an application whose text is the page of the request that it heard. A connection keeps a resume point and
-//! the record of one call, and nothing that it sent: each byte is made again from the site for as long as it is not
-//! acknowledged. A script is read from the resume point on; there is no table of its pieces.
+//! The web server: an application whose text is the page of the request that it received. A connection keeps an offset in its page and the
+//! record of one call, and no byte that it sent. Each byte is generated from the site again until it is acknowledged. A script is read from
+//! the offset on; there is no table of its pieces.
 #![tactic(auto)]
 
 mod hearing;
@@ -17,5 +17,5 @@ mod zero;
 pub use httpd::{Httpd, Pages};
 pub use stage::Stage;
 pub use thread::Thread;
-pub use web::Web;
+pub use web::{Web, WebOf};
 pub use zero::page_zero;

@@ -1,4 +1,4 @@
-//! What a thread sees where it stands.
+//! Finds the span of a reply at a given offset, and where the next span begins.
 
 ghost use Rattle.std.specs.Prelude.{◌≡◌, ◌≤◌, ◌<◌, ◌+◌, ◌∷◌, [], true, drop, length, slice_range};
 ghost use Rattle.file_tree.specs.Site.{files_of};
@@ -17,27 +17,28 @@ use crate::span::{Look, Span};
 use crate::texts::{body_of, bytes_at, head_of, is_scripted, kind_of};
 use crate::thread::Thread;
 use crate::web::place_in;
-use file_tree::{FileId, Tree};
+use file_tree::{FileId, Image, SiteOf};
 use generators::Record;
 use protosocket::SendOut;
 use protothread::Run;
 use script_lang::{Calls, PieceOf, next_piece_of, runs_past};
 use web_pages::LARGEST_SEGMENT;
 
-/// What the thread sees.
-#[inline(always)]
+/// Returns the span at a thread. It is not inlined, since four calls of an application need it.
+/// [add: piece] An arm, and a function that finds the next span of the piece.
+#[inline(never)]
 #[tactic(auto, using(crate::proofs::Seeing::keeps_same))]
-pub(crate) fn look<'s, 'c, R: Record>(
-    site: &Tree<'s>,
+pub(crate) fn look<'s, 'c, B: Image, R: Record>(
+    site: &'s SiteOf<B>,
     found: Option<FileId>,
     capture: &'c R,
     thread: Thread,
 ) -> Look<'s, 'c, R, R::Function>
     requires found { IsFound (files_of site.now) found }
-    requires fits { Fits (reply_by (gives R.Function.calling R.said) R.text site.now found capture.now) thread }
-    ensures sees { let reply = reply_by (gives R.Function.calling R.said) R.text site.now found capture.now in
+    requires fits { Fits (reply_by (gives R.Function.calling R.output) R.text site.now found capture.now) thread }
+    ensures sees { let reply = reply_by (gives R.Function.calling R.output) R.text site.now found capture.now in
         Sees R.text reply (left_from reply thread) result }
-    ensures kept { KeepsOn (reply_by (gives R.Function.calling R.said) R.text site.now found capture.now) thread result.here }
+    ensures kept { KeepsOn (reply_by (gives R.Function.calling R.output) R.text site.now found capture.now) thread result.here }
 {
     match thread {
         Thread::Head { at } => return look_head(site, found, capture, at),
@@ -52,7 +53,7 @@ pub(crate) fn look<'s, 'c, R: Record>(
     look_end()
 }
 
-/// What is left of the bytes from a place on.
+/// The span of the bytes from an offset on.
 #[inline(always)]
 fn rest_of<'s, 'c, R: Record>(world: &'s [u8], at: u32) -> Span<'s, 'c, R, R::Function>
     requires within { at ≤ length world.now }
@@ -62,7 +63,7 @@ fn rest_of<'s, 'c, R: Record>(world: &'s [u8], at: u32) -> Span<'s, 'c, R, R::Fu
     part_of(world, at, world.len() as u32)
 }
 
-/// A part of the bytes.
+/// The span of a part of the bytes.
 #[inline(always)]
 fn part_of<'s, 'c, R: Record>(world: &'s [u8], at: u32, end: u32) -> Span<'s, 'c, R, R::Function>
     requires ordered { at ≤ end }
@@ -77,17 +78,17 @@ fn part_of<'s, 'c, R: Record>(world: &'s [u8], at: u32, end: u32) -> Span<'s, 'c
     }
 }
 
-/// In the head.
+/// The span in the head.
 #[inline(always)]
-fn look_head<'s, 'c, R: Record>(
-    site: &Tree<'s>,
+fn look_head<'s, 'c, B: Image, R: Record>(
+    site: &'s SiteOf<B>,
     found: Option<FileId>,
     capture: &'c R,
     at: u32,
 ) -> Look<'s, 'c, R, R::Function>
     requires found { IsFound (files_of site.now) found }
-    requires fits { Fits (reply_by (gives R.Function.calling R.said) R.text site.now found capture.now) (Thread.Head at) }
-    ensures sees { let reply = reply_by (gives R.Function.calling R.said) R.text site.now found capture.now in
+    requires fits { Fits (reply_by (gives R.Function.calling R.output) R.text site.now found capture.now) (Thread.Head at) }
+    ensures sees { let reply = reply_by (gives R.Function.calling R.output) R.text site.now found capture.now in
         Sees R.text reply (left_from reply (Thread.Head at)) result }
     ensures here { result.here ≡ Thread.Head at }
 {
@@ -98,17 +99,17 @@ fn look_head<'s, 'c, R: Record>(
     }
 }
 
-/// In the line of the content type.
+/// The span in the line of the content type.
 #[inline(always)]
-fn look_kind<'s, 'c, R: Record>(
-    site: &Tree<'s>,
+fn look_kind<'s, 'c, B: Image, R: Record>(
+    site: &'s SiteOf<B>,
     found: Option<FileId>,
     capture: &'c R,
     at: u32,
 ) -> Look<'s, 'c, R, R::Function>
     requires found { IsFound (files_of site.now) found }
-    requires fits { Fits (reply_by (gives R.Function.calling R.said) R.text site.now found capture.now) (Thread.Kind at) }
-    ensures sees { let reply = reply_by (gives R.Function.calling R.said) R.text site.now found capture.now in
+    requires fits { Fits (reply_by (gives R.Function.calling R.output) R.text site.now found capture.now) (Thread.Kind at) }
+    ensures sees { let reply = reply_by (gives R.Function.calling R.output) R.text site.now found capture.now in
         Sees R.text reply (left_from reply (Thread.Kind at)) result }
     ensures here { result.here ≡ Thread.Kind at }
 {
@@ -122,18 +123,18 @@ fn look_kind<'s, 'c, R: Record>(
     }
 }
 
-/// In the body.
-fn look_body<'s, 'c, R: Record>(
-    site: &Tree<'s>,
+/// The span in the body.
+fn look_body<'s, 'c, B: Image, R: Record>(
+    site: &'s SiteOf<B>,
     found: Option<FileId>,
     capture: &'c R,
     at: u32,
 ) -> Look<'s, 'c, R, R::Function>
     requires found { IsFound (files_of site.now) found }
-    requires fits { Fits (reply_by (gives R.Function.calling R.said) R.text site.now found capture.now) (Thread.Body at) }
-    ensures sees { let reply = reply_by (gives R.Function.calling R.said) R.text site.now found capture.now in
+    requires fits { Fits (reply_by (gives R.Function.calling R.output) R.text site.now found capture.now) (Thread.Body at) }
+    ensures sees { let reply = reply_by (gives R.Function.calling R.output) R.text site.now found capture.now in
         Sees R.text reply (left_from reply (Thread.Body at)) result }
-    ensures kept { KeepsAll (reply_by (gives R.Function.calling R.said) R.text site.now found capture.now) result.here }
+    ensures kept { KeepsAll (reply_by (gives R.Function.calling R.output) R.text site.now found capture.now) result.here }
 {
     if is_scripted(site, found) {
         return look_script(site, found, capture, at);
@@ -145,19 +146,19 @@ fn look_body<'s, 'c, R: Record>(
     }
 }
 
-/// In a script.
-fn look_script<'s, 'c, R: Record>(
-    site: &Tree<'s>,
+/// The span in a script.
+fn look_script<'s, 'c, B: Image, R: Record>(
+    site: &'s SiteOf<B>,
     found: Option<FileId>,
     capture: &'c R,
     at: u32,
 ) -> Look<'s, 'c, R, R::Function>
     requires found { IsFound (files_of site.now) found }
     requires script { is_scripted (found_file (files_of site.now) found) ≡ true }
-    requires fits { IsBodyPlace (reply_by (gives R.Function.calling R.said) R.text site.now found capture.now) at }
-    ensures sees { let reply = reply_by (gives R.Function.calling R.said) R.text site.now found capture.now in
+    requires fits { IsBodyPlace (reply_by (gives R.Function.calling R.output) R.text site.now found capture.now) at }
+    ensures sees { let reply = reply_by (gives R.Function.calling R.output) R.text site.now found capture.now in
         Sees R.text reply (left_from reply (Thread.Body at)) result }
-    ensures kept { KeepsAll (reply_by (gives R.Function.calling R.said) R.text site.now found capture.now) result.here }
+    ensures kept { KeepsAll (reply_by (gives R.Function.calling R.output) R.text site.now found capture.now) result.here }
 {
     let script = body_of(site, found);
     let from = at as usize;
@@ -167,21 +168,21 @@ fn look_script<'s, 'c, R: Record>(
     look_piece(site, found, capture, at)
 }
 
-/// In a text run of a script that is longer than a segment: as much of it as a segment takes. So no look is dearer than that, however long
-/// a run is.
+/// The span in a text run of a script that is longer than a segment: as much as a segment holds. This bounds the work of one look, however
+/// long the run is.
 #[inline(always)]
-fn look_run<'s, 'c, R: Record>(
-    site: &Tree<'s>,
+fn look_run<'s, 'c, B: Image, R: Record>(
+    site: &'s SiteOf<B>,
     found: Option<FileId>,
     capture: &'c R,
     at: u32,
 ) -> Look<'s, 'c, R, R::Function>
     requires found { IsFound (files_of site.now) found }
     requires script { is_scripted (found_file (files_of site.now) found) ≡ true }
-    requires fits { IsBodyPlace (reply_by (gives R.Function.calling R.said) R.text site.now found capture.now) at }
-    requires long { let reply = reply_by (gives R.Function.calling R.said) R.text site.now found capture.now in
+    requires fits { IsBodyPlace (reply_by (gives R.Function.calling R.output) R.text site.now found capture.now) at }
+    requires long { let reply = reply_by (gives R.Function.calling R.output) R.text site.now found capture.now in
         at + LARGEST_SEGMENT < run_end (body reply) at }
-    ensures sees { let reply = reply_by (gives R.Function.calling R.said) R.text site.now found capture.now in
+    ensures sees { let reply = reply_by (gives R.Function.calling R.output) R.text site.now found capture.now in
         Sees R.text reply (left_from reply (Thread.Body at)) result }
     ensures here { result.here ≡ Thread.Body at }
 {
@@ -194,19 +195,19 @@ fn look_run<'s, 'c, R: Record>(
     }
 }
 
-/// At a piece of a script.
-fn look_piece<'s, 'c, R: Record>(
-    site: &Tree<'s>,
+/// The span at a piece of a script.
+fn look_piece<'s, 'c, B: Image, R: Record>(
+    site: &'s SiteOf<B>,
     found: Option<FileId>,
     capture: &'c R,
     at: u32,
 ) -> Look<'s, 'c, R, R::Function>
     requires found { IsFound (files_of site.now) found }
     requires script { is_scripted (found_file (files_of site.now) found) ≡ true }
-    requires fits { IsBodyPlace (reply_by (gives R.Function.calling R.said) R.text site.now found capture.now) at }
-    ensures sees { let reply = reply_by (gives R.Function.calling R.said) R.text site.now found capture.now in
+    requires fits { IsBodyPlace (reply_by (gives R.Function.calling R.output) R.text site.now found capture.now) at }
+    ensures sees { let reply = reply_by (gives R.Function.calling R.output) R.text site.now found capture.now in
         Sees R.text reply (left_from reply (Thread.Body at)) result }
-    ensures kept { KeepsAll (reply_by (gives R.Function.calling R.said) R.text site.now found capture.now) result.here }
+    ensures kept { KeepsAll (reply_by (gives R.Function.calling R.output) R.text site.now found capture.now) result.here }
 {
     let script = body_of(site, found);
     let Some(read) = next_piece_of::<R::Function>(script, at as usize) else {
@@ -237,20 +238,20 @@ fn look_piece<'s, 'c, R: Record>(
     }
 }
 
-/// At an include.
-fn look_include<'s, 'c, R: Record>(
-    site: &Tree<'s>,
+/// The span at an include.
+fn look_include<'s, 'c, B: Image, R: Record>(
+    site: &'s SiteOf<B>,
     found: Option<FileId>,
     capture: &'c R,
     next: u32,
     name: &[u8],
 ) -> Look<'s, 'c, R, R::Function>
     requires found { IsFound (files_of site.now) found }
-    requires inner { IsInner (reply_by (gives R.Function.calling R.said) R.text site.now found capture.now) next }
-    requires directive { EndsInclude (reply_by (gives R.Function.calling R.said) R.text site.now found capture.now) next name.now }
-    ensures sees { let reply = reply_by (gives R.Function.calling R.said) R.text site.now found capture.now in
+    requires inner { IsInner (reply_by (gives R.Function.calling R.output) R.text site.now found capture.now) next }
+    requires directive { EndsInclude (reply_by (gives R.Function.calling R.output) R.text site.now found capture.now) next name.now }
+    ensures sees { let reply = reply_by (gives R.Function.calling R.output) R.text site.now found capture.now in
         Sees R.text reply (Plain (bytes_or [] (file_named reply.files name.now)) ∷ body_from reply next) result }
-    ensures kept { KeepsAll (reply_by (gives R.Function.calling R.said) R.text site.now found capture.now) result.here }
+    ensures kept { KeepsAll (reply_by (gives R.Function.calling R.output) R.text site.now found capture.now) result.here }
 {
     let Some(file) = place_in(site, name) else {
         return look_nothing(next);
@@ -258,7 +259,7 @@ fn look_include<'s, 'c, R: Record>(
     look_inside(site, found, capture, next, file, 0)
 }
 
-/// At a piece that says nothing.
+/// The empty span of a piece without text.
 fn look_nothing<'s, 'c, R: Record>(next: u32) -> Look<'s, 'c, R, R::Function>
     ensures nothing { IsSpan R.text result.span [] }
     ensures here { result.here ≡ Thread.Body next }
@@ -275,9 +276,9 @@ fn look_nothing<'s, 'c, R: Record>(next: u32) -> Look<'s, 'c, R, R::Function>
     }
 }
 
-/// In the bytes of an included file.
-fn look_inside<'s, 'c, R: Record>(
-    site: &Tree<'s>,
+/// The span in the bytes of an included file.
+fn look_inside<'s, 'c, B: Image, R: Record>(
+    site: &'s SiteOf<B>,
     found: Option<FileId>,
     capture: &'c R,
     next: u32,
@@ -285,9 +286,9 @@ fn look_inside<'s, 'c, R: Record>(
     at: u32,
 ) -> Look<'s, 'c, R, R::Function>
     requires found { IsFound (files_of site.now) found }
-    requires fits { let reply = reply_by (gives R.Function.calling R.said) R.text site.now found capture.now in
+    requires fits { let reply = reply_by (gives R.Function.calling R.output) R.text site.now found capture.now in
         Fits reply (Thread.Inside next file at) }
-    ensures sees { let reply = reply_by (gives R.Function.calling R.said) R.text site.now found capture.now in
+    ensures sees { let reply = reply_by (gives R.Function.calling R.output) R.text site.now found capture.now in
         Sees R.text reply (left_from reply (Thread.Inside next file at)) result }
     ensures here { result.here ≡ Thread.Inside next file at }
 {
@@ -298,20 +299,20 @@ fn look_inside<'s, 'c, R: Record>(
     }
 }
 
-/// At a call.
-fn look_call<'s, 'c, R: Record>(
-    site: &Tree<'s>,
+/// The span at a call.
+fn look_call<'s, 'c, B: Image, R: Record>(
+    site: &'s SiteOf<B>,
     found: Option<FileId>,
     capture: &'c R,
     next: u32,
     function: R::Function,
     argument: &'s [u8],
 ) -> Look<'s, 'c, R, R::Function>
-    requires inner { IsInner (reply_by (gives R.Function.calling R.said) R.text site.now found capture.now) next }
-    requires directive { EndsCall (reply_by (gives R.Function.calling R.said) R.text site.now found capture.now) next function argument.now }
-    ensures sees { let reply = reply_by (gives R.Function.calling R.said) R.text site.now found capture.now in
+    requires inner { IsInner (reply_by (gives R.Function.calling R.output) R.text site.now found capture.now) next }
+    requires directive { EndsCall (reply_by (gives R.Function.calling R.output) R.text site.now found capture.now) next function argument.now }
+    ensures sees { let reply = reply_by (gives R.Function.calling R.output) R.text site.now found capture.now in
         Sees R.text reply (Made function argument.now ∷ body_from reply next) result }
-    ensures kept { KeepsAll (reply_by (gives R.Function.calling R.said) R.text site.now found capture.now) result.here }
+    ensures kept { KeepsAll (reply_by (gives R.Function.calling R.output) R.text site.now found capture.now) result.here }
 {
     if !function.takes_capture() {
         return look_nothing(next);
@@ -323,16 +324,16 @@ fn look_call<'s, 'c, R: Record>(
     }
 }
 
-/// In the text of a record.
-fn look_making<'s, 'c, R: Record>(
-    site: &Tree<'s>,
+/// The span in the text of a record.
+fn look_making<'s, 'c, B: Image, R: Record>(
+    site: &'s SiteOf<B>,
     found: Option<FileId>,
     capture: &'c R,
     next: u32,
     at: u32,
 ) -> Look<'s, 'c, R, R::Function>
-    requires { Fits (reply_by (gives R.Function.calling R.said) R.text site.now found capture.now) (Thread.Making next at) }
-    ensures sees { let reply = reply_by (gives R.Function.calling R.said) R.text site.now found capture.now in
+    requires { Fits (reply_by (gives R.Function.calling R.output) R.text site.now found capture.now) (Thread.Making next at) }
+    ensures sees { let reply = reply_by (gives R.Function.calling R.output) R.text site.now found capture.now in
         Sees R.text reply (left_from reply (Thread.Making next at)) result }
     ensures here { result.here ≡ Thread.Making next at }
 {
@@ -344,7 +345,7 @@ fn look_making<'s, 'c, R: Record>(
     }
 }
 
-/// At the end.
+/// The span at the end.
 #[inline(always)]
 fn look_end<'s, 'c, R: Record>() -> Look<'s, 'c, R, R::Function>
     ensures span { result.span ≡ Span.End }

@@ -1,4 +1,4 @@
-//! A reply is said by going from piece to piece.
+//! Generates a reply span by span: fills segments, passes over acknowledged text, and decides what to send.
 
 ghost use Rattle.std.specs.Prelude.{◌≡◌, ◌==◌, ◌≤◌, ◌-◌, length, take, MatchOption, if◌then◌else◌};
 ghost use Rattle.file_tree.specs.Site.{files_of};
@@ -13,23 +13,23 @@ use crate::looking::look;
 use crate::span::{Span, span_len, write_at};
 use crate::thread::{Thread, moved};
 use app_events::Want;
-use file_tree::{FileId, Tree};
+use file_tree::{FileId, Image, SiteOf};
 use generators::Record;
 use web_pages::LARGEST_SEGMENT;
 
-/// Writes the front of the text that is left, as much as `out` holds.
-pub(crate) fn fill_reply<R: Record>(
-    site: &Tree<'_>,
+/// Writes a prefix of the text that is left, as much as `out` holds.
+pub(crate) fn fill_reply<B: Image, R: Record>(
+    site: &SiteOf<B>,
     found: Option<FileId>,
     capture: &R,
     thread: Thread,
     out: &mut [u8],
 )
     requires found { IsFound (files_of site.now) found }
-    requires fits { Fits (reply_by (gives R.Function.calling R.said) R.text site.now found capture.now) thread }
-    requires enough { let reply = reply_by (gives R.Function.calling R.said) R.text site.now found capture.now in
+    requires fits { Fits (reply_by (gives R.Function.calling R.output) R.text site.now found capture.now) thread }
+    requires enough { let reply = reply_by (gives R.Function.calling R.output) R.text site.now found capture.now in
         length out.old ≤ length (left_text reply thread) }
-    ensures { let reply = reply_by (gives R.Function.calling R.said) R.text site.now found capture.now in
+    ensures { let reply = reply_by (gives R.Function.calling R.output) R.text site.now found capture.now in
         out.new ≡ take (length out.old) (left_text reply thread) }
 {
     let mut place = thread;
@@ -43,21 +43,21 @@ pub(crate) fn fill_reply<R: Record>(
     }
 }
 
-/// The thread after so many bytes of the text that is left.
-pub(crate) fn acked_reply<R: Record>(
-    site: &Tree<'_>,
+/// Returns the thread after `count` bytes of the text that is left.
+pub(crate) fn acked_reply<B: Image, R: Record>(
+    site: &SiteOf<B>,
     found: Option<FileId>,
     capture: &R,
     thread: Thread,
     count: usize,
 ) -> Thread
     requires found { IsFound (files_of site.now) found }
-    requires fits { Fits (reply_by (gives R.Function.calling R.said) R.text site.now found capture.now) thread }
-    requires enough { let reply = reply_by (gives R.Function.calling R.said) R.text site.now found capture.now in
+    requires fits { Fits (reply_by (gives R.Function.calling R.output) R.text site.now found capture.now) thread }
+    requires enough { let reply = reply_by (gives R.Function.calling R.output) R.text site.now found capture.now in
         count ≤ length (left_text reply thread) }
-    ensures fits { Fits (reply_by (gives R.Function.calling R.said) R.text site.now found capture.now) result }
-    ensures kept { KeepsOn (reply_by (gives R.Function.calling R.said) R.text site.now found capture.now) thread result }
-    ensures past { let reply = reply_by (gives R.Function.calling R.said) R.text site.now found capture.now in
+    ensures fits { Fits (reply_by (gives R.Function.calling R.output) R.text site.now found capture.now) result }
+    ensures kept { KeepsOn (reply_by (gives R.Function.calling R.output) R.text site.now found capture.now) thread result }
+    ensures history { let reply = reply_by (gives R.Function.calling R.output) R.text site.now found capture.now in
         IsPast reply.gives reply.files count (left_from reply thread) (left_from reply result) }
 {
     let mut place = thread;
@@ -74,16 +74,16 @@ pub(crate) fn acked_reply<R: Record>(
     place
 }
 
-/// What is wanted, by the text that is left and whether it ends the page.
-pub(crate) fn want_reply<R: Record>(
-    site: &Tree<'_>,
+/// Returns what to send, by the text that is left and whether it ends the page.
+pub(crate) fn want_reply<B: Image, R: Record>(
+    site: &SiteOf<B>,
     found: Option<FileId>,
     capture: &R,
     thread: Thread,
 ) -> Want
     requires found { IsFound (files_of site.now) found }
-    requires fits { Fits (reply_by (gives R.Function.calling R.said) R.text site.now found capture.now) thread }
-    ensures { let reply = reply_by (gives R.Function.calling R.said) R.text site.now found capture.now in
+    requires fits { Fits (reply_by (gives R.Function.calling R.output) R.text site.now found capture.now) thread }
+    ensures { let reply = reply_by (gives R.Function.calling R.output) R.text site.now found capture.now in
         result ≡ want_left (left_text reply thread) (left_whole reply thread) }
 {
     let mut place = thread;
@@ -101,7 +101,7 @@ pub(crate) fn want_reply<R: Record>(
     Want::Send(LARGEST_SEGMENT)
 }
 
-/// What is wanted where `ready` bytes are left, and the other where that is none.
+/// Returns a request to send `ready` bytes, or the other request if `ready` is 0.
 fn sent_or(other: Want, ready: usize) -> Want
     ensures { result ≡ (if ready == 0 then other else Want.Send ready) }
 {
@@ -113,20 +113,20 @@ fn sent_or(other: Want, ready: usize) -> Want
 pub(crate) struct Due<'s, F> {
     pub function: F,
     pub argument: &'s [u8],
-    /// The front of the text of its record.
+    /// The start of the text of its record.
     pub next: Thread,
 }
 
-/// The call before which no text is left.
-pub(crate) fn due_call<'s, R: Record>(
-    site: &Tree<'s>,
+/// Returns the call at the thread, if no text is left before it.
+pub(crate) fn due_call<'s, B: Image, R: Record>(
+    site: &'s SiteOf<B>,
     found: Option<FileId>,
     capture: &R,
     thread: Thread,
 ) -> Option<Due<'s, R::Function>>
     requires found { IsFound (files_of site.now) found }
-    requires fits { Fits (reply_by (gives R.Function.calling R.said) R.text site.now found capture.now) thread }
-    ensures { let reply = reply_by (gives R.Function.calling R.said) R.text site.now found capture.now in
+    requires fits { Fits (reply_by (gives R.Function.calling R.output) R.text site.now found capture.now) thread }
+    ensures { let reply = reply_by (gives R.Function.calling R.output) R.text site.now found capture.now in
         MatchOption result (IsNotDue reply thread) (IsDueReply reply thread) }
 {
     let mut place = thread;

@@ -1,4 +1,4 @@
-//! What is left of the piece of a reply in which a thread stands.
+//! What is left of one piece of a reply.
 
 ghost use Rattle.std.specs.Prelude.{◌≡◌, ◌+◌, ◌≤◌, ◌++◌, length, take, drop};
 ghost use Rattle.site_image.specs.declared.TheConstants.{LONGEST_IMAGE, LONGEST_KIND};
@@ -20,16 +20,16 @@ pub(crate) enum Span<'s, 'c, R, F> {
         world: &'s [u8],
         send: SendOut,
     },
-    /// The line of a content type, from place `at` on.
+    /// The line of a content type, from offset `at` on.
     Line {
         kind: &'s [u8],
         at: u32,
     },
-    /// The text of a record, from place `at` on.
+    /// The text of a record, from offset `at` on.
     Made {
         capture: &'c R,
         at: u32,
-        /// The text's length.
+        /// The length of the text in bytes.
         end: u32,
     },
     /// A call whose record is not taken yet.
@@ -37,21 +37,21 @@ pub(crate) enum Span<'s, 'c, R, F> {
         function: F,
         argument: &'s [u8],
     },
-    /// All is said.
+    /// The end of the reply.
     End,
 }
 
-/// What a thread sees where it stands.
+/// The span at a thread.
 #[derive(Drop)]
 pub(crate) struct Look<'s, 'c, R, F> {
     pub span: Span<'s, 'c, R, F>,
-    /// The same place, as one inside the piece, where it is a piece of text.
+    /// The same thread, moved into the piece if it is a piece of text.
     pub here: Thread,
-    /// Where the next piece begins. Behind a call it is the front of the text of its record.
+    /// The start of the next piece; after a call, the start of the text of its record.
     pub next: Thread,
 }
 
-/// How many bytes are left.
+/// Returns the number of bytes that are left.
 pub(crate) fn span_len<R: Record>(span: &Span<R, R::Function>) -> usize
     requires { SpanFits R.text span.now }
     ensures length { result ≡ length (span_text R.text span.now) }
@@ -66,7 +66,7 @@ pub(crate) fn span_len<R: Record>(span: &Span<R, R::Function>) -> usize
     }
 }
 
-/// Writes the front of what is left, as much as `out` holds.
+/// Writes a prefix of what is left, as much as `out` holds.
 pub(crate) fn write_span<R: Record>(span: &Span<R, R::Function>, out: &mut [u8])
     requires fits { SpanFits R.text span.now }
     requires enough { length out.old ≤ length (span_text R.text span.now) }
@@ -81,7 +81,7 @@ pub(crate) fn write_span<R: Record>(span: &Span<R, R::Function>, out: &mut [u8])
     }
 }
 
-/// Writes the line of a content type from place `at` on.
+/// Writes the line of a content type from offset `at` on.
 fn write_line(kind: &[u8], at: u32, out: &mut [u8])
     requires short { length kind.now ≤ LONGEST_KIND }
     requires enough { at + length out.old ≤ length (kind_line kind.now) }
@@ -95,7 +95,7 @@ fn write_line(kind: &[u8], at: u32, out: &mut [u8])
     send.fill(line.as_slice(), out);
 }
 
-/// Writes the front of what is left at a place of the buffer.
+/// Writes a prefix of what is left at an offset of the buffer.
 pub(crate) fn write_at<R: Record>(
     span: &Span<R, R::Function>,
     out: &mut [u8],

@@ -1,14 +1,14 @@
 use file_tree::FileId;
 
-/// How far a connection's request has come.
+/// How far the request of a connection has been received.
 #[derive(Clone, Copy, Debug, PartialEq, Eq)]
 pub enum Stage {
-    /// The first word is heard.
+    /// The first word is being received.
     Method,
-    /// The second word is heard.
+    /// The second word is being received.
     Target,
-    /// A file was asked for. The reply is said, of the file that was found.
+    /// A file was requested, and the reply is being sent: that of the file that was found, or of none.
     Reply { found: Option<FileId> },
-    /// The request is no request for a file.
+    /// It is no request for a file.
     Refused,
 }

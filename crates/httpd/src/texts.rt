@@ -1,4 +1,4 @@
-//! The texts of a reply.
+//! The texts of a reply (HTTP/1.0: RFC 1945).
 
 ghost use Rattle.std.specs.Prelude.{◌≡◌, ◌≤◌, ◌<◌, [], length, option_map, slice_get, None, Some};
 ghost use Rattle.site_image.specs.declared.TheConstants.{LONGEST_IMAGE, LONGEST_KIND};
@@ -9,7 +9,7 @@ ghost use Rattle.httpd.specs.Reply.{body_bytes, found_file, head_text, is_script
 ghost use Rattle.httpd.specs.Places.{IsFound};
 
 use arrayvec::ArrayVec;
-use file_tree::{FileId, Tree};
+use file_tree::{FileId, Image, SiteOf};
 use site_image::{KIND_LINE_LEN, LONGEST_KIND};
 
 /// The most bytes of the line of a content type.
@@ -18,8 +18,8 @@ const LONGEST_LINE: usize = LONGEST_KIND + KIND_LINE_LEN;
 /// The most bytes of the text of a record.
 pub(crate) const LONGEST_TEXT: usize = 4200;
 
-/// The head of a reply.
-pub(crate) fn head_of(site: &Tree<'_>, found: Option<FileId>) -> &'static [u8]
+/// Returns the head of a reply.
+pub(crate) fn head_of<B: Image>(site: &SiteOf<B>, found: Option<FileId>) -> &'static [u8]
     requires { IsFound (files_of site.now) found }
     ensures text { result.now ≡ head_text (found_file (files_of site.now) found) }
     ensures short { length result.now ≤ 60 }
@@ -30,15 +30,15 @@ pub(crate) fn head_of(site: &Tree<'_>, found: Option<FileId>) -> &'static [u8]
     }
 }
 
-/// What is kept by every site.
-pub(crate) fn see_loaded(site: &Tree<'_>)
+/// States what is true of every site.
+pub(crate) fn see_loaded<B: Image>(site: &SiteOf<B>)
     ensures { IsLoaded site.now }
 {
     let _ = &site.files;
 }
 
-/// The content type of a file.
-fn kind_at<'a>(site: &Tree<'a>, id: FileId) -> &'a [u8]
+/// Returns the content type of a file.
+fn kind_at<'a, B: Image>(site: &'a SiteOf<B>, id: FileId) -> &'a [u8]
     requires { id.0 < length (files_of site.now) }
     ensures text { Some result.now ≡ option_map kind_of (slice_get (files_of site.now) id.0) }
     ensures short { length result.now ≤ LONGEST_KIND }
@@ -47,8 +47,8 @@ fn kind_at<'a>(site: &Tree<'a>, id: FileId) -> &'a [u8]
     site.kind(id)
 }
 
-/// The bytes of a file.
-pub(crate) fn bytes_at<'a>(site: &Tree<'a>, id: FileId) -> &'a [u8]
+/// Returns the bytes of a file.
+pub(crate) fn bytes_at<'a, B: Image>(site: &'a SiteOf<B>, id: FileId) -> &'a [u8]
     requires { id.0 < length (files_of site.now) }
     ensures text { result.now ≡ bytes_or [] (slice_get (files_of site.now) id.0) }
     ensures short { length result.now ≤ LONGEST_IMAGE }
@@ -57,8 +57,8 @@ pub(crate) fn bytes_at<'a>(site: &Tree<'a>, id: FileId) -> &'a [u8]
     site.bytes(id)
 }
 
-/// The content type of a reply.
-pub(crate) fn kind_of<'a>(site: &Tree<'a>, found: Option<FileId>) -> &'a [u8]
+/// Returns the content type of a reply.
+pub(crate) fn kind_of<'a, B: Image>(site: &'a SiteOf<B>, found: Option<FileId>) -> &'a [u8]
     requires { IsFound (files_of site.now) found }
     ensures text { result.now ≡ kind_text (found_file (files_of site.now) found) }
     ensures short { length result.now ≤ LONGEST_KIND }
@@ -69,22 +69,22 @@ pub(crate) fn kind_of<'a>(site: &Tree<'a>, found: Option<FileId>) -> &'a [u8]
     }
 }
 
-/// The line of a content type, and the empty line that ends the header.
+/// Returns the line of a content type, with the empty line that ends the header.
 pub(crate) fn line_of(kind: &[u8]) -> ArrayVec<u8, LONGEST_LINE>
     requires { length kind.now ≤ LONGEST_KIND }
     ensures { result.items ≡ kind_line kind.now }
 {
     let mut line: ArrayVec<u8, LONGEST_LINE> = ArrayVec::new();
-    let front: &[u8] = b"Content-type: ";
+    let prefix: &[u8] = b"Content-type: ";
     let back: &[u8] = b"\r\n\r\n";
-    let _front_fits = line.try_extend_from_slice(front);
+    let _prefix_fits = line.try_extend_from_slice(prefix);
     let _kind_fits = line.try_extend_from_slice(kind);
     let _back_fits = line.try_extend_from_slice(back);
     line
 }
 
-/// The bytes from which the body is said.
-pub(crate) fn body_of<'a>(site: &Tree<'a>, found: Option<FileId>) -> &'a [u8]
+/// Returns the bytes from which the body is generated.
+pub(crate) fn body_of<'a, B: Image>(site: &'a SiteOf<B>, found: Option<FileId>) -> &'a [u8]
     requires { IsFound (files_of site.now) found }
     ensures text { result.now ≡ body_bytes (files_of site.now) (found_file (files_of site.now) found) }
     ensures short { length result.now ≤ LONGEST_IMAGE }
@@ -95,8 +95,8 @@ pub(crate) fn body_of<'a>(site: &Tree<'a>, found: Option<FileId>) -> &'a [u8]
     }
 }
 
-/// The body where no file has the name.
-fn missing_body<'a>(site: &Tree<'a>) -> &'a [u8]
+/// Returns the body if no file has the name.
+fn missing_body<'a, B: Image>(site: &'a SiteOf<B>) -> &'a [u8]
     ensures text { result.now ≡ body_bytes (files_of site.now) None }
     ensures short { length result.now ≤ LONGEST_IMAGE }
 {
@@ -107,8 +107,8 @@ fn missing_body<'a>(site: &Tree<'a>) -> &'a [u8]
     }
 }
 
-/// Whether the body is that of a script.
-pub(crate) fn is_scripted(site: &Tree<'_>, found: Option<FileId>) -> bool
+/// Returns whether the body is that of a script.
+pub(crate) fn is_scripted<B: Image>(site: &SiteOf<B>, found: Option<FileId>) -> bool
     requires { IsFound (files_of site.now) found }
     ensures { result ≡ is_scripted (found_file (files_of site.now) found) }
 {

@@ -10,20 +10,20 @@ ghost use Rattle.httpd.specs.Places.{IsFound};
 ghost use Rattle.web_pages.specs.WebMeaning.{hit_at};
 
 use crate::texts::see_loaded;
-use file_tree::{FileId, Site, Tree};
+use file_tree::{FileId, Image, SiteOf};
 use std::alloc::{AllocError, Global};
 use std::marker::Model;
 use uip_edge::NoMemory;
 
-/// A site, and how often each of its files was asked for.
+/// A site, wherever its image lies, with a hit count for each of its files.
 #[derive(Drop)]
-pub struct Web {
-    pub site: Site,
+pub struct WebOf<B: Image> {
+    pub site: SiteOf<B>,
     /// The hit counts of the files, in their order.
     pub hits: Vec<u32>,
 }
 
-impl Model for Web {
+impl<B: Image> Model for WebOf<B> {
     ghost use Rattle.httpd.specs.Web.{WebContent, IsCounted};
 
     ghost Value = { WebContent };
@@ -33,33 +33,29 @@ impl Model for Web {
     ghost invariant = { λ web. IsCounted web.site web.hits.items };
 }
 
-/// So many zeros.
+/// A site whose image is in memory, with its hit counts.
+pub type Web = WebOf<Vec<u8>>;
+
+/// Returns `count` zeros.
 fn zeros(alloc: Global, count: usize) -> Result<Vec<u32>, AllocError>
     ensures { IfOk result (λ zeros. zeros.items ≡ replicate count 0) }
 {
     vec![in alloc; 0; count]
 }
 
-impl Web {
-    /// The site with no file asked for yet. On NoMemory the site is dropped.
-    pub fn new(alloc: Global, site: Site) -> Result<Web, NoMemory>
+impl<B: Image> WebOf<B> {
+    /// Returns the site with all hit counts 0. On `NoMemory` the site is dropped.
+    pub fn new(alloc: Global, site: SiteOf<B>) -> Result<WebOf<B>, NoMemory>
         ensures site { IfOk result (λ web. web.site ≡ site) }
         ensures hits { IfOk result (λ web. web.hits ≡ no_hits (files_of site)) }
     {
         let hits = zeros(alloc, site.count())?;
-        Ok(Web { site, hits })
-    }
-
-    /// The site as it is read.
-    pub fn tree(&self) -> Tree<'_>
-        ensures { result ≡ self.now.site }
-    {
-        self.site.tree()
+        Ok(WebOf { site, hits })
     }
 }
 
-/// The hit count of the file of that name, 0 where no file has it.
-pub(crate) fn hits_of(site: &Tree<'_>, hits: &[u32], name: &[u8]) -> u32
+/// Returns the hit count of the file of that name; 0 if no file has it.
+pub(crate) fn hits_of<B: Image>(site: &SiteOf<B>, hits: &[u32], name: &[u8]) -> u32
     requires { length hits.now ≡ length (files_of site.now) }
     ensures { result ≡ hits_of (files_of site.now) hits.now name.now }
 {
@@ -69,8 +65,8 @@ pub(crate) fn hits_of(site: &Tree<'_>, hits: &[u32], name: &[u8]) -> u32
     }
 }
 
-/// The file of that name, by its place among the files.
-pub(crate) fn place_in(site: &Tree<'_>, name: &[u8]) -> Option<FileId>
+/// Returns the file of that name, by its index.
+pub(crate) fn place_in<B: Image>(site: &SiteOf<B>, name: &[u8]) -> Option<FileId>
     ensures place { option_map (λ id. id.0) result ≡ place_of (files_of site.now) name.now }
     ensures found { IsFound (files_of site.now) result }
     ensures file { found_file (files_of site.now) result ≡ file_named (files_of site.now) name.now }
@@ -79,7 +75,7 @@ pub(crate) fn place_in(site: &Tree<'_>, name: &[u8]) -> Option<FileId>
     site.find(name)
 }
 
-/// A file was asked for.
+/// Counts a hit of a file that was found.
 pub(crate) fn hit(hits: &mut [u32], found: Option<FileId>)
     requires { IfSome found (λ id. id.0 < length hits.old) }
     ensures { hits.new ≡ hit_at hits.old (option_map (λ id. id.0) found) }

@@ -1,9 +1,9 @@
-//! The page of a target, as a node says it at which nothing has happened.
+//! Writes the page of a target as a node with an empty history sends it.
 
 ghost use Rattle.std.specs.Prelude.{◌≡◌, ◌++◌, List, ℕ, codes, length};
 ghost use Rattle.file_tree.specs.Site.{files_of};
 ghost use Rattle.web_pages.specs.Requests.{wanted};
-ghost use Rattle.web_pages.specs.ZeroPages.{request_for, zero_moment, zero_page, zero_reply};
+ghost use Rattle.web_pages.specs.ZeroPages.{request_for, zero_snapshot, zero_page, zero_reply};
 ghost use Rattle.httpd.specs.Hearing.{HearsTarget};
 ghost use Rattle.httpd.specs.Looking.{SpanFits, span_text};
 ghost use Rattle.httpd.specs.Places.{IsFound};
@@ -11,7 +11,7 @@ ghost use Rattle.generators.specs.Text.{capture_text};
 ghost use Rattle.httpd.specs.Reply.{found_file};
 ghost use Rattle.httpd.specs.Zero.{IsAsked};
 ghost use Rattle.uip_edge.specs.Writing.{Writes};
-ghost use Rattle.uip_edge.specs.Telling.{sink_told};
+ghost use Rattle.uip_edge.specs.ViewsOf.{sink_view};
 
 use crate::hearing::{Heard, file_asked, hear_target};
 use crate::looking::look;
@@ -20,26 +20,25 @@ use crate::texts::LONGEST_TEXT;
 use crate::thread::Thread;
 use app_events::{Now, RowList};
 use arrayvec::ArrayVec;
-use file_tree::{FileId, Site, Tree};
+use file_tree::{FileId, Site};
 use generators::{Capture, take};
 use protosocket::{LineIn, Stops};
 use script_lang::Function;
 use uip_edge::{Failed, Sink};
 
-/// Writes the page of the request `GET `, the target and a line feed, where each call is given the zero record of its kind: no
-/// hits, no ticks, counters at 0 and no connections.
+/// Writes the page of the request `GET `, the target and a line feed. Each call in it has the zero record of its kind: no hits, no ticks,
+/// counters at 0 and no connections. On failure a prefix of it was written.
 pub fn page_zero<K: Sink>(site: &Site, target: &[u8], sink: &mut K) -> Result<(), Failed>
-    ensures { Writes (sink_told K.Sink sink.old) (sink_told K.Sink sink.new) result (zero_page (files_of site.now) target.now) }
+    ensures { Writes (sink_view K.Sink sink.old) (sink_view K.Sink sink.new) result (zero_page (files_of site.now) target.now) }
 {
-    let tree = site.tree();
-    match asked(&tree, target) {
-        Some(found) => write_reply(&tree, found, sink),
+    match asked(site, target) {
+        Some(found) => write_reply(site, found, sink),
         None => say(sink, b""),
     }
 }
 
-/// The file that the request for a target asks for, where it asks for one.
-fn asked(site: &Tree<'_>, target: &[u8]) -> Option<Option<FileId>>
+/// Returns the file that the request for a target selects; the outer `None` if it is no request for a file.
+fn asked(site: &Site, target: &[u8]) -> Option<Option<FileId>>
     ensures { IsAsked (files_of site.now) (wanted (request_for target.now)) result }
 {
     let mut line = LineIn::new(Stops::SpaceOrLine);
@@ -51,8 +50,8 @@ fn asked(site: &Tree<'_>, target: &[u8]) -> Option<Option<FileId>>
     }
 }
 
-/// The same where the target ends with the line.
-fn ended(site: &Tree<'_>, mut line: LineIn) -> Option<Option<FileId>>
+/// The same for a target that ends with the line.
+fn ended(site: &Site, mut line: LineIn) -> Option<Option<FileId>>
     ensures { (request : List ℕ) → HearsTarget line request → IsAsked (files_of site.now) (wanted (request ++ codes "\n")) result }
 {
     match hear_target(&mut line, b"\n") {
@@ -63,15 +62,15 @@ fn ended(site: &Tree<'_>, mut line: LineIn) -> Option<Option<FileId>>
 
 /// Writes a piece.
 fn say<K: Sink>(sink: &mut K, piece: &[u8]) -> Result<(), Failed>
-    ensures { Writes (sink_told K.Sink sink.old) (sink_told K.Sink sink.new) result piece.now }
+    ensures { Writes (sink_view K.Sink sink.old) (sink_view K.Sink sink.new) result piece.now }
 {
     sink.write_whole(piece)
 }
 
-/// Writes the reply of a file that was found, or of none, as its thread says it.
-fn write_reply<K: Sink>(site: &Tree<'_>, found: Option<FileId>, sink: &mut K) -> Result<(), Failed>
+/// Writes the reply of a file that was found, or of none.
+fn write_reply<K: Sink>(site: &Site, found: Option<FileId>, sink: &mut K) -> Result<(), Failed>
     requires { IsFound (files_of site.now) found }
-    ensures { Writes (sink_told K.Sink sink.old) (sink_told K.Sink sink.new) result
+    ensures { Writes (sink_view K.Sink sink.old) (sink_view K.Sink sink.new) result
         (zero_reply (files_of site.now) (found_file (files_of site.now) found)) }
 {
     let mut capture = Capture::Empty;
@@ -90,33 +89,34 @@ fn write_reply<K: Sink>(site: &Tree<'_>, found: Option<FileId>, sink: &mut K) ->
 /// Writes what is left of a piece.
 fn say_span<K: Sink>(span: &Span<Capture, Function>, sink: &mut K) -> Result<(), Failed>
     requires { SpanFits capture_text span.now }
-    ensures { Writes (sink_told K.Sink sink.old) (sink_told K.Sink sink.new) result (span_text capture_text span.now) }
+    ensures { Writes (sink_view K.Sink sink.old) (sink_view K.Sink sink.new) result (span_text capture_text span.now) }
 {
     if let Span::Bytes { world, send } = span {
         return say(sink, &world[send.run.at as usize..send.run.end as usize]);
     }
     let len = span_len(span);
     let mut room = [0; LONGEST_TEXT];
-    say_front(span, &mut room[..len], sink)
+    say_prefix(span, &mut room[..len], sink)
 }
 
-/// Writes what is left of a piece, by way of a room of its length.
-fn say_front<K: Sink>(
+/// Writes what is left of a piece through a buffer of its length.
+fn say_prefix<K: Sink>(
     span: &Span<Capture, Function>,
     room: &mut [u8],
     sink: &mut K,
 ) -> Result<(), Failed>
     requires fits { SpanFits capture_text span.now }
     requires room { length room.old ≡ length (span_text capture_text span.now) }
-    ensures { Writes (sink_told K.Sink sink.old) (sink_told K.Sink sink.new) result (span_text capture_text span.now) }
+    ensures { Writes (sink_view K.Sink sink.old) (sink_view K.Sink sink.new) result (span_text capture_text span.now) }
 {
     write_span(span, room);
     say(sink, room)
 }
 
-/// A moment at which nothing has happened.
+/// Returns a snapshot with an empty history.
+/// [add: counter] The length of the array.
 fn zero_now() -> Now
-    ensures { result ≡ zero_moment.now }
+    ensures { result ≡ zero_snapshot.now }
 {
     Now {
         ticks: 0,

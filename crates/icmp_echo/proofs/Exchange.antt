@@ -1,4 +1,4 @@
--- The two addresses of a header, written in each other's place.
+-- The two addresses of a header, exchanged.
 use Rattle.std.proofs.Common.{◌≡◌, ℕ, ◌+◌, ◌<◌, ◌≤◌, List, ◌∷◌, ◌++◌, length, take, drop, get_or, slice_range, sym, ap, ◌∙◌, arith, length-append, length-take}
 use Rattle.std.proofs.lemmas.List.{drop_more, drop-drop, take_at, drop_at}
 use Rattle.uip_wire.specs.Addr.{address_at}
@@ -24,13 +24,13 @@ addresses_exchanged d source target once twice h s t first second =
     let t_is : target ≡ slice_range d 16 20 = t ∙ address-part d 16 (omega arith) in
     let s_len : length source ≡ 4 = ap (λ l. length l) s in
     let t_len : length target ≡ 4 = ap (λ l. length l) t in
-    let front = take 12 d ++ target in
-    let front_len : length front ≡ 16 = omega (arith, length-append (take 12 d) target, length-take 12 d, t_len) in
+    let prefix = take 12 d ++ target in
+    let prefix_count : length prefix ≡ 16 = omega (arith, length-append (take 12 d) target, length-take 12 d, t_len) in
     let rest : drop (12 + length target) d ≡ drop 16 d = ap (λ k. drop (12 + k) d) t_len in
-    let once_is : once ≡ front ++ drop 16 d = first ∙ ap (λ l. front ++ l) rest in
-    let kept : take 16 once ≡ front = ap (λ l. take 16 l) once_is ∙ take_at front (drop 16 d) 16 front_len in
+    let once_is : once ≡ prefix ++ drop 16 d = first ∙ ap (λ l. prefix ++ l) rest in
+    let kept : take 16 once ≡ prefix = ap (λ l. take 16 l) once_is ∙ take_at prefix (drop 16 d) 16 prefix_count in
     let behind : drop (16 + length source) once ≡ drop 20 d =
     ap (λ k. drop (16 + k) once) s_len ∙ sym (drop-drop 4 16 once)
-    ∙ ap (λ l. drop 4 l) (ap (λ l. drop 16 l) once_is ∙ drop_at front (drop 16 d) 16 front_len) ∙ drop-drop 4 16 d in
-    second ∙ ap (λ l. (l ++ source) ++ drop (16 + length source) once) kept ∙ ap (λ l. (front ++ source) ++ l) behind
+    ∙ ap (λ l. drop 4 l) (ap (λ l. drop 16 l) once_is ∙ drop_at prefix (drop 16 d) 16 prefix_count) ∙ drop-drop 4 16 d in
+    second ∙ ap (λ l. (l ++ source) ++ drop (16 + length source) once) kept ∙ ap (λ l. (prefix ++ source) ++ l) behind
     ∙ ap (λ l. ((take 12 d ++ l) ++ source) ++ drop 20 d) t_is ∙ ap (λ l. ((take 12 d ++ slice_range d 16 20) ++ l) ++ drop 20 d) s_is

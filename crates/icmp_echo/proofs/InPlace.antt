@@ -20,7 +20,7 @@ length-exchanged d h =
       length-drop 12 d,
     )
 
--- the message behind the header stays
+-- the message after the header stays
 pub message_kept : (d ex : List ℕ) → 28 ≤ length d → ex ≡ exchanged d ++ drop 20 d → take (length ex - 20) (drop 20 ex) ≡ drop 20 d
 message_kept d ex long e =
     take_rest ex 20 ∙ ap (λ l. drop 20 l) e ∙ drop_at (exchanged d) (drop 20 d) 20 (length-exchanged d long)
@@ -30,12 +30,12 @@ pub made_in_place : (d ex message : List ℕ) → 28 ≤ length d → ex ≡ exc
     → put_mid 20 (length ex - 20) ex message ≡ echo_reply d
 made_in_place d ex message long e m =
     let head : length (exchanged d) ≡ 20 = length-exchanged d long in
-    let front : take 20 ex ≡ exchanged d = ap (λ l. take 20 l) e ∙ take_at (exchanged d) (drop 20 d) 20 head in
+    let prefix : take 20 ex ≡ exchanged d = ap (λ l. take 20 l) e ∙ take_at (exchanged d) (drop 20 d) 20 head in
     let part : take (length ex - 20) (drop 20 ex) ≡ drop 20 d = message_kept d ex long e in
     let none : drop (length ex - 20) (drop 20 ex) ≡ [] = drop_all (length ex - 20) (drop 20 ex) (omega (arith, length-drop 20 ex)) in
     let message_is : message ≡ echo_message (drop 24 d) =
     m ∙ ap (λ l. echo_message (drop 4 l)) part ∙ ap echo_message (drop-drop 4 20 d) in
-    rw (front, none, append-nil, message_is) refl
+    rw (prefix, none, append-nil, message_is) refl
 
 -- the message of a datagram that is shorter than what was received
 pub message_received : (area : List ℕ) (len total : ℕ) → 20 ≤ total → total ≤ len

@@ -1,3 +1,5 @@
+//! Turns an echo request into its reply, in place (RFC 792, page 14).
+
 ghost use Rattle.std.specs.Prelude.{◌≡◌, ◌≤◌, ◌++◌, ◌∷◌, None, length, take, drop, slice_range};
 ghost use Rattle.icmp_echo.specs.Echo.{echo_fate, echo_message, echo_reply};
 ghost use Rattle.uip_wire.specs.Checksum.{checksum_of};
@@ -7,10 +9,10 @@ use uip_wire::{Addr, checksum, get16, put16};
 /// The first word of an echo request: its type and its code (RFC 792, page 14).
 const REQUEST: u16 = 0x0800;
 
-/// The checksum of a request that does not tell that of the reply, which may be 0 or 65535.
+/// The checksum of a request that does not determine that of the reply, which may be 0 or 65535.
 const AMBIGUOUS: u16 = 65535 - REQUEST;
 
-/// Makes the echo request at the front of an area its reply.
+/// Turns the echo request at the start of an area into its reply.
 #[inline(always)]
 pub(crate) fn answer(area: &mut [u8], total: usize)
     requires least { 28 ≤ total }
@@ -21,7 +23,7 @@ pub(crate) fn answer(area: &mut [u8], total: usize)
     answer_whole(&mut area[..total]);
 }
 
-/// Makes a whole echo request its reply.
+/// Turns a whole echo request into its reply.
 #[inline(always)]
 fn answer_whole(datagram: &mut [u8])
     requires long { 28 ≤ length datagram.old }
@@ -32,7 +34,7 @@ fn answer_whole(datagram: &mut [u8])
     answer_message(&mut datagram[20..]);
 }
 
-/// Exchanges the two addresses of a header, which leaves the sum of its words.
+/// Exchanges the two addresses of a header, which leaves the sum of its words unchanged.
 #[inline(always)]
 fn exchange(datagram: &mut [u8])
     requires { 20 ≤ length datagram.old }
@@ -45,7 +47,7 @@ fn exchange(datagram: &mut [u8])
     source.put(datagram, 16);
 }
 
-/// Makes an echo request its reply.
+/// Turns an echo request into its reply.
 #[inline(always)]
 fn answer_message(message: &mut [u8])
     requires { echo_fate message.old ≡ None }
@@ -56,8 +58,8 @@ fn answer_message(message: &mut [u8])
     put16(message, 2, sum);
 }
 
-/// The checksum of the reply to a request whose own is right: the request's, and the word that is taken away (RFC 1624). Only where that is
-/// a zero it does not say which of the two zeros, and the sum is made anew.
+/// Returns the checksum of the reply to a request whose own is right: the request's, updated for the word that is removed (RFC 1624). If
+/// that sum is a zero, it does not determine which of the two zeros, and the checksum is computed anew.
 #[inline(always)]
 fn reply_sum(message: &[u8]) -> u16
     requires { echo_fate message.now ≡ None }

@@ -1,5 +1,5 @@
-//! The answer to an ICMP echo request, made in the packet that the request came in. A request that fails a check, and any
-//! other message, has a fate and leaves the packet as it is.
+//! The reply to an ICMP echo request (RFC 792), made in the packet in which the request was received. A request that fails a check, and any
+//! other message, has a fate and leaves the packet unchanged.
 #![tactic(auto)]
 
 mod answer;

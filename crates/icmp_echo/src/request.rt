@@ -1,3 +1,5 @@
+//! The checks of an echo request, and the reply.
+
 ghost use Rattle.std.specs.Prelude.{◌≡◌, MatchResult, OnErr, OnOk, None, Some, length};
 ghost use Rattle.icmp_echo.specs.Echo.{answered, echo_fate, fate_in};
 ghost use Rattle.packet_buffer.specs.Buffer.{datagram_in};
@@ -9,7 +11,8 @@ use packet_buffer::Packet;
 use uip_ipv4::IpHead;
 use uip_wire::checksum;
 
-/// Makes the echo request in the packet its reply, of the datagram's total length; bytes behind that are cut off.
+/// Turns the echo request in the packet into its reply, with the datagram's total length. Bytes after it are cut off. Fails with the first
+/// check that the message fails.
 #[inline(always)]
 pub fn reply(packet: &mut Packet, head: &IpHead) -> Result<(), IcmpFate>
     requires { IsHeadOf head.now (datagram_in packet.old) }
@@ -27,7 +30,8 @@ pub fn reply(packet: &mut Packet, head: &IpHead) -> Result<(), IcmpFate>
     Ok(())
 }
 
-/// The first check that a message fails.
+/// Returns the first check that a message fails.
+/// [add: fate] ICMP: its check.
 #[inline(always)]
 fn fate_of(message: &[u8]) -> Option<IcmpFate>
     ensures { result ≡ echo_fate message.now }

@@ -1,7 +1,7 @@
-//! What a node is reached by: a medium finds datagrams among the bytes of a line, writes datagrams as text, and may do
-//! something by itself. Its meaning is told over whole lists, of the bytes before and of the acts before.
+//! The link layer of a node: a medium decodes datagrams from the bytes of a line, encodes datagrams, and may act by itself. Its
+//! specification is defined over whole lists: the bytes before, and its own events before.
 #![tactic(auto)]
 
 mod medium;
 
-pub use medium::{Brought, BroughtRun, Medium};
+pub use medium::{Decoded, DecodedRun, Medium};

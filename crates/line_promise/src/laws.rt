@@ -1,20 +1,22 @@
+//! The laws of a line.
+
 ghost use Rattle.serve_loop.specs.Items.{BringsBytes};
-ghost use Rattle.serve_loop.specs.SlipWay.{slip_way};
-ghost use Rattle.line_promise.specs.Lines.{EveryLineBy, FrontIsKept};
+ghost use Rattle.serve_loop.specs.SerialMedium.{slip_medium};
+ghost use Rattle.line_promise.specs.Lines.{EveryLineConforms, PrefixConforms};
 
 use line_medium::Medium;
 
-/// Over every medium that brings bytes of bytes: what is written for the items of a line keeps the promise, whatever the items are.
+/// Over every medium that decodes bytes from bytes, the output for the items of a line satisfies the guarantee, whatever the items are.
 pub fn every_line<M: Medium>()
-    ensures { (k : M.Set) → BringsBytes (M.way k) → EveryLineBy (M.way k) }
+    ensures { (k : M.Config) → BringsBytes (M.spec k) → EveryLineConforms (M.spec k) }
 {}
 
-/// So it is of a serial line.
+/// The same for a serial line.
 pub fn every_serial_line()
-    ensures { EveryLineBy slip_way }
+    ensures { EveryLineConforms slip_medium }
 {}
 
-/// What is kept on a line is kept on each front of it.
-pub fn every_front<M: Medium>()
-    ensures { (k : M.Set) → FrontIsKept (M.way k) }
+/// If a line satisfies the guarantee, so does each prefix of it.
+pub fn every_prefix<M: Medium>()
+    ensures { (k : M.Config) → PrefixConforms (M.spec k) }
 {}

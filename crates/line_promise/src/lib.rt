@@ -1,6 +1,6 @@
-//! What a line keeps of the promise of a node: of the items that came over it and of the text that was written.
+//! The guarantee of `node_laws`, stated for a line: for the items received and the text written.
 #![tactic(auto)]
 
 mod laws;
 
-pub use laws::{every_front, every_line, every_serial_line};
+pub use laws::{every_line, every_prefix, every_serial_line};

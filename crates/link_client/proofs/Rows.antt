@@ -1,4 +1,4 @@
--- Datagrams worked by hand: a client's SYN, and the server's answer to it, which it hears and another client does not.
+-- Datagrams worked by hand: a client's SYN, and the server's answer to it, which it accepts and another client does not.
 use Rattle.std.proofs.Common.{◌≡◌, ℕ, List, [], ◌∷◌, Some, None, refl}
 use Rattle.uip_ipv4.specs.Head.{head_bytes, head_or_fate}
 use Rattle.uip_wire.specs.Checksum.{folded}

@@ -1,5 +1,5 @@
--- What the calls of a client of the code do: the abstract client that it stands for, what it hears in a datagram, and the
--- datagram that it sends at the front of an area.
+-- What the calls of a client of the code do: the abstract client that it represents, what it receives in a datagram, and the
+-- datagram that it sends, at the start of an area.
 use Rattle.std.specs.Prelude.{ℕ, ◌≡◌, ◌+◌, ◌≤◌, ◌==◌, ◌&&◌, ◌||◌, not, nat_lt, Bool, true, false, List, ◌++◌, length, take, drop, if◌then◌else◌, Option, Some, None, Result, Ok, Err}
 use Rattle.std.specs.Prelude.{bytes_eq}
 use Rattle.uip_ipv4.specs.Head.{head_or_fate}
@@ -17,7 +17,7 @@ use Rattle.link_client.specs.declared.client_state.ClientState.{ClientState}
 use Rattle.link_client.specs.declared.client_state.ClientState.TheVariants.{Idle, Opening, Opened, Reset}
 use Rattle.link_client.specs.declared.setup.Setup.{Setup}
 
--- a client of the code beside its request and the bytes that it took, as an abstract client
+-- a client of the code with its request and the bytes that it accepted, as an abstract client
 abbrev pub standing : Client → List ℕ → List ℕ → AbstractClient
 standing c request received = record {
   setup = c.setup;
@@ -31,7 +31,7 @@ standing c request received = record {
   window = c.window;
 }
 
--- What ties a client to its request: what it sent of it stands in it, and it has at most 4096 bytes.
+-- What ties a client to its request: what it sent of it is in it, and it has at most 4096 bytes.
 pub record FitsRequest (c : Client) (request : List ℕ) : Type 0 where
   pub within : c.acked + c.out ≤ length request
   pub short : length request ≤ 4096
@@ -47,27 +47,27 @@ client_datagram setup s = record {
   segment = s;
 }
 
--- so many bytes stand at the front of the area
-pub record StandsAtFront (bytes : List ℕ) (sent : Option ℕ) (area : List ℕ) : Type 0 where
+-- the bytes are at the start of the area
+pub record LiesAtStart (bytes : List ℕ) (sent : Option ℕ) (area : List ℕ) : Type 0 where
   pub answer : sent ≡ Some (length bytes)
-  pub front : take (length bytes) area ≡ bytes
+  pub prefix : take (length bytes) area ≡ bytes
 
--- what is sent, if anything is, stands at the front of the area
+-- what is sent, if anything is, is at the start of the area
 abbrev pub Sends : Setup → Option PlainSegment → Option ℕ → List ℕ → Type 0
 Sends setup None sent area = sent ≡ None
-Sends setup (Some s) sent area = StandsAtFront (datagram_bytes (client_datagram setup s)) sent area
+Sends setup (Some s) sent area = LiesAtStart (datagram_bytes (client_datagram setup s)) sent area
 
--- behind the datagram that is sent, if one is, the area is as it was
-abbrev pub KeepsBehind : Option ℕ → List ℕ → List ℕ → Type 0
-KeepsBehind None old new = new ≡ old
-KeepsBehind (Some len) old new = drop len new ≡ drop len old
+-- after the datagram that is sent, if one is, the area is unchanged
+abbrev pub KeepsAfter : Option ℕ → List ℕ → List ℕ → Type 0
+KeepsAfter None old new = new ≡ old
+KeepsAfter (Some len) old new = drop len new ≡ drop len old
 
 -- a call did this step
 pub record Did (step : ClientStep) (after : AbstractClient) (answer : Option ℕ) (area : List ℕ) : Type 0 where
   pub client : step.client ≡ after
   pub sent : Sends after.setup step.sent answer area
 
--- What a client hears in a datagram: a segment of its server, or nothing.
+-- What a client receives in a datagram: a segment of its server, or nothing.
 abbrev pub heard_in : Setup → IpHead → List ℕ → Result Segment TcpFate → Option PlainSegment
 heard_in setup head bytes (Ok s) =
     if bytes_eq head.source.0 setup.server.0 && ((s.from.0 == setup.server_port.0) && (s.to.0 == setup.port.0)) then Some (plain_of s bytes)
@@ -90,12 +90,12 @@ abbrev pub client_hands : AbstractClient → Option PlainSegment → ClientStep
 client_hands c None = keeps c
 client_hands c (Some s) = client_takes c s
 
--- the bytes that it took before, and the text where it takes that too
+-- the bytes that it accepted before, and the text if it accepts that too
 abbrev pub received_with : Bool → List ℕ → List ℕ → List ℕ
 received_with true received text = received ++ text
 received_with false received text = received
 
--- a call did this step at a segment of this text, of which a client with this request took the text or not
+-- a call did this step at a segment of this text; a client with this request accepted the text or not
 abbrev pub DidAtText : (AbstractClient → ClientStep) → List ℕ → List ℕ → Bool → Client → Client → Option ℕ → List ℕ → Type 0
 DidAtText f request text took old new answer area =
     (received : List ℕ) → Did (f (standing old request received)) (standing new request (received_with took received text)) answer area
@@ -116,7 +116,7 @@ has_more_to_send c =
     not (has_outstanding c)
     && ((is_receiving c.state && nat_lt c.acked (length c.request)) || (may_finish c.state && not (fin_sent c.fin)))
 
--- it can still be given up: the server's FIN is not yet taken
+-- it can still be aborted: the server's FIN is not yet received
 abbrev pub can_abort : ClientState → Bool
 can_abort Opening = true
 can_abort state = is_receiving state

@@ -3,7 +3,7 @@ use Rattle.std.specs.Prelude.{ℕ, ◌+◌, ◌-◌, min, Bool, true, false, not
 use Rattle.uip_wire.specs.Numbers.{wrap}
 use Rattle.tcp_segment.specs.declared.flags.TheConstants.{FIN, SYN, RST, PSH, ACK}
 use Rattle.tcp_segment.specs.Segments.{PlainSegment, has_syn, has_fin, has_rst, has_ack}
-use Rattle.tcp_machine.specs.Segments.{has_place}
+use Rattle.tcp_machine.specs.Segments.{occupies_sequence_space}
 use Rattle.link_client.specs.declared.client_state.ClientState.{ClientState}
 use Rattle.link_client.specs.declared.client_state.ClientState.TheVariants.{Idle, Opening, Opened, Closing, Closed, Ended, Reset}
 use Rattle.link_client.specs.declared.fin_at.FinAt.{FinAt}
@@ -45,19 +45,19 @@ keeps c = record { client = c; sent = None }
 abbrev pub steps_with : AbstractClient → PlainSegment → ClientStep
 steps_with c s = record { client = c; sent = Some s }
 
--- Its plain close: it took the server's FIN in sequence.
+-- Its normal close: it received the server's FIN in sequence.
 abbrev pub has_closed : ClientState → Bool
 has_closed Closed = true
 has_closed Ended = true
 has_closed _ = false
 
--- it takes text
+-- it accepts text
 abbrev pub is_receiving : ClientState → Bool
 is_receiving Opened = true
 is_receiving Closing = true
 is_receiving _ = false
 
--- it has nothing more to ask for
+-- it has nothing more to request
 abbrev pub may_finish : ClientState → Bool
 may_finish Closing = true
 may_finish state = has_closed state
@@ -105,7 +105,7 @@ own_fin c = record (ack_of c) { seq = wrap (own_first c + 1 + c.acked + c.out); 
 abbrev pub own_reset : AbstractClient → PlainSegment
 own_reset c = record (ack_of c) { flags = RST + ACK }
 
--- What it sends next: request bytes, its FIN, or a bare ACK where one is owed. One thing is outstanding at a time.
+-- What it sends next: request bytes, its FIN, or a bare ACK if one is owed. One thing is outstanding at a time.
 unfoldable pub sends_next : Bool → AbstractClient → ClientStep
 sends_next owed c =
     if not (has_outstanding c) && (is_receiving c.state && nat_lt c.acked (length c.request)) then
@@ -115,7 +115,7 @@ sends_next owed c =
     else if owed then steps_with c (ack_of c)
     else keeps c
 
--- what is outstanding is acknowledged where the number is its next own one
+-- what is outstanding is acknowledged if the number is its next own one
 abbrev pub hears_ack : AbstractClient → PlainSegment → AbstractClient
 hears_ack c s =
     if has_ack s.flags && (has_outstanding c && (s.ack == next_own c))
@@ -128,7 +128,7 @@ after_fin Opened = Closed
 after_fin Closing = Ended
 after_fin state = state
 
--- the text of a segment at the expected number, and then its FIN
+-- the text of a segment at RCV.NXT, and then its FIN
 abbrev pub takes_text : AbstractClient → PlainSegment → AbstractClient
 takes_text c s = record c {
   received = c.received ++ s.text;
@@ -139,14 +139,14 @@ takes_text c s = record c {
 unfoldable pub takes_in_order : AbstractClient → PlainSegment → ClientStep
 takes_in_order c s =
     if has_syn s.flags then sends_next true c
-    else if not (has_place s) then sends_next false c
+    else if not (occupies_sequence_space s) then sends_next false c
     else if (s.seq == c.expected) && is_receiving c.state then sends_next true (takes_text c s)
     else sends_next true c
 
 abbrev pub opened_by : AbstractClient → PlainSegment → AbstractClient
 opened_by c s = record c { state = Opened; expected = wrap (s.seq + 1) }
 
--- a RST counts where it answers the SYN, and afterwards at the expected number
+-- a RST is valid as the answer to the SYN, and later at RCV.NXT
 abbrev pub is_reset_by : ClientState → AbstractClient → PlainSegment → Bool
 is_reset_by Opening c s = has_ack s.flags && (s.ack == wrap (own_first c + 1))
 is_reset_by state c s = is_receiving state && (s.seq == c.expected)
@@ -201,5 +201,5 @@ client_closes c = closes_by c.state c
 abbrev pub client_aborts : AbstractClient → ClientStep
 client_aborts c = aborts_by c.state c
 
-abbrev pub tells_window : ℕ → AbstractClient → ClientStep
-tells_window window c = keeps (record c { window = window })
+abbrev pub advertises_window : ℕ → AbstractClient → ClientStep
+advertises_window window c = keeps (record c { window = window })

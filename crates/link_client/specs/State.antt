@@ -1,4 +1,4 @@
--- A client of the code as plain data, and what each keeps.
+-- A client of the code as plain data, and its invariant.
 use Rattle.std.specs.Prelude.{ℕ, ◌≤◌}
 use Rattle.uip_wire.specs.declared.seq.Seq.{Seq}
 use Rattle.link_client.specs.declared.client_state.ClientState.{ClientState}

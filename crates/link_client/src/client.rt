@@ -1,6 +1,8 @@
+//! The calls of a client (RFC 793).
+
 ghost use Rattle.std.specs.Prelude.{◌≡◌, ◌+◌, ◌≤◌, ◌++◌, ◌&&◌, ℕ, [], List, Some, is_some, length, slice_range};
-ghost use Rattle.link_client.specs.Calls.{Did, FitsRequest, KeepsBehind, can_abort, has_more_to_send, has_spoken, client_hears, is_opened, standing, client_hands};
-ghost use Rattle.link_client.specs.Client.{client_aborts, client_again, client_closes, client_opens, idle, tells_window};
+ghost use Rattle.link_client.specs.Calls.{Did, FitsRequest, KeepsAfter, can_abort, has_more_to_send, has_spoken, client_hears, is_opened, standing, client_hands};
+ghost use Rattle.link_client.specs.Client.{client_aborts, client_again, client_closes, client_opens, idle, advertises_window};
 
 use crate::client_state::ClientState;
 use crate::fin_at::FinAt;
@@ -11,7 +13,7 @@ use crate::took::Took;
 use std::marker::Model;
 use uip_wire::{LARGEST_DATAGRAM, Seq};
 
-/// A client.
+/// A client of a replay.
 #[derive(Clone, Copy, Debug, PartialEq, Eq)]
 pub struct Client {
     pub setup: Setup,
@@ -21,7 +23,7 @@ pub struct Client {
     /// The bytes of its request that are outstanding.
     pub out: u16,
     pub fin: FinAt,
-    /// The number that it expects next.
+    /// RCV.NXT: the number that it expects next.
     pub rcv: Seq,
     pub window: u16,
 }
@@ -55,7 +57,7 @@ impl Model for Client {
 }
 
 impl Client {
-    /// A client before its first act.
+    /// Returns a client before its first act.
     pub fn new(setup: Setup) -> Client
         requires least { 1 ≤ setup.seg }
         requires most { setup.seg ≤ 1460 }
@@ -73,7 +75,7 @@ impl Client {
         }
     }
 
-    /// Sends its SYN, and answers the length of the datagram at the front of the area.
+    /// Sends its SYN. Returns the length in bytes of the datagram at the start of the area.
     #[tactic(auto, unfolding(crate::specs::Client::opens_by))]
     pub fn open_now(&mut self, area: &mut [u8]) -> usize
         requires idle { self.old.state ≡ ClientState.Idle }
@@ -81,7 +83,7 @@ impl Client {
         ensures fits { (request : List ℕ) → FitsRequest self.old request → FitsRequest self.new request }
         ensures setup { self.new.setup ≡ self.old.setup }
         ensures room { length area.new ≡ length area.old }
-        ensures behind { KeepsBehind (Some result) area.old area.new }
+        ensures behind { KeepsAfter (Some result) area.old area.new }
         ensures step { (request received : List ℕ) → Did (client_opens (standing self.old request received))
             (standing self.new request received) (Some result) area.new }
     {
@@ -89,7 +91,7 @@ impl Client {
         self.send_syn(area)
     }
 
-    /// Takes a datagram: a segment of its server, or nothing. What it sends stands at the front of the area.
+    /// Receives a datagram: a segment of its server, or else ignored. What it sends is at the start of the area.
     pub fn take(&mut self, request: &[u8], datagram: &[u8], area: &mut [u8]) -> Took
         requires fits { FitsRequest self.old request.now }
         requires most { length datagram.now ≤ LARGEST_DATAGRAM }
@@ -97,7 +99,7 @@ impl Client {
         ensures fits { FitsRequest self.new request.now }
         ensures setup { self.new.setup ≡ self.old.setup }
         ensures room { length area.new ≡ length area.old }
-        ensures behind { KeepsBehind result.sent area.old area.new }
+        ensures behind { KeepsAfter result.sent area.old area.new }
         ensures inside { result.fresh_at + result.fresh_len ≤ length datagram.now }
         ensures none { result.fresh_len ≡ 0 → result.fresh_at ≡ 0 }
         ensures step { (received : List ℕ) → Did (client_hands (standing self.old request.now received)
@@ -111,11 +113,11 @@ impl Client {
                 fresh_len: 0,
             };
         };
-        let heard = self.take_segment(request, &segment, segment.text(datagram), area);
-        took(&segment, heard)
+        let delivered = self.take_segment(request, &segment, segment.text(datagram), area);
+        took(&segment, delivered)
     }
 
-    /// Sends again what is outstanding, or an ACK, and answers the length of the datagram at the front of the area.
+    /// Retransmits what is outstanding, or sends an ACK. Returns the length in bytes of the datagram at the start of the area.
     #[tactic(auto, unfolding(crate::specs::Client::again_by))]
     pub fn again(&mut self, request: &[u8], area: &mut [u8]) -> Option<usize>
         requires fits { FitsRequest self.old request.now }
@@ -123,7 +125,7 @@ impl Client {
         ensures fits { FitsRequest self.new request.now }
         ensures setup { self.new.setup ≡ self.old.setup }
         ensures room { length area.new ≡ length area.old }
-        ensures behind { KeepsBehind result area.old area.new }
+        ensures behind { KeepsAfter result area.old area.new }
         ensures answers { is_some result ≡ has_spoken self.old.state }
         ensures step { (received : List ℕ) → Did (client_again (standing self.old request.now received))
             (standing self.new request.now received) result area.new }
@@ -136,7 +138,7 @@ impl Client {
         }
     }
 
-    /// Closes: its FIN goes out once its request is acknowledged.
+    /// Closes: its FIN is sent once its request is acknowledged. Returns a length if it sends something now.
     #[tactic(auto, unfolding(crate::specs::Client::closes_by))]
     pub fn close_now(&mut self, request: &[u8], area: &mut [u8]) -> Option<usize>
         requires fits { FitsRequest self.old request.now }
@@ -144,7 +146,7 @@ impl Client {
         ensures fits { FitsRequest self.new request.now }
         ensures setup { self.new.setup ≡ self.old.setup }
         ensures room { length area.new ≡ length area.old }
-        ensures behind { KeepsBehind result area.old area.new }
+        ensures behind { KeepsAfter result area.old area.new }
         ensures answers { is_some result ≡ (is_opened self.old.state
             && has_more_to_send (standing (record self.old { state = ClientState.Closing }) request.now [])) }
         ensures step { (received : List ℕ) → Did (client_closes (standing self.old request.now received))
@@ -164,14 +166,14 @@ impl Client {
         }
     }
 
-    /// Gives its connection up with a RST.
+    /// Aborts its connection with a RST. Returns a length if it sends something.
     #[tactic(auto, unfolding(crate::specs::Client::aborts_by))]
     pub fn abort_now(&mut self, area: &mut [u8]) -> Option<usize>
         requires room { LARGEST_DATAGRAM ≤ length area.old }
         ensures fits { (request : List ℕ) → FitsRequest self.old request → FitsRequest self.new request }
         ensures setup { self.new.setup ≡ self.old.setup }
         ensures room { length area.new ≡ length area.old }
-        ensures behind { KeepsBehind result area.old area.new }
+        ensures behind { KeepsAfter result area.old area.new }
         ensures answers { is_some result ≡ can_abort self.old.state }
         ensures step { (request received : List ℕ) → Did (client_aborts (standing self.old request received))
             (standing self.new request received) result area.new }
@@ -186,11 +188,11 @@ impl Client {
         }
     }
 
-    /// Tells this window from now on.
+    /// Advertises this window from now on, in bytes.
     pub fn set_window(&mut self, window: u16)
         ensures fits { (request : List ℕ) → FitsRequest self.old request → FitsRequest self.new request }
         ensures setup { self.new.setup ≡ self.old.setup }
-        ensures step { (request received : List ℕ) → (tells_window window (standing self.old request received)).client
+        ensures step { (request received : List ℕ) → (advertises_window window (standing self.old request received)).client
             ≡ standing self.new request received }
     {
         self.window = window;

@@ -5,11 +5,11 @@ pub enum ClientState {
     /// Its SYN was sent.
     Opening,
     Opened,
-    /// It was told to close, and still takes text.
+    /// It was closed, and still accepts text.
     Closing,
-    /// It took the server's FIN while it was open.
+    /// It received the server's FIN while it was open.
     Closed,
-    /// It took the server's FIN while it was closing.
+    /// It received the server's FIN while it was closing.
     Ended,
     Reset,
 }

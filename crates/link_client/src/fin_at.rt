@@ -1,4 +1,4 @@
-/// How far the FIN of a client is.
+/// The progress of a client's FIN.
 #[derive(Clone, Copy, Debug, PartialEq, Eq)]
 pub enum FinAt {
     NotSent,

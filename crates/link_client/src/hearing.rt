@@ -1,4 +1,4 @@
-//! What a client hears in a datagram.
+//! What a client receives in a datagram.
 
 ghost use Rattle.std.specs.Prelude.{◌≡◌, ◌+◌, ◌≤◌, ◌==◌, ◌&&◌, IfSome, length, option_map};
 ghost use Rattle.tcp_segment.specs.Received.{plain_of};
@@ -10,7 +10,7 @@ use tcp_segment::Segment;
 use uip_ipv4::Proto;
 use uip_wire::Addr;
 
-/// Whether a segment from this address is of the client's connection.
+/// Returns whether a segment from this address is of the client's connection.
 fn is_of(setup: &Setup, source: Addr, segment: &Segment) -> bool
     ensures { result ≡ (bytes_eq source.0 setup.now.server.0
         && ((segment.now.from.0 == setup.now.server_port.0) && (segment.now.to.0 == setup.now.port.0))) }
@@ -18,9 +18,9 @@ fn is_of(setup: &Setup, source: Addr, segment: &Segment) -> bool
     source == setup.server && segment.from.0 == setup.server_port.0 && segment.to.0 == setup.port.0
 }
 
-/// The segment of its server that a client hears in a datagram, if it is one.
+/// Returns the segment of its server in a datagram, if it is one.
 pub(crate) fn hear(setup: &Setup, datagram: &[u8]) -> Option<Segment>
-    ensures heard { option_map (λ segment. plain_of segment datagram.now) result ≡ client_hears setup.now datagram.now }
+    ensures delivered { option_map (λ segment. plain_of segment datagram.now) result ≡ client_hears setup.now datagram.now }
     ensures inside { IfSome result (λ segment. segment.text_at + segment.text_len ≤ length datagram.now) }
 {
     let Ok(head) = uip_ipv4::check(datagram, setup.addr) else {

@@ -1,6 +1,5 @@
-//! A client of a replay: a small TCP that asks for a page over the link. It sends one segment at a time, takes text only at the
-//! number that it expects, and never acts by itself; its step is told in `specs/` over plain data, and each call of the code
-//! does it.
+//! A client of a replay: a small TCP that requests a page over the link. It sends one segment at a time, accepts text only at
+//! RCV.NXT, and never acts by itself. `specs/` defines its step over plain data, and each call of the code does it.
 #![tactic(auto)]
 
 mod client;

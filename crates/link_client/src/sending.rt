@@ -2,7 +2,7 @@
 
 ghost use Rattle.std.specs.Prelude.{◌≡◌, ◌+◌, ◌≤◌, [], IsSome, Some, drop, length, slice_range};
 ghost use Rattle.uip_wire.specs.Numbers.{wrap};
-ghost use Rattle.link_client.specs.Calls.{FitsRequest, KeepsBehind, Sends, standing};
+ghost use Rattle.link_client.specs.Calls.{FitsRequest, KeepsAfter, Sends, standing};
 ghost use Rattle.link_client.specs.Client.{ack_of, again_by, own_fin, next_own, offered, own_request, own_reset, syn_of};
 
 use crate::client::Client;
@@ -11,7 +11,7 @@ use crate::fin_at::FinAt;
 use tcp_segment::{ACK, FIN, Out, PSH, RST, SYN, put_in};
 use uip_wire::{LARGEST_DATAGRAM, OWN_MSS, Seq};
 
-/// What of a segment's header does not stand in its client.
+/// The part of a segment's header that is not in its client.
 #[derive(Clone, Copy, Debug, PartialEq, Eq)]
 struct Heading {
     seq: Seq,
@@ -20,7 +20,7 @@ struct Heading {
     mss: Option<u16>,
 }
 
-/// Copies the text of a segment to its place.
+/// Copies the text of a segment to its offset.
 fn put_text(area: &mut [u8], text: &[u8])
     requires { 40 + length text.now ≤ length area.old }
     ensures text { slice_range area.new 40 (40 + length text.now) ≡ text.now }
@@ -29,7 +29,7 @@ fn put_text(area: &mut [u8], text: &[u8])
     area[40..40 + text.len()].copy_from_slice(text);
 }
 
-/// The option of a SYN for this value.
+/// Returns the option of a SYN for this value.
 fn offered(mss: u16) -> Option<u16>
     ensures { result ≡ offered mss }
 {
@@ -37,7 +37,7 @@ fn offered(mss: u16) -> Option<u16>
 }
 
 impl Client {
-    /// Writes a segment around its text, and answers the length of its datagram.
+    /// Writes a segment around its text, and returns the length of its datagram in bytes.
     fn send(&self, heading: Heading, text: &[u8], area: &mut [u8]) -> usize
         requires room { LARGEST_DATAGRAM ≤ length area.old }
         requires fits { length text.now ≤ OWN_MSS }
@@ -51,7 +51,7 @@ impl Client {
               mss = heading.mss;
               text = text.now;
             })) (Some result) area.new }
-        ensures behind { KeepsBehind (Some result) area.old area.new }
+        ensures behind { KeepsAfter (Some result) area.old area.new }
     {
         put_text(area, text);
         let out = Out {
@@ -70,13 +70,13 @@ impl Client {
         put_in(area, &out)
     }
 
-    /// Writes a segment without text that acknowledges what it took.
+    /// Writes a segment without text that acknowledges what the client accepted.
     fn send_bare(&self, seq: Seq, flags: u8, area: &mut [u8]) -> usize
         requires room { LARGEST_DATAGRAM ≤ length area.old }
         ensures sent { Sends self.now.setup
             (Some (record { seq = seq.0; ack = self.now.rcv.0; flags = flags; window = self.now.window; mss = None; text = [] }))
             (Some result) area.new }
-        ensures behind { KeepsBehind (Some result) area.old area.new }
+        ensures behind { KeepsAfter (Some result) area.old area.new }
     {
         let heading = Heading {
             seq,
@@ -87,21 +87,21 @@ impl Client {
         self.send(heading, &[], area)
     }
 
-    /// The number of the first byte of its request that is not acknowledged.
+    /// Returns the number of the first byte of its request that is not acknowledged.
     fn first_unacked(&self) -> Seq
         ensures { result.0 ≡ wrap (self.now.setup.iss.0 + 1 + self.now.acked) }
     {
         self.setup.iss.add(1).add(self.acked)
     }
 
-    /// The number behind the bytes of its request that it sent.
+    /// Returns the number after the bytes of its request that it sent.
     fn after_text(&self) -> Seq
         ensures { result.0 ≡ wrap (self.now.setup.iss.0 + 1 + self.now.acked + self.now.out) }
     {
         self.first_unacked().add(u32::from(self.out))
     }
 
-    /// The number behind all that it sent.
+    /// Returns the number after all that it sent.
     pub(crate) fn next_own(&self) -> Seq
         ensures { result.0 ≡ next_own (standing self.now [] []) }
     {
@@ -111,11 +111,11 @@ impl Client {
         }
     }
 
-    /// Its SYN.
+    /// Sends its SYN.
     pub(crate) fn send_syn(&self, area: &mut [u8]) -> usize
         requires room { LARGEST_DATAGRAM ≤ length area.old }
         ensures sent { Sends self.now.setup (Some (syn_of (standing self.now [] []))) (Some result) area.new }
-        ensures behind { KeepsBehind (Some result) area.old area.new }
+        ensures behind { KeepsAfter (Some result) area.old area.new }
     {
         let heading = Heading {
             seq: self.setup.iss,
@@ -126,21 +126,21 @@ impl Client {
         self.send(heading, &[], area)
     }
 
-    /// An acknowledgement without text.
+    /// Sends an acknowledgement without text.
     pub(crate) fn send_ack(&self, area: &mut [u8]) -> usize
         requires room { LARGEST_DATAGRAM ≤ length area.old }
         ensures sent { Sends self.now.setup (Some (ack_of (standing self.now [] []))) (Some result) area.new }
-        ensures behind { KeepsBehind (Some result) area.old area.new }
+        ensures behind { KeepsAfter (Some result) area.old area.new }
     {
         self.send_bare(self.next_own(), ACK, area)
     }
 
-    /// The bytes of its request that are outstanding.
+    /// Sends the bytes of its request that are outstanding.
     pub(crate) fn send_request(&self, request: &[u8], area: &mut [u8]) -> usize
         requires fits { FitsRequest self.now request.now }
         requires room { LARGEST_DATAGRAM ≤ length area.old }
         ensures sent { Sends self.now.setup (Some (own_request (standing self.now request.now []))) (Some result) area.new }
-        ensures behind { KeepsBehind (Some result) area.old area.new }
+        ensures behind { KeepsAfter (Some result) area.old area.new }
     {
         let heading = Heading {
             seq: self.first_unacked(),
@@ -156,13 +156,13 @@ impl Client {
         )
     }
 
-    /// What it sends again once it is open: what is outstanding, or an acknowledgement.
+    /// Sends what it retransmits once it is open: what is outstanding, or an acknowledgement.
     #[tactic(auto, unfolding(crate::specs::Client::again_by))]
     pub(crate) fn send_again(&self, request: &[u8], area: &mut [u8]) -> usize
         requires fits { FitsRequest self.now request.now }
         requires room { LARGEST_DATAGRAM ≤ length area.old }
         ensures sent { Sends self.now.setup (again_by ClientState.Opened (standing self.now request.now [])).sent (Some result) area.new }
-        ensures behind { KeepsBehind (Some result) area.old area.new }
+        ensures behind { KeepsAfter (Some result) area.old area.new }
     {
         if self.out > 0 {
             return self.send_request(request, area);
@@ -173,20 +173,20 @@ impl Client {
         self.send_ack(area)
     }
 
-    /// Its FIN.
+    /// Sends its FIN.
     pub(crate) fn send_fin(&self, area: &mut [u8]) -> usize
         requires room { LARGEST_DATAGRAM ≤ length area.old }
         ensures sent { Sends self.now.setup (Some (own_fin (standing self.now [] []))) (Some result) area.new }
-        ensures behind { KeepsBehind (Some result) area.old area.new }
+        ensures behind { KeepsAfter (Some result) area.old area.new }
     {
         self.send_bare(self.after_text(), FIN + ACK, area)
     }
 
-    /// The RST by which it gives its connection up.
+    /// Sends the RST that aborts its connection.
     pub(crate) fn send_reset(&self, area: &mut [u8]) -> usize
         requires room { LARGEST_DATAGRAM ≤ length area.old }
         ensures sent { Sends self.now.setup (Some (own_reset (standing self.now [] []))) (Some result) area.new }
-        ensures behind { KeepsBehind (Some result) area.old area.new }
+        ensures behind { KeepsAfter (Some result) area.old area.new }
     {
         self.send_bare(self.next_own(), RST + ACK, area)
     }

@@ -2,9 +2,9 @@
 
 ghost use Rattle.std.specs.Prelude.{◌≡◌, ◌+◌, ◌≤◌, ◌==◌, ◌&&◌, ◌||◌, ◌++◌, is_some, false, not, nat_lt, ℕ, [], List, true, if◌then◌else◌, slice_range, length};
 ghost use Rattle.tcp_segment.specs.Received.{plain_of};
-ghost use Rattle.tcp_machine.specs.Segments.{has_place};
-ghost use Rattle.tcp_machine.specs.Stands.{plain};
-ghost use Rattle.link_client.specs.Calls.{Did, DidAtText, FitsRequest, KeepsBehind, has_more_to_send, received_with, standing};
+ghost use Rattle.tcp_machine.specs.Segments.{occupies_sequence_space};
+ghost use Rattle.tcp_machine.specs.Represents.{plain};
+ghost use Rattle.link_client.specs.Calls.{Did, DidAtText, FitsRequest, KeepsAfter, has_more_to_send, received_with, standing};
 ghost use Rattle.link_client.specs.Client.{after_fin, client_takes, fin_out, fin_sent, hears_ack, is_receiving, is_reset_by, may_finish, sends_next, takes_by, takes_in_order, takes_text, has_outstanding};
 
 use crate::client::Client;
@@ -19,11 +19,11 @@ use uip_wire::LARGEST_DATAGRAM;
 pub(crate) struct Heard {
     /// The length of the datagram that it sends.
     pub sent: Option<usize>,
-    /// It took the segment's text.
+    /// The segment's text was accepted.
     pub took_text: bool,
 }
 
-/// It did not take the text.
+/// Returns that the text was not accepted.
 fn without_text(sent: Option<usize>) -> Heard
     ensures { result ≡ record { sent = sent; took_text = false } }
 {
@@ -33,7 +33,7 @@ fn without_text(sent: Option<usize>) -> Heard
     }
 }
 
-/// It took the text.
+/// Returns that the text was accepted.
 fn with_text(sent: Option<usize>) -> Heard
     ensures { result ≡ record { sent = sent; took_text = true } }
 {
@@ -43,29 +43,29 @@ fn with_text(sent: Option<usize>) -> Heard
     }
 }
 
-/// What was sent, and the place of the text in its datagram where it was taken.
-pub(crate) fn took(segment: &Segment, heard: Heard) -> Took
-    ensures sent { result.sent ≡ heard.sent }
+/// Returns what was sent, and the range of the text in its datagram if it was accepted.
+pub(crate) fn took(segment: &Segment, delivered: Heard) -> Took
+    ensures sent { result.sent ≡ delivered.sent }
     ensures inside { result.fresh_at + result.fresh_len ≤ segment.now.text_at + segment.now.text_len }
     ensures none { result.fresh_len ≡ 0 → result.fresh_at ≡ 0 }
     ensures fresh { (received bytes : List ℕ) → received ++ slice_range bytes result.fresh_at (result.fresh_at + result.fresh_len)
-        ≡ received_with heard.took_text received (plain_of segment.now bytes).text }
+        ≡ received_with delivered.took_text received (plain_of segment.now bytes).text }
 {
-    if heard.took_text && segment.text_len > 0 {
+    if delivered.took_text && segment.text_len > 0 {
         return Took {
-            sent: heard.sent,
+            sent: delivered.sent,
             fresh_at: segment.text_at,
             fresh_len: segment.text_len,
         };
     }
     Took {
-        sent: heard.sent,
+        sent: delivered.sent,
         fresh_at: 0,
         fresh_len: 0,
     }
 }
 
-/// What was out of the FIN is acknowledged.
+/// Returns the FIN's progress after its acknowledgement: a FIN that was sent is now acknowledged.
 fn fin_heard(fin: FinAt) -> FinAt
     ensures { result ≡ (if fin_out fin then FinAt.Acked else fin) }
 {
@@ -75,7 +75,7 @@ fn fin_heard(fin: FinAt) -> FinAt
     }
 }
 
-/// The state after the server's FIN.
+/// Returns the state after the server's FIN.
 fn after_fin(state: ClientState) -> ClientState
     ensures { result ≡ after_fin state }
 {
@@ -86,36 +86,36 @@ fn after_fin(state: ClientState) -> ClientState
     }
 }
 
-/// What stands in its order: text, a SYN or a FIN.
-fn has_place(segment: &Segment, piece: &[u8]) -> bool
-    ensures { result ≡ has_place (plain segment.now piece.now) }
+/// Returns whether the segment occupies sequence space: text, a SYN or a FIN.
+fn occupies_sequence_space(segment: &Segment, piece: &[u8]) -> bool
+    ensures { result ≡ occupies_sequence_space (plain segment.now piece.now) }
 {
     !piece.is_empty() || segment.has_syn() || segment.has_fin()
 }
 
 impl Client {
-    /// Something of its own is outstanding.
+    /// Returns whether something of its own is outstanding.
     fn waits_for_ack(&self) -> bool
         ensures { result ≡ has_outstanding (standing self.now [] []) }
     {
         self.out > 0 || self.fin == FinAt::Out
     }
 
-    /// It takes text.
+    /// Returns whether it accepts text.
     fn is_receiving(&self) -> bool
         ensures { result ≡ is_receiving self.now.state }
     {
         matches!(self.state, ClientState::Opened | ClientState::Closing)
     }
 
-    /// Bytes of its request may be sent.
+    /// Returns whether bytes of its request may be sent.
     fn has_text_to_send(&self, len: usize) -> bool
         ensures { result ≡ (not (has_outstanding (standing self.now [] [])) && (is_receiving self.now.state && nat_lt self.now.acked len)) }
     {
         !self.waits_for_ack() && self.is_receiving() && (self.acked as usize) < len
     }
 
-    /// It has nothing more to ask for.
+    /// Returns whether it has nothing more to request.
     fn may_finish(&self) -> bool
         ensures { result ≡ may_finish self.now.state }
     {
@@ -125,21 +125,21 @@ impl Client {
         )
     }
 
-    /// Its FIN may be sent.
+    /// Returns whether its FIN may be sent.
     fn has_fin_to_send(&self) -> bool
         ensures { result ≡ (not (has_outstanding (standing self.now [] [])) && (may_finish self.now.state && not (fin_sent self.now.fin))) }
     {
         !self.waits_for_ack() && self.may_finish() && self.fin == FinAt::NotSent
     }
 
-    /// What it sends next: request bytes, its FIN, or a bare ACK where one is owed.
+    /// Sends what is next: request bytes, its FIN, or a bare ACK if one is owed.
     #[tactic(auto, unfolding(crate::specs::Client::sends_next))]
     pub(crate) fn send_next(&mut self, request: &[u8], owed: bool, area: &mut [u8]) -> Option<usize>
         requires fits { FitsRequest self.old request.now }
         requires room { LARGEST_DATAGRAM ≤ length area.old }
         ensures fits { FitsRequest self.new request.now }
         ensures setup { self.new.setup ≡ self.old.setup }
-        ensures behind { KeepsBehind result area.old area.new }
+        ensures behind { KeepsAfter result area.old area.new }
         ensures answers { is_some result ≡ (has_more_to_send (standing self.old request.now []) || owed) }
         ensures step { (received : List ℕ) → Did (sends_next owed (standing self.old request.now received))
             (standing self.new request.now received) result area.new }
@@ -159,13 +159,13 @@ impl Client {
         None
     }
 
-    /// What is outstanding is acknowledged where the number is its next own one.
+    /// Records that what is outstanding is acknowledged, if the number is its next own one.
     fn hear_ack(&mut self, segment: &Segment)
         requires fits { self.old.acked + self.old.out ≤ 4096 }
         ensures setup { self.new.setup ≡ self.old.setup }
         ensures state { self.new.state ≡ self.old.state }
         ensures fits { (request : List ℕ) → FitsRequest self.old request → FitsRequest self.new request }
-        ensures heard { (request received text : List ℕ)
+        ensures delivered { (request received text : List ℕ)
             → hears_ack (standing self.old request received) (plain segment.now text) ≡ standing self.new request received }
     {
         if segment.has_ack() && self.waits_for_ack() && segment.ack.0 == self.next_own().0 {
@@ -175,7 +175,7 @@ impl Client {
         }
     }
 
-    /// The text of a segment at the expected number, and then its FIN.
+    /// Accepts the text of a segment at RCV.NXT, and then its FIN.
     fn take_text(&mut self, segment: &Segment, piece: &[u8])
         requires short { length piece.now ≤ LARGEST_DATAGRAM }
         ensures setup { self.new.setup ≡ self.old.setup }
@@ -192,14 +192,14 @@ impl Client {
         self.rcv = self.rcv.add(count);
     }
 
-    /// The segment stands at the expected number, and its text is taken.
+    /// Returns whether the segment is at RCV.NXT and its text is accepted.
     fn is_next(&self, segment: &Segment) -> bool
         ensures { result ≡ ((segment.now.seq.0 == self.now.rcv.0) && is_receiving self.now.state) }
     {
         segment.seq.0 == self.rcv.0 && self.is_receiving()
     }
 
-    /// A segment whose acknowledgement was heard.
+    /// Handles a segment whose acknowledgement was recorded.
     #[tactic(auto, unfolding(crate::specs::Client::takes_in_order))]
     fn take_in_order(
         &mut self,
@@ -213,14 +213,14 @@ impl Client {
         requires room { LARGEST_DATAGRAM ≤ length area.old }
         ensures fits { FitsRequest self.new request.now }
         ensures setup { self.new.setup ≡ self.old.setup }
-        ensures behind { KeepsBehind result.sent area.old area.new }
+        ensures behind { KeepsAfter result.sent area.old area.new }
         ensures step { DidAtText (λ c. takes_in_order c (plain segment.now piece.now)) request.now piece.now result.took_text
             self.old self.new result.sent area.new }
     {
         if segment.has_syn() {
             return without_text(self.send_next(request, true, area));
         }
-        if !has_place(segment, piece) {
+        if !occupies_sequence_space(segment, piece) {
             return without_text(self.send_next(request, false, area));
         }
         if self.is_next(segment) {
@@ -230,14 +230,14 @@ impl Client {
         without_text(self.send_next(request, true, area))
     }
 
-    /// A segment that is heard before the SYN is answered.
+    /// Handles a segment that arrives before the SYN is answered.
     #[tactic(auto, unfolding(crate::specs::Client::takes_by))]
     fn take_opening(&mut self, request: &[u8], segment: &Segment, area: &mut [u8]) -> Option<usize>
         requires fits { FitsRequest self.old request.now }
         requires room { LARGEST_DATAGRAM ≤ length area.old }
         ensures fits { FitsRequest self.new request.now }
         ensures setup { self.new.setup ≡ self.old.setup }
-        ensures behind { KeepsBehind result area.old area.new }
+        ensures behind { KeepsAfter result area.old area.new }
         ensures step { (received text : List ℕ) → Did (takes_by ClientState.Opening (standing self.old request.now received)
             (plain segment.now text)) (standing self.new request.now received) result area.new }
     {
@@ -249,7 +249,7 @@ impl Client {
         None
     }
 
-    /// A segment without RST.
+    /// Handles a segment without RST.
     #[tactic(auto, unfolding(crate::specs::Client::takes_by))]
     fn take_by_state(
         &mut self,
@@ -263,7 +263,7 @@ impl Client {
         requires room { LARGEST_DATAGRAM ≤ length area.old }
         ensures fits { FitsRequest self.new request.now }
         ensures setup { self.new.setup ≡ self.old.setup }
-        ensures behind { KeepsBehind result.sent area.old area.new }
+        ensures behind { KeepsAfter result.sent area.old area.new }
         ensures step { DidAtText (λ c. takes_by self.old.state c (plain segment.now piece.now)) request.now piece.now result.took_text
             self.old self.new result.sent area.new }
     {
@@ -278,7 +278,7 @@ impl Client {
         }
     }
 
-    /// A RST counts where it answers the SYN, and afterwards at the expected number.
+    /// Returns whether a RST is valid: as the answer to the SYN, and later at RCV.NXT.
     fn is_reset_by(&self, segment: &Segment) -> bool
         ensures { (request received text : List ℕ) → is_reset_by self.now.state (standing self.now request received)
             (plain segment.now text) ≡ result }
@@ -292,7 +292,7 @@ impl Client {
         }
     }
 
-    /// A RST.
+    /// Handles a RST.
     fn take_reset(&mut self, segment: &Segment)
         ensures setup { self.new.setup ≡ self.old.setup }
         ensures fits { (request : List ℕ) → FitsRequest self.old request → FitsRequest self.new request }
@@ -305,7 +305,7 @@ impl Client {
         }
     }
 
-    /// A segment of its server; `piece` is the segment's text.
+    /// Handles a segment of its server; `piece` is the segment's text.
     #[tactic(auto, unfolding(crate::specs::Client::client_takes))]
     pub(crate) fn take_segment(
         &mut self,
@@ -319,7 +319,7 @@ impl Client {
         requires room { LARGEST_DATAGRAM ≤ length area.old }
         ensures fits { FitsRequest self.new request.now }
         ensures setup { self.new.setup ≡ self.old.setup }
-        ensures behind { KeepsBehind result.sent area.old area.new }
+        ensures behind { KeepsAfter result.sent area.old area.new }
         ensures step { DidAtText (λ c. client_takes c (plain segment.now piece.now)) request.now piece.now result.took_text
             self.old self.new result.sent area.new }
     {

@@ -1,4 +1,4 @@
--- What a call of the node did is told to the clients and to the list of datagrams.
+-- What a call of the node did updates the clients and the list of datagrams.
 use Rattle.std.specs.Option.{option_map_or, is_some}
 use Rattle.std.proofs.Common.{◌≡◌, ◌≤◌, ℕ, zero, suc, Bool, true, false, List, [], length, refl, sym, ap, ◌∙◌, subst, arith, Option, Some, None, slice_get}
 use Rattle.std.specs.Global.{Vec}
@@ -17,14 +17,14 @@ use Rattle.uip_node.specs.Spoken.{IsSent}
 use Rattle.link_client.specs.State.{Client}
 use Rattle.link_client.specs.Calls.{FitsRequest}
 use Rattle.link_world.specs.Bytes.{bytes_by, node_bytes}
-use Rattle.link_world.specs.World.{World, Side, Content, addressed, buries, numbered, posts, posts_reply}
+use Rattle.link_world.specs.World.{World, Side, Content, addressed, retires, numbered, posts, posts_reply}
 use Rattle.link_world.specs.World.Content.{OfEcho, OfSegment}
 use Rattle.link_world.specs.declared.who.Who.TheVariants.{FromNode}
 use Rattle.link_world.proofs.Sides.{addressed_is}
 use Rattle.link_replay.specs.Epochs.{OnlyEpoch}
 use Rattle.link_replay.specs.Matched.{Matched}
 use Rattle.link_replay.specs.Noting.{gone_pair, is_sent_again, pair_at, sockets_at}
-use Rattle.link_replay.specs.Stands.{IsLink, LinkStands, SentStands, SideStands}
+use Rattle.link_replay.specs.Represents.{IsLink, LinkRepresents, SentRepresents, SideRepresents}
 use Rattle.link_replay.specs.Telling.{AreTo, IsTo}
 use Rattle.link_replay.specs.State.{Link, link_of}
 use Rattle.link_replay.specs.Plain.{CodeSent}
@@ -62,41 +62,41 @@ link_buried addr sides sent ys m h =
 
 -- the world after the node's step and the burial, before the answer is posted
 abbrev pub left_by : World → AbstractNode → Option Connection → World
-left_by w node gone = record w { node = node; sides = buries gone w.sides }
+left_by w node gone = record w { node = node; sides = retires gone w.sides }
 
-sent_left : (link : Link) (w : World) (node : AbstractNode) (gone : Option Connection) → node.addr ≡ w.node.addr → LinkStands link w → Matched (SentStands (left_by w node gone)) link.sent w.sent
+sent_left : (link : Link) (w : World) (node : AbstractNode) (gone : Option Connection) → node.addr ≡ w.node.addr → LinkRepresents link w → Matched (SentRepresents (left_by w node gone)) link.sent w.sent
 sent_left link w node gone e h = sent_stays w (left_by w node gone) (sym e) (buried_places gone w.sides) link.sent w.sent h.sent
 
 sides_left : (sides : Vec CodeSide) (sent : List CodeSent) (w : World) (node : AbstractNode) (g : Connection) (ys : List CodeSide) → length sides.items ≡ length ys → node.addr ≡ w.node.addr
-    → LinkStands (link_of sides.items sent) w → Matched SideStands ys (buries (Some g) w.sides) → LinkStands (link_of (with_items sides ys).items sent) (left_by w node (Some g))
+    → LinkRepresents (link_of sides.items sent) w → Matched SideRepresents ys (retires (Some g) w.sides) → LinkRepresents (link_of (with_items sides ys).items sent) (left_by w node (Some g))
 sides_left sides sent w node g ys l e h m = record {
-  sides = subst (λ (xs : List CodeSide). Matched SideStands xs (buries (Some g) w.sides)) (sym (with_same sides ys l)) m;
+  sides = subst (λ (xs : List CodeSide). Matched SideRepresents xs (retires (Some g) w.sides)) (sym (with_same sides ys l)) m;
   sent = sent_left (link_of sides.items sent) w node (Some g) e h;
 }
 
 -- a connection became CLOSED
 pub one_gone : (sides : Vec CodeSide) (sent : List CodeSent) (w : World) (node : AbstractNode) (gone : Option Connection) (pair : SocketPair) (ys : List CodeSide) → length sides.items ≡ length ys
-    → Some pair ≡ gone_pair gone → node.addr ≡ w.node.addr → LinkStands (link_of sides.items sent) w
-    → ((ss : List Side) (g : Connection) → pair_at g.sockets ≡ pair → Matched SideStands sides.items ss → Matched SideStands ys (buries (Some g) ss))
-    → LinkStands (link_of (with_items sides ys).items sent) (left_by w node gone)
+    → Some pair ≡ gone_pair gone → node.addr ≡ w.node.addr → LinkRepresents (link_of sides.items sent) w
+    → ((ss : List Side) (g : Connection) → pair_at g.sockets ≡ pair → Matched SideRepresents sides.items ss → Matched SideRepresents ys (retires (Some g) ss))
+    → LinkRepresents (link_of (with_items sides ys).items sent) (left_by w node gone)
 one_gone sides sent w node None pair ys l p e h b = absurd (cc)
 one_gone sides sent w node (Some g) pair ys l p e h b = sides_left sides sent w node g ys l e h (b w.sides g (let q : pair ≡ pair_at g.sockets = cc in sym q) h.sides)
 
 -- none did
-pub none_gone : (link : Link) (w : World) (node : AbstractNode) (gone : Option Connection) → None ≡ gone_pair gone → node.addr ≡ w.node.addr → LinkStands link w → LinkStands link (left_by w node gone)
+pub none_gone : (link : Link) (w : World) (node : AbstractNode) (gone : Option Connection) → None ≡ gone_pair gone → node.addr ≡ w.node.addr → LinkRepresents link w → LinkRepresents link (left_by w node gone)
 none_gone link w node None p e h = record { sides = h.sides; sent = sent_left link w node None e h }
 none_gone link w node (Some g) p e h = absurd (cc)
 
 -- the number of the client that an answer goes to
 pub record IsNumber (xs : List CodeSide) (to : Option SocketPair) (number : ℕ) : Type 0 where
   pub none : to ≡ None → number ≡ 0
-  pub some : (pair : SocketPair) → to ≡ Some pair → (ss : List Side) → Matched SideStands xs ss → number ≡ addressed 1 (sockets_at pair) ss
+  pub some : (pair : SocketPair) → to ≡ Some pair → (ss : List Side) → Matched SideRepresents xs ss → number ≡ addressed 1 (sockets_at pair) ss
 
 -- an answer to no client has the number 0, and one to a client its client's
 pub number_of_none : (xs : List CodeSide) (to : Option SocketPair) (number : ℕ) → to ≡ None → number ≡ 0 → IsNumber xs to number
 number_of_none xs to number t e = record { none = λ u. e; some = λ pair u. absurd (let z : None ≡ Some pair = sym t ∙ u in cc) }
 
-pub number_of_some : (xs : List CodeSide) (to : Option SocketPair) (number : ℕ) (pair : SocketPair) → to ≡ Some pair → ((ss : List Side) → Matched SideStands xs ss → number ≡ addressed 1 (sockets_at pair) ss) → IsNumber xs to number
+pub number_of_some : (xs : List CodeSide) (to : Option SocketPair) (number : ℕ) (pair : SocketPair) → to ≡ Some pair → ((ss : List Side) → Matched SideRepresents xs ss → number ≡ addressed 1 (sockets_at pair) ss) → IsNumber xs to number
 number_of_some xs to number pair t e = record {
   none = λ u. absurd (let z : Some pair ≡ None = sym t ∙ u in cc);
   some = λ other u ss m. (let z : Some pair ≡ Some other = sym t ∙ u in let same : pair ≡ other = cc in subst (λ (p : SocketPair). number ≡ addressed 1 (sockets_at p) ss) same (e ss m));
@@ -108,7 +108,7 @@ meant_for number None datagram = datagram
 meant_for zero (Some pair) datagram = []
 meant_for (suc number) (Some pair) datagram = datagram
 
--- the three ways that the code comes to the bytes
+-- the three ways in which the code makes the bytes
 pub meant_nothing : (number : ℕ) (to : Option SocketPair) (datagram : List ℕ) → number ≡ 0 → is_some to ≡ true → [] ≡ meant_for number to datagram
 meant_nothing number None datagram e h = absurd (cc)
 meant_nothing zero (Some pair) datagram e h = refl
@@ -134,7 +134,7 @@ node_said addr sockets id s ss pair (suc k) e =
 
 -- an answer is posted
 pub answer_posted : (P : World → Type 0) (w : World) (reply : Reply) (xs : List CodeSide) (to : Option SocketPair) (number : ℕ) (again : Bool) (datagram meant : List ℕ)
-    → IsTo to reply → again ≡ is_sent_again (Some reply) → datagram ≡ reply_bytes w.node.addr reply → Matched SideStands xs w.sides → IsNumber xs to number → meant ≡ meant_for number to datagram
+    → IsTo to reply → again ≡ is_sent_again (Some reply) → datagram ≡ reply_bytes w.node.addr reply → Matched SideRepresents xs w.sides → IsNumber xs to number → meant ≡ meant_for number to datagram
     → ((content : Content) → meant ≡ bytes_by w (FromNode number) content → P (posts w (FromNode number) again content)) → P (posts_reply w (Some reply))
 answer_posted P w (Echo request) xs to number again datagram meant t a d m n e post =
     let bytes : meant ≡ echo_reply request = e ∙ ap (λ (o : Option SocketPair). meant_for number o datagram) t ∙ d in
@@ -145,15 +145,15 @@ answer_posted P w (Tcp sockets id again' s) xs to number again datagram meant t 
     = e ∙ ap (λ (o : Option SocketPair). meant_for number o datagram) t ∙ ap (meant_for number (Some (pair_at sockets))) d ∙ node_said w.node.addr sockets id s w.sides (pair_at sockets) number to_whom in
     subst (λ (k : ℕ). P (posts w (FromNode k) again' (OfSegment id s))) to_whom (subst (λ (b : Bool). P (posts w (FromNode number) b (OfSegment id s))) a (post (OfSegment id s) bytes))
 
--- the node said nothing
-pub quiet : (P : World → Type 0) (w : World) (addr : Addr) (said : Option Reply) (sent : Option ℕ) (packet : Buffer) → sent ≡ None → IsSent addr said sent packet → P w → P (posts_reply w said)
+-- the node sent nothing
+pub quiet : (P : World → Type 0) (w : World) (addr : Addr) (output : Option Reply) (sent : Option ℕ) (packet : Buffer) → sent ≡ None → IsSent addr output sent packet → P w → P (posts_reply w output)
 quiet P w addr None sent packet e h p = p
 quiet P w addr (Some reply) sent packet e h p = absurd (let z : None ≡ Some (length (reply_bytes addr reply)) = sym e ∙ h.answer in cc)
 
 -- it answered
-pub loud : (P : World → Type 0) (w : World) (addr : Addr) (to : Option SocketPair) (said : Option Reply) (sent : Option ℕ) (size : ℕ) (packet : Buffer) (again : Bool)
-    → sent ≡ Some size → addr ≡ w.node.addr → AreTo to said → again ≡ is_sent_again said → IsSent addr said sent packet
+pub loud : (P : World → Type 0) (w : World) (addr : Addr) (to : Option SocketPair) (output : Option Reply) (sent : Option ℕ) (size : ℕ) (packet : Buffer) (again : Bool)
+    → sent ≡ Some size → addr ≡ w.node.addr → AreTo to output → again ≡ is_sent_again output → IsSent addr output sent packet
     → ((reply : Reply) → IsTo to reply → again ≡ is_sent_again (Some reply) → datagram_in packet ≡ reply_bytes w.node.addr reply → P (posts_reply w (Some reply)))
-    → P (posts_reply w said)
+    → P (posts_reply w output)
 loud P w addr to None sent size packet again e a t g h post = absurd (let z : None ≡ Some size = sym h ∙ e in cc)
 loud P w addr to (Some reply) sent size packet again e a t g h post = post reply t g (h.datagram ∙ ap (λ (x : Addr). reply_bytes x reply) a)

@@ -1,12 +1,14 @@
 -- The web server answers a request in as many texts as its pieces need.
+-- [add: counter] Counter: the greatest length of a page.
+-- [add: function] Function: the texts that its script needs.
 use Rattle.std.specs.Int.{div_ceil}
 use Rattle.std.proofs.Common.{◌≡◌, ◌≢◌, ℕ, suc, ◌+◌, ◌-◌, ◌<◌, ◌≤◌, ◌==◌, min, Bool, true, false, if◌then◌else◌, ◌&&◌, not, ◌⊎◌, inl, inr, List, [], ◌∷◌, ◌++◌, length, decimal, replicate, flat_map, refl, sym, ap, ◌∙◌, subst, arith, nat_lt, nat_le, length-append, true≢false}
 use Rattle.std.proofs.lemmas.Bool.{and_parts, eqb-true, eq-eqb, ltb-true, leb-true, le-leb, cases_lt}
 use Rattle.std.proofs.lemmas.Grind.{common_steps}
 use Rattle.std.proofs.lemmas.List.{length-replicate}
 use Rattle.std.proofs.lemmas.List.Sums.{sum_by-cons}
-use Rattle.app_events.specs.Part.{Part, Moment}
-use Rattle.app_events.specs.Pages.{IsMoment}
+use Rattle.app_events.specs.AppSpec.{AppState, Snapshot}
+use Rattle.app_events.specs.Pages.{IsSnapshot}
 use Rattle.app_events.specs.declared.row.Row.{Row}
 use Rattle.app_events.specs.declared.want.Want.{Want}
 use Rattle.app_events.specs.declared.want.Want.TheVariants.{Nothing, Send, Close, Abort}
@@ -24,7 +26,7 @@ use Rattle.web_pages.specs.Pieces.Say.{Plain, Made}
 use Rattle.web_pages.specs.Pages.{made_text, hits_of, page_text, reach_end, page_for, whole_for, page, is_page_whole}
 use Rattle.web_pages.specs.Lemmas.Growing.{silent_text, silent_end, stopped_text, made_first, made_end}
 use Rattle.web_pages.specs.Lemmas.WebLaws.{newdata_grows, with_capture}
-use Rattle.web_pages.specs.WebMeaning.{web_meaning, web_want, is_acknowledged, waits_for_capture, left_of}
+use Rattle.web_pages.specs.WebMeaning.{web_spec, web_want, is_acknowledged, waits_for_capture, left_of}
 use Rattle.web_pages.proofs.Bounds.{silent_none, text_bound}
 use Rattle.web_pages.proofs.Limits.{uip_short}
 use Rattle.uip_node.specs.Answering.{GoesOnBy, AnswersIn, AnswersPolled}
@@ -36,7 +38,7 @@ use Rattle.link_replay.proofs.TextCounts.{left_in, behind, counted, shorter, one
 not_twenty : (n : ℕ) → n < 20 → (n == 20) ≡ false
 not_twenty n l = grind (arith, common_steps)
 
--- ---- what a call says is something, and no more than its greatest length
+-- ---- the text of a call is not empty, and no longer than its greatest length
 
 ten_some : (n : ℕ) → 0 < length (in_ten_places n)
 ten_some n =
@@ -53,20 +55,20 @@ rows_some [] h = absurd (omega arith)
 rows_some (row ∷ rows) h = omega arith
 
 module _ (files : List File) where
-  made_some : (function : Function) (argument : List ℕ) (capture : Moment) → takes_capture function ≡ true → IsMoment capture → 0 < length capture.now.rows → 0 < length (made_text files function argument capture)
+  made_some : (function : Function) (argument : List ℕ) (capture : Snapshot) → takes_capture function ≡ true → IsSnapshot capture → 0 < length capture.now.rows → 0 < length (made_text files function argument capture)
   made_some FileStats argument capture e is some = ten_some (hits_of files capture.numbers argument)
   made_some TcpConnections argument capture e is some = rows_some capture.now.rows some
   made_some NetStats argument capture e is some = lines_some capture.now.net is.now.twenty
   made_some Ticks argument capture e is some = ten_some capture.now.ticks
   made_some Unknown argument capture e is some = absurd cc
 
-  made_short : (function : Function) (argument : List ℕ) (capture : Moment) → takes_capture function ≡ true → IsMoment capture → length (made_text files function argument capture) ≤ length_at_most function
+  made_short : (function : Function) (argument : List ℕ) (capture : Snapshot) → takes_capture function ≡ true → IsSnapshot capture → length (made_text files function argument capture) ≤ length_at_most function
   made_short function argument capture e is =
-      let all = text_bound uip uip_short files (Made function argument ∷ []) (capture ∷ []) (all_cons IsMoment capture [] is (all_nil IsMoment)) in
+      let all = text_bound uip uip_short files (Made function argument ∷ []) (capture ∷ []) (all_cons IsSnapshot capture [] is (all_nil IsSnapshot)) in
       omega (arith, all, ap length (made_first uip files function argument [] capture [] e), length-append (made_text files function argument capture) [])
 
   -- ---- the lengths of pieces: of a call its greatest, until its capture is taken
-  abbrev pub sizes : List (Say Function) → List Moment → List ℕ
+  abbrev pub sizes : List (Say Function) → List Snapshot → List ℕ
   sizes [] captures = []
   sizes (Plain text ∷ more) captures = length text ∷ sizes more captures
   sizes (Made function argument ∷ more) [] = length_at_most function ∷ sizes more []
@@ -74,12 +76,12 @@ module _ (files : List File) where
       if takes_capture function then length (made_text files function argument capture) ∷ sizes more later
       else length_at_most function ∷ sizes more (capture ∷ later)
 
-  taken_size : (function : Function) (argument : List ℕ) (more : List (Say Function)) (capture : Moment) (later : List Moment) → takes_capture function ≡ true →
+  taken_size : (function : Function) (argument : List ℕ) (more : List (Say Function)) (capture : Snapshot) (later : List Snapshot) → takes_capture function ≡ true →
       sizes (Made function argument ∷ more) (capture ∷ later) ≡ length (made_text files function argument capture) ∷ sizes more later
   taken_size function argument more capture later e =
       ap (λ b. if b then length (made_text files function argument capture) ∷ sizes more later else length_at_most function ∷ sizes more (capture ∷ later)) e
 
-  silent_size : (function : Function) (argument : List ℕ) (more : List (Say Function)) (captures : List Moment) → takes_capture function ≡ false →
+  silent_size : (function : Function) (argument : List ℕ) (more : List (Say Function)) (captures : List Snapshot) → takes_capture function ≡ false →
       sizes (Made function argument ∷ more) captures ≡ length_at_most function ∷ sizes more captures
   silent_size function argument more [] e = refl
   silent_size function argument more (capture ∷ later) e =
@@ -87,17 +89,17 @@ module _ (files : List File) where
 
   module _ (mss : ℕ) (some : 0 < mss) where
     -- one piece, and what follows it
-    by_piece : (n said all a x : ℕ) (ns : List ℕ) → all ≡ n + said → 0 < x → a + x ≤ all → (x ≡ mss) ⊎ (a + x ≡ all) →
-        ((b : ℕ) → b + x ≤ said → (x ≡ mss) ⊎ (b + x ≡ said) → left_in mss some ns (b + x) < left_in mss some ns b) →
+    by_piece : (n output all a x : ℕ) (ns : List ℕ) → all ≡ n + output → 0 < x → a + x ≤ all → (x ≡ mss) ⊎ (a + x ≡ all) →
+        ((b : ℕ) → b + x ≤ output → (x ≡ mss) ⊎ (b + x ≡ output) → left_in mss some ns (b + x) < left_in mss some ns b) →
         left_in mss some (n ∷ ns) (a + x) < left_in mss some (n ∷ ns) a
-    by_piece n said all a x ns e l within whole rest =
-        one_less mss some n a x said ns l (omega (arith, within, e)) (elim whole [ inl i ↦ inl i | inr i ↦ inr (i ∙ e) ])
+    by_piece n output all a x ns e l within whole rest =
+        one_less mss some n a x output ns l (omega (arith, within, e)) (elim whole [ inl i ↦ inl i | inr i ↦ inr (i ∙ e) ])
         (λ h. rest (a - n) (omega (arith, within, e, h)) (elim whole [ inl i ↦ inl i | inr i ↦ inr (omega (arith, i, e, h)) ]))
 
-    abbrev Less : List (Say Function) → List Moment → ℕ → ℕ → Type 0
+    abbrev Less : List (Say Function) → List Snapshot → ℕ → ℕ → Type 0
     Less pieces captures a x = left_in mss some (sizes pieces captures) (a + x) < left_in mss some (sizes pieces captures) a
 
-    pub less_left : (pieces : List (Say Function)) (captures : List Moment) (a x : ℕ) → 0 < x → a + x ≤ length (page_text files pieces captures) → (x ≡ mss) ⊎ (a + x ≡ length (page_text files pieces captures)) → Less pieces captures a x
+    pub less_left : (pieces : List (Say Function)) (captures : List Snapshot) (a x : ℕ) → 0 < x → a + x ≤ length (page_text files pieces captures) → (x ≡ mss) ⊎ (a + x ≡ length (page_text files pieces captures)) → Less pieces captures a x
     less_left [] captures a x l within whole = absurd (omega arith)
     less_left (Plain text ∷ more) captures a x l within whole =
         by_piece (length text) (length (page_text files more captures)) (length (text ++ page_text files more captures)) a x (sizes more captures) (length-append text (page_text files more captures)) l within whole
@@ -125,12 +127,12 @@ module _ (files : List File) where
     abbrev Fewer : List ℕ → List ℕ → ℕ → Type 0
     Fewer after before a = left_in mss some after a ≤ left_in mss some before a
 
-    past_piece : (n said a : ℕ) (after before : List ℕ) → a ≡ n + said → Fewer after before said → Fewer (n ∷ after) (n ∷ before) a
-    past_piece n said a after before e h =
-        let rest : a - n ≡ said = omega (arith, e) in
+    past_piece : (n output a : ℕ) (after before : List ℕ) → a ≡ n + output → Fewer after before output → Fewer (n ∷ after) (n ∷ before) a
+    past_piece n output a after before e h =
+        let rest : a - n ≡ output = omega (arith, e) in
         omega (arith, behind mss some n a after (omega (arith, e)), behind mss some n a before (omega (arith, e)), ap (λ k. left_in mss some after k) rest, ap (λ k. left_in mss some before k) rest, h)
 
-    fewer_left : (pieces : List (Say Function)) (captures : List Moment) (capture : Moment) (a : ℕ) → IsMoment capture → reach_end pieces captures ≡ false → a ≡ length (page_text files pieces captures) →
+    fewer_left : (pieces : List (Say Function)) (captures : List Snapshot) (capture : Snapshot) (a : ℕ) → IsSnapshot capture → reach_end pieces captures ≡ false → a ≡ length (page_text files pieces captures) →
         Fewer (sizes pieces (captures ++ capture ∷ [])) (sizes pieces captures) a
     fewer_left [] captures capture a is stops h = absurd (cc)
     fewer_left (Plain text ∷ more) captures capture a is stops h =
@@ -158,11 +160,11 @@ module _ (files : List File) where
         (let z : a ≡ length_at_most function + length (page_text files more (first ∷ later)) = omega (arith, h, ap length (silent_text uip files function argument more (first ∷ later) e), silent_none function e) in z)
         (fewer_left more (first ∷ later) capture (length (page_text files more (first ∷ later))) is (sym (silent_end uip function argument more (first ∷ later) e) ∙ stops) refl))))
 
-    -- and the text goes on
-    abbrev Longer : List (Say Function) → List Moment → Moment → Type 0
+    -- and the text continues
+    abbrev Longer : List (Say Function) → List Snapshot → Snapshot → Type 0
     Longer pieces captures capture = length (page_text files pieces captures) < length (page_text files pieces (captures ++ capture ∷ []))
 
-    text_longer : (pieces : List (Say Function)) (captures : List Moment) (capture : Moment) → IsMoment capture → 0 < length capture.now.rows → reach_end pieces captures ≡ false → Longer pieces captures capture
+    text_longer : (pieces : List (Say Function)) (captures : List Snapshot) (capture : Snapshot) → IsSnapshot capture → 0 < length capture.now.rows → reach_end pieces captures ≡ false → Longer pieces captures capture
     text_longer [] captures capture is l stops = absurd (cc)
     text_longer (Plain text ∷ more) captures capture is l stops =
         omega (arith, length-append text (page_text files more captures), length-append text (page_text files more (captures ++ capture ∷ [])), text_longer more captures capture is l stops)
@@ -210,78 +212,78 @@ module _ (files : List File) (request : List ℕ) (decided : wanted request ≢ 
   abbrev wanted_pieces : List (Say Function)
   wanted_pieces = pieces_for files (wanted request)
 
-  -- it was polled so often, and no more is acknowledged than said
-  abbrev pub fine : ℕ → Part → Bool
-  fine waited p = nat_le p.polls waited && nat_le p.acked (length (page files p.heard p.captures))
+  -- it was polled this often, and no more is acknowledged than was sent
+  abbrev pub fine : ℕ → AppState → Bool
+  fine waited p = nat_le p.polls waited && nat_le p.acked (length (page files p.delivered p.captures))
 
   -- the texts that are left
-  abbrev pub left : Part → ℕ
+  abbrev pub left : AppState → ℕ
   left p = left_in mss some (sizes files wanted_pieces p.captures) p.acked
 
-  -- what is said is said of the pieces of the whole request
-  record SaysPieces (p : Part) : Type 0 where
-    text : page files p.heard p.captures ≡ page_text files wanted_pieces p.captures
-    whole : is_page_whole files p.heard p.captures ≡ reach_end wanted_pieces p.captures
+  -- the output is that of the pieces of the whole request
+  record SaysPieces (p : AppState) : Type 0 where
+    text : page files p.delivered p.captures ≡ page_text files wanted_pieces p.captures
+    whole : is_page_whole files p.delivered p.captures ≡ reach_end wanted_pieces p.captures
 
-  says_named : (p : Part) (rest name : List ℕ) → p.heard ++ rest ≡ request → wanted p.heard ≡ Name name → SaysPieces p
+  says_named : (p : AppState) (rest name : List ℕ) → p.delivered ++ rest ≡ request → wanted p.delivered ≡ Name name → SaysPieces p
   says_named p rest name joined e =
-      let all : wanted request ≡ Name name = ap wanted (sym joined) ∙ name_stays p.heard rest name e in
+      let all : wanted request ≡ Name name = ap wanted (sym joined) ∙ name_stays p.delivered rest name e in
       record {
         text = ap (λ w. page_for files w p.captures) e ∙ ap (λ w. page_text files (pieces_for files w) p.captures) (sym all);
         whole = ap (λ w. whole_for files w p.captures) e ∙ ap (λ w. reach_end (pieces_for files w) p.captures) (sym all);
       }
 
-  says_some : (p : Part) (rest : List ℕ) → p.heard ++ rest ≡ request → (w : Wanted) → wanted p.heard ≡ w → 0 < length (page files p.heard p.captures) → SaysPieces p
+  says_some : (p : AppState) (rest : List ℕ) → p.delivered ++ rest ≡ request → (w : Wanted) → wanted p.delivered ≡ w → 0 < length (page files p.delivered p.captures) → SaysPieces p
   says_some p rest joined NotYet e h = absurd (let z : ⊥ = omega (arith, h, ap (λ w. length (page_for files w p.captures)) e) in z)
   says_some p rest joined Refused e h = absurd (let z : ⊥ = omega (arith, h, ap (λ w. length (page_for files w p.captures)) e) in z)
   says_some p rest joined (Name name) e h = says_named p rest name joined e
 
-  -- after so many polls
+  -- after this number of polls
   module _ (waited : ℕ) (patient : waited < 20) where
-    record IsFine (p : Part) : Type 0 where
+    record IsFine (p : AppState) : Type 0 where
       polls : p.polls ≤ waited
-      acked : p.acked ≤ length (page files p.heard p.captures)
+      acked : p.acked ≤ length (page files p.delivered p.captures)
 
-    is_fine : (p : Part) → fine waited p ≡ true → IsFine p
+    is_fine : (p : AppState) → fine waited p ≡ true → IsFine p
     is_fine p e =
-        let both = and_parts (nat_le p.polls waited) (nat_le p.acked (length (page files p.heard p.captures))) e in
-        record { polls = leb-true p.polls waited both.0; acked = leb-true p.acked (length (page files p.heard p.captures)) both.1 }
+        let both = and_parts (nat_le p.polls waited) (nat_le p.acked (length (page files p.delivered p.captures))) e in
+        record { polls = leb-true p.polls waited both.0; acked = leb-true p.acked (length (page files p.delivered p.captures)) both.1 }
 
-    as_fine : (p : Part) → p.polls ≤ waited → p.acked ≤ length (page files p.heard p.captures) → fine waited p ≡ true
-    as_fine p e h = ap (λ b. b && nat_le p.acked (length (page files p.heard p.captures))) (le-leb p.polls waited e) ∙ le-leb p.acked (length (page files p.heard p.captures)) h
+    as_fine : (p : AppState) → p.polls ≤ waited → p.acked ≤ length (page files p.delivered p.captures) → fine waited p ≡ true
+    as_fine p e h = ap (λ b. b && nat_le p.acked (length (page files p.delivered p.captures))) (le-leb p.polls waited e) ∙ le-leb p.acked (length (page files p.delivered p.captures)) h
 
-    -- what it wants, where nothing would be wrong
-    wants_on : (q : Part) (most : ℕ) (rest : List ℕ) → q.heard ++ rest ≡ request → fine waited q ≡ true → left q ≤ most →
-        (left_of files q ≡ 0 → is_page_whole files q.heard q.captures && is_acknowledged files q ≡ false → q.heard ≡ request → ⊥) → GoesOnBy (web_meaning files) request mss (fine waited) left q most (web_want files q)
+    -- what it requests, if nothing is wrong
+    wants_on : (q : AppState) (most : ℕ) (rest : List ℕ) → q.delivered ++ rest ≡ request → fine waited q ≡ true → left q ≤ most →
+        (left_of files q ≡ 0 → is_page_whole files q.delivered q.captures && is_acknowledged files q ≡ false → q.delivered ≡ request → ⊥) → GoesOnBy (web_spec files) request mss (fine waited) left q most (web_want files q)
     wants_on q most rest joined f few none =
         let is = is_fine q f in
-        let P : Want → Type 0 = GoesOnBy (web_meaning files) request mss (fine waited) left q most in
-        let by_end : Want = if is_page_whole files q.heard q.captures && is_acknowledged files q then Close else (if nat_lt 0 (left_of files q) then Send (min 1460 (left_of files q)) else Nothing) in
+        let P : Want → Type 0 = GoesOnBy (web_spec files) request mss (fine waited) left q most in
+        let by_end : Want = if is_page_whole files q.delivered q.captures && is_acknowledged files q then Close else (if nat_lt 0 (left_of files q) then Send (min 1460 (left_of files q)) else Nothing) in
         subst P (sym (ap (λ b. if b then Abort else by_end) (let z : (q.polls == 20) ≡ false = not_twenty q.polls (let y = is.polls in omega (arith, y, patient)) in z)))
-        (both_ways (is_page_whole files q.heard q.captures && is_acknowledged files q)
+        (both_ways (is_page_whole files q.delivered q.captures && is_acknowledged files q)
         (λ e. subst P (sym (ap (λ b. if b then Close else (if nat_lt 0 (left_of files q) then Send (min 1460 (left_of files q)) else Nothing)) e)) tt)
         (λ e. subst P (sym (ap (λ b. if b then Close else (if nat_lt 0 (left_of files q) then Send (min 1460 (left_of files q)) else Nothing)) e))
         (both_ways (nat_lt 0 (left_of files q))
         (λ l. subst P (sym (ap (λ b. if b then Send (min 1460 (left_of files q)) else Nothing) l)) (sends q most rest joined is few (ltb-true 0 (left_of files q) l)))
         (λ l. subst P (sym (ap (λ b. if b then Send (min 1460 (left_of files q)) else Nothing) l)) (f, few, none (ltb-zero (left_of files q) l) e)))))
       where
-        sends : (q : Part) (most : ℕ) (rest : List ℕ) → q.heard ++ rest ≡ request → IsFine q → left q ≤ most → 0 < left_of files q → GoesOnBy (web_meaning files) request mss (fine waited) left q most (Send (min 1460 (left_of files q)))
+        sends : (q : AppState) (most : ℕ) (rest : List ℕ) → q.delivered ++ rest ≡ request → IsFine q → left q ≤ most → 0 < left_of files q → GoesOnBy (web_spec files) request mss (fine waited) left q most (Send (min 1460 (left_of files q)))
         sends q most rest joined is few l =
             let x : ℕ = min (min 1460 (left_of files q)) mss in
-            let says = says_some q rest joined (wanted q.heard) refl (omega (arith, l)) in
-            let size : length (page files q.heard q.captures) ≡ length (page_text files wanted_pieces q.captures) = ap length says.text in
+            let says = says_some q rest joined (wanted q.delivered) refl (omega (arith, l)) in
+            let size : length (page files q.delivered q.captures) ≡ length (page_text files wanted_pieces q.captures) = ap length says.text in
             let whole : (x ≡ mss) ⊎ (q.acked + x ≡ length (page_text files wanted_pieces q.captures)) =
             elim (cases_lt (left_of files q) mss) [ inl h ↦ inr (omega (arith, h, low, is.acked, size)) | inr h ↦ inl (omega (arith, h, low)) ] in
             let less = less_left files mss some wanted_pieces q.captures q.acked x (omega (arith, l, some)) (omega (arith, l, is.acked, size)) whole in
             λ ns. (as_fine (record q { acked = q.acked + x; polls = 0 }) (omega arith) (omega (arith, l, is.acked)), omega (arith, less, few))
 
-    -- nothing is wanted only while the request is not decided
-    never_rests : (p : Part) → is_acknowledged files p && waits_for_capture files (wanted p.heard) p ≡ false → IsFine p → left_of files p ≡ 0 → is_page_whole files p.heard p.captures && is_acknowledged files p ≡ false → p.heard ≡ request → ⊥
+    -- nothing is requested only while the request is not decided
+    never_rests : (p : AppState) → is_acknowledged files p && waits_for_capture files (wanted p.delivered) p ≡ false → IsFine p → left_of files p ≡ 0 → is_page_whole files p.delivered p.captures && is_acknowledged files p ≡ false → p.delivered ≡ request → ⊥
     never_rests p waits is z rests all =
-        let acked : is_acknowledged files p ≡ true = eq-eqb p.acked (length (page files p.heard p.captures)) (omega (arith, z, is.acked)) in
-        let part_whole : is_page_whole files p.heard p.captures ≡ false = unless_right (is_page_whole files p.heard p.captures) (is_acknowledged files p) rests acked in
-        let no_call : waits_for_capture files (wanted p.heard) p ≡ false = unless_left (is_acknowledged files p) (waits_for_capture files (wanted p.heard) p) waits acked in
-        by_wanted (wanted p.heard) refl part_whole no_call
+        let acked : is_acknowledged files p ≡ true = eq-eqb p.acked (length (page files p.delivered p.captures)) (omega (arith, z, is.acked)) in
+        let part_whole : is_page_whole files p.delivered p.captures ≡ false = unless_right (is_page_whole files p.delivered p.captures) (is_acknowledged files p) rests acked in
+        let no_call : waits_for_capture files (wanted p.delivered) p ≡ false = unless_left (is_acknowledged files p) (waits_for_capture files (wanted p.delivered) p) waits acked in
+        by_wanted (wanted p.delivered) refl part_whole no_call
       where
         unless_right : (a b : Bool) → a && b ≡ false → b ≡ true → a ≡ false
         unless_right true b e f = absurd (cc)
@@ -291,48 +293,48 @@ module _ (files : List File) (request : List ℕ) (decided : wanted request ≢ 
         unless_left true b e f = e
         unless_left false b e f = absurd (cc)
 
-        by_wanted : (w : Wanted) → wanted p.heard ≡ w → is_page_whole files p.heard p.captures ≡ false → waits_for_capture files w p ≡ false → ⊥
+        by_wanted : (w : Wanted) → wanted p.delivered ≡ w → is_page_whole files p.delivered p.captures ≡ false → waits_for_capture files w p ≡ false → ⊥
         by_wanted NotYet e open_end no_call = decided (ap wanted (sym all) ∙ e)
         by_wanted Refused e open_end no_call = true≢false (sym (ap (λ w. whole_for files w p.captures) e) ∙ open_end)
         by_wanted (Name name) e open_end no_call = true≢false (sym (ap not open_end) ∙ no_call)
 
-    -- with a capture that is needed, there is more to say
-    after_capture : (p : Part) (capture : Moment) (rest : List ℕ) → p.heard ++ rest ≡ request → fine waited p ≡ true → IsMoment capture → 0 < length capture.now.rows → (w : Wanted) → wanted p.heard ≡ w →
-        is_acknowledged files p ≡ true → waits_for_capture files w p ≡ true → GoesOnBy (web_meaning files) request mss (fine waited) left (with_capture p capture) (left p) (web_want files (with_capture p capture))
+    -- with a capture that is needed, there is more to send
+    after_capture : (p : AppState) (capture : Snapshot) (rest : List ℕ) → p.delivered ++ rest ≡ request → fine waited p ≡ true → IsSnapshot capture → 0 < length capture.now.rows → (w : Wanted) → wanted p.delivered ≡ w →
+        is_acknowledged files p ≡ true → waits_for_capture files w p ≡ true → GoesOnBy (web_spec files) request mss (fine waited) left (with_capture p capture) (left p) (web_want files (with_capture p capture))
     after_capture p capture rest joined f is l NotYet named acked waits = absurd (cc)
     after_capture p capture rest joined f is l Refused named acked waits = absurd (cc)
     after_capture p capture rest joined f is l (Name name) named acked waits =
-        let q : Part = with_capture p capture in
+        let q : AppState = with_capture p capture in
         let fine_p = is_fine p f in
-        let at_end : p.acked ≡ length (page files p.heard p.captures) = eqb-true p.acked (length (page files p.heard p.captures)) acked in
+        let at_end : p.acked ≡ length (page files p.delivered p.captures) = eqb-true p.acked (length (page files p.delivered p.captures)) acked in
         let says = says_named p rest name joined named in
         let says_more = says_named q rest name joined named in
-        let stops : reach_end wanted_pieces p.captures ≡ false = sym says.whole ∙ not-true (is_page_whole files p.heard p.captures) waits in
+        let stops : reach_end wanted_pieces p.captures ≡ false = sym says.whole ∙ not-true (is_page_whole files p.delivered p.captures) waits in
         let more = text_longer files mss some wanted_pieces p.captures capture is l stops in
-        let longer : p.acked < length (page files q.heard q.captures) = omega (arith, at_end, ap length says.text, ap length says_more.text, more) in
-        let goes : p.acked ≤ length (page files q.heard q.captures) = omega (arith, longer) in
+        let longer : p.acked < length (page files q.delivered q.captures) = omega (arith, at_end, ap length says.text, ap length says_more.text, more) in
+        let goes : p.acked ≤ length (page files q.delivered q.captures) = omega (arith, longer) in
         wants_on q (left p) rest joined (as_fine q fine_p.polls goes)
         (fewer_left files mss some wanted_pieces p.captures capture p.acked is stops (at_end ∙ ap length says.text))
         (λ z e all. let y : ⊥ = omega (arith, z, longer) in y)
 
-    pub answers : AnswersIn (web_meaning files) request mss (fine waited) left (texts_for mss wanted_pieces)
+    pub answers : AnswersIn (web_spec files) request mss (fine waited) left (texts_for mss wanted_pieces)
     answers = record {
-      starts = λ hits port. (as_fine (record { port = port; heard = []; captures = []; acked = 0; polls = 0; own = 0 }) (omega arith) (omega arith), counted_all files mss some wanted_pieces);
+      starts = λ hits port. (as_fine (record { port = port; delivered = []; captures = []; acked = 0; polls = 0; own = 0 }) (omega arith) (omega arith), counted_all files mss some wanted_pieces);
       hears = λ hits p piece rest f joined. (
-        as_fine (record p { heard = p.heard ++ piece; polls = 0 }) (omega arith)
-            (let h = prefix_length (page files p.heard p.captures) (page files (p.heard ++ piece) p.captures) (newdata_grows uip files p piece) in omega (arith, (is_fine p f).acked, h)),
+        as_fine (record p { delivered = p.delivered ++ piece; polls = 0 }) (omega arith)
+            (let h = prefix_length (page files p.delivered p.captures) (page files (p.delivered ++ piece) p.captures) (newdata_grows uip files p piece) in omega (arith, (is_fine p f).acked, h)),
         omega arith,
       );
       goes_on = λ hits p now rest f joined words is l.
-          (let capture : Moment = record { numbers = hits; now = now } in
-          let P : Part → Type 0 = λ q. GoesOnBy (web_meaning files) request mss (fine waited) left q (left p) (web_want files q) in
-          both_ways (is_acknowledged files p && waits_for_capture files (wanted p.heard) p)
-          (λ e. subst P (sym (ap (λ b. if b then with_capture p capture else p) e)) (let both = and_parts (is_acknowledged files p) (waits_for_capture files (wanted p.heard) p) e in after_capture p capture rest joined f record { numbers = words; now = is } l (wanted p.heard) refl both.0 both.1))
+          (let capture : Snapshot = record { numbers = hits; now = now } in
+          let P : AppState → Type 0 = λ q. GoesOnBy (web_spec files) request mss (fine waited) left q (left p) (web_want files q) in
+          both_ways (is_acknowledged files p && waits_for_capture files (wanted p.delivered) p)
+          (λ e. subst P (sym (ap (λ b. if b then with_capture p capture else p) e)) (let both = and_parts (is_acknowledged files p) (waits_for_capture files (wanted p.delivered) p) e in after_capture p capture rest joined f record { numbers = words; now = is } l (wanted p.delivered) refl both.0 both.1))
           (λ e. subst P (sym (ap (λ b. if b then with_capture p capture else p) e)) (wants_on p (left p) rest joined f (omega arith) (never_rests p e (is_fine p f)))));
     }
 
   -- polled up to nineteen times it answers all the same
-  pub answers_polled : AnswersPolled (web_meaning files) request mss fine left (texts_for mss wanted_pieces) 19
+  pub answers_polled : AnswersPolled (web_spec files) request mss fine left (texts_for mss wanted_pieces) 19
   answers_polled = record {
     answers = λ waited l. answers waited (omega (arith, l));
     waits = λ waited hits p l f. (

@@ -1,4 +1,6 @@
 -- Giving up and closing never meet at a connection of the web server.
+-- [add: function] Function: a text that may be empty.
+-- [add: state] State: whether the node can give up in it.
 use Rattle.std.proofs.Common.{◌≡◌, ℕ, zero, suc, ◌+◌, ◌-◌, ◌<◌, Bool, true, false, not, ◌&&◌, List, [], ◌∷◌, ◌++◌, length, length-append, replicate, set, refl, sym, ap, ◌∙◌, subst, arith, eqb, eq-eqb, ltb, Some, slice_get}
 use Rattle.std.specs.Prelude.{decimal, flat_map}
 use Rattle.std.proofs.lemmas.List.{length-replicate}
@@ -7,7 +9,7 @@ use Rattle.tcp_segment.specs.Segments.{PlainSegment, has_fin, has_rst}
 use Rattle.rexmit_timer.specs.declared.timer.Beat.{Beat}
 use Rattle.script_lang.specs.declared.function.Function.{Function}
 use Rattle.script_lang.specs.declared.function.Function.TheVariants.{FileStats, TcpConnections, NetStats, Ticks, Unknown}
-use Rattle.app_events.specs.Part.{Part, After, Moment, Meaning}
+use Rattle.app_events.specs.AppSpec.{AppState, After, Snapshot, AppSpec}
 use Rattle.app_events.specs.declared.now.Now.{Now}
 use Rattle.app_events.specs.declared.row.Row.{Row}
 use Rattle.app_events.specs.declared.state.State.{State}
@@ -16,24 +18,24 @@ use Rattle.generators.specs.Text.{counter_line, in_ten_places, row_parts, row_te
 use Rattle.site_image.specs.Files.{File}
 use Rattle.tcp_machine.specs.Connection.{Connection, Sockets, closed, is_live, rows_from}
 use Rattle.tcp_machine.specs.Ask.{Outcome, after_own_fin, asked, asked_for, closes, does_as_wanted, idles, peer_has_closed, prepared}
-use Rattle.tcp_machine.specs.OnSegment.{accepted, by_state, fin_acked, fin_waits, goes_on, has_text, hears, in_established, is_acked, is_out_of_order, on_segment, peer_closes, rests, with_part}
+use Rattle.tcp_machine.specs.OnSegment.{accepted, by_state, fin_acked, fin_waits, stays_established, has_text, hears, in_established, is_acked, is_out_of_order, on_segment, peer_closes, rests, with_part}
 use Rattle.tcp_machine.specs.OnTick.{by_beat, on_tick, outstanding}
 use Rattle.tcp_machine.specs.declared.step.Step.{Step}
 use Rattle.uip_node.specs.Events.{Event}
-use Rattle.uip_node.specs.Node.{AbstractNode, moment}
+use Rattle.uip_node.specs.Node.{AbstractNode, snapshot}
 use Rattle.web_pages.specs.Pages.{hits_of, is_page_whole, made_text, page, page_for, page_text, reach_end, whole_for}
 use Rattle.web_pages.specs.Pieces.{Say, reply_pieces}
 use Rattle.web_pages.specs.Pieces.Say.{Plain, Made}
 use Rattle.web_pages.specs.Requests.{Wanted, wanted}
 use Rattle.web_pages.specs.Requests.Wanted.{NotYet, Refused, Name}
-use Rattle.web_pages.specs.WebMeaning.{is_acknowledged, left_of, waits_for_capture, web_meaning, web_want}
+use Rattle.web_pages.specs.WebMeaning.{is_acknowledged, left_of, waits_for_capture, web_spec, web_want}
 use Rattle.web_pages.specs.declared.TheConstants.{MOST_POLLS}
 use Rattle.uip_node.proofs.Basics.{and_true, choose, eqb-eq, ltb-zero, not-true}
 use Rattle.uip_node.proofs.Cases.{by_own_fin, on_tick_by}
 use Rattle.link_world.proofs.NodeRuns.{every}
 use Rattle.link_replay.specs.Apart.{AbortAndCloseApart, ClosesInTime, is_at_end}
 
--- ---- what a capture says is never empty
+-- ---- the text of a capture is never empty
 
 -- a moment that has a row and a counter
 record IsSeen (now : Now) : Type 0 where
@@ -60,13 +62,13 @@ not_silent x xs e = absurd (let z : length (x ∷ xs) ≡ 0 = ltb-zero (length (
 -- ---- a capture makes a page longer
 
 module _ (files : List File) where
-  behind : (f : Function) (argument : List ℕ) (more : List (Say Function)) (first : Moment) (later : List Moment) (new : Moment) → length (page_text files more later) < length (page_text files more (later ++ new ∷ []))
+  behind : (f : Function) (argument : List ℕ) (more : List (Say Function)) (first : Snapshot) (later : List Snapshot) (new : Snapshot) → length (page_text files more later) < length (page_text files more (later ++ new ∷ []))
       → length (made_text files f argument first ++ page_text files more later) < length (made_text files f argument first ++ page_text files more (later ++ new ∷ []))
   behind f argument more first later new l =
-      let said : List ℕ = made_text files f argument first in
-      omega (arith, l, length-append said (page_text files more later), length-append said (page_text files more (later ++ new ∷ [])))
+      let output : List ℕ = made_text files f argument first in
+      omega (arith, l, length-append output (page_text files more later), length-append output (page_text files more (later ++ new ∷ [])))
 
-  grows : (pieces : List (Say Function)) (captures : List Moment) (new : Moment) → IsSeen new.now → reach_end pieces captures ≡ false
+  grows : (pieces : List (Say Function)) (captures : List Snapshot) (new : Snapshot) → IsSeen new.now → reach_end pieces captures ≡ false
       → length (page_text files pieces captures) < length (page_text files pieces (captures ++ new ∷ []))
   grows [] captures new g h = absurd (cc)
   grows (Plain text ∷ more) captures new g h =
@@ -88,42 +90,42 @@ module _ (files : List File) where
 
   -- ---- a connection that is not at the end of its page
 
-  abbrev m : Meaning
-  m = web_meaning files
+  abbrev m : AppSpec
+  m = web_spec files
 
-  abbrev Apart : Part → Type 0
+  abbrev Apart : AppState → Type 0
   Apart p = p.polls ≡ MOST_POLLS → is_at_end files p ≡ false
 
   just_moved : (n : ℕ) → n ≡ 0 → n ≡ MOST_POLLS → ⊥
   just_moved n z e = let y : ⊥ = omega (arith, z, e) in y
 
-  moved_apart : (p : Part) → p.polls ≡ 0 → Apart p
+  moved_apart : (p : AppState) → p.polls ≡ 0 → Apart p
   moved_apart p z e = absurd (just_moved p.polls z e)
 
   below : (a b : ℕ) → a < b → (x : Bool) → eqb a b ≡ x → x ≡ false
   below a b l true e = absurd (let z : ⊥ = omega (arith, l, eqb-eq a b e) in z)
   below a b l false e = refl
 
-  longer : (p : Part) (new : Moment) (w : Wanted) → wanted p.heard ≡ w → IsSeen new.now → waits_for_capture files w p ≡ true
+  longer : (p : AppState) (new : Snapshot) (w : Wanted) → wanted p.delivered ≡ w → IsSeen new.now → waits_for_capture files w p ≡ true
       → length (page_for files w p.captures) < length (page_for files w (p.captures ++ new ∷ []))
   longer p new NotYet e g h = absurd (cc)
   longer p new Refused e g h = absurd (cc)
   longer p new (Name name) e g h =
-      grows (reply_pieces files name) p.captures new g (sym (ap (λ w. whole_for files w p.captures) e) ∙ not-true (is_page_whole files p.heard p.captures) h)
+      grows (reply_pieces files name) p.captures new g (sym (ap (λ w. whole_for files w p.captures) e) ∙ not-true (is_page_whole files p.delivered p.captures) h)
 
-  captured_apart : (p : Part) (new : Moment) → IsSeen new.now → is_acknowledged files p && waits_for_capture files (wanted p.heard) p ≡ true
+  captured_apart : (p : AppState) (new : Snapshot) → IsSeen new.now → is_acknowledged files p && waits_for_capture files (wanted p.delivered) p ≡ true
       → is_at_end files (record p { captures = p.captures ++ new ∷ [] }) ≡ false
   captured_apart p new g h =
-      let both = and_true (is_acknowledged files p) (waits_for_capture files (wanted p.heard) p) h in
-      let q : Part = record p { captures = p.captures ++ new ∷ [] } in
-      let here : p.acked ≡ length (page files p.heard p.captures) = eqb-eq p.acked (length (page files p.heard p.captures)) both.0 in
-      let more = longer p new (wanted p.heard) refl g both.1 in
-      let none : is_acknowledged files q ≡ false = below q.acked (length (page files q.heard q.captures)) (omega (arith, here, more)) (is_acknowledged files q) refl in
-      ap (λ b. is_page_whole files q.heard q.captures && b) none ∙ and-false (is_page_whole files q.heard q.captures)
+      let both = and_true (is_acknowledged files p) (waits_for_capture files (wanted p.delivered) p) h in
+      let q : AppState = record p { captures = p.captures ++ new ∷ [] } in
+      let here : p.acked ≡ length (page files p.delivered p.captures) = eqb-eq p.acked (length (page files p.delivered p.captures)) both.0 in
+      let more = longer p new (wanted p.delivered) refl g both.1 in
+      let none : is_acknowledged files q ≡ false = below q.acked (length (page files q.delivered q.captures)) (omega (arith, here, more)) (is_acknowledged files q) refl in
+      ap (λ b. is_page_whole files q.delivered q.captures && b) none ∙ and-false (is_page_whole files q.delivered q.captures)
 
-  prepared_apart : (numbers : List ℕ) (p : Part) (now : Now) → IsSeen now → Apart p → Apart (m.prepare numbers p now)
+  prepared_apart : (numbers : List ℕ) (p : AppState) (now : Now) → IsSeen now → Apart p → Apart (m.prepare numbers p now)
   prepared_apart numbers p now g h =
-      choose (λ q. Apart q) (is_acknowledged files p && waits_for_capture files (wanted p.heard) p) _ _
+      choose (λ q. Apart q) (is_acknowledged files p && waits_for_capture files (wanted p.delivered) p) _ _
       (λ e q. captured_apart p (record { numbers = numbers; now = now }) g e) (λ e. h)
 
   never_open : (st : State) → after_own_fin st ≡ Established → ⊥
@@ -166,11 +168,11 @@ module _ (files : List File) where
       wanted_apart fresh (prepared m now o.connection o.numbers) o.numbers (prepared_apart o.numbers o.connection.part now (g.seen o.connection h.0) h.1)
   asked_apart at g o _ h = h
 
-  heard_apart : (numbers : List ℕ) (p : Part) (text : List ℕ) → Apart p → Apart (hears m numbers p text).part
+  heard_apart : (numbers : List ℕ) (p : AppState) (text : List ℕ) → Apart p → Apart (hears m numbers p text).part
   heard_apart numbers p [] h = h
   heard_apart numbers p (x ∷ xs) h = moved_apart (hears m numbers p (x ∷ xs)).part refl
 
-  nothing_heard : (numbers : List ℕ) (p : Part) (text : List ℕ) → ltb 0 (length text) ≡ false → is_at_end files p ≡ false → is_at_end files (hears m numbers p text).part ≡ false
+  nothing_heard : (numbers : List ℕ) (p : AppState) (text : List ℕ) → ltb 0 (length text) ≡ false → is_at_end files p ≡ false → is_at_end files (hears m numbers p text).part ≡ false
   nothing_heard numbers p [] e h = h
   nothing_heard numbers p (x ∷ xs) e h = absurd (not_silent x xs e)
 
@@ -182,15 +184,15 @@ module _ (files : List File) where
 
   established_apart : (acked : Bool) (c : Connection) (numbers : List ℕ) (s : PlainSegment) → c.state ≡ Established → Apart c.part → (acked ≡ false → c.len ≡ 0 → is_at_end files c.part ≡ false)
       → Leaves (in_established m acked c numbers s)
-  unfolding in_established peer_closes goes_on
+  unfolding in_established peer_closes stays_established
   established_apart acked c numbers s e h i =
-      let heard = heard_apart numbers c.part s.text h in
-      let lives : is_live c.state ≡ true = ap is_live e in
+      let delivered = heard_apart numbers c.part s.text h in
+      let incarnations : is_live c.state ≡ true = ap is_live e in
       choose (λ (o : Outcome). Leaves o) (has_fin s.flags) _ _
-      (λ f. choose (λ (o : Outcome). Leaves o) (ltb 0 c.len) _ _ (λ l. record { idle = λ st z. absurd (let y : CloseWait ≡ Established = st in cc); apart = heard }) (λ l. (refl, heard)))
+      (λ f. choose (λ (o : Outcome). Leaves o) (ltb 0 c.len) _ _ (λ l. record { idle = λ st z. absurd (let y : CloseWait ≡ Established = st in cc); apart = delivered }) (λ l. (refl, delivered)))
       (λ f. choose (λ (o : Outcome). Leaves o) (not acked && not (has_text s)) _ _
-      (λ g. (let both = idle_still acked (has_text s) g in record { idle = λ st z. nothing_heard numbers c.part s.text both.1 (i both.0 z); apart = heard }))
-      (λ g. choose (λ (o : Outcome). Leaves o) (ltb 0 c.len) _ _ (λ l. record { idle = λ st z. absurd (let y : ltb 0 0 ≡ true = subst (λ n. ltb 0 n ≡ true) z l in cc); apart = heard }) (λ l. (lives, heard))))
+      (λ g. (let both = idle_still acked (has_text s) g in record { idle = λ st z. nothing_heard numbers c.part s.text both.1 (i both.0 z); apart = delivered }))
+      (λ g. choose (λ (o : Outcome). Leaves o) (ltb 0 c.len) _ _ (λ l. record { idle = λ st z. absurd (let y : ltb 0 0 ≡ true = subst (λ n. ltb 0 n ≡ true) z l in cc); apart = delivered }) (λ l. (incarnations, delivered))))
 
   state_apart : (st : State) (acked : Bool) (c : Connection) (numbers : List ℕ) (s : PlainSegment) → c.state ≡ st → ClosesInTime files c → Leaves (by_state m st acked c numbers s)
   unfolding fin_acked fin_waits
@@ -258,8 +260,8 @@ module _ (files : List File) where
   row_there k (x ∷ cs) (suc slot) old c e l =
       choose (λ (rows : List Row). 0 < length rows) (is_live x.state) _ _ (λ y. omega arith) (λ y. row_there (k + 1) cs slot old c e l)
 
-  moments : (n : AbstractNode) (event : Event) (slot : ℕ) (old : Connection) → slice_get n.connections slot ≡ Some old → IsAt (moment n event slot)
-  moments n event slot old e = record { seen = λ c l. record { rows = row_there 0 n.connections slot old c e l; net = omega arith } }
+  snapshots : (n : AbstractNode) (event : Event) (slot : ℕ) (old : Connection) → slice_get n.connections slot ≡ Some old → IsAt (snapshot n event slot)
+  snapshots n event slot old e = record { seen = λ c l. record { rows = row_there 0 n.connections slot old c e l; net = omega arith } }
 
   shut_apart : ClosesInTime files closed
   shut_apart = record { idle = λ s l. absurd (cc); apart = moved_apart closed.part refl }
@@ -269,4 +271,4 @@ module _ (files : List File) where
 
 pub abort_and_close_apart : AbortAndCloseApart
 abort_and_close_apart files c r =
-    every (web_meaning files) (ClosesInTime files) (IsAt files) (moments files) (shut_apart files) (born_apart files) (hears_apart files) (ticks_apart files) r.served r.events r.addr r.numbers r.slot c r.there
+    every (web_spec files) (ClosesInTime files) (IsAt files) (snapshots files) (shut_apart files) (born_apart files) (hears_apart files) (ticks_apart files) r.served r.events r.addr r.numbers r.slot c r.there

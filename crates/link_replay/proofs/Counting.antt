@@ -1,4 +1,5 @@
--- Each event is counted, and its answer counts as sent again exactly where it is.
+-- Each event is counted, and its answer counts as a retransmission exactly if it is one.
+-- [add: counter] An event with a further case.
 use Rattle.std.proofs.Common.{◌≡◌, ℕ, ◌+◌, ◌==◌, Bool, true, false, not, if◌then◌else◌, ◌&&◌, List, ◌∷◌, refl, ap, ◌∙◌, Option, Some, None, position, eqb, arith}
 use Rattle.uip_node.specs.Events.Reply.{Tcp}
 use Rattle.std.specs.Prelude.{option_map}
@@ -10,24 +11,24 @@ use Rattle.tcp_segment.specs.Segments.{PlainSegment, has_rst}
 use Rattle.uip_ipv4.specs.declared.fate.IpFate.TheVariants as Ip
 use Rattle.icmp_echo.specs.declared.fate.IcmpFate.TheVariants as Icmp
 use Rattle.tcp_segment.specs.declared.fate.TcpFate.TheVariants as Tcp
-use Rattle.app_events.specs.Part.{Meaning}
+use Rattle.app_events.specs.AppSpec.{AppSpec}
 use Rattle.tcp_machine.specs.Connection.{Sockets, Connection, serves}
 use Rattle.tcp_machine.specs.Ask.{Outcome, asked}
 use Rattle.tcp_machine.specs.OnSegment.{accept, on_segment}
 use Rattle.tcp_machine.specs.OnTick.{on_tick}
 use Rattle.tcp_machine.specs.Segments.{is_plain_syn, is_again, segment_of}
 use Rattle.uip_node.specs.Counters.{initial_number, raised_by_answer, raises, times}
-use Rattle.uip_node.specs.Events.{Answer, Event, Past}
+use Rattle.uip_node.specs.Events.{Answer, Event, HistoryEntry}
 use Rattle.uip_node.specs.Events.Event.{IpRefused, IcmpRefused, TcpRefused, EchoAsked, Arrived, Overlong, Periodic}
 use Rattle.uip_node.specs.Events.Answer.{Silent, NoSlot, EchoReplied, Spoke}
-use Rattle.uip_node.specs.Node.{AbstractNode, NodeStep, arrives_at, connection_in, from_stranger, happened, moment, opens, opens_in, passes, slot_for_syn, step}
+use Rattle.uip_node.specs.Node.{AbstractNode, NodeStep, arrives_at, connection_in, for_no_connection, happened, snapshot, opens, opens_in, passes, slot_for_syn, step}
 use Rattle.uip_node.proofs.Basics.{choose}
 use Rattle.link_replay.specs.Noting.{is_sent_again, resent}
 
 -- one more event is past, and its answer was sent again where the step sent again
 record Told (n : AbstractNode) (r : NodeStep) : Type 0 where
-  pub last : Past
-  pub is : r.node.past ≡ last ∷ n.past
+  pub last : HistoryEntry
+  pub is : r.node.history ≡ last ∷ n.history
   pub again : raises 18 last ≡ is_sent_again r.sent
 
 -- no event raises the counter of what is sent again
@@ -40,7 +41,7 @@ by_answer (IcmpRefused Icmp.Short) answer = refl
 by_answer (TcpRefused Tcp.Short) answer = refl
 by_answer event answer = refl
 
-answered : (said : Option PlainSegment) (again : Bool) (sockets : Sockets) (id : ℕ) → was_again (option_map_or (λ s. Spoke again) said Silent) ≡ is_sent_again (option_map (λ s. Tcp sockets id again s) said)
+answered : (output : Option PlainSegment) (again : Bool) (sockets : Sockets) (id : ℕ) → was_again (option_map_or (λ s. Spoke again) output Silent) ≡ is_sent_again (option_map (λ s. Tcp sockets id again s) output)
 answered None again sockets id = refl
 answered (Some s) true sockets id = refl
 answered (Some s) false sockets id = refl
@@ -48,7 +49,7 @@ answered (Some s) false sockets id = refl
 passed : (n : AbstractNode) (event : Event) (answer : Answer) → was_again answer ≡ false → Told n (passes n event answer)
 passed n event answer e = record { last = record { event = event; answer = answer }; is = refl; again = by_answer event answer ∙ e }
 
-told_happened : (m : Meaning) (n : AbstractNode) (event : Event) (slot : ℕ) (old : Connection) (o : Outcome) → Told n (happened m n event slot old o)
+told_happened : (m : AppSpec) (n : AbstractNode) (event : Event) (slot : ℕ) (old : Connection) (o : Outcome) → Told n (happened m n event slot old o)
 unfolding happened
 told_happened m n event slot old o = record {
   last = record { event = event; answer = option_map_or (λ s. Spoke (is_again o.step)) (segment_of m o.connection o.step) Silent };
@@ -56,26 +57,26 @@ told_happened m n event slot old o = record {
   again = by_answer event _ ∙ answered (segment_of m o.connection o.step) (is_again o.step) o.connection.sockets _;
 }
 
-told_opens : (m : Meaning) (n : AbstractNode) (sockets : Sockets) (s : PlainSegment) (slot : Option ℕ) → Told n (opens m n sockets s slot)
+told_opens : (m : AppSpec) (n : AbstractNode) (sockets : Sockets) (s : PlainSegment) (slot : Option ℕ) → Told n (opens m n sockets s slot)
 unfolding opens_in
 told_opens m n sockets s None = passed n (Arrived sockets s) NoSlot refl
 told_opens m n sockets s (Some slot) =
-    let t = told_happened m n (Arrived sockets s) slot (connection_in slot n) (accept (initial_number n.past) sockets s n.numbers) in
+    let t = told_happened m n (Arrived sockets s) slot (connection_in slot n) (accept (initial_number n.history) sockets s n.numbers) in
     record { last = t.last; is = t.is; again = t.again }
 
-told_stranger : (m : Meaning) (served : ℕ → Bool) (n : AbstractNode) (sockets : Sockets) (s : PlainSegment) → Told n (from_stranger m served n sockets s)
-unfolding from_stranger
+told_stranger : (m : AppSpec) (served : ℕ → Bool) (n : AbstractNode) (sockets : Sockets) (s : PlainSegment) → Told n (for_no_connection m served n sockets s)
+unfolding for_no_connection
 told_stranger m served n sockets s =
     choose (λ (r : NodeStep). Told n r) (is_plain_syn s && served sockets.own_port.0) _ _ (λ e. told_opens m n sockets s (slot_for_syn n.connections))
     (λ e. choose (λ (r : NodeStep). Told n r) (has_rst s.flags) _ _ (λ f. passed n (Arrived sockets s) Silent refl)
     (λ f. record { last = record { event = Arrived sockets s; answer = Spoke false }; is = refl; again = refl }))
 
-told_arrives : (m : Meaning) (served : ℕ → Bool) (n : AbstractNode) (sockets : Sockets) (s : PlainSegment) (found : Option ℕ) → Told n (arrives_at m served n sockets s found)
+told_arrives : (m : AppSpec) (served : ℕ → Bool) (n : AbstractNode) (sockets : Sockets) (s : PlainSegment) (found : Option ℕ) → Told n (arrives_at m served n sockets s found)
 told_arrives m served n sockets s None = told_stranger m served n sockets s
 told_arrives m served n sockets s (Some slot) =
-    told_happened m n (Arrived sockets s) slot (connection_in slot n) (asked m (moment n (Arrived sockets s) slot) (on_segment m (connection_in slot n) n.numbers s))
+    told_happened m n (Arrived sockets s) slot (connection_in slot n) (asked m (snapshot n (Arrived sockets s) slot) (on_segment m (connection_in slot n) n.numbers s))
 
-told : (m : Meaning) (served : ℕ → Bool) (n : AbstractNode) (event : Event) → Told n (step m served n event)
+told : (m : AppSpec) (served : ℕ → Bool) (n : AbstractNode) (event : Event) → Told n (step m served n event)
 told m served n (IpRefused fate) = passed n (IpRefused fate) Silent refl
 told m served n (IcmpRefused fate) = passed n (IcmpRefused fate) Silent refl
 told m served n (TcpRefused fate) = passed n (TcpRefused fate) Silent refl
@@ -83,17 +84,17 @@ told m served n (EchoAsked datagram) = record { last = record { event = EchoAske
 told m served n (Arrived sockets s) = told_arrives m served n sockets s (position (serves sockets) n.connections)
 told m served n Overlong = passed n Overlong Silent refl
 told m served n (Periodic slot) =
-    told_happened m n (Periodic slot) slot (connection_in slot n) (asked m (moment n (Periodic slot) slot) (on_tick m (connection_in slot n) n.numbers))
+    told_happened m n (Periodic slot) slot (connection_in slot n) (asked m (snapshot n (Periodic slot) slot) (on_tick m (connection_in slot n) n.numbers))
 
 rises : (b : Bool) (t : ℕ) → not (eqb (wrap t) (wrap (if b then t + 1 else t))) ≡ b
 rises true t = let e : (wrap t ≡ wrap (t + 1)) → ⊥ = λ h. omega arith in grind (arith, common_steps)
 rises false t = grind (arith, common_steps)
 
 -- the count has another value after a step exactly where the step sent again
-pub resent_differs : (m : Meaning) (served : ℕ → Bool) (n : AbstractNode) (event : Event) →
-    not (eqb (resent n.past) (resent (step m served n event).node.past)) ≡ is_sent_again (step m served n event).sent
+pub resent_differs : (m : AppSpec) (served : ℕ → Bool) (n : AbstractNode) (event : Event) →
+    not (eqb (resent n.history) (resent (step m served n event).node.history)) ≡ is_sent_again (step m served n event).sent
 resent_differs m served n event =
     let t = told m served n event in
-    ap (λ (p : List Past). not (eqb (resent n.past) (resent p))) t.is
-    ∙ rises (raises 18 t.last) (times (raises 18) n.past)
+    ap (λ (p : List HistoryEntry). not (eqb (resent n.history) (resent p))) t.is
+    ∙ rises (raises 18 t.last) (times (raises 18) n.history)
     ∙ t.again

@@ -1,6 +1,6 @@
--- A damaged datagram is handed over, and nothing answers it.
+-- A damaged datagram is delivered, and nothing answers it.
 use Rattle.std.proofs.Common.{◌≡◌, ℕ, ◌≤◌, ◌<◌, Bool, List, sym, subst, Option, Some, None}
-use Rattle.app_events.specs.Part.{Meaning}
+use Rattle.app_events.specs.AppSpec.{AppSpec}
 use Rattle.uip_node.specs.Edge.{event_of}
 use Rattle.uip_node.specs.Events.{Reply}
 use Rattle.uip_node.specs.Node.{step}
@@ -17,7 +17,7 @@ use Rattle.link_replay.specs.Telling.{AnswersTo, AreTo, pair_at_side}
 use Rattle.link_replay.proofs.Handling.{silent}
 use Rattle.link_replay.proofs.Readable.{sound_at}
 
-module _ (m : Meaning) (served : ℕ → Bool) (w : World) where
+module _ (m : AppSpec) (served : ℕ → Bool) (w : World) where
   loss_answers : (bytes : List ℕ) (who : Who) → (hands_over m served w bytes who).sent ≡ w.sent → AnswersTo w who (step m served w.node (event_of w.node.addr bytes)).sent
   loss_answers bytes (FromClient number) h =
       subst (λ (x : Option Reply). AreTo (pair_at_side (numbered w.sides number)) x) (sym (silent w (step m served w.node (event_of w.node.addr bytes)) h)) tt

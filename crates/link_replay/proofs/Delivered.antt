@@ -1,7 +1,7 @@
--- A delivery hands over the bytes of a datagram, once its client has seen it.
+-- A delivery passes on the bytes of a datagram, once its client has recorded it.
 use Rattle.std.proofs.Common.{◌≡◌, ℕ, zero, suc, ◌<◌, Bool, List, [], ◌∷◌, length, set, refl, sym, ap, ◌∙◌, subst, arith, Option, Some, None, slice_get}
 use Rattle.std.specs.Option.{option_map_or}
-use Rattle.app_events.specs.Part.{Meaning}
+use Rattle.app_events.specs.AppSpec.{AppSpec}
 use Rattle.app_events.specs.declared.app.App.{Ghosts}
 use Rattle.tcp_segment.specs.Segments.{PlainSegment}
 use Rattle.uip_node.specs.Edge.{event_of}
@@ -18,7 +18,7 @@ use Rattle.link_world.specs.declared.who.Who.TheVariants.{FromClient, FromNode, 
 use Rattle.link_world.specs.Reading.{IsRead, IsSentBy}
 use Rattle.uip_node.proofs.Connections.{get_set_same}
 use Rattle.link_replay.specs.Noting.{pair_at}
-use Rattle.link_replay.specs.Stands.{WorldStands, LinkStands, IsLink}
+use Rattle.link_replay.specs.Represents.{WorldRepresents, LinkRepresents, IsLink}
 use Rattle.link_replay.specs.Telling.{AnswersTo, AreTo, client_told, pair_at_side, sees}
 use Rattle.link_replay.specs.State.{Link}
 use Rattle.link_replay.specs.State.{CodeWorld}
@@ -31,7 +31,7 @@ inside (y ∷ ys) zero x h = omega arith
 inside (y ∷ ys) (suc n) x h = let k = inside ys n x h in omega (arith, k)
 
 -- all clients speak to the node
-pub speaks_to : (link : Link) (w : World) → LinkStands link w → IsLink w.node.addr link → (number : ℕ) (side : Side) → numbered w.sides number ≡ Some side → side.client.setup.server ≡ w.node.addr
+pub speaks_to : (link : Link) (w : World) → LinkRepresents link w → IsLink w.node.addr link → (number : ℕ) (side : Side) → numbered w.sides number ≡ Some side → side.client.setup.server ≡ w.node.addr
 speaks_to link w h i zero side g = absurd (let z : None ≡ Some side = g in cc)
 speaks_to link w h i (suc n) side g =
     let l = inside w.sides n side g in
@@ -52,7 +52,7 @@ number_put : (w : World) (number : ℕ) (old new : Side) → numbered w.sides nu
 number_put w zero old new h = absurd (let z : None ≡ Some old = h in cc)
 number_put w (suc n) old new h = get_set_same w.sides n old new h
 
-module _ (m : Meaning) (served : ℕ → Bool) (w : World) (k : ℕ) (e : Sent) (server : (number : ℕ) (side : Side) → numbered w.sides number ≡ Some side → side.client.setup.server ≡ w.node.addr) where
+module _ (m : AppSpec) (served : ℕ → Bool) (w : World) (k : ℕ) (e : Sent) (server : (number : ℕ) (side : Side) → numbered w.sides number ≡ Some side → side.client.setup.server ≡ w.node.addr) where
   -- what holds where a datagram of this kind is delivered
   pub record Hands (who : Who) (content : Content) (bytes : List ℕ) : Type 0 where
     pub same : hands_over m served (sees w (client_told who) k e (numbered w.sides (client_told who))) bytes who ≡ delivers m served w k e who content
@@ -107,12 +107,12 @@ sees_mark w client k e None = refl
 sees_mark w client k e (Some side) = refl
 
 module _ {A S : Type 0} (g : Ghosts A S) where
-  pub seen : (world : CodeWorld A S) (link : Link) (w : World) (client k : ℕ) (e : Sent) (side : Option Side) → WorldStands g world w → LinkStands link (sees w client k e side) → IsLink w.node.addr link
-      → WorldStands g (record world { link = link }) (sees w client k e side)
+  pub seen : (world : CodeWorld A S) (link : Link) (w : World) (client k : ℕ) (e : Sent) (side : Option Side) → WorldRepresents g world w → LinkRepresents link (sees w client k e side) → IsLink w.node.addr link
+      → WorldRepresents g (record world { link = link }) (sees w client k e side)
   seen world link w client k e side s l i = linked g world link world.area w (sees w client k e side) s (sees_node w client k e side) (sees_mark w client k e side) l i
 
 -- what the node answers does not depend on what a client has seen
-pub answers_seen : (m : Meaning) (served : ℕ → Bool) (w : World) (client k : ℕ) (e : Sent) (side : Option Side) (who : Who) (bytes : List ℕ) →
+pub answers_seen : (m : AppSpec) (served : ℕ → Bool) (w : World) (client k : ℕ) (e : Sent) (side : Option Side) (who : Who) (bytes : List ℕ) →
     AnswersTo (sees w client k e side) who (step m served w.node (event_of w.node.addr bytes)).sent →
     AnswersTo (sees w client k e side) who (step m served (sees w client k e side).node (event_of (sees w client k e side).node.addr bytes)).sent
 answers_seen m served w client k e side who bytes h =

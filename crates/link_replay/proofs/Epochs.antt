@@ -5,68 +5,68 @@ use Rattle.std.proofs.lemmas.List.{drop_all, get_or-append-add, get_or-drop, get
 use Rattle.std.proofs.lemmas.Option.{slice_get-get_or}
 use Rattle.tcp_machine.specs.Connection.{Sockets, Connection, same_sockets}
 use Rattle.link_client.specs.Client.{AbstractClient}
-use Rattle.link_world.specs.World.{Side, addressed, buries, buries_in, client_sockets}
+use Rattle.link_world.specs.World.{Side, addressed, retires, retires_in, client_sockets}
 use Rattle.uip_node.proofs.Connections.{get_set, here, there}
 use Rattle.link_replay.specs.Epochs.{IsAtLast, OnlyEpoch, buried, sockets_for}
 use Rattle.link_replay.specs.Matched.{Matched}
 use Rattle.link_replay.specs.Noting.{pair_at, sockets_at}
-use Rattle.link_replay.specs.Stands.{SideStands}
+use Rattle.link_replay.specs.Represents.{SideRepresents}
 use Rattle.link_replay.specs.Plain.{CodeSide}
 use Rattle.link_replay.specs.declared.socket_pair.SocketPair.{SocketPair}
 use Rattle.link_replay.proofs.Matching.{matched_cons, matched_head, matched_nil, matched_same, matched_tail}
 
 -- a client of the code has the sockets of the one over plain data
-has_same : (p : Sockets) (x : CodeSide) (s : Side) → SideStands x s → same_sockets p (sockets_for x.client.setup) ≡ same_sockets p (client_sockets s)
+has_same : (p : Sockets) (x : CodeSide) (s : Side) → SideRepresents x s → same_sockets p (sockets_for x.client.setup) ≡ same_sockets p (client_sockets s)
 has_same p x s h = ap (λ (c : AbstractClient). same_sockets p (sockets_for c.setup)) h.client
 
 -- its number is the first one's, or it is sought among the others
-pub addressed_none : (number : ℕ) (p : SocketPair) (ss : List Side) → Matched SideStands [] ss → 0 ≡ addressed number (sockets_at p) ss
+pub addressed_none : (number : ℕ) (p : SocketPair) (ss : List Side) → Matched SideRepresents [] ss → 0 ≡ addressed number (sockets_at p) ss
 addressed_none number p [] h = refl
 addressed_none number p (s ∷ ss) h = absurd (omega (arith, h.same_length))
 
 pub addressed_here : (number : ℕ) (p : SocketPair) (xs : List CodeSide) (x : CodeSide) (ss : List Side) → 1 ≤ length xs → x ≡ slice_index_or xs 0 x →
-    same_sockets (sockets_at p) (sockets_for x.client.setup) ≡ true → Matched SideStands xs ss → number ≡ addressed number (sockets_at p) ss
+    same_sockets (sockets_at p) (sockets_for x.client.setup) ≡ true → Matched SideRepresents xs ss → number ≡ addressed number (sockets_at p) ss
 addressed_here number p [] x ss l at e h = absurd (omega (arith, l))
 addressed_here number p (y ∷ ys) x [] l at e h = absurd (omega (arith, h.same_length))
 addressed_here number p (y ∷ ys) x (s ∷ ss) l at e h =
     let f : same_sockets (sockets_at p) (client_sockets s) ≡ true =
-    sym (has_same (sockets_at p) y s (matched_head SideStands y s ys ss h)) ∙ sym (ap (λ (z : CodeSide). same_sockets (sockets_at p) (sockets_for z.client.setup)) at) ∙ e in
+    sym (has_same (sockets_at p) y s (matched_head SideRepresents y s ys ss h)) ∙ sym (ap (λ (z : CodeSide). same_sockets (sockets_at p) (sockets_for z.client.setup)) at) ∙ e in
     sym (ap (λ (b : Bool). if b then number else addressed (number + 1) (sockets_at p) ss) f)
 
 pub addressed_later : (number : ℕ) (p : SocketPair) (xs : List CodeSide) (x : CodeSide) (found : ℕ) (ss : List Side) → 1 ≤ length xs → x ≡ slice_index_or xs 0 x →
-    same_sockets (sockets_at p) (sockets_for x.client.setup) ≡ false → ((rest : List Side) → Matched SideStands (take (length xs - 1) (drop 1 xs)) rest → found ≡ addressed (number + 1) (sockets_at p) rest) →
-    Matched SideStands xs ss → found ≡ addressed number (sockets_at p) ss
+    same_sockets (sockets_at p) (sockets_for x.client.setup) ≡ false → ((rest : List Side) → Matched SideRepresents (take (length xs - 1) (drop 1 xs)) rest → found ≡ addressed (number + 1) (sockets_at p) rest) →
+    Matched SideRepresents xs ss → found ≡ addressed number (sockets_at p) ss
 addressed_later number p [] x found ss l at e later h = absurd (omega (arith, l))
 addressed_later number p (y ∷ ys) x found [] l at e later h = absurd (omega (arith, h.same_length))
 addressed_later number p (y ∷ ys) x found (s ∷ ss) l at e later h =
     let f : same_sockets (sockets_at p) (client_sockets s) ≡ false =
-    sym (has_same (sockets_at p) y s (matched_head SideStands y s ys ss h)) ∙ sym (ap (λ (z : CodeSide). same_sockets (sockets_at p) (sockets_for z.client.setup)) at) ∙ e in
-    later ss (subst (λ (l : List CodeSide). Matched SideStands l ss) (sym (take_rest (y ∷ ys) 1)) (matched_tail SideStands y s ys ss h)) ∙ sym (ap (λ (b : Bool). if b then number else addressed (number + 1) (sockets_at p) ss) f)
+    sym (has_same (sockets_at p) y s (matched_head SideRepresents y s ys ss h)) ∙ sym (ap (λ (z : CodeSide). same_sockets (sockets_at p) (sockets_for z.client.setup)) at) ∙ e in
+    later ss (subst (λ (l : List CodeSide). Matched SideRepresents l ss) (sym (take_rest (y ∷ ys) 1)) (matched_tail SideRepresents y s ys ss h)) ∙ sym (ap (λ (b : Bool). if b then number else addressed (number + 1) (sockets_at p) ss) f)
 
-buried_by : (b : Bool) (g : Connection) (x : CodeSide) (s : Side) → SideStands x s →
-    SideStands (if b then record x { epoch = x.epoch + 1 } else x) (if b then record s { past = s.past ++ record { first = g.first; captures = g.part.captures } ∷ [] } else s)
+buried_by : (b : Bool) (g : Connection) (x : CodeSide) (s : Side) → SideRepresents x s →
+    SideRepresents (if b then record x { epoch = x.epoch + 1 } else x) (if b then record s { history = s.history ++ record { iss = g.iss; captures = g.part.captures } ∷ [] } else s)
 buried_by true g x s h = record {
   client = h.client;
-  epoch = (let e = h.epoch in let f = length-append s.past (record { first = g.first; captures = g.part.captures } ∷ []) in omega (arith, e, f));
+  epoch = (let e = h.epoch in let f = length-append s.history (record { iss = g.iss; captures = g.part.captures } ∷ []) in omega (arith, e, f));
   first_stale = h.first_stale;
 }
 buried_by false g x s h = h
 
--- a client that is one epoch on stands for one that is
-buried_stands : (g : Connection) (x : CodeSide) (s : Side) → SideStands x s → SideStands (buried (pair_at g.sockets) x) (buries_in g s)
+-- a client whose epoch is raised represents one whose epoch is raised
+buried_stands : (g : Connection) (x : CodeSide) (s : Side) → SideRepresents x s → SideRepresents (buried (pair_at g.sockets) x) (retires_in g s)
 buried_stands g x s h =
     let e : same_sockets g.sockets (sockets_for x.client.setup) ≡ same_sockets g.sockets (client_sockets s) = has_same g.sockets x s h in
-    subst (λ (b : Bool). SideStands (buried (pair_at g.sockets) x) (if b then record s { past = s.past ++ record { first = g.first; captures = g.part.captures } ∷ [] } else s)) e
+    subst (λ (b : Bool). SideRepresents (buried (pair_at g.sockets) x) (if b then record s { history = s.history ++ record { iss = g.iss; captures = g.part.captures } ∷ [] } else s)) e
     (buried_by (same_sockets g.sockets (sockets_for x.client.setup)) g x s h)
 
-pub all_buried : (gone : SocketPair) (g : Connection) (xs : List CodeSide) (ss : List Side) → pair_at g.sockets ≡ gone → Matched SideStands xs ss → Matched SideStands (map (buried gone) xs) (buries (Some g) ss)
-all_buried gone g [] [] e h = matched_nil SideStands
+pub all_buried : (gone : SocketPair) (g : Connection) (xs : List CodeSide) (ss : List Side) → pair_at g.sockets ≡ gone → Matched SideRepresents xs ss → Matched SideRepresents (map (buried gone) xs) (retires (Some g) ss)
+all_buried gone g [] [] e h = matched_nil SideRepresents
 all_buried gone g [] (s ∷ ss) e h = absurd (omega (arith, h.same_length))
 all_buried gone g (x ∷ xs) [] e h = absurd (omega (arith, h.same_length))
 all_buried gone g (x ∷ xs) (s ∷ ss) e h =
-    matched_cons SideStands (buried gone x) (buries_in g s) (map (buried gone) xs) (buries (Some g) ss)
-    (subst (λ (p : SocketPair). SideStands (buried p x) (buries_in g s)) e (buried_stands g x s (matched_head SideStands x s xs ss h)))
-    (all_buried gone g xs ss e (matched_tail SideStands x s xs ss h))
+    matched_cons SideRepresents (buried gone x) (retires_in g s) (map (buried gone) xs) (retires (Some g) ss)
+    (subst (λ (p : SocketPair). SideRepresents (buried p x) (retires_in g s)) e (buried_stands g x s (matched_head SideRepresents x s xs ss h)))
+    (all_buried gone g xs ss e (matched_tail SideRepresents x s xs ss h))
 
 stays : (x : CodeSide) → OnlyEpoch x x
 stays x = record { client = refl; request = refl; received = refl; first_stale = refl }

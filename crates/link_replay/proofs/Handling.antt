@@ -1,6 +1,6 @@
 -- The world after a step of its node.
 use Rattle.std.proofs.Common.{◌≡◌, ℕ, zero, suc, ◌<◌, get_or, drop, ◌+◌, ◌++◌, ◌∷◌, [], Bool, false, List, length, refl, sym, ap, ◌∙◌, subst, arith, Option, Some, None, length-append, if◌then◌else◌}
-use Rattle.app_events.specs.Part.{Meaning}
+use Rattle.app_events.specs.AppSpec.{AppSpec}
 use Rattle.app_events.specs.declared.app.App.{Ghosts}
 use Rattle.uip_wire.specs.declared.addr.Addr.{Addr}
 use Rattle.tcp_segment.specs.Segments.{PlainSegment}
@@ -9,16 +9,16 @@ use Rattle.uip_node.specs.Events.{Event, Reply, tick}
 use Rattle.uip_node.specs.Events.Event.{Arrived, Periodic}
 use Rattle.uip_node.specs.Events.Reply.{Echo, Tcp}
 use Rattle.uip_node.specs.Node.{AbstractNode, NodeStep, step, connection_in}
-use Rattle.uip_node.specs.StandsFor.{Stands}
+use Rattle.uip_node.specs.Represents.{Represents}
 use Rattle.link_client.specs.Client.{AbstractClient, ClientStep, client_takes}
 use Rattle.link_world.specs.Acts.{client_acts, handed}
 use Rattle.link_world.specs.Bytes.{hears_datagram}
-use Rattle.link_world.specs.World.{World, Side, at_side, buries, client_stepped, node_handles, node_stepped, numbered, posts, posts_reply, with_client, with_side}
+use Rattle.link_world.specs.World.{World, Side, at_side, retires, client_stepped, node_handles, node_stepped, numbered, posts, posts_reply, with_client, with_side}
 use Rattle.link_world.specs.World.Content.{OfSegment}
 use Rattle.link_world.specs.declared.who.Who.TheVariants.{FromClient}
 use Rattle.link_world.proofs.Doing.{where_there}
 use Rattle.link_replay.specs.Noting.{owner, pair_at}
-use Rattle.link_replay.specs.Stands.{WorldStands, LinkStands, IsLink}
+use Rattle.link_replay.specs.Represents.{WorldRepresents, LinkRepresents, IsLink}
 use Rattle.link_replay.specs.Telling.{AreTo, IsTo}
 use Rattle.link_replay.specs.declared.socket_pair.SocketPair.{SocketPair}
 use Rattle.link_replay.specs.State.{Link}
@@ -38,40 +38,40 @@ reply_mark w (Some (Echo request)) = refl
 reply_mark w (Some (Tcp sockets id again s)) = refl
 
 module _ {A S : Type 0} (g : Ghosts A S) where
-  pub handled : (m : Meaning) (served : ℕ → Bool) (event : Event) (world : CodeWorld A S) (w : World) → Stands g world.node (step m served w.node event).node (step m served w.node event).node.past →
-      LinkStands world.link (node_handles m served w event) → IsLink w.node.addr world.link → world.mark ≡ w.mark → world.spent ≡ false → WorldStands g world (node_handles m served w event)
+  pub handled : (m : AppSpec) (served : ℕ → Bool) (event : Event) (world : CodeWorld A S) (w : World) → Represents g world.node (step m served w.node event).node (step m served w.node event).node.history →
+      LinkRepresents world.link (node_handles m served w event) → IsLink w.node.addr world.link → world.mark ≡ w.mark → world.spent ≡ false → WorldRepresents g world (node_handles m served w event)
   handled m served event world w n l i k f =
       let r : NodeStep = step m served w.node event in
-      let v : World = record w { node = r.node; sides = buries r.gone w.sides } in
+      let v : World = record w { node = r.node; sides = retires r.gone w.sides } in
       let same : (posts_reply v r.sent).node ≡ r.node = reply_node v r.sent in
       record {
-        node = subst (λ (x : AbstractNode). Stands g world.node x x.past) (sym same) n;
+        node = subst (λ (x : AbstractNode). Represents g world.node x x.history) (sym same) n;
         link = l;
         home = subst (λ a. IsLink a world.link) (sym (ap (λ (x : AbstractNode). x.addr) same ∙ step_addr m served w.node event)) i;
         mark = k ∙ sym (reply_mark v r.sent);
         fresh = f;
       }
 
-said_to : (sockets : Sockets) (to : Option SocketPair) (r : Reply) → to ≡ Some (pair_at sockets) → SaidTo sockets r → IsTo to r
-said_to sockets to r e h = subst (λ x. IsTo to x) (sym h.is) e
+sent_to : (sockets : Sockets) (to : Option SocketPair) (r : Reply) → to ≡ Some (pair_at sockets) → SaidTo sockets r → IsTo to r
+sent_to sockets to r e h = subst (λ x. IsTo to x) (sym h.is) e
 
 -- the answer to a segment goes to its sender
-pub arrived_to : (m : Meaning) (served : ℕ → Bool) (n : AbstractNode) (sockets : Sockets) (s : PlainSegment) (to : Option SocketPair) → to ≡ Some (pair_at sockets) → AreTo to (step m served n (Arrived sockets s)).sent
+pub arrived_to : (m : AppSpec) (served : ℕ → Bool) (n : AbstractNode) (sockets : Sockets) (s : PlainSegment) (to : Option SocketPair) → to ≡ Some (pair_at sockets) → AreTo to (step m served n (Arrived sockets s)).sent
 arrived_to m served n sockets s to e = go (step m served n (Arrived sockets s)).sent refl
   where
     go : (r : Option Reply) → (step m served n (Arrived sockets s)).sent ≡ r → AreTo to r
     go None h = tt
-    go (Some r) h = said_to sockets to r e (arrived_reply m served n sockets s r h)
+    go (Some r) h = sent_to sockets to r e (arrived_reply m served n sockets s r h)
 
 -- what a periodic call sends goes to the peer of the connection in the slot
-pub periodic_to : (m : Meaning) (served : ℕ → Bool) (n : AbstractNode) (slot : ℕ) (to : Option SocketPair) → to ≡ owner (connection_in slot n) → AreTo to (step m served n (Periodic slot)).sent
+pub periodic_to : (m : AppSpec) (served : ℕ → Bool) (n : AbstractNode) (slot : ℕ) (to : Option SocketPair) → to ≡ owner (connection_in slot n) → AreTo to (step m served n (Periodic slot)).sent
 periodic_to m served n slot to e = go (step m served n (Periodic slot)).sent refl
   where
     go : (r : Option Reply) → (step m served n (Periodic slot)).sent ≡ r → AreTo to r
     go None h = tt
     go (Some r) h =
-        let said = periodic_reply m served n slot r h in
-        said_to (connection_in slot n).sockets to r (e ∙ ap (λ b. if b then Some (pair_at (connection_in slot n).sockets) else None) said.live) said.said
+        let output = periodic_reply m served n slot r h in
+        sent_to (connection_in slot n).sockets to r (e ∙ ap (λ b. if b then Some (pair_at (connection_in slot n).sockets) else None) output.live) output.output
 
 -- a step that leaves the list of datagrams has sent nothing
 pub silent : (w : World) (r : NodeStep) → (node_stepped w r).sent ≡ w.sent → r.sent ≡ None
@@ -80,7 +80,7 @@ silent w r h = go r.sent h
     longer : {X : Type 0} (xs : List X) (x : X) → xs ++ x ∷ [] ≡ xs → ⊥
     longer xs x e = let l = length-append xs (x ∷ []) in let k = ap length e in omega (arith, l, k)
 
-    go : (s : Option Reply) → (posts_reply (record w { node = r.node; sides = buries r.gone w.sides }) s).sent ≡ w.sent → s ≡ None
+    go : (s : Option Reply) → (posts_reply (record w { node = r.node; sides = retires r.gone w.sides }) s).sent ≡ w.sent → s ≡ None
     go None e = refl
     go (Some (Echo request)) e = absurd (longer w.sent _ e)
     go (Some (Tcp sockets id again s)) e = absurd (longer w.sent _ e)
@@ -114,22 +114,22 @@ still_linked before after link keeps = (link.0, keeps link.0 link.1)
 
 module _ {A S : Type 0} (g : Ghosts A S) where
   -- the node and the mark stay
-  pub linked : (world : CodeWorld A S) (link : Link) (area : List ℕ) (w v : World) → WorldStands g world w → v.node ≡ w.node → v.mark ≡ w.mark → LinkStands link v → IsLink w.node.addr link
-      → WorldStands g (record world { link = link; area = area }) v
+  pub linked : (world : CodeWorld A S) (link : Link) (area : List ℕ) (w v : World) → WorldRepresents g world w → v.node ≡ w.node → v.mark ≡ w.mark → LinkRepresents link v → IsLink w.node.addr link
+      → WorldRepresents g (record world { link = link; area = area }) v
   linked world link area w v s n k l i = record {
-    node = subst (λ (x : AbstractNode). Stands g world.node x x.past) (sym n) s.node;
+    node = subst (λ (x : AbstractNode). Represents g world.node x x.history) (sym n) s.node;
     link = l;
     home = subst (λ a. IsLink a link) (sym (ap (λ (x : AbstractNode). x.addr) n)) i;
     mark = s.mark ∙ sym k;
     fresh = s.fresh;
   }
 
-  pub own_done : (world : CodeWorld A S) (link : Link) (area : List ℕ) (w : World) (number : ℕ) (act : AbstractClient → ClientStep) → WorldStands g world w → LinkStands link (client_acts w number act) → IsLink w.node.addr link
-      → WorldStands g (record world { link = link; area = area }) (client_acts w number act)
+  pub own_done : (world : CodeWorld A S) (link : Link) (area : List ℕ) (w : World) (number : ℕ) (act : AbstractClient → ClientStep) → WorldRepresents g world w → LinkRepresents link (client_acts w number act) → IsLink w.node.addr link
+      → WorldRepresents g (record world { link = link; area = area }) (client_acts w number act)
   own_done world link area w number act s l i = let k = acts_stay w number act in linked world link area w (client_acts w number act) s k.node k.mark l i
 
-  pub handed_done : (world : CodeWorld A S) (link : Link) (area : List ℕ) (w : World) (number : ℕ) (bytes : List ℕ) → WorldStands g world w → LinkStands link (at_side w number (handed w number bytes)) → IsLink w.node.addr link
-      → WorldStands g (record world { link = link; area = area }) (at_side w number (handed w number bytes))
+  pub handed_done : (world : CodeWorld A S) (link : Link) (area : List ℕ) (w : World) (number : ℕ) (bytes : List ℕ) → WorldRepresents g world w → LinkRepresents link (at_side w number (handed w number bytes)) → IsLink w.node.addr link
+      → WorldRepresents g (record world { link = link; area = area }) (at_side w number (handed w number bytes))
   handed_done world link area w number bytes s l i = let k = handed_stays w number bytes in linked world link area w (at_side w number (handed w number bytes)) s k.node k.mark l i
 
 -- the periodic calls that are left of a tick

@@ -16,7 +16,7 @@ use Rattle.link_world.specs.Bytes.{heard_by, server_of}
 use Rattle.link_world.specs.declared.who.Who.TheVariants.{FromClient, FromNode}
 use Rattle.link_world.specs.Reading.{IsRead, IsSentBy}
 use Rattle.link_replay.specs.Matched.{Matched}
-use Rattle.link_replay.specs.Stands.{SideStands}
+use Rattle.link_replay.specs.Represents.{SideRepresents}
 use Rattle.link_replay.specs.Plain.{CodeSide}
 use Rattle.link_replay.specs.declared.kind.Kind.{Kind}
 use Rattle.link_replay.specs.declared.kind.Kind.TheVariants.{EchoReply}
@@ -30,7 +30,7 @@ if_heard : (b : Bool) (s t : PlainSegment) → (if b then Some s else None) ≡ 
 if_heard true s t e = cc
 if_heard false s t e = absurd cc
 
--- what a client hears arrived at its address
+-- what a client receives arrived at its address
 pub heard_arrived : (setup : Setup) (event : Event) (s : PlainSegment) → heard_by setup event ≡ Some s → (sockets : Sockets) × (event ≡ Arrived sockets s)
 heard_arrived setup (Arrived sockets t) s e = (sockets, ap (λ x. Arrived sockets x) (if_heard (same_sockets sockets (server_of setup)) t s e))
 heard_arrived setup _ s e = absurd cc
@@ -71,15 +71,15 @@ no_client_kind w number (OfPing datagram) found by = absurd by
 no_client_kind w number (OfEcho request) found by = refl
 
 -- the address of a client that is there
-pub address_there : (sides : List CodeSide) (ss : List Side) (place : ℕ) (d : CodeSide) → Matched SideStands sides ss → place < length sides
+pub address_there : (sides : List CodeSide) (ss : List Side) (place : ℕ) (d : CodeSide) → Matched SideRepresents sides ss → place < length sides
     → Some (slice_index_or sides place d).client.setup.addr ≡ option_map addr_of (numbered ss (suc place))
 address_there sides ss place d m lt =
-    let there = partner SideStands sides ss place (slice_index_or sides place d) m (slice_get-get_or sides place d lt) in
+    let there = partner SideRepresents sides ss place (slice_index_or sides place d) m (slice_get-get_or sides place d lt) in
     ap (λ (c : AbstractClient). Some c.setup.addr) there.2.client ∙ sym (ap (λ o. option_map addr_of o) there.1)
 
 -- no client is there
-pub address_past : (sides : List CodeSide) (ss : List Side) (number : ℕ) → Matched SideStands sides ss → (number ≡ 0) ⊎ (length sides < number)
+pub address_past : (sides : List CodeSide) (ss : List Side) (number : ℕ) → Matched SideRepresents sides ss → (number ≡ 0) ⊎ (length sides < number)
     → None ≡ option_map addr_of (numbered ss number)
-address_past sides ss zero m past = refl
+address_past sides ss zero m history = refl
 address_past sides ss (suc place) m (inl none) = absurd (omega arith)
-address_past sides ss (suc place) m (inr past) = sym (ap (λ o. option_map addr_of o) (slice_get_past ss place (omega (arith, m.same_length))))
+address_past sides ss (suc place) m (inr history) = sym (ap (λ o. option_map addr_of o) (slice_get_past ss place (omega (arith, m.same_length))))

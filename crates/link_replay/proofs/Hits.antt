@@ -1,4 +1,5 @@
 -- A file's hits as a count over the events of a node.
+-- [add: state] A request that arrives in it.
 use Rattle.std.proofs.Common.{◌≡◌, ℕ, zero, suc, ◌+◌, ◌%◌, ◌^◌, ◌<◌, Bool, true, false, not, ◌&&◌, ◌||◌, if◌then◌else◌, List, [], ◌∷◌, length, get_or, set, replicate, refl, sym, ap, ◌∙◌, subst, arith, eqb, eq-eqb, ltb, Option, Some, None, slice_get, slice_index_or, position, length-set}
 use Rattle.tcp_machine.specs.declared.ticking.TheConstants.{REST_TIME}
 use Rattle.std.proofs.lemmas.List.{get_or-set_other, get_or-set_same}
@@ -6,7 +7,7 @@ use Rattle.uip_wire.specs.Numbers.{wrap}
 use Rattle.tcp_segment.specs.Segments.{PlainSegment, has_fin, has_rst}
 use Rattle.rexmit_timer.specs.Ages.{beat_at}
 use Rattle.rexmit_timer.specs.declared.timer.Beat.{Beat}
-use Rattle.app_events.specs.Part.{Part, After, Meaning}
+use Rattle.app_events.specs.AppSpec.{AppState, After, AppSpec}
 use Rattle.app_events.specs.declared.now.Now.{Now}
 use Rattle.app_events.specs.declared.ending.Ending.{Ending}
 use Rattle.app_events.specs.declared.state.State.{State}
@@ -17,18 +18,18 @@ use Rattle.site_image.specs.Files.{File}
 use Rattle.tcp_machine.specs.Connection.{Connection, Sockets, closed, serves}
 use Rattle.tcp_machine.specs.Segments.{is_plain_syn}
 use Rattle.tcp_machine.specs.Ask.{Outcome, after_own_fin, closes, peer_has_closed, idles, does_as_wanted, prepared, asked_for, asked}
-use Rattle.tcp_machine.specs.OnSegment.{accept, in_state, takes, told_end, with_window, hears, is_out_of_order, is_acked, rests, has_text, in_established, peer_closes, goes_on, fin_acked, fin_waits, with_part, by_state, on_segment}
+use Rattle.tcp_machine.specs.OnSegment.{accept, in_state, takes, told_end, with_window, hears, is_out_of_order, is_acked, rests, has_text, in_established, peer_closes, stays_established, fin_acked, fin_waits, with_part, by_state, on_segment}
 use Rattle.tcp_machine.specs.OnTick.{grows_older, limit_of, outstanding, by_beat, rests_on, ticks_established, tick_by, on_tick}
 use Rattle.tcp_machine.specs.declared.step.Step.{Step}
 use Rattle.uip_node.specs.Counters.{initial_number}
 use Rattle.uip_node.specs.Events.{Event}
 use Rattle.uip_node.specs.Events.Event.{IpRefused, IcmpRefused, TcpRefused, EchoAsked, Arrived, Overlong, Periodic}
-use Rattle.uip_node.specs.Node.{AbstractNode, NodeStep, arrives_at, connection_in, from_stranger, happened, moment, opening, opens, opens_in, run, slot_for_syn, step}
+use Rattle.uip_node.specs.Node.{AbstractNode, NodeStep, arrives_at, connection_in, for_no_connection, happened, snapshot, initial_node, opens, opens_in, run, slot_for_syn, step}
 use Rattle.web_pages.specs.Pages.{place_of}
 use Rattle.web_pages.specs.Requests.{Wanted, wanted}
 use Rattle.web_pages.specs.Requests.Wanted.{NotYet, Refused, Name}
 use Rattle.web_pages.specs.Serving.{is_served, no_hits}
-use Rattle.web_pages.specs.WebMeaning.{hit_at, hits_by, is_acknowledged, waits_for_capture, web_meaning}
+use Rattle.web_pages.specs.WebMeaning.{hit_at, hits_by, is_acknowledged, waits_for_capture, web_spec}
 use Rattle.uip_node.proofs.Basics.{choose, eqb-eq, wrap_wrap}
 use Rattle.uip_node.proofs.FitNodes.{Inside, slot_inside}
 use Rattle.uip_node.proofs.FitNodes.{position_in}
@@ -39,16 +40,16 @@ use Rattle.link_replay.specs.Hits.{HitsAreCounted, becomes_hit, hits_over, is_pl
 -- ---- one connection
 
 abbrev asks : Connection → Wanted
-asks c = wanted c.part.heard
+asks c = wanted c.part.delivered
 
 -- the numbers after a step, by what was asked for before and after
 module _ (files : List File) where
-  abbrev m : Meaning
-  m = web_meaning files
+  abbrev m : AppSpec
+  m = web_spec files
 
-  -- before a connection is open nothing was heard
+  -- before a connection is open nothing was received
   abbrev Fresh : State → Connection → Type 0
-  Fresh SynRcvd c = c.part.heard ≡ []
+  Fresh SynRcvd c = c.part.delivered ≡ []
   Fresh _ c = Unit {0}
 
   record Counts (before : Wanted) (numbers : List ℕ) (o : Outcome) : Type 0 where
@@ -60,12 +61,12 @@ module _ (files : List File) where
   same_by numbers Refused = refl
   same_by numbers (Name name) = refl
 
-  late : (st : State) (c d : Connection) → d.part.heard ≡ c.part.heard → Fresh st c → Fresh st d
+  late : (st : State) (c d : Connection) → d.part.delivered ≡ c.part.delivered → Fresh st c → Fresh st d
   late SynRcvd c d e h = e ∙ h
   late _ c d e h = tt
 
-  -- a step that nothing is heard in
-  quiet : (c d : Connection) (numbers : List ℕ) (s : Step) → d.part.heard ≡ c.part.heard → Fresh d.state d → Counts (asks c) numbers (record { connection = d; numbers = numbers; step = s })
+  -- a step in which nothing is received
+  quiet : (c d : Connection) (numbers : List ℕ) (s : Step) → d.part.delivered ≡ c.part.delivered → Fresh d.state d → Counts (asks c) numbers (record { connection = d; numbers = numbers; step = s })
   quiet c d numbers s e f = record { hits = sym (same_by numbers (asks c)) ∙ ap (λ xs. hits_by files numbers (asks c) (wanted xs)) (sym e); fresh = f }
 
   at_state : (d : Connection) (st : State) → d.state ≡ st → Fresh st d → Fresh d.state d
@@ -75,48 +76,48 @@ module _ (files : List File) where
   fin_fresh d Closed = tt
   fin_fresh d _ = tt
 
-  told_same : (how : Ending) (st : State) (p : Part) (numbers : List ℕ) → told_end m how st p numbers ≡ numbers
+  told_same : (how : Ending) (st : State) (p : AppState) (numbers : List ℕ) → told_end m how st p numbers ≡ numbers
   told_same how Closed p numbers = refl
   told_same how _ p numbers = refl
 
   closes_counts : (c : Connection) (how : Ending) (numbers : List ℕ) (s : Step) → Counts (asks c) numbers (record { connection = closes c; numbers = told_end m how c.state c.part numbers; step = s })
   closes_counts c how numbers s = record { hits = told_same how c.state c.part numbers ∙ sym (same_by numbers (asks c)); fresh = tt }
 
-  -- what the application hears
-  hears_hits : (numbers : List ℕ) (p : Part) (text : List ℕ) → (hears m numbers p text).numbers ≡ hits_by files numbers (wanted p.heard) (wanted (hears m numbers p text).part.heard)
-  hears_hits numbers p [] = sym (same_by numbers (wanted p.heard))
+  -- what the application receives
+  hears_hits : (numbers : List ℕ) (p : AppState) (text : List ℕ) → (hears m numbers p text).numbers ≡ hits_by files numbers (wanted p.delivered) (wanted (hears m numbers p text).part.delivered)
+  hears_hits numbers p [] = sym (same_by numbers (wanted p.delivered))
   hears_hits numbers p (x ∷ xs) = refl
 
   -- ---- asking
 
   record Like (o r : Outcome) : Type 0 where
     numbers : r.numbers ≡ o.numbers
-    heard : r.connection.part.heard ≡ o.connection.part.heard
+    delivered : r.connection.part.delivered ≡ o.connection.part.delivered
     fresh : Fresh r.connection.state r.connection
 
-  wanted_like : (w : Want) (fresh : Bool) (c : Connection) (o : Outcome) → c.part.heard ≡ o.connection.part.heard → Fresh c.state c → Like o (does_as_wanted w fresh c o.numbers)
+  wanted_like : (w : Want) (fresh : Bool) (c : Connection) (o : Outcome) → c.part.delivered ≡ o.connection.part.delivered → Fresh c.state c → Like o (does_as_wanted w fresh c o.numbers)
   unfolding idles
-  wanted_like Abort fresh c o e f = record { numbers = refl; heard = e; fresh = tt }
-  wanted_like Close fresh c o e f = record { numbers = refl; heard = e; fresh = fin_fresh (does_as_wanted Close fresh c o.numbers).connection c.state }
-  wanted_like (Send n) fresh c o e f = record { numbers = refl; heard = e; fresh = late c.state c (does_as_wanted (Send n) fresh c o.numbers).connection refl f }
+  wanted_like Abort fresh c o e f = record { numbers = refl; delivered = e; fresh = tt }
+  wanted_like Close fresh c o e f = record { numbers = refl; delivered = e; fresh = fin_fresh (does_as_wanted Close fresh c o.numbers).connection c.state }
+  wanted_like (Send n) fresh c o e f = record { numbers = refl; delivered = e; fresh = late c.state c (does_as_wanted (Send n) fresh c o.numbers).connection refl f }
   wanted_like Nothing fresh c o e f =
-      choose (λ (r : Outcome). Like o r) (peer_has_closed c.state) _ _ (λ x. record { numbers = refl; heard = e; fresh = tt })
-      (λ x. choose (λ (r : Outcome). Like o r) fresh _ _ (λ y. record { numbers = refl; heard = e; fresh = f }) (λ y. record { numbers = refl; heard = e; fresh = f }))
+      choose (λ (r : Outcome). Like o r) (peer_has_closed c.state) _ _ (λ x. record { numbers = refl; delivered = e; fresh = tt })
+      (λ x. choose (λ (r : Outcome). Like o r) fresh _ _ (λ y. record { numbers = refl; delivered = e; fresh = f }) (λ y. record { numbers = refl; delivered = e; fresh = f }))
 
   asked_for_like : (at : Connection → Now) (o : Outcome) (s : Step) → Fresh o.connection.state o.connection → Like o (asked_for m at o s)
   asked_for_like at o (Step.Ask fresh) f =
       let now : Now = at o.connection in
       let b : Connection = prepared m now o.connection o.numbers in
-      let same : b.part.heard ≡ o.connection.part.heard =
-      choose (λ (p : Part). p.heard ≡ o.connection.part.heard) (is_acknowledged files o.connection.part && waits_for_capture files (wanted o.connection.part.heard) o.connection.part) _ _ (λ e. refl) (λ e. refl) in
+      let same : b.part.delivered ≡ o.connection.part.delivered =
+      choose (λ (p : AppState). p.delivered ≡ o.connection.part.delivered) (is_acknowledged files o.connection.part && waits_for_capture files (wanted o.connection.part.delivered) o.connection.part) _ _ (λ e. refl) (λ e. refl) in
       wanted_like (m.want o.numbers (m.prepare o.numbers o.connection.part now)) fresh b o same (late o.connection.state o.connection b same f)
-  asked_for_like at o Step.Drop f = record { numbers = refl; heard = refl; fresh = f }
-  asked_for_like at o _ f = record { numbers = refl; heard = refl; fresh = f }
+  asked_for_like at o Step.Drop f = record { numbers = refl; delivered = refl; fresh = f }
+  asked_for_like at o _ f = record { numbers = refl; delivered = refl; fresh = f }
 
   asked_counts : (at : Connection → Now) (before : Wanted) (numbers : List ℕ) (o : Outcome) → Counts before numbers o → Counts before numbers (asked m at o)
   asked_counts at before numbers o h =
       let l = asked_for_like at o o.step h.fresh in
-      record { hits = l.numbers ∙ h.hits ∙ ap (λ xs. hits_by files numbers before (wanted xs)) (sym l.heard); fresh = l.fresh }
+      record { hits = l.numbers ∙ h.hits ∙ ap (λ xs. hits_by files numbers before (wanted xs)) (sym l.delivered); fresh = l.fresh }
 
   -- ---- a segment
 
@@ -125,8 +126,8 @@ module _ (files : List File) where
   closes_in c numbers s =
       choose (λ (o : Outcome). Counts (asks c) numbers o) (ltb 0 c.len) _ _ (λ e. record { hits = hears_hits numbers c.part s.text; fresh = tt }) (λ e. record { hits = hears_hits numbers c.part s.text; fresh = tt })
 
-  goes_on_in : (acked : Bool) (c : Connection) (numbers : List ℕ) (s : PlainSegment) → c.state ≡ Established → Counts (asks c) numbers (goes_on m acked c numbers s)
-  unfolding goes_on
+  goes_on_in : (acked : Bool) (c : Connection) (numbers : List ℕ) (s : PlainSegment) → c.state ≡ Established → Counts (asks c) numbers (stays_established m acked c numbers s)
+  unfolding stays_established
   goes_on_in acked c numbers s st =
       let d : Connection = with_window s.window (with_part (hears m numbers c.part s.text).part (takes (length s.text) c)) in
       let f : Fresh d.state d = at_state d Established st tt in
@@ -307,7 +308,7 @@ module _ (files : List File) where
   opened_stepped place n sockets s None i f = still place n (opens m n sockets s None).node refl refl f
   opened_stepped place n sockets s (Some slot) i f =
       let there = i slot refl in
-      let o : Outcome = accept (initial_number n.past) sockets s n.numbers in
+      let o : Outcome = accept (initial_number n.history) sockets s n.numbers in
       slot_stepped place n (opens m n sockets s (Some slot)).node slot there.item o refl refl there.get record { hits = sym (fresh_by n.numbers (asks there.item)); fresh = refl } f
     where
       -- a connection that is opened asks for nothing
@@ -316,8 +317,8 @@ module _ (files : List File) where
       fresh_by numbers Refused = refl
       fresh_by numbers (Name name) = refl
 
-  stranger_stepped : (place : ℕ) (n : AbstractNode) (sockets : Sockets) (s : PlainSegment) → AllFresh n.connections → Stepped place n (from_stranger m is_served n sockets s).node
-  unfolding from_stranger
+  stranger_stepped : (place : ℕ) (n : AbstractNode) (sockets : Sockets) (s : PlainSegment) → AllFresh n.connections → Stepped place n (for_no_connection m is_served n sockets s).node
+  unfolding for_no_connection
   stranger_stepped place n sockets s f =
       choose (λ (x : NodeStep). Stepped place n x.node) (is_plain_syn s && is_served sockets.own_port.0) _ _ (λ e. opened_stepped place n sockets s (slot_for_syn n.connections) (slot_inside n.connections) f)
       (λ e. choose (λ (x : NodeStep). Stepped place n x.node) (has_rst s.flags) _ _ (λ g. still place n _ refl refl f) (λ g. still place n _ refl refl f))
@@ -333,22 +334,22 @@ module _ (files : List File) where
   arrived_stepped place n sockets s None i f = stranger_stepped place n sockets s f
   arrived_stepped place n sockets s (Some slot) i f =
       let there = i slot refl in
-      at_slot place n (Arrived sockets s) slot there.item (λ c. asked m (moment n (Arrived sockets s) slot) (on_segment m c n.numbers s)) there.get
-      (λ c g. asked_counts (moment n (Arrived sockets s) slot) (asks c) n.numbers (on_segment m c n.numbers s) (segment_counts c n.numbers s g)) f
+      at_slot place n (Arrived sockets s) slot there.item (λ c. asked m (snapshot n (Arrived sockets s) slot) (on_segment m c n.numbers s)) there.get
+      (λ c g. asked_counts (snapshot n (Arrived sockets s) slot) (asks c) n.numbers (on_segment m c n.numbers s) (segment_counts c n.numbers s g)) f
 
   -- a slot past the table is CLOSED, and nothing changes
   past_slot : (place : ℕ) (n : AbstractNode) (slot : ℕ) → slice_get n.connections slot ≡ None → AllFresh n.connections → Stepped place n (step m is_served n (Periodic slot)).node
   unfolding happened
   past_slot place n slot x f =
       let e : connection_in slot n ≡ closed = index_none n.connections slot closed x in
-      subst (λ c. Stepped place n (happened m n (Periodic slot) slot c (asked m (moment n (Periodic slot) slot) (on_tick m c n.numbers))).node) (sym e)
+      subst (λ c. Stepped place n (happened m n (Periodic slot) slot c (asked m (snapshot n (Periodic slot) slot) (on_tick m c n.numbers))).node) (sym e)
       (still place n _ (set_past n.connections slot closed x) refl f)
 
   periodic_stepped : (place : ℕ) (n : AbstractNode) (slot : ℕ) (at : Option Connection) → slice_get n.connections slot ≡ at → AllFresh n.connections → Stepped place n (step m is_served n (Periodic slot)).node
   periodic_stepped place n slot None x f = past_slot place n slot x f
   periodic_stepped place n slot (Some old) x f =
-      at_slot place n (Periodic slot) slot old (λ c. asked m (moment n (Periodic slot) slot) (on_tick m c n.numbers)) x
-      (λ c g. asked_counts (moment n (Periodic slot) slot) (asks c) n.numbers (on_tick m c n.numbers) (tick_by_counts c.state c n.numbers refl g)) f
+      at_slot place n (Periodic slot) slot old (λ c. asked m (snapshot n (Periodic slot) slot) (on_tick m c n.numbers)) x
+      (λ c g. asked_counts (snapshot n (Periodic slot) slot) (asks c) n.numbers (on_tick m c n.numbers) (tick_by_counts c.state c n.numbers refl g)) f
 
   step_stepped : (place : ℕ) (n : AbstractNode) (event : Event) → AllFresh n.connections → Stepped place n (step m is_served n event).node
   step_stepped place n (IpRefused fate) f = still place n _ refl refl f
@@ -397,7 +398,7 @@ length_same (suc n) = ap suc (length_same n)
 
 pub hits_are_counted : HitsAreCounted
 hits_are_counted files addr events place l =
-    let first : AbstractNode = opening addr (no_hits files) in
+    let first : AbstractNode = initial_node addr (no_hits files) in
     let none : get_or first.numbers place 0 ≡ 0 = zero_at (length files) place in
     run_counts files place events first (omega (arith, l, length_same (length files))) (λ i c x. subst (λ (y : Connection). Fresh files y.state y) (all_closed 10 i c x) tt)
     (none ∙ ap wrap (sym none))

@@ -3,7 +3,7 @@ use Rattle.std.specs.List.{All, list_all}
 use Rattle.std.proofs.Common.{◌≡◌, ℕ, zero, suc, ◌≤◌, ◌&&◌, true, replicate, List, [], ◌∷◌, Some, Ok, length, sym, subst, refl, ap, ◌∙◌, arith, lit<, leb, slice_get}
 use Rattle.std.proofs.lemmas.Bool.{and_parts, leb-true}
 use Rattle.std.proofs.lemmas.List.Elements.{All-head, All-replicate}
-use Rattle.app_events.specs.Pages.{IsWord}
+use Rattle.app_events.specs.Pages.{IsU32}
 use Rattle.file_tree.specs.Site.{SiteContent, IsLoaded, files_of}
 use Rattle.web_pages.specs.Pages.{pages_of}
 use Rattle.link_world.specs.Honest.{IsServedWhole}
@@ -11,7 +11,7 @@ use Rattle.link_world.specs.World.{World}
 use Rattle.link_schedule.specs.Reading.{SchedulePlan}
 use Rattle.link_replay.specs.Outcome.{outcome}
 use Rattle.site_image.specs.Files.{File}
-use Rattle.web_pages.specs.WebMeaning.{web_meaning}
+use Rattle.web_pages.specs.WebMeaning.{web_spec}
 use Rattle.link_replay.proofs.Web.{honest_pages}
 use Rattle.link_schedule.specs.Clients.{Plan}
 use Rattle.link_schedule.specs.Kept.{client_in_range, is_between}
@@ -40,7 +40,7 @@ is_planned plan types range =
       server = server_is_addr;
       server_port = lit< tt;
       offered = types.offered;
-      first = lit< tt;
+      iss = lit< tt;
       short = leb-true (length plan.request) 4096 sizes.1;
       all_bytes = types.all_bytes;
       seg = (leb-true 1 plan.seg segs.0, leb-true plan.seg 1460 segs.1);
@@ -61,10 +61,10 @@ honest_outcome : (site : SiteContent) → IsLoaded site → (content : ScheduleP
 honest_outcome site loaded content plan is honest =
     let files : List File = files_of site in
     let room = honest.room in
-    let world = honest_pages site loaded is_served server (no_hits files) (planned 1 plan) server_is_addr (All-replicate IsWord (length files) 0 (lit< tt))
+    let world = honest_pages site loaded is_served server (no_hits files) (planned 1 plan) server_is_addr (All-replicate IsU32 (length files) 0 (lit< tt))
     (one_plan plan is) refl honest.decided (omega (arith, room)) in
-    let lines = ap (λ (events : List Event). plays (web_meaning files) is_served events (opening_for (no_hits files) content.clients)) honest.lines in
-    let clients = ap (λ (plans : List Plan). plays (web_meaning files) is_served (Opens 1 ∷ replicate (rounds_for files plan) Round) (opening_for (no_hits files) plans)) honest.alone in
+    let lines = ap (λ (events : List Event). plays (web_spec files) is_served events (opening_for (no_hits files) content.clients)) honest.lines in
+    let clients = ap (λ (plans : List Plan). plays (web_spec files) is_served (Opens 1 ∷ replicate (rounds_for files plan) Round) (opening_for (no_hits files) plans)) honest.alone in
     (world.0, lines ∙ clients ∙ world.1, world.2)
 
 -- so it is of the world that is reached

@@ -1,11 +1,11 @@
--- The promises that a world keeps which acts reach from the opening one.
+-- The promises that hold of a world that acts reach from the initial one.
 use Rattle.std.specs.List.{All}
 use Rattle.std.proofs.Common.{◌≡◌, ℕ, Bool, true, Some, inl}
 use Rattle.std.specs.Prelude.{slice_get}
 use Rattle.app_events.specs.Pages.{IsByte}
 use Rattle.file_tree.specs.Site.{SiteContent, IsLoaded, files_of}
 use Rattle.web_pages.specs.Pages.{pages_of}
-use Rattle.web_pages.specs.WebMeaning.{web_meaning}
+use Rattle.web_pages.specs.WebMeaning.{web_spec}
 use Rattle.web_pages.proofs.PageLaws.{keeps_page_laws}
 use Rattle.web_pages.proofs.ByteLaws.{made_of_bytes}
 use Rattle.link_world.specs.World.{World, Side, is_clean}
@@ -19,11 +19,11 @@ use Rattle.link_replay.specs.Promises.{KeepsPromises}
 
 -- the pages of a site are bytes
 pub has_bytes : (site : SiteContent) → All IsByte site.image → HasBytes (pages_of (files_of site))
-has_bytes site bytes heard captures all = made_of_bytes site bytes heard captures all
+has_bytes site bytes delivered captures all = made_of_bytes site bytes delivered captures all
 
 module _ (site : SiteContent) (loaded : IsLoaded site) (bytes : All IsByte site.image) (served : ℕ → Bool) (w : World) where
   -- what every law of reached worlds asks for; no law speaks of the mark
-  reached : IsAt (web_meaning (files_of site)) served w → IsReached (web_meaning (files_of site)) (pages_of (files_of site)) (record w { mark = 0 })
+  reached : IsAt (web_spec (files_of site)) served w → IsReached (web_spec (files_of site)) (pages_of (files_of site)) (record w { mark = 0 })
   reached h = record {
     served = served;
     start = h.start;
@@ -33,16 +33,16 @@ module _ (site : SiteContent) (loaded : IsLoaded site) (bytes : All IsByte site.
     accepted = h.accepted;
   }
 
-  received : IsAt (web_meaning (files_of site)) served w → (k : ℕ) (side : Side) → slice_get w.sides k ≡ Some side → is_clean side ≡ true → IsServed (pages_of (files_of site)) w side
+  received : IsAt (web_spec (files_of site)) served w → (k : ℕ) (side : Side) → slice_get w.sides k ≡ Some side → is_clean side ≡ true → IsServed (pages_of (files_of site)) w side
   received h k side there clean =
       let is : IsServed (pages_of (files_of site)) (record w { mark = 0 }) side =
-      prefix_and_whole (web_meaning (files_of site)) (pages_of (files_of site)) (keeps_page_laws site loaded) (record w { mark = 0 }) (reached h) k side there clean in
+      prefix_and_whole (web_spec (files_of site)) (pages_of (files_of site)) (keeps_page_laws site loaded) (record w { mark = 0 }) (reached h) k side there clean in
       record { prefix = is.prefix; all = is.all; whole = is.whole }
 
-  repeated : IsAt (web_meaning (files_of site)) served w → RepeatsSameBytes w
+  repeated : IsAt (web_spec (files_of site)) served w → RepeatsSameBytes w
   repeated h k side there i e id s sent who content again =
       let was : (j : ℕ) × IsRepeatOf (record w { mark = 0 }) e s i j =
-      same_bytes (web_meaning (files_of site)) (pages_of (files_of site)) (keeps_page_laws site loaded) (record w { mark = 0 }) (reached h) k side there i e id s sent who content again in (
+      same_bytes (web_spec (files_of site)) (pages_of (files_of site)) (keeps_page_laws site loaded) (record w { mark = 0 }) (reached h) k side there i e id s sent who content again in (
         was.0,
         record {
           earlier = was.1.earlier;
@@ -59,10 +59,10 @@ module _ (site : SiteContent) (loaded : IsLoaded site) (bytes : All IsByte site.
         },
       )
 
-  marks : IsAt (web_meaning (files_of site)) served w → MarksRepeats w
-  marks h k side there = again_exactly (web_meaning (files_of site)) (pages_of (files_of site)) (keeps_page_laws site loaded) (record w { mark = 0 }) (reached h) k side there
+  marks : IsAt (web_spec (files_of site)) served w → MarksRepeats w
+  marks h k side there = again_exactly (web_spec (files_of site)) (pages_of (files_of site)) (keeps_page_laws site loaded) (record w { mark = 0 }) (reached h) k side there
 
-  pub keeps_promises : IsAt (web_meaning (files_of site)) served w → KeepsPromises (files_of site) w
+  pub keeps_promises : IsAt (web_spec (files_of site)) served w → KeepsPromises (files_of site) w
   keeps_promises h = record {
     pages = λ k side there clean. received h k side there clean;
     same_bytes = repeated h;

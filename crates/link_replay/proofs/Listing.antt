@@ -14,19 +14,19 @@ unfolding encode_with
 encode_with-append t [] ys = refl
 encode_with-append t (b ∷ xs) ys = ap (λ (l : List ℕ). slice_index t (b / 16) ∷ slice_index t (b % 16) ∷ l) (encode_with-append t xs ys)
 
--- the digits of a front and of the others
-pub digits_parts : (n : ℕ) (xs front others : List ℕ) → front ≡ take n xs → others ≡ drop n xs → encode_lower xs ≡ encode_lower front ++ encode_lower others
-digits_parts n xs front others f o =
-    ap (λ l. encode_lower l) (sym (take-append-drop n xs) ∙ ap (λ l. l ++ drop n xs) (sym f) ∙ ap (λ l. front ++ l) (sym o))
-    ∙ encode_with-append _ front others
+-- the digits of a prefix and of the others
+pub digits_parts : (n : ℕ) (xs prefix others : List ℕ) → prefix ≡ take n xs → others ≡ drop n xs → encode_lower xs ≡ encode_lower prefix ++ encode_lower others
+digits_parts n xs prefix others f o =
+    ap (λ l. encode_lower l) (sym (take-append-drop n xs) ∙ ap (λ l. l ++ drop n xs) (sym f) ∙ ap (λ l. prefix ++ l) (sym o))
+    ∙ encode_with-append _ prefix others
 
--- what stands in the other list
+-- what is in the other list
 pub partner : {X Y : Type 0} (P : X → Y → Type 0) (xs : List X) (ys : List Y) (i : ℕ) (x : X) → Matched P xs ys → slice_get xs i ≡ Some x
     → (y : Y) × (slice_get ys i ≡ Some y) × P x y
 partner {X} {Y} P xs ys i x m at =
     elim ((slice_get_cases ys i).1) as (λ _. (y : Y) × (slice_get ys i ≡ Some y) × P x y) [
       | inl there ↦ (there.0, there.2, m.each i x there.0 at there.2)
-      | inr past ↦ absurd (let lt = slice_get_within xs i x at in omega (arith, lt, past.0, m.same_length))
+      | inr history ↦ absurd (let lt = slice_get_within xs i x at in omega (arith, lt, history.0, m.same_length))
     ]
 
 texts_step : {X : Type 0} (text : ℕ → X → List ℕ) (n i : ℕ) (xs : List X) (x : X) → slice_get xs i ≡ Some x

@@ -1,4 +1,4 @@
--- A schedule that a seed makes.
+-- The schedule of a seed.
 use Rattle.std.specs.List.{range_with_len}
 use Rattle.std.proofs.Common.{◌≡◌, ℕ, suc, ◌+◌, ◌/◌, ◌%◌, ◌<◌, Bool, List, [], ◌∷◌, ◌++◌, length, map, replicate, refl, sym, ap, subst, ◌∙◌, arith, append_assoc}
 use Rattle.std.specs.Prelude.{flat_map}
@@ -6,9 +6,9 @@ use Rattle.std.proofs.Math.Nat.{mod-lt}
 use Rattle.std.proofs.lemmas.List.{length-map}
 use Rattle.std.proofs.lemmas.List.Concat.{flat_map-cons}
 use Rattle.std.proofs.lemmas.List.FromFn.{length-range_with_len}
-use Rattle.app_events.specs.Part.{Meaning}
+use Rattle.app_events.specs.AppSpec.{AppSpec}
 use Rattle.web_pages.specs.Serving.{is_served, no_hits}
-use Rattle.web_pages.specs.WebMeaning.{web_meaning}
+use Rattle.web_pages.specs.WebMeaning.{web_spec}
 use Rattle.link_schedule.specs.Clients.{Plan}
 use Rattle.link_schedule.specs.declared.event.Event.{Event}
 use Rattle.link_schedule.specs.declared.event.Event.TheVariants.{Opens, Again, Round}
@@ -32,7 +32,7 @@ length-plan_from : (number : ℕ) (plans : List Plan) → length (plan_from numb
 length-plan_from number [] = refl
 length-plan_from number (plan ∷ plans) = ap suc (length-plan_from (number + 1) plans)
 
-module _ (m : Meaning) (served : ℕ → Bool) (n : ℕ) (some : 0 < n) where
+module _ (m : AppSpec) (served : ℕ → Bool) (n : ℕ) (some : 0 < n) where
   event_kept : (rest k : ℕ) → k < n → IsKept m served n (event_drawn rest (1 + k))
   event_kept rest k lt =
       let last : suc k ≡ 1 + k = omega arith in
@@ -61,8 +61,8 @@ only_full files seed clients line reason some refused =
     let size : length (plan_from 1 plans) ≡ clients = length-plan_from 1 plans ∙ length-map (range_with_len 1 clients) client_of ∙ length-range_with_len 1 clients in
     let ready : IsOpening clients 0 (opening_for (no_hits files) plans) =
     subst (λ (n : ℕ). IsOpening n 0 (opening_for (no_hits files) plans)) size (opening_ready server (no_hits files) (plan_from 1 plans)) in
-    let fine = subst (λ (events : List Event). FineLines (plays (web_meaning files) is_served events (opening_for (no_hits files) plans)))
-    (sym (events_numbered (clients + 1) (events_of seed clients))) (made_fine (web_meaning files) is_served clients some seed (opening_for (no_hits files) plans) ready) in
+    let fine = subst (λ (events : List Event). FineLines (plays (web_spec files) is_served events (opening_for (no_hits files) plans)))
+    (sym (events_numbered (clients + 1) (events_of seed clients))) (made_fine (web_spec files) is_served clients some seed (opening_for (no_hits files) plans) ready) in
     let full : refused.fault ≡ Full = subst FineLines refused.meant_so fine in
     let told : Bad line Why.Full ≡ Bad line reason = ap (refusal_at line) (sym full) ∙ refused.told in
     cc

@@ -1,4 +1,4 @@
--- Lists that agree place by place, element by element.
+-- Lists that agree at each index, element by element.
 use Rattle.std.proofs.Common.{◌≡◌, ℕ, zero, suc, List, [], ◌∷◌, Some, map, subst, refl, ap, ◌∙◌, arith}
 use Rattle.std.specs.Prelude.{slice_get}
 use Rattle.link_replay.specs.Matched.{Matched}

@@ -1,4 +1,4 @@
--- The opening world: each client stands for the one that is planned, and the plan is one.
+-- The initial world: each client represents the one that is planned, and the plan is one.
 use Rattle.std.specs.List.{All, list_all, list_any}
 use Rattle.std.proofs.Common.{◌≡◌, ℕ, zero, suc, ◌+◌, ◌<◌, ◌≤◌, Bool, true, false, not, ◌&&◌, List, [], ◌∷◌, ◌++◌, length, map, refl, sym, ap, ◌∙◌, subst, arith, Some, None, slice_get, eqb, leb, lit<}
 use Rattle.std.proofs.lemmas.List.{length-map}
@@ -25,7 +25,7 @@ use Rattle.uip_node.proofs.Fits.{all_nil, all_cons}
 use Rattle.uip_node.proofs.Connections.{get_map}
 use Rattle.link_replay.specs.Matched.{Matched}
 use Rattle.link_replay.specs.Opening.{AreFresh, IsFresh, plan_from, planned, server}
-use Rattle.link_replay.specs.Stands.{IsLink, SentStands, SideStands}
+use Rattle.link_replay.specs.Represents.{IsLink, SentRepresents, SideRepresents}
 use Rattle.link_replay.specs.Plain.{CodeSent}
 use Rattle.link_replay.specs.State.{Link}
 use Rattle.link_replay.specs.Plain.{CodeSide}
@@ -61,7 +61,7 @@ fresh number plan setup client request received few range e addr port mss bytes 
         server = server_is_addr;
         server_port = lit< tt;
         offered = mss;
-        first = omega (arith, few);
+        iss = omega (arith, few);
         short = short;
         all_bytes = bytes;
         seg = (leb-true 1 plan.seg segs.0, leb-true plan.seg 1460 segs.1);
@@ -92,7 +92,7 @@ one_more clients sides at plan new there size is h i p side g s =
           subst (λ (n : ℕ). IsFresh n p side) number (subst (λ (x : Plan). IsFresh (at + 1) x side) meant (subst (λ (x : CodeSide). IsFresh (at + 1) plan x) q is)))
     ]
 
--- what stands at a place of a plan
+-- what is at an index of a plan
 pub record PlannedAt (number : ℕ) (plans : List Plan) (i : ℕ) (p : Planned) : Type 0 where
   pub plan : Plan
   pub get : slice_get plans i ≡ Some plan
@@ -123,13 +123,13 @@ all_planned plans sides h k p g =
     let s = slice_get-element sides k (omega (arith, l, h.same_length)) in
     subst IsPlanned (sym (r.is ∙ ap (λ (n : ℕ). planned n r.plan) (first_number k))) (h.each k r.plan s.0 r.get s.1).in_range
 
-pub sides_stand : (plans : List Plan) (sides : List CodeSide) → AreFresh plans sides → Matched SideStands sides (map fresh_side (plan_from 1 plans))
+pub sides_stand : (plans : List Plan) (sides : List CodeSide) → AreFresh plans sides → Matched SideRepresents sides (map fresh_side (plan_from 1 plans))
 sides_stand plans sides h = record {
   same_length = h.same_length ∙ sym (length-map (plan_from 1 plans) fresh_side ∙ plan_length 1 plans);
   each = λ i x y g f.
       (let m = get_map fresh_side (plan_from 1 plans) i y f in
       let r = planned_at 1 plans i m.from m.get in
-      subst (SideStands x) (ap (λ (n : ℕ). fresh_side (planned n r.plan)) (sym (first_number i)) ∙ ap fresh_side (sym r.is) ∙ m.is) (h.each i r.plan x r.get g).stands);
+      subst (SideRepresents x) (ap (λ (n : ℕ). fresh_side (planned n r.plan)) (sym (first_number i)) ∙ ap fresh_side (sym r.is) ∙ m.is) (h.each i r.plan x r.get g).stands);
 }
 
 fresh_at : (plans : List Plan) (sides : List CodeSide) → AreFresh plans sides → (i : ℕ) (side : CodeSide) → slice_get sides i ≡ Some side → (plan : Plan) × IsFresh (suc i) plan side
@@ -194,5 +194,5 @@ is_plan plans apart each = record {
 }
 
 -- no datagram
-pub none_stand : (w : World) (sent : List CodeSent) → sent ≡ [] → Matched (SentStands w) sent []
+pub none_stand : (w : World) (sent : List CodeSent) → sent ≡ [] → Matched (SentRepresents w) sent []
 none_stand w sent none = record { same_length = ap length none; each = λ i x y g h. absurd (cc) }

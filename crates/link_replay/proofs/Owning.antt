@@ -1,4 +1,4 @@
--- A client opens where it is idle, and nowhere else.
+-- A client opens exactly if it is idle.
 use Rattle.std.proofs.Common.{◌≡◌, ℕ, List, true, false, refl, sym, ap, ◌∙◌, subst, None}
 use Rattle.link_client.specs.Client.{AbstractClient, ClientStep, keeps, opens_by, client_opens}
 use Rattle.link_client.specs.declared.client_state.ClientState.{ClientState}
@@ -6,7 +6,7 @@ use Rattle.link_client.specs.declared.client_state.ClientState.TheVariants.{Idle
 use Rattle.link_world.specs.Acts.{is_idle}
 use Rattle.link_world.specs.World.{Side}
 use Rattle.link_replay.specs.Plain.{CodeSide}
-use Rattle.link_replay.specs.Stands.{SideStands}
+use Rattle.link_replay.specs.Represents.{SideRepresents}
 use Rattle.link_replay.specs.Owning.{Stepped}
 
 pub idle_is : (st : ClientState) → is_idle st ≡ true → st ≡ Idle
@@ -18,7 +18,7 @@ unfolding opens_by
 rests Idle c h = absurd (cc)
 rests _ c h = refl
 
-pub not_opened : (s : Side) (side : CodeSide) (area : List ℕ) → is_idle side.client.state ≡ false → SideStands side s → Stepped (client_opens s.client) s side None area
+pub not_opened : (s : Side) (side : CodeSide) (area : List ℕ) → is_idle side.client.state ≡ false → SideRepresents side s → Stepped (client_opens s.client) s side None area
 not_opened s side area i h =
     let e : client_opens s.client ≡ keeps s.client = rests s.client.state s.client (ap (λ (k : AbstractClient). is_idle k.state) (sym h.client) ∙ i) in
     subst (λ (step : ClientStep). Stepped step s side None area) (sym e) record { stands = record { client = h.client; epoch = h.epoch; first_stale = h.first_stale }; sent = refl }

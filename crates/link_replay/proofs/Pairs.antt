@@ -1,4 +1,4 @@
--- Lists that agree place by place stay so.
+-- Lists that agree at each index continue to do so.
 use Rattle.std.proofs.Common.{◌≡◌, ℕ, zero, suc, ◌+◌, ◌-◌, ◌<◌, List, [], ◌∷◌, ◌++◌, length, set, refl, sym, ap, ◌∙◌, subst, arith, Some, slice_get, get_or, drop, length-append, length-set}
 use Rattle.std.proofs.Math.Seq.{drop-cons}
 use Rattle.link_world.specs.World.{numbered}
@@ -32,7 +32,7 @@ reads [] i h = absurd (let z : i < 0 = h in omega (arith, z))
 reads (x ∷ xs) zero h = (x, refl)
 reads (x ∷ xs) (suc i) h = reads xs i (omega (arith, h))
 
--- what stands at a number is what stands one place before it
+-- what has a number is at the index one below it
 pub numbered_at : {X : Type 0} (xs : List X) (n : ℕ) → 0 < n → numbered xs n ≡ slice_get xs (n - 1)
 numbered_at xs zero h = absurd (let z : 0 < 0 = h in omega (arith, z))
 numbered_at xs (suc n) h = ap (slice_get xs) (let e : n ≡ suc n - 1 = omega arith in e)

@@ -1,4 +1,4 @@
--- The bytes of a datagram stay while its world's addresses and ports do.
+-- The bytes of a datagram stay the same while its world's addresses and ports do.
 use Rattle.std.proofs.Common.{◌≡◌, ℕ, zero, suc, Bool, List, [], ◌∷◌, ◌++◌, refl, sym, ap, ◌∙◌, subst, Option, Some, None, slice_get, set, length-set, ◌≤◌}
 use Rattle.std.specs.Option.{option_map_or}
 use Rattle.uip_wire.specs.declared.addr.Addr.{Addr}
@@ -14,7 +14,7 @@ use Rattle.link_replay.specs.Matched.{Matched}
 use Rattle.link_client.specs.Calls.{FitsRequest}
 use Rattle.uip_node.proofs.Connections.{get_set}
 use Rattle.uip_node.proofs.Connections.Written.{here, there}
-use Rattle.link_replay.specs.Stands.{SideStands, SentStands, LinkStands, IsLink}
+use Rattle.link_replay.specs.Represents.{SideRepresents, SentRepresents, LinkRepresents, IsLink}
 use Rattle.link_replay.specs.State.{Link, link_of}
 use Rattle.link_replay.specs.Plain.{CodeSide}
 use Rattle.link_replay.specs.Plain.{CodeSent}
@@ -54,8 +54,8 @@ by_same w v a h Pinger (OfSegment id s) = refl
 by_same w v a h who (OfPing datagram) = refl
 by_same w v a h who (OfEcho request) = refl
 
-pub sent_stays : (w v : World) → w.node.addr ≡ v.node.addr → SamePlaces w.sides v.sides → (xs : List CodeSent) (ys : List Sent) → Matched (SentStands w) xs ys → Matched (SentStands v) xs ys
-sent_stays w v a h xs ys m = turn (SentStands w) (SentStands v) xs ys (λ x y p. record {
+pub sent_stays : (w v : World) → w.node.addr ≡ v.node.addr → SamePlaces w.sides v.sides → (xs : List CodeSent) (ys : List Sent) → Matched (SentRepresents w) xs ys → Matched (SentRepresents v) xs ys
+sent_stays w v a h xs ys m = turn (SentRepresents w) (SentRepresents v) xs ys (λ x y p. record {
   who = p.who;
   tick = p.tick;
   epoch = p.epoch;
@@ -64,13 +64,13 @@ sent_stays w v a h xs ys m = turn (SentStands w) (SentStands v) xs ys (λ x y p.
 }) m
 
 -- one more datagram on both sides
-pub posted : (w : World) (xs : List CodeSent) (x : CodeSent) (who : Who) (again : Bool) (content : Content) → Matched (SentStands w) xs w.sent → SentStands w x (record { who = who; tick = ticks_of w.node.past; epoch = epoch_of who w.sides; again = again; content = content })
-    → Matched (SentStands (posts w who again content)) (xs ++ x ∷ []) (posts w who again content).sent
+pub posted : (w : World) (xs : List CodeSent) (x : CodeSent) (who : Who) (again : Bool) (content : Content) → Matched (SentRepresents w) xs w.sent → SentRepresents w x (record { who = who; tick = ticks_of w.node.history; epoch = epoch_of who w.sides; again = again; content = content })
+    → Matched (SentRepresents (posts w who again content)) (xs ++ x ∷ []) (posts w who again content).sent
 posted w xs x who again content m p =
-    let e : Sent = record { who = who; tick = ticks_of w.node.past; epoch = epoch_of who w.sides; again = again; content = content } in
+    let e : Sent = record { who = who; tick = ticks_of w.node.history; epoch = epoch_of who w.sides; again = again; content = content } in
     let v : World = posts w who again content in
-    turn (SentStands w) (SentStands v) (xs ++ x ∷ []) (w.sent ++ e ∷ []) (λ a b q. record { who = q.who; tick = q.tick; epoch = q.epoch; again = q.again; bytes = q.bytes })
-    (push (SentStands w) xs w.sent x e m p)
+    turn (SentRepresents w) (SentRepresents v) (xs ++ x ∷ []) (w.sent ++ e ∷ []) (λ a b q. record { who = q.who; tick = q.tick; epoch = q.epoch; again = q.again; bytes = q.bytes })
+    (push (SentRepresents w) xs w.sent x e m p)
 
 -- a client is put anew
 sames_refl : (x : Option Side) → Sames x x
@@ -84,10 +84,10 @@ get_put (x ∷ xs) zero old new h e (suc i) = sames_refl (slice_get xs i)
 get_put (x ∷ xs) (suc n) old new h e zero = refl
 get_put (x ∷ xs) (suc n) old new h e (suc i) = get_put xs n old new h e i
 
-pub side_put : (link : Link) (w : World) (n : ℕ) (new : CodeSide) (s t : Side) → LinkStands link w → slice_get w.sides n ≡ Some s → t.client.setup ≡ s.client.setup → SideStands new t
-    → LinkStands (record link { sides = set link.sides n new }) (with_side w (suc n) t)
+pub side_put : (link : Link) (w : World) (n : ℕ) (new : CodeSide) (s t : Side) → LinkRepresents link w → slice_get w.sides n ≡ Some s → t.client.setup ≡ s.client.setup → SideRepresents new t
+    → LinkRepresents (record link { sides = set link.sides n new }) (with_side w (suc n) t)
 side_put link w n new s t h g e p = record {
-  sides = put SideStands link.sides w.sides n new t h.sides p;
+  sides = put SideRepresents link.sides w.sides n new t h.sides p;
   sent = sent_stays w (with_side w (suc n) t) refl record { each = get_put w.sides n s t g e } link.sent w.sent h.sent;
 }
 
@@ -105,7 +105,7 @@ pub same_places : (xs : List Side) → SamePlaces xs xs
 same_places xs = record { each = λ i. sames_refl (slice_get xs i) }
 
 -- the mark alone
-pub link_marked : (link : Link) (w : World) (k : ℕ) → LinkStands link w → LinkStands link (record w { mark = k })
+pub link_marked : (link : Link) (w : World) (k : ℕ) → LinkRepresents link w → LinkRepresents link (record w { mark = k })
 link_marked link w k h = record { sides = h.sides; sent = sent_stays w (record w { mark = k }) refl (same_places w.sides) link.sent w.sent h.sent }
 
 -- clients and datagrams that are read from copies of their lists

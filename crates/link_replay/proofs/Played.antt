@@ -2,9 +2,9 @@
 use Rattle.std.specs.List.{All}
 use Rattle.std.proofs.Common.{◌≡◌, ℕ, ◌+◌, Bool, List, [], ◌∷◌, map, refl, sym, ap, ◌∙◌, subst, Some, slice_get, Result, Ok, Err, IsErr}
 use Rattle.std.specs.Result.{IsErrAnd}
-use Rattle.app_events.specs.Part.{Meaning}
+use Rattle.app_events.specs.AppSpec.{AppSpec}
 use Rattle.app_events.specs.declared.app.App.{Ghosts}
-use Rattle.app_events.specs.Pages.{Pages, IsPaged, IsWord}
+use Rattle.app_events.specs.Pages.{Pages, IsPaged, IsU32}
 use Rattle.link_schedule.specs.Clients.{Plan}
 use Rattle.link_schedule.specs.Kept.{Keeps}
 use Rattle.link_schedule.specs.Reading.{SchedulePlan}
@@ -27,7 +27,7 @@ use Rattle.link_world.proofs.Lines.{line_acts}
 use Rattle.link_replay.specs.Opening.{opening_for, plan_from, server}
 use Rattle.link_replay.specs.Playing.{LinesEnd, PlaysSchedule, Reaches, Refuses, event_at, refusal_at}
 use Rattle.link_replay.specs.Reaching.{ActsEnd, IsAt}
-use Rattle.link_replay.specs.Stands.{WorldStands}
+use Rattle.link_replay.specs.Represents.{WorldRepresents}
 use Rattle.link_replay.specs.State.{CodeWorld}
 use Rattle.link_replay.proofs.Opened.{is_plan, server_is_addr}
 use Rattle.link_replay.proofs.Reaching.{at_marked, at_run}
@@ -42,9 +42,9 @@ marked : (k : ℕ) (r : Result World StepFault) (v : World) → with_mark k r �
 marked k (Ok u) v h = record { world = u; reached = refl; is = (let e : record u { mark = k } ≡ v = cc in sym e) }
 marked k (Err f) v h = absurd (cc)
 
-module _ (m : Meaning) (served : ℕ → Bool) where
+module _ (m : AppSpec) (served : ℕ → Bool) where
   -- the opening world is reached by nothing
-  pub at_opening : (pages : Pages) (numbers : List ℕ) (plans : List Plan) → IsPaged m pages → HasBytes pages → All IsWord numbers → IsPlan (plan_from 1 plans) → IsAt m served (opening_for numbers plans)
+  pub at_opening : (pages : Pages) (numbers : List ℕ) (plans : List Plan) → IsPaged m pages → HasBytes pages → All IsU32 numbers → IsPlan (plan_from 1 plans) → IsAt m served (opening_for numbers plans)
   at_opening pages numbers plans lawful bytes in_range plan = record {
     pages = pages;
     lawful = lawful;
@@ -107,13 +107,13 @@ module _ (m : Meaning) (served : ℕ → Bool) where
   line_refused Now Before After lines line left place end Full there f h = refuses Before lines line left place end Full Why.Full there h (f h.world h.at h.now) refl
   line_refused Now Before After lines line left place end NoMemory there f h = tt
 
-  -- a refusal says the same of every answer that it stands in place of
+  -- a refusal has the same meaning in place of every result
   pub same_refusal : {X Y : Type 0} (Before : X → World → Type 0) (Now : Y → World → Type 0) (lines : List Line) (end : Result World BadLine) (e : ReadSchedule)
       → LinesEnd m served Before lines (Err e) end → LinesEnd m served Now lines (Err e) end
   same_refusal Before Now lines end (Bad number why) h = h
   same_refusal Before Now lines end NoRoom h = tt
 
--- a refusal is handed on
+-- a refusal is passed on
 pub handed_on : {X : Type 0} (r : Result X ReadSchedule) (e : ReadSchedule) → IsErr r → IsErrAnd r (λ f. f ≡ e) → r ≡ Err e
 handed_on (Ok x) e h k = absurd (cc)
 handed_on (Err f) e h k = ap Err k
@@ -122,20 +122,20 @@ module _ {A S : Type 0} (g : Ghosts A S) where
   -- the lines of a schedule, from the opening world of its clients on
   pub whole_schedule : (world : CodeWorld A S) (After : World → Type 0) (shared : S) (schedule : SchedulePlan) (clients : List Plan) (lines : List Line) (answer : Result (Unit {0}) ReadSchedule)
       → Keeps schedule → clients ≡ schedule.clients → lines ≡ schedule.lines → world.node.shared ≡ shared
-      → ((k : ℕ) (p : Planned) → slice_get (plan_from 1 clients) k ≡ Some p → IsPlanned p) → WorldStands g world (opening_for (g.numbers shared) clients)
-      → ((w : World) → IsAt (g.meaning (g.kept world.node.shared)) g.served w → WorldStands g world w
-      → LinesEnd (g.meaning (g.kept world.node.shared)) g.served (λ (done : Unit {0}). After) lines answer (plays (g.meaning (g.kept world.node.shared)) g.served (map event_at lines) w))
-      → (pages : Pages) → IsPaged (g.meaning (g.kept shared)) pages → HasBytes pages → All IsWord (g.numbers shared)
-      → PlaysSchedule (g.meaning (g.kept shared)) g.served (g.numbers shared) schedule (λ (done : Unit {0}). After) answer
+      → ((k : ℕ) (p : Planned) → slice_get (plan_from 1 clients) k ≡ Some p → IsPlanned p) → WorldRepresents g world (opening_for (g.numbers shared) clients)
+      → ((w : World) → IsAt (g.app_spec (g.config world.node.shared)) g.served w → WorldRepresents g world w
+      → LinesEnd (g.app_spec (g.config world.node.shared)) g.served (λ (done : Unit {0}). After) lines answer (plays (g.app_spec (g.config world.node.shared)) g.served (map event_at lines) w))
+      → (pages : Pages) → IsPaged (g.app_spec (g.config shared)) pages → HasBytes pages → All IsU32 (g.numbers shared)
+      → PlaysSchedule (g.app_spec (g.config shared)) g.served (g.numbers shared) schedule (λ (done : Unit {0}). After) answer
   whole_schedule world After shared schedule clients lines answer kept same_clients same_lines same_shared each stands ends pages lawful bytes words =
-      let m = g.meaning (g.kept shared) in
+      let m = g.app_spec (g.config shared) in
       let plans = schedule.clients in
       let w = opening_for (g.numbers shared) plans in
       let planned : (k : ℕ) (p : Planned) → slice_get (plan_from 1 plans) k ≡ Some p → IsPlanned p
       = subst (λ (cs : List Plan). (k : ℕ) (p : Planned) → slice_get (plan_from 1 cs) k ≡ Some p → IsPlanned p) same_clients each in
       let at : IsAt m g.served w = at_opening m g.served pages (g.numbers shared) plans lawful bytes words (is_plan plans kept.apart planned) in
-      let now : WorldStands g world w
-      = subst (λ (cs : List Plan). WorldStands g world (opening_for (g.numbers shared) cs)) same_clients stands in
+      let now : WorldRepresents g world w
+      = subst (λ (cs : List Plan). WorldRepresents g world (opening_for (g.numbers shared) cs)) same_clients stands in
       subst (λ (ls : List Line). LinesEnd m g.served (λ (done : Unit {0}). After) ls answer (plays m g.served (map event_at ls) w)) same_lines
-      (subst (λ (s : S). IsAt (g.meaning (g.kept s)) g.served w → LinesEnd (g.meaning (g.kept s)) g.served (λ (done : Unit {0}). After) lines answer (plays (g.meaning (g.kept s)) g.served (map event_at lines) w)) same_shared
+      (subst (λ (s : S). IsAt (g.app_spec (g.config s)) g.served w → LinesEnd (g.app_spec (g.config s)) g.served (λ (done : Unit {0}). After) lines answer (plays (g.app_spec (g.config s)) g.served (map event_at lines) w)) same_shared
       (λ h. ends w h now) at)

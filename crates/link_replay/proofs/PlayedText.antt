@@ -2,15 +2,15 @@
 use Rattle.std.specs.List.{All}
 use Rattle.std.proofs.Common.{◌≡◌, ℕ, List, Result, Ok, Err, length, sym, subst, refl, inl, inr, ap, ◌∙◌, Bool, lit<}
 use Rattle.std.proofs.lemmas.List.Elements.{All-replicate}
-use Rattle.app_events.specs.Part.{Meaning}
-use Rattle.app_events.specs.Pages.{IsByte, IsPaged, IsWord, Pages}
+use Rattle.app_events.specs.AppSpec.{AppSpec}
+use Rattle.app_events.specs.Pages.{IsByte, IsPaged, IsU32, Pages}
 use Rattle.file_tree.specs.Site.{SiteContent, IsLoaded, files_of}
 use Rattle.site_image.specs.Files.{File}
 use Rattle.web_pages.specs.Pages.{pages_of}
-use Rattle.web_pages.specs.WebMeaning.{web_meaning}
+use Rattle.web_pages.specs.WebMeaning.{web_spec}
 use Rattle.web_pages.proofs.PageLaws.{keeps_page_laws}
 use Rattle.link_schedule.specs.Answer.{ReadsSchedule}
-use Rattle.std.specs.Prelude.{MatchResult, Some, slice_get}
+use Rattle.std.specs.Prelude.{IfOk, MatchResult, Some, slice_get}
 use Rattle.link_schedule.specs.Reading.{BadText, SchedulePlan, read_text}
 use Rattle.link_schedule.specs.declared.read_schedule.ReadSchedule.{ReadSchedule}
 use Rattle.link_schedule.specs.declared.read_schedule.ReadSchedule.TheVariants.{Bad, NoMemory}
@@ -22,7 +22,8 @@ use Rattle.link_replay.specs.Playing.{PlaysSchedule, Reaches, Refuses}
 use Rattle.link_replay.specs.Reaching.{IsAt}
 use Rattle.link_replay.specs.Outcome.{bad_schedule, outcome}
 use Rattle.web_pages.specs.Serving.{is_served, no_hits}
-use Rattle.link_replay.specs.Due.{WritesDue, IsPlayDue, IsTextDue, TellsFault, told_of}
+use Rattle.link_replay.specs.Due.{WritesDue, IsPlayDue, IsTextDue, TellsFault, told_of, HasReached, ServesHonest}
+use Rattle.link_replay.specs.Promises.{KeepsPromises}
 use Rattle.link_replay.specs.declared.replay_end.ReplayEnd.{ReplayEnd}
 use Rattle.link_replay.specs.declared.replay_end.ReplayEnd.TheVariants as ends
 use Rattle.link_replay.specs.declared.told_as.Telling.{Telling}
@@ -31,11 +32,11 @@ use Rattle.link_world.specs.History.{Planned, IsPlanned}
 use Rattle.link_replay.proofs.Honest.{honest_at}
 use Rattle.link_replay.proofs.Kept.{has_bytes, keeps_promises}
 use Rattle.uip_edge.specs.Writing.{WritesEnd}
-use Rattle.uip_edge.specs.Told.{SinkTold}
+use Rattle.uip_edge.specs.Views.{SinkView}
 
 -- what a schedule is played for, given that the server has pages of bytes and counts that are words
 abbrev pub ForPages : List File → List ℕ → Type 0 → Type 0
-ForPages files hits Done = (pages : Pages) → IsPaged (web_meaning files) pages → HasBytes pages → All IsWord hits → Done
+ForPages files hits Done = (pages : Pages) → IsPaged (web_spec files) pages → HasBytes pages → All IsU32 hits → Done
 
 -- what holds of a site that was loaded holds of the one that it is
 pub at_site : (P : SiteContent → Type 0) (site given : SiteContent) (hits : List ℕ) → site ≡ given → IsLoaded given → All IsByte given.image → hits ≡ no_hits (files_of given)
@@ -49,24 +50,54 @@ web_has : (site : SiteContent) → IsLoaded site → All IsByte site.image → (
     → (Done : Type 0) → ForPages (files_of site) hits Done → Done
 web_has site loaded bytes hits none Done for =
     for (pages_of (files_of site)) (keeps_page_laws site loaded) (has_bytes site bytes)
-    (subst (All IsWord) (sym none) (All-replicate IsWord (length (files_of site)) 0 (lit< tt)))
+    (subst (All IsU32) (sym none) (All-replicate IsU32 (length (files_of site)) 0 (lit< tt)))
 
 -- what a schedule is played to by the server of a site
 pub plays_for_site : {X : Type 0} (Now : X → World → Type 0) (content : SchedulePlan) (result : Result X ReadSchedule)
     (site given : SiteContent) (hits : List ℕ) → site ≡ given → IsLoaded given → All IsByte given.image → hits ≡ no_hits (files_of given)
-    → ForPages (files_of site) hits (PlaysSchedule (web_meaning (files_of site)) is_served hits content Now result)
-    → PlaysSchedule (web_meaning (files_of given)) is_served (no_hits (files_of given)) content Now result
+    → ForPages (files_of site) hits (PlaysSchedule (web_spec (files_of site)) is_served hits content Now result)
+    → PlaysSchedule (web_spec (files_of given)) is_served (no_hits (files_of given)) content Now result
 plays_for_site Now content result site given hits same loaded bytes none plays_for =
-    at_site (λ (s : SiteContent). PlaysSchedule (web_meaning (files_of s)) is_served (no_hits (files_of s)) content Now result) site given hits same loaded bytes none
-    (λ here all_bytes counts. subst (λ (h : List ℕ). PlaysSchedule (web_meaning (files_of site)) is_served h content Now result) counts
-    (web_has site here all_bytes hits counts (PlaysSchedule (web_meaning (files_of site)) is_served hits content Now result) plays_for))
+    at_site (λ (s : SiteContent). PlaysSchedule (web_spec (files_of s)) is_served (no_hits (files_of s)) content Now result) site given hits same loaded bytes none
+    (λ here all_bytes counts. subst (λ (h : List ℕ). PlaysSchedule (web_spec (files_of site)) is_served h content Now result) counts
+    (web_has site here all_bytes hits counts (PlaysSchedule (web_spec (files_of site)) is_served hits content Now result) plays_for))
 
-module _ (site : SiteContent) (loaded : IsLoaded site) (content : SchedulePlan) (telling : Telling) (old new : SinkTold) (result : ReplayEnd) where
-  -- the schedule was played to its end, and its world told
+module _ {X : Type 0} (Now : X → World → Type 0) (content : SchedulePlan) (site : SiteContent) (loaded : IsLoaded site) where
+  -- the world that is reached keeps its promises
+  pub reached_keeps : All IsByte site.image → (result : Result X ReadSchedule)
+      → PlaysSchedule (web_spec (files_of site)) is_served (no_hits (files_of site)) content Now result
+      → IfOk result (λ x. HasReached (files_of site) content (Now x) (KeepsPromises (files_of site)))
+  reached_keeps bytes (Err fault) plays = tt
+  reached_keeps bytes (Ok x) plays =
+      let reach : Reaches (web_spec (files_of site)) is_served (Now x) (outcome (files_of site) content) = plays in
+      record {
+        world = reach.world;
+        plays = reach.meant_so;
+        represents = reach.now;
+        holds = keeps_promises site loaded bytes is_served reach.world reach.at;
+      }
+
+  -- in the world that is reached an honest client is served whole
+  pub reached_serves : (result : Result X ReadSchedule)
+      → IfOk result (λ x. (k : ℕ) (p : Planned) → slice_get (plan_from 1 content.clients) k ≡ Some p → IsPlanned p)
+      → PlaysSchedule (web_spec (files_of site)) is_served (no_hits (files_of site)) content Now result
+      → IfOk result (λ x. HasReached (files_of site) content (Now x) (ServesHonest (files_of site) content))
+  reached_serves (Err fault) are_planned plays = tt
+  reached_serves (Ok x) are_planned plays =
+      let reach : Reaches (web_spec (files_of site)) is_served (Now x) (outcome (files_of site) content) = plays in
+      record {
+        world = reach.world;
+        plays = reach.meant_so;
+        represents = reach.now;
+        holds = honest_at site loaded content are_planned reach.world reach.meant_so;
+      }
+
+module _ (site : SiteContent) (loaded : IsLoaded site) (content : SchedulePlan) (telling : Telling) (old new : SinkView) (result : ReplayEnd) where
+  -- the schedule was played to its end, and its world reported
   pub played_due : All IsByte site.image → (Now : World → Type 0)
       → ((k : ℕ) (p : Planned) → slice_get (plan_from 1 content.clients) k ≡ Some p → IsPlanned p)
-      → Reaches (web_meaning (files_of site)) is_served Now (outcome (files_of site) content)
-      → ((m : Meaning) (served : ℕ → Bool) (w : World) → Now w → IsAt m served w → WritesEnd ends.Done ends.WriteFault old new (told_of telling w) result)
+      → Reaches (web_spec (files_of site)) is_served Now (outcome (files_of site) content)
+      → ((m : AppSpec) (served : ℕ → Bool) (w : World) → Now w → IsAt m served w → WritesEnd ends.Done ends.WriteFault old new (told_of telling w) result)
       → WritesDue (IsPlayDue (files_of site) content telling) old new result
   played_due bytes Now are_planned reach wrote =
       let due : IsPlayDue (files_of site) content telling (told_of telling reach.world) ends.Done = record {
@@ -76,11 +107,11 @@ module _ (site : SiteContent) (loaded : IsLoaded site) (content : SchedulePlan) 
         promises = keeps_promises site loaded bytes is_served reach.world reach.at;
         honest = honest_at site loaded content are_planned reach.world reach.meant_so;
       } in
-      inl (told_of telling reach.world, ends.Done, due, wrote (web_meaning (files_of site)) is_served reach.world reach.now reach.at)
+      inl (told_of telling reach.world, ends.Done, due, wrote (web_spec (files_of site)) is_served reach.world reach.now reach.at)
 
-  -- a line of it was refused, and is told
+  -- a line of it was refused, and is reported
   pub refused_due : {X : Type 0} (Now : X → World → Type 0) (fault : ReadSchedule)
-      → PlaysSchedule (web_meaning (files_of site)) is_served (no_hits (files_of site)) content Now (Err fault)
+      → PlaysSchedule (web_spec (files_of site)) is_served (no_hits (files_of site)) content Now (Err fault)
       → TellsFault fault old new result → WritesDue (IsPlayDue (files_of site) content telling) old new result
   refused_due Now NoMemory plays short = inr short
   refused_due Now (Bad line why) plays (inr short) = inr short
@@ -94,15 +125,15 @@ ReadDue files show text end r =
     MatchResult r (λ content. IsPlayDue files content (Report show) text end) (λ bad. (end ≡ ends.BadSchedule bad.line bad.why) × (text ≡ bad_schedule bad.line bad.why))
 
 pub text_answers : (files : List File) (bytes : List ℕ) (content : SchedulePlan) (show : Bool) → read_text bytes ≡ Ok content
-    → (old new : SinkTold) (result : ReplayEnd) → WritesDue (IsPlayDue files content (Report show)) old new result
+    → (old new : SinkView) (result : ReplayEnd) → WritesDue (IsPlayDue files content (Report show)) old new result
     → WritesDue (IsTextDue files bytes show) old new result
 text_answers files bytes content show reads old new result (inl told) =
     inl (told.0, told.1, subst (ReadDue files show told.0 told.1) {x = Ok content} (sym reads) told.2, told.3)
 text_answers files bytes content show reads old new result (inr short) = inr short
 
--- the text does not read, and its first bad line is told
+-- the text does not read, and its first bad line is reported
 pub text_refused : (files : List File) (bytes : List ℕ) (show : Bool) (fault : ReadSchedule) → ReadsSchedule (Err fault) (read_text bytes)
-    → (old new : SinkTold) (result : ReplayEnd) → TellsFault fault old new result
+    → (old new : SinkView) (result : ReplayEnd) → TellsFault fault old new result
     → WritesDue (IsTextDue files bytes show) old new result
 text_refused files bytes show NoMemory reads old new result short = inr short
 text_refused files bytes show (Bad line why) reads old new result (inr short) = inr short

@@ -33,7 +33,7 @@ of_bytes (Some w) (Some x) None d p q r s = tt
 of_bytes (Some w) None c d p q r s = tt
 of_bytes None b c d p q r s = tt
 
--- behind a cut
+-- after a cut
 cut : {A B : Type 0} (P : B → Type 0) (r : Option A) (f : A → Option B) → ((x : A) → IfSome (f x) P) → IfSome (r >>= f) P
 cut P (Some x) f p = p x
 cut P None f p = tt

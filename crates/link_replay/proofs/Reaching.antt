@@ -2,7 +2,7 @@
 use Rattle.std.specs.List.{All}
 use Rattle.std.proofs.Common.{◌≡◌, ℕ, List, [], ◌∷◌, ◌++◌, sym, ap, ◌∙◌, inl, refl, subst, Bool, Result, Ok, Err, IsErr, IsErrAnd}
 use Rattle.std.proofs.lemmas.List.Elements.{All-append}
-use Rattle.app_events.specs.Part.{Meaning}
+use Rattle.app_events.specs.AppSpec.{AppSpec}
 use Rattle.link_world.specs.World.{World}
 use Rattle.link_schedule.specs.Numbers.{◌>>=◌}
 use Rattle.link_world.specs.Acts.{acts, runs}
@@ -23,7 +23,7 @@ pub handed : (r : Result (Unit {0}) StepFault) (e : StepFault) → IsErr r → I
 handed (Ok x) e h k = absurd (cc)
 handed (Err f) e h k = ap Err k
 
-module _ (m : Meaning) (served : ℕ → Bool) where
+module _ (m : AppSpec) (served : ℕ → Bool) where
   -- acts in turn
   pub at_run : (w v : World) (more : List Act) → IsAt m served w → All IsAct more → runs m served more w ≡ Ok v → IsAt m served v
   at_run w v more h a e = record {

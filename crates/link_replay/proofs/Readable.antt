@@ -2,7 +2,7 @@
 use Rattle.std.proofs.Common.{◌≡◌, ℕ, ◌-◌, ◌<◌, ◌≤◌, Bool, refl, subst, ◌∙◌, Some, get_or, length, slice_get, List}
 use Rattle.uip_wire.specs.declared.addr.Addr.{Addr}
 use Rattle.uip_wire.specs.declared.sizes.TheConstants.{LARGEST_DATAGRAM}
-use Rattle.app_events.specs.Part.{Meaning}
+use Rattle.app_events.specs.AppSpec.{AppSpec}
 use Rattle.link_world.specs.Bytes.{bytes_by, sent_bytes}
 use Rattle.link_world.specs.World.{World, Sent, Content, numbered}
 use Rattle.link_world.specs.World.Content.{OfSegment, OfPing, OfEcho}
@@ -14,7 +14,7 @@ use Rattle.link_world.proofs.Runs.{reached_sound}
 use Rattle.link_world.proofs.Senders.{sent_to_clients}
 use Rattle.link_world.proofs.SoundWorlds.{SoundWorld}
 use Rattle.link_replay.specs.Reaching.{IsAt}
-use Rattle.link_replay.specs.Stands.{IsLink, LinkStands, SentStands}
+use Rattle.link_replay.specs.Represents.{IsLink, LinkRepresents, SentRepresents}
 use Rattle.link_replay.specs.State.{Link}
 use Rattle.link_replay.specs.Plain.{CodeSent}
 use Rattle.link_replay.proofs.Pairs.{numbered_at, partner, there_is}
@@ -42,7 +42,7 @@ read_mark w k (FromClient n) (OfEcho request) bytes h = tt
 read_mark w k (FromNode n) (OfEcho request) bytes h = tt
 read_mark w k Pinger (OfEcho request) bytes h = tt
 
-module _ (m : Meaning) (served : ℕ → Bool) (w : World) (h : IsAt m served w) where
+module _ (m : AppSpec) (served : ℕ → Bool) (w : World) (h : IsAt m served w) where
   pub read_at : (n : ℕ) (e : Sent) → slice_get w.sent n ≡ Some e → IsRead w e.who e.content (sent_bytes w e)
   read_at n e g =
       let r = bytes_are_read m h.pages h.lawful h.bytes (record w { mark = 0 }) (reached_at m served w h) n e g in
@@ -59,12 +59,12 @@ pub record SentThere (w : World) (number : ℕ) (code : CodeSent) : Type 0 where
   pub other : Sent
   pub get : slice_get w.sent (number - 1) ≡ Some other
   pub there : numbered w.sent number ≡ Some other
-  pub pair : SentStands w code other
+  pub pair : SentRepresents w code other
 
 pub sent_there : (link : Link) (w : World) (number : ℕ) (code : CodeSent) → 0 < number → code ≡ get_or link.sent (number - 1) code → number - 1 < length link.sent
-    → LinkStands link w → SentThere w number code
+    → LinkRepresents link w → SentThere w number code
 sent_there link w number code above read inside h =
-    let p = partner (SentStands w) link.sent w.sent (number - 1) code h.sent (there_is link.sent (number - 1) code read inside) in
+    let p = partner (SentRepresents w) link.sent w.sent (number - 1) code h.sent (there_is link.sent (number - 1) code read inside) in
     record { other = p.other; get = p.get; there = numbered_at w.sent number above ∙ p.get; pair = p.pair }
 
 -- a datagram that was read fits the largest one

@@ -1,19 +1,19 @@
--- To whom the node speaks: to the sender of a segment, and at a periodic call to the peer of the connection, which lives.
+-- To whom the node sends: to the sender of a segment, and at a periodic call to the peer of the connection, which is live.
 use Rattle.std.proofs.Common.{◌≡◌, ℕ, Bool, true, false, ◌&&◌, ◌+◌, List, refl, sym, ap, ◌∙◌, subst, arith, Option, Some, None, position, slice_index_or}
 use Rattle.std.specs.Prelude.{option_map}
 use Rattle.tcp_segment.specs.Segments.{PlainSegment, has_rst}
-use Rattle.app_events.specs.Part.{Meaning}
+use Rattle.app_events.specs.AppSpec.{AppSpec}
 use Rattle.app_events.specs.declared.now.Now.{Now}
 use Rattle.tcp_machine.specs.Connection.{Sockets, Connection, closed, is_live, same_sockets, serves}
 use Rattle.tcp_machine.specs.Ask.{Outcome, asked}
 use Rattle.tcp_machine.specs.OnSegment.{accept, on_segment}
 use Rattle.tcp_machine.specs.OnTick.{on_tick}
-use Rattle.tcp_machine.specs.Segments.{is_plain_syn, is_again, reset_to_none, segment_of}
+use Rattle.tcp_machine.specs.Segments.{is_plain_syn, is_again, reset_for_no_connection, segment_of}
 use Rattle.uip_node.specs.Counters.{initial_number}
 use Rattle.uip_node.specs.Events.{Event, Reply}
 use Rattle.uip_node.specs.Events.Event.{Arrived, Periodic}
 use Rattle.uip_node.specs.Events.Reply.{Tcp}
-use Rattle.uip_node.specs.Node.{AbstractNode, NodeStep, arrives_at, connection_in, from_stranger, happened, moment, opens, opens_in, refuses, slot_for_syn, step}
+use Rattle.uip_node.specs.Node.{AbstractNode, NodeStep, arrives_at, connection_in, for_no_connection, happened, snapshot, opens, opens_in, refuses, slot_for_syn, step}
 use Rattle.uip_node.proofs.Basics.{and_true, both_ways, choose}
 use Rattle.uip_node.proofs.Peers.{asked_keeps, on_segment_keeps, on_tick_closed, on_tick_keeps}
 use Rattle.uip_node.proofs.SocketPairs.{same_is}
@@ -29,17 +29,17 @@ pub record SaidTo (sockets : Sockets) (r : Reply) : Type 0 where
 
 -- a TCP datagram of a connection that is not CLOSED
 pub record SaidBy (c : Connection) (r : Reply) : Type 0 where
-  pub said : SaidTo c.sockets r
+  pub output : SaidTo c.sockets r
   pub live : is_live c.state ≡ true
 
 abbrev pub SaysTo : Sockets → Option Reply → Type 0
 SaysTo sockets sent = (r : Reply) → sent ≡ Some r → SaidTo sockets r
 
-says : (said : Option PlainSegment) (sockets : Sockets) (id : ℕ) (again : Bool) → SaysTo sockets (option_map (λ s. Tcp sockets id again s) said)
+says : (output : Option PlainSegment) (sockets : Sockets) (id : ℕ) (again : Bool) → SaysTo sockets (option_map (λ s. Tcp sockets id again s) output)
 says None sockets id again r h = absurd (cc)
 says (Some s) sockets id again r h = record { id = id; again = again; segment = s; is = (let e : Tcp sockets id again s ≡ r = cc in sym e) }
 
-happened_says : (m : Meaning) (n : AbstractNode) (event : Event) (slot : ℕ) (old : Connection) (o : Outcome) (sockets : Sockets) → o.connection.sockets ≡ sockets → SaysTo sockets (happened m n event slot old o).sent
+happened_says : (m : AppSpec) (n : AbstractNode) (event : Event) (slot : ℕ) (old : Connection) (o : Outcome) (sockets : Sockets) → o.connection.sockets ≡ sockets → SaysTo sockets (happened m n event slot old o).sent
 unfolding happened
 happened_says m n event slot old o sockets e =
     subst (λ (p : Sockets). SaysTo p (happened m n event slot old o).sent) e (says (segment_of m o.connection o.step) o.connection.sockets _ (is_again o.step))
@@ -48,15 +48,15 @@ silent : (sockets : Sockets) → SaysTo sockets None
 silent sockets r h = absurd (cc)
 
 refused : (n : AbstractNode) (sockets : Sockets) (s : PlainSegment) → SaysTo sockets (refuses n sockets s).sent
-refused n sockets s = says (Some (reset_to_none s)) sockets _ false
+refused n sockets s = says (Some (reset_for_no_connection s)) sockets _ false
 
-opens_says : (m : Meaning) (n : AbstractNode) (sockets : Sockets) (s : PlainSegment) (slot : Option ℕ) → SaysTo sockets (opens m n sockets s slot).sent
+opens_says : (m : AppSpec) (n : AbstractNode) (sockets : Sockets) (s : PlainSegment) (slot : Option ℕ) → SaysTo sockets (opens m n sockets s slot).sent
 unfolding opens_in
 opens_says m n sockets s None = silent sockets
-opens_says m n sockets s (Some slot) = happened_says m n (Arrived sockets s) slot (connection_in slot n) (accept (initial_number n.past) sockets s n.numbers) sockets refl
+opens_says m n sockets s (Some slot) = happened_says m n (Arrived sockets s) slot (connection_in slot n) (accept (initial_number n.history) sockets s n.numbers) sockets refl
 
-stranger_says : (m : Meaning) (served : ℕ → Bool) (n : AbstractNode) (sockets : Sockets) (s : PlainSegment) → SaysTo sockets (from_stranger m served n sockets s).sent
-unfolding from_stranger
+stranger_says : (m : AppSpec) (served : ℕ → Bool) (n : AbstractNode) (sockets : Sockets) (s : PlainSegment) → SaysTo sockets (for_no_connection m served n sockets s).sent
+unfolding for_no_connection
 stranger_says m served n sockets s =
     choose (λ (r : NodeStep). SaysTo sockets r.sent) (is_plain_syn s && served sockets.own_port.0) _ _ (λ e. opens_says m n sockets s (slot_for_syn n.connections))
     (λ e. choose (λ (r : NodeStep). SaysTo sockets r.sent) (has_rst s.flags) _ _ (λ f. silent sockets) (λ f. refused n sockets s))
@@ -71,37 +71,37 @@ found_sockets p cs slot e =
       | finds_none f g ↦ absurd (cc)
     ]
 
-arrives_says : (m : Meaning) (served : ℕ → Bool) (n : AbstractNode) (sockets : Sockets) (s : PlainSegment) (found : Option ℕ) → ((slot : ℕ) → found ≡ Some slot → (connection_in slot n).sockets ≡ sockets) →
+arrives_says : (m : AppSpec) (served : ℕ → Bool) (n : AbstractNode) (sockets : Sockets) (s : PlainSegment) (found : Option ℕ) → ((slot : ℕ) → found ≡ Some slot → (connection_in slot n).sockets ≡ sockets) →
     SaysTo sockets (arrives_at m served n sockets s found).sent
 arrives_says m served n sockets s None f = stranger_says m served n sockets s
 arrives_says m served n sockets s (Some slot) f =
     let c : Connection = connection_in slot n in
     let o : Outcome = on_segment m c n.numbers s in
-    let at : Connection → Now = moment n (Arrived sockets s) slot in
+    let at : Connection → Now = snapshot n (Arrived sockets s) slot in
     happened_says m n (Arrived sockets s) slot c (asked m at o) sockets (asked_keeps m at c o (on_segment_keeps m c n.numbers s) ∙ f slot refl)
 
 -- what answers a segment goes to its sender
-pub arrived_reply : (m : Meaning) (served : ℕ → Bool) (n : AbstractNode) (sockets : Sockets) (s : PlainSegment) (r : Reply) →
+pub arrived_reply : (m : AppSpec) (served : ℕ → Bool) (n : AbstractNode) (sockets : Sockets) (s : PlainSegment) (r : Reply) →
     (step m served n (Arrived sockets s)).sent ≡ Some r → SaidTo sockets r
 arrived_reply m served n sockets s = arrives_says m served n sockets s (position (serves sockets) n.connections) (found_sockets sockets n.connections)
 
--- a connection that is CLOSED says nothing
-closed_says : (m : Meaning) (n : AbstractNode) (slot : ℕ) (r : Reply) → is_live (connection_in slot n).state ≡ false → (step m (λ p. true) n (Periodic slot)).sent ≡ Some r → ⊥
+-- a connection that is CLOSED sends nothing
+closed_says : (m : AppSpec) (n : AbstractNode) (slot : ℕ) (r : Reply) → is_live (connection_in slot n).state ≡ false → (step m (λ p. true) n (Periodic slot)).sent ≡ Some r → ⊥
 unfolding happened
 closed_says m n slot r e h =
     let c : Connection = connection_in slot n in
-    let at : Connection → Now = moment n (Periodic slot) slot in
+    let at : Connection → Now = snapshot n (Periodic slot) slot in
     let q : None ≡ Some r = subst (λ (o : Outcome). (happened m n (Periodic slot) slot c (asked m at o)).sent ≡ Some r) (on_tick_closed m c n.numbers e) h in
     cc
 
 -- what a periodic call sends goes to the peer of the connection in the slot
-pub periodic_reply : (m : Meaning) (served : ℕ → Bool) (n : AbstractNode) (slot : ℕ) (r : Reply) →
+pub periodic_reply : (m : AppSpec) (served : ℕ → Bool) (n : AbstractNode) (slot : ℕ) (r : Reply) →
     (step m served n (Periodic slot)).sent ≡ Some r → SaidBy (connection_in slot n) r
 periodic_reply m served n slot r h =
     let c : Connection = connection_in slot n in
     let o : Outcome = on_tick m c n.numbers in
-    let at : Connection → Now = moment n (Periodic slot) slot in
+    let at : Connection → Now = snapshot n (Periodic slot) slot in
     record {
-      said = happened_says m n (Periodic slot) slot c (asked m at o) c.sockets (asked_keeps m at c o (on_tick_keeps m c n.numbers)) r h;
+      output = happened_says m n (Periodic slot) slot c (asked m at o) c.sockets (asked_keeps m at c o (on_tick_keeps m c n.numbers)) r h;
       live = both_ways (is_live c.state) (λ e. e) (λ e. absurd (closed_says m n slot r e h));
     }

@@ -1,4 +1,4 @@
--- The front of a text that is read of its file shows all that the whole text does.
+-- The prefix of a text that is read of its file shows all that the whole text does.
 use Rattle.std.proofs.Common.{◌≡◌, ℕ, ◌+◌, List, length, take, Result, Ok, Err, Option, Some, None, refl, sym, ap, subst, ◌∙◌, inl, inr, Bool, arith}
 use Rattle.std.specs.Prelude.{IsSomeAnd, nat_le, ◌==◌, if◌then◌else◌, MatchResult, ⊤}
 use Rattle.std.specs.List.{slice_split}
@@ -30,9 +30,9 @@ cut_at n f r content =
       | inr short ↦ ap (λ t. if nat_le (length t) n then f t else r) (take_all (n + 1) content (omega arith))
     ]
 
-pub text_front : (content : List ℕ) → read_text (take 4194305 content) ≡ read_text content
+pub text_prefix : (content : List ℕ) → read_text (take 4194305 content) ≡ read_text content
 unfolding read_text
-text_front content = cut_at 4194304 (λ t. read_lines 1 nothing_yet (slice_split (λ c. c == 10) t)) (Err (record { line = 0; why = Long })) content
+text_prefix content = cut_at 4194304 (λ t. read_lines 1 nothing_yet (slice_split (λ c. c == 10) t)) (Err (record { line = 0; why = Long })) content
 
 -- another fact of a file's content
 holds_content : (P Q : List ℕ → Type 0) → ((content : List ℕ) → P content → Q content) → (o : Option (List ℕ)) → IsSomeAnd o P → IsSomeAnd o Q
@@ -44,11 +44,11 @@ holds_file P Q f None name h = tt
 holds_file P Q f (Some files) name h = holds_content P Q f (files name) h
 
 -- the bytes are what is read of the file's content
-abbrev pub IsFrontOf : List ℕ → List ℕ → Type 0
-IsFrontOf bytes content = bytes ≡ take 4194305 content
+abbrev pub IsProperPrefixOf : List ℕ → List ℕ → Type 0
+IsProperPrefixOf bytes content = bytes ≡ take 4194305 content
 
-reads_alike : (bytes content : List ℕ) → IsFrontOf bytes content → read_text bytes ≡ read_text content
-reads_alike bytes content e = ap read_text e ∙ text_front content
+reads_alike : (bytes content : List ℕ) → IsProperPrefixOf bytes content → read_text bytes ≡ read_text content
+reads_alike bytes content e = ap read_text e ∙ text_prefix content
 
 -- an end that goes with the text of a schedule
 abbrev IsPlayEnd : ReplayEnd → Type 0
@@ -68,24 +68,24 @@ text_ends files bytes show text end due = go (read_text bytes) due
     go (Ok content) p = play_ends files content (Report show) text end p
     go (Err bad) p = subst IsPlayEnd (sym p.0) tt
 
--- the shelf's files, and the content whose front was read
+-- the shelf's files, and the content whose prefix was read
 record Held (held : Option Files) (schedule : List ℕ) (files : List File) (show : Bool) (text : List ℕ) (end : ReplayEnd) : Type 0 where
   bytes : List ℕ
   holds : HoldsFile held schedule (λ content. content ≡ bytes)
   due : IsTextDue files bytes show text end
 
 held_text : (held : Option Files) (schedule : List ℕ) (files : List File) (show : Bool) (bytes text : List ℕ) (end : ReplayEnd)
-    → HoldsFile held schedule (IsFrontOf bytes) → IsTextDue files bytes show text end → Held held schedule files show text end
-held_text None schedule files show bytes text end front due = record { bytes = bytes; holds = tt; due = due }
-held_text (Some named) schedule files show bytes text end front due = let h = go (named schedule) front in record { bytes = h.0; holds = h.1; due = h.2 }
+    → HoldsFile held schedule (IsProperPrefixOf bytes) → IsTextDue files bytes show text end → Held held schedule files show text end
+held_text None schedule files show bytes text end prefix due = record { bytes = bytes; holds = tt; due = due }
+held_text (Some named) schedule files show bytes text end prefix due = let h = go (named schedule) prefix in record { bytes = h.0; holds = h.1; due = h.2 }
   where
-    go : (o : Option (List ℕ)) → IsSomeAnd o (IsFrontOf bytes) → (content : List ℕ) × IsSomeAnd o (λ c. c ≡ content) × IsTextDue files content show text end
+    go : (o : Option (List ℕ)) → IsSomeAnd o (IsProperPrefixOf bytes) → (content : List ℕ) × IsSomeAnd o (λ c. c ≡ content) × IsTextDue files content show text end
     go None f = absurd f
     go (Some content) f =
         (content, refl, subst (λ r. MatchResult r (λ c. IsPlayDue files c (Report show) text end) (λ bad. (end ≡ ends.BadSchedule bad.line bad.why) × (text ≡ bad_schedule bad.line bad.why))) (reads_alike bytes content f) due)
 
 -- what is due for the bytes that were read is due for the shelf's files
 pub is_text : (site schedule : List ℕ) (show : Bool) (held : Option Files) (files : List File) (bytes text : List ℕ) (end : ReplayEnd) → FindsInFiles (site_read site) held (Ok files)
-    → HoldsFile held schedule (IsFrontOf bytes) → IsTextDue files bytes show text end → IsReplayText site schedule show held text end
-is_text site schedule show held files bytes text (ends.BadSite error) read front due = absurd (text_ends files bytes show text (ends.BadSite error) due)
-is_text site schedule show held files bytes text end read front due = let h = held_text held schedule files show bytes text end front due in (files, h.bytes, read, h.holds, h.due)
+    → HoldsFile held schedule (IsProperPrefixOf bytes) → IsTextDue files bytes show text end → IsReplayText site schedule show held text end
+is_text site schedule show held files bytes text (ends.BadSite error) read prefix due = absurd (text_ends files bytes show text (ends.BadSite error) due)
+is_text site schedule show held files bytes text end read prefix due = let h = held_text held schedule files show bytes text end prefix due in (files, h.bytes, read, h.holds, h.due)

@@ -1,20 +1,20 @@
--- What holds of the text of each world that a replay may be at, told apart by how the call ended.
+-- What holds of the text of each world that a replay may be at, by how the call ended.
 use Rattle.std.proofs.Common.{ℕ, Bool, List, Option, Result, Ok, Err}
 use Rattle.std.specs.Prelude.{OnErr, OnOk}
 use Rattle.std.specs.Io.KnownBytes.{Appends}
 use Rattle.uip_edge.specs.Writing.{AppendsPrefix}
-use Rattle.app_events.specs.Part.{Meaning}
+use Rattle.app_events.specs.AppSpec.{AppSpec}
 use Rattle.link_world.specs.World.{World}
 use Rattle.link_replay.specs.Reaching.{IsAt}
 use Rattle.link_replay.specs.Writing.{Wrote}
 
 module _ {T E : Type 0} (StandsFor : World → Type 0) (text : World → List ℕ) (old new : Option (List ℕ)) where
-  pub told_whole : (r : Result T E) → ((m : Meaning) (served : ℕ → Bool) (w : World) → StandsFor w → IsAt m served w → Wrote old new r (text w))
-      → OnOk r ((m : Meaning) (served : ℕ → Bool) (w : World) → StandsFor w → IsAt m served w → Appends old new (text w))
+  pub told_whole : (r : Result T E) → ((m : AppSpec) (served : ℕ → Bool) (w : World) → StandsFor w → IsAt m served w → Wrote old new r (text w))
+      → OnOk r ((m : AppSpec) (served : ℕ → Bool) (w : World) → StandsFor w → IsAt m served w → Appends old new (text w))
   told_whole (Ok t) wrote = λ m served w stands reached. (wrote m served w stands reached).whole
   told_whole (Err e) wrote = tt
 
-  pub told_front : (r : Result T E) → ((m : Meaning) (served : ℕ → Bool) (w : World) → StandsFor w → IsAt m served w → Wrote old new r (text w))
-      → OnErr r ((m : Meaning) (served : ℕ → Bool) (w : World) → StandsFor w → IsAt m served w → AppendsPrefix old new (text w))
-  told_front (Ok t) wrote = tt
-  told_front (Err e) wrote = λ m served w stands reached. (wrote m served w stands reached).front
+  pub told_prefix : (r : Result T E) → ((m : AppSpec) (served : ℕ → Bool) (w : World) → StandsFor w → IsAt m served w → Wrote old new r (text w))
+      → OnErr r ((m : AppSpec) (served : ℕ → Bool) (w : World) → StandsFor w → IsAt m served w → AppendsPrefix old new (text w))
+  told_prefix (Ok t) wrote = tt
+  told_prefix (Err e) wrote = λ m served w stands reached. (wrote m served w stands reached).prefix

@@ -4,22 +4,22 @@ use Rattle.std.specs.Io.KnownBytes.{Appends}
 use Rattle.uip_edge.proofs.Told.{Appends-none, Appends-then, appends_by, prefix_by, prefix_more, prefix_then}
 use Rattle.link_replay.specs.Writing.{Wrote}
 
--- a front of the whole text was written, and this is the rest
+-- a prefix of the whole text was written, and this is the rest
 pub record Saying (first now : Option (List ℕ)) (whole rest : List ℕ) : Type 0 where
-  pub front : List ℕ
-  pub parts : whole ≡ front ++ rest
-  pub told : Appends first now front
+  pub prefix : List ℕ
+  pub parts : whole ≡ prefix ++ rest
+  pub told : Appends first now prefix
 
 pub saying_starts : (first : Option (List ℕ)) (whole : List ℕ) → Saying first first whole whole
-saying_starts first whole = record { front = []; parts = refl; told = Appends-none first }
+saying_starts first whole = record { prefix = []; parts = refl; told = Appends-none first }
 
 -- a part more
 pub saying_more : {T E : Type 0} (first mid now : Option (List ℕ)) (whole rest text more : List ℕ) (t : T) → Saying first mid whole rest → rest ≡ text ++ more
     → Wrote {T = T} {E = E} mid now (Ok t) text → Saying first now whole more
 saying_more first mid now whole rest text more t s e w = record {
-  front = s.front ++ text;
-  parts = s.parts ∙ ap (λ l. s.front ++ l) e ∙ sym (append_assoc s.front text more);
-  told = Appends-then first mid now s.front text s.told w.whole;
+  prefix = s.prefix ++ text;
+  parts = s.parts ∙ ap (λ l. s.prefix ++ l) e ∙ sym (append_assoc s.prefix text more);
+  told = Appends-then first mid now s.prefix text s.told w.whole;
 }
 
 -- a part failed
@@ -28,28 +28,28 @@ pub saying_stops : {T U E D : Type 0} (first mid now : Option (List ℕ)) (whole
 saying_stops first mid now whole rest text more e d (Ok u) is s same w = absurd cc
 saying_stops first mid now whole rest text more e d (Err f) is s same w = record {
   whole = tt;
-  front = prefix_by first now (s.front ++ rest) whole s.parts
-      (prefix_then first mid now s.front rest s.told (prefix_more mid now text more rest (sym same) w.front));
+  prefix = prefix_by first now (s.prefix ++ rest) whole s.parts
+      (prefix_then first mid now s.prefix rest s.told (prefix_more mid now text more rest (sym same) w.prefix));
 }
 
 -- the last part is written, or fails
 pub saying_ends : {T E : Type 0} (first mid now : Option (List ℕ)) (whole rest : List ℕ) (r : Result T E) → Saying first mid whole rest
     → Wrote mid now r rest → Wrote first now r whole
 saying_ends first mid now whole rest (Ok t) s w = record {
-  whole = appends_by first now (s.front ++ rest) whole s.parts (Appends-then first mid now s.front rest s.told w.whole);
-  front = tt;
+  whole = appends_by first now (s.prefix ++ rest) whole s.parts (Appends-then first mid now s.prefix rest s.told w.whole);
+  prefix = tt;
 }
 saying_ends first mid now whole rest (Err e) s w = record {
   whole = tt;
-  front = prefix_by first now (s.front ++ rest) whole s.parts (prefix_then first mid now s.front rest s.told w.front);
+  prefix = prefix_by first now (s.prefix ++ rest) whole s.parts (prefix_then first mid now s.prefix rest s.told w.prefix);
 }
 
 -- nothing is left
 pub saying_done : {T E : Type 0} (first now : Option (List ℕ)) (whole rest : List ℕ) (t : T) → Saying first now whole rest → rest ≡ []
     → Wrote {T = T} {E = E} first now (Ok t) whole
 saying_done first now whole rest t s none = record {
-  whole = appends_by first now s.front whole (s.parts ∙ ap (λ l. s.front ++ l) none ∙ append-nil s.front) s.told;
-  front = tt;
+  whole = appends_by first now s.prefix whole (s.parts ∙ ap (λ l. s.prefix ++ l) none ∙ append-nil s.prefix) s.told;
+  prefix = tt;
 }
 
 -- two texts, of which the first failed

@@ -14,14 +14,14 @@ use Rattle.link_world.proofs.Hearing.{same_hearing}
 use Rattle.uip_node.specs.Counters.{ticks_of}
 use Rattle.link_world.specs.Acts.{handed}
 use Rattle.link_world.specs.Bytes.{bytes_by, client_bytes}
-use Rattle.link_world.specs.World.{World, Side, at_side, numbered, epoch, era_of, becomes_opened, client_stepped, with_client, with_side}
+use Rattle.link_world.specs.World.{World, Side, at_side, numbered, epoch, past_connection_of, becomes_opened, client_stepped, with_client, with_side}
 use Rattle.link_world.specs.World.Content.{OfSegment}
 use Rattle.link_world.specs.declared.who.Who.TheVariants.{FromClient}
 use Rattle.uip_node.proofs.Connections.{get_set_same, set_same}
 use Rattle.link_replay.specs.Owning.{Stepped}
 use Rattle.uip_wire.specs.declared.addr.Addr.{Addr}
 use Rattle.link_replay.specs.Plain.{CodeSent}
-use Rattle.link_replay.specs.Stands.{LinkStands, SideStands, IsLink}
+use Rattle.link_replay.specs.Represents.{LinkRepresents, SideRepresents, IsLink}
 use Rattle.link_replay.specs.State.{Link, link_of}
 use Rattle.link_replay.specs.Moving.{PostsOfClient}
 use Rattle.link_replay.specs.Plain.{CodeSide}
@@ -34,41 +34,41 @@ sends_none setup None area h = refl
 sends_none setup (Some x) area h = let e = h.answer in absurd (cc)
 
 -- what is sent is a segment
-pub record IsAtFront (setup : Setup) (s : Option PlainSegment) (len : ℕ) (area : List ℕ) : Type 0 where
+pub record IsAtStart (setup : Setup) (s : Option PlainSegment) (len : ℕ) (area : List ℕ) : Type 0 where
   pub segment : PlainSegment
   pub is : s ≡ Some segment
   pub bytes : take len area ≡ datagram_bytes (client_datagram setup segment)
   pub inside : len ≤ length area
 
-pub sends_some : (setup : Setup) (s : Option PlainSegment) (len : ℕ) (area : List ℕ) → Sends setup s (Some len) area → IsAtFront setup s len area
+pub sends_some : (setup : Setup) (s : Option PlainSegment) (len : ℕ) (area : List ℕ) → Sends setup s (Some len) area → IsAtStart setup s len area
 sends_some setup None len area h = absurd (let e : Some len ≡ None = h in cc)
 sends_some setup (Some x) len area h =
     let e : len ≡ length (datagram_bytes (client_datagram setup x)) = (let f = h.answer in cc) in
-    let l : length (take (length (datagram_bytes (client_datagram setup x))) area) ≡ length (datagram_bytes (client_datagram setup x)) = ap (λ (xs : List ℕ). length xs) h.front in
+    let l : length (take (length (datagram_bytes (client_datagram setup x))) area) ≡ length (datagram_bytes (client_datagram setup x)) = ap (λ (xs : List ℕ). length xs) h.prefix in
     record {
       segment = x;
       is = refl;
-      bytes = ap (λ n. take n area) e ∙ h.front;
+      bytes = ap (λ n. take n area) e ∙ h.prefix;
       inside = (let m = length-take (length (datagram_bytes (client_datagram setup x))) area in omega (arith, e, l, m));
     }
 
 -- the bytes of a client's segment in its world
-pub front_bytes : (w : World) (number : ℕ) (side : Side) (x : PlainSegment) → numbered w.sides number ≡ Some side → bytes_by w (FromClient number) (OfSegment 0 x) ≡ datagram_bytes (client_datagram side.client.setup x)
-front_bytes w number side x h = ap (λ (o : Option Side). option_map_or (client_bytes 0 x) o []) h
+pub prefix_bytes : (w : World) (number : ℕ) (side : Side) (x : PlainSegment) → numbered w.sides number ≡ Some side → bytes_by w (FromClient number) (OfSegment 0 x) ≡ datagram_bytes (client_datagram side.client.setup x)
+prefix_bytes w number side x h = ap (λ (o : Option Side). option_map_or (client_bytes 0 x) o []) h
 
 -- no client has a number that is 0 or past the last
 pub none_numbered : {X : Type 0} (xs : List X) (n : ℕ) → (n ≡ 0) ⊎ (length xs < n) → numbered xs n ≡ None
 none_numbered xs zero h = refl
-none_numbered xs (suc n) h = past xs n (elim h [ inl e ↦ absurd (let z : suc n ≡ 0 = e in omega (arith, z)) | inr l ↦ omega (arith, l) ])
+none_numbered xs (suc n) h = history xs n (elim h [ inl e ↦ absurd (let z : suc n ≡ 0 = e in omega (arith, z)) | inr l ↦ omega (arith, l) ])
   where
-    past : {X : Type 0} (xs : List X) (n : ℕ) → length xs ≤ n → slice_get xs n ≡ None
-    past [] n l = refl
-    past (x ∷ xs) zero l = absurd (omega (arith, l))
-    past (x ∷ xs) (suc n) l = past xs n (omega (arith, l))
+    history : {X : Type 0} (xs : List X) (n : ℕ) → length xs ≤ n → slice_get xs n ≡ None
+    history [] n l = refl
+    history (x ∷ xs) zero l = absurd (omega (arith, l))
+    history (x ∷ xs) (suc n) l = history xs n (omega (arith, l))
 
 -- a step of a client is put in its place
-pub stepped_put : (link : Link) (w : World) (n : ℕ) (old new : CodeSide) (s : Side) (step : ClientStep) (answer : Option ℕ) (area : List ℕ) → LinkStands link w → slice_get w.sides n ≡ Some s →
-    SideStands old s → new.client.setup ≡ old.client.setup → Stepped step s new answer area → LinkStands (record link { sides = set link.sides n new }) (with_side w (suc n) (with_client s step.client))
+pub stepped_put : (link : Link) (w : World) (n : ℕ) (old new : CodeSide) (s : Side) (step : ClientStep) (answer : Option ℕ) (area : List ℕ) → LinkRepresents link w → slice_get w.sides n ≡ Some s →
+    SideRepresents old s → new.client.setup ≡ old.client.setup → Stepped step s new answer area → LinkRepresents (record link { sides = set link.sides n new }) (with_side w (suc n) (with_client s step.client))
 stepped_put link w n old new s step answer area h g o q p =
     side_put link w n new s (with_client s step.client) h g
     (ap (λ (k : AbstractClient). k.setup) (sym p.stands.client) ∙ q ∙ ap (λ (k : AbstractClient). k.setup) o.client) p.stands
@@ -76,15 +76,15 @@ stepped_put link w n old new s step answer area h g o q p =
 pub sends_inside : (setup : Setup) (s : Option PlainSegment) (answer : Option ℕ) (len : ℕ) (area : List ℕ) → Sends setup s answer area → answer ≡ Some len → len ≤ length area
 sends_inside setup s answer len area h e = (sends_some setup s len area (subst (λ x. Sends setup s x area) e h)).inside
 
--- some client over plain data that one of the code stands for
+-- some client over plain data that one of the code represents
 pub record SomeSide (side : CodeSide) : Type 0 where
   pub plain : Side
-  pub stands : SideStands side plain
+  pub stands : SideRepresents side plain
 
 pub some_side : (side : CodeSide) → SomeSide side
 some_side side = record {
-  plain = record { client = standing side.client side.request side.received; past = replicate side.epoch (era_of closed); opened = None; first_stale = side.first_stale };
-  stands = record { client = refl; epoch = sym (length_same side.epoch (era_of closed)); first_stale = refl };
+  plain = record { client = standing side.client side.request side.received; history = replicate side.epoch (past_connection_of closed); opened = None; first_stale = side.first_stale };
+  stands = record { client = refl; epoch = sym (length_same side.epoch (past_connection_of closed)); first_stale = refl };
 }
   where
     length_same : {X : Type 0} (n : ℕ) (x : X) → length (replicate n x) ≡ n
@@ -124,21 +124,21 @@ posted_as number tick len x y xs ys before after e f p =
     (subst (λ (zs : List CodeSide). PostsOfClient number len tick x (link_of zs before) (link_of zs after)) f p)
 
 -- the client at a place took a step
-module _ (link : Link) (w : World) (number n : ℕ) (old new : CodeSide) (s : Side) (is : number ≡ suc n) (h : LinkStands link w) (g : slice_get w.sides n ≡ Some s) (o : SideStands old s) (q : new.client.setup ≡ old.client.setup) where
+module _ (link : Link) (w : World) (number n : ℕ) (old new : CodeSide) (s : Side) (is : number ≡ suc n) (h : LinkRepresents link w) (g : slice_get w.sides n ≡ Some s) (o : SideRepresents old s) (q : new.client.setup ≡ old.client.setup) where
   numbered_new : (t : Side) → numbered (with_side w number t).sides number ≡ Some t
   numbered_new t = subst (λ k. numbered (with_side w k t).sides k ≡ Some t) (sym is) (get_set_same w.sides n s t g)
 
-  step_put : (step : ClientStep) (answer : Option ℕ) (area : List ℕ) → Stepped step s new answer area → LinkStands (record link { sides = set link.sides n new }) (with_side w number (with_client s step.client))
+  step_put : (step : ClientStep) (answer : Option ℕ) (area : List ℕ) → Stepped step s new answer area → LinkRepresents (record link { sides = set link.sides n new }) (with_side w number (with_client s step.client))
   step_put step answer area p =
-      subst (λ k. LinkStands (record link { sides = set link.sides n new }) (with_side w k (with_client s step.client))) (sym is) (stepped_put link w n old new s step answer area h g o q p)
+      subst (λ k. LinkRepresents (record link { sides = set link.sides n new }) (with_side w k (with_client s step.client))) (sym is) (stepped_put link w n old new s step answer area h g o q p)
 
   setup_stays : (step : ClientStep) (answer : Option ℕ) (area : List ℕ) → Stepped step s new answer area → (with_client s step.client).client.setup ≡ s.client.setup
   setup_stays step answer area p = ap (λ (k : AbstractClient). k.setup) (sym p.stands.client) ∙ q ∙ ap (λ (k : AbstractClient). k.setup) o.client
 
-  -- what it sent is posted where it stands at the front of the area
+  -- what it sent is appended from the start of the area
   pub step_posted : (step : ClientStep) (answer : Option ℕ) (area : List ℕ) (after : Link) (tick : ℕ) → Stepped step s new answer area
       → PostsOfClient number answer tick area (record link { sides = set link.sides n new }) after
-      → tick ≡ ticks_of w.node.past → LinkStands after (client_stepped w number s step)
+      → tick ≡ ticks_of w.node.history → LinkRepresents after (client_stepped w number s step)
   step_posted step answer area after tick p posted t =
       let new_side : Side = with_client s step.client in
       let sends : Sends new_side.client.setup step.sent answer area
@@ -146,11 +146,11 @@ module _ (link : Link) (w : World) (number n : ℕ) (old new : CodeSide) (s : Si
       posted (with_side w number new_side) new_side step.sent (step_put step answer area p) (numbered_new new_side) sends t
 
 -- what is done to the client at a number is done in the world
-pub done_at : (link after : Link) (w : World) (number n : ℕ) (old : CodeSide) (act : Side → World) → number ≡ suc n → LinkStands link w → slice_get link.sides n ≡ Some old
-    → ((s : Side) → slice_get w.sides n ≡ Some s → SideStands old s → LinkStands after (act s)) → LinkStands after (at_side w number act)
+pub done_at : (link after : Link) (w : World) (number n : ℕ) (old : CodeSide) (act : Side → World) → number ≡ suc n → LinkRepresents link w → slice_get link.sides n ≡ Some old
+    → ((s : Side) → slice_get w.sides n ≡ Some s → SideRepresents old s → LinkRepresents after (act s)) → LinkRepresents after (at_side w number act)
 done_at link after w number n old act is h at done =
-    let p = partner SideStands link.sides w.sides n old h.sides at in
-    subst (λ (x : Option Side). LinkStands after (option_map_or act x w)) (sym (ap (numbered w.sides) is ∙ p.get)) (done p.other p.get p.pair)
+    let p = partner SideRepresents link.sides w.sides n old h.sides at in
+    subst (λ (x : Option Side). LinkRepresents after (option_map_or act x w)) (sym (ap (numbered w.sides) is ∙ p.get)) (done p.other p.get p.pair)
 
 stays : (st : ClientState) → becomes_opened st st ≡ false
 stays Idle = refl
@@ -164,7 +164,7 @@ stepped_handed : (w : World) (n : ℕ) (s : Side) (o : Option PlainSegment) → 
 stepped_handed w n s None g = ap (λ (xs : List Side). record w { sides = xs }) (ap (set w.sides n) (same_client s) ∙ set_same w.sides n s g)
 stepped_handed w n s (Some x) g = refl
 
--- what a client does with the bytes that it is handed
+-- what a client does with the bytes that it receives
 pub heard_handed : (w : World) (number n : ℕ) (s : Side) (bytes : List ℕ) → number ≡ suc n → slice_get w.sides n ≡ Some s →
     client_stepped w number s (client_hands s.client (client_hears s.client.setup bytes)) ≡ handed w number bytes s
 heard_handed w number n s bytes is g =

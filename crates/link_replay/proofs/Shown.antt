@@ -1,4 +1,4 @@
--- What a world shows by itself is what is shown of the world that it stands for.
+-- What a world shows by itself is what is shown of the world that it represents.
 use Rattle.std.proofs.Common.{◌≡◌, ℕ, Bool, true, List, [], ◌++◌, Option, Result, Ok, Err, map, refl, sym, ap, ◌∙◌, subst, append_assoc}
 use Rattle.std.specs.Prelude.{OnOk}
 use Rattle.std.specs.Io.KnownBytes.{Appends}
@@ -9,34 +9,34 @@ use Rattle.link_replay.specs.Matched.{Matched}
 use Rattle.link_replay.specs.Plain.{CodeSide}
 use Rattle.link_replay.specs.Report.{ShownSide, lines_of_client, numbered_texts, side_shown}
 use Rattle.link_replay.specs.Shown.{AppendsShown, EndsReport, code_side_shown}
-use Rattle.link_replay.specs.Stands.{LinkStands, SentStands, SideStands}
+use Rattle.link_replay.specs.Represents.{LinkRepresents, SentRepresents, SideRepresents}
 use Rattle.link_replay.specs.State.{Link}
 use Rattle.link_replay.specs.Summary.{tally_of}
 use Rattle.link_replay.specs.Writing.{Wrote}
 use Rattle.link_replay.proofs.Matching.{same_images}
 
--- what is told of a client
-side_told : (x : CodeSide) (s : Side) → SideStands x s → code_side_shown x ≡ side_shown s
+-- what is reported of a client
+side_told : (x : CodeSide) (s : Side) → SideRepresents x s → code_side_shown x ≡ side_shown s
 side_told x s st =
     let shown : AbstractClient → Option ℕ → ShownSide = λ c first. record { state = c.state; received = c.received; first_stale = first } in
     ap (λ (c : AbstractClient). shown c x.first_stale) st.client ∙ ap (λ (first : Option ℕ). shown s.client first) st.first_stale
 
 -- of the clients
-pub sides_told : (xs : List CodeSide) (ss : List Side) → Matched SideStands xs ss → map code_side_shown xs ≡ map side_shown ss
-sides_told xs ss m = same_images SideStands (λ x. code_side_shown x) (λ s. side_shown s) xs ss side_told m
+pub sides_told : (xs : List CodeSide) (ss : List Side) → Matched SideRepresents xs ss → map code_side_shown xs ≡ map side_shown ss
+sides_told xs ss m = same_images SideRepresents (λ x. code_side_shown x) (λ s. side_shown s) xs ss side_told m
 
 -- and so the lines of the clients
-pub lines_stand : (show : Bool) (xs : List CodeSide) (ss : List Side) → Matched SideStands xs ss
+pub lines_stand : (show : Bool) (xs : List CodeSide) (ss : List Side) → Matched SideRepresents xs ss
     → numbered_texts (lines_of_client show) 1 (map code_side_shown xs) ≡ numbered_texts (lines_of_client show) 1 (map side_shown ss)
 lines_stand show xs ss m = ap (λ (shown : List ShownSide). numbered_texts (lines_of_client show) 1 shown) (sides_told xs ss m)
 
 -- and the tally
-pub tally_told : (link : Link) (w : World) → LinkStands link w
+pub tally_told : (link : Link) (w : World) → LinkRepresents link w
     → tally_of (map code_side_shown link.sides) (map (λ e. e.again) link.sent) ≡ tally_of (map side_shown w.sides) (map (λ e. e.again) w.sent)
 tally_told link w st =
     ap (λ (xs : List ShownSide). tally_of xs (map (λ e. e.again) link.sent)) (sides_told link.sides w.sides st.sides)
     ∙ ap (λ (again : List Bool). tally_of (map side_shown w.sides) again)
-    (same_images (SentStands w) (λ x. x.again) (λ e. e.again) link.sent w.sent (λ x e s. s.again) st.sent)
+    (same_images (SentRepresents w) (λ x. x.again) (λ e. e.again) link.sent w.sent (λ x e s. s.again) st.sent)
 
 -- a failed call has nothing to show
 pub not_done : {T E : Type 0} (r : Result T E) (e : E) (P : Type 0) → r ≡ Err e → OnOk r P
@@ -77,7 +77,7 @@ report_ends show old a b new clients line (Ok t) d c w = record {
 }
 report_ends show old a b new clients line (Err e) d c w = tt
 
--- the lines of what is told of a client
+-- the lines of what is reported of a client
 pub lines_told : {T E : Type 0} (show : Bool) (number : ℕ) (x : CodeSide) (y : ShownSide) (old new : Option (List ℕ)) (r : Result T E) → code_side_shown x ≡ y
     → Wrote old new r (lines_of_client show number (code_side_shown x)) → Wrote old new r (lines_of_client show number y)
 lines_told show number x y old new r e w = subst (λ (z : ShownSide). Wrote old new r (lines_of_client show number z)) e w

@@ -1,27 +1,27 @@
 -- What a step of the node does to the clients' addresses and ports, and to its own address: nothing.
 use Rattle.std.proofs.Common.{◌≡◌, ℕ, zero, suc, ◌&&◌, Bool, List, [], ◌∷◌, map, refl, Option, Some, None, slice_get, position}
 use Rattle.tcp_segment.specs.Segments.{PlainSegment, has_rst}
-use Rattle.app_events.specs.Part.{Meaning}
+use Rattle.app_events.specs.AppSpec.{AppSpec}
 use Rattle.tcp_machine.specs.Connection.{Sockets, Connection, serves, same_sockets}
 use Rattle.tcp_machine.specs.Segments.{is_plain_syn}
 use Rattle.uip_node.specs.Events.{Event}
 use Rattle.uip_node.specs.Events.Event.{IpRefused, IcmpRefused, TcpRefused, EchoAsked, Arrived, Overlong, Periodic}
-use Rattle.uip_node.specs.Node.{AbstractNode, NodeStep, step, happened, opens, opens_in, from_stranger, arrives_at, slot_for_syn}
-use Rattle.link_world.specs.World.{Side, buries, buries_in, client_sockets}
+use Rattle.uip_node.specs.Node.{AbstractNode, NodeStep, step, happened, opens, opens_in, for_no_connection, arrives_at, slot_for_syn}
+use Rattle.link_world.specs.World.{Side, retires, retires_in, client_sockets}
 use Rattle.uip_node.proofs.Basics.{choose}
 use Rattle.link_replay.proofs.Places.{Sames, SamePlaces, same_places}
 
 abbrev Keeps : AbstractNode → NodeStep → Type 0
 Keeps n r = r.node.addr ≡ n.addr
 
-module _ (m : Meaning) (served : ℕ → Bool) (n : AbstractNode) where
+module _ (m : AppSpec) (served : ℕ → Bool) (n : AbstractNode) where
   opens_addr : (sockets : Sockets) (s : PlainSegment) (slot : Option ℕ) → Keeps n (opens m n sockets s slot)
   unfolding opens_in happened
   opens_addr sockets s None = refl
   opens_addr sockets s (Some slot) = refl
 
-  stranger_addr : (sockets : Sockets) (s : PlainSegment) → Keeps n (from_stranger m served n sockets s)
-  unfolding from_stranger
+  stranger_addr : (sockets : Sockets) (s : PlainSegment) → Keeps n (for_no_connection m served n sockets s)
+  unfolding for_no_connection
   stranger_addr sockets s =
       choose (λ r. Keeps n r) (is_plain_syn s && served sockets.own_port.0) _ _ (λ e. opens_addr sockets s (slot_for_syn n.connections))
       (λ e. choose (λ r. Keeps n r) (has_rst s.flags) _ _ (λ f. refl) (λ f. refl))
@@ -42,15 +42,15 @@ module _ (m : Meaning) (served : ℕ → Bool) (n : AbstractNode) where
   step_addr Overlong = refl
   step_addr (Periodic slot) = refl
 
-one_buried : (g : Connection) (side : Side) → side.client.setup ≡ (buries_in g side).client.setup
+one_buried : (g : Connection) (side : Side) → side.client.setup ≡ (retires_in g side).client.setup
 one_buried g side = choose (λ (x : Side). side.client.setup ≡ x.client.setup) (same_sockets g.sockets (client_sockets side)) _ _ (λ e. refl) (λ e. refl)
 
-all_buried : (g : Connection) (sides : List Side) (i : ℕ) → Sames (slice_get sides i) (slice_get (map (buries_in g) sides) i)
+all_buried : (g : Connection) (sides : List Side) (i : ℕ) → Sames (slice_get sides i) (slice_get (map (retires_in g) sides) i)
 all_buried g [] i = tt
 all_buried g (side ∷ sides) zero = one_buried g side
 all_buried g (side ∷ sides) (suc i) = all_buried g sides i
 
 -- a burial leaves the clients' addresses and ports
-pub buried_places : (gone : Option Connection) (sides : List Side) → SamePlaces sides (buries gone sides)
+pub buried_places : (gone : Option Connection) (sides : List Side) → SamePlaces sides (retires gone sides)
 buried_places None sides = same_places sides
 buried_places (Some g) sides = record { each = all_buried g sides }

@@ -1,4 +1,4 @@
--- How many texts are left to say, of pieces of some lengths, from a place on.
+-- How many texts are left to send, of pieces of some lengths, from an offset on.
 use Rattle.std.specs.Int.{div_ceil}
 use Rattle.std.proofs.Common.{◌≡◌, ℕ, suc, ◌+◌, ◌-◌, ◌*◌, ◌<◌, ◌≤◌, if◌then◌else◌, ◌⊎◌, inl, inr, List, [], ◌∷◌, ap, arith, nat_lt}
 use Rattle.std.proofs.lemmas.Bool.{cases_lt, lt-ltb, le-ltb}
@@ -71,10 +71,10 @@ module _ (mss : ℕ) (some : 0 < mss) where
         | inr l ↦ (let e : 0 - len ≡ 0 = omega (arith, l) in omega (arith, behind len 0 ns l, ap (λ k. left_in ns k) e, from_start most ns))
       ]
 
-  -- Text of x bytes is acknowledged, a whole text or all that is said: one text less is left.
-  pub one_less : (n a x said : ℕ) (ns : List ℕ) → 0 < x → a + x ≤ n + said → (x ≡ mss) ⊎ (a + x ≡ n + said) →
+  -- Text of x bytes is acknowledged, a whole text or all the output: one text less is left.
+  pub one_less : (n a x output : ℕ) (ns : List ℕ) → 0 < x → a + x ≤ n + output → (x ≡ mss) ⊎ (a + x ≡ n + output) →
       (n ≤ a → left_in ns ((a - n) + x) < left_in ns (a - n)) → left_in (n ∷ ns) (a + x) < left_in (n ∷ ns) a
-  one_less n a x said ns l within whole rest =
+  one_less n a x output ns l within whole rest =
       elim (cases_lt a n) [
         | inl h ↦ elim (cases_lt (a + x) n) [
           | inl i ↦

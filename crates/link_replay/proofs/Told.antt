@@ -1,4 +1,4 @@
--- A text that was written ends the replay as it has to.
+-- A text that was written ends the replay as is due.
 use Rattle.std.proofs.Common.{◌≡◌, ℕ, List, Option, Ok, Err, sym, subst, refl, inl, inr, Bool}
 use Rattle.std.specs.Prelude.{⊤}
 use Rattle.file_tree.specs.Loading.{HoldsFile}
@@ -13,11 +13,11 @@ use Rattle.link_replay.specs.declared.replay_end.ReplayEnd.{ReplayEnd}
 use Rattle.link_replay.specs.declared.replay_end.ReplayEnd.TheVariants as ends
 use Rattle.link_replay.specs.declared.told_as.Telling.TheVariants.{Summary}
 use Rattle.workload.specs.Workload.{workload_of}
-use Rattle.link_replay.proofs.ReportTexts.{IsFrontOf, holds_file, is_text, text_ends}
-use Rattle.uip_edge.specs.Told.{WorkTold}
+use Rattle.link_replay.proofs.ReportTexts.{IsProperPrefixOf, holds_file, is_text, text_ends}
+use Rattle.uip_edge.specs.Views.{WorkView}
 use Rattle.uip_edge.specs.Writing.{WritesEnd, WritesAll}
 
-pub same_work : (old new : WorkTold) → new.shelf.held ≡ old.shelf.held → new.sink ≡ old.sink → new.shelf.faults ≡ old.shelf.faults → new ≡ old
+pub same_work : (old new : WorkView) → new.shelf.held ≡ old.shelf.held → new.sink ≡ old.sink → new.shelf.faults ≡ old.shelf.faults → new ≡ old
 same_work old new held sink faults = λ i. record { shelf = record { held = held i; faults = faults i }; sink = sink i }
 
 -- an end that goes with a text
@@ -27,7 +27,7 @@ IsToldEnd (ends.BadSite error) = ⊤
 IsToldEnd (ends.BadSchedule line why) = ⊤
 IsToldEnd _ = ⊥
 
-module _ (Is : Option Files → List ℕ → ReplayEnd → Type 0) (Missing : Option Files → Type 0) (old new : WorkTold)
+module _ (Is : Option Files → List ℕ → ReplayEnd → Type 0) (Missing : Option Files → Type 0) (old new : WorkView)
     (only : (text : List ℕ) (end : ReplayEnd) → Is old.shelf.held text end → IsToldEnd end)
     (held : new.shelf.held ≡ old.shelf.held) (shelf : new.shelf.faults ≡ old.shelf.faults) where
   -- the whole text
@@ -39,7 +39,7 @@ module _ (Is : Option Files → List ℕ → ReplayEnd → Type 0) (Missing : Op
   whole_ends text ends.WriteFault is wrote = absurd (only text ends.WriteFault is)
   whole_ends text ends.NoMemory is wrote = absurd (only text ends.NoMemory is)
 
-  -- the text, or a front of it
+  -- the text, or a prefix of it
   pub written_ends : (text : List ℕ) (end result : ReplayEnd) → Is old.shelf.held text end
       → WritesEnd end ends.WriteFault old.sink new.sink text result → EndsWith Is Missing old new result
   written_ends text end result is (inl done) = subst (EndsWith Is Missing old new) (sym done.0) (whole_ends text end is done.1)
@@ -50,7 +50,7 @@ module _ (Is : Option Files → List ℕ → ReplayEnd → Type 0) (Missing : Op
   pub short_ends : (result : ReplayEnd) → IsShort old.sink new.sink result → EndsWith Is Missing old new result
   short_ends result short = subst (EndsWith Is Missing old new) (sym short.0) (same_work old new held short.1 shelf)
 
-module _ (site schedule : List ℕ) (show : Bool) (old new : WorkTold) (held : new.shelf.held ≡ old.shelf.held) (shelf : new.shelf.faults ≡ old.shelf.faults) where
+module _ (site schedule : List ℕ) (show : Bool) (old new : WorkView) (held : new.shelf.held ≡ old.shelf.held) (shelf : new.shelf.faults ≡ old.shelf.faults) where
   only_text : (text : List ℕ) (end : ReplayEnd) → IsReplayText site schedule show old.shelf.held text end → IsToldEnd end
   only_text text ends.Done is = tt
   only_text text (ends.BadSite error) is = tt
@@ -60,24 +60,24 @@ module _ (site schedule : List ℕ) (show : Bool) (old new : WorkTold) (held : n
   only_text text ends.NoMemory is = absurd (text_ends is.0 is.1 show text ends.NoMemory is.4)
 
   -- the bytes that were read of the schedule's file
-  pub schedule_ends : (files : List File) (bytes : List ℕ) (result : ReplayEnd) → FindsInFiles (site_read site) old.shelf.held (Ok files) → HoldsFile old.shelf.held schedule (IsFrontOf bytes)
+  pub schedule_ends : (files : List File) (bytes : List ℕ) (result : ReplayEnd) → FindsInFiles (site_read site) old.shelf.held (Ok files) → HoldsFile old.shelf.held schedule (IsProperPrefixOf bytes)
       → WritesDue (IsTextDue files bytes show) old.sink new.sink result → ReplayEnds site schedule show old new result
-  schedule_ends files bytes result read front (inl told) =
+  schedule_ends files bytes result read prefix (inl told) =
       written_ends (IsReplayText site schedule show) (LacksEither site schedule) old new only_text held shelf told.0 told.1 result
-      (is_text site schedule show old.shelf.held files bytes told.0 told.1 read front told.2) told.3
-  schedule_ends files bytes result read front (inr short) =
+      (is_text site schedule show old.shelf.held files bytes told.0 told.1 read prefix told.2) told.3
+  schedule_ends files bytes result read prefix (inr short) =
       short_ends (IsReplayText site schedule show) (LacksEither site schedule) old new only_text held shelf result short
 
   -- the line of a bad image
-  pub image_ends : (error : SiteError) (bytes : List ℕ) (result : ReplayEnd) → FindsInFiles (site_read site) old.shelf.held (Err error) → HoldsFile old.shelf.held schedule (IsFrontOf bytes)
+  pub image_ends : (error : SiteError) (bytes : List ℕ) (result : ReplayEnd) → FindsInFiles (site_read site) old.shelf.held (Err error) → HoldsFile old.shelf.held schedule (IsProperPrefixOf bytes)
       → WritesText (bad_line error) (ends.BadSite error) old.sink new.sink result → ReplayEnds site schedule show old new result
-  image_ends error bytes result read front (inl wrote) =
+  image_ends error bytes result read prefix (inl wrote) =
       written_ends (IsReplayText site schedule show) (LacksEither site schedule) old new only_text held shelf (bad_line error) (ends.BadSite error) result
-      (read, holds_file (IsFrontOf bytes) (λ content. ⊤) (λ content e. tt) old.shelf.held schedule front, refl) wrote
-  image_ends error bytes result read front (inr short) =
+      (read, holds_file (IsProperPrefixOf bytes) (λ content. ⊤) (λ content e. tt) old.shelf.held schedule prefix, refl) wrote
+  image_ends error bytes result read prefix (inr short) =
       short_ends (IsReplayText site schedule show) (LacksEither site schedule) old new only_text held shelf result short
 
-module _ (site : List ℕ) (seed clients : ℕ) (old new : WorkTold) (held : new.shelf.held ≡ old.shelf.held) (shelf : new.shelf.faults ≡ old.shelf.faults) where
+module _ (site : List ℕ) (seed clients : ℕ) (old new : WorkView) (held : new.shelf.held ≡ old.shelf.held) (shelf : new.shelf.faults ≡ old.shelf.faults) where
   only_load : (text : List ℕ) (end : ReplayEnd) → IsLoadText site seed clients old.shelf.held text end → IsToldEnd end
   only_load text ends.Done is = tt
   only_load text (ends.BadSite error) is = tt

@@ -5,11 +5,11 @@ use Rattle.file_tree.specs.Opening.{LacksFile, site_read}
 use Rattle.link_replay.specs.Ending.{EndsWith, IsLoadText, IsReplayText, LacksEither}
 use Rattle.link_replay.specs.Laws.{WroteDue, LoadIsTold, ReplayIsTold}
 use Rattle.link_replay.specs.declared.replay_end.ReplayEnd.{ReplayEnd}
-use Rattle.uip_edge.specs.Told.{WorkTold, WorkUnfailed}
+use Rattle.uip_edge.specs.Views.{WorkView, WorkUnfailed}
 use Rattle.link_replay.specs.declared.replay_end.ReplayEnd.TheVariants as ends
 
 module _ (Is : Option Files → List ℕ → ReplayEnd → Type 0) (Missing : Option Files → Type 0) where
-  pub as_due : (old new : WorkTold) (end : ReplayEnd) → EndsWith Is Missing old new end → WorkUnfailed old new → ¬ (Missing old.shelf.held) → WroteDue (Is old.shelf.held) old new end
+  pub as_due : (old new : WorkView) (end : ReplayEnd) → EndsWith Is Missing old new end → WorkUnfailed old new → ¬ (Missing old.shelf.held) → WroteDue (Is old.shelf.held) old new end
   as_due old new ends.Done e calm there = inr (e.text, e.is, e.wrote.whole)
   as_due old new (ends.BadSite error) e calm there = inr (e.text, e.is, e.wrote.whole)
   as_due old new (ends.BadSchedule line why) e calm there = inr (e.text, e.is, e.wrote.whole)
@@ -18,8 +18,8 @@ module _ (Is : Option Files → List ℕ → ReplayEnd → Type 0) (Missing : Op
   as_due old new ends.WriteFault e calm there = absurd (omega (arith, e.wrote.rose, calm.sink.same, calm.sink.below))
   as_due old new ends.NoMemory e calm there = inl refl
 
-pub replay_is_told : ReplayIsTold
-replay_is_told site schedule show = as_due (IsReplayText site schedule show) (LacksEither site schedule)
+pub replay_is_reported : ReplayIsTold
+replay_is_reported site schedule show = as_due (IsReplayText site schedule show) (LacksEither site schedule)
 
-pub load_is_told : LoadIsTold
-load_is_told site seed clients = as_due (IsLoadText site seed clients) (LacksFile (site_read site))
+pub load_is_reported : LoadIsTold
+load_is_reported site seed clients = as_due (IsLoadText site seed clients) (LacksFile (site_read site))

@@ -1,7 +1,7 @@
--- The headline for the pages of a site.
+-- The guarantee for the pages of a site.
 use Rattle.std.proofs.Common.{◌≢◌, ℕ, ◌<◌, ◌≤◌, inl, List, [], ◌∷◌, length, refl, arith}
 use Rattle.std.proofs.lemmas.Grind.{div_ceil_times}
-use Rattle.app_events.specs.Part.{Meaning}
+use Rattle.app_events.specs.AppSpec.{AppSpec}
 use Rattle.app_events.specs.Pages.{Pages}
 use Rattle.tcp_machine.specs.OnSegment.{first_mss}
 use Rattle.site_image.specs.Files.{File}
@@ -17,7 +17,7 @@ use Rattle.uip_node.proofs.SoundSegments.{first_low}
 use Rattle.web_pages.specs.Requests.{wanted}
 use Rattle.web_pages.specs.Requests.Wanted.{NotYet}
 use Rattle.web_pages.specs.Pages.{pages_of}
-use Rattle.web_pages.specs.WebMeaning.{web_meaning}
+use Rattle.web_pages.specs.WebMeaning.{web_spec}
 use Rattle.web_pages.proofs.PageLaws.{keeps_page_laws}
 use Rattle.web_pages.proofs.ByteLaws.{made_of_bytes}
 use Rattle.link_replay.specs.Web.{PagesAreReceived, HonestPages, parts_of, texts_of}
@@ -25,14 +25,14 @@ use Rattle.link_replay.proofs.Answering.{fine, left, answers}
 
 pub pages_are_received : PagesAreReceived
 pages_are_received site loaded bytes w r k side there clean =
-    let m : Meaning = web_meaning (files_of site) in
+    let m : AppSpec = web_spec (files_of site) in
     let pages : Pages = pages_of (files_of site) in
     let played : IsSchedulePlayed m pages w = record {
       served = r.served;
       start = r.start;
       lines = r.lines;
       are_acts = r.are_acts;
-      bytes = inl (λ heard captures all. made_of_bytes site bytes heard captures all);
+      bytes = inl (λ delivered captures all. made_of_bytes site bytes delivered captures all);
       accepted = r.accepted;
     } in
     let is : IsServed pages (record w { mark = 0 }) side = prefix_and_whole m pages (keeps_page_laws site loaded) (record w { mark = 0 }) (lines_are_acts m pages w played) k side there clean in
@@ -50,6 +50,6 @@ honest_pages site loaded served addr hits p a words plan port decided room =
     let mss : ℕ = first_mss (offered p.setup.mss) in
     let some : 0 < mss = mss_low (offered p.setup.mss) in
     let low : mss ≤ 1460 = first_low (offered p.setup.mss) in
-    honest_link (web_meaning files) (pages_of files) (keeps_page_laws site loaded) served addr hits p a words plan port
+    honest_link (web_spec files) (pages_of files) (keeps_page_laws site loaded) served addr hits p a words plan port
     (fine files p.request decided mss some low 0) (left files p.request decided mss some low) (parts_of p) (texts_of files p) (answers files p.request decided mss some low 0 (omega arith))
     (has_come p.request decided) (div_ceil_times (length p.request) p.setup.seg planned.seg.0).0 room

@@ -1,7 +1,7 @@
--- What the sink gets of a text, and how a replay ends with it.
+-- The text that a replay writes, and how it ends.
 use Rattle.std.specs.Prelude.{◌≡◌, ◌⊎◌, ℕ, Bool, List, MatchResult, Ok}
 use Rattle.site_image.specs.Files.{File}
-use Rattle.uip_edge.specs.Told.{SinkTold}
+use Rattle.uip_edge.specs.Views.{SinkView}
 use Rattle.uip_edge.specs.Writing.{WritesEnd}
 use Rattle.web_pages.specs.Pages.{pages_of}
 use Rattle.link_world.specs.Honest.{IsServedWhole}
@@ -21,19 +21,30 @@ use Rattle.link_replay.specs.declared.replay_end.ReplayEnd.TheVariants as ends
 use Rattle.link_replay.specs.declared.told_as.Telling.{Telling}
 use Rattle.link_replay.specs.declared.told_as.Telling.TheVariants.{Report, Summary}
 
--- what is told of a world
+-- the text reported about a world
 abbrev pub told_of : Telling → World → List ℕ
 told_of (Report show) w = report show w
 told_of Summary w = summary_of w
 
--- The schedule is played to its end by the server of these files, and this tells the world that is reached, of which the promises are
--- kept. Where the schedule is that of one client over a link that loses nothing, the client has its whole page.
+-- The schedule was played to its end by the server of these files. The text reports the world reached, which satisfies the guarantees. If
+-- the schedule has one client over a link that loses nothing, the client has its whole page.
 pub record TellsWorld (files : List File) (content : SchedulePlan) (telling : Telling) (text : List ℕ) : Type 0 where
   pub world : World
   pub plays : outcome files content ≡ Ok world
   pub told : text ≡ told_of telling world
   pub promises : KeepsPromises files world
   pub honest : (plan : Plan) → IsHonest files content plan → IsServedWhole (pages_of files) world
+
+-- The schedule reaches a world with the server of these files. A world of the code represents it, and this property holds for it.
+pub record HasReached (files : List File) (content : SchedulePlan) (Represents Holds : World → Type 0) : Type 0 where
+  pub world : World
+  pub plays : outcome files content ≡ Ok world
+  pub represents : Represents world
+  pub holds : Holds world
+
+-- If the schedule has one client over a link that loses nothing, the client has its whole page.
+abbrev pub ServesHonest : List File → SchedulePlan → World → Type 0
+ServesHonest files content w = (plan : Plan) → IsHonest files content plan → IsServedWhole (pages_of files) w
 
 -- the text that is due with an end, for the files of a site and a schedule
 abbrev pub IsPlayDue : List File → SchedulePlan → Telling → List ℕ → ReplayEnd → Type 0
@@ -42,27 +53,27 @@ IsPlayDue files content telling text (ends.BadSchedule line why) =
     Refuses content.lines (outcome files content) line why × (text ≡ bad_schedule line why)
 IsPlayDue files content telling text _ = ⊥
 
--- The text that is due with an end, for the files of a site and the text of a schedule: what is due for the schedule that the text
--- spells, or the line of its first bad line.
+-- The text that is due with an end, for the files of a site and the text of a schedule. It is that of the schedule in the text, or the
+-- line of its first bad line.
 abbrev pub IsTextDue : List File → List ℕ → Bool → List ℕ → ReplayEnd → Type 0
 IsTextDue files bytes show text end =
     MatchResult (read_text bytes) (λ content. IsPlayDue files content (Report show) text end)
     (λ bad. (end ≡ ends.BadSchedule bad.line bad.why) × (text ≡ bad_schedule bad.line bad.why))
 
--- memory was wanting, and nothing was written
-abbrev pub IsShort : SinkTold → SinkTold → ReplayEnd → Type 0
+-- Memory ran out, and nothing was written.
+abbrev pub IsShort : SinkView → SinkView → ReplayEnd → Type 0
 IsShort old new result = (result ≡ ends.NoMemory) × (new ≡ old)
 
--- this text was written, which ends so, or memory was wanting
-abbrev pub WritesText : List ℕ → ReplayEnd → SinkTold → SinkTold → ReplayEnd → Type 0
+-- The text was written with this end, or memory ran out.
+abbrev pub WritesText : List ℕ → ReplayEnd → SinkView → SinkView → ReplayEnd → Type 0
 WritesText text end old new result = WritesEnd end ends.WriteFault old new text result ⊎ IsShort old new result
 
--- a text that is due with an end was written, or memory was wanting
-abbrev pub WritesDue : (List ℕ → ReplayEnd → Type 0) → SinkTold → SinkTold → ReplayEnd → Type 0
+-- A text that is due with an end was written, or memory ran out.
+abbrev pub WritesDue : (List ℕ → ReplayEnd → Type 0) → SinkView → SinkView → ReplayEnd → Type 0
 WritesDue Due old new result =
     ((text : List ℕ) × (end : ReplayEnd) × Due text end × WritesEnd end ends.WriteFault old new text result) ⊎ IsShort old new result
 
--- the line of a bad schedule was written, or memory was wanting
-abbrev pub TellsFault : ReadSchedule → SinkTold → SinkTold → ReplayEnd → Type 0
+-- The line of a bad schedule was written, or memory ran out.
+abbrev pub TellsFault : ReadSchedule → SinkView → SinkView → ReplayEnd → Type 0
 TellsFault (Bad line why) old new result = WritesText (bad_schedule line why) (ends.BadSchedule line why) old new result
 TellsFault NoMemory old new result = IsShort old new result

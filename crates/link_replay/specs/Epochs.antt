@@ -1,4 +1,4 @@
--- What stays of a client of the code where its epoch rises.
+-- What of a client of the code is unchanged when its epoch rises.
 use Rattle.std.specs.Prelude.{◌≡◌, ◌+◌, true, if◌then◌else◌}
 use Rattle.tcp_machine.specs.Connection.{Sockets, same_sockets}
 use Rattle.link_client.specs.declared.setup.Setup.{Setup}
@@ -10,18 +10,18 @@ use Rattle.link_replay.specs.declared.socket_pair.SocketPair.{SocketPair}
 abbrev pub sockets_for : Setup → Sockets
 sockets_for setup = record { peer = setup.addr; peer_port = setup.port; own_port = setup.server_port }
 
--- all but the epoch stays
+-- everything except the epoch
 pub record OnlyEpoch (old new : Side) : Type 0 where
   pub client : new.client ≡ old.client
   pub request : new.request ≡ old.request
   pub received : new.received ≡ old.received
   pub first_stale : new.first_stale ≡ old.first_stale
 
--- the client whose connection was lost is one epoch on
+-- If the connection of the client was lost, its epoch rises by one.
 abbrev pub buried : SocketPair → Side → Side
 buried gone side = if same_sockets (sockets_at gone) (sockets_for side.client.setup) then record side { epoch = side.epoch + 1 } else side
 
--- its connection was lost, and its epoch is the last that is counted
+-- Its connection was lost, and its epoch is the last that can be counted.
 pub record IsAtLast (gone : SocketPair) (side : Side) : Type 0 where
   pub same : same_sockets (sockets_at gone) (sockets_for side.client.setup) ≡ true
   pub epoch : side.epoch ≡ 4294967295

@@ -1,4 +1,4 @@
--- How a client stands, as far as a summary tells it.
+-- The state of a client, as far as a summary shows it.
 use Rattle.std.specs.Prelude.{◌||◌, Bool, true, false, not}
 use Rattle.link_client.specs.declared.client_state.ClientState.{ClientState}
 use Rattle.link_client.specs.Calls.{is_opened}

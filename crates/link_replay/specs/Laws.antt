@@ -1,4 +1,4 @@
--- What a replay or a load comes to where nothing disturbs its shelf, its sink or its link, and which line of a made schedule is refused.
+-- The result of a replay or a load if nothing disturbs its environment, and which line of a generated schedule is refused.
 use Rattle.std.specs.Prelude.{◌≡◌, ◌≤◌, ◌⊎◌, ℕ, Bool, List, Ok}
 use Rattle.std.specs.Io.KnownBytes.{Appends}
 use Rattle.file_tree.specs.Site.{SiteContent, IsLoaded, files_of}
@@ -17,34 +17,34 @@ use Rattle.workload.specs.Workload.{workload_of}
 use Rattle.link_replay.specs.Ending.{IsLoadText, IsReplayText, LacksEither, LoadEnds, ReplayEnds}
 use Rattle.link_replay.specs.Outcome.{IsPlayed, outcome}
 use Rattle.link_replay.specs.declared.replay_end.ReplayEnd.{ReplayEnd}
-use Rattle.uip_edge.specs.Told.{WorkTold, WorkUnfailed}
+use Rattle.uip_edge.specs.Views.{WorkView, WorkUnfailed}
 use Rattle.link_replay.specs.declared.replay_end.ReplayEnd.TheVariants as ends
 
--- the whole text that is due with the end was written, or memory was short
-abbrev pub WroteDue : (List ℕ → ReplayEnd → Type 0) → WorkTold → WorkTold → ReplayEnd → Type 0
+-- The whole text due with the end was written, or memory ran out.
+abbrev pub WroteDue : (List ℕ → ReplayEnd → Type 0) → WorkView → WorkView → ReplayEnd → Type 0
 WroteDue Is old new end = (end ≡ ends.NoMemory) ⊎ ((text : List ℕ) × Is text end × Appends old.sink.written new.sink.written text)
 
--- Where no count rose and no file is missing, a replay ends as is due.
+-- If no fault counter rose and no file is missing, a replay ends as is due.
 abbrev pub ReplayIsTold : Type 0
 ReplayIsTold =
-    (site schedule : List ℕ) (show : Bool) (old new : WorkTold) (end : ReplayEnd)
+    (site schedule : List ℕ) (show : Bool) (old new : WorkView) (end : ReplayEnd)
     → ReplayEnds site schedule show old new end → WorkUnfailed old new
     → ¬ (LacksEither site schedule old.shelf.held) → WroteDue (IsReplayText site schedule show old.shelf.held) old new end
 
--- Where no count rose and the site is not missing, a load ends as is due.
+-- If no fault counter rose and the site is not missing, a load ends as is due.
 abbrev pub LoadIsTold : Type 0
 LoadIsTold =
-    (site : List ℕ) (seed clients : ℕ) (old new : WorkTold) (end : ReplayEnd)
+    (site : List ℕ) (seed clients : ℕ) (old new : WorkView) (end : ReplayEnd)
     → LoadEnds site seed clients old new end → WorkUnfailed old new
     → ¬ (LacksFile (site_read site) old.shelf.held) → WroteDue (IsLoadText site seed clients old.shelf.held) old new end
 
--- The text of a schedule of one honest client is played to its end, and the client has its whole page.
+-- The schedule of one cooperating client is played to its end, and the client has its whole page.
 abbrev pub HonestReplay : Type 0
 HonestReplay =
     (site : SiteContent) → IsLoaded site → (text : List ℕ) (content : SchedulePlan) → read_text text ≡ Ok content → (plan : Plan)
     → IsHonest (files_of site) content plan → (w : World) × IsPlayed (files_of site) text w × IsServedWhole (pages_of (files_of site)) w
 
--- A line of a schedule that a seed makes is refused for want of numbers alone.
+-- A line of a schedule made from a seed is refused only if numbers ran out.
 abbrev pub OnlyFull : Type 0
 OnlyFull =
     (files : List File) (seed clients line : ℕ) (reason : Why) → 1 ≤ clients

@@ -5,7 +5,7 @@ pub mod Noting
 pub mod Epochs
 pub mod Plain
 pub mod State
-pub mod Stands
+pub mod Represents
 pub mod Telling
 pub mod Moving
 pub mod Opening

@@ -1,4 +1,4 @@
--- Two lists that agree place by place.
+-- Two lists that agree element by element.
 use Rattle.std.specs.Prelude.{◌≡◌, ℕ, List, length, Some, slice_get}
 
 pub record Matched {X Y : Type 0} (P : X → Y → Type 0) (xs : List X) (ys : List Y) : Type 0 where

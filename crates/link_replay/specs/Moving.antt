@@ -1,7 +1,7 @@
--- What the calls of a replay do to what they stand for.
+-- What the calls of a replay do to the worlds that they represent.
 use Rattle.std.specs.Prelude.{◌≡◌, ℕ, Bool, List, None, Option, Some}
 use Rattle.uip_wire.specs.declared.addr.Addr.{Addr}
-use Rattle.app_events.specs.Part.{Meaning}
+use Rattle.app_events.specs.AppSpec.{AppSpec}
 use Rattle.app_events.specs.declared.app.App.{Ghosts}
 use Rattle.tcp_machine.specs.Connection.{Connection}
 use Rattle.tcp_segment.specs.Segments.{PlainSegment}
@@ -10,17 +10,17 @@ use Rattle.uip_node.specs.Edge.{reply_bytes}
 use Rattle.uip_node.specs.Events.{Event, Reply}
 use Rattle.uip_node.specs.Node.{AbstractNode, NodeStep, step}
 use Rattle.uip_node.specs.Spoken.{IsSent}
-use Rattle.uip_node.specs.StandsFor.{Stands}
+use Rattle.uip_node.specs.Represents.{Represents}
 use Rattle.uip_node.specs.State.{Node}
 use Rattle.link_client.specs.Calls.{Sends}
 use Rattle.link_world.specs.Acts.{does, fault_of}
 use Rattle.link_world.specs.Bytes.{sent_bytes}
 use Rattle.link_world.specs.Reading.{IsRead, IsSentBy}
-use Rattle.link_world.specs.World.{Sent, Side, World, buries, node_stepped, numbered, posts_of_client, posts_reply}
+use Rattle.link_world.specs.World.{Sent, Side, World, retires, node_stepped, numbered, posts_of_client, posts_reply}
 use Rattle.link_world.specs.declared.act.Act.{Act}
 use Rattle.link_replay.specs.Noting.{IsBefore, gone_pair, is_sent_again}
 use Rattle.link_replay.specs.Reaching.{IsAt}
-use Rattle.link_replay.specs.Stands.{IsLink, LinkStands, SentStands, WorldStands}
+use Rattle.link_replay.specs.Represents.{IsLink, LinkRepresents, SentRepresents, WorldRepresents}
 use Rattle.link_replay.specs.Telling.{AreTo, IsTo}
 use Rattle.link_replay.specs.declared.before.Before.{Before}
 use Rattle.link_replay.specs.Plain.{CodeSent}
@@ -30,64 +30,64 @@ use Rattle.link_replay.specs.State.{CodeWorld, Link, link_of}
 
 -- ---- a world
 
--- This holds of every world that the code's world stands for and that acts reach.
-abbrev pub FromHere : {A S : Type 0} (g : Ghosts A S) → CodeWorld A S → (Meaning → (ℕ → Bool) → World → Type 0) → Type 0
+-- The property holds for every world that the code's world represents and that acts reach.
+abbrev pub FromHere : {A S : Type 0} (g : Ghosts A S) → CodeWorld A S → (AppSpec → (ℕ → Bool) → World → Type 0) → Type 0
 FromHere g old P =
-    (w : World) → IsAt (g.meaning (g.kept old.node.shared)) g.served w → WorldStands g old w
-    → P (g.meaning (g.kept old.node.shared)) g.served w
+    (w : World) → IsAt (g.app_spec (g.config old.node.shared)) g.served w → WorldRepresents g old w
+    → P (g.app_spec (g.config old.node.shared)) g.served w
 
--- an act that no fault refuses was done
+-- An act without a fault was done.
 abbrev pub DoesAct : {A S : Type 0} (g : Ghosts A S) → Act → CodeWorld A S → CodeWorld A S → Type 0
 DoesAct g act old new =
-    (w : World) → IsAt (g.meaning (g.kept old.node.shared)) g.served w → fault_of w act ≡ None → WorldStands g old w
-    → WorldStands g new (does (g.meaning (g.kept old.node.shared)) g.served w act)
+    (w : World) → IsAt (g.app_spec (g.config old.node.shared)) g.served w → fault_of w act ≡ None → WorldRepresents g old w
+    → WorldRepresents g new (does (g.app_spec (g.config old.node.shared)) g.served w act)
 
 -- ---- a call of the node
 
--- This holds of each step that a node has taken since it was looked at.
+-- The property holds for each step that the node has taken since the record `before`.
 abbrev pub SinceBefore : {A S : Type 0} (g : Ghosts A S) → Before → Node A S → (NodeStep → Type 0) → Type 0
 SinceBefore g before node P =
-    (m : Meaning) (served : ℕ → Bool) (n : AbstractNode) (event : Event) → IsBefore before n
-    → Stands g node (step m served n event).node (step m served n event).node.past → P (step m served n event)
+    (m : AppSpec) (served : ℕ → Bool) (n : AbstractNode) (event : Event) → IsBefore before n
+    → Represents g node (step m served n event).node (step m served n event).node.history → P (step m served n event)
 
--- the step that a node has taken, of which this was sent, is told to clients and datagrams
+-- Clients and datagrams record the step of a node that sent this.
 abbrev pub TellsStep : {A S : Type 0} (g : Ghosts A S) → Before → Node A S → Option SocketPair → Option ℕ → Link → Link → Type 0
 TellsStep g before node to sent old new =
-    (m : Meaning) (served : ℕ → Bool) (w : World) (event : Event) → IsBefore before w.node
+    (m : AppSpec) (served : ℕ → Bool) (w : World) (event : Event) → IsBefore before w.node
     → AreTo to (step m served w.node event).sent
-    → Stands g node (step m served w.node event).node (step m served w.node event).node.past
-    → IsSent node.addr (step m served w.node event).sent sent node.packet → LinkStands old w
-    → LinkStands new (node_stepped w (step m served w.node event))
+    → Represents g node (step m served w.node event).node (step m served w.node event).node.history
+    → IsSent node.addr (step m served w.node event).sent sent node.packet → LinkRepresents old w
+    → LinkRepresents new (node_stepped w (step m served w.node event))
 
 -- ---- clients and datagrams
 
--- the connection with these sockets was lost
+-- The connection with these sockets was lost.
 abbrev pub Buries : Option SocketPair → Link → Link → Type 0
 Buries gone old new =
-    (w : World) (node : AbstractNode) (lost : Option Connection) → gone ≡ gone_pair lost → node.addr ≡ w.node.addr → LinkStands old w
-    → LinkStands new (record w { node = node; sides = buries lost w.sides })
+    (w : World) (node : AbstractNode) (lost : Option Connection) → gone ≡ gone_pair lost → node.addr ≡ w.node.addr → LinkRepresents old w
+    → LinkRepresents new (record w { node = node; sides = retires lost w.sides })
 
--- an answer of the node is posted
+-- A reply of the node is posted.
 abbrev pub PostsReply : Option SocketPair → ℕ → Bool → List ℕ → Link → Link → Type 0
 PostsReply to tick again datagram old new =
-    (w : World) (reply : Reply) → IsTo to reply → tick ≡ ticks_of w.node.past → again ≡ is_sent_again (Some reply)
-    → datagram ≡ reply_bytes w.node.addr reply → LinkStands old w → LinkStands new (posts_reply w (Some reply))
+    (w : World) (reply : Reply) → IsTo to reply → tick ≡ ticks_of w.node.history → again ≡ is_sent_again (Some reply)
+    → datagram ≡ reply_bytes w.node.addr reply → LinkRepresents old w → LinkRepresents new (posts_reply w (Some reply))
 
--- what a client sends, which stands in the area, is posted
+-- What a client sends, from the area, is posted.
 abbrev pub PostsOfClient : ℕ → Option ℕ → ℕ → List ℕ → Link → Link → Type 0
 PostsOfClient number sent tick area old new =
-    (w : World) (side : Side) (s : Option PlainSegment) → LinkStands old w → numbered w.sides number ≡ Some side
-    → Sends side.client.setup s sent area → tick ≡ ticks_of w.node.past → LinkStands new (posts_of_client w number s)
+    (w : World) (side : Side) (s : Option PlainSegment) → LinkRepresents old w → numbered w.sides number ≡ Some side
+    → Sends side.client.setup s sent area → tick ≡ ticks_of w.node.history → LinkRepresents new (posts_of_client w number s)
 
--- This holds of every world whose clients and datagrams these are.
+-- The property holds for every world with these clients and datagrams.
 abbrev pub OfLink : Addr → Link → (World → Type 0) → Type 0
 OfLink addr link P =
-    (m : Meaning) (served : ℕ → Bool) (w : World) → addr ≡ w.node.addr → LinkStands link w → IsLink w.node.addr link → IsAt m served w
+    (m : AppSpec) (served : ℕ → Bool) (w : World) → addr ≡ w.node.addr → LinkRepresents link w → IsLink w.node.addr link → IsAt m served w
     → P w
 
--- This holds of every datagram that this one stands for, in the worlds of these clients.
+-- The property holds for every datagram that this one represents, in the worlds of these clients.
 abbrev pub OfDatagram : Addr → List CodeSide → CodeSent → (Sent → Type 0) → Type 0
 OfDatagram addr sides sent P =
-    (w : World) (e : Sent) (all : List CodeSent) → addr ≡ w.node.addr → LinkStands (link_of sides all) w
-    → IsLink w.node.addr (link_of sides all) → SentStands w sent e
+    (w : World) (e : Sent) (all : List CodeSent) → addr ≡ w.node.addr → LinkRepresents (link_of sides all) w
+    → IsLink w.node.addr (link_of sides all) → SentRepresents w sent e
     → IsRead w e.who e.content (sent_bytes w e) → IsSentBy w.sides e.who e.content → P e

@@ -1,4 +1,4 @@
--- What is looked at before a call of the node, and what a call is found to have done.
+-- What is recorded before a call of the node, and what is found after it.
 use Rattle.std.specs.Prelude.{◌≡◌, ℕ, Bool, false, List, [], ◌∷◌, map, Option, Some, None, if◌then◌else◌}
 use Rattle.uip_wire.specs.Numbers.{wrap}
 use Rattle.tcp_table.specs.Connections.{is_at}
@@ -6,7 +6,7 @@ use Rattle.tcp_table.specs.declared.conn.Conn.{Conn}
 use Rattle.tcp_machine.specs.Connection.{Connection, Sockets, is_live}
 use Rattle.uip_node.specs.Counters.{raises, times}
 use Rattle.uip_node.specs.declared.counter.TheConstants.{TCP_AGAIN}
-use Rattle.uip_node.specs.Events.{Past, Reply}
+use Rattle.uip_node.specs.Events.{HistoryEntry, Reply}
 use Rattle.uip_node.specs.Events.Reply.{Echo, Tcp}
 use Rattle.uip_node.specs.Node.{AbstractNode}
 use Rattle.link_replay.specs.declared.before.Before.{Before}
@@ -22,20 +22,20 @@ pair_at s = record { peer = s.peer; peer_port = s.peer_port; own_port = s.own_po
 abbrev pub owner : Connection → Option SocketPair
 owner c = if is_live c.state then Some (pair_at c.sockets) else None
 
--- the same of a connection of the code
+-- the sockets of a connection of the code that is not CLOSED
 abbrev pub owner_in : {A : Type 0} → Conn A → Option SocketPair
 owner_in c = if is_live c.state then Some (record { peer = c.peer; peer_port = c.peer_port; own_port = c.own_port }) else None
 
--- how often the node has sent again what was outstanding, as its counter tells
-abbrev pub resent : List Past → ℕ
-resent past = wrap (times (raises TCP_AGAIN) past)
+-- the number of retransmissions, as the counter of the node shows it
+abbrev pub resent : List HistoryEntry → ℕ
+resent history = wrap (times (raises TCP_AGAIN) history)
 
--- the owners of all slots, and the count of what was sent again
+-- the owners of all slots, and the number of retransmissions
 pub record IsBefore (before : Before) (n : AbstractNode) : Type 0 where
   pub pairs : before.pairs.items ≡ map owner n.connections
-  pub resent : before.resent ≡ resent n.past
+  pub resent : before.resent ≡ resent n.history
 
--- an owner whose slot does not serve it any more
+-- an owner that its slot no longer serves
 abbrev pub lost_at : {A : Type 0} → Option SocketPair → Conn A → Option SocketPair
 lost_at None c = None
 lost_at (Some pair) c = if is_at pair.peer pair.peer_port pair.own_port c then None else Some pair
@@ -44,18 +44,18 @@ abbrev pub or_pair : Option SocketPair → Option SocketPair → Option SocketPa
 or_pair (Some pair) other = Some pair
 or_pair None other = other
 
--- the first such, by the slots
+-- the first such owner, in the order of the slots
 abbrev pub lost : {A : Type 0} → List (Option SocketPair) → List (Conn A) → Option SocketPair
 lost [] cs = None
 lost (pair ∷ pairs) [] = None
 lost (pair ∷ pairs) (c ∷ cs) = or_pair (lost_at pair c) (lost pairs cs)
 
--- the sockets of the connection that became CLOSED by a step
+-- the sockets of the connection that became CLOSED at a step
 abbrev pub gone_pair : Option Connection → Option SocketPair
 gone_pair None = None
 gone_pair (Some gone) = Some (pair_at gone.sockets)
 
--- a step sent again what was outstanding
+-- The step is a retransmission.
 abbrev pub is_sent_again : Option Reply → Bool
 is_sent_again None = false
 is_sent_again (Some (Echo request)) = false

@@ -6,15 +6,15 @@ use Rattle.uip_wire.specs.declared.port.TheConstants.{WEB_PORT}
 use Rattle.link_client.specs.Calls.{FitsRequest}
 use Rattle.link_schedule.specs.Clients.{Plan}
 use Rattle.link_world.specs.World.{World}
-use Rattle.link_world.specs.History.{Planned, IsPlanned, fresh_side, opening_world}
-use Rattle.link_replay.specs.Stands.{SideStands}
+use Rattle.link_world.specs.History.{Planned, IsPlanned, fresh_side, initial_world}
+use Rattle.link_replay.specs.Represents.{SideRepresents}
 use Rattle.link_replay.specs.Plain.{CodeSide}
 
 -- 10.0.0.1
 abbrev pub server : Addr
 server = record { 0 = 10 ∷ 0 ∷ 0 ∷ 1 ∷ [] }
 
--- The client with a number: the first number that it sends is 1000 times its own, and it asks the web port of the server.
+-- The client with a number: its ISS is 1000 times that number, and it connects to the web port of the server.
 abbrev pub planned : ℕ → Plan → Planned
 planned number plan = record {
   setup = record {
@@ -29,17 +29,17 @@ planned number plan = record {
   request = plan.request;
 }
 
--- clients in order, numbered from a number on
+-- clients in order, numbered from a given number
 abbrev pub plan_from : ℕ → List Plan → List Planned
 plan_from number plans = map (λ p. planned p.0 p.1) (enumerate_from number plans)
 
--- every client idle, and no datagram sent
+-- all clients idle, and no datagram sent
 abbrev pub opening_for : List ℕ → List Plan → World
-opening_for numbers plans = opening_world server numbers (plan_from 1 plans)
+opening_for numbers plans = initial_world server numbers (plan_from 1 plans)
 
 -- a client of the code before its first act
 pub record IsFresh (number : ℕ) (plan : Plan) (side : CodeSide) : Type 0 where
-  pub stands : SideStands side (fresh_side (planned number plan))
+  pub stands : SideRepresents side (fresh_side (planned number plan))
   pub fits : FitsRequest side.client side.request
   pub at_server : side.client.setup.server ≡ server
   pub in_range : IsPlanned (planned number plan)

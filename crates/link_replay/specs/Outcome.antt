@@ -1,8 +1,8 @@
--- What a schedule's text does with the web server of a site.
+-- The outcome of a schedule with the web server of a site.
 use Rattle.std.specs.Prelude.{◌≡◌, ◌++◌, ℕ, List, codes, decimal, map, Result, Ok}
 use Rattle.site_image.specs.Files.{File}
 use Rattle.web_pages.specs.Serving.{is_served, no_hits}
-use Rattle.web_pages.specs.WebMeaning.{web_meaning}
+use Rattle.web_pages.specs.WebMeaning.{web_spec}
 use Rattle.link_world.specs.World.{World}
 use Rattle.link_world.specs.Schedule.{BadLine, plays}
 use Rattle.link_schedule.specs.Reading.{SchedulePlan, read_text}
@@ -11,17 +11,17 @@ use Rattle.link_schedule.specs.declared.why.Why.TheVariants as why
 use Rattle.link_replay.specs.Opening.{opening_for}
 use Rattle.link_replay.specs.Playing.{event_at}
 
--- what the lines reach from the opening world on, or the first that is refused
+-- the world that the lines reach from the initial world, or the first line that is refused
 abbrev pub outcome : List File → SchedulePlan → Result World BadLine
-outcome files content = plays (web_meaning files) is_served (map event_at content.lines) (opening_for (no_hits files) content.clients)
+outcome files content = plays (web_spec files) is_served (map event_at content.lines) (opening_for (no_hits files) content.clients)
 
--- this text is played to its end
+-- This text is played to its end.
 pub record IsPlayed (files : List File) (text : List ℕ) (w : World) : Type 0 where
   pub content : SchedulePlan
   pub reads : read_text text ≡ Ok content
   pub plays : outcome files content ≡ Ok w
 
--- the word of a reason
+-- the word for a reason
 abbrev pub reason_word : Why → List ℕ
 reason_word why.Long = codes "long"
 reason_word why.Form = codes "form"

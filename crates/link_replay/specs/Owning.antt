@@ -1,4 +1,4 @@
--- What a client does by itself.
+-- The own acts of a client.
 use Rattle.std.specs.Prelude.{ℕ, Option, List}
 use Rattle.link_client.specs.Calls.{Sends}
 use Rattle.link_client.specs.Client.{AbstractClient, ClientStep, client_opens, client_again, client_closes, client_aborts}
@@ -6,7 +6,7 @@ use Rattle.link_world.specs.World.{Side, with_client}
 use Rattle.link_replay.specs.declared.own.Own.{Own}
 use Rattle.link_replay.specs.declared.own.Own.TheVariants as own
 use Rattle.link_replay.specs.Plain.{CodeSide}
-use Rattle.link_replay.specs.Stands.{SideStands}
+use Rattle.link_replay.specs.Represents.{SideRepresents}
 
 abbrev pub own_step : Own → AbstractClient → ClientStep
 own_step own.Opens = client_opens
@@ -14,7 +14,7 @@ own_step own.Again = client_again
 own_step own.Closes = client_closes
 own_step own.Aborts = client_aborts
 
--- a client of the code took this step, and what it sends stands at the front of the area
+-- A client of the code took this step. What it sends is at the start of the area.
 pub record Stepped (step : ClientStep) (s : Side) (side : CodeSide) (answer : Option ℕ) (area : List ℕ) : Type 0 where
-  pub stands : SideStands side (with_client s step.client)
+  pub stands : SideRepresents side (with_client s step.client)
   pub sent : Sends s.client.setup step.sent answer area

@@ -1,4 +1,4 @@
--- A client of a replay and a datagram of the code as plain data.
+-- The clients and datagrams of the code as plain data.
 use Rattle.std.specs.Prelude.{ℕ, Bool, List, Option}
 use Rattle.link_client.specs.State.{Client}
 use Rattle.link_world.specs.declared.who.Who.{Who}

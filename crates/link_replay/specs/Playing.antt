@@ -1,6 +1,6 @@
 -- What the lines of a schedule do, and which of them is refused.
 use Rattle.std.specs.Prelude.{◌≡◌, ℕ, Bool, List, map, Result, Ok, Err, Some, slice_get, ⊤}
-use Rattle.app_events.specs.Part.{Meaning}
+use Rattle.app_events.specs.AppSpec.{AppSpec}
 use Rattle.link_schedule.specs.Reading.{SchedulePlan}
 use Rattle.link_schedule.specs.declared.line.Line.{Line}
 use Rattle.link_schedule.specs.declared.read_schedule.ReadSchedule.{ReadSchedule}
@@ -14,7 +14,7 @@ use Rattle.link_world.specs.declared.step_fault.StepFault.TheVariants.{NoDatagra
 use Rattle.link_replay.specs.Opening.{opening_for}
 use Rattle.link_replay.specs.Reaching.{IsAt}
 
--- a line's refusal, with its number
+-- the refusal of a line, with its number
 abbrev pub refusal_at : ℕ → StepFault → ReadSchedule
 refusal_at line NoDatagram = Bad line Why.NoDatagram
 refusal_at line NoByte = Bad line Why.NoByte
@@ -26,14 +26,14 @@ refusal_at line NoMemory = NoRoom
 abbrev pub event_at : Line → Event
 event_at line = line.event
 
--- lines reach a world
-pub record Reaches (m : Meaning) (served : ℕ → Bool) (Now : World → Type 0) (meant : Result World BadLine) : Type 0 where
+-- The lines reach a world.
+pub record Reaches (m : AppSpec) (served : ℕ → Bool) (Now : World → Type 0) (meant : Result World BadLine) : Type 0 where
   pub world : World
   pub meant_so : meant ≡ Ok world
   pub at : IsAt m served world
   pub now : Now world
 
--- the first line that is refused has this number, and is refused for this reason
+-- The first line that is refused has this number, and this is the reason.
 pub record Refuses (lines : List Line) (meant : Result World BadLine) (number : ℕ) (why : Why) : Type 0 where
   pub place : ℕ
   pub fault : StepFault
@@ -43,16 +43,15 @@ pub record Refuses (lines : List Line) (meant : Result World BadLine) (number : 
   pub numbered : line.at ≡ number
   pub told : refusal_at number fault ≡ Bad number why
 
--- lines in turn: the world of the code stands for the one that is reached, or one of them is refused; where memory was wanting
--- nothing is said
-abbrev pub LinesEnd : {X : Type 0} → Meaning → (ℕ → Bool) → (X → World → Type 0) → List Line → Result X ReadSchedule
+-- Lines in order: the world of the code represents the one reached, or a line is refused. If memory ran out, nothing is stated.
+abbrev pub LinesEnd : {X : Type 0} → AppSpec → (ℕ → Bool) → (X → World → Type 0) → List Line → Result X ReadSchedule
     → Result World BadLine → Type 0
 LinesEnd m served Now lines (Ok x) meant = Reaches m served (Now x) meant
 LinesEnd m served Now lines (Err (Bad number why)) meant = Refuses lines meant number why
 LinesEnd m served Now lines (Err NoRoom) meant = ⊤
 
--- a schedule, from the opening world of its clients on
-abbrev pub PlaysSchedule : {X : Type 0} → Meaning → (ℕ → Bool) → List ℕ → SchedulePlan → (X → World → Type 0) → Result X ReadSchedule
+-- a schedule, from the initial world of its clients
+abbrev pub PlaysSchedule : {X : Type 0} → AppSpec → (ℕ → Bool) → List ℕ → SchedulePlan → (X → World → Type 0) → Result X ReadSchedule
     → Type 0
 PlaysSchedule m served numbers content Now result =
     LinesEnd m served Now content.lines result (plays m served (map event_at content.lines) (opening_for numbers content.clients))

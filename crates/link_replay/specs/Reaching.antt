@@ -1,7 +1,8 @@
--- The worlds that a replay goes through, and what an act of the code does.
+-- The worlds that a replay reaches, and what an act of the code does.
+-- [add: act] What the code does at it.
 use Rattle.std.specs.List.{All}
 use Rattle.std.specs.Prelude.{◌≡◌, ◌<◌, ◌≤◌, ℕ, Bool, List, ◌∷◌, ◌++◌, length, Some, Result, Ok, Err, ⊤}
-use Rattle.app_events.specs.Part.{Meaning}
+use Rattle.app_events.specs.AppSpec.{AppSpec}
 use Rattle.app_events.specs.Pages.{Pages, IsPaged}
 use Rattle.link_world.specs.World.{World, Sent, numbered}
 use Rattle.link_world.specs.Bytes.{sent_bytes}
@@ -13,8 +14,8 @@ use Rattle.link_world.specs.declared.step_fault.StepFault.TheVariants.{NoDatagra
 use Rattle.link_world.specs.Headline.{CountsBy, IsAct, IsLoss}
 use Rattle.uip_node.specs.Laws.{HasBytes}
 
--- A world that accepted acts reach from the opening one, of a server whose pages are bytes. No act speaks of the mark.
-pub record IsAt (m : Meaning) (served : ℕ → Bool) (w : World) : Type 0 where
+-- A world that accepted acts reach from the initial one, with a server whose pages are bytes. No act depends on the mark.
+pub record IsAt (m : AppSpec) (served : ℕ → Bool) (w : World) : Type 0 where
   pub pages : Pages
   pub lawful : IsPaged m pages
   pub bytes : HasBytes pages
@@ -23,7 +24,7 @@ pub record IsAt (m : Meaning) (served : ℕ → Bool) (w : World) : Type 0 where
   pub are_acts : All IsAct schedule
   pub accepted : runs m served schedule (started start) ≡ Ok (record w { mark = 0 })
 
--- a refusal that an act is given by name, which want of memory is not
+-- a refusal with a named reason, which out of memory is not
 abbrev pub IsNamed : StepFault → Type 0
 IsNamed NoMemory = ⊥
 IsNamed NoDatagram = ⊤
@@ -32,8 +33,7 @@ IsNamed AlreadyOpen = ⊤
 IsNamed NotOpen = ⊤
 IsNamed Full = ⊤
 
--- the world of the code stands for the one that is meant, or for the one before where the act is refused; of a world that memory was
--- wanting for nothing is said
+-- The world of the code represents the intended one, or the one before if the act is refused. If memory ran out, nothing is stated.
 abbrev pub ActSteps : (World → Type 0) → World → Result (Unit {0}) StepFault → Result World StepFault → Type 0
 ActSteps Now before (Ok done) meant = (w : World) × (meant ≡ Ok w) × Now w
 ActSteps Now before (Err NoMemory) meant = ⊤
@@ -43,7 +43,7 @@ ActSteps Now before (Err AlreadyOpen) meant = (meant ≡ Err AlreadyOpen) × Now
 ActSteps Now before (Err NotOpen) meant = (meant ≡ Err NotOpen) × Now before
 ActSteps Now before (Err Full) meant = (meant ≡ Err Full) × Now before
 
--- acts in turn: the world of the code stands for the one that is reached, or one of them is refused
+-- Acts in order: the world of the code represents the one reached, or an act is refused.
 abbrev pub ActsEnd : (World → Type 0) → Result (Unit {0}) StepFault → Result World StepFault → Type 0
 ActsEnd Now (Ok done) meant = (w : World) × (meant ≡ Ok w) × Now w
 ActsEnd Now (Err NoMemory) meant = ⊤
@@ -53,8 +53,8 @@ ActsEnd Now (Err AlreadyOpen) meant = meant ≡ Err AlreadyOpen
 ActsEnd Now (Err NotOpen) meant = meant ≡ Err NotOpen
 ActsEnd Now (Err Full) meant = meant ≡ Err Full
 
--- Acts in turn stopped before one of them: the world of the code stands for the one that those before it reach.
-pub record StopsAt (m : Meaning) (served : ℕ → Bool) (Now : World → Type 0) (all : List Act) (w : World) (fault : StepFault) : Type 0 where
+-- Acts in order stopped before one of them. The world of the code represents the one that the acts before it reach.
+pub record StopsAt (m : AppSpec) (served : ℕ → Bool) (Now : World → Type 0) (all : List Act) (w : World) (fault : StepFault) : Type 0 where
   pub before : List Act
   pub act : Act
   pub after : List Act
@@ -64,7 +64,7 @@ pub record StopsAt (m : Meaning) (served : ℕ → Bool) (Now : World → Type 0
   pub refused : acts m served world act ≡ Err fault
   pub now : Now world
 
-abbrev pub Stops : Meaning → (ℕ → Bool) → (World → Type 0) → List Act → World → Result (Unit {0}) StepFault → Type 0
+abbrev pub Stops : AppSpec → (ℕ → Bool) → (World → Type 0) → List Act → World → Result (Unit {0}) StepFault → Type 0
 Stops m served Now all w (Ok done) = ⊤
 Stops m served Now all w (Err NoMemory) = ⊤
 Stops m served Now all w (Err NoDatagram) = StopsAt m served Now all w NoDatagram
@@ -73,10 +73,10 @@ Stops m served Now all w (Err AlreadyOpen) = StopsAt m served Now all w AlreadyO
 Stops m served Now all w (Err NotOpen) = StopsAt m served Now all w NotOpen
 Stops m served Now all w (Err Full) = StopsAt m served Now all w Full
 
--- Damage is a loss in the worlds of a replay: it changes no client, no connection and no list, and the node counts one refused
--- datagram where the damaged one was sent to it.
+-- Damage is a loss in the worlds of a replay. It changes no client, no connection and no list. If the damaged datagram was sent to the
+-- node, the node counts one refused datagram.
 abbrev pub DamageLoses : Type 0
 DamageLoses =
-    (m : Meaning) (served : ℕ → Bool) (w : World) → IsAt m served w →
+    (m : AppSpec) (served : ℕ → Bool) (w : World) → IsAt m served w →
     (k at mask : ℕ) (e : Sent) → numbered w.sent k ≡ Some e → at < length (sent_bytes w e) → 1 ≤ mask → mask < 256 →
     IsLoss w (does m served w (Act.Damage k at mask)) × CountsBy e.who w (does m served w (Act.Damage k at mask))

@@ -14,7 +14,7 @@ use Rattle.link_world.specs.declared.who.Who.TheVariants.{FromClient, FromNode, 
 use Rattle.link_replay.specs.declared.kind.Kind.{Kind}
 use Rattle.link_replay.specs.declared.kind.Kind.TheVariants.{Segment, EchoRequest, EchoReply}
 
--- the sender, or for a datagram of the node the client that it goes to
+-- the sender, or for a datagram of the node the client that receives it
 abbrev pub who_word : Who → List ℕ
 who_word (FromClient number) = codes "c" ++ decimal number
 who_word (FromNode number) = codes "n" ++ decimal number
@@ -23,7 +23,7 @@ who_word Pinger = codes "p"
 abbrev pub segment_kind : PlainSegment → Kind
 segment_kind s = Segment s.flags s.seq (length s.text)
 
--- what is told of a datagram's content
+-- the part of a datagram's content that is shown
 abbrev pub kind_sent : Content → Kind
 kind_sent (OfSegment id s) = segment_kind s
 kind_sent (OfPing datagram) = EchoRequest
@@ -40,7 +40,7 @@ datagram_line number tick who kind again =
     decimal number ++ codes " " ++ decimal tick ++ codes " " ++ who_word who ++ codes " " ++ kind_words kind
     ++ word_if again (codes " again") ++ codes "\n"
 
--- number, ticks at sending, who, what, and whether it was sent again
+-- number, ticks at sending, sender or receiver, content, and the mark of a retransmission
 abbrev pub line_of_datagram : ℕ → Sent → List ℕ
 line_of_datagram number e = datagram_line number e.tick e.who (kind_sent e.content) e.again
 
@@ -53,7 +53,7 @@ state_word Closed = codes "closed"
 state_word Ended = codes "ended"
 state_word Reset = codes "reset"
 
--- whether a stale datagram was delivered, and where all is shown the number of the first
+-- whether a stale datagram was delivered, and, if everything is shown, the number of the first
 abbrev pub clean_words : Bool → Option ℕ → List ℕ
 clean_words show first = option_map_or (λ number. codes "stale" ++ word_if show (codes " " ++ decimal number)) first (codes "clean")
 
@@ -66,7 +66,7 @@ pub record ShownSide : Type 0 where
 abbrev pub side_shown : Side → ShownSide
 side_shown side = record { state = side.client.state; received = side.client.received; first_stale = side.first_stale }
 
--- number, state, how many bytes of its page it received, and whether it is clean
+-- number, state, the number of bytes received, and whether it is clean
 abbrev pub client_line : Bool → ℕ → ShownSide → List ℕ
 client_line show number side =
     codes "client " ++ decimal number ++ codes " " ++ state_word side.state ++ codes " " ++ decimal (length side.received) ++ codes " "
@@ -80,25 +80,25 @@ digits_or_dash (byte ∷ bytes) = encode_lower (byte ∷ bytes)
 abbrev pub text_line : List ℕ → List ℕ
 text_line bytes = codes "text " ++ digits_or_dash bytes ++ codes "\n"
 
--- the line of a client; where all is shown, the bytes that it received stand on a line of their own
+-- the line of a client; if everything is shown, the bytes that it received are on a line of their own
 abbrev pub lines_of_client : Bool → ℕ → ShownSide → List ℕ
 lines_of_client show number side = client_line show number side ++ word_if show (text_line side.received)
 
--- how many ticks there were, and how many datagrams
+-- the number of ticks and of datagrams
 abbrev pub counts_line : ℕ → ℕ → List ℕ
 counts_line ticks datagrams = codes "ticks " ++ decimal ticks ++ codes " datagrams " ++ decimal datagrams ++ codes "\n"
 
--- the text of each element, numbered from here on
+-- the text of each element, numbered from a given number
 abbrev pub numbered_texts : {X : Type 0} → (ℕ → X → List ℕ) → ℕ → List X → List ℕ
 numbered_texts text number [] = []
 numbered_texts text number (x ∷ xs) = text number x ++ numbered_texts text (number + 1) xs
 
--- the clients, and how much happened
+-- the clients and the counts
 abbrev pub end_of_report : Bool → List ShownSide → ℕ → ℕ → List ℕ
 end_of_report show sides ticks datagrams = numbered_texts (lines_of_client show) 1 sides ++ counts_line ticks datagrams
 
--- the datagrams where all is shown, and then the end
+-- the datagrams, if everything is shown, and then the end
 abbrev pub report : Bool → World → List ℕ
 report show w =
     word_if show (numbered_texts line_of_datagram 1 w.sent)
-    ++ end_of_report show (map side_shown w.sides) (ticks_of w.node.past) (length w.sent)
+    ++ end_of_report show (map side_shown w.sides) (ticks_of w.node.history) (length w.sent)

@@ -3,7 +3,7 @@ use Rattle.std.specs.Prelude.{ℕ, Bool, List}
 use Rattle.uip_node.specs.State.{Node}
 use Rattle.link_replay.specs.Plain.{CodeSent, CodeSide}
 
--- the clients, and every datagram that was sent, both numbered from 1
+-- the clients, and every datagram sent, both numbered from 1
 pub record Link : Type 0 where
   pub sides : List CodeSide
   pub sent : List CodeSent

@@ -6,8 +6,8 @@ use Rattle.link_replay.specs.Kinds.{is_closed, is_reset, is_other}
 use Rattle.link_replay.specs.Report.{ShownSide, side_shown}
 use Rattle.link_replay.specs.declared.tally.Tally.{Tally}
 
--- Of clients, and of whether each datagram was sent again: the clients by their states, those that are not clean, the bytes of all
--- pages, the datagrams, and those that were sent again.
+-- The counts of a summary: the clients by their states, those that are not clean, the bytes of all pages, the datagrams, and the
+-- retransmissions.
 abbrev pub tally_of : List ShownSide → List Bool → Tally
 tally_of sides again = record {
   closed = count_by (λ side. is_closed side.state) sides;

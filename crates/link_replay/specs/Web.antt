@@ -1,9 +1,9 @@
--- The headline for the web server: what its clients receive of the pages of a site.
+-- The guarantee for the web server: what its clients receive of the pages of a site.
 use Rattle.std.specs.List.{All}
 use Rattle.std.specs.Int.{div_ceil}
 use Rattle.std.specs.Prelude.{◌≡◌, ◌≢◌, ℕ, ◌+◌, ◌*◌, ◌≤◌, Bool, true, List, [], ◌∷◌, length, replicate, sum_by, Some, Ok, slice_get}
 use Rattle.uip_wire.specs.declared.addr.Addr.{Addr}
-use Rattle.app_events.specs.Pages.{IsWord, IsByte, IsAddr}
+use Rattle.app_events.specs.Pages.{IsU32, IsByte, IsAddr}
 use Rattle.tcp_machine.specs.OnSegment.{first_mss}
 use Rattle.script_lang.specs.declared.function.Function.{Function}
 use Rattle.script_lang.specs.Functions.{length_at_most}
@@ -11,7 +11,7 @@ use Rattle.site_image.specs.Files.{File}
 use Rattle.file_tree.specs.Site.{SiteContent, IsLoaded, files_of}
 use Rattle.link_client.specs.Client.{offered}
 use Rattle.link_world.specs.World.{World, Side, is_clean}
-use Rattle.link_world.specs.History.{Planned, IsPlan, Start, opening_world, started}
+use Rattle.link_world.specs.History.{Planned, IsPlan, Start, initial_world, started}
 use Rattle.link_world.specs.Schedule.{plays}
 use Rattle.link_schedule.specs.declared.event.Event.{Event}
 use Rattle.link_schedule.specs.declared.event.Event.TheVariants.{Opens, Round}
@@ -22,30 +22,28 @@ use Rattle.web_pages.specs.Requests.Wanted.{NotYet, Refused, Name}
 use Rattle.web_pages.specs.Pieces.{Say, reply_pieces}
 use Rattle.web_pages.specs.Pieces.Say.{Plain, Made}
 use Rattle.web_pages.specs.Pages.{pages_of}
-use Rattle.web_pages.specs.WebMeaning.{web_meaning}
+use Rattle.web_pages.specs.WebMeaning.{web_spec}
 
--- The lines of a schedule, each of them accepted, of a site's server and some clients reach this world. Damage is a line like
--- any other.
+-- The lines of a schedule, each accepted, reach this world from the server of a site and some clients. Damage is a line like any other.
 pub record IsReplayed (site : SiteContent) (w : World) : Type 0 where
   pub served : ℕ → Bool
   pub start : Start
   pub lines : List Event
   pub are_acts : All (OfLine IsAct) lines
-  pub accepted : plays (web_meaning (files_of site)) served lines (started start) ≡ Ok w
+  pub accepted : plays (web_spec (files_of site)) served lines (started start) ≡ Ok w
 
--- Every client to and from which nothing stale was delivered has received a prefix of its page, and the whole page where it saw
--- a plain close.
+-- Every client without a stale delivery has received a prefix of its page, and the whole page if it saw a normal close.
 abbrev pub PagesAreReceived : Type 0
 PagesAreReceived =
     (site : SiteContent) → IsLoaded site → All IsByte site.image → (w : World) → IsReplayed site w →
     (k : ℕ) (side : Side) → slice_get w.sides k ≡ Some side → is_clean side ≡ true → IsServed (pages_of (files_of site)) w side
 
--- the most bytes of what is said
+-- the greatest length of a piece
 abbrev pub most_of : Say Function → ℕ
 most_of (Plain text) = length text
 most_of (Made function argument) = length_at_most function
 
--- how many texts of at most mss bytes hold the pieces, where each text stays in one piece
+-- a number of segments of at most mss bytes that suffices for the pieces, if each segment stays in one piece
 abbrev pub texts_for : ℕ → List (Say Function) → ℕ
 texts_for mss pieces = sum_by (λ piece. div_ceil (most_of piece) mss) pieces
 
@@ -55,22 +53,22 @@ pieces_for files NotYet = []
 pieces_for files Refused = []
 pieces_for files (Name name) = reply_pieces files name
 
--- the parts in which a client sends its request
+-- the number of segments in which a client sends its request
 abbrev pub parts_of : Planned → ℕ
 parts_of p = div_ceil (length p.request) p.setup.seg
 
--- the texts in which its page is said
+-- a number of segments that suffices for its page
 abbrev pub texts_of : List File → Planned → ℕ
 texts_of files p = texts_for (first_mss (offered p.setup.mss)) (pieces_for files (wanted p.request))
 
--- Over a link that loses nothing a client whose request is decided has its whole page after so many rounds: two for each part of
--- its request, two for each text of its page, and six.
+-- Over a link that loses nothing, a client whose request is decided has its whole page after a number of rounds. These are two for each
+-- segment of its request, two for each segment of its page, and six.
 abbrev pub HonestPages : Type 0
 HonestPages =
     (site : SiteContent) → IsLoaded site → (served : ℕ → Bool) (addr : Addr) (hits : List ℕ) (p : Planned)
-    → IsAddr addr → All IsWord hits → IsPlan (p ∷ []) →
+    → IsAddr addr → All IsU32 hits → IsPlan (p ∷ []) →
     served p.setup.server_port.0 ≡ true → wanted p.request ≢ NotYet → 2 * parts_of p + 2 * texts_of (files_of site) p + 7 ≤ 65535 →
     (w : World)
-    × (plays (web_meaning (files_of site)) served (Opens 1 ∷ replicate (2 * parts_of p + 2 * texts_of (files_of site) p + 6) Round)
-    (opening_world addr hits (p ∷ [])) ≡ Ok w)
+    × (plays (web_spec (files_of site)) served (Opens 1 ∷ replicate (2 * parts_of p + 2 * texts_of (files_of site) p + 6) Round)
+    (initial_world addr hits (p ∷ [])) ≡ Ok w)
     × IsServedWhole (pages_of (files_of site)) w

@@ -1,4 +1,5 @@
 -- Whole schedules of the web server, worked by hand: what each client has at the end.
+-- [add: counter] The lists of counters.
 use Rattle.std.specs.Prelude.{◌≡◌, ℕ, ◌+◌, List, [], ◌∷◌, ◌++◌, codes, flat_map, length, map, replicate, Option, Some, None, Result, Ok, Err}
 use Rattle.site_image.specs.Files.{File}
 use Rattle.uip_node.specs.Counters.{ticks_of}
@@ -6,15 +7,15 @@ use Rattle.link_client.specs.declared.client_state.ClientState.{ClientState}
 use Rattle.link_client.specs.declared.client_state.ClientState.TheVariants.{Opening, Opened, Closed, Reset}
 use Rattle.link_world.specs.World.{World, Side, Sent, Content, numbered}
 use Rattle.link_world.specs.World.Content.{OfSegment, OfPing, OfEcho}
-use Rattle.link_world.specs.History.{Planned, opening_world}
+use Rattle.link_world.specs.History.{Planned, initial_world}
 use Rattle.link_world.specs.Schedule.{plays, BadLine}
 use Rattle.link_schedule.specs.declared.event.Event.{Event}
 use Rattle.link_schedule.specs.declared.event.Event.TheVariants.{Opens, Closes, Ping, Give, Tick, Round, Lose}
 use Rattle.web_pages.specs.Serving.{is_served}
-use Rattle.web_pages.specs.WebMeaning.{web_meaning}
+use Rattle.web_pages.specs.WebMeaning.{web_spec}
 use Rattle.web_pages.specs.WorkedPages.{file, ok, as_html, get, hello_site, hits_site}
 
--- a client at 10.0.0.2: its first number, its port, how many bytes it sends at a time, and its request
+-- a client at 10.0.0.2: its ISS, its port, the number of bytes in each segment, and its request
 abbrev pub client : ℕ → ℕ → ℕ → List ℕ → Planned
 client first port seg request = record {
   setup = record {
@@ -29,13 +30,13 @@ client first port seg request = record {
   request = request;
 }
 
--- what a client has at the end: its state, the bytes that it received, and the number of its first stale datagram
+-- What a client has at the end: its state, the bytes received, and the number of its first stale datagram.
 pub record Has : Type 0 where
   pub state : ClientState
   pub received : List ℕ
   pub first_stale : Option ℕ
 
--- the end of a schedule: what the clients have, how many ticks there were, and how many datagrams
+-- The end of a schedule: what the clients have, the number of ticks, and the number of datagrams.
 pub record Ending : Type 0 where
   pub clients : List Has
   pub ticks : ℕ
@@ -45,16 +46,16 @@ abbrev pub has_at : Side → Has
 has_at side = record { state = side.client.state; received = side.client.received; first_stale = side.first_stale }
 
 abbrev pub ending_at : World → Ending
-ending_at w = record { clients = map has_at w.sides; ticks = ticks_of w.node.past; datagrams = length w.sent }
+ending_at w = record { clients = map has_at w.sides; ticks = ticks_of w.node.history; datagrams = length w.sent }
 
 abbrev pub ending_of : Result World BadLine → Result Ending BadLine
 ending_of (Ok w) = Ok (ending_at w)
 ending_of (Err bad) = Err bad
 
--- a schedule's lines over a site of which no file was asked for before
+-- the lines of a schedule over a site with no hits before
 abbrev pub replayed : List File → List Planned → List Event → Result World BadLine
 replayed files plan lines =
-    plays (web_meaning files) is_served lines (opening_world (record { 0 = 10 ∷ 0 ∷ 0 ∷ 1 ∷ [] }) (map (λ file. 0) files) plan)
+    plays (web_spec files) is_served lines (initial_world (record { 0 = 10 ∷ 0 ∷ 0 ∷ 1 ∷ [] }) (map (λ file. 0) files) plan)
 
 abbrev pub ends_with : List File → List Planned → List Event → Result Ending BadLine
 ends_with files plan lines = ending_of (replayed files plan lines)
@@ -79,15 +80,15 @@ clean state received = record { state = state; received = received; first_stale 
 abbrev pub ended : List Has → ℕ → Result Ending BadLine
 ended clients datagrams = Ok (record { clients = clients; ticks = 0; datagrams = datagrams })
 
--- a page that tells one hit count of one digit
+-- a page that shows one hit count of one digit
 abbrev pub hit_page : ℕ → List ℕ
 hit_page digit = ok ++ as_html ++ replicate 9 32 ++ digit ∷ []
 
--- the counters, each of one digit, as a page tells them
+-- the counters, each of one digit, as a page shows them
 abbrev pub counter_lines : List ℕ → List ℕ
 counter_lines counters = flat_map (λ n. replicate 9 32 ++ (48 + n) ∷ 10 ∷ []) counters
 
--- a page of the counters twice, over which the second text is lost, two strangers ask for an echo, and the timer expires
+-- a page with the counters twice: the second segment is lost, two echo requests arrive, and the timer expires
 abbrev pub counters_site : List File
 counters_site = file (codes "/s.shtml") (codes "%! net-stats\n%! net-stats\n") ∷ []
 
@@ -105,7 +106,7 @@ at_first = counter_lines (3 ∷ 2 ∷ replicate 12 0 ++ 3 ∷ 2 ∷ replicate 4 
 abbrev pub later : List ℕ
 later = counter_lines (6 ∷ 6 ∷ replicate 8 0 ++ 2 ∷ 2 ∷ 0 ∷ 0 ∷ 4 ∷ 4 ∷ 0 ∷ 0 ∷ 1 ∷ 0 ∷ [])
 
--- a page of the table of connections, which all are in use
+-- a page with the table of connections, all in use
 abbrev pub table_site : List File
 table_site = file (codes "/t.shtml") (codes "%! tcp-connections") ∷ []
 
@@ -130,26 +131,26 @@ table_page =
     ++ waiting_row 9 (codes "34")
 
 pub record AreWorkedReplays : Type 0 where
-  -- a page, whole
+  -- a whole page
   pub page : ends_with hello_site (client 1000 1025 536 (get (codes "/")) ∷ []) (Opens 1 ∷ replicate 14 Round)
       ≡ ended (clean Closed (ok ++ as_html ++ codes "hello\n") ∷ []) 8
   -- the second client sees the hit of the first
   pub hits : ends_with hits_site (client 1000 1025 536 (get (codes "/h.shtml")) ∷ client 2000 1026 536 (get (codes "/h.shtml")) ∷ [])
       (Opens 1 ∷ replicate 14 Round ++ Opens 2 ∷ replicate 14 Round)
       ≡ ended (clean Closed (hit_page 49) ∷ clean Closed (hit_page 50) ∷ []) 20
-  -- a request that is refused, byte by byte: a plain close, and no page
+  -- a request that is refused, byte by byte: a normal close, and no page
   pub refused : ends_with hello_site (client 1000 1025 1 (codes "POST / ") ∷ []) (Opens 1 ∷ replicate 14 Round)
       ≡ ended (clean Closed [] ∷ []) 14
   -- a client that closes before its request is decided is reset
   pub undecided : ends_with hello_site (client 1000 1025 536 (codes "GET") ∷ [])
       (Opens 1 ∷ replicate 4 Round ++ Closes 1 ∷ replicate 2 Round)
       ≡ ended (clean Reset [] ∷ []) 6
-  -- a generated text that is lost is sent again with the same bytes, though the counters have moved on
+  -- a generated text that is lost is retransmitted with the same bytes, though the counters have changed
   pub first_time : text_sent 6 sent_again ≡ at_first
   pub second_time : text_sent 11 sent_again ≡ at_first
   pub counters : ending_of sent_again
       ≡ Ok (record { clients = clean Closed (ok ++ as_html ++ at_first ++ later) ∷ []; ticks = 4; datagrams = 17 })
-  -- the table while all ten connections are in use; the eleventh client's SYN is dropped
+  -- the table while all ten connections are in use; the SYN of the eleventh client is dropped
   pub full_table : ends_with table_site eleven
       (Opens 1 ∷ Opens 2 ∷ Opens 3 ∷ Opens 4 ∷ Opens 5 ∷ Opens 6 ∷ Opens 7 ∷ Opens 8 ∷ Opens 9 ∷ Opens 10 ∷ Opens 11 ∷ Round ∷ Round
       ∷ Give 22 ∷ Give 32 ∷ Give 33 ∷ Give 34 ∷ Give 35 ∷ Give 36 ∷ Give 37 ∷ Give 38 ∷ Give 39 ∷ Give 40 ∷ [])

@@ -2,10 +2,10 @@
 use Rattle.std.specs.Prelude.{◌≡◌, ℕ, ◌+◌, Bool, true, false, List, [], ◌∷◌, ◌++◌, map, Some, None, codes}
 use Rattle.uip_wire.specs.declared.addr.Addr.{Addr}
 use Rattle.tcp_segment.specs.declared.flags.TheConstants.{SYN, ACK, PSH}
-use Rattle.uip_node.specs.Events.{Event, Past, tick}
+use Rattle.uip_node.specs.Events.{Event, HistoryEntry, tick}
 use Rattle.uip_node.specs.Events.Event.{EchoAsked, Overlong}
 use Rattle.uip_node.specs.Events.Answer.{Silent, EchoReplied}
-use Rattle.uip_node.specs.Node.{AbstractNode, opening}
+use Rattle.uip_node.specs.Node.{AbstractNode, initial_node}
 use Rattle.link_client.specs.Client.{idle}
 use Rattle.link_client.specs.declared.setup.Setup.{Setup}
 use Rattle.link_client.specs.declared.client_state.ClientState.TheVariants.{Idle, Opening, Opened, Closing, Closed, Ended, Reset}
@@ -33,24 +33,24 @@ setup port = record {
 
 -- one that never opened
 abbrev pub waiting : Side
-waiting = record { client = idle (setup 1026) []; past = []; opened = None; first_stale = None }
+waiting = record { client = idle (setup 1026) []; history = []; opened = None; first_stale = None }
 
--- one that is open, received two bytes, and saw a stale datagram
+-- one that is open, received two bytes, and received a stale datagram
 abbrev pub served : Side
 served = record {
   client = record (idle (setup 1025) []) { state = Opened; received = codes "k~"; expected = 3 };
-  past = [];
+  history = [];
   opened = Some 0;
   first_stale = Some 2;
 }
 
-abbrev pub quiet : Event → Past
+abbrev pub quiet : Event → HistoryEntry
 quiet event = record { event = event; answer = Silent }
 
 -- two ticks, an echo, and an overlong frame
 abbrev pub node : AbstractNode
-node = record (opening (host 1) []) {
-  past = map quiet tick ++ (record { event = EchoAsked []; answer = EchoReplied } ∷ quiet Overlong
+node = record (initial_node (host 1) []) {
+  history = map quiet tick ++ (record { event = EchoAsked []; answer = EchoReplied } ∷ quiet Overlong
       ∷ map quiet tick);
 }
 
@@ -60,7 +60,7 @@ is_told seq ack flags text = OfSegment 1 (record { seq = seq; ack = ack; flags =
 abbrev pub sent : Who → ℕ → Bool → Content → Sent
 sent who ticks again content = record { who = who; tick = ticks; epoch = 0; again = again; content = content }
 
--- a SYN, its answer, an echo, and text that is sent again
+-- a SYN, its reply, an echo, and text that is retransmitted
 abbrev pub world : World
 world = record {
   node = node;

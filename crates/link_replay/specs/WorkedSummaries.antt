@@ -1,7 +1,7 @@
 -- A summary worked by hand.
 use Rattle.std.specs.Prelude.{◌≡◌, ℕ, Bool, true, false, List, [], ◌∷◌, Option, Some, None, codes}
 use Rattle.uip_wire.specs.declared.addr.Addr.{Addr}
-use Rattle.uip_node.specs.Node.{opening}
+use Rattle.uip_node.specs.Node.{initial_node}
 use Rattle.link_client.specs.Client.{idle}
 use Rattle.link_client.specs.declared.setup.Setup.{Setup}
 use Rattle.link_client.specs.declared.client_state.ClientState.{ClientState}
@@ -25,18 +25,18 @@ setup = record {
   server_port = record { 0 = 80 };
 }
 
--- a client in a state, with so much of its page
+-- a client in a state, with this much of its page
 abbrev pub client : ClientState → List ℕ → Option ℕ → Side
 client state received stale =
-    record { client = record (idle setup []) { state = state; received = received }; past = []; opened = None; first_stale = stale }
+    record { client = record (idle setup []) { state = state; received = received }; history = []; opened = None; first_stale = stale }
 
 abbrev pub sent : Bool → Sent
 sent again = record { who = Pinger; tick = 0; epoch = 0; again = again; content = OfPing [] }
 
--- five clients, of whom one is not clean, and three datagrams, of which one was sent again
+-- five clients, of whom one is not clean, and three datagrams, of which one is a retransmission
 abbrev pub world : World
 world = record {
-  node = opening (host 1) [];
+  node = initial_node (host 1) [];
   sides = client Closed (codes "page") None ∷ client Closed (codes "page one") None ∷ client Opened (codes "p") (Some 2)
       ∷ client Reset [] None ∷ client Closing [] None ∷ [];
   sent = sent false ∷ sent true ∷ sent false ∷ [];

@@ -1,14 +1,14 @@
-//! A client takes a step, and what it sends is posted.
+//! A client takes a step, and what it sends is appended to the list.
 
 ghost use Rattle.std.specs.Prelude.{◌≡◌, ◌≤◌, ℕ, List, OnOk, Option, Some, length};
 ghost use Rattle.uip_node.specs.Counters.{ticks_of};
 ghost use Rattle.uip_wire.specs.declared.addr.Addr.{Addr as Address};
-ghost use Rattle.link_client.specs.Client.{tells_window};
+ghost use Rattle.link_client.specs.Client.{advertises_window};
 ghost use Rattle.link_world.specs.Acts.{client_acts, handed};
 ghost use Rattle.link_world.specs.World.{World as PlainWorld, at_side};
 ghost use Rattle.link_replay.specs.Moving.{PostsOfClient};
 ghost use Rattle.link_replay.specs.Owning.{own_step};
-ghost use Rattle.link_replay.specs.Stands.{IsLink, LinkStands};
+ghost use Rattle.link_replay.specs.Represents.{IsLink, LinkRepresents};
 ghost use Rattle.link_replay.specs.State.{link_of};
 ghost use Rattle.link_replay.specs.Plain.{CodeSent};
 
@@ -20,8 +20,8 @@ use link_world::Who;
 use uip_edge::NoMemory;
 use uip_wire::LARGEST_DATAGRAM;
 
-/// What a client sends, if it sends a datagram, stands at the front of the area and is posted.
-fn post_front(
+/// Appends what a client sends, if it sends a datagram, from the start of the area.
+fn post_prefix(
     sides: &[Side],
     sent: &mut Vec<Sent>,
     area: &[u8],
@@ -45,7 +45,7 @@ fn post_front(
     Ok(())
 }
 
-/// A client does something by itself.
+/// Does an act of a client by itself.
 pub(crate) fn act_alone(
     sides: &mut Vec<Side>,
     sent: &mut Vec<Sent>,
@@ -59,33 +59,33 @@ pub(crate) fn act_alone(
     ensures kept { (addr : Address) → IsLink addr (link_of sides.old.items sent.old.items)
         → IsLink addr (link_of sides.new.items sent.new.items) }
     ensures room { length area.new.items ≡ LARGEST_DATAGRAM }
-    ensures acted { OnOk result ((w : PlainWorld) → LinkStands (link_of sides.old.items sent.old.items) w → tick ≡ ticks_of w.node.past
-        → LinkStands (link_of sides.new.items sent.new.items) (client_acts w number (own_step own))) }
+    ensures acted { OnOk result ((w : PlainWorld) → LinkRepresents (link_of sides.old.items sent.old.items) w → tick ≡ ticks_of w.node.history
+        → LinkRepresents (link_of sides.new.items sent.new.items) (client_acts w number (own_step own))) }
 {
     let place = usize::from(number);
     if place == 0 || place > sides.len() {
         return Ok(());
     }
     let len = sides[place - 1].act(own, area.as_mut_slice());
-    post_front(sides.as_slice(), sent, area.as_slice(), number, len, tick)?;
+    post_prefix(sides.as_slice(), sent, area.as_slice(), number, len, tick)?;
     Ok(())
 }
 
-/// A client tells a window from now on.
-pub(crate) fn tell_window(sides: &mut Vec<Side>, number: u8, window: u16)
+/// Makes a client advertise a window from now on.
+pub(crate) fn advertise_window(sides: &mut Vec<Side>, number: u8, window: u16)
     ensures kept { (addr : Address) (sent : List CodeSent) → IsLink addr (link_of sides.old.items sent)
         → IsLink addr (link_of sides.new.items sent) }
-    ensures told { (w : PlainWorld) (sent : List CodeSent) → LinkStands (link_of sides.old.items sent) w
-        → LinkStands (link_of sides.new.items sent) (client_acts w number (tells_window window)) }
+    ensures told { (w : PlainWorld) (sent : List CodeSent) → LinkRepresents (link_of sides.old.items sent) w
+        → LinkRepresents (link_of sides.new.items sent) (client_acts w number (advertises_window window)) }
 {
     let place = usize::from(number);
     if place == 0 || place > sides.len() {
         return;
     }
-    sides[place - 1].tell_window(window);
+    sides[place - 1].advertise_window(window);
 }
 
-/// A client is handed the bytes of a datagram.
+/// Passes the bytes of a datagram to a client.
 pub(crate) fn hear(
     sides: &mut Vec<Side>,
     sent: &mut Vec<Sent>,
@@ -100,14 +100,14 @@ pub(crate) fn hear(
     ensures kept { (addr : Address) → IsLink addr (link_of sides.old.items sent.old.items)
         → IsLink addr (link_of sides.new.items sent.new.items) }
     ensures room { length area.new.items ≡ LARGEST_DATAGRAM }
-    ensures heard { OnOk result ((w : PlainWorld) → LinkStands (link_of sides.old.items sent.old.items) w → tick ≡ ticks_of w.node.past
-        → LinkStands (link_of sides.new.items sent.new.items) (at_side w number (handed w number datagram.now))) }
+    ensures delivered { OnOk result ((w : PlainWorld) → LinkRepresents (link_of sides.old.items sent.old.items) w → tick ≡ ticks_of w.node.history
+        → LinkRepresents (link_of sides.new.items sent.new.items) (at_side w number (handed w number datagram.now))) }
 {
     let place = usize::from(number);
     if place == 0 || place > sides.len() {
         return Ok(());
     }
     let len = sides[place - 1].hear(datagram, area.as_mut_slice())?;
-    post_front(sides.as_slice(), sent, area.as_slice(), number, len, tick)?;
+    post_prefix(sides.as_slice(), sent, area.as_slice(), number, len, tick)?;
     Ok(())
 }

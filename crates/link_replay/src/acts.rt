@@ -10,7 +10,8 @@ use link_schedule::Event;
 use link_world::Act;
 use std::alloc::{AllocError, Global};
 
-/// How many numbers an act may need.
+/// Returns how many numbers of datagrams an act may need.
+/// [add: act] How many numbers of datagrams it needs.
 pub(crate) fn needs(act: &Act) -> usize
     ensures exact { result ≡ needs act.now }
     ensures most { result ≤ 10 }
@@ -27,7 +28,7 @@ pub(crate) fn needs(act: &Act) -> usize
     }
 }
 
-/// The numbers above the mark that are sent, in order.
+/// Returns the numbers above the mark that are sent, in order.
 fn past_mark(alloc: Global, mark: u32, sent: u32) -> Result<Vec<u32>, AllocError>
     ensures { IfOk result (λ numbers. numbers.items ≡ range_with_len (mark + 1) (sent - mark)) }
 {
@@ -38,7 +39,7 @@ fn past_mark(alloc: Global, mark: u32, sent: u32) -> Result<Vec<u32>, AllocError
     Ok(numbers)
 }
 
-/// The odd ones of these numbers.
+/// Returns the odd ones of these numbers.
 fn odd(alloc: Global, numbers: &[u32]) -> Result<Vec<u32>, AllocError>
     ensures { IfOk result (λ odd. odd.items ≡ filter (λ k. k % 2 == 1) numbers.now) }
 {
@@ -51,7 +52,7 @@ fn odd(alloc: Global, numbers: &[u32]) -> Result<Vec<u32>, AllocError>
     Ok(odd)
 }
 
-/// Each of these datagrams is delivered, in order.
+/// Returns the acts that deliver each of these datagrams, in order.
 fn gives(alloc: Global, numbers: &[u32]) -> Result<Vec<Act>, AllocError>
     ensures { IfOk result (λ acts. acts.items ≡ map Act.Give numbers.now) }
 {
@@ -62,7 +63,7 @@ fn gives(alloc: Global, numbers: &[u32]) -> Result<Vec<Act>, AllocError>
     Ok(acts)
 }
 
-/// Each of these datagrams is delivered two times in a row.
+/// Returns the acts that deliver each of these datagrams twice in a row.
 fn gives_twice(alloc: Global, numbers: &[u32]) -> Result<Vec<Act>, AllocError>
     ensures { IfOk result (λ acts. acts.items ≡ flat_map (λ k. Act.Give k ∷ Act.Give k ∷ []) numbers.now) }
 {
@@ -74,7 +75,8 @@ fn gives_twice(alloc: Global, numbers: &[u32]) -> Result<Vec<Act>, AllocError>
     Ok(acts)
 }
 
-/// The acts of a line, where so many datagrams are sent and the mark stands at a number.
+/// Returns the acts of a line, if `sent` datagrams are sent and the mark is at this number.
+/// [add: schedule-line] The acts that it is.
 pub(crate) fn acts_of(
     alloc: Global,
     event: &Event,
@@ -108,7 +110,7 @@ pub(crate) fn acts_of(
     }
 }
 
-/// The mark after a line, where so many datagrams were sent before it.
+/// Returns the mark after a line, if `sent` datagrams were sent before it.
 pub(crate) fn mark_after(event: &Event, mark: u32, sent: u32) -> u32
     ensures { (w : PlainWorld) → w.mark ≡ mark → length w.sent ≡ sent → result ≡ mark_after w event.now }
 {
@@ -126,7 +128,7 @@ pub(crate) fn mark_after(event: &Event, mark: u32, sent: u32) -> u32
     }
 }
 
-/// One act.
+/// Returns a list of one act.
 fn alone(alloc: Global, act: Act) -> Result<Vec<Act>, AllocError>
     ensures { IfOk result (λ acts. acts.items ≡ act ∷ []) }
 {

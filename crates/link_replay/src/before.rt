@@ -1,10 +1,10 @@
-//! What is looked at before a call of the node, which tells no more than the length of its answer, and again after it.
+//! What is recorded before a call of the node, which returns only the length of its reply, and compared after it.
 
 ghost use Rattle.std.specs.Prelude.{◌≡◌, ◌≤◌, List, length, map};
 ghost use Rattle.uip_node.specs.Counters.{counters};
-ghost use Rattle.uip_node.specs.Events.{Past};
+ghost use Rattle.uip_node.specs.Events.{HistoryEntry};
 ghost use Rattle.uip_node.specs.Node.{AbstractNode, connection_in, step};
-ghost use Rattle.uip_node.specs.StandsFor.{Stands};
+ghost use Rattle.uip_node.specs.Represents.{Represents};
 ghost use Rattle.link_replay.specs.Moving.{SinceBefore};
 ghost use Rattle.link_replay.specs.Noting.{IsBefore, gone_pair, is_sent_again, lost, lost_at, owner, owner_in, resent};
 
@@ -15,14 +15,14 @@ use tcp_table::{Conn, Table};
 use uip_node::Node;
 use uip_node::counter::TCP_AGAIN;
 
-/// What is looked at before a call of the node: the sockets of its connections, and how often it has sent again.
+/// What is recorded before a call of the node: the sockets of its connections, and its count of retransmissions.
 #[derive(Drop)]
 pub(crate) struct Before {
     pub pairs: ArrayVec<Option<SocketPair>, 10>,
     pub resent: u32,
 }
 
-/// The sockets of a connection, where it is not CLOSED.
+/// Returns the sockets of a connection, if it is not CLOSED.
 fn owner_of<A>(conn: &Conn<A>) -> Option<SocketPair>
     ensures { result ≡ owner_in conn.now }
 {
@@ -37,7 +37,7 @@ fn owner_of<A>(conn: &Conn<A>) -> Option<SocketPair>
     }
 }
 
-/// The sockets of ten connections.
+/// Returns the sockets of ten connections.
 fn owners_of<A>(conns: &[Conn<A>]) -> ArrayVec<Option<SocketPair>, 10>
     requires { length conns.now ≤ 10 }
     ensures { result.items ≡ map owner_in conns.now }
@@ -49,21 +49,22 @@ fn owners_of<A>(conns: &[Conn<A>]) -> ArrayVec<Option<SocketPair>, 10>
     pairs
 }
 
-/// The sockets of the connections of a table.
+/// Returns the sockets of the connections of a table.
 fn owners_in<A: App>(table: &Table<A>) -> ArrayVec<Option<SocketPair>, 10>
     ensures { result.items ≡ map owner_in table.now.conns }
 {
     owners_of(&table.conns)
 }
 
-/// How often what was outstanding was sent again.
+/// Returns the count of retransmissions.
+/// [add: counter] The length of the array.
 fn resent_of(net: &[u32; 20]) -> u32
-    ensures { (past : List Past) → net.now ≡ counters past → result ≡ resent past }
+    ensures { (history : List HistoryEntry) → net.now ≡ counters history → result ≡ resent history }
 {
     net[TCP_AGAIN]
 }
 
-/// The owner of a slot, where the connection there is not its any more.
+/// Returns the sockets that had a slot, if its connection is another one now.
 fn lost_at<A>(pair: Option<SocketPair>, conn: &Conn<A>) -> Option<SocketPair>
     ensures { result ≡ lost_at pair conn.now }
 {
@@ -73,7 +74,7 @@ fn lost_at<A>(pair: Option<SocketPair>, conn: &Conn<A>) -> Option<SocketPair>
     }
 }
 
-/// The first owner that lost its slot.
+/// Returns the first sockets that lost their slot.
 fn first_lost<A>(pairs: &[Option<SocketPair>], conns: &[Conn<A>]) -> Option<SocketPair>
     ensures { result ≡ lost pairs.now conns.now }
 {
@@ -89,7 +90,7 @@ fn first_lost<A>(pairs: &[Option<SocketPair>], conns: &[Conn<A>]) -> Option<Sock
     }
 }
 
-/// The same in a table.
+/// Does the same for a table.
 fn lost_in<A: App>(pairs: &[Option<SocketPair>], table: &Table<A>) -> Option<SocketPair>
     ensures { result ≡ lost pairs.now table.now.conns }
 {
@@ -97,9 +98,9 @@ fn lost_in<A: App>(pairs: &[Option<SocketPair>], table: &Table<A>) -> Option<Soc
 }
 
 impl Before {
-    /// A look at a node.
+    /// Records the sockets and the count of a node.
     pub(crate) fn of<A: App>(node: &Node<A>) -> Before
-        ensures { (n : AbstractNode) → Stands A.App node.now n n.past → IsBefore result n }
+        ensures { (n : AbstractNode) → Represents A.App node.now n n.history → IsBefore result n }
     {
         Before {
             pairs: owners_in(&node.table),
@@ -107,21 +108,21 @@ impl Before {
         }
     }
 
-    /// The sockets of the connection that became CLOSED since, if one did.
+    /// Returns the sockets of the connection that became CLOSED since, if there is one.
     pub(crate) fn gone<A: App>(&self, node: &Node<A>) -> Option<SocketPair>
         ensures { SinceBefore A.App self.now node.now (λ step. result ≡ gone_pair step.gone) }
     {
         lost_in(&self.pairs, &node.table)
     }
 
-    /// Whether it has sent again since.
+    /// Returns whether the node has retransmitted since.
     pub(crate) fn again<A: App>(&self, node: &Node<A>) -> bool
         ensures { SinceBefore A.App self.now node.now (λ step. result ≡ is_sent_again step.sent) }
     {
         self.resent != resent_of(&node.net)
     }
 
-    /// The sockets of the connection that was in a slot, where it was not CLOSED.
+    /// Returns the sockets of the connection that was in a slot, if it was not CLOSED.
     pub(crate) fn pair(&self, slot: usize) -> Option<SocketPair>
         ensures { (n : AbstractNode) → IsBefore self.now n → result ≡ owner (connection_in slot n) }
     {

@@ -8,7 +8,7 @@ use crate::line::Line;
 use crate::side::Side;
 use link_client::ClientState;
 
-/// The line of a client with its number.
+/// Makes the line of the client with this number.
 pub(crate) fn client_line(show: bool, number: usize, side: &Side) -> Line
     ensures { result ≡ client_text show number (code_side_shown side.now) }
 {
@@ -25,7 +25,7 @@ pub(crate) fn client_line(show: bool, number: usize, side: &Side) -> Line
     line
 }
 
-/// The word of a state.
+/// Returns the word of a state.
 fn state_word(state: ClientState) -> &'static [u8]
     ensures text { result.now ≡ word_of state }
     ensures short { length result.now ≤ 7 }
@@ -41,7 +41,7 @@ fn state_word(state: ClientState) -> &'static [u8]
     }
 }
 
-/// The line goes on with whether a client is clean.
+/// Appends whether a client is clean.
 fn put_clean(line: &mut Line, show: bool, first_stale: Option<u32>)
     requires { length line.old + 26 ≤ 256 }
     ensures text { line.new ≡ line.old ++ clean_words show first_stale }
@@ -59,7 +59,7 @@ fn put_clean(line: &mut Line, show: bool, first_stale: Option<u32>)
     }
 }
 
-/// The last line.
+/// Makes the last line.
 pub(crate) fn last_line(ticks: u32, datagrams: usize) -> Line
     ensures { result ≡ counts_line ticks datagrams }
 {

@@ -24,7 +24,7 @@ pub(crate) fn write_clients<K: Sink>(show: bool, sides: &[Side], sink: &mut K) -
     Ok(())
 }
 
-/// Writes the line of a client with its number, and where all is shown the bytes that it received.
+/// Writes the line of the client with this number, and if all is shown the bytes that it received.
 fn write_client<K: Sink>(show: bool, number: usize, side: &Side, sink: &mut K) -> Result<(), Failed>
     ensures wrote { Wrote (K.written sink.old) (K.written sink.new) result (lines_of_client show number (code_side_shown side.now)) }
     ensures cause { HasCause (K.faults sink.old) (K.faults sink.new) result }
@@ -33,7 +33,7 @@ fn write_client<K: Sink>(show: bool, number: usize, side: &Side, sink: &mut K) -
     write_received(show, &side.received, sink)
 }
 
-/// Writes the bytes that a client received where all is shown.
+/// Writes the bytes that a client received, if all is shown.
 fn write_received<K: Sink>(show: bool, received: &[u8], sink: &mut K) -> Result<(), Failed>
     ensures wrote { Wrote (K.written sink.old) (K.written sink.new) result (word_if show (text_line received.now)) }
     ensures cause { HasCause (K.faults sink.old) (K.faults sink.new) result }

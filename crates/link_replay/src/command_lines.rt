@@ -1,9 +1,9 @@
-//! The line that tells a bad schedule, and what is written.
+//! The line of a bad schedule, and the writing of a text.
 
 ghost use Rattle.std.specs.Prelude.{◌≡◌, ◌++◌, decimal, IfOk, OnOk};
 ghost use Rattle.link_replay.specs.Outcome.{bad_schedule as line_of, reason_word as word_of};
 ghost use Rattle.uip_edge.specs.Writing.{WritesEnd};
-ghost use Rattle.uip_edge.specs.Telling.{sink_told};
+ghost use Rattle.uip_edge.specs.ViewsOf.{sink_view};
 ghost use Rattle.link_replay.specs.declared.replay_end.ReplayEnd.TheVariants as ends;
 
 use crate::replay_end::ReplayEnd;
@@ -12,9 +12,9 @@ use link_schedule::Why;
 use std::alloc::{AllocError, Global};
 use uip_edge::Sink;
 
-/// Writes a text whole, which ends so.
+/// Writes a whole text, and returns this end, or the fault of the sink.
 pub(crate) fn write_text<K: Sink>(text: &[u8], end: ReplayEnd, out: &mut K) -> ReplayEnd
-    ensures { WritesEnd end ends.WriteFault (sink_told K.Sink out.old) (sink_told K.Sink out.new) text.now result }
+    ensures { WritesEnd end ends.WriteFault (sink_view K.Sink out.old) (sink_view K.Sink out.new) text.now result }
 {
     match out.write_whole(text) {
         Ok(()) => end,
@@ -22,7 +22,7 @@ pub(crate) fn write_text<K: Sink>(text: &[u8], end: ReplayEnd, out: &mut K) -> R
     }
 }
 
-/// The line that tells what is wrong with a schedule.
+/// Makes the line that reports a bad schedule. Fails if memory runs out.
 pub(crate) fn bad_schedule(alloc: Global, line: u32, why: Why) -> Result<Vec<u8>, AllocError>
     ensures { IfOk result (λ text. text.items ≡ line_of line why) }
 {
@@ -42,7 +42,7 @@ fn push_number(text: &mut Vec<u8>, number: u32) -> Result<(), AllocError>
     text.extend_from_slice(digits.format(number).as_bytes())
 }
 
-/// The word of a reason.
+/// Returns the word of a reason.
 fn why_word(why: Why) -> &'static [u8]
     ensures { result.now ≡ word_of why }
 {

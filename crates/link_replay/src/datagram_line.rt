@@ -8,7 +8,7 @@ use crate::line::Line;
 use crate::sent::Sent;
 use link_world::Who;
 
-/// The line of a datagram with its number.
+/// Makes the line of the datagram with this number.
 pub(crate) fn datagram_line(number: usize, sent: &Sent, kind: Kind) -> Line
     ensures { result ≡ datagram_text number sent.now.tick sent.now.who kind sent.now.again }
 {
@@ -25,7 +25,7 @@ pub(crate) fn datagram_line(number: usize, sent: &Sent, kind: Kind) -> Line
     line
 }
 
-/// The line goes on with a sender.
+/// Appends a sender.
 fn put_who(line: &mut Line, who: Who)
     requires { length line.old + 21 ≤ 256 }
     ensures text { line.new ≡ line.old ++ who_word who }
@@ -38,7 +38,7 @@ fn put_who(line: &mut Line, who: Who)
     }
 }
 
-/// The line goes on with a letter and a number behind it.
+/// Appends a letter and a number after it.
 fn put_lettered(line: &mut Line, letter: &[u8; 1], number: u8)
     requires { length line.old + 21 ≤ 256 }
     ensures text { line.new ≡ line.old ++ (letter.now ++ decimal number) }
@@ -48,7 +48,7 @@ fn put_lettered(line: &mut Line, letter: &[u8; 1], number: u8)
     line.put_number(u64::from(number));
 }
 
-/// The line goes on with flags, sequence number and length.
+/// Appends flags, sequence number and length.
 fn put_kind(line: &mut Line, kind: Kind)
     requires { length line.old + 47 ≤ 256 }
     ensures text { line.new ≡ line.old ++ kind_words kind }

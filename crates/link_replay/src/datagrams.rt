@@ -17,7 +17,7 @@ use crate::texts::write_word;
 use uip_edge::{Failed, Sink};
 use uip_wire::Addr;
 
-/// Writes the line of each datagram where all is shown.
+/// Writes the line of each datagram, if all is shown.
 pub(crate) fn write_shown<K: Sink>(
     show: bool,
     addr: Addr,
@@ -54,7 +54,7 @@ fn write_datagrams<K: Sink>(
     Ok(())
 }
 
-/// Writes the line of a datagram with its number.
+/// Writes the line of the datagram with this number.
 fn write_datagram<K: Sink>(
     addr: Addr,
     sides: &[Side],

@@ -1,4 +1,4 @@
-//! What an act does that is not refused.
+//! Does an act that is not refused.
 
 ghost use Rattle.std.specs.Prelude.{◌≡◌, ◌<◌, ◌≤◌, ℕ, false, None, Ok, OnOk, length};
 ghost use Rattle.uip_node.specs.Edge.{event_of};
@@ -13,10 +13,10 @@ ghost use Rattle.link_world.specs.declared.who.Who.TheVariants.{Pinger};
 ghost use Rattle.link_replay.specs.Moving.{DoesAct, FromHere};
 ghost use Rattle.link_replay.specs.Owning.{own_step};
 ghost use Rattle.link_world.specs.Headline.{IsAct};
-ghost use Rattle.link_replay.specs.Stands.{WorldStands};
+ghost use Rattle.link_replay.specs.Represents.{WorldRepresents};
 ghost use Rattle.link_replay.specs.Telling.{AnswersTo, AreTo, client_told};
 
-use crate::acting::{act_alone, hear, tell_window};
+use crate::acting::{act_alone, advertise_window, hear};
 use crate::before::Before;
 use crate::marks::{pair_of, see};
 use crate::own::Own;
@@ -31,14 +31,14 @@ use uip_ipv4::{Proto, put_head};
 use uip_wire::{Addr, LARGEST_DATAGRAM};
 
 impl<A: App> WorldOf<A> {
-    /// Bytes come to the node. What it answers goes to the client with these sockets, or is an echo reply.
+    /// Passes bytes to the node. Its reply goes to the client with these sockets, or is an echo reply.
     fn node_hears(&mut self, bytes: &[u8], to: Option<SocketPair>) -> Result<(), NoMemory>
         requires most { length bytes.now ≤ LARGEST_DATAGRAM }
-        ensures same { A.kept self.new.node.shared ≡ A.kept self.old.node.shared }
+        ensures same { A.config self.new.node.shared ≡ A.config self.old.node.shared }
         ensures mark { self.new.mark ≡ self.old.mark }
-        ensures heard { OnOk result ((w : PlainWorld) → WorldStands A.App self.old w
-            → AreTo to (step (A.meaning (A.kept self.old.node.shared)) A.served w.node (event_of w.node.addr bytes.now)).sent
-            → WorldStands A.App self.new (node_handles (A.meaning (A.kept self.old.node.shared)) A.served w
+        ensures delivered { OnOk result ((w : PlainWorld) → WorldRepresents A.App self.old w
+            → AreTo to (step (A.app_spec (A.config self.old.node.shared)) A.served w.node (event_of w.node.addr bytes.now)).sent
+            → WorldRepresents A.App self.new (node_handles (A.app_spec (A.config self.old.node.shared)) A.served w
             (event_of w.node.addr bytes.now))) }
     {
         let before = Before::of(&self.node);
@@ -54,13 +54,13 @@ impl<A: App> WorldOf<A> {
         Ok(())
     }
 
-    /// The periodic call of the connection in a slot below 10.
+    /// Makes the periodic call of the connection in a slot below 10.
     fn node_ticks(&mut self, slot: usize) -> Result<(), NoMemory>
         requires within { slot < 10 }
-        ensures same { A.kept self.new.node.shared ≡ A.kept self.old.node.shared }
+        ensures same { A.config self.new.node.shared ≡ A.config self.old.node.shared }
         ensures mark { self.new.mark ≡ self.old.mark }
-        ensures ticked { OnOk result ((w : PlainWorld) → WorldStands A.App self.old w
-            → WorldStands A.App self.new (node_handles (A.meaning (A.kept self.old.node.shared)) A.served w (Periodic slot))) }
+        ensures ticked { OnOk result ((w : PlainWorld) → WorldRepresents A.App self.old w
+            → WorldRepresents A.App self.new (node_handles (A.app_spec (A.config self.old.node.shared)) A.served w (Periodic slot))) }
     {
         let before = Before::of(&self.node);
         let answer = self.node.periodic(slot);
@@ -76,12 +76,12 @@ impl<A: App> WorldOf<A> {
         Ok(())
     }
 
-    /// A tick: the periodic calls of all slots in turn.
+    /// Ticks: makes the periodic calls of all slots in turn.
     fn tick(&mut self) -> Result<(), NoMemory>
-        ensures same { A.kept self.new.node.shared ≡ A.kept self.old.node.shared }
+        ensures same { A.config self.new.node.shared ≡ A.config self.old.node.shared }
         ensures mark { self.new.mark ≡ self.old.mark }
-        ensures ticked { OnOk result ((w : PlainWorld) → WorldStands A.App self.old w
-            → WorldStands A.App self.new (handles_all (A.meaning (A.kept self.old.node.shared)) A.served tick w)) }
+        ensures ticked { OnOk result ((w : PlainWorld) → WorldRepresents A.App self.old w
+            → WorldRepresents A.App self.new (handles_all (A.app_spec (A.config self.old.node.shared)) A.served tick w)) }
     {
         for slot in 0..10 {
             self.node_ticks(slot)?;
@@ -89,12 +89,12 @@ impl<A: App> WorldOf<A> {
         Ok(())
     }
 
-    /// A client does something by itself.
+    /// Does an act of a client by itself.
     fn own(&mut self, number: u8, own: Own) -> Result<(), NoMemory>
-        ensures same { A.kept self.new.node.shared ≡ A.kept self.old.node.shared }
+        ensures same { A.config self.new.node.shared ≡ A.config self.old.node.shared }
         ensures mark { self.new.mark ≡ self.old.mark }
-        ensures acted { OnOk result ((w : PlainWorld) → WorldStands A.App self.old w
-            → WorldStands A.App self.new (client_acts w number (own_step own))) }
+        ensures acted { OnOk result ((w : PlainWorld) → WorldRepresents A.App self.old w
+            → WorldRepresents A.App self.new (client_acts w number (own_step own))) }
     {
         let tick = self.node.ticks();
         act_alone(
@@ -108,12 +108,12 @@ impl<A: App> WorldOf<A> {
         Ok(())
     }
 
-    /// An echo request is sent.
+    /// Sends an echo request.
     fn ping(&mut self, source: Addr) -> Result<(), NoMemory>
-        ensures same { A.kept self.new.node.shared ≡ A.kept self.old.node.shared }
+        ensures same { A.config self.new.node.shared ≡ A.config self.old.node.shared }
         ensures mark { self.new.mark ≡ self.old.mark }
-        ensures sent { OnOk result ((w : PlainWorld) → WorldStands A.App self.old w
-            → WorldStands A.App self.new (posts w Pinger false (OfPing (ping_from source w.node.addr)))) }
+        ensures sent { OnOk result ((w : PlainWorld) → WorldRepresents A.App self.old w
+            → WorldRepresents A.App self.new (posts w Pinger false (OfPing (ping_from source w.node.addr)))) }
     {
         let Ok(bytes) = echo_request(source, self.node.addr())
             .as_slice()
@@ -133,14 +133,14 @@ impl<A: App> WorldOf<A> {
         Ok(())
     }
 
-    /// A datagram's bytes are handed over: to the node, or to the client that it was sent to.
+    /// Delivers a datagram's bytes to the node, or to the client that it was sent to.
     fn hand(&mut self, who: Who, bytes: &[u8]) -> Result<(), NoMemory>
         requires most { length bytes.now ≤ LARGEST_DATAGRAM }
-        ensures same { A.kept self.new.node.shared ≡ A.kept self.old.node.shared }
+        ensures same { A.config self.new.node.shared ≡ A.config self.old.node.shared }
         ensures mark { self.new.mark ≡ self.old.mark }
-        ensures handed { OnOk result ((w : PlainWorld) → WorldStands A.App self.old w
-            → AnswersTo w who (step (A.meaning (A.kept self.old.node.shared)) A.served w.node (event_of w.node.addr bytes.now)).sent
-            → WorldStands A.App self.new (hands_over (A.meaning (A.kept self.old.node.shared)) A.served w bytes.now who)) }
+        ensures handed { OnOk result ((w : PlainWorld) → WorldRepresents A.App self.old w
+            → AnswersTo w who (step (A.app_spec (A.config self.old.node.shared)) A.served w.node (event_of w.node.addr bytes.now)).sent
+            → WorldRepresents A.App self.new (hands_over (A.app_spec (A.config self.old.node.shared)) A.served w bytes.now who)) }
     {
         match who {
             Who::Pinger => {
@@ -167,12 +167,12 @@ impl<A: App> WorldOf<A> {
         }
     }
 
-    /// The datagram with a number, counted from 1, is delivered.
+    /// Delivers the datagram with this number, counted from 1.
     fn give(&mut self, number: u32) -> Result<(), NoMemory>
-        ensures same { A.kept self.new.node.shared ≡ A.kept self.old.node.shared }
+        ensures same { A.config self.new.node.shared ≡ A.config self.old.node.shared }
         ensures mark { self.new.mark ≡ self.old.mark }
         ensures given { OnOk result (FromHere A.App self.old
-            (λ m served w. WorldStands A.App self.new (does m served w (Act.Give number)))) }
+            (λ m served w. WorldRepresents A.App self.new (does m served w (Act.Give number)))) }
     {
         let place = number as usize;
         if place == 0 || place > self.sent.len() {
@@ -189,10 +189,10 @@ impl<A: App> WorldOf<A> {
         Ok(())
     }
 
-    /// The datagram with a number is handed over with one byte changed.
+    /// Delivers the datagram with this number with one byte changed.
     fn damage(&mut self, number: u32, at: u16, mask: u8) -> Result<(), NoMemory>
         requires mask { 1 ≤ mask }
-        ensures same { A.kept self.new.node.shared ≡ A.kept self.old.node.shared }
+        ensures same { A.config self.new.node.shared ≡ A.config self.old.node.shared }
         ensures mark { self.new.mark ≡ self.old.mark }
         ensures damaged { OnOk result (DoesAct A.App (Act.Damage number at mask) self.old self.new) }
     {
@@ -210,10 +210,11 @@ impl<A: App> WorldOf<A> {
         Ok(())
     }
 
-    /// What an act does that is not refused.
+    /// Does an act that is not refused.
+    /// [add: act] Its arm, and a method that does it.
     pub(crate) fn perform(&mut self, act: &Act) -> Result<(), NoMemory>
         requires act { IsAct act.now }
-        ensures same { A.kept self.new.node.shared ≡ A.kept self.old.node.shared }
+        ensures same { A.config self.new.node.shared ≡ A.config self.old.node.shared }
         ensures mark { self.new.mark ≡ self.old.mark }
         ensures window { (number size : ℕ) → act.now ≡ Act.Window number size → result ≡ Ok tt }
         ensures done { OnOk result (DoesAct A.App act.now self.old self.new) }
@@ -224,7 +225,7 @@ impl<A: App> WorldOf<A> {
             Act::Closes(number) => self.own(number, Own::Closes),
             Act::Aborts(number) => self.own(number, Own::Aborts),
             Act::Window(number, window) => {
-                tell_window(&mut self.sides, number, window);
+                advertise_window(&mut self.sides, number, window);
                 Ok(())
             }
             Act::Ping(source) => self.ping(source),
@@ -235,7 +236,7 @@ impl<A: App> WorldOf<A> {
     }
 }
 
-/// The client that a datagram concerns, by its sender; 0 where it concerns none.
+/// Returns the client that a datagram concerns, by its sender; 0 if it concerns none.
 fn client_of(who: Who) -> u8
     ensures { result ≡ client_told who }
 {
@@ -245,7 +246,7 @@ fn client_of(who: Who) -> u8
     }
 }
 
-/// The byte at a place, if there is one, is changed by exclusive or with the mask.
+/// Changes the byte at an offset, if there is one, by exclusive or with the mask.
 fn change(bytes: &mut [u8], at: usize, mask: u8)
     ensures { bytes.new ≡ changed bytes.old at mask }
 {
@@ -254,7 +255,7 @@ fn change(bytes: &mut [u8], at: usize, mask: u8)
     }
 }
 
-/// An echo request without payload, with identifier and number 1 (RFC 792).
+/// Returns an echo request without payload, with identifier and number 1 (RFC 792).
 #[tactic(auto, unfolding(link_world::specs::Bytes::ping_from))]
 fn echo_request(source: Addr, target: Addr) -> [u8; 28]
     ensures { result ≡ ping_from source target }

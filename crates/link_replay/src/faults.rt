@@ -5,7 +5,7 @@ ghost use Rattle.link_world.specs.Acts.{fault_of, if_idle, is_idle, named_fault,
 ghost use Rattle.link_world.specs.World.{Side as PlainSide, World as PlainWorld, numbered};
 ghost use Rattle.link_replay.specs.Matched.{Matched};
 ghost use Rattle.link_replay.specs.Reaching.{IsNamed};
-ghost use Rattle.link_replay.specs.Stands.{LinkStands, SentStands, SideStands};
+ghost use Rattle.link_replay.specs.Represents.{LinkRepresents, SentRepresents, SideRepresents};
 ghost use Rattle.link_replay.specs.State.{link_of};
 
 use crate::acts::needs;
@@ -14,10 +14,10 @@ use crate::side::Side;
 use link_client::{Client, ClientState};
 use link_world::{Act, StepFault};
 
-/// Datagrams are numbered up to this.
+/// The greatest number of a datagram.
 pub(crate) const MOST_DATAGRAMS: usize = 65535;
 
-/// Whether a client is idle.
+/// Returns whether a client is idle.
 pub(crate) fn is_idle_client(client: &Client) -> bool
     ensures { result ≡ is_idle client.now.state }
 {
@@ -32,9 +32,9 @@ pub(crate) fn is_idle_client(client: &Client) -> bool
     }
 }
 
-/// Whether the client with a number is idle, or there is none.
+/// Returns whether the client with this number is idle, or there is none.
 fn is_idle(sides: &[Side], number: u8) -> bool
-    ensures { (ss : List PlainSide) → Matched SideStands sides.now ss → result ≡ is_idle (state_at (numbered ss number)) }
+    ensures { (ss : List PlainSide) → Matched SideRepresents sides.now ss → result ≡ is_idle (state_at (numbered ss number)) }
 {
     let place = usize::from(number);
     if place == 0 || place > sides.len() {
@@ -44,9 +44,9 @@ fn is_idle(sides: &[Side], number: u8) -> bool
     is_idle_client(&side.client)
 }
 
-/// An act of a client that is idle.
+/// Returns the fault of an act of a client that is idle.
 fn if_idle(sides: &[Side], number: u8) -> Option<StepFault>
-    ensures exact { (ss : List PlainSide) → Matched SideStands sides.now ss → result ≡ if_idle (numbered ss number) }
+    ensures exact { (ss : List PlainSide) → Matched SideRepresents sides.now ss → result ≡ if_idle (numbered ss number) }
     ensures named { IfSome result IsNamed }
 {
     if is_idle(sides, number) {
@@ -56,9 +56,9 @@ fn if_idle(sides: &[Side], number: u8) -> Option<StepFault>
     }
 }
 
-/// The datagram with a number is not yet sent.
+/// Returns a fault if the datagram with this number is not yet sent.
 fn no_datagram(sent: &[Sent], number: u32) -> Option<StepFault>
-    ensures exact { (w : PlainWorld) → Matched (SentStands w) sent.now w.sent → result ≡ named_fault w (Act.Give number) }
+    ensures exact { (w : PlainWorld) → Matched (SentRepresents w) sent.now w.sent → result ≡ named_fault w (Act.Give number) }
     ensures named { IfSome result IsNamed }
 {
     if number == 0 || number as usize > sent.len() {
@@ -68,9 +68,9 @@ fn no_datagram(sent: &[Sent], number: u32) -> Option<StepFault>
     }
 }
 
-/// The datagram with a number is not yet sent, or has no byte at this place.
+/// Returns a fault if the datagram with this number is not yet sent, or has no byte at this offset.
 fn no_byte(sent: &[Sent], number: u32, at: u16) -> Option<StepFault>
-    ensures exact { (w : PlainWorld) (mask : ℕ) → Matched (SentStands w) sent.now w.sent
+    ensures exact { (w : PlainWorld) (mask : ℕ) → Matched (SentRepresents w) sent.now w.sent
         → result ≡ named_fault w (Act.Damage number at mask) }
     ensures named { IfSome result IsNamed }
 {
@@ -85,10 +85,11 @@ fn no_byte(sent: &[Sent], number: u32, at: u16) -> Option<StepFault>
     }
 }
 
-/// Why an act is refused, apart from want of numbers.
+/// Returns why an act is refused, apart from a lack of numbers.
+/// [add: act] Why it is refused.
 fn named_fault(sides: &[Side], sent: &[Sent], act: &Act) -> Option<StepFault>
     ensures window { (number size : ℕ) → act.now ≡ Act.Window number size → result ≡ None }
-    ensures exact { (w : PlainWorld) → LinkStands (link_of sides.now sent.now) w → result ≡ named_fault w act.now }
+    ensures exact { (w : PlainWorld) → LinkRepresents (link_of sides.now sent.now) w → result ≡ named_fault w act.now }
     ensures named { IfSome result IsNamed }
 {
     match *act {
@@ -106,10 +107,10 @@ fn named_fault(sides: &[Side], sent: &[Sent], act: &Act) -> Option<StepFault>
     }
 }
 
-/// Why an act is refused.
+/// Returns why an act is refused.
 pub(crate) fn fault_of(sides: &[Side], sent: &[Sent], act: &Act) -> Option<StepFault>
     ensures window { (number size : ℕ) → act.now ≡ Act.Window number size → length sent.now ≤ 65535 → result ≡ None }
-    ensures exact { (w : PlainWorld) → LinkStands (link_of sides.now sent.now) w → result ≡ fault_of w act.now }
+    ensures exact { (w : PlainWorld) → LinkRepresents (link_of sides.now sent.now) w → result ≡ fault_of w act.now }
     ensures named { IfSome result IsNamed }
 {
     match named_fault(sides, sent, act) {

@@ -1,4 +1,4 @@
-/// What a datagram is, as far as a report tells it.
+/// What a datagram is, as a report shows it.
 #[derive(Clone, Copy, Debug, PartialEq, Eq)]
 pub enum Kind {
     /// A segment with its flags, its sequence number and the length of its text.

@@ -10,7 +10,7 @@ ghost use Rattle.uip_node.specs.Events.Event.{Arrived};
 ghost use Rattle.link_world.specs.World.{Side as PlainSide, numbered};
 ghost use Rattle.link_replay.specs.Moving.{OfDatagram};
 ghost use Rattle.link_replay.specs.Matched.{Matched};
-ghost use Rattle.link_replay.specs.Stands.{SideStands};
+ghost use Rattle.link_replay.specs.Represents.{SideRepresents};
 ghost use Rattle.link_replay.specs.Report.{kind_sent as kind_meant, segment_kind};
 
 use crate::kind::Kind;
@@ -22,8 +22,8 @@ use tcp_segment::check as check_segment;
 use uip_ipv4::{IpHead, Proto, check as check_head};
 use uip_wire::Addr;
 
-/// What a datagram is at the node of this address. A segment is read as its receiver reads it; what no receiver can read is told as
-/// an echo reply.
+/// Returns what a datagram is at the node with this address. A segment is read as its receiver reads it. What no receiver can
+/// read is reported as an echo reply.
 pub(crate) fn kind_of(addr: Addr, sides: &[Side], sent: &Sent) -> Kind
     ensures { OfDatagram addr sides.now sent.now (λ e. result ≡ kind_meant e.content) }
 {
@@ -37,16 +37,16 @@ pub(crate) fn kind_of(addr: Addr, sides: &[Side], sent: &Sent) -> Kind
     }
 }
 
-/// The address of a client.
+/// Returns the address of a client.
 fn addr_of(client: &Client) -> Addr
     ensures { result ≡ client.now.setup.addr }
 {
     client.setup.addr
 }
 
-/// The address of the client with a number, counted from 1.
+/// Returns the address of the client with this number, counted from 1.
 fn address_of(sides: &[Side], number: u8) -> Option<Addr>
-    ensures { (ss : List PlainSide) → Matched SideStands sides.now ss
+    ensures { (ss : List PlainSide) → Matched SideRepresents sides.now ss
         → result ≡ option_map (λ s. s.client.setup.addr) (numbered ss number) }
 {
     let place = usize::from(number);
@@ -57,7 +57,7 @@ fn address_of(sides: &[Side], number: u8) -> Option<Addr>
     Some(addr_of(&side.client))
 }
 
-/// What these bytes are at an address, if they are a segment there.
+/// Returns what these bytes are at an address, if they are a segment there.
 fn read_at(own: Addr, bytes: &[u8]) -> Kind
     ensures { (sockets : Sockets) (s : PlainSegment) → event_of own bytes.now ≡ Arrived sockets s → result ≡ segment_kind s }
 {
@@ -70,7 +70,7 @@ fn read_at(own: Addr, bytes: &[u8]) -> Kind
     }
 }
 
-/// What the bytes behind a header are, if they are a segment.
+/// Returns what the bytes after a header are, if they are a segment.
 fn read_segment(bytes: &[u8], head: &IpHead) -> Kind
     requires head { IsHeadOf head.now bytes.now }
     requires most { head.now.total ≤ length bytes.now }

@@ -1,6 +1,7 @@
-//! A replay. Its world is the real node, its clients, and every datagram that was sent: a schedule's lines are done act by act, and
-//! `specs/` ties each act to the world over plain data of `link_world`. What became of it is told as a report or in one line. The image
-//! of a site and the text of a schedule are read from a shelf, and the contract of `replay` has the headline: what each client received.
+//! Replays. The world of a replay is the real node, its clients, and every datagram that was sent. The lines of a schedule are
+//! done act by act, and `specs/` ties each act to the world over plain data of `link_world`. The result is a report or one
+//! line. The image of a site and the text of a schedule are read from a shelf. The contract of `replay` has the guarantee: what
+//! each client received.
 #![tactic(auto)]
 
 mod acting;
@@ -47,7 +48,7 @@ pub use headline::{honest_pages, pages_are_received, worked_replays};
 pub use kind::Kind;
 pub use laws::{
     abort_and_close_apart, damage_loses, hits_are_counted, honest_replay, honest_web_peer,
-    load_is_told, only_full, replay_is_told, worked_reports, worked_summaries,
+    load_is_reported, only_full, replay_is_reported, worked_reports, worked_summaries,
 };
 pub use link_schedule::{ClientPlan, Event, Line, ReadSchedule, Schedule, Why};
 pub use link_world::{Act, StepFault, Who};

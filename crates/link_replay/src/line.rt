@@ -1,9 +1,9 @@
-//! A line of text that is made whole before it is written.
+//! Lines of text, complete before they are written.
 
 use text_room::Text;
 
-/// The most bytes of a line.
+/// The greatest length of a line, in bytes.
 const LONGEST_LINE: usize = 256;
 
-/// A line of a report or a summary, in room of its own, made whole before it is written.
+/// A line of a report or a summary, in a buffer of its own, complete before it is written.
 pub(crate) type Line = Text<LONGEST_LINE>;

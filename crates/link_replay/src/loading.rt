@@ -1,11 +1,11 @@
-//! The schedule that a number makes, played by the web server of a site.
+//! `load`: the schedule of a seed, played by the web server of a site.
 
 ghost use Rattle.std.specs.Prelude.{◌≡◌, ◌≤◌};
 ghost use Rattle.file_tree.specs.Site.{files_of};
 ghost use Rattle.workload.specs.Workload.{workload_of};
 ghost use Rattle.link_replay.specs.Ending.{LoadEnds};
 ghost use Rattle.link_replay.specs.Due.{WritesDue, IsPlayDue};
-ghost use Rattle.uip_edge.specs.Telling.{work_told, sink_told};
+ghost use Rattle.uip_edge.specs.ViewsOf.{work_view, sink_view};
 ghost use Rattle.link_replay.specs.declared.told_as.Telling.TheVariants as tellings;
 
 use crate::replay_end::ReplayEnd;
@@ -17,8 +17,8 @@ use std::alloc::Global;
 use uip_edge::{Shelf, Sink};
 use workload::make;
 
-/// Plays the schedule that a seed makes for 1 to 64 clients, by the web server of the site whose image the shelf holds under a name,
-/// and writes in one line what it came to; `-` is the site without files. Where the image is bad, one line tells it.
+/// Plays the schedule of a seed for 1 to 64 clients by the web server of the site whose image the shelf holds under a name, and
+/// writes its result in one line; `-` is the site without files. If the image is bad, one line reports it.
 pub fn load<H: Shelf, K: Sink>(
     alloc: Global,
     site: &[u8],
@@ -29,8 +29,8 @@ pub fn load<H: Shelf, K: Sink>(
 ) -> ReplayEnd
     requires some { 1 ≤ clients }
     requires few { clients ≤ 64 }
-    ensures ends { LoadEnds site.now seed clients (work_told H.Shelf K.Sink shelf.old out.old)
-        (work_told H.Shelf K.Sink shelf.new out.new) result }
+    ensures ends { LoadEnds site.now seed clients (work_view H.Shelf K.Sink shelf.old out.old)
+        (work_view H.Shelf K.Sink shelf.new out.new) result }
     ensures kept { H.held shelf.new ≡ H.held shelf.old }
 {
     match Site::open(alloc, shelf, site) {
@@ -41,12 +41,12 @@ pub fn load<H: Shelf, K: Sink>(
     }
 }
 
-/// Plays the schedule that a seed makes, by the web server of a site.
+/// Plays the schedule of a seed by the web server of a site.
 fn load_site<K: Sink>(alloc: Global, site: Site, seed: u64, clients: u8, out: &mut K) -> ReplayEnd
     requires some { 1 ≤ clients }
     requires few { clients ≤ 64 }
     ensures { WritesDue (IsPlayDue (files_of site) (workload_of seed clients) tellings.Summary)
-        (sink_told K.Sink out.old) (sink_told K.Sink out.new) result }
+        (sink_view K.Sink out.old) (sink_view K.Sink out.new) result }
 {
     match make(alloc, seed, clients) {
         Ok(schedule) => play_schedule(alloc, site, &schedule, Telling::Summary, out),

@@ -1,4 +1,4 @@
-//! What a delivery tells of a client.
+//! What a delivery changes of a client.
 
 ghost use Rattle.std.specs.Prelude.{◌≡◌, List};
 ghost use Rattle.link_world.specs.World.{Sent as PlainSent, Side as PlainSide, World as PlainWorld, marked, numbered};
@@ -6,7 +6,7 @@ ghost use Rattle.uip_wire.specs.declared.addr.Addr.{Addr as Address};
 ghost use Rattle.link_replay.specs.Matched.{Matched};
 ghost use Rattle.link_replay.specs.Epochs.{sockets_for};
 ghost use Rattle.link_replay.specs.Noting.{pair_at};
-ghost use Rattle.link_replay.specs.Stands.{IsLink, LinkStands, SideStands};
+ghost use Rattle.link_replay.specs.Represents.{IsLink, LinkRepresents, SideRepresents};
 ghost use Rattle.link_replay.specs.State.{link_of};
 ghost use Rattle.link_replay.specs.Plain.{CodeSent};
 ghost use Rattle.link_replay.specs.Telling.{pair_at_side, sees};
@@ -16,10 +16,10 @@ use crate::socket_pair::SocketPair;
 use link_client::Client;
 
 impl Side {
-    /// A datagram of an epoch is delivered from or to the client: where it is stale, the first such number is kept.
+    /// Records the delivery of a datagram of an epoch from or to the client: the first stale number is stored.
     fn see(&mut self, number: u32, epoch: u32)
-        ensures stands { (s : PlainSide) (e : PlainSent) → SideStands self.old s → epoch ≡ e.epoch
-            → SideStands self.new (marked s number e) }
+        ensures stands { (s : PlainSide) (e : PlainSent) → SideRepresents self.old s → epoch ≡ e.epoch
+            → SideRepresents self.new (marked s number e) }
         ensures kept { self.new ≡ record self.old { first_stale = self.new.first_stale } }
     {
         if self.first_stale.is_none() && epoch != self.epoch {
@@ -28,7 +28,7 @@ impl Side {
     }
 }
 
-/// The sockets of the server's connection with a client.
+/// Returns the sockets of the server's connection with a client.
 fn pair_at(client: &Client) -> SocketPair
     ensures { result ≡ pair_at (sockets_for client.now.setup) }
 {
@@ -39,10 +39,10 @@ fn pair_at(client: &Client) -> SocketPair
     }
 }
 
-/// A datagram of an epoch is delivered from or to a client.
+/// Records the delivery of a datagram of an epoch from or to a client.
 pub(crate) fn see(sides: &mut Vec<Side>, client: u8, number: u32, epoch: u32)
-    ensures stands { (w : PlainWorld) (e : PlainSent) (sent : List CodeSent) → LinkStands (link_of sides.old.items sent) w
-        → epoch ≡ e.epoch → LinkStands (link_of sides.new.items sent) (sees w client number e (numbered w.sides client)) }
+    ensures stands { (w : PlainWorld) (e : PlainSent) (sent : List CodeSent) → LinkRepresents (link_of sides.old.items sent) w
+        → epoch ≡ e.epoch → LinkRepresents (link_of sides.new.items sent) (sees w client number e (numbered w.sides client)) }
     ensures kept { (addr : Address) (sent : List CodeSent) → IsLink addr (link_of sides.old.items sent)
         → IsLink addr (link_of sides.new.items sent) }
 {
@@ -53,9 +53,9 @@ pub(crate) fn see(sides: &mut Vec<Side>, client: u8, number: u32, epoch: u32)
     sides[place - 1].see(number, epoch);
 }
 
-/// The sockets of the server's connection with the client of a number.
+/// Returns the sockets of the server's connection with the client of this number.
 pub(crate) fn pair_of(sides: &[Side], client: u8) -> Option<SocketPair>
-    ensures { (ss : List PlainSide) → Matched SideStands sides.now ss → result ≡ pair_at_side (numbered ss client) }
+    ensures { (ss : List PlainSide) → Matched SideRepresents sides.now ss → result ≡ pair_at_side (numbered ss client) }
 {
     let place = usize::from(client);
     if place == 0 || place > sides.len() {

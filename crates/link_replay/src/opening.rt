@@ -1,4 +1,4 @@
-//! The world before the first line.
+//! The initial world.
 
 ghost use Rattle.std.specs.List.{list_all};
 ghost use Rattle.std.specs.Prelude.{◌≡◌, ◌<◌, ◌≤◌, ℕ, Some, true, IfOk, length, slice_get};
@@ -6,7 +6,7 @@ ghost use Rattle.app_events.specs.Pages.{IsAddr};
 ghost use Rattle.link_schedule.specs.Kept.{client_in_range};
 ghost use Rattle.link_world.specs.History.{IsPlanned, Planned};
 ghost use Rattle.link_replay.specs.Opening.{AreFresh, IsFresh, opening_for, plan_from, planned};
-ghost use Rattle.link_replay.specs.Stands.{WorldStands};
+ghost use Rattle.link_replay.specs.Represents.{WorldRepresents};
 
 use crate::side::Side;
 use crate::types::{is_addr, is_bytes, is_short};
@@ -24,13 +24,13 @@ use uip_wire::{Addr, LARGEST_DATAGRAM, Port, Seq, WEB_PORT};
 /// The address of the node.
 const SERVER: Addr = Addr([10, 0, 0, 1]);
 
-/// The port that every client asks.
+/// The port of each client's request.
 const SERVER_PORT: Port = Port(WEB_PORT);
 
-/// Each client's first number is so many times its own.
+/// The ISS of each client is its number times this.
 const FIRST_NUMBERS: u32 = 1000;
 
-/// What the client with a number is given.
+/// Returns the setup of the client with this number.
 fn setup_for(number: u16, plan: &ClientPlan) -> Setup
     requires { number ≤ 64 }
     ensures setup { result ≡ (planned number plan.now).setup }
@@ -52,7 +52,7 @@ fn setup_for(number: u16, plan: &ClientPlan) -> Setup
     }
 }
 
-/// The client with a number, before its first act.
+/// Returns the client with this number, before its first act.
 fn side_for(alloc: Global, number: u16, plan: &ClientPlan) -> Result<Side, NoMemory>
     requires few { number ≤ 64 }
     requires range { client_in_range plan.now ≡ true }
@@ -73,7 +73,7 @@ fn side_for(alloc: Global, number: u16, plan: &ClientPlan) -> Result<Side, NoMem
     })
 }
 
-/// The clients of a schedule in order, numbered from 1.
+/// Returns the clients of a schedule in order, numbered from 1.
 fn sides_for(alloc: Global, clients: &[ClientPlan]) -> Result<Vec<Side>, NoMemory>
     requires few { length clients.now ≤ 64 }
     requires ranges { list_all client_in_range clients.now ≡ true }
@@ -90,7 +90,8 @@ fn sides_for(alloc: Global, clients: &[ClientPlan]) -> Result<Vec<Side>, NoMemor
 }
 
 impl<A: App> WorldOf<A> {
-    /// The opening world: the node at 10.0.0.1, every client idle, and no datagram sent. On NoMemory `shared` is dropped.
+    /// Returns the initial world: the node at 10.0.0.1, every client idle, and no datagram sent. On NoMemory `shared` is
+    /// dropped.
     pub(crate) fn opening(
         alloc: Global,
         clients: &[ClientPlan],
@@ -98,7 +99,7 @@ impl<A: App> WorldOf<A> {
     ) -> Result<WorldOf<A>, NoMemory>
         requires few { length clients.now ≤ 64 }
         requires ranges { list_all client_in_range clients.now ≡ true }
-        ensures stands { IfOk result (λ world. WorldStands A.App world (opening_for (A.numbers shared) clients.now)) }
+        ensures stands { IfOk result (λ world. WorldRepresents A.App world (opening_for (A.numbers shared) clients.now)) }
         ensures shared { IfOk result (λ world. world.node.shared ≡ shared) }
         ensures planned { IfOk result (λ world. (k : ℕ) (p : Planned) → slice_get (plan_from 1 clients.now) k ≡ Some p
             → IsPlanned p) }
@@ -124,10 +125,10 @@ impl World {
     ghost use Rattle.httpd.specs.contracts.httpd.HttpdApp.TheImpl.{ghosts};
     ghost use Rattle.web_pages.specs.Serving.{no_hits};
 
-    /// The opening world of a schedule's clients and the web server of a site: the node at 10.0.0.1, every client idle, and no
-    /// datagram sent. On NoMemory the site is dropped.
+    /// Returns the initial world of a schedule's clients and the web server of a site: the node at 10.0.0.1, every client idle,
+    /// and no datagram sent. On NoMemory the site is dropped.
     pub fn new(alloc: Global, schedule: &Schedule, site: Site) -> Result<World, NoMemory>
-        ensures stands { IfOk result (λ world. WorldStands ghosts world
+        ensures stands { IfOk result (λ world. WorldRepresents ghosts world
             (opening_for (no_hits (files_of site)) schedule.now.clients)) }
         ensures site { IfOk result (λ world. world.node.shared.site ≡ site) }
     {

@@ -1,18 +1,18 @@
-//! What a client does, and what it hears.
+//! What a client does, and what it receives.
 
 ghost use Rattle.std.specs.Prelude.{◌≡◌, ◌≤◌, IfOk, length, Some};
 ghost use Rattle.link_client.specs.Calls.{FitsRequest, client_hears, client_hands};
-ghost use Rattle.link_client.specs.Client.{tells_window};
+ghost use Rattle.link_client.specs.Client.{advertises_window};
 ghost use Rattle.link_world.specs.World.{Side as PlainSide, with_client};
 ghost use Rattle.link_replay.specs.Owning.{Stepped, own_step};
-ghost use Rattle.link_replay.specs.Stands.{SideStands};
+ghost use Rattle.link_replay.specs.Represents.{SideRepresents};
 
 use crate::faults::is_idle_client;
 use crate::side::Side;
 use uip_edge::NoMemory;
 use uip_wire::LARGEST_DATAGRAM;
 
-/// What a client does by itself.
+/// An act of a client by itself.
 #[derive(Clone, Copy)]
 pub(crate) enum Own {
     Opens,
@@ -22,14 +22,14 @@ pub(crate) enum Own {
 }
 
 impl Side {
-    /// Something that the client does by itself. What it sends stands at the front of the area.
+    /// Does an act of the client. What it sends is at the start of the area.
     pub(crate) fn act(&mut self, own: Own, area: &mut [u8]) -> Option<usize>
         requires fits { FitsRequest self.old.client self.old.request }
         requires room { LARGEST_DATAGRAM ≤ length area.old }
         ensures fits { FitsRequest self.new.client self.new.request }
         ensures setup { self.new.client.setup ≡ self.old.client.setup }
         ensures room { length area.new ≡ length area.old }
-        ensures step { (s : PlainSide) → SideStands self.old s → Stepped (own_step own s.client) s self.new result area.new }
+        ensures step { (s : PlainSide) → SideRepresents self.old s → Stepped (own_step own s.client) s self.new result area.new }
     {
         match own {
             Own::Opens => {
@@ -45,16 +45,16 @@ impl Side {
         }
     }
 
-    /// The client tells a window from now on.
-    pub(crate) fn tell_window(&mut self, window: u16)
+    /// Advertises a window from now on.
+    pub(crate) fn advertise_window(&mut self, window: u16)
         ensures fits { FitsRequest self.old.client self.old.request → FitsRequest self.new.client self.new.request }
         ensures setup { self.new.client.setup ≡ self.old.client.setup }
-        ensures step { (s : PlainSide) → SideStands self.old s → SideStands self.new (with_client s (tells_window window s.client).client) }
+        ensures step { (s : PlainSide) → SideRepresents self.old s → SideRepresents self.new (with_client s (advertises_window window s.client).client) }
     {
         self.client.set_window(window);
     }
 
-    /// The client is handed bytes: it takes them where they are a segment of its server.
+    /// Passes bytes to the client, which accepts them if they are a segment of its server.
     pub(crate) fn hear(
         &mut self,
         datagram: &[u8],
@@ -66,7 +66,7 @@ impl Side {
         ensures fits { FitsRequest self.new.client self.new.request }
         ensures setup { self.new.client.setup ≡ self.old.client.setup }
         ensures room { length area.new ≡ length area.old }
-        ensures step { IfOk result (λ sent. (s : PlainSide) → SideStands self.old s
+        ensures step { IfOk result (λ sent. (s : PlainSide) → SideRepresents self.old s
             → Stepped (client_hands s.client (client_hears s.client.setup datagram.now)) s self.new sent area.new) }
     {
         let took = self.client.take(self.request.as_slice(), datagram, area);

@@ -1,12 +1,12 @@
-//! A schedule, line by line.
+//! Plays a schedule, line by line.
 
 ghost use Rattle.std.specs.List.{All, list_all};
 ghost use Rattle.std.specs.Prelude.{◌≡◌, ℕ, true, IfOk, Some, map, slice_get};
-ghost use Rattle.app_events.specs.Pages.{IsPaged, IsWord, Pages};
+ghost use Rattle.app_events.specs.Pages.{IsPaged, IsU32, Pages};
 ghost use Rattle.file_tree.specs.Site.{files_of};
 ghost use Rattle.httpd.specs.contracts.httpd.HttpdApp.TheImpl.{ghosts};
 ghost use Rattle.web_pages.specs.Serving.{is_served, no_hits};
-ghost use Rattle.web_pages.specs.WebMeaning.{web_meaning};
+ghost use Rattle.web_pages.specs.WebMeaning.{web_spec};
 ghost use Rattle.link_schedule.specs.Kept.{event_in_range};
 ghost use Rattle.link_world.specs.Headline.{IsAct, OfLine};
 ghost use Rattle.link_world.specs.History.{IsPlanned, Planned};
@@ -14,8 +14,10 @@ ghost use Rattle.link_replay.specs.Moving.{FromHere};
 ghost use Rattle.link_replay.specs.Opening.{plan_from};
 ghost use Rattle.uip_node.specs.Laws.{HasBytes};
 ghost use Rattle.link_world.specs.Schedule.{plays as played};
+ghost use Rattle.link_replay.specs.Due.{HasReached, ServesHonest};
+ghost use Rattle.link_replay.specs.Promises.{KeepsPromises};
 ghost use Rattle.link_replay.specs.Playing.{LinesEnd, PlaysSchedule, event_at, refusal_at};
-ghost use Rattle.link_replay.specs.Stands.{WorldStands};
+ghost use Rattle.link_replay.specs.Represents.{WorldRepresents};
 
 use crate::seeing::see_loaded;
 use crate::types::{is_addr, is_short};
@@ -27,7 +29,8 @@ use link_schedule::{Event, Line, ReadSchedule, Schedule, Why};
 use link_world::StepFault;
 use std::alloc::Global;
 
-/// The numbers of an event fit their types, and a mask that is in its range changes a byte.
+/// States that the numbers of an event fit their types, and that a mask in its range changes a byte.
+/// [add: schedule-line] Its arm.
 fn event_fits(event: &Event)
     ensures { (clients : ℕ) → event_in_range clients event.now ≡ true → OfLine IsAct event.now }
 {
@@ -49,7 +52,7 @@ fn event_fits(event: &Event)
     }
 }
 
-/// A line's refusal, with its number.
+/// Returns a line's refusal, with its number.
 fn refused(line: u32, fault: StepFault) -> ReadSchedule
     ensures { result ≡ refusal_at line fault }
 {
@@ -64,10 +67,10 @@ fn refused(line: u32, fault: StepFault) -> ReadSchedule
     ReadSchedule::Bad { line, why }
 }
 
-/// The lines in turn, up to the first that is refused.
+/// Does the lines in turn, up to the first that is refused.
 fn play_lines<A: App>(world: &mut WorldOf<A>, lines: &[Line]) -> Result<(), ReadSchedule>
     requires ranges { (clients : ℕ) × (list_all (λ line. event_in_range clients line.event) lines.now ≡ true) }
-    ensures played { FromHere A.App world.old (λ m served w. LinesEnd m served (λ done. WorldStands A.App world.new) lines.now result
+    ensures played { FromHere A.App world.old (λ m served w. LinesEnd m served (λ done. WorldRepresents A.App world.new) lines.now result
         (played m served (map event_at lines.now) w)) }
 {
     for line in lines.iter() {
@@ -79,8 +82,8 @@ fn play_lines<A: App>(world: &mut WorldOf<A>, lines: &[Line]) -> Result<(), Read
     Ok(())
 }
 
-/// The world that a schedule's lines reach, or the first line that is refused, with the reason. After a refusal and after NoMemory
-/// `shared` is dropped.
+/// Returns the world that a schedule's lines reach, or the first line that is refused, with the reason. After a refusal and
+/// after NoMemory `shared` is dropped.
 pub(crate) fn play_by<A: App>(
     alloc: Global,
     schedule: &Schedule,
@@ -88,8 +91,8 @@ pub(crate) fn play_by<A: App>(
 ) -> Result<WorldOf<A>, ReadSchedule>
     ensures planned { IfOk result (λ world. (k : ℕ) (p : Planned)
         → slice_get (plan_from 1 schedule.now.clients) k ≡ Some p → IsPlanned p) }
-    ensures plays { (pages : Pages) → IsPaged (A.meaning (A.kept shared)) pages → HasBytes pages → All IsWord (A.numbers shared)
-        → PlaysSchedule (A.meaning (A.kept shared)) A.served (A.numbers shared) schedule.now (WorldStands A.App) result }
+    ensures plays { (pages : Pages) → IsPaged (A.app_spec (A.config shared)) pages → HasBytes pages → All IsU32 (A.numbers shared)
+        → PlaysSchedule (A.app_spec (A.config shared)) A.served (A.numbers shared) schedule.now (WorldRepresents A.App) result }
 {
     let Ok(mut world) = WorldOf::opening(alloc, schedule.clients.as_slice(), shared) else {
         return Err(ReadSchedule::NoMemory);
@@ -98,13 +101,17 @@ pub(crate) fn play_by<A: App>(
     Ok(world)
 }
 
-/// The world that a schedule's lines reach with the web server of a site, or the first line that is refused, with the reason. After a
-/// refusal and after NoMemory the site is dropped.
+/// Returns the world of the web server of a site that a schedule's lines reach, or the first line that is refused, with the
+/// reason. After a refusal and after NoMemory the site is dropped.
 pub fn play(alloc: Global, schedule: &Schedule, site: Site) -> Result<World, ReadSchedule>
     ensures planned { IfOk result (λ world. (k : ℕ) (p : Planned)
         → slice_get (plan_from 1 schedule.now.clients) k ≡ Some p → IsPlanned p) }
-    ensures plays { PlaysSchedule (web_meaning (files_of site)) is_served (no_hits (files_of site)) schedule.now
-        (WorldStands ghosts) result }
+    ensures plays { PlaysSchedule (web_spec (files_of site)) is_served (no_hits (files_of site)) schedule.now
+        (WorldRepresents ghosts) result }
+    ensures promises { IfOk result (λ world. HasReached (files_of site) schedule.now (WorldRepresents ghosts world)
+        (KeepsPromises (files_of site))) }
+    ensures honest { IfOk result (λ world. HasReached (files_of site) schedule.now (WorldRepresents ghosts world)
+        (ServesHonest (files_of site) schedule.now)) }
 {
     see_loaded(&site);
     let Ok(web) = Web::new(alloc, site) else {

@@ -1,4 +1,4 @@
-//! A datagram is posted.
+//! Appends a datagram to the list.
 
 ghost use Rattle.std.specs.Prelude.{◌≡◌, ◌≤◌, OnOk, List, length};
 ghost use Rattle.std.specs.Option.{option_map_or};
@@ -7,7 +7,7 @@ ghost use Rattle.uip_node.specs.Counters.{ticks_of};
 ghost use Rattle.link_world.specs.Bytes.{bytes_by};
 ghost use Rattle.link_world.specs.World.{Content, Side as PlainSide, World as PlainWorld, epoch, epoch_of, numbered, posts};
 ghost use Rattle.link_replay.specs.Matched.{Matched};
-ghost use Rattle.link_replay.specs.Stands.{IsLink, LinkStands, SideStands};
+ghost use Rattle.link_replay.specs.Represents.{IsLink, LinkRepresents, SideRepresents};
 ghost use Rattle.link_replay.specs.State.{link_of};
 
 use crate::faults::MOST_DATAGRAMS;
@@ -17,9 +17,9 @@ use link_world::Who;
 use uip_edge::NoMemory;
 use uip_wire::LARGEST_DATAGRAM;
 
-/// The epoch of the client that a datagram concerns, by its sender; 0 where it concerns none.
+/// Returns the epoch of the client that a datagram concerns, by its sender; 0 if it concerns none.
 fn epoch_of(sides: &[Side], who: Who) -> u32
-    ensures { (ss : List PlainSide) → Matched SideStands sides.now ss → result ≡ epoch_of who ss }
+    ensures { (ss : List PlainSide) → Matched SideRepresents sides.now ss → result ≡ epoch_of who ss }
 {
     match who {
         Who::Pinger => 0,
@@ -27,9 +27,9 @@ fn epoch_of(sides: &[Side], who: Who) -> u32
     }
 }
 
-/// The epoch of the client with a number, counted from 1; 0 where there is none.
+/// Returns the epoch of the client with this number, counted from 1; 0 if there is none.
 fn epoch_at(sides: &[Side], number: u8) -> u32
-    ensures { (ss : List PlainSide) → Matched SideStands sides.now ss → result ≡ option_map_or epoch (numbered ss number) 0 }
+    ensures { (ss : List PlainSide) → Matched SideRepresents sides.now ss → result ≡ option_map_or epoch (numbered ss number) 0 }
 {
     let place = usize::from(number);
     if place == 0 || place > sides.len() {
@@ -39,7 +39,7 @@ fn epoch_at(sides: &[Side], number: u8) -> u32
     side.epoch
 }
 
-/// One more datagram. NoMemory also where no number is left for it.
+/// Appends a datagram. Fails with NoMemory also if no number is left for it.
 pub(crate) fn post(
     sides: &[Side],
     sent: &mut Vec<Sent>,
@@ -50,9 +50,9 @@ pub(crate) fn post(
 ) -> Result<(), NoMemory>
     requires most { length bytes.items ≤ LARGEST_DATAGRAM }
     ensures kept { (addr : Address) → IsLink addr (link_of sides.now sent.old.items) → IsLink addr (link_of sides.now sent.new.items) }
-    ensures posted { OnOk result ((w : PlainWorld) (content : Content) → LinkStands (link_of sides.now sent.old.items) w
-        → tick ≡ ticks_of w.node.past → bytes.items ≡ bytes_by w who content
-        → LinkStands (link_of sides.now sent.new.items) (posts w who again content)) }
+    ensures posted { OnOk result ((w : PlainWorld) (content : Content) → LinkRepresents (link_of sides.now sent.old.items) w
+        → tick ≡ ticks_of w.node.history → bytes.items ≡ bytes_by w who content
+        → LinkRepresents (link_of sides.now sent.new.items) (posts w who again content)) }
 {
     if sent.len() >= MOST_DATAGRAMS {
         return Err(NoMemory);

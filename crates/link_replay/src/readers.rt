@@ -1,10 +1,10 @@
-//! What a world tells of its clients and datagrams.
+//! Reads the clients and datagrams of a world.
 
 ghost use Rattle.std.specs.Prelude.{◌≡◌, ◌≤◌, Some, is_none, length, option_map};
 ghost use Rattle.link_client.specs.Calls.{standing};
 ghost use Rattle.link_world.specs.World.{Side as PlainSide, World as PlainWorld, is_clean, numbered};
 ghost use Rattle.uip_node.specs.Counters.{ticks_of};
-ghost use Rattle.link_replay.specs.Stands.{SideStands, WorldStands};
+ghost use Rattle.link_replay.specs.Represents.{SideRepresents, WorldRepresents};
 
 use crate::sent::Sent;
 use crate::side::Side;
@@ -13,75 +13,75 @@ use app_events::App;
 use link_client::Client;
 
 impl<A: App> WorldOf<A> {
-    /// The client with a number, counted from 1, and what is kept of it.
+    /// Returns the client with this number, counted from 1, and its record.
     pub fn side(&self, number: u8) -> &Side
         requires least { 1 ≤ number }
         requires most { number ≤ length self.now.link.sides }
         ensures shows { numbered self.now.link.sides number ≡ Some result.now }
-        ensures stands { (w : PlainWorld) (s : PlainSide) → WorldStands A.App self.now w → numbered w.sides number ≡ Some s
-            → SideStands result.now s }
+        ensures stands { (w : PlainWorld) (s : PlainSide) → WorldRepresents A.App self.now w → numbered w.sides number ≡ Some s
+            → SideRepresents result.now s }
     {
         &self.sides[usize::from(number) - 1]
     }
 
-    /// The client with a number, counted from 1.
+    /// Returns the client with this number, counted from 1.
     pub fn client(&self, number: u8) -> &Client
         requires least { 1 ≤ number }
         requires most { number ≤ length self.now.link.sides }
         ensures shows { option_map (λ side. side.client) (numbered self.now.link.sides number) ≡ Some result.now }
-        ensures stands { (w : PlainWorld) (s : PlainSide) → WorldStands A.App self.now w → numbered w.sides number ≡ Some s
+        ensures stands { (w : PlainWorld) (s : PlainSide) → WorldRepresents A.App self.now w → numbered w.sides number ≡ Some s
             → standing result.now s.client.request s.client.received ≡ s.client }
     {
         let found = self.side(number);
         &found.client
     }
 
-    /// The bytes of its page that the client with a number took.
+    /// Returns the bytes of its page that the client with this number accepted.
     pub fn received(&self, number: u8) -> &[u8]
         requires least { 1 ≤ number }
         requires most { number ≤ length self.now.link.sides }
         ensures shows { option_map (λ side. side.received) (numbered self.now.link.sides number) ≡ Some result.now }
-        ensures stands { (w : PlainWorld) (s : PlainSide) → WorldStands A.App self.now w → numbered w.sides number ≡ Some s
+        ensures stands { (w : PlainWorld) (s : PlainSide) → WorldRepresents A.App self.now w → numbered w.sides number ≡ Some s
             → result.now ≡ s.client.received }
     {
         let found = self.side(number);
         found.received.as_slice()
     }
 
-    /// Whether no stale datagram was delivered from or to the client with a number.
+    /// Returns whether no stale datagram was delivered from or to the client with this number.
     pub fn clean(&self, number: u8) -> bool
         requires least { 1 ≤ number }
         requires most { number ≤ length self.now.link.sides }
         ensures shows { option_map (λ side. is_none side.first_stale) (numbered self.now.link.sides number) ≡ Some result }
-        ensures stands { (w : PlainWorld) (s : PlainSide) → WorldStands A.App self.now w → numbered w.sides number ≡ Some s → result ≡ is_clean s }
+        ensures stands { (w : PlainWorld) (s : PlainSide) → WorldRepresents A.App self.now w → numbered w.sides number ≡ Some s → result ≡ is_clean s }
     {
         let found = self.side(number);
         found.first_stale.is_none()
     }
 
-    /// The number of the first stale datagram that was delivered from or to the client with a number.
+    /// Returns the number of the first stale datagram that was delivered from or to the client with this number.
     pub fn first_stale(&self, number: u8) -> Option<u32>
         requires least { 1 ≤ number }
         requires most { number ≤ length self.now.link.sides }
         ensures shows { option_map (λ side. side.first_stale) (numbered self.now.link.sides number) ≡ Some result }
-        ensures stands { (w : PlainWorld) (s : PlainSide) → WorldStands A.App self.now w → numbered w.sides number ≡ Some s
+        ensures stands { (w : PlainWorld) (s : PlainSide) → WorldRepresents A.App self.now w → numbered w.sides number ≡ Some s
             → result ≡ s.first_stale }
     {
         let found = self.side(number);
         found.first_stale
     }
 
-    /// Every datagram that was sent, numbered from 1.
+    /// Returns every datagram that was sent, numbered from 1.
     pub fn sent(&self) -> &[Sent]
         ensures { result.now ≡ self.now.link.sent }
     {
         self.sent.as_slice()
     }
 
-    /// The ticks so far, modulo 2^32.
+    /// Returns the ticks so far, modulo 2^32.
     pub fn ticks(&self) -> u32
         ensures shows { result ≡ self.now.node.counts.ticks }
-        ensures stands { (w : PlainWorld) → WorldStands A.App self.now w → result ≡ ticks_of w.node.past }
+        ensures stands { (w : PlainWorld) → WorldRepresents A.App self.now w → result ≡ ticks_of w.node.history }
     {
         self.node.ticks()
     }

@@ -6,14 +6,14 @@ use link_schedule::Why;
 pub enum ReplayEnd {
     /// The schedule was played to its end, and the whole report was written.
     Done,
-    /// The shelf failed, or does not hold a file that is asked for. Nothing was written.
+    /// The shelf failed, or does not hold a file that is needed. Nothing was written.
     ShelfFault,
-    /// The sink failed. A front of the text was written.
+    /// The sink failed. A prefix of the text was written.
     WriteFault,
-    /// The image has this first fault; a line that tells it was written.
+    /// The image has this first fault; a line that reports it was written.
     BadSite(SiteError),
-    /// This line of the schedule is the first bad one, for this reason; a line that tells it was written.
+    /// This line of the schedule is the first bad one, for this reason; a line that reports it was written.
     BadSchedule { line: u32, why: Why },
-    /// There was not enough memory. Nothing was written.
+    /// Memory ran out. Nothing was written.
     NoMemory,
 }

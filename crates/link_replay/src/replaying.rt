@@ -1,10 +1,12 @@
+//! `replay`: a schedule, played by the web server of a site.
+
 ghost use Rattle.std.specs.Prelude.{◌≡◌, ℕ, Bool, List, Err, Ok};
 ghost use Rattle.file_tree.specs.Site.{files_of};
 ghost use Rattle.file_tree.specs.Opening.{FindsInFiles, site_read};
 ghost use Rattle.site_report.specs.Report.{bad_line as line_of};
 ghost use Rattle.link_replay.specs.Ending.{ReplayEnds};
 ghost use Rattle.link_replay.specs.Due.{WritesText};
-ghost use Rattle.uip_edge.specs.Telling.{work_told, sink_told};
+ghost use Rattle.uip_edge.specs.ViewsOf.{work_view, sink_view};
 ghost use Rattle.link_replay.specs.declared.replay_end.ReplayEnd.TheVariants as ends;
 
 use crate::command_lines::write_text;
@@ -15,11 +17,11 @@ use site_report::bad_line;
 use std::alloc::Global;
 use uip_edge::{Shelf, Sink};
 
-/// The most bytes of a schedule's text. One byte more is read, which shows that it is too long.
+/// The greatest length of a schedule's text, in bytes. One byte more is read, to detect a text that is too long.
 const MOST_BYTES: usize = 4194304;
 
-/// Plays the schedule that the shelf holds under a name, by the web server of the site whose image it holds under another, and writes
-/// the report; `-` is the site without files. Where the image or the schedule is bad, one line tells it.
+/// Plays the schedule that the shelf holds under a name by the web server of the site whose image it holds under another, and
+/// writes the report; `-` is the site without files. If the image or the schedule is bad, one line reports it.
 pub fn replay<H: Shelf, K: Sink>(
     alloc: Global,
     site: &[u8],
@@ -28,8 +30,8 @@ pub fn replay<H: Shelf, K: Sink>(
     shelf: &mut H,
     out: &mut K,
 ) -> ReplayEnd
-    ensures ends { ReplayEnds site.now schedule.now show (work_told H.Shelf K.Sink shelf.old out.old)
-        (work_told H.Shelf K.Sink shelf.new out.new) result }
+    ensures ends { ReplayEnds site.now schedule.now show (work_view H.Shelf K.Sink shelf.old out.old)
+        (work_view H.Shelf K.Sink shelf.new out.new) result }
     ensures kept { H.held shelf.new ≡ H.held shelf.old }
 {
     match Site::open(alloc, shelf, site) {
@@ -50,8 +52,8 @@ fn replay_site<H: Shelf, K: Sink>(
     out: &mut K,
 ) -> ReplayEnd
     ensures ends { (name : List ℕ) → FindsInFiles (site_read name) (H.held shelf.old) (Ok (files_of site))
-        → ReplayEnds name schedule.now show (work_told H.Shelf K.Sink shelf.old out.old)
-        (work_told H.Shelf K.Sink shelf.new out.new) result }
+        → ReplayEnds name schedule.now show (work_view H.Shelf K.Sink shelf.old out.old)
+        (work_view H.Shelf K.Sink shelf.new out.new) result }
     ensures kept { H.held shelf.new ≡ H.held shelf.old }
 {
     match read_file(alloc, shelf, schedule, MOST_BYTES) {
@@ -62,7 +64,7 @@ fn replay_site<H: Shelf, K: Sink>(
     }
 }
 
-/// Writes the line of a bad image. The schedule is asked for too: one that the shelf lacks is a fault of the shelf.
+/// Writes the line of a bad image. The schedule is read too: one that the shelf lacks is a fault of the shelf.
 fn refuse_site<H: Shelf, K: Sink>(
     alloc: Global,
     error: SiteError,
@@ -71,8 +73,8 @@ fn refuse_site<H: Shelf, K: Sink>(
     out: &mut K,
 ) -> ReplayEnd
     ensures ends { (name : List ℕ) (show : Bool) → FindsInFiles (site_read name) (H.held shelf.old) (Err error)
-        → ReplayEnds name schedule.now show (work_told H.Shelf K.Sink shelf.old out.old)
-        (work_told H.Shelf K.Sink shelf.new out.new) result }
+        → ReplayEnds name schedule.now show (work_view H.Shelf K.Sink shelf.old out.old)
+        (work_view H.Shelf K.Sink shelf.new out.new) result }
     ensures kept { H.held shelf.new ≡ H.held shelf.old }
 {
     match read_file(alloc, shelf, schedule, MOST_BYTES) {
@@ -85,7 +87,7 @@ fn refuse_site<H: Shelf, K: Sink>(
 
 /// Writes the line of a bad image.
 pub(crate) fn tell_site<K: Sink>(alloc: Global, error: SiteError, out: &mut K) -> ReplayEnd
-    ensures { WritesText (line_of error) (ends.BadSite error) (sink_told K.Sink out.old) (sink_told K.Sink out.new) result }
+    ensures { WritesText (line_of error) (ends.BadSite error) (sink_view K.Sink out.old) (sink_view K.Sink out.new) result }
 {
     match bad_line(alloc, error) {
         Ok(text) => write_text(&text, ReplayEnd::BadSite(error), out),

@@ -1,14 +1,14 @@
-//! The report of a replay: what became of each client, and where it is asked for, each datagram that was sent. It is written to a
-//! sink line by line, and no call is given an allocator.
+//! The report of a replay: each client, and if all is shown each datagram that was sent. It is written to a sink line by line,
+//! and no call is passed an allocator.
 
 ghost use Rattle.std.specs.Prelude.{ℕ, Bool, OnErr, OnOk, length, map};
 ghost use Rattle.std.specs.Io.KnownBytes.{Appends};
-ghost use Rattle.app_events.specs.Part.{Meaning};
+ghost use Rattle.app_events.specs.AppSpec.{AppSpec};
 ghost use Rattle.uip_edge.specs.Causes.{HasCause};
 ghost use Rattle.uip_edge.specs.Writing.{AppendsPrefix};
 ghost use Rattle.link_world.specs.World.{World as PlainWorld};
 ghost use Rattle.link_replay.specs.Reaching.{IsAt};
-ghost use Rattle.link_replay.specs.Stands.{WorldStands};
+ghost use Rattle.link_replay.specs.Represents.{WorldRepresents};
 ghost use Rattle.link_replay.specs.Report.{end_of_report, report as report_of};
 ghost use Rattle.link_replay.specs.Shown.{EndsReport, code_side_shown};
 ghost use Rattle.link_replay.specs.Writing.{Wrote};
@@ -22,12 +22,12 @@ use app_events::App;
 use uip_edge::{Failed, Sink};
 
 impl<A: App> WorldOf<A> {
-    /// Writes the report of a world, and where all is shown a line for each datagram and the bytes that each client received. No
-    /// call in it is given an allocator. A failed call has written a front of the report.
+    /// Writes the report of a world, and if all is shown a line for each datagram and the bytes that each client received.
+    /// After a failed call a prefix of the report is written.
     pub fn report<K: Sink>(&self, show: bool, sink: &mut K) -> Result<(), Failed>
-        ensures ok { OnOk result ((m : Meaning) (served : ℕ → Bool) (w : PlainWorld) → WorldStands A.App self.now w → IsAt m served w
+        ensures ok { OnOk result ((m : AppSpec) (served : ℕ → Bool) (w : PlainWorld) → WorldRepresents A.App self.now w → IsAt m served w
             → Appends (K.written sink.old) (K.written sink.new) (report_of show w)) }
-        ensures err { OnErr result ((m : Meaning) (served : ℕ → Bool) (w : PlainWorld) → WorldStands A.App self.now w → IsAt m served w
+        ensures err { OnErr result ((m : AppSpec) (served : ℕ → Bool) (w : PlainWorld) → WorldRepresents A.App self.now w → IsAt m served w
             → AppendsPrefix (K.written sink.old) (K.written sink.new) (report_of show w)) }
         ensures shows { OnOk result (EndsReport show (K.written sink.old) (K.written sink.new)
             (end_of_report show (map code_side_shown self.now.link.sides) self.now.node.counts.ticks (length self.now.link.sent))) }
@@ -39,7 +39,7 @@ impl<A: App> WorldOf<A> {
 
 /// Writes the report of a world.
 fn write_report<A: App, K: Sink>(world: &WorldOf<A>, show: bool, sink: &mut K) -> Result<(), Failed>
-    ensures wrote { (m : Meaning) (served : ℕ → Bool) (w : PlainWorld) → WorldStands A.App world.now w → IsAt m served w
+    ensures wrote { (m : AppSpec) (served : ℕ → Bool) (w : PlainWorld) → WorldRepresents A.App world.now w → IsAt m served w
         → Wrote (K.written sink.old) (K.written sink.new) result (report_of show w) }
     ensures shows { OnOk result (EndsReport show (K.written sink.old) (K.written sink.new)
         (end_of_report show (map code_side_shown world.now.link.sides) world.now.node.counts.ticks (length world.now.link.sent))) }

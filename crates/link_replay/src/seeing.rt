@@ -1,4 +1,4 @@
-//! What the type of a site says of it.
+//! What the type of a site states.
 
 ghost use Rattle.std.specs.List.{All};
 ghost use Rattle.app_events.specs.Pages.{IsByte};
@@ -6,7 +6,7 @@ ghost use Rattle.file_tree.specs.Site.{IsLoaded};
 
 use file_tree::Site;
 
-/// What is kept by every site.
+/// States what holds for every site.
 pub(crate) fn see_loaded(site: &Site)
     ensures loaded { IsLoaded site.now }
     ensures bytes { All IsByte site.now.image }
@@ -14,7 +14,7 @@ pub(crate) fn see_loaded(site: &Site)
     see_bytes(&site.image);
 }
 
-/// A text is bytes.
+/// States that a text is bytes.
 fn see_bytes(text: &[u8])
     ensures { All IsByte text.now }
 {}

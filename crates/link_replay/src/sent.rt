@@ -4,13 +4,13 @@ use std::marker::Model;
 /// A datagram that was sent.
 #[derive(Debug, Drop)]
 pub struct Sent {
-    /// Its sender, or for one of the node the client that it goes to.
+    /// Its sender; for a datagram of the node, the client that it goes to.
     pub who: Who,
     /// The node's ticks when it was sent.
     pub tick: u32,
-    /// The client's epoch at the end of the step that sent it; 0 where no client is meant.
+    /// The client's epoch at the end of the step that sent it; 0 if it concerns no client.
     pub epoch: u32,
-    /// The node sent again what was outstanding.
+    /// The node retransmitted what was outstanding.
     pub again: bool,
     pub bytes: Vec<u8>,
 }

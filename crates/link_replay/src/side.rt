@@ -1,12 +1,12 @@
 use link_client::Client;
 use std::marker::Model;
 
-/// A client of a replay, and what is kept of it.
+/// A client of a replay, and its record.
 #[derive(Debug, Drop)]
 pub struct Side {
     pub client: Client,
     pub request: Vec<u8>,
-    /// The bytes of its page that it took.
+    /// The bytes of its page that it accepted.
     pub received: Vec<u8>,
     /// How often the server's connection with it has become CLOSED.
     pub epoch: u32,

@@ -3,18 +3,18 @@
 ghost use Rattle.std.specs.List.{Any};
 ghost use Rattle.std.specs.Prelude.{◌≡◌, ◌+◌, ◌≤◌, List, length, Some, OnErr, OnOk};
 ghost use Rattle.tcp_machine.specs.Connection.{Connection, same_sockets};
-ghost use Rattle.link_world.specs.World.{Side as PlainSide, addressed, buries};
+ghost use Rattle.link_world.specs.World.{Side as PlainSide, addressed, retires};
 ghost use Rattle.link_replay.specs.Epochs.{IsAtLast, OnlyEpoch, buried, sockets_for};
 ghost use Rattle.link_replay.specs.Matched.{Matched};
 ghost use Rattle.link_replay.specs.Noting.{pair_at, sockets_at};
-ghost use Rattle.link_replay.specs.Stands.{SideStands};
+ghost use Rattle.link_replay.specs.Represents.{SideRepresents};
 
 use crate::side::Side;
 use crate::socket_pair::SocketPair;
 use link_client::Client;
 use uip_edge::NoMemory;
 
-/// Whether a client has these sockets at the server.
+/// Returns whether a client has these sockets at the server.
 fn has_sockets(client: &Client, pair: SocketPair) -> bool
     ensures { result ≡ same_sockets (sockets_at pair) (sockets_for client.now.setup) }
 {
@@ -22,7 +22,7 @@ fn has_sockets(client: &Client, pair: SocketPair) -> bool
     pair.peer == setup.addr && pair.peer_port == setup.port && pair.own_port == setup.server_port
 }
 
-/// A client whose connection was lost is one epoch on.
+/// Raises the epoch of a client whose connection was lost.
 fn bury_one(side: &mut Side, gone: SocketPair) -> Result<(), NoMemory>
     ensures kept { OnlyEpoch side.old side.new }
     ensures buried { OnOk result (side.new ≡ buried gone side.old) }
@@ -34,11 +34,11 @@ fn bury_one(side: &mut Side, gone: SocketPair) -> Result<(), NoMemory>
     Ok(())
 }
 
-/// Each client whose connection was lost is one epoch on. NoMemory where a client's count of epochs has no higher number.
+/// Raises the epoch of each client whose connection was lost. Fails with NoMemory if a client's epoch has no higher number.
 pub(crate) fn bury(sides: &mut [Side], gone: SocketPair) -> Result<(), NoMemory>
     ensures kept { Matched OnlyEpoch sides.old sides.new }
-    ensures stands { OnOk result ((ss : List PlainSide) (g : Connection) → pair_at g.sockets ≡ gone → Matched SideStands sides.old ss
-        → Matched SideStands sides.new (buries (Some g) ss)) }
+    ensures stands { OnOk result ((ss : List PlainSide) (g : Connection) → pair_at g.sockets ≡ gone → Matched SideRepresents sides.old ss
+        → Matched SideRepresents sides.new (retires (Some g) ss)) }
     ensures last { OnErr result (Any (IsAtLast gone) sides.old) }
 {
     for side in sides.iter_mut() {
@@ -47,10 +47,10 @@ pub(crate) fn bury(sides: &mut [Side], gone: SocketPair) -> Result<(), NoMemory>
     Ok(())
 }
 
-/// The number of the client with these sockets, where the first of them has this number; 0 where there is none.
+/// Returns the number of the client with these sockets, if the first of them has this number; 0 if there is none.
 fn addressed_from(number: u8, sides: &[Side], pair: SocketPair) -> u8
     requires { number + length sides.now ≤ 255 }
-    ensures { (ss : List PlainSide) → Matched SideStands sides.now ss → result ≡ addressed number (sockets_at pair) ss }
+    ensures { (ss : List PlainSide) → Matched SideRepresents sides.now ss → result ≡ addressed number (sockets_at pair) ss }
 {
     match sides {
         [] => 0,
@@ -64,10 +64,10 @@ fn addressed_from(number: u8, sides: &[Side], pair: SocketPair) -> u8
     }
 }
 
-/// The number of the client with these sockets at the server; 0 where there is none.
+/// Returns the number of the client with these sockets at the server; 0 if there is none.
 pub(crate) fn addressed(sides: &[Side], pair: SocketPair) -> u8
     requires { length sides.now ≤ 64 }
-    ensures { (ss : List PlainSide) → Matched SideStands sides.now ss → result ≡ addressed 1 (sockets_at pair) ss }
+    ensures { (ss : List PlainSide) → Matched SideRepresents sides.now ss → result ≡ addressed 1 (sockets_at pair) ss }
 {
     addressed_from(1, sides, pair)
 }

@@ -1,11 +1,11 @@
-//! What a replay came to, in one line.
+//! The summary of a replay, in one line.
 
 ghost use Rattle.std.specs.Prelude.{◌≡◌, OnErr, OnOk, map};
 ghost use Rattle.std.specs.Io.KnownBytes.{Appends};
 ghost use Rattle.uip_edge.specs.Causes.{HasCause};
 ghost use Rattle.uip_edge.specs.Writing.{AppendsPrefix};
 ghost use Rattle.link_world.specs.World.{World as PlainWorld};
-ghost use Rattle.link_replay.specs.Stands.{WorldStands};
+ghost use Rattle.link_replay.specs.Represents.{WorldRepresents};
 ghost use Rattle.link_replay.specs.Shown.{code_side_shown};
 ghost use Rattle.link_replay.specs.Summary.{summary_of, tally_line, tally_of};
 ghost use Rattle.link_replay.specs.Writing.{Wrote};
@@ -17,11 +17,12 @@ use app_events::App;
 use uip_edge::{Failed, Sink};
 
 impl<A: App> WorldOf<A> {
-    /// Writes in one line what a replay came to. No call in it is given an allocator. A failed call has written a front of the line.
+    /// Writes the summary of a replay in one line. It is passed no allocator. After a failed call a prefix of the line is
+    /// written.
     pub fn summary<K: Sink>(&self, sink: &mut K) -> Result<(), Failed>
-        ensures ok { OnOk result ((w : PlainWorld) → WorldStands A.App self.now w
+        ensures ok { OnOk result ((w : PlainWorld) → WorldRepresents A.App self.now w
             → Appends (K.written sink.old) (K.written sink.new) (summary_of w)) }
-        ensures err { OnErr result ((w : PlainWorld) → WorldStands A.App self.now w
+        ensures err { OnErr result ((w : PlainWorld) → WorldRepresents A.App self.now w
             → AppendsPrefix (K.written sink.old) (K.written sink.new) (summary_of w)) }
         ensures shows { Wrote (K.written sink.old) (K.written sink.new) result
             (tally_line (tally_of (map code_side_shown self.now.link.sides) (map (λ e. e.again) self.now.link.sent))) }
@@ -33,7 +34,7 @@ impl<A: App> WorldOf<A> {
     }
 }
 
-/// The line of a tally.
+/// Makes the line of a tally.
 fn line_of(tally: &Tally) -> Line
     ensures { result ≡ tally_line tally.now }
 {

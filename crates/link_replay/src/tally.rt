@@ -1,4 +1,4 @@
-//! What became of a replay's clients and datagrams, in numbers.
+//! The counts of a replay's clients and datagrams.
 
 ghost use Rattle.std.specs.Prelude.{◌≡◌, count_by, is_none, length, map, not, sum_by};
 ghost use Rattle.link_client.specs.Calls.{is_opened as open_state};
@@ -10,8 +10,8 @@ use crate::sent::Sent;
 use crate::side::Side;
 use link_client::ClientState;
 
-/// How many clients there are by their states, how many are not clean, how many bytes they took of their pages together, how many
-/// datagrams were sent, and how many of them again.
+/// How many clients there are by their states, how many are not clean, how many bytes of their pages they accepted in all, how
+/// many datagrams were sent, and how many of them are retransmissions.
 #[derive(Clone, Copy, Debug, PartialEq, Eq)]
 pub struct Tally {
     pub closed: usize,
@@ -24,7 +24,7 @@ pub struct Tally {
     pub again: usize,
 }
 
-/// The tally of a replay's clients and datagrams.
+/// Counts a replay's clients and datagrams.
 pub(crate) fn count_up(sides: &[Side], sent: &[Sent]) -> Tally
     ensures { result ≡ tally_of (map code_side_shown sides.now) (map (λ e. e.again) sent.now) }
 {
@@ -40,7 +40,7 @@ pub(crate) fn count_up(sides: &[Side], sent: &[Sent]) -> Tally
     }
 }
 
-/// Whether a client took the server's FIN while it was open.
+/// Returns whether a client received the server's FIN while it was open.
 fn is_closed(state: ClientState) -> bool
     ensures { result ≡ closed_state state }
 {
@@ -50,7 +50,7 @@ fn is_closed(state: ClientState) -> bool
     }
 }
 
-/// Whether a client is open.
+/// Returns whether a client is open.
 fn is_open(state: ClientState) -> bool
     ensures { result ≡ open_state state }
 {
@@ -60,7 +60,7 @@ fn is_open(state: ClientState) -> bool
     }
 }
 
-/// Whether a client was reset.
+/// Returns whether a client was reset.
 fn is_reset(state: ClientState) -> bool
     ensures { result ≡ reset_state state }
 {
@@ -70,7 +70,7 @@ fn is_reset(state: ClientState) -> bool
     }
 }
 
-/// Whether a client has another state.
+/// Returns whether a client has another state.
 fn is_other(state: ClientState) -> bool
     ensures { result ≡ other_state state }
 {
@@ -80,14 +80,14 @@ fn is_other(state: ClientState) -> bool
     }
 }
 
-/// Whether a stale datagram was delivered from a client or to it.
+/// Returns whether a stale datagram was delivered from a client or to it.
 fn is_stale(side: &Side) -> bool
     ensures { result ≡ not (is_none side.now.first_stale) }
 {
     !side.first_stale.is_none()
 }
 
-/// How many clients are closed.
+/// Returns how many clients are closed.
 fn closed(sides: &[Side]) -> usize
     ensures { result ≡ count_by (λ side. closed_state side.client.state) sides.now }
 {
@@ -97,7 +97,7 @@ fn closed(sides: &[Side]) -> usize
         .count()
 }
 
-/// How many clients are open.
+/// Returns how many clients are open.
 fn opened(sides: &[Side]) -> usize
     ensures { result ≡ count_by (λ side. open_state side.client.state) sides.now }
 {
@@ -107,7 +107,7 @@ fn opened(sides: &[Side]) -> usize
         .count()
 }
 
-/// How many clients were reset.
+/// Returns how many clients were reset.
 fn reset(sides: &[Side]) -> usize
     ensures { result ≡ count_by (λ side. reset_state side.client.state) sides.now }
 {
@@ -117,7 +117,7 @@ fn reset(sides: &[Side]) -> usize
         .count()
 }
 
-/// How many clients have another state.
+/// Returns how many clients have another state.
 fn other(sides: &[Side]) -> usize
     ensures { result ≡ count_by (λ side. other_state side.client.state) sides.now }
 {
@@ -127,14 +127,14 @@ fn other(sides: &[Side]) -> usize
         .count()
 }
 
-/// How many clients are not clean.
+/// Returns how many clients are not clean.
 fn stale(sides: &[Side]) -> usize
     ensures { result ≡ count_by (λ side. not (is_none side.first_stale)) sides.now }
 {
     sides.iter().filter(|side| is_stale(side)).count()
 }
 
-/// How many bytes the clients took of their pages together.
+/// Returns how many bytes of their pages the clients accepted in all.
 fn bytes_taken(sides: &[Side]) -> u128
     ensures { result ≡ sum_by (λ side. length side.received) sides.now }
 {
@@ -145,7 +145,7 @@ fn bytes_taken(sides: &[Side]) -> u128
     total
 }
 
-/// How many datagrams were sent again.
+/// Returns how many datagrams are retransmissions.
 fn again(sent: &[Sent]) -> usize
     ensures { result ≡ count_by (λ e. e.again) sent.now }
 {

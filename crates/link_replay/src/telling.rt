@@ -1,9 +1,9 @@
-//! What a call of the node did is told to the clients and to the list of datagrams.
+//! Updates the clients and the list of datagrams by what a call of the node did.
 
 ghost use Rattle.std.specs.Prelude.{◌≡◌, ◌≤◌, List, OnOk, Option, Some, length};
 ghost use Rattle.uip_wire.specs.declared.addr.Addr.{Addr as Address};
 ghost use Rattle.link_replay.specs.Moving.{Buries, PostsReply, TellsStep};
-ghost use Rattle.link_replay.specs.Stands.{IsLink};
+ghost use Rattle.link_replay.specs.Represents.{IsLink};
 ghost use Rattle.link_replay.specs.State.{link_of};
 ghost use Rattle.link_replay.specs.Plain.{CodeSent};
 
@@ -19,7 +19,7 @@ use uip_edge::NoMemory;
 use uip_node::Node;
 use uip_wire::LARGEST_DATAGRAM;
 
-/// The clients of a connection that became CLOSED, if one did, are one epoch on.
+/// Raises the epoch of the clients of a connection that became CLOSED, if one did.
 fn bury_gone(sides: &mut Vec<Side>, gone: Option<SocketPair>) -> Result<(), NoMemory>
     ensures kept { (addr : Address) (sent : List CodeSent) → IsLink addr (link_of sides.old.items sent)
         → IsLink addr (link_of sides.new.items sent) }
@@ -32,7 +32,7 @@ fn bury_gone(sides: &mut Vec<Side>, gone: Option<SocketPair>) -> Result<(), NoMe
     Ok(())
 }
 
-/// The node's answer is posted to the client with these sockets, or as an echo reply. What goes to no client has no bytes.
+/// Appends the node's reply, to the client with these sockets or as an echo reply. What goes to no client has no bytes.
 fn post_reply(
     sides: &[Side],
     sent: &mut Vec<Sent>,
@@ -63,7 +63,7 @@ fn post_reply(
     Ok(())
 }
 
-/// The node was called, and answered or not: a connection that it lost is buried, and then the answer is posted.
+/// Updates by a call of the node: first the epoch of a connection that it lost, then the list by its reply.
 pub(crate) fn tell<A: App>(
     node: &Node<A>,
     sides: &mut Vec<Side>,

@@ -1,17 +1,17 @@
-//! A schedule's text, played by the web server of a site.
+//! Plays a schedule's text by the web server of a site.
 
 ghost use Rattle.std.specs.Prelude.{ℕ, Bool, OnErr, OnOk};
 ghost use Rattle.std.specs.Io.KnownBytes.{Appends};
 ghost use Rattle.uip_edge.specs.Causes.{HasCause};
 ghost use Rattle.uip_edge.specs.Writing.{AppendsPrefix, WritesEnd};
-ghost use Rattle.app_events.specs.Part.{Meaning};
+ghost use Rattle.app_events.specs.AppSpec.{AppSpec};
 ghost use Rattle.file_tree.specs.Site.{files_of};
 ghost use Rattle.link_world.specs.World.{World as PlainWorld};
 ghost use Rattle.link_replay.specs.Reaching.{IsAt};
-ghost use Rattle.link_replay.specs.Stands.{WorldStands};
+ghost use Rattle.link_replay.specs.Represents.{WorldRepresents};
 ghost use Rattle.link_replay.specs.Outcome.{bad_schedule as line_of};
 ghost use Rattle.link_replay.specs.Due.{WritesDue, IsPlayDue, IsTextDue, WritesText, TellsFault, told_of};
-ghost use Rattle.uip_edge.specs.Telling.{sink_told};
+ghost use Rattle.uip_edge.specs.ViewsOf.{sink_view};
 ghost use Rattle.link_replay.specs.declared.replay_end.ReplayEnd.TheVariants as ends;
 
 use crate::command_lines::{bad_schedule, write_text};
@@ -34,7 +34,7 @@ pub(crate) fn play_text<K: Sink>(
     show: bool,
     out: &mut K,
 ) -> ReplayEnd
-    ensures { WritesDue (IsTextDue (files_of site) text.now show) (sink_told K.Sink out.old) (sink_told K.Sink out.new) result }
+    ensures { WritesDue (IsTextDue (files_of site) text.now show) (sink_view K.Sink out.old) (sink_view K.Sink out.new) result }
 {
     match Schedule::read(alloc, text) {
         Ok(schedule) => play_schedule(alloc, site, &schedule, Telling::Report { show }, out),
@@ -42,7 +42,7 @@ pub(crate) fn play_text<K: Sink>(
     }
 }
 
-/// Plays a schedule by the web server of a site, and tells the world that it reaches, or writes the line of the first refusal.
+/// Plays a schedule by the web server of a site, and writes the result, or the line of the first refusal.
 pub(crate) fn play_schedule<K: Sink>(
     alloc: Global,
     site: Site,
@@ -51,7 +51,7 @@ pub(crate) fn play_schedule<K: Sink>(
     out: &mut K,
 ) -> ReplayEnd
     ensures { WritesDue (IsPlayDue (files_of site) schedule.now telling)
-        (sink_told K.Sink out.old) (sink_told K.Sink out.new) result }
+        (sink_view K.Sink out.old) (sink_view K.Sink out.new) result }
 {
     see_loaded(&site);
     match play(alloc, schedule, site) {
@@ -60,10 +60,10 @@ pub(crate) fn play_schedule<K: Sink>(
     }
 }
 
-/// Tells a world.
+/// Writes the result of a world, and returns the end.
 fn tell<A: App, K: Sink>(world: &WorldOf<A>, telling: Telling, out: &mut K) -> ReplayEnd
-    ensures { (m : Meaning) (served : ℕ → Bool) (w : PlainWorld) → WorldStands A.App world.now w → IsAt m served w
-        → WritesEnd ends.Done ends.WriteFault (sink_told K.Sink out.old) (sink_told K.Sink out.new) (told_of telling w) result }
+    ensures { (m : AppSpec) (served : ℕ → Bool) (w : PlainWorld) → WorldRepresents A.App world.now w → IsAt m served w
+        → WritesEnd ends.Done ends.WriteFault (sink_view K.Sink out.old) (sink_view K.Sink out.new) (told_of telling w) result }
 {
     match write_world(world, telling, out) {
         Ok(()) => ReplayEnd::Done,
@@ -71,15 +71,15 @@ fn tell<A: App, K: Sink>(world: &WorldOf<A>, telling: Telling, out: &mut K) -> R
     }
 }
 
-/// Writes what is told of a world.
+/// Writes the result of a world.
 fn write_world<A: App, K: Sink>(
     world: &WorldOf<A>,
     telling: Telling,
     out: &mut K,
 ) -> Result<(), Failed>
-    ensures ok { OnOk result ((m : Meaning) (served : ℕ → Bool) (w : PlainWorld) → WorldStands A.App world.now w → IsAt m served w
+    ensures ok { OnOk result ((m : AppSpec) (served : ℕ → Bool) (w : PlainWorld) → WorldRepresents A.App world.now w → IsAt m served w
         → Appends (K.written out.old) (K.written out.new) (told_of telling w)) }
-    ensures err { OnErr result ((m : Meaning) (served : ℕ → Bool) (w : PlainWorld) → WorldStands A.App world.now w → IsAt m served w
+    ensures err { OnErr result ((m : AppSpec) (served : ℕ → Bool) (w : PlainWorld) → WorldRepresents A.App world.now w → IsAt m served w
         → AppendsPrefix (K.written out.old) (K.written out.new) (told_of telling w)) }
     ensures cause { HasCause (K.faults out.old) (K.faults out.new) result }
 {
@@ -91,7 +91,7 @@ fn write_world<A: App, K: Sink>(
 
 /// Writes the line of a bad schedule.
 fn refuse<K: Sink>(alloc: Global, fault: ReadSchedule, out: &mut K) -> ReplayEnd
-    ensures { TellsFault fault (sink_told K.Sink out.old) (sink_told K.Sink out.new) result }
+    ensures { TellsFault fault (sink_view K.Sink out.old) (sink_view K.Sink out.new) result }
 {
     match fault {
         ReadSchedule::Bad { line, why } => refuse_line(alloc, line, why, out),
@@ -99,9 +99,9 @@ fn refuse<K: Sink>(alloc: Global, fault: ReadSchedule, out: &mut K) -> ReplayEnd
     }
 }
 
-/// Writes the line that tells which line of a schedule is bad, and why.
+/// Writes the line with the number of the bad line of a schedule, and the reason.
 fn refuse_line<K: Sink>(alloc: Global, line: u32, why: Why, out: &mut K) -> ReplayEnd
-    ensures { WritesText (line_of line why) (ends.BadSchedule line why) (sink_told K.Sink out.old) (sink_told K.Sink out.new) result }
+    ensures { WritesText (line_of line why) (ends.BadSchedule line why) (sink_view K.Sink out.old) (sink_view K.Sink out.new) result }
 {
     match bad_schedule(alloc, line, why) {
         Ok(text) => write_text(&text, ReplayEnd::BadSchedule { line, why }, out),

@@ -8,7 +8,7 @@ ghost use Rattle.link_replay.specs.Writing.{Wrote};
 
 use uip_edge::{Failed, Sink};
 
-/// The most bytes that are turned into digits at once.
+/// How many bytes are converted to digits at once.
 const BLOCK: usize = 64;
 
 /// Writes the line of the bytes that a client received.
@@ -29,7 +29,7 @@ pub(crate) fn write_word<K: Sink>(word: &[u8], sink: &mut K) -> Result<(), Faile
     sink.write_whole(word)
 }
 
-/// Writes the digits of the bytes, or a dash where there are none.
+/// Writes the digits of the bytes, or a dash if there are none.
 fn write_text<K: Sink>(bytes: &[u8], sink: &mut K) -> Result<(), Failed>
     ensures wrote { Wrote (K.written sink.old) (K.written sink.new) result (digits_or_dash bytes.now) }
     ensures cause { HasCause (K.faults sink.old) (K.faults sink.new) result }
@@ -64,7 +64,7 @@ fn write_block<K: Sink>(block: &[u8], sink: &mut K) -> Result<(), Failed>
     write_by_room(block, &mut room[..2 * block.len()], sink)
 }
 
-/// Writes the digits of a block, by way of a room of their length.
+/// Writes the digits of a block, through a buffer of their length.
 fn write_by_room<K: Sink>(block: &[u8], room: &mut [u8], sink: &mut K) -> Result<(), Failed>
     requires { length room.old ≡ 2 * length block.now }
     ensures wrote { Wrote (K.written sink.old) (K.written sink.new) result (encode_lower block.now) }

@@ -1,8 +1,8 @@
-/// What is told of the world that a schedule reaches.
+/// What is written of the world that a schedule reaches.
 #[derive(Clone, Copy, Debug, PartialEq, Eq)]
 pub enum Telling {
-    /// The report, and where all is shown a line for each datagram and the bytes that each client received.
+    /// The report, and if all is shown a line for each datagram and the bytes that each client received.
     Report { show: bool },
-    /// What the replay came to, in one line.
+    /// The result, in one line.
     Summary,
 }

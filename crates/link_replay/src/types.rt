@@ -1,4 +1,4 @@
-//! What the types of values say of them.
+//! What the types of values state.
 
 ghost use Rattle.std.specs.List.{All};
 ghost use Rattle.std.specs.Prelude.{◌<◌};
@@ -6,19 +6,19 @@ ghost use Rattle.app_events.specs.Pages.{IsAddr, IsByte};
 
 use uip_wire::Addr;
 
-/// An address is four bytes.
+/// States that an address is four bytes.
 pub(crate) fn is_addr(addr: Addr)
     ensures { IsAddr addr }
 {
     let [_first, _second, _third, _fourth] = addr.0;
 }
 
-/// A text is bytes.
+/// States that a text is bytes.
 pub(crate) fn is_bytes(text: &[u8])
     ensures { All IsByte text.now }
 {}
 
-/// A number of 16 bits.
+/// States that a number has 16 bits.
 pub(crate) fn is_short(number: u16)
     ensures { number < 65536 }
 {}

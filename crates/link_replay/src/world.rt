@@ -7,7 +7,7 @@ ghost use Rattle.link_world.specs.Schedule.{acts_of as lines_acts, plays_line};
 ghost use Rattle.link_world.specs.Headline.{IsAct, OfLine};
 ghost use Rattle.link_replay.specs.Moving.{FromHere};
 ghost use Rattle.link_replay.specs.Reaching.{ActsEnd, IsNamed, ActSteps, Stops};
-ghost use Rattle.link_replay.specs.Stands.{WorldStands};
+ghost use Rattle.link_replay.specs.Represents.{WorldRepresents};
 
 use crate::acts::{acts_of, mark_after};
 use crate::faults::fault_of;
@@ -20,7 +20,7 @@ use link_world::{Act, StepFault};
 use std::marker::Model;
 use uip_node::Node;
 
-/// The world of a replay, over any application.
+/// The world of a replay, for any application.
 #[derive(Drop)]
 pub struct WorldOf<A: App> {
     pub node: Node<A>,
@@ -28,9 +28,9 @@ pub struct WorldOf<A: App> {
     pub sides: Vec<Side>,
     /// Every datagram that was sent, numbered from 1.
     pub sent: Vec<Sent>,
-    /// The highest number that a round has gone past.
+    /// The highest number that a round has passed.
     pub mark: u32,
-    /// An allocation failed in an act: the world stands for none over plain data any more.
+    /// An allocation failed in an act: the world represents none over plain data any more.
     pub spent: bool,
     /// Where a client writes what it sends.
     pub area: Vec<u8>,
@@ -38,7 +38,7 @@ pub struct WorldOf<A: App> {
 
 impl<A: App> Model for WorldOf<A> {
     ghost use Rattle.link_replay.specs.State.{CodeWorld, link_of};
-    ghost use Rattle.link_replay.specs.Stands.{IsKept};
+    ghost use Rattle.link_replay.specs.Represents.{IsWellFormedWorld};
 
     ghost Value = { CodeWorld A A.Shared };
 
@@ -50,25 +50,25 @@ impl<A: App> Model for WorldOf<A> {
       area = world.area.items;
     } };
 
-    ghost invariant = { λ world. IsKept (link_of world.sides.items world.sent.items) world.area.items };
+    ghost invariant = { λ world. IsWellFormedWorld (link_of world.sides.items world.sent.items) world.area.items };
 }
 
-/// The world of a replay by the web server of a site.
+/// The world of a replay with the web server of a site.
 pub type World = WorldOf<Httpd>;
 
 impl<A: App> WorldOf<A> {
-    /// One act. After a refusal that is not NoMemory the world is as it was; after NoMemory it is spent, and each later act answers
-    /// NoMemory too.
+    /// Does one act. After a refusal other than NoMemory the world is as it was. After NoMemory it is spent, and each later act
+    /// fails with NoMemory too.
     pub fn step(&mut self, act: &Act) -> Result<(), StepFault>
         requires act { IsAct act.now }
-        ensures same { A.kept self.new.node.shared ≡ A.kept self.old.node.shared }
+        ensures same { A.config self.new.node.shared ≡ A.config self.old.node.shared }
         ensures mark { self.new.mark ≡ self.old.mark }
         ensures spent { self.old.spent ≡ true → result ≡ Err StepFault.NoMemory }
         ensures spends { result ≡ Err StepFault.NoMemory → self.new.spent ≡ true }
         ensures refused { IfErr result (λ fault. IsNamed fault → self.new ≡ self.old) }
         ensures window { (number size : ℕ) → act.now ≡ Act.Window number size → self.old.spent ≡ false → result ≡ Ok tt }
         ensures step { FromHere A.App self.old
-            (λ m served w. ActSteps (WorldStands A.App self.new) w result (acted m served w act.now)) }
+            (λ m served w. ActSteps (WorldRepresents A.App self.new) w result (acted m served w act.now)) }
     {
         if self.spent {
             return Err(StepFault::NoMemory);
@@ -83,15 +83,15 @@ impl<A: App> WorldOf<A> {
         Ok(())
     }
 
-    /// Acts in turn, up to the first that is refused.
+    /// Does acts in turn, up to the first that is refused.
     fn run(&mut self, acts: &[Act]) -> Result<(), StepFault>
         requires acts { All IsAct acts.now }
-        ensures same { A.kept self.new.node.shared ≡ A.kept self.old.node.shared }
+        ensures same { A.config self.new.node.shared ≡ A.config self.old.node.shared }
         ensures mark { self.new.mark ≡ self.old.mark }
         ensures spends { result ≡ Err StepFault.NoMemory → self.new.spent ≡ true }
-        ensures stops { FromHere A.App self.old (λ m served w. Stops m served (WorldStands A.App self.new) acts.now w result) }
+        ensures stops { FromHere A.App self.old (λ m served w. Stops m served (WorldRepresents A.App self.new) acts.now w result) }
         ensures run { FromHere A.App self.old
-            (λ m served w. ActsEnd (WorldStands A.App self.new) result (runs m served acts.now w)) }
+            (λ m served w. ActsEnd (WorldRepresents A.App self.new) result (runs m served acts.now w)) }
     {
         for act in acts.iter() {
             self.step(act)?;
@@ -99,18 +99,18 @@ impl<A: App> WorldOf<A> {
         Ok(())
     }
 
-    /// The acts of a line in turn, up to the first that is refused; then the mark moves. After a refusal that is not NoMemory the acts
-    /// before it stand, and the mark is as before the line.
+    /// Does the acts of a line in turn, up to the first that is refused; then the mark moves. After a refusal other than
+    /// NoMemory, the acts before it were done, and the mark is as before the line.
     pub fn line(&mut self, event: &Event) -> Result<(), StepFault>
         requires event { OfLine IsAct event.now }
-        ensures same { A.kept self.new.node.shared ≡ A.kept self.old.node.shared }
+        ensures same { A.config self.new.node.shared ≡ A.config self.old.node.shared }
         ensures mark { OnErr result (self.new.mark ≡ self.old.mark) }
         ensures spent { self.old.spent ≡ true → result ≡ Err StepFault.NoMemory }
         ensures spends { result ≡ Err StepFault.NoMemory → self.new.spent ≡ true }
         ensures stops { FromHere A.App self.old
-            (λ m served w. Stops m served (WorldStands A.App self.new) (lines_acts w event.now) w result) }
+            (λ m served w. Stops m served (WorldRepresents A.App self.new) (lines_acts w event.now) w result) }
         ensures line { FromHere A.App self.old
-            (λ m served w. ActsEnd (WorldStands A.App self.new) result (plays_line m served w event.now)) }
+            (λ m served w. ActsEnd (WorldRepresents A.App self.new) result (plays_line m served w event.now)) }
     {
         if self.spent {
             return Err(StepFault::NoMemory);

@@ -1,4 +1,5 @@
--- Reading a text, each line leaves what a schedule keeps.
+-- Reading a text, each line preserves what holds for a schedule.
+-- [add: schedule-line] A text that has the line.
 use Rattle.std.proofs.Common.{◌≡◌, ℕ, ◌+◌, ◌≤◌, Bool, true, false, cond, not, ◌&&◌, ◌||◌, List, [], ◌∷◌, ◌++◌, length, Result, Ok, Err, IfOk, refl, ap, ◌∙◌, subst, arith, eqb, leb}
 use Rattle.std.specs.Prelude.{codes}
 use Rattle.std.specs.List.{list_all, list_any, slice_split}
@@ -124,14 +125,14 @@ none_later p q plans e f =
     ∙ ap (λ b. b || (meets p q || false)) e ∙ ap (λ b. false || (b || false)) f in
     ap not all
 
-apart_behind : (plans : List Plan) (q : Plan) → are_apart plans ≡ true → list_any (λ earlier. meets earlier q) plans ≡ false
+apart_after : (plans : List Plan) (q : Plan) → are_apart plans ≡ true → list_any (λ earlier. meets earlier q) plans ≡ false
     → are_apart (plans ++ q ∷ []) ≡ true
-apart_behind [] q e f = refl
-apart_behind (p ∷ plans) q e f =
+apart_after [] q e f = refl
+apart_after (p ∷ plans) q e f =
     let parts = and_parts (not (list_any (λ later. meets p later) plans)) (are_apart plans) e in
     let none = or_parts (meets p q) (list_any (λ earlier. meets earlier q) plans) f in
     and_from (not (list_any (λ later. meets p later) (plans ++ q ∷ []))) (are_apart (plans ++ q ∷ []))
-    (none_later p q plans (not-true _ parts.0) none.0) (apart_behind plans q parts.1 none.1)
+    (none_later p q plans (not-true _ parts.0) none.0) (apart_after plans q parts.1 none.1)
 
 unless : {A : Type 0} (P : A → Type 0) (b : Bool) (why : Why) (y : Result A Why) → (b ≡ false → IfOk y P) → IfOk (cond b (Err why) y) P
 unless P true why y p = tt
@@ -150,7 +151,7 @@ kept_client above plan keeps fine =
     let size = length-append above.clients (plan ∷ []) in
     record {
       few = omega (arith, less, size);
-      apart = apart_behind above.clients plan keeps.apart alone;
+      apart = apart_after above.clients plan keeps.apart alone;
       clients_in_range =
           list_all-append client_in_range above.clients (plan ∷ [])
           ∙ and_from (list_all client_in_range above.clients) (client_in_range plan && true) keeps.clients_in_range

@@ -1,4 +1,4 @@
--- What each schedule keeps, line by line.
+-- What holds for each schedule, line by line.
 use Rattle.std.proofs.Common.{◌≡◌, ℕ, Bool, true, false, cond, List, [], ◌∷◌, Option, None, Some, Result, Ok, Err, IfOk, refl}
 use Rattle.std.specs.Prelude.{codes}
 use Rattle.std.specs.Str.{bytes_eq}
@@ -21,7 +21,7 @@ pub tested : {A : Type 0} (P : A → Type 0) (b : Bool) (x y : Result A Why) →
 tested P true x y p q = p refl
 tested P false x y p q = q
 
--- one part of a line behind another
+-- one part of a line after another
 pub behind : {A B : Type 0} (Q : A → Type 0) (P : B → Type 0) (r : Result A Why) (f : A → Result B Why)
     → IfOk r Q → ((x : A) → Q x → IfOk (f x) P) → IfOk (r >>= f) P
 behind Q P (Ok x) f q p = p x q

@@ -11,7 +11,7 @@ use Rattle.link_schedule.specs.declared.why.Why.{Why}
 use Rattle.link_schedule.specs.declared.why.Why.TheVariants.{Form}
 use Rattle.link_schedule.specs.Numbers.{◌>>=◌, within, address}
 
--- a client of a schedule: where it stands, how it cuts its text, and what it asks for
+-- a client of a schedule: its address and port, how it cuts its text, and its request
 pub record Plan : Type 0 where
   pub addr : Addr
   pub port : Port
@@ -28,7 +28,7 @@ side_of addr port mss seg = do
   seg' ← within 1 1460 seg
   Ok (record { addr = addr'; port = record { 0 = port' }; mss = mss'; seg = seg' })
 
--- one word of bytes that are seen, so that the request has 4096 bytes at most
+-- one word of visible bytes, so that the request has at most 4096 bytes
 abbrev pub is_target : List ℕ → Bool
 is_target word = nat_le 1 (length word) && nat_le (length word) 4079 && list_all (λ c. nat_le 33 c && nat_le c 126) word
 
@@ -54,7 +54,7 @@ plan_with addr port mss seg how what = do
   request ← request_of how what
   Ok (record { addr = side.addr; port = side.port; mss = side.mss; seg = side.seg; request = request })
 
--- the words behind `client`: `ADDR PORT MSS SEG`, and the request
+-- the words after `client`: `ADDR PORT MSS SEG`, and the request
 abbrev pub plan_of : List (List ℕ) → Result Plan Why
 plan_of (addr ∷ port ∷ mss ∷ seg ∷ how ∷ what ∷ []) = plan_with addr port mss seg how what
 plan_of words = Err Form

@@ -1,4 +1,5 @@
--- The forms of the lines that say what happens, by their words.
+-- The forms of the lines that state what happens, by their words.
+-- [add: schedule-line] Its form.
 use Rattle.std.specs.Prelude.{ℕ, if◌then◌else◌, List, [], ◌∷◌, Result, Ok, Err, codes}
 use Rattle.std.specs.Str.{bytes_eq}
 use Rattle.link_schedule.specs.declared.event.Event.{Event}
@@ -7,7 +8,7 @@ use Rattle.link_schedule.specs.declared.why.Why.{Why}
 use Rattle.link_schedule.specs.declared.why.Why.TheVariants.{Form}
 use Rattle.link_schedule.specs.Numbers.{◌>>=◌, within, named, address}
 
--- a form by its verb: the first that a verb names
+-- a form by its verb: the first one with this verb
 abbrev pub by_verb : List ℕ → List (List ℕ × Result Event Why) → Result Event Why
 by_verb verb [] = Err Form
 by_verb verb (form ∷ forms) = if bytes_eq verb form.0 then form.1 else by_verb verb forms
@@ -52,7 +53,7 @@ damage number place change = do
   x ← within 1 255 change
   Ok (Damage k i x)
 
--- the words of a line, where so many clients stand above it
+-- the words of a line, after lines that made this number of clients
 abbrev pub event_of_words : ℕ → List (List ℕ) → Result Event Why
 event_of_words clients (verb ∷ []) = bare verb
 event_of_words clients (verb ∷ one ∷ []) = with_one clients verb one

@@ -1,4 +1,5 @@
--- What each schedule keeps.
+-- What holds for each schedule.
+-- [add: schedule-line] What is always true of its numbers.
 use Rattle.std.specs.Prelude.{◌≡◌, ℕ, ◌≤◌, ◌&&◌, nat_le, Bool, true, not, List, [], ◌∷◌, length}
 use Rattle.std.specs.List.{list_all, list_any}
 use Rattle.link_schedule.specs.declared.event.Event.{Event}
@@ -10,12 +11,12 @@ use Rattle.link_schedule.specs.Reading.{SchedulePlan, meets}
 abbrev pub is_between : ℕ → ℕ → ℕ → Bool
 is_between low high n = nat_le low n && nat_le n high
 
--- a port, a segment's text and a request of a size that they may have
+-- a port, a segment's text and a request of an allowed size
 abbrev pub client_in_range : Plan → Bool
 client_in_range plan =
     is_between 1 65535 plan.port.0 && is_between 1 1460 plan.seg && is_between 1 4096 (length plan.request)
 
--- each client is one of so many, and each other number has a size that it may have
+-- each client is one of this number, and each other number has an allowed size
 abbrev pub event_in_range : ℕ → Event → Bool
 event_in_range clients (Opens c) = is_between 1 clients c
 event_in_range clients (Again c) = is_between 1 clients c
@@ -32,7 +33,7 @@ event_in_range clients Reverse = true
 event_in_range clients Half = true
 event_in_range clients Lose = true
 
--- no two clients stand at one address and port
+-- no two clients have one address and port
 abbrev pub are_apart : List Plan → Bool
 are_apart [] = true
 are_apart (plan ∷ plans) = not (list_any (λ later. meets plan later) plans) && are_apart plans

@@ -7,7 +7,7 @@ use Rattle.uip_wire.specs.declared.addr.Addr.{Addr}
 use Rattle.link_schedule.specs.declared.why.Why.{Why}
 use Rattle.link_schedule.specs.declared.why.Why.TheVariants.{Form, NoClient}
 
--- what stands after a part, if the part is fine
+-- what follows a part, if the part has no fault
 infixl 10 ◌>>=◌
 abbrev pub ◌>>=◌ : {A B E : Type 0} → Result A E → (A → Result B E) → Result B E
 (Ok x) >>= f = f x
@@ -20,7 +20,7 @@ in_range low high why number = option_map_or (λ n. if nat_le low n && nat_le n 
 abbrev pub within : ℕ → ℕ → List ℕ → Result ℕ Why
 within low high word = in_range low high Form (numeral word)
 
--- the number of one of so many clients
+-- the number of one of this number of clients
 abbrev pub named : ℕ → List ℕ → Result ℕ Why
 named clients word = if is_numeral word then in_range 1 clients NoClient (numeral word) else Err Form
 

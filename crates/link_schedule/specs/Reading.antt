@@ -10,7 +10,7 @@ use Rattle.link_schedule.specs.Numbers.{◌>>=◌}
 use Rattle.link_schedule.specs.Events.{event_of_words}
 use Rattle.link_schedule.specs.Clients.{Plan, plan_of}
 
--- what a schedule says: its clients, and the lines that are no clients', with their numbers
+-- the content of a schedule: its clients, and the other lines, with their numbers
 pub record SchedulePlan : Type 0 where
   pub clients : List Plan
   pub lines : List Line
@@ -20,25 +20,25 @@ pub record BadText : Type 0 where
   pub line : ℕ
   pub why : Why
 
--- two clients stand at one address and port
+-- two clients have one address and port
 abbrev pub meets : Plan → Plan → Bool
 meets p q = bytes_eq p.addr.0 q.addr.0 && p.port.0 == q.port.0
 
--- one more client behind those of the lines above: the 65th is too many, and no two stand at one address and port
+-- One more client after those of the lines before. The 65th is too many, and no two have one address and port.
 unfoldable pub with_plan : SchedulePlan → Plan → Result SchedulePlan Why
 with_plan above plan =
     if nat_le 64 (length above.clients) then Err Clients
     else if list_any (λ earlier. meets earlier plan) above.clients then Err Ports
     else Ok (record { clients = above.clients ++ plan ∷ []; lines = above.lines })
 
--- one more line that says what happens
+-- one more line that states what happens
 abbrev pub with_line : SchedulePlan → ℕ → Event → SchedulePlan
 with_line above number event = record { clients = above.clients; lines = above.lines ++ record { at = number; event = event } ∷ [] }
 
 abbrev pub with_event : ℕ → SchedulePlan → List (List ℕ) → Result SchedulePlan Why
 with_event number above words = event_of_words (length above.clients) words >>= λ event. Ok (with_line above number event)
 
--- the words of a line under the lines above it: `client` and what makes one, or what happens
+-- the words of a line after the lines before it: `client` and its setup, or what happens
 abbrev pub read_words : ℕ → SchedulePlan → List (List ℕ) → Result SchedulePlan Why
 read_words number above [] = Err Form
 read_words number above (verb ∷ words) =
@@ -49,7 +49,7 @@ abbrev pub is_passed_over : List ℕ → Bool
 is_passed_over [] = true
 is_passed_over (c ∷ line) = c == 35
 
--- one line under the lines above it
+-- one line after the lines before it
 abbrev pub read_line : ℕ → SchedulePlan → List ℕ → Result SchedulePlan Why
 read_line number above line = if is_passed_over line then Ok above else read_words number above (slice_split (λ c. c == 32) line)
 
@@ -57,7 +57,7 @@ abbrev pub reads_on : ℕ → (SchedulePlan → Result SchedulePlan BadText) →
 reads_on number next (Ok content) = next content
 reads_on number next (Err why) = Err (record { line = number; why = why })
 
--- the lines from a number on, under the lines above them
+-- the lines from a number on, after the lines before them
 abbrev pub read_lines : ℕ → SchedulePlan → List (List ℕ) → Result SchedulePlan BadText
 read_lines number above [] = Ok above
 read_lines number above (line ∷ lines) = reads_on number (λ content. read_lines (number + 1) content lines) (read_line number above line)
@@ -65,7 +65,7 @@ read_lines number above (line ∷ lines) = reads_on number (λ content. read_lin
 abbrev pub nothing_yet : SchedulePlan
 nothing_yet = record { clients = []; lines = [] }
 
--- a whole text: its lines are parted by LF, so that one more LF at the end adds only an empty line
+-- a whole text: LF separates its lines, so one more LF at the end adds only an empty line
 unfoldable pub read_text : List ℕ → Result SchedulePlan BadText
 read_text text =
     if nat_le (length text) 4194304 then read_lines 1 nothing_yet (slice_split (λ c. c == 10) text)

@@ -1,4 +1,5 @@
 -- Schedules worked by hand: what each spells, or its first bad line.
+-- [add: schedule-line] A worked schedule with the line.
 use Rattle.std.specs.Prelude.{◌≡◌, ℕ, ◌+◌, ◌/◌, ◌%◌, List, [], ◌∷◌, ◌++◌, codes, Result, Ok, Err}
 use Rattle.std.specs.List.{flat_map, range_with_len}
 use Rattle.link_schedule.specs.declared.event.Event.{Event}
@@ -9,7 +10,7 @@ use Rattle.link_schedule.specs.declared.why.Why.TheVariants.{Form, Clients, Port
 use Rattle.link_schedule.specs.Clients.{Plan}
 use Rattle.link_schedule.specs.Reading.{SchedulePlan, BadText, read_text}
 
--- a client at 10.0.0.2 and a port, that takes segments of 536 bytes and tells no size of its own
+-- a client at 10.0.0.2 and a port, with segments of 536 bytes and no MSS option
 abbrev pub plan : ℕ → List ℕ → Plan
 plan port request = record {
   addr = record { 0 = 10 ∷ 0 ∷ 0 ∷ 2 ∷ [] };
@@ -28,10 +29,10 @@ schedule clients lines = Ok (record { clients = clients; lines = lines })
 abbrev pub bad : Why → ℕ → Result SchedulePlan BadText
 bad why line = Err (record { line = line; why = why })
 
-abbrev pub front_page : Plan
-front_page = plan 1025 (codes "GET / HTTP/1.0\r\n\r\n")
+abbrev pub prefix_page : Plan
+prefix_page = plan 1025 (codes "GET / HTTP/1.0\r\n\r\n")
 
--- a client line for each port of two digits from 10 on, so many
+-- this number of client lines, one for each port of two digits from 10 on
 abbrev pub client_lines : ℕ → List ℕ
 client_lines count = flat_map (λ p. codes "client 10.0.0.2 " ++ (48 + p / 10) ∷ (48 + p % 10) ∷ [] ++ codes " 0 536 get /\n")
     (range_with_len 10 count)
@@ -39,10 +40,10 @@ client_lines count = flat_map (λ p. codes "client 10.0.0.2 " ++ (48 + p / 10) �
 pub record AreWorkedSchedules : Type 0 where
   -- one client, and what happens
   pub page : read_text (codes "client 10.0.0.2 1025 0 536 get /\nopen 1\nround\n")
-      ≡ schedule (front_page ∷ []) (line_said 2 (Opens 1) ∷ line_said 3 Round ∷ [])
-  -- the last line may have no end; empty lines and remarks are counted and passed over
+      ≡ schedule (prefix_page ∷ []) (line_said 2 (Opens 1) ∷ line_said 3 Round ∷ [])
+  -- the last line may have no end; empty lines and remarks are counted and ignored
   pub no_end : read_text (codes "# one page\n\nclient 10.0.0.2 1025 0 536 get /\nopen 1")
-      ≡ schedule (front_page ∷ []) (line_said 4 (Opens 1) ∷ [])
+      ≡ schedule (prefix_page ∷ []) (line_said 4 (Opens 1) ∷ [])
   pub nothing : read_text [] ≡ schedule [] []
   -- a request as bytes in digits
   pub raw : read_text (codes "client 10.0.0.2 1025 0 536 raw 474554") ≡ schedule (plan 1025 (codes "GET") ∷ []) []
@@ -52,9 +53,9 @@ pub record AreWorkedSchedules : Type 0 where
       ≡ schedule [] (line_said 1 (Tick 1) ∷ line_said 2 (Tick 300) ∷ line_said 3 (Damage 4 45 1) ∷ [])
   pub no_ticks : read_text (codes "tick 0") ≡ bad Form 1
   pub leading_zero : read_text (codes "give 01") ≡ bad Form 1
-  pub space_behind : read_text (codes "round ") ≡ bad Form 1
+  pub space_after : read_text (codes "round ") ≡ bad Form 1
   pub port_of_zero : read_text (codes "client 10.0.0.2 0 0 1 get /") ≡ bad Form 1
-  -- clients that cannot be, and clients that are not
+  -- clients that cannot exist, and clients that do not
   pub too_many : read_text (client_lines 65) ≡ bad Clients 65
   pub twice : read_text (codes "client 10.0.0.2 1025 0 536 get /\nclient 10.0.0.2 1025 0 536 get /\n") ≡ bad Ports 2
   pub no_client : read_text (codes "client 10.0.0.2 1025 0 536 get /\nopen 2\nround ") ≡ bad NoClient 2

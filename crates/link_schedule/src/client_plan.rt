@@ -1,8 +1,8 @@
 use std::marker::Model;
 use uip_wire::{Addr, Port};
 
-/// A client of a schedule: where it stands, which maximum segment size its SYN tells (0 for none), how many bytes it sends in one
-/// segment at most, and what it asks for.
+/// A client of a schedule: its address and port, the MSS that its SYN advertises in bytes (0 for no option), the greatest
+/// number of bytes that it sends in one segment, and its request.
 #[derive(Debug, Drop)]
 pub struct ClientPlan {
     pub addr: Addr,

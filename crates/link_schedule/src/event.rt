@@ -1,6 +1,7 @@
 use uip_wire::Addr;
 
-/// What one line of a schedule says.
+/// What one line of a schedule states.
+/// [add: schedule-line] A variant.
 #[derive(Clone, Copy, Debug, PartialEq, Eq)]
 pub enum Event {
     Opens(u8),
@@ -11,15 +12,15 @@ pub enum Event {
     Ping(Addr),
     Give(u32),
     Damage { number: u32, at: u16, mask: u8 },
-    /// So many ticks.
+    /// A number of ticks.
     Tick(u16),
     /// Each datagram past the mark is delivered in order.
     Round,
-    /// The same, each two times in a row.
+    /// The same, each of them twice in a row.
     Twice,
     /// The same, from the highest number down.
     Reverse,
-    /// The same, only those with an odd number.
+    /// The same, but only those with an odd number.
     Half,
     /// None of them is delivered.
     Lose,

@@ -1,3 +1,5 @@
+//! The lines that state what happens, by their words.
+
 ghost use Rattle.std.specs.Prelude.{◌≡◌, ◌<◌, [], ◌∷◌, map};
 ghost use Rattle.std.specs.Str.{bytes_eq};
 ghost use Rattle.link_schedule.specs.Events.{bare as bare_meant, damage as damage_meant, event_of_words as event_meant};
@@ -7,7 +9,8 @@ use crate::event::Event;
 use crate::numbers::{addressed, named, within};
 use crate::why::Why;
 
-/// What the words of a line say, where so many clients stand above it.
+/// Returns what the words of a line mean, after lines that made this number of clients.
+/// [add: schedule-line] Its form, by the number of its words.
 pub fn event_of(clients: usize, words: &[&[u8]]) -> Result<Event, Why>
     requires { clients < 256 }
     ensures { result ≡ event_meant clients (map (λ word. word.now) words.now) }
@@ -21,14 +24,14 @@ pub fn event_of(clients: usize, words: &[&[u8]]) -> Result<Event, Why>
     }
 }
 
-/// Whether a word is this one.
+/// Returns whether the word is this one.
 pub fn is_word(word: &[u8], name: &str) -> bool
     ensures { result ≡ bytes_eq word.now name.now }
 {
     word == name.as_bytes()
 }
 
-/// A verb alone.
+/// Reads a verb alone.
 #[tactic(auto, unfolding(crate::specs::Events::bare))]
 fn bare(verb: &[u8]) -> Result<Event, Why>
     ensures { result ≡ bare_meant verb.now }
@@ -54,7 +57,7 @@ fn bare(verb: &[u8]) -> Result<Event, Why>
     Err(Why::Form)
 }
 
-/// A verb and one word.
+/// Reads a verb and one word.
 #[tactic(auto, unfolding(crate::specs::Events::with_one))]
 fn with_one(clients: usize, verb: &[u8], word: &[u8]) -> Result<Event, Why>
     requires { clients < 256 }
@@ -84,7 +87,7 @@ fn with_one(clients: usize, verb: &[u8], word: &[u8]) -> Result<Event, Why>
     Err(Why::Form)
 }
 
-/// A verb and two words.
+/// Reads a verb and two words.
 fn with_two(clients: usize, verb: &[u8], one: &[u8], two: &[u8]) -> Result<Event, Why>
     requires { clients < 256 }
     ensures { result ≡ event_meant clients (verb.now ∷ one.now ∷ two.now ∷ []) }
@@ -95,7 +98,7 @@ fn with_two(clients: usize, verb: &[u8], one: &[u8], two: &[u8]) -> Result<Event
     Err(Why::Form)
 }
 
-/// A client's window.
+/// Reads a client's window.
 fn window(clients: usize, client: &[u8], size: &[u8]) -> Result<Event, Why>
     requires { clients < 256 }
     ensures { result ≡ window_meant clients client.now size.now }
@@ -105,7 +108,7 @@ fn window(clients: usize, client: &[u8], size: &[u8]) -> Result<Event, Why>
     Ok(Event::Window(client, size as u16))
 }
 
-/// A verb and three words.
+/// Reads a verb and three words.
 fn with_three(verb: &[u8], one: &[u8], two: &[u8], three: &[u8]) -> Result<Event, Why>
     ensures { result ≡ event_meant 0 (verb.now ∷ one.now ∷ two.now ∷ three.now ∷ []) }
 {
@@ -115,7 +118,7 @@ fn with_three(verb: &[u8], one: &[u8], two: &[u8], three: &[u8]) -> Result<Event
     Err(Why::Form)
 }
 
-/// A datagram with a changed byte.
+/// Reads a datagram with a changed byte.
 fn damage(number: &[u8], place: &[u8], change: &[u8]) -> Result<Event, Why>
     ensures { result ≡ damage_meant number.now place.now change.now }
 {

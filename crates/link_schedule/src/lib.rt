@@ -1,5 +1,5 @@
-//! A schedule as text: the clients of a replay, and the lines that say what happens on the link. The text is read whole before any of
-//! it is run, and its first bad line is told with the reason.
+//! Schedules as text: the clients of a replay, and the lines that state what happens on the link. The whole text is read before
+//! any line is run, and its first bad line is reported with the reason.
 #![tactic(auto)]
 
 mod client_plan;

@@ -1,10 +1,12 @@
+//! The numbers and addresses of a line.
+
 ghost use Rattle.std.specs.Prelude.{◌≡◌, ◌<◌, ◌≤◌, IfOk};
 ghost use Rattle.link_schedule.specs.Numbers.{address, named as client_named, within as number_within};
 
 use crate::why::Why;
 use uip_wire::{Addr, is_numeral, numeral};
 
-/// The number of a client, which an earlier line has to have made.
+/// Returns the number of a client that an earlier line has made.
 pub fn named(clients: usize, word: &[u8]) -> Result<u8, Why>
     requires { clients < 256 }
     ensures { result ≡ client_named clients word.now }
@@ -18,7 +20,7 @@ pub fn named(clients: usize, word: &[u8]) -> Result<u8, Why>
     }
 }
 
-/// A number of a range.
+/// Returns a number of a range.
 pub fn within(low: u32, high: u32, word: &[u8]) -> Result<u32, Why>
     ensures value { result ≡ number_within low high word.now }
     ensures range { IfOk result (λ n. n ≤ high) }
@@ -29,7 +31,7 @@ pub fn within(low: u32, high: u32, word: &[u8]) -> Result<u32, Why>
     }
 }
 
-/// An address as a dotted quad.
+/// Returns an address in dotted-quad form.
 pub fn addressed(word: &[u8]) -> Result<Addr, Why>
     ensures { result ≡ address word.now }
 {

@@ -1,9 +1,11 @@
+//! Reads the lines of a schedule.
+
 ghost use Rattle.std.specs.Prelude.{◌≡◌, ◌<◌, ◌≤◌, ◌+◌, ◌==◌, length, map, vec_len};
 ghost use Rattle.std.specs.List.{list_any, slice_split};
 ghost use Rattle.link_schedule.specs.Clients.{Plan};
 ghost use Rattle.link_schedule.specs.Reading.{is_passed_over as passed_over, meets as meeting, read_line as line_meant, read_words as words_meant};
 ghost use Rattle.link_schedule.specs.Reading.{with_plan as client_meant, with_event as event_meant};
-ghost use Rattle.link_schedule.specs.Stands.{ClientGives, EventGives, LineGives, content_of, read_client as client_read};
+ghost use Rattle.link_schedule.specs.Represents.{ClientGives, EventGives, LineGives, content_of, read_client as client_read};
 
 use crate::client_plan::ClientPlan;
 use crate::events::{event_of, is_word};
@@ -14,10 +16,10 @@ use crate::texts::words_of;
 use crate::why::Why;
 use std::alloc::Global;
 
-/// The 65th client is too many.
+/// The greatest number of clients.
 pub const MOST_CLIENTS: usize = 64;
 
-/// Reads one line of a text under what the lines above it have said.
+/// Reads one line of a text, after the lines before it.
 pub fn read_line(
     alloc: Global,
     clients: &mut Vec<ClientPlan>,
@@ -39,7 +41,7 @@ pub fn read_line(
     }
 }
 
-/// Whether a line is empty or a remark.
+/// Returns whether a line is empty or a remark.
 fn is_passed_over(line: &[u8]) -> bool
     ensures { result ≡ passed_over line.now }
 {
@@ -73,7 +75,7 @@ fn read_words(
     }
 }
 
-/// Reads the words behind `client`.
+/// Reads the words after `client`.
 fn read_client(alloc: Global, clients: &mut Vec<ClientPlan>, words: &[&[u8]]) -> Result<(), Refusal>
     requires { vec_len clients.old ≤ 64 }
     ensures meant { ClientGives result clients.new.items
@@ -86,7 +88,7 @@ fn read_client(alloc: Global, clients: &mut Vec<ClientPlan>, words: &[&[u8]]) ->
     }
 }
 
-/// One more client behind those of the lines above.
+/// Appends a client to those of the lines before.
 fn add_client(clients: &mut Vec<ClientPlan>, plan: ClientPlan) -> Result<(), Refusal>
     requires { vec_len clients.old ≤ 64 }
     ensures meant { ClientGives result clients.new.items (λ above. client_meant above plan) clients.old.items }
@@ -105,21 +107,21 @@ fn add_client(clients: &mut Vec<ClientPlan>, plan: ClientPlan) -> Result<(), Ref
     Ok(())
 }
 
-/// Whether a client stands at the address and port of this one.
+/// Returns whether a client has the address and port of this one.
 fn stands_at(clients: &[ClientPlan], plan: &ClientPlan) -> bool
     ensures { result ≡ list_any (λ earlier. meeting earlier plan.now) clients.now }
 {
     clients.iter().any(|earlier| meets(earlier, plan))
 }
 
-/// Whether two clients stand at one address and port.
+/// Returns whether two clients have one address and port.
 fn meets(earlier: &ClientPlan, plan: &ClientPlan) -> bool
     ensures { result ≡ meeting earlier.now plan.now }
 {
     earlier.addr == plan.addr && earlier.port == plan.port
 }
 
-/// One more line that says what happens, under so many clients.
+/// Appends a line that states what happens, after lines that made this number of clients.
 fn add_event(
     count: usize,
     lines: &mut Vec<Line>,

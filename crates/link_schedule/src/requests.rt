@@ -1,9 +1,11 @@
+//! The request of a client.
+
 ghost use Rattle.std.specs.Prelude.{◌≡◌, ◌++◌, ◌&&◌, codes, map, nat_le};
 ghost use Rattle.std.specs.List.{list_all};
 ghost use Rattle.hex.specs.Hex.{decode_of};
 ghost use Rattle.link_schedule.specs.Clients.{got as got_meant, is_target as target_meant, plan_of as plan_meant, plan_with as parts_meant};
 ghost use Rattle.link_schedule.specs.Clients.{raw as raw_meant, request_of as request_meant};
-ghost use Rattle.link_schedule.specs.Stands.{GivesAs, GivesPlan, request_at};
+ghost use Rattle.link_schedule.specs.Represents.{GivesAs, GivesPlan, request_at};
 
 use crate::client_plan::ClientPlan;
 use crate::events::is_word;
@@ -13,7 +15,7 @@ use crate::why::Why;
 use hex::FromHexError;
 use std::alloc::Global;
 
-/// The client that the words behind `client` make.
+/// Returns the client that the words after `client` make.
 pub fn plan_of(alloc: Global, words: &[&[u8]]) -> Result<ClientPlan, Refusal>
     ensures { GivesPlan result (plan_meant (map (λ word. word.now) words.now)) }
 {
@@ -49,7 +51,7 @@ fn plan_with(
     }
 }
 
-/// The bytes that a client asks with.
+/// Returns the bytes of a client's request.
 fn request_of(alloc: Global, how: &[u8], what: &[u8]) -> Result<Vec<u8>, Refusal>
     ensures { GivesAs request_at result (request_meant how.now what.now) }
 {
@@ -62,7 +64,7 @@ fn request_of(alloc: Global, how: &[u8], what: &[u8]) -> Result<Vec<u8>, Refusal
     Err(Refusal::Faulty(Why::Form))
 }
 
-/// The request for a target.
+/// Returns the request for a target.
 fn got(alloc: Global, target: &[u8]) -> Result<Vec<u8>, Refusal>
     ensures { GivesAs request_at result (got_meant target.now) }
 {
@@ -82,7 +84,7 @@ fn got(alloc: Global, target: &[u8]) -> Result<Vec<u8>, Refusal>
     Ok(request)
 }
 
-/// Whether a word is a target.
+/// Returns whether a word is a target.
 fn is_target(word: &[u8]) -> bool
     ensures { result ≡ target_meant word.now }
 {
@@ -95,7 +97,7 @@ fn all_seen(word: &[u8]) -> bool
     word.iter().all(|byte| *byte >= 33 && *byte <= 126)
 }
 
-/// The request in hexadecimal digits.
+/// Returns the request in hexadecimal digits.
 fn raw(alloc: Global, digits: &[u8]) -> Result<Vec<u8>, Refusal>
     ensures { GivesAs request_at result (raw_meant (decode_of digits.now)) }
 {

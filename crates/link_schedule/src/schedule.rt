@@ -1,3 +1,5 @@
+//! The schedule, and the reading of its text.
+
 use crate::client_plan::ClientPlan;
 use crate::line::Line;
 use crate::read_schedule::ReadSchedule;
@@ -17,7 +19,7 @@ pub struct Schedule {
 impl Model for Schedule {
     ghost use Rattle.link_schedule.specs.Kept.{Keeps};
     ghost use Rattle.link_schedule.specs.Reading.{SchedulePlan};
-    ghost use Rattle.link_schedule.specs.Stands.{content_of};
+    ghost use Rattle.link_schedule.specs.Represents.{content_of};
 
     ghost Value = { SchedulePlan };
 
@@ -26,14 +28,14 @@ impl Model for Schedule {
     ghost invariant = { λ schedule. Keeps (content_of schedule.clients.items schedule.lines.items) };
 }
 
-/// The most bytes of a text.
+/// The greatest length of a text, in bytes.
 const MOST_BYTES: usize = 4194304;
 
 impl Schedule {
     ghost use Rattle.link_schedule.specs.Answer.{ReadsSchedule};
     ghost use Rattle.link_schedule.specs.Reading.{read_text};
 
-    /// The schedule that a text spells, or its first bad line. Nothing of the text is run.
+    /// Reads the schedule that a text spells, or returns its first bad line. Runs nothing.
     #[tactic(auto, unfolding(crate::specs::Reading::read_text))]
     pub fn read(alloc: Global, text: &[u8]) -> Result<Schedule, ReadSchedule>
         ensures { ReadsSchedule result (read_text text.now) }

@@ -1,3 +1,5 @@
+//! The four words of a client's socket.
+
 ghost use Rattle.std.specs.Prelude.{◌≡◌};
 ghost use Rattle.link_schedule.specs.Clients.{side_of as side_meant};
 
@@ -5,7 +7,7 @@ use crate::numbers::{addressed, within};
 use crate::why::Why;
 use uip_wire::{Addr, Port};
 
-/// Where a client stands, and how it cuts its text.
+/// The address and port of a client, and how it cuts its text.
 #[derive(Clone, Copy)]
 pub struct ClientSide {
     pub addr: Addr,
@@ -14,7 +16,7 @@ pub struct ClientSide {
     pub seg: u16,
 }
 
-/// The four words `ADDR PORT MSS SEG`.
+/// Reads the four words `ADDR PORT MSS SEG`.
 pub fn side_of(addr: &[u8], port: &[u8], mss: &[u8], seg: &[u8]) -> Result<ClientSide, Why>
     ensures { result ≡ side_meant addr.now port.now mss.now seg.now }
 {

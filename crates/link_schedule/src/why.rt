@@ -5,15 +5,15 @@ pub enum Why {
     Long,
     /// The line has no form.
     Form,
-    /// One client too many.
+    /// There is one client too many.
     Clients,
     /// An earlier client has the same address and port.
     Ports,
-    /// No client of an earlier line has this number.
+    /// No earlier line made a client with this number.
     NoClient,
     /// No datagram with this number was sent yet.
     NoDatagram,
-    /// The datagram has no byte at this place.
+    /// The datagram has no byte at this offset.
     NoByte,
     /// The client to be opened is open.
     AlreadyOpen,

@@ -1,4 +1,5 @@
--- Lines that are refused for want of numbers alone, and what they leave.
+-- Lines that are refused only for a lack of numbers, and what they leave.
+-- [add: schedule-line] When the line is refused.
 use Rattle.std.specs.List.{All, range_with_len}
 use Rattle.std.proofs.Common.{◌≡◌, ℕ, zero, suc, ◌+◌, ◌-◌, ◌<◌, ◌≤◌, ◌%◌, Bool, true, false, List, [], ◌∷◌, ◌++◌, length, map, set, filter, replicate, reverse, Option, Some, None, Result, Ok, Err, slice_get, refl, sym, ap, subst, ◌∙◌, arith, inl, inr, eqb}
 use Rattle.std.specs.Option.{option_map_or, option_or}
@@ -10,13 +11,13 @@ use Rattle.std.proofs.lemmas.List.Concat.{flat_map-cons}
 use Rattle.std.proofs.lemmas.Bool.{cases_lt}
 use Rattle.std.proofs.lemmas.List.Elements.{All-filter, All-head, All-tail}
 use Rattle.std.proofs.lemmas.List.Sorted.{All-permutation, IsPermutation-reverse}
-use Rattle.app_events.specs.Part.{Meaning}
+use Rattle.app_events.specs.AppSpec.{AppSpec}
 use Rattle.link_schedule.specs.declared.event.Event.{Event}
 use Rattle.link_schedule.specs.declared.event.Event.TheVariants.{Opens, Again, Tick, Round, Twice, Reverse, Half, Lose}
 use Rattle.tcp_segment.specs.Segments.{PlainSegment}
 use Rattle.link_client.specs.Client.{AbstractClient, ClientStep, client_opens, opens_by}
 use Rattle.link_client.specs.declared.client_state.ClientState.TheVariants as Is
-use Rattle.link_world.specs.History.{Planned, fresh_side, opening_world}
+use Rattle.link_world.specs.History.{Planned, fresh_side, initial_world}
 use Rattle.link_world.specs.Acts.{does, is_idle, named_fault, needs, runs, state_at}
 use Rattle.link_world.specs.Schedule.{BadLine, acts_of, mark_after, past_mark, plays_from, plays_line}
 use Rattle.link_world.specs.World.{Sent, Side, World, client_stepped, posts_of_client, with_client, with_side}
@@ -29,7 +30,7 @@ use Rattle.uip_node.proofs.Fits.{all_cons, all_nil}
 use Rattle.uip_node.proofs.Connections.{get_set_other, get_set_same}
 use Rattle.link_world.proofs.Growing.{Grows, Spoken, does_grows, grows_not, grows_on}
 
--- it is refused for want of numbers alone, and leaves what is said
+-- it is refused only for a lack of numbers, and leaves the stated fact
 abbrev pub Fine : (World → Type 0) → Result World StepFault → Type 0
 Fine P (Ok v) = P v
 Fine P (Err fault) = fault ≡ Full
@@ -59,7 +60,7 @@ abbrev pub AreFree : World → List Act → Type 0
 AreFree w [] = ⊤
 AreFree w (act ∷ more) = IsFree w act × AreFree w more
 
-module _ (m : Meaning) (served : ℕ → Bool) where
+module _ (m : AppSpec) (served : ℕ → Bool) where
   runs_fine : (all : List Act) (w v : World) → Grows w v → AreFree w all → Fine (Grows w) (runs m served all v)
   runs_fine [] w v g free = g
   runs_fine (act ∷ more) w v g free =
@@ -125,8 +126,8 @@ past_within w = numbers_within (length w.sent) (w.mark + 1) (length w.sent - w.m
 abbrev pub AllSpoken : ℕ → World → Type 0
 AllSpoken n w = (k : ℕ) → k < n → Spoken w.sides k
 
-module _ (m : Meaning) (served : ℕ → Bool) (n : ℕ) where
-  -- a line that leaves the clients spoken, and is refused for want of numbers alone
+module _ (m : AppSpec) (served : ℕ → Bool) (n : ℕ) where
+  -- a line after which the clients have sent, and which is refused only for a lack of numbers
   abbrev pub IsKept : Event → Type 0
   IsKept event = (w : World) → AllSpoken n w → Fine (AllSpoken n) (plays_line m served w event)
 
@@ -176,7 +177,7 @@ module _ (m : Meaning) (served : ℕ → Bool) (n : ℕ) where
 
 -- ---- the clients open in turn
 
--- the first j clients have spoken, and those behind them, up to n, are idle
+-- the first j clients have sent, and those after them, up to n, are idle
 pub record IsOpening (n j : ℕ) (w : World) : Type 0 where
   pub spoken : (k : ℕ) → k < j → Spoken w.sides k
   pub idle : (k : ℕ) → j ≤ k → k < n → (side : Side) × (slice_get w.sides k ≡ Some side) × (side.client.state ≡ Is.Idle)
@@ -209,7 +210,7 @@ opened_one n j w side took at state is v sides = record {
     ]
 
 -- the world before the first act
-pub opening_ready : (addr : Addr) (numbers : List ℕ) (plan : List Planned) → IsOpening (length plan) 0 (opening_world addr numbers plan)
+pub opening_ready : (addr : Addr) (numbers : List ℕ) (plan : List Planned) → IsOpening (length plan) 0 (initial_world addr numbers plan)
 opening_ready addr numbers plan = record {
   spoken = λ k lt. absurd (omega (arith, lt));
   idle = λ k ge lt.
@@ -217,7 +218,7 @@ opening_ready addr numbers plan = record {
       (fresh_side there.0, slice_get-map fresh_side plan k ∙ ap (option_map fresh_side) there.1, refl);
 }
 
-module _ (m : Meaning) (served : ℕ → Bool) (n : ℕ) where
+module _ (m : AppSpec) (served : ℕ → Bool) (n : ℕ) where
   opens_line : (j : ℕ) (w : World) → IsOpening n j w → j < n → Fine (IsOpening n (j + 1)) (plays_line m served w (Opens (suc j)))
   opens_line j w is lt =
       let P : World → Type 0 = IsOpening n (j + 1) in

@@ -1,21 +1,21 @@
--- How far a client's request has come: what its steps add to what it said, and what a step of the connection takes of it. No
+-- The progress of a client's request: what its steps add to what it sent, and what a step of the connection accepts of it. No
 -- premise on the other side.
 use Rattle.std.proofs.Common.{◌≡◌, ℕ, ◌+◌, ◌-◌, ◌<◌, ◌≤◌, min, Bool, true, false, not, ◌&&◌, ◌||◌, ◌⊎◌, inl, inr, List, length, length-append, drop, refl, sym, ap, ◌∙◌, arith, Some, eqb, ltb, length-take, if◌then◌else◌}
 use Rattle.uip_wire.specs.Numbers.{wrap}
 use Rattle.tcp_segment.specs.Segments.{PlainSegment, has_syn, has_fin, has_rst, has_ack}
 use Rattle.rexmit_timer.specs.declared.timer.Beat.{Beat}
-use Rattle.app_events.specs.Part.{Part, After, Meaning}
+use Rattle.app_events.specs.AppSpec.{AppState, After, AppSpec}
 use Rattle.app_events.specs.Pages.{Pages, IsPaged}
 use Rattle.app_events.specs.declared.now.Now.{Now}
 use Rattle.app_events.specs.declared.state.State.{State}
 use Rattle.app_events.specs.declared.state.State.TheVariants.{Closed, SynRcvd, Established, CloseWait, FinWait1, FinWait2, Closing, TimeWait, LastAck}
 use Rattle.tcp_machine.specs.Connection.{Connection, rcv_nxt}
-use Rattle.tcp_machine.specs.Segments.{has_place, segment_of}
+use Rattle.tcp_machine.specs.Segments.{occupies_sequence_space, segment_of}
 use Rattle.tcp_machine.specs.Ask.{Outcome, ask, asked, prepared}
-use Rattle.tcp_machine.specs.OnSegment.{is_out_of_order, is_acked, has_text, hears, connects, in_established, peer_closes, goes_on, fin_acked, fin_waits, by_state, on_segment}
+use Rattle.tcp_machine.specs.OnSegment.{is_out_of_order, is_acked, has_text, hears, connects, in_established, peer_closes, stays_established, fin_acked, fin_waits, by_state, on_segment}
 use Rattle.tcp_machine.specs.OnTick.{by_beat, on_tick}
 use Rattle.tcp_machine.specs.declared.step.Step.{Step}
-use Rattle.link_client.specs.Client.{AbstractClient, ClientStep, ack_of, client_aborts, client_again, client_closes, client_opens, client_takes, fin_out, fin_sent, has_outstanding, hears_ack, is_receiving, keeps, may_finish, next_own, one_if, opened_by, own_fin, own_first, own_request, own_reset, sends_next, steps_with, syn_of, takes_in_order, takes_text, tells_window}
+use Rattle.link_client.specs.Client.{AbstractClient, ClientStep, ack_of, client_aborts, client_again, client_closes, client_opens, client_takes, fin_out, fin_sent, has_outstanding, hears_ack, is_receiving, keeps, may_finish, next_own, one_if, opened_by, own_fin, own_first, own_request, own_reset, sends_next, steps_with, syn_of, takes_in_order, takes_text, advertises_window}
 use Rattle.link_client.specs.declared.client_state.ClientState.{ClientState}
 use Rattle.link_client.specs.declared.client_state.ClientState.TheVariants as Is
 use Rattle.link_client.specs.declared.fin_at.FinAt.{FinAt}
@@ -40,14 +40,14 @@ pub record EndsAt (c : AbstractClient) (s : PlainSegment) (at : ℕ) : Type 0 wh
 
 -- request bytes and FIN of a segment end in what the client has sent
 abbrev pub EndsIn : AbstractClient → PlainSegment → Type 0
-EndsIn c s = has_rst s.flags ≡ false → has_syn s.flags ≡ false → has_place s ≡ true → (at : ℕ) → at < 4294967296 → s.seq ≡ wrap (own_first c + 1 + at) → EndsAt c s at
+EndsIn c s = has_rst s.flags ≡ false → has_syn s.flags ≡ false → occupies_sequence_space s ≡ true → (at : ℕ) → at < 4294967296 → s.seq ≡ wrap (own_first c + 1 + at) → EndsAt c s at
 
 -- a step of the client's own
 pub record Asks (c : AbstractClient) (t : ClientStep) : Type 0 where
   pub more : used c ≤ used t.client
   pub further : asked_bytes c ≤ asked_bytes t.client
   pub acked : t.client.acked ≡ c.acked
-  pub first : own_first t.client ≡ own_first c
+  pub iss : own_first t.client ≡ own_first c
   pub early : is_early t.client.state ≡ true → used t.client ≡ used c
   pub ends : Steady t.client → (x : PlainSegment) → t.sent ≡ Some x → EndsIn t.client x
 
@@ -56,7 +56,7 @@ pub record AsksOn (c : AbstractClient) (s : PlainSegment) (t : ClientStep) : Typ
   pub more : used c ≤ used t.client
   pub further : asked_bytes c ≤ asked_bytes t.client
   pub acked : (t.client.acked ≡ c.acked) ⊎ ((has_rst s.flags ≡ false) × (has_ack s.flags ≡ true) × (s.ack ≡ next_own c) × (t.client.acked ≡ c.acked + c.out))
-  pub first : own_first t.client ≡ own_first c
+  pub iss : own_first t.client ≡ own_first c
   pub early : is_early t.client.state ≡ true → used t.client ≡ used c
   pub ends : Steady t.client → (x : PlainSegment) → t.sent ≡ Some x → EndsIn t.client x
 
@@ -92,10 +92,10 @@ finishing_late Is.Idle r e = absurd (cc)
 finishing_late _ r e = absurd (cc)
 
 quiet_asks : (c d : AbstractClient) → used d ≡ used c → asked_bytes d ≡ asked_bytes c → d.acked ≡ c.acked → own_first d ≡ own_first c → Asks c (keeps d)
-quiet_asks c d u b a f = record { more = omega (arith, u); further = omega (arith, b); acked = a; first = f; early = λ y. u; ends = λ st x p. absurd (cc) }
+quiet_asks c d u b a f = record { more = omega (arith, u); further = omega (arith, b); acked = a; iss = f; early = λ y. u; ends = λ st x p. absurd (cc) }
 
 says_asks : (c d : AbstractClient) (s : PlainSegment) → used d ≡ used c → asked_bytes d ≡ asked_bytes c → d.acked ≡ c.acked → own_first d ≡ own_first c → (Steady d → EndsIn d s) → Asks c (steps_with d s)
-says_asks c d s u b a f e = record { more = omega (arith, u); further = omega (arith, b); acked = a; first = f; early = λ y. u; ends = λ st x p. only_some (λ (y : PlainSegment). EndsIn d y) s x p (e st) }
+says_asks c d s u b a f e = record { more = omega (arith, u); further = omega (arith, b); acked = a; iss = f; early = λ y. u; ends = λ st x p. only_some (λ (y : PlainSegment). EndsIn d y) s x p (e st) }
 
 asks_next : (owed : Bool) (c : AbstractClient) → Asks c (sends_next owed c)
 asks_next owed c =
@@ -106,7 +106,7 @@ asks_next owed c =
       more = omega (arith, none);
       further = omega (arith, none);
       acked = refl;
-      first = refl;
+      iss = refl;
       early = λ y. absurd (receiving_late c.state r y);
       ends = λ st x p. only_some (λ (y : PlainSegment). EndsIn d y) (own_request d) x p (request_ends d st);
     }))
@@ -114,7 +114,7 @@ asks_next owed c =
       more = omega (arith, ap one_if n);
       further = omega arith;
       acked = refl;
-      first = refl;
+      iss = refl;
       early = λ y. absurd (finishing_late c.state m y);
       ends = λ st x p. only_some (λ (y : PlainSegment). EndsIn e y) (own_fin c) x p (fin_ends e refl st);
     })
@@ -127,12 +127,12 @@ as_asked c d s t u b f a g = record {
   further = omega (arith, b, g.further);
   early = λ y. g.early y ∙ u;
   acked = elim a [ inl e ↦ inl (g.acked ∙ e) | inr e ↦ inr (e.0, e.1, e.2, g.acked ∙ e.3) ];
-  first = g.first ∙ f;
+  iss = g.iss ∙ f;
   ends = g.ends;
 }
 
 keeps_asked : (c d : AbstractClient) (s : PlainSegment) → used d ≡ used c → asked_bytes d ≡ asked_bytes c → own_first d ≡ own_first c → d.acked ≡ c.acked → AsksOn c s (keeps d)
-keeps_asked c d s u b f a = record { more = omega (arith, u); further = omega (arith, b); acked = inl a; first = f; early = λ y. u; ends = λ st x p. absurd (cc) }
+keeps_asked c d s u b f a = record { more = omega (arith, u); further = omega (arith, b); acked = inl a; iss = f; early = λ y. u; ends = λ st x p. absurd (cc) }
 
 fin_stays : (f : FinAt) → fin_sent (if fin_out f then FinAt.Acked else f) ≡ fin_sent f
 fin_stays FinAt.NotSent = refl
@@ -142,7 +142,7 @@ fin_stays FinAt.Acked = refl
 record HasHeard (c : AbstractClient) (s : PlainSegment) (d : AbstractClient) : Type 0 where
   used_is : used d ≡ used c
   asked_is : asked_bytes d ≡ asked_bytes c
-  first : own_first d ≡ own_first c
+  iss : own_first d ≡ own_first c
   acked : (d.acked ≡ c.acked) ⊎ ((has_ack s.flags ≡ true) × (s.ack ≡ next_own c) × (d.acked ≡ c.acked + c.out))
 
 has_heard : (c : AbstractClient) (s : PlainSegment) → HasHeard c s (hears_ack c s)
@@ -150,8 +150,8 @@ has_heard c s =
     choose (λ d. HasHeard c s d) (has_ack s.flags && (has_outstanding c && eqb s.ack (next_own c))) _ _
     (λ e. (let a = and_true (has_ack s.flags) (has_outstanding c && eqb s.ack (next_own c)) e in
     let b = and_true (has_outstanding c) (eqb s.ack (next_own c)) a.1 in
-    record { used_is = omega (arith, ap one_if (fin_stays c.fin)); asked_is = omega arith; first = refl; acked = inr (a.0, eqb-eq s.ack (next_own c) b.1, refl) }))
-    (λ e. record { used_is = refl; asked_is = refl; first = refl; acked = inl refl })
+    record { used_is = omega (arith, ap one_if (fin_stays c.fin)); asked_is = omega arith; iss = refl; acked = inr (a.0, eqb-eq s.ack (next_own c) b.1, refl) }))
+    (λ e. record { used_is = refl; asked_is = refl; iss = refl; acked = inl refl })
 
 in_order_asks : (c : AbstractClient) (s : PlainSegment) → has_rst s.flags ≡ false → AsksOn c s (takes_in_order (hears_ack c s) s)
 in_order_asks c s nr =
@@ -159,8 +159,8 @@ in_order_asks c s nr =
     let h = has_heard c s in
     let acked = elim h.acked as (λ _. (d.acked ≡ c.acked) ⊎ ((has_rst s.flags ≡ false) × (has_ack s.flags ≡ true) × (s.ack ≡ next_own c) × (d.acked ≡ c.acked + c.out))) [ inl e ↦ inl e | inr e ↦ inr (nr, e.0, e.1, e.2) ] in
     let same : used d ≡ used c = h.used_is in
-    of_order (λ x. AsksOn c s x) d s (as_asked c d s (sends_next true d) same h.asked_is h.first acked (asks_next true d)) (as_asked c d s (sends_next false d) same h.asked_is h.first acked (asks_next false d))
-    (λ g. as_asked c (takes_text d s) s (sends_next true (takes_text d s)) same h.asked_is h.first acked (asks_next true (takes_text d s)))
+    of_order (λ x. AsksOn c s x) d s (as_asked c d s (sends_next true d) same h.asked_is h.iss acked (asks_next true d)) (as_asked c d s (sends_next false d) same h.asked_is h.iss acked (asks_next false d))
+    (λ g. as_asked c (takes_text d s) s (sends_next true (takes_text d s)) same h.asked_is h.iss acked (asks_next true (takes_text d s)))
 
 pub client_asks : (c : AbstractClient) (s : PlainSegment) → AsksOn c s (client_takes c s)
 client_asks c s =
@@ -187,38 +187,38 @@ again_asks c =
 pub closes_asks : (c : AbstractClient) → Asks c (client_closes c)
 closes_asks c =
     of_closes (λ x. Asks c x) c (quiet_asks c c refl refl refl refl)
-    (λ e. (let g = asks_next false (record c { state = Is.Closing }) in record { more = g.more; further = g.further; acked = g.acked; first = g.first; early = g.early; ends = g.ends }))
+    (λ e. (let g = asks_next false (record c { state = Is.Closing }) in record { more = g.more; further = g.further; acked = g.acked; iss = g.iss; early = g.early; ends = g.ends }))
 
 pub aborts_asks : (c : AbstractClient) → Asks c (client_aborts c)
 aborts_asks c = of_aborts (λ x. Asks c x) c (quiet_asks c c refl refl refl refl) (λ e. says_asks c (record c { state = Is.Reset }) (own_reset c) refl refl refl refl (λ st nr. absurd (cc)))
 
-pub window_asks : (x : ℕ) (c : AbstractClient) → Asks c (tells_window x c)
+pub window_asks : (x : ℕ) (c : AbstractClient) → Asks c (advertises_window x c)
 window_asks x c = quiet_asks c (record c { window = x }) refl refl refl refl
 
 -- What a row of the step table takes of a segment: at most its text and its FIN. What it hands to the application is text that it
 -- takes.
 pub record Row (c d : Connection) (s : PlainSegment) : Type 0 where
-  pub peer : d.peer_first ≡ c.peer_first
+  pub peer : d.irs ≡ c.irs
   pub count : ℕ
   pub more : d.taken ≡ c.taken + count
   pub most : count ≤ length s.text + one_if (has_fin s.flags)
   pub handed : ℕ
-  pub heard : length d.part.heard ≤ length c.part.heard + handed
+  pub delivered : length d.part.delivered ≤ length c.part.delivered + handed
   pub handed_text : handed ≤ length s.text
   pub handed_taken : handed ≤ count
 
 -- What a step of a connection takes of a segment: what a row takes, and only at the expected number.
-pub record Takes (c d : Connection) (s : PlainSegment) : Type 0 where
+pub record Refines (c d : Connection) (s : PlainSegment) : Type 0 where
   pub row : Row c d s
   pub place : 0 < row.count → (s.seq ≡ rcv_nxt c) × (has_rst s.flags ≡ false)
 
--- what was taken and heard stays
+-- what was accepted and delivered stays the same
 record Stays (c d : Connection) : Type 0 where
-  peer : d.peer_first ≡ c.peer_first
+  peer : d.irs ≡ c.irs
   taken : d.taken ≡ c.taken
-  heard : d.part.heard ≡ c.part.heard
+  delivered : d.part.delivered ≡ c.part.delivered
 
-as_long : (p q : Part) → q.heard ≡ p.heard → length q.heard ≡ length p.heard
+as_long : (p q : AppState) → q.delivered ≡ p.delivered → length q.delivered ≡ length p.delivered
 as_long p q e = ap (λ (x : List ℕ). length x) e
 
 abbrev row_none : (c d : Connection) (s : PlainSegment) → Stays c d → Row c d s
@@ -228,41 +228,41 @@ row_none c d s g = record {
   more = (let z = g.taken in omega (arith, z));
   most = omega arith;
   handed = 0;
-  heard = omega (arith, as_long c.part d.part g.heard);
+  delivered = omega (arith, as_long c.part d.part g.delivered);
   handed_text = omega arith;
   handed_taken = omega arith;
 }
 
-takes_none : (c d : Connection) (s : PlainSegment) → Stays c d → Takes c d s
+takes_none : (c d : Connection) (s : PlainSegment) → Stays c d → Refines c d s
 takes_none c d s g = record { row = row_none c d s g; place = λ l. absurd (let z : 0 < 0 = l in omega (arith, z)) }
 
-row_text : (c d : Connection) (s : PlainSegment) → d.peer_first ≡ c.peer_first → d.taken ≡ c.taken + length s.text → length d.part.heard ≤ length c.part.heard + length s.text → Row c d s
-row_text c d s p t h = record { peer = p; count = length s.text; more = t; most = omega arith; handed = length s.text; heard = h; handed_text = omega arith; handed_taken = omega arith }
+row_text : (c d : Connection) (s : PlainSegment) → d.irs ≡ c.irs → d.taken ≡ c.taken + length s.text → length d.part.delivered ≤ length c.part.delivered + length s.text → Row c d s
+row_text c d s p t h = record { peer = p; count = length s.text; more = t; most = omega arith; handed = length s.text; delivered = h; handed_text = omega arith; handed_taken = omega arith }
 
-row_fin : (c d : Connection) (s : PlainSegment) → has_fin s.flags ≡ true → d.peer_first ≡ c.peer_first → d.taken ≡ c.taken + (length s.text + 1) → length d.part.heard ≤ length c.part.heard + length s.text → Row c d s
-row_fin c d s f p t h = record { peer = p; count = length s.text + 1; more = t; most = omega (arith, ap one_if f); handed = length s.text; heard = h; handed_text = omega arith; handed_taken = omega arith }
+row_fin : (c d : Connection) (s : PlainSegment) → has_fin s.flags ≡ true → d.irs ≡ c.irs → d.taken ≡ c.taken + (length s.text + 1) → length d.part.delivered ≤ length c.part.delivered + length s.text → Row c d s
+row_fin c d s f p t h = record { peer = p; count = length s.text + 1; more = t; most = omega (arith, ap one_if f); handed = length s.text; delivered = h; handed_text = omega arith; handed_taken = omega arith }
 
-module _ (m : Meaning) (pages : Pages) (lawful : IsPaged m pages) where
-  hears_at_most : (numbers : List ℕ) (p : Part) (text : List ℕ) → length (hears m numbers p text).part.heard ≤ length p.heard + length text
-  hears_at_most numbers p text = omega (arith, ap (λ (y : List ℕ). length y) (hears_is m pages lawful numbers p text).heard, length-append p.heard text)
+module _ (m : AppSpec) (pages : Pages) (lawful : IsPaged m pages) where
+  hears_at_most : (numbers : List ℕ) (p : AppState) (text : List ℕ) → length (hears m numbers p text).part.delivered ≤ length p.delivered + length text
+  hears_at_most numbers p text = omega (arith, ap (λ (y : List ℕ). length y) (hears_is m pages lawful numbers p text).delivered, length-append p.delivered text)
 
-  pub asked_takes : (now : Connection → Now) (c : Connection) (s : PlainSegment) (o : Outcome) → Takes c o.connection s → Takes c (asked m now o).connection s
+  pub asked_takes : (now : Connection → Now) (c : Connection) (s : PlainSegment) (o : Outcome) → Refines c o.connection s → Refines c (asked m now o).connection s
   asked_takes now c s o t =
-      asked_by m (λ x. Takes c x.connection s) now o
+      asked_by m (λ x. Refines c x.connection s) now o
       (λ a fresh. (let b : Connection = prepared m (now o.connection) o.connection o.numbers in
       let d : Connection = (ask m (now o.connection) fresh o.connection o.numbers).connection in
       let u = wanted_unmoved m (m.want o.numbers b.part) fresh b o.numbers in
-      let heard : d.part.heard ≡ o.connection.part.heard = ap (λ (p : Part). p.heard) u.part ∙ lawful.prepare_heard o.numbers o.connection.part (now o.connection) in
+      let delivered : d.part.delivered ≡ o.connection.part.delivered = ap (λ (p : AppState). p.delivered) u.part ∙ lawful.prepare_heard o.numbers o.connection.part (now o.connection) in
       let r = t.row in
-      let h = r.heard in
+      let h = r.delivered in
       record {
         row = record {
-          peer = u.peer_first ∙ r.peer;
+          peer = u.irs ∙ r.peer;
           count = r.count;
           more = u.taken ∙ r.more;
           most = r.most;
           handed = r.handed;
-          heard = omega (arith, as_long o.connection.part d.part heard, h);
+          delivered = omega (arith, as_long o.connection.part d.part delivered, h);
           handed_text = r.handed_text;
           handed_taken = r.handed_taken;
         };
@@ -271,52 +271,52 @@ module _ (m : Meaning) (pages : Pages) (lawful : IsPaged m pages) where
       t
 
   established_row : (acked : Bool) (b c : Connection) (numbers : List ℕ) (s : PlainSegment) → Stays b c → Row b (in_established m acked c numbers s).connection s
-  unfolding in_established peer_closes goes_on
+  unfolding in_established peer_closes stays_established
   established_row acked b c numbers s g =
       let with_fin = ap (λ n. n + (length s.text + 1)) g.taken in
       let with_text = ap (λ n. n + length s.text) g.taken in
-      let said : length (hears m numbers c.part s.text).part.heard ≤ length b.part.heard + length s.text = omega (arith, as_long b.part c.part g.heard, hears_at_most numbers c.part s.text) in
+      let output : length (hears m numbers c.part s.text).part.delivered ≤ length b.part.delivered + length s.text = omega (arith, as_long b.part c.part g.delivered, hears_at_most numbers c.part s.text) in
       choose (λ (o : Outcome). Row b o.connection s) (has_fin s.flags) _ _
-      (λ f. choose (λ (o : Outcome). Row b o.connection s) (ltb 0 c.len) _ _ (λ l. row_fin b _ s f g.peer with_fin said) (λ l. row_fin b _ s f g.peer with_fin said))
-      (λ f. choose (λ (o : Outcome). Row b o.connection s) (not acked && not (has_text s)) _ _ (λ l. row_text b _ s g.peer with_text said)
-      (λ l. choose (λ (o : Outcome). Row b o.connection s) (ltb 0 c.len) _ _ (λ i. row_text b _ s g.peer with_text said) (λ i. row_text b _ s g.peer with_text said)))
+      (λ f. choose (λ (o : Outcome). Row b o.connection s) (ltb 0 c.len) _ _ (λ l. row_fin b _ s f g.peer with_fin output) (λ l. row_fin b _ s f g.peer with_fin output))
+      (λ f. choose (λ (o : Outcome). Row b o.connection s) (not acked && not (has_text s)) _ _ (λ l. row_text b _ s g.peer with_text output)
+      (λ l. choose (λ (o : Outcome). Row b o.connection s) (ltb 0 c.len) _ _ (λ i. row_text b _ s g.peer with_text output) (λ i. row_text b _ s g.peer with_text output)))
 
-  connects_at_most : (c : Connection) (numbers : List ℕ) (s : PlainSegment) → length (connects m c numbers s).connection.part.heard ≤ length c.part.heard + length s.text
+  connects_at_most : (c : Connection) (numbers : List ℕ) (s : PlainSegment) → length (connects m c numbers s).connection.part.delivered ≤ length c.part.delivered + length s.text
   connects_at_most c numbers s =
       let start : After = m.connected numbers c.sockets.own_port.0 in
-      let none : length start.part.heard ≡ 0 = ap (λ (x : List ℕ). length x) (lawful.connected_heard numbers c.sockets.own_port.0) in
+      let none : length start.part.delivered ≡ 0 = ap (λ (x : List ℕ). length x) (lawful.connected_heard numbers c.sockets.own_port.0) in
       omega (arith, none, hears_at_most start.numbers start.part s.text)
 
-  -- text is let go
-  let_go_fin : (c d : Connection) (s : PlainSegment) → has_fin s.flags ≡ true → d.peer_first ≡ c.peer_first → d.taken ≡ c.taken + (length s.text + 1) → d.part.heard ≡ c.part.heard → Row c d s
+  -- text is discarded
+  let_go_fin : (c d : Connection) (s : PlainSegment) → has_fin s.flags ≡ true → d.irs ≡ c.irs → d.taken ≡ c.taken + (length s.text + 1) → d.part.delivered ≡ c.part.delivered → Row c d s
   let_go_fin c d s f p t h = row_fin c d s f p t (omega (arith, as_long c.part d.part h))
 
-  let_go_text : (c d : Connection) (s : PlainSegment) → d.peer_first ≡ c.peer_first → d.taken ≡ c.taken + length s.text → d.part.heard ≡ c.part.heard → Row c d s
+  let_go_text : (c d : Connection) (s : PlainSegment) → d.irs ≡ c.irs → d.taken ≡ c.taken + length s.text → d.part.delivered ≡ c.part.delivered → Row c d s
   let_go_text c d s p t h = row_text c d s p t (omega (arith, as_long c.part d.part h))
 
   by_state_row : (st : State) (acked : Bool) (c : Connection) (numbers : List ℕ) (s : PlainSegment) → Row c (by_state m st acked c numbers s).connection s
   unfolding fin_acked fin_waits
   by_state_row SynRcvd true c numbers s = row_text c _ s refl refl (connects_at_most c numbers s)
-  by_state_row SynRcvd false c numbers s = row_none c _ s record { peer = refl; taken = refl; heard = refl }
-  by_state_row Established true c numbers s = established_row true c _ (m.acked numbers c.part c.len).numbers s record { peer = refl; taken = refl; heard = lawful.acked_like numbers c.part c.len }
-  by_state_row Established false c numbers s = established_row false c c numbers s record { peer = refl; taken = refl; heard = refl }
-  by_state_row CloseWait true c numbers s = row_none c _ s record { peer = refl; taken = refl; heard = lawful.acked_like numbers c.part c.len }
-  by_state_row CloseWait false c numbers s = row_none c _ s record { peer = refl; taken = refl; heard = refl }
+  by_state_row SynRcvd false c numbers s = row_none c _ s record { peer = refl; taken = refl; delivered = refl }
+  by_state_row Established true c numbers s = established_row true c _ (m.acked numbers c.part c.len).numbers s record { peer = refl; taken = refl; delivered = lawful.acked_like numbers c.part c.len }
+  by_state_row Established false c numbers s = established_row false c c numbers s record { peer = refl; taken = refl; delivered = refl }
+  by_state_row CloseWait true c numbers s = row_none c _ s record { peer = refl; taken = refl; delivered = lawful.acked_like numbers c.part c.len }
+  by_state_row CloseWait false c numbers s = row_none c _ s record { peer = refl; taken = refl; delivered = refl }
   by_state_row FinWait1 true c numbers s = choose (λ (o : Outcome). Row c o.connection s) (has_fin s.flags) _ _ (λ f. let_go_fin c _ s f refl refl refl) (λ f. let_go_text c _ s refl refl refl)
   by_state_row FinWait1 false c numbers s =
       choose (λ (o : Outcome). Row c o.connection s) (has_fin s.flags) _ _ (λ f. let_go_fin c _ s f refl refl refl)
-      (λ f. choose (λ (o : Outcome). Row c o.connection s) (has_text s) _ _ (λ l. let_go_text c _ s refl refl refl) (λ l. row_none c _ s record { peer = refl; taken = refl; heard = refl }))
+      (λ f. choose (λ (o : Outcome). Row c o.connection s) (has_text s) _ _ (λ l. let_go_text c _ s refl refl refl) (λ l. row_none c _ s record { peer = refl; taken = refl; delivered = refl }))
   by_state_row FinWait2 acked c numbers s =
       choose (λ (o : Outcome). Row c o.connection s) (has_fin s.flags) _ _ (λ f. let_go_fin c _ s f refl refl refl)
-      (λ f. choose (λ (o : Outcome). Row c o.connection s) (has_text s) _ _ (λ l. let_go_text c _ s refl refl refl) (λ l. row_none c _ s record { peer = refl; taken = refl; heard = refl }))
-  by_state_row Closing true c numbers s = row_none c _ s record { peer = refl; taken = refl; heard = refl }
-  by_state_row Closing false c numbers s = row_none c _ s record { peer = refl; taken = refl; heard = refl }
-  by_state_row LastAck true c numbers s = row_none c _ s record { peer = refl; taken = refl; heard = refl }
-  by_state_row LastAck false c numbers s = row_none c _ s record { peer = refl; taken = refl; heard = refl }
-  by_state_row TimeWait acked c numbers s = row_none c _ s record { peer = refl; taken = refl; heard = refl }
-  by_state_row Closed acked c numbers s = row_none c _ s record { peer = refl; taken = refl; heard = refl }
+      (λ f. choose (λ (o : Outcome). Row c o.connection s) (has_text s) _ _ (λ l. let_go_text c _ s refl refl refl) (λ l. row_none c _ s record { peer = refl; taken = refl; delivered = refl }))
+  by_state_row Closing true c numbers s = row_none c _ s record { peer = refl; taken = refl; delivered = refl }
+  by_state_row Closing false c numbers s = row_none c _ s record { peer = refl; taken = refl; delivered = refl }
+  by_state_row LastAck true c numbers s = row_none c _ s record { peer = refl; taken = refl; delivered = refl }
+  by_state_row LastAck false c numbers s = row_none c _ s record { peer = refl; taken = refl; delivered = refl }
+  by_state_row TimeWait acked c numbers s = row_none c _ s record { peer = refl; taken = refl; delivered = refl }
+  by_state_row Closed acked c numbers s = row_none c _ s record { peer = refl; taken = refl; delivered = refl }
 
-  pub some_place : (s : PlainSegment) (n : ℕ) → n ≤ length s.text + one_if (has_fin s.flags) → 0 < n → has_place s ≡ true
+  pub some_place : (s : PlainSegment) (n : ℕ) → n ≤ length s.text + one_if (has_fin s.flags) → 0 < n → occupies_sequence_space s ≡ true
   some_place s n h l = placed (ltb 0 (length s.text)) (has_syn s.flags) (has_fin s.flags) refl refl
     where
       placed : (a b f : Bool) → ltb 0 (length s.text) ≡ a → has_fin s.flags ≡ f → a || (b || f) ≡ true
@@ -325,17 +325,17 @@ module _ (m : Meaning) (pages : Pages) (lawful : IsPaged m pages) where
       placed false false true p q = refl
       placed false false false p q = absurd (let z : ⊥ = omega (arith, h, l, ltb-zero (length s.text) p, ap one_if q) in z)
 
-  pub segment_takes : (c : Connection) (numbers : List ℕ) (s : PlainSegment) → Takes c (on_segment m c numbers s).connection s
+  pub segment_takes : (c : Connection) (numbers : List ℕ) (s : PlainSegment) → Refines c (on_segment m c numbers s).connection s
   unfolding on_segment
   segment_takes c numbers s =
-      choose (λ (o : Outcome). Takes c o.connection s) (has_rst s.flags) _ _ (λ r. takes_none c _ s record { peer = refl; taken = refl; heard = refl })
-      (λ r. choose (λ (o : Outcome). Takes c o.connection s) (is_out_of_order c s) _ _ (λ i. takes_none c _ s record { peer = refl; taken = refl; heard = refl })
+      choose (λ (o : Outcome). Refines c o.connection s) (has_rst s.flags) _ _ (λ r. takes_none c _ s record { peer = refl; taken = refl; delivered = refl })
+      (λ r. choose (λ (o : Outcome). Refines c o.connection s) (is_out_of_order c s) _ _ (λ i. takes_none c _ s record { peer = refl; taken = refl; delivered = refl })
       (λ i. let g = by_state_row c.state (is_acked c s) c numbers s in
       record {
         row = g;
         place = λ l. (
-          elim (and_false (has_place s) (not (eqb s.seq (rcv_nxt c))) i) [
-            | inl x ↦ absurd (let y : has_place s ≡ true = some_place s g.count g.most l in cc)
+          elim (and_false (occupies_sequence_space s) (not (eqb s.seq (rcv_nxt c))) i) [
+            | inl x ↦ absurd (let y : occupies_sequence_space s ≡ true = some_place s g.count g.most l in cc)
             | inr x ↦ eqb-eq s.seq (rcv_nxt c) (not-false (eqb s.seq (rcv_nxt c)) x)
           ],
           r,
@@ -343,22 +343,22 @@ module _ (m : Meaning) (pages : Pages) (lawful : IsPaged m pages) where
       }))
 
   beat_stays : (b : Beat) (c : Connection) (numbers : List ℕ) → Stays c (by_beat m b c numbers).connection
-  beat_stays Beat.Wait c numbers = record { peer = refl; taken = refl; heard = refl }
-  beat_stays Beat.Again c numbers = record { peer = refl; taken = refl; heard = refl }
-  beat_stays Beat.GiveUp c numbers = record { peer = refl; taken = refl; heard = refl }
+  beat_stays Beat.Wait c numbers = record { peer = refl; taken = refl; delivered = refl }
+  beat_stays Beat.Again c numbers = record { peer = refl; taken = refl; delivered = refl }
+  beat_stays Beat.GiveUp c numbers = record { peer = refl; taken = refl; delivered = refl }
 
-  pub tick_takes : (c : Connection) (numbers : List ℕ) (s : PlainSegment) → Takes c (on_tick m c numbers).connection s
+  pub tick_takes : (c : Connection) (numbers : List ℕ) (s : PlainSegment) → Refines c (on_tick m c numbers).connection s
   tick_takes c numbers s =
       takes_none c (on_tick m c numbers).connection s
       (on_tick_by m (λ o. Stays c o.connection) c numbers record {
-        none = record { peer = refl; taken = refl; heard = refl };
+        none = record { peer = refl; taken = refl; delivered = refl };
         beats = λ r b. beat_stays b c numbers;
-        rested = λ e. record { peer = refl; taken = refl; heard = refl };
-        ends = record { peer = refl; taken = refl; heard = refl };
-        polled = λ e l. record { peer = refl; taken = refl; heard = (lawful.polled_like numbers c.part).heard };
+        rested = λ e. record { peer = refl; taken = refl; delivered = refl };
+        ends = record { peer = refl; taken = refl; delivered = refl };
+        polled = λ e l. record { peer = refl; taken = refl; delivered = (lawful.polled_like numbers c.part).delivered };
       })
 
-  -- what a connection says acknowledges all that it took
+  -- what a connection sends acknowledges all that it accepted
   pub says_taken : (d : Connection) (step : Step) (x : PlainSegment) → segment_of m d step ≡ Some x → has_rst x.flags ≡ false → x.ack ≡ rcv_nxt d
   says_taken d Step.Drop x e n = absurd (cc)
   says_taken d Step.Ack x e n = only_some (λ (y : PlainSegment). y.ack ≡ rcv_nxt d) _ x e refl

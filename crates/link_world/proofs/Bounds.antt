@@ -1,9 +1,10 @@
 -- The mark, the bytes of each datagram, and what a client sends only after it opened.
+-- [add: schedule-line] What its acts leave.
 use Rattle.std.proofs.Common.{◌≡◌, ℕ, zero, suc, ◌+◌, ◌<◌, ◌≤◌, Bool, true, false, inl, inr, List, [], ◌∷◌, ◌++◌, length, map, refl, sym, ap, ◌∙◌, subst, arith, Option, Some, None, Result, Ok, Err, slice_get, is_some, length-append, length-take, length-drop}
 use Rattle.std.proofs.lemmas.Bool.{cases_lt}
 use Rattle.std.specs.Option.{option_map_or}
 use Rattle.uip_wire.specs.declared.addr.Addr.{Addr}
-use Rattle.app_events.specs.Part.{Meaning}
+use Rattle.app_events.specs.AppSpec.{AppSpec}
 use Rattle.app_events.specs.Pages.{Pages, IsPaged, IsAddr}
 use Rattle.icmp_echo.specs.Echo.{echo_reply}
 use Rattle.tcp_segment.specs.Segments.{PlainSegment, has_syn, has_fin, has_rst}
@@ -23,13 +24,13 @@ use Rattle.link_world.specs.declared.act.Act.{Act}
 use Rattle.link_world.specs.declared.step_fault.StepFault.{StepFault}
 use Rattle.link_world.specs.declared.who.Who.{Who}
 use Rattle.link_world.specs.declared.who.Who.TheVariants.{FromClient, FromNode, Pinger}
-use Rattle.link_world.specs.History.{Planned, fresh_side, opening_world, planned_of, started}
+use Rattle.link_world.specs.History.{Planned, fresh_side, initial_world, planned_of, started}
 use Rattle.link_world.specs.Reading.{IsSentBy}
 use Rattle.link_world.specs.Times.{IsLater, AcknowledgedLater, MarkIsLow, NoneIsEmpty, SidesAsPlanned}
 use Rattle.link_world.proofs.Doing.{goes_on_with, with_mark}
 use Rattle.uip_node.proofs.Steadiness.{steady_of}
 use Rattle.link_world.proofs.Good.{seg, from, to}
-use Rattle.link_world.proofs.Any.{Framed, Steps, Takes, any_step, older, does_framed}
+use Rattle.link_world.proofs.Any.{Framed, Steps, Refines, any_step, older, does_framed}
 use Rattle.link_world.proofs.Growing.{Grows, does_grows, grows_not, grows_on}
 use Rattle.link_world.proofs.Parts.{clean_parts}
 use Rattle.link_world.proofs.Prefix.{all_good}
@@ -45,7 +46,7 @@ use Rattle.uip_node.proofs.DatagramsBack.{whole_length}
 
 -- ---- the mark
 
-module _ (m : Meaning) (served : ℕ → Bool) where
+module _ (m : AppSpec) (served : ℕ → Bool) where
   runs_grow : (all : List Act) (w v : World) → runs m served all w ≡ Ok v → Grows w v
   runs_grow all w v e =
       run_keeps m served (λ act. Unit {0}) (λ u. Grows w u) (λ u act f n p. grows_on w u (does m served u act) p (does_grows m served u act)) all w v (λ k d l. tt) (grows_not w) e
@@ -91,8 +92,8 @@ map_fresh (p ∷ plan) = ap (λ ps. p ∷ ps) (map_fresh plan)
 
 pub sides_as_planned : SidesAsPlanned
 sides_as_planned m served addr numbers plan w = record {
-  by_acts = λ schedule e. (runs_grow m served schedule (opening_world addr numbers plan) w e).planned ∙ map_fresh plan;
-  by_lines = λ lines e. (lines_onward m served lines 0 (opening_world addr numbers plan) w e).grows.planned ∙ map_fresh plan;
+  by_acts = λ schedule e. (runs_grow m served schedule (initial_world addr numbers plan) w e).planned ∙ map_fresh plan;
+  by_lines = λ lines e. (lines_onward m served lines 0 (initial_world addr numbers plan) w e).grows.planned ∙ map_fresh plan;
 }
 
 -- ---- the bytes
@@ -132,14 +133,14 @@ none_is_empty m pages lawful page w r k e x =
 
 -- ---- what was sent stays
 
-module _ (m : Meaning) (n : ℕ) (it : Sent) where
+module _ (m : AppSpec) (n : ℕ) (it : Sent) where
   abbrev There : ℕ → Side → Connection → List Sent → Type 0
   There k side c sent = slice_get sent n ≡ Some it
 
   there_other : (k : ℕ) (side : Side) (c : Connection) (sent : List Sent) (e : Sent) → There k side c sent → (e.who ≡ to k → ⊥) → (e.who ≡ from k → ⊥) → There k side c (sent ++ e ∷ [])
   there_other k side c sent e g t f = get_older sent e it n g
 
-  there_reset : (k : ℕ) (side : Side) (c : Connection) (sent : List Sent) (e : Sent) → There k side c sent → e.epoch ≡ length side.past → has_syn (seg e).flags ≡ false → has_fin (seg e).flags ≡ false → (seg e).text ≡ [] → has_rst (seg e).flags ≡ true → e.again ≡ false → e.who ≡ to k → There k side c (sent ++ e ∷ [])
+  there_reset : (k : ℕ) (side : Side) (c : Connection) (sent : List Sent) (e : Sent) → There k side c sent → e.epoch ≡ length side.history → has_syn (seg e).flags ≡ false → has_fin (seg e).flags ≡ false → (seg e).text ≡ [] → has_rst (seg e).flags ≡ true → e.again ≡ false → e.who ≡ to k → There k side c (sent ++ e ∷ [])
   there_reset k side c sent e g q sy fi te rs ag w = get_older sent e it n g
 
   there_evict : (k : ℕ) (side : Side) (c : Connection) (sent : List Sent) → is_live c.state ≡ true → There k side c sent → There k (older side c) closed sent
@@ -151,7 +152,7 @@ module _ (m : Meaning) (n : ℕ) (it : Sent) where
   there_steps : (w : World) (o : Outcome) (k : ℕ) (side : Side) → slice_get w.sent n ≡ Some it → Steps m There there_other there_reset there_evict there_mark w o k side
   there_steps w o k side g = record { quiet = λ x l. g; quiet_last = λ x l. g; says = λ s e l tick id. get_older w.sent _ it n g; says_last = λ s e l tick id. get_older w.sent _ it n g }
 
-  there_takes : (w : World) (k : ℕ) (base : Side) (c : Connection) (t : ClientStep) → slice_get w.sent n ≡ Some it → Takes m There there_other there_reset there_evict there_mark w k base c t
+  there_takes : (w : World) (k : ℕ) (base : Side) (c : Connection) (t : ClientStep) → slice_get w.sent n ≡ Some it → Refines m There there_other there_reset there_evict there_mark w k base c t
   there_takes w k base c t g = record { quiet = λ x. g; says = λ s e tick. get_older w.sent _ it n g }
 
   stays_there : (pages : Pages) → IsPaged m pages → (v w : World) → IsLater m pages v w → Framed m There there_other there_reset there_evict there_mark v → Framed m There there_other there_reset there_evict there_mark w
@@ -159,7 +160,7 @@ module _ (m : Meaning) (n : ℕ) (it : Sent) where
       (λ served u act harm g fits. does_framed m There there_other there_reset there_evict there_mark (steady_of m pages lawful) served
       (λ w old numbers now k j side e lv f n is sent who fresh g. there_steps w (asked m now (on_segment m old numbers (seg e))) k side g)
       (λ w old numbers now k side lv f n is g. there_steps w (asked m now (on_tick m old numbers)) k side g)
-      (λ w first sockets k j side e own sent who fresh plain fit g tick id. get_older w.sent _ it n g)
+      (λ w iss sockets k j side e own sent who fresh plain fit g tick id. get_older w.sent _ it n g)
       (any_step m There there_other there_reset there_evict there_mark there_takes)
       u act harm g fits)
       v w l

@@ -2,7 +2,7 @@
 use Rattle.std.proofs.Common.{◌≡◌, ◌+◌, ◌-◌, min, Bool, true, false, not, ◌&&◌, length, refl, ap, eqb, ltb}
 use Rattle.uip_wire.specs.Numbers.{wrap}
 use Rattle.tcp_segment.specs.Segments.{PlainSegment, has_syn, has_rst, has_ack}
-use Rattle.tcp_machine.specs.Segments.{has_place}
+use Rattle.tcp_machine.specs.Segments.{occupies_sequence_space}
 use Rattle.link_client.specs.Client.{AbstractClient, ClientStep, ack_of, again_by, aborts_by, client_again, client_aborts, client_closes, client_opens, client_takes, closes_by, fin_out, fin_sent, has_closed, has_outstanding, hears_ack, is_receiving, is_reset_by, keeps, may_finish, opened_by, opens_by, own_fin, own_first, own_request, own_reset, sends_next, steps_with, syn_of, takes_by, takes_in_order, takes_text}
 use Rattle.link_client.specs.declared.client_state.ClientState.{ClientState}
 use Rattle.link_client.specs.declared.client_state.ClientState.TheVariants as Is
@@ -24,12 +24,12 @@ module _ (P : ClientStep → Type 0) (c : AbstractClient) where
       fin x.0 y.0 (not-true (fin_sent c.fin) y.1)))
       (λ f. choose P owed _ _ (λ g. ack) (λ g. kept)))
 
-  -- a segment in its order: its text is taken, or it is answered, or it says nothing
+  -- a segment in its order: its text is accepted, or it is answered, or nothing is sent
   pub of_order : (s : PlainSegment) → P (sends_next true c) → P (sends_next false c) → (eqb s.seq c.expected && is_receiving c.state ≡ true → P (sends_next true (takes_text c s))) → P (takes_in_order c s)
   unfolding takes_in_order
   of_order s answers says_on takes =
       choose P (has_syn s.flags) _ _ (λ e. answers)
-      (λ e. choose P (not (has_place s)) _ _ (λ f. says_on) (λ f. choose P (eqb s.seq c.expected && is_receiving c.state) _ _ takes (λ g. answers)))
+      (λ e. choose P (not (occupies_sequence_space s)) _ _ (λ f. says_on) (λ f. choose P (eqb s.seq c.expected && is_receiving c.state) _ _ takes (λ g. answers)))
 
   by_takes : (st : ClientState) (s : PlainSegment) → c.state ≡ st → P (keeps c) → (c.state ≡ Is.Opening → has_syn s.flags && (has_ack s.flags && eqb s.ack (wrap (own_first c + 1))) ≡ true → P (sends_next true (opened_by c s)))
       → P (takes_in_order (hears_ack c s) s) → P (takes_by st c s)
@@ -39,7 +39,7 @@ module _ (P : ClientStep → Type 0) (c : AbstractClient) where
   by_takes Is.Opening s e kept opens hears = choose P (has_syn s.flags && (has_ack s.flags && eqb s.ack (wrap (own_first c + 1)))) _ _ (λ f. opens e f) (λ f. kept)
   by_takes _ s e kept opens hears = hears
 
-  -- a segment: it is reset, or it opens, or it hears what comes
+  -- a segment: it resets the client, or opens it, or the client receives it
   pub of_takes : (s : PlainSegment) → P (keeps c) → (is_reset_by c.state c s ≡ true → P (keeps (record c { state = Is.Reset })))
       → (c.state ≡ Is.Opening → has_rst s.flags ≡ false → has_syn s.flags && (has_ack s.flags && eqb s.ack (wrap (own_first c + 1))) ≡ true → P (sends_next true (opened_by c s)))
       → (has_rst s.flags ≡ false → P (takes_in_order (hears_ack c s) s)) → P (client_takes c s)

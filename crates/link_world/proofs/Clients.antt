@@ -1,20 +1,20 @@
--- One step of a client keeps what holds of it.
+-- One step of a client preserves what holds of it.
 use Rattle.std.specs.List.{All}
 use Rattle.std.proofs.Common.{◌≡◌, ℕ, ◌+◌, ◌-◌, ◌≤◌, min, Bool, true, false, not, ◌&&◌, ◌⊎◌, inl, inr, List, [], ◌++◌, length, refl, sym, ap, ◌∙◌, subst, arith, Option, Some, None, length-append, eqb, ltb, if◌then◌else◌}
 use Rattle.uip_wire.specs.Numbers.{wrap}
 use Rattle.tcp_segment.specs.Segments.{PlainSegment, has_syn, has_fin, has_rst, has_ack}
-use Rattle.app_events.specs.Part.{Moment, Meaning}
-use Rattle.app_events.specs.Pages.{IsMoment}
+use Rattle.app_events.specs.AppSpec.{Snapshot, AppSpec}
+use Rattle.app_events.specs.Pages.{IsSnapshot}
 use Rattle.tcp_machine.specs.Connection.{Connection, is_live}
-use Rattle.tcp_machine.specs.Segments.{has_place}
+use Rattle.tcp_machine.specs.Segments.{occupies_sequence_space}
 use Rattle.link_client.specs.Client.{AbstractClient, ClientStep, sends_next, has_outstanding, is_receiving, may_finish, has_closed, own_request, ack_of, syn_of, own_fin, own_reset, keeps, steps_with, hears_ack, fin_sent, fin_out, takes_in_order, takes_text, takes_by, client_takes, is_reset_by, opened_by, opens_by, again_by, closes_by, aborts_by, after_fin, one_if, next_own, own_first}
 use Rattle.link_client.specs.declared.client_state.ClientState.{ClientState}
 use Rattle.link_client.specs.declared.client_state.ClientState.TheVariants as Is
 use Rattle.link_client.specs.declared.fin_at.FinAt.{FinAt}
-use Rattle.link_world.specs.World.{Sent, Era, becomes_opened}
+use Rattle.link_world.specs.World.{Sent, PastConnection, becomes_opened}
 use Rattle.link_world.specs.History.{era}
 use Rattle.uip_node.proofs.Basics.{IsPart, part_joins, part_none, choose, and_true, same_place, eqb-eq, append_nothing, cut_part, only_some, not-false, nothing_placed}
-use Rattle.link_world.proofs.Speaking.{Speaker, Speaks}
+use Rattle.link_world.proofs.Speaking.{Speaker, HasOutputModel}
 use Rattle.link_world.proofs.Counts.{reset_becomes, same_becomes}
 use Rattle.link_world.proofs.Later.{node_later}
 use Rattle.link_world.proofs.Good.{is_some, seg, NodeSaid, IsText, IsFin, ClientSaid, IsData, Steady, NotOpened, HasOpened, OpenedGood, ToGood, TookGood, is_unasked, is_early}
@@ -32,7 +32,7 @@ record SendsGood (c : AbstractClient) (took : ClientStep) : Type 0 where
   fin : FinAt
   client : took.client ≡ recounted c acked out fin
   fits : acked + out ≤ length c.request
-  said : (opened : Option ℕ) (s : PlainSegment) → is_some opened ≡ true → took.sent ≡ Some s → IsData took.client opened s
+  output : (opened : Option ℕ) (s : PlainSegment) → is_some opened ≡ true → took.sent ≡ Some s → IsData took.client opened s
 
 request_data : (d : AbstractClient) (opened : Option ℕ) → is_some opened ≡ true → d.acked + d.out ≤ length d.request → IsData d opened (own_request d)
 request_data d opened i h = record { no_syn = refl; opened_is = i; at = d.acked; part = cut_part d.request d.acked d.out h; seq = λ x. refl }
@@ -52,7 +52,7 @@ good_with c acked out fin s fits says = record {
   fin = fin;
   client = refl;
   fits = fits;
-  said = λ opened t i p. only_some (λ x. IsData (recounted c acked out fin) opened x) s t p (says opened i);
+  output = λ opened t i p. only_some (λ x. IsData (recounted c acked out fin) opened x) s t p (says opened i);
 }
 
 sends_next_good : (owed : Bool) (c : AbstractClient) → c.acked + c.out ≤ length c.request → SendsGood c (sends_next owed c)
@@ -66,16 +66,16 @@ sends_next_good owed c fits =
     (λ f. good_with c c.acked c.out FinAt.Out (own_fin c) fits (λ opened i. fin_data (record c { fin = FinAt.Out }) c opened i))
     (λ f. choose (λ x. SendsGood c x) owed _ _
     (λ g. good_with c c.acked c.out c.fin (ack_of c) fits (λ opened i. ack_data c c opened i))
-    (λ g. record { acked = c.acked; out = c.out; fin = c.fin; client = refl; fits = fits; said = λ opened s i p. absurd (cc) })))
+    (λ g. record { acked = c.acked; out = c.out; fin = c.fin; client = refl; fits = fits; output = λ opened s i p. absurd (cc) })))
 
-pub not_opening : (past : List Era) (st x : ClientState) (o : ℕ) → is_unasked st ≡ false → Some o ≡ (if becomes_opened st x then Some (length past) else Some o)
-not_opening past Is.Idle x o h = absurd (cc)
-not_opening past Is.Opening x o h = absurd (cc)
-not_opening past _ x o h = refl
+pub not_opening : (history : List PastConnection) (st x : ClientState) (o : ℕ) → is_unasked st ≡ false → Some o ≡ (if becomes_opened st x then Some (length history) else Some o)
+not_opening history Is.Idle x o h = absurd (cc)
+not_opening history Is.Opening x o h = absurd (cc)
+not_opening history _ x o h = refl
 
-module _ (m : Meaning) (speaker : Speaker) (laws : Speaks m speaker) (past : List Era) (conn : Connection) (fit : (o : ℕ) → All IsMoment (era past conn o).captures) where
+module _ (m : AppSpec) (speaker : Speaker) (laws : HasOutputModel m speaker) (history : List PastConnection) (conn : Connection) (fit : (o : ℕ) → All IsSnapshot (era history conn o).captures) where
   -- its own counts and its window do not matter to what it received
-  recounts : (c : AbstractClient) (o : ℕ) (a u : ℕ) (f : FinAt) (w : ℕ) → HasOpened speaker c past conn o → HasOpened speaker (record c { acked = a; out = u; fin = f; window = w }) past conn o
+  recounts : (c : AbstractClient) (o : ℕ) (a u : ℕ) (f : FinAt) (w : ℕ) → HasOpened speaker c history conn o → HasOpened speaker (record c { acked = a; out = u; fin = f; window = w }) history conn o
   recounts c o a u f w h = record {
     time = h.time;
     then_live = h.then_live;
@@ -86,22 +86,22 @@ module _ (m : Meaning) (speaker : Speaker) (laws : Speaks m speaker) (past : Lis
     all = λ x. record { whole = (h.all x).whole; end = (h.all x).end };
   }
 
-  -- a step that goes on with c and then sends what comes next
+  -- a step that continues with c and then sends what is next
   goes_on : (client c : AbstractClient) (o : ℕ) (owed : Bool) (opened : Option ℕ) →
-      Some o ≡ (if becomes_opened client.state c.state then Some (length past) else opened) →
-      c.request ≡ client.request → own_first c ≡ own_first client → Steady c → HasOpened speaker c past conn o →
-      TookGood speaker client past conn opened (Some o) (sends_next owed c)
+      Some o ≡ (if becomes_opened client.state c.state then Some (length history) else opened) →
+      c.request ≡ client.request → own_first c ≡ own_first client → Steady c → HasOpened speaker c history conn o →
+      TookGood speaker client history conn opened (Some o) (sends_next owed c)
   goes_on client c o owed opened n r f steady h =
       let g : SendsGood c (sends_next owed c) = sends_next_good owed c steady.out_fits in
       let d : AbstractClient = recounted c g.acked g.out g.fin in
       let e : (sends_next owed c).client ≡ d = g.client in
       record {
-        next_is = n ∙ ap (λ (x : AbstractClient). if becomes_opened client.state x.state then Some (length past) else opened) (sym e);
+        next_is = n ∙ ap (λ (x : AbstractClient). if becomes_opened client.state x.state then Some (length history) else opened) (sym e);
         request = ap (λ (x : AbstractClient). x.request) e ∙ r;
         setup = ap (λ (x : AbstractClient). own_first x) e ∙ f;
         steady = subst Steady (sym e) record { short = steady.short; low = steady.low; out_fits = g.fits };
-        opened_good = subst (λ x. HasOpened speaker x past conn o) (sym e) (recounts c o g.acked g.out g.fin c.window h);
-        said = λ s p. said_data (g.said (Some o) s refl p);
+        opened_good = subst (λ x. HasOpened speaker x history conn o) (sym e) (recounts c o g.acked g.out g.fin c.window h);
+        output = λ s p. said_data (g.output (Some o) s refl p);
       }
 
   -- what an acknowledgement changes
@@ -145,38 +145,38 @@ module _ (m : Meaning) (speaker : Speaker) (laws : Speaks m speaker) (past : Lis
   after_deaf Is.Idle h e = cc
   after_deaf _ h e = cc
 
-  next_place : (c : AbstractClient) (o at : ℕ) (s : PlainSegment) → length c.request ≤ 4096 → HasOpened speaker c past conn o → is_receiving c.state ≡ true → s.seq ≡ c.expected →
-      s.seq ≡ wrap ((era past conn o).first + 1 + at) → at ≤ length (speaker.text c.request (era past conn o).captures) → at ≡ length c.received
+  next_place : (c : AbstractClient) (o at : ℕ) (s : PlainSegment) → length c.request ≤ 4096 → HasOpened speaker c history conn o → is_receiving c.state ≡ true → s.seq ≡ c.expected →
+      s.seq ≡ wrap ((era history conn o).iss + 1 + at) → at ≤ length (speaker.text c.request (era history conn o).captures) → at ≡ length c.received
   next_place c o at s low h i e q l =
-      let short = laws.short c.request (era past conn o).captures low (fit o) in
-      same_place ((era past conn o).first + 1) at (length c.received) (omega (arith, short, l)) (omega (arith, short, h.part.fits)) (sym q ∙ e ∙ h.expected i)
+      let short = laws.short c.request (era history conn o).captures low (fit o) in
+      same_place ((era history conn o).iss + 1) at (length c.received) (omega (arith, short, l)) (omega (arith, short, h.part.fits)) (sym q ∙ e ∙ h.expected i)
 
-  text_taken : (c : AbstractClient) (o : ℕ) (s : PlainSegment) → length c.request ≤ 4096 → HasOpened speaker c past conn o → is_receiving c.state ≡ true → s.seq ≡ c.expected →
-      IsText speaker c (era past conn o).first (era past conn o).captures s → HasOpened speaker (takes_text c s) past conn o
+  text_taken : (c : AbstractClient) (o : ℕ) (s : PlainSegment) → length c.request ≤ 4096 → HasOpened speaker c history conn o → is_receiving c.state ≡ true → s.seq ≡ c.expected →
+      IsText speaker c (era history conn o).iss (era history conn o).captures s → HasOpened speaker (takes_text c s) history conn o
   text_taken c o s low h i e n =
       let here : n.at ≡ length c.received = next_place c o n.at s low h i e n.seq (omega (arith, n.part.fits)) in
-      let p : IsPart (speaker.text c.request (era past conn o).captures) s.text (length c.received) = subst (λ x. IsPart (speaker.text c.request (era past conn o).captures) s.text x) here n.part in
-      let moved : wrap (c.expected + length s.text + 0) ≡ wrap ((era past conn o).first + 1 + length (c.received ++ s.text)) =
+      let p : IsPart (speaker.text c.request (era history conn o).captures) s.text (length c.received) = subst (λ x. IsPart (speaker.text c.request (era history conn o).captures) s.text x) here n.part in
+      let moved : wrap (c.expected + length s.text + 0) ≡ wrap ((era history conn o).iss + 1 + length (c.received ++ s.text)) =
       ap (λ x. wrap (x + length s.text + 0)) (h.expected i) ∙ omega (arith, length-append c.received s.text) in
-      let x : HasOpened speaker (took c false s.text) past conn o = record {
+      let x : HasOpened speaker (took c false s.text) history conn o = record {
         time = h.time;
         then_live = h.then_live;
         live_then = h.live_then;
         asked = h.asked;
-        part = part_joins (speaker.text c.request (era past conn o).captures) c.received s.text h.part p;
+        part = part_joins (speaker.text c.request (era history conn o).captures) c.received s.text h.part p;
         expected = λ y. moved;
         all = λ y. absurd (not_closed c.state i y);
       } in
-      subst (λ b. HasOpened speaker (took c b s.text) past conn o) (sym n.no_fin) x
+      subst (λ b. HasOpened speaker (took c b s.text) history conn o) (sym n.no_fin) x
 
-  fin_taken : (c : AbstractClient) (o : ℕ) (s : PlainSegment) → length c.request ≤ 4096 → HasOpened speaker c past conn o → is_receiving c.state ≡ true → s.seq ≡ c.expected → has_fin s.flags ≡ true →
-      IsFin speaker c (era past conn o).first (era past conn o).captures s → HasOpened speaker (takes_text c s) past conn o
+  fin_taken : (c : AbstractClient) (o : ℕ) (s : PlainSegment) → length c.request ≤ 4096 → HasOpened speaker c history conn o → is_receiving c.state ≡ true → s.seq ≡ c.expected → has_fin s.flags ≡ true →
+      IsFin speaker c (era history conn o).iss (era history conn o).captures s → HasOpened speaker (takes_text c s) history conn o
   fin_taken c o s low h i e f n =
-      let k : List Moment = (era past conn o).captures in
+      let k : List Snapshot = (era history conn o).captures in
       let none : c.received ++ [] ≡ c.received = append_nothing c.received in
       let part : IsPart (speaker.text c.request k) (c.received ++ []) 0 = subst (λ x. IsPart (speaker.text c.request k) x 0) (sym none) h.part in
       let here : n.at ≡ length c.received = next_place c o n.at s low h i e n.seq (omega (arith, n.ends.end)) in
-      let x : HasOpened speaker (took c true []) past conn o = record {
+      let x : HasOpened speaker (took c true []) history conn o = record {
         time = h.time;
         then_live = h.then_live;
         live_then = h.live_then;
@@ -185,11 +185,11 @@ module _ (m : Meaning) (speaker : Speaker) (laws : Speaks m speaker) (past : Lis
         expected = λ y. absurd (after_deaf c.state i y);
         all = λ y. record { whole = n.ends.whole; end = ap length none ∙ sym here ∙ n.ends.end };
       } in
-      subst (λ b. HasOpened speaker (took c b s.text) past conn o) (sym f) (subst (λ t. HasOpened speaker (took c true t) past conn o) (sym n.no_text) x)
+      subst (λ b. HasOpened speaker (took c b s.text) history conn o) (sym f) (subst (λ t. HasOpened speaker (took c true t) history conn o) (sym n.no_text) x)
 
   -- text or FIN at the expected number of a client that asked
-  placed : (c : AbstractClient) (P : Type 0) (o : ℕ) (s : PlainSegment) → length c.request ≤ 4096 → HasOpened speaker c past conn o → has_rst s.flags ≡ false → has_syn s.flags ≡ false → has_place s ≡ true →
-      is_receiving c.state ≡ true → s.seq ≡ c.expected → NodeSaid speaker c P (era past conn o).first (era past conn o).captures s → HasOpened speaker (takes_text c s) past conn o
+  placed : (c : AbstractClient) (P : Type 0) (o : ℕ) (s : PlainSegment) → length c.request ≤ 4096 → HasOpened speaker c history conn o → has_rst s.flags ≡ false → has_syn s.flags ≡ false → occupies_sequence_space s ≡ true →
+      is_receiving c.state ≡ true → s.seq ≡ c.expected → NodeSaid speaker c P (era history conn o).iss (era history conn o).captures s → HasOpened speaker (takes_text c s) history conn o
   placed c P o s low h nr ns pl i e (node_reset r) = absurd (cc)
   placed c P o s low h nr ns pl i e (node_syn r n) = absurd (let z : has_syn s.flags ≡ true = n.syn in cc)
   placed c P o s low h nr ns pl i e (node_ack r n) = absurd (nothing_placed s n.no_syn n.no_fin n.no_text pl)
@@ -198,61 +198,61 @@ module _ (m : Meaning) (speaker : Speaker) (laws : Speaks m speaker) (past : Lis
 
   in_order_good : (client c : AbstractClient) (P : Type 0) (o : ℕ) (s : PlainSegment) → is_unasked client.state ≡ false →
       c.request ≡ client.request → own_first c ≡ own_first client →
-      Steady c → HasOpened speaker c past conn o → has_rst s.flags ≡ false →
-      NodeSaid speaker c P (era past conn o).first (era past conn o).captures s → TookGood speaker client past conn (Some o) (Some o) (takes_in_order c s)
+      Steady c → HasOpened speaker c history conn o → has_rst s.flags ≡ false →
+      NodeSaid speaker c P (era history conn o).iss (era history conn o).captures s → TookGood speaker client history conn (Some o) (Some o) (takes_in_order c s)
   unfolding takes_in_order
-  in_order_good client c P o s un r f steady h nr said =
-      let on : (owed : Bool) → TookGood speaker client past conn (Some o) (Some o) (sends_next owed c) =
-      λ owed. goes_on client c o owed (Some o) (not_opening past client.state c.state o un) r f steady h in
-      choose (λ x. TookGood speaker client past conn (Some o) (Some o) x) (has_syn s.flags) _ _
+  in_order_good client c P o s un r f steady h nr output =
+      let on : (owed : Bool) → TookGood speaker client history conn (Some o) (Some o) (sends_next owed c) =
+      λ owed. goes_on client c o owed (Some o) (not_opening history client.state c.state o un) r f steady h in
+      choose (λ x. TookGood speaker client history conn (Some o) (Some o) x) (has_syn s.flags) _ _
       (λ e. on true)
-      (λ e. choose (λ x. TookGood speaker client past conn (Some o) (Some o) x) (not (has_place s)) _ _
+      (λ e. choose (λ x. TookGood speaker client history conn (Some o) (Some o) x) (not (occupies_sequence_space s)) _ _
       (λ i. on false)
-      (λ i. choose (λ x. TookGood speaker client past conn (Some o) (Some o) x) (eqb s.seq c.expected && is_receiving c.state) _ _
+      (λ i. choose (λ x. TookGood speaker client history conn (Some o) (Some o) x) (eqb s.seq c.expected && is_receiving c.state) _ _
       (λ j. let a = and_true _ _ j in
-      let t : HasOpened speaker (takes_text c s) past conn o = placed c P o s steady.short h nr e (not-false (has_place s) i) a.1 (eqb-eq s.seq c.expected a.0) said in
-      goes_on client (takes_text c s) o true (Some o) (not_opening past client.state (takes_text c s).state o un) r f record { short = steady.short; low = steady.low; out_fits = steady.out_fits } t)
+      let t : HasOpened speaker (takes_text c s) history conn o = placed c P o s steady.short h nr e (not-false (occupies_sequence_space s) i) a.1 (eqb-eq s.seq c.expected a.0) output in
+      goes_on client (takes_text c s) o true (Some o) (not_opening history client.state (takes_text c s).state o un) r f record { short = steady.short; low = steady.low; out_fits = steady.out_fits } t)
       (λ j. on true)))
 
   -- a segment at a client that has opened
-  asked_good : (client : AbstractClient) (P : Type 0) (o : ℕ) (s : PlainSegment) → Steady client → HasOpened speaker client past conn o → has_rst s.flags ≡ false →
-      NodeSaid speaker client P (era past conn o).first (era past conn o).captures s → TookGood speaker client past conn (Some o) (Some o) (takes_in_order (hears_ack client s) s)
-  asked_good client P o s steady h nr said =
+  asked_good : (client : AbstractClient) (P : Type 0) (o : ℕ) (s : PlainSegment) → Steady client → HasOpened speaker client history conn o → has_rst s.flags ≡ false →
+      NodeSaid speaker client P (era history conn o).iss (era history conn o).captures s → TookGood speaker client history conn (Some o) (Some o) (takes_in_order (hears_ack client s) s)
+  asked_good client P o s steady h nr output =
       let g : Hearing client (hears_ack client s) = hears_ack_is client s steady.out_fits in
       let c : AbstractClient = recounted client g.acked g.out g.fin in
-      subst (λ x. TookGood speaker client past conn (Some o) (Some o) (takes_in_order x s)) (sym g.is)
+      subst (λ x. TookGood speaker client history conn (Some o) (Some o) (takes_in_order x s)) (sym g.is)
       (in_order_good client c P o s h.asked refl refl record { short = steady.short; low = steady.low; out_fits = g.fits }
       (recounts client o g.acked g.out g.fin client.window h) nr
-      (node_later m speaker laws client c P P (era past conn o).first (era past conn o).first (era past conn o).captures (era past conn o).captures [] s refl (λ x. x) refl (sym (append_nothing (era past conn o).captures)) said))
+      (node_later m speaker laws client c P P (era history conn o).iss (era history conn o).iss (era history conn o).captures (era history conn o).captures [] s refl (λ x. x) refl (sym (append_nothing (era history conn o).captures)) output))
 
-  -- a step that sends what is told, or nothing
-  stands : (client d : AbstractClient) (opened : Option ℕ) → becomes_opened client.state d.state ≡ false → d.request ≡ client.request → own_first d ≡ own_first client → Steady d → OpenedGood speaker d past conn opened →
-      TookGood speaker client past conn opened opened (keeps d)
+  -- a step that sends the given segment, or nothing
+  stands : (client d : AbstractClient) (opened : Option ℕ) → becomes_opened client.state d.state ≡ false → d.request ≡ client.request → own_first d ≡ own_first client → Steady d → OpenedGood speaker d history conn opened →
+      TookGood speaker client history conn opened opened (keeps d)
   stands client d opened b r f steady h = record {
-    next_is = ap (λ x. if x then Some (length past) else opened) (sym b);
+    next_is = ap (λ x. if x then Some (length history) else opened) (sym b);
     request = r;
     setup = f;
     steady = steady;
     opened_good = h;
-    said = λ s p. absurd (cc);
+    output = λ s p. absurd (cc);
   }
 
-  speaks : (client d : AbstractClient) (opened : Option ℕ) (s : PlainSegment) → becomes_opened client.state d.state ≡ false → d.request ≡ client.request → own_first d ≡ own_first client → Steady d → OpenedGood speaker d past conn opened →
-      ClientSaid d opened (length past) s → TookGood speaker client past conn opened opened (steps_with d s)
-  speaks client d opened s b r f steady h said = record {
-    next_is = ap (λ x. if x then Some (length past) else opened) (sym b);
+  speaks : (client d : AbstractClient) (opened : Option ℕ) (s : PlainSegment) → becomes_opened client.state d.state ≡ false → d.request ≡ client.request → own_first d ≡ own_first client → Steady d → OpenedGood speaker d history conn opened →
+      ClientSaid d opened (length history) s → TookGood speaker client history conn opened opened (steps_with d s)
+  speaks client d opened s b r f steady h output = record {
+    next_is = ap (λ x. if x then Some (length history) else opened) (sym b);
     request = r;
     setup = f;
     steady = steady;
     opened_good = h;
-    said = λ x p. only_some (λ y. ClientSaid d opened (length past) y) s x p said;
+    output = λ x p. only_some (λ y. ClientSaid d opened (length history) y) s x p output;
   }
 
-  stays : (client : AbstractClient) (opened : Option ℕ) → Steady client → OpenedGood speaker client past conn opened → TookGood speaker client past conn opened opened (keeps client)
+  stays : (client : AbstractClient) (opened : Option ℕ) → Steady client → OpenedGood speaker client history conn opened → TookGood speaker client history conn opened opened (keeps client)
   stays client opened steady h = stands client client opened (same_becomes client.state) refl refl steady h
 
   -- a client that becomes Reset
-  reset_opened : (client : AbstractClient) (opened : Option ℕ) → OpenedGood speaker client past conn opened → OpenedGood speaker (record client { state = Is.Reset }) past conn opened
+  reset_opened : (client : AbstractClient) (opened : Option ℕ) → OpenedGood speaker client history conn opened → OpenedGood speaker (record client { state = Is.Reset }) history conn opened
   reset_opened client None h = record { early = refl; nothing = h.nothing }
   reset_opened client (Some o) h = record {
     time = h.time;
@@ -266,8 +266,8 @@ module _ (m : Meaning) (speaker : Speaker) (laws : Speaks m speaker) (past : Lis
 
   -- a client that opens
   opens_good : (client : AbstractClient) (P : Type 0) (s : PlainSegment) → client.state ≡ Is.Opening → Steady client → NotOpened client → is_live conn.state ≡ true →
-      has_rst s.flags ≡ false → has_syn s.flags ≡ true → NodeSaid speaker client P (era past conn (length past)).first (era past conn (length past)).captures s →
-      TookGood speaker client past conn None (Some (length past)) (sends_next true (opened_by client s))
+      has_rst s.flags ≡ false → has_syn s.flags ≡ true → NodeSaid speaker client P (era history conn (length history)).iss (era history conn (length history)).captures s →
+      TookGood speaker client history conn None (Some (length history)) (sends_next true (opened_by client s))
   opens_good client P s st steady h lv nr sy (node_reset r) = absurd (cc)
   opens_good client P s st steady h lv nr sy (node_ack r n) = absurd (let z : has_syn s.flags ≡ false = n.no_syn in cc)
   opens_good client P s st steady h lv nr sy (node_text r p n) = absurd (let z : has_syn s.flags ≡ false = n.no_syn in cc)
@@ -275,10 +275,10 @@ module _ (m : Meaning) (speaker : Speaker) (laws : Speaks m speaker) (past : Lis
   opens_good client P s st steady h lv nr sy (node_syn r n) =
       let c : AbstractClient = opened_by client s in
       let none : [] ≡ client.received = sym h.nothing in
-      let k : List Moment = (era past conn (length past)).captures in
-      let f : ℕ = (era past conn (length past)).first in
+      let k : List Snapshot = (era history conn (length history)).captures in
+      let f : ℕ = (era history conn (length history)).iss in
       let e : wrap (s.seq + 1) ≡ wrap (f + 1 + 0) = ap (λ x. wrap (x + 1)) n.seq ∙ omega arith in
-      let g : HasOpened speaker c past conn (length past) = record {
+      let g : HasOpened speaker c history conn (length history) = record {
         time = omega arith;
         then_live = λ x. lv;
         live_then = λ x. refl;
@@ -287,40 +287,40 @@ module _ (m : Meaning) (speaker : Speaker) (laws : Speaks m speaker) (past : Lis
         expected = λ x. subst (λ y. wrap (s.seq + 1) ≡ wrap (f + 1 + length y)) none e;
         all = λ x. absurd (cc);
       } in
-      goes_on client c (length past) true None (rw st refl) refl refl record { short = steady.short; low = steady.low; out_fits = steady.out_fits } g
+      goes_on client c (length history) true None (rw st refl) refl refl record { short = steady.short; low = steady.low; out_fits = steady.out_fits } g
 
   pub record Took_it (client : AbstractClient) (opened : Option ℕ) (took : ClientStep) : Type 0 where
     pub next : Option ℕ
-    pub good : TookGood speaker client past conn opened next took
+    pub good : TookGood speaker client history conn opened next took
 
-  is_asked : (client : AbstractClient) (st : ClientState) (o : ℕ) → client.state ≡ st → is_unasked st ≡ true → HasOpened speaker client past conn o → ⊥
+  is_asked : (client : AbstractClient) (st : ClientState) (o : ℕ) → client.state ≡ st → is_unasked st ≡ true → HasOpened speaker client history conn o → ⊥
   is_asked client st o e n h = let z : is_unasked client.state ≡ is_unasked st = ap is_unasked e in let y : is_unasked client.state ≡ false = h.asked in absurd (cc)
 
   not_early : (client : AbstractClient) (st : ClientState) → client.state ≡ st → is_early st ≡ false → NotOpened client → ⊥
   not_early client st e n h = let z : is_early client.state ≡ is_early st = ap is_early e in let y : is_early client.state ≡ true = h.early in absurd (cc)
 
-  by_good : (st : ClientState) (client : AbstractClient) (P : Type 0) (opened : Option ℕ) (s : PlainSegment) → client.state ≡ st → Steady client → OpenedGood speaker client past conn opened → has_rst s.flags ≡ false →
-      is_live conn.state ≡ true → NodeSaid speaker client P (era past conn (length past)).first (era past conn (length past)).captures s → Took_it client opened (takes_by st client s)
+  by_good : (st : ClientState) (client : AbstractClient) (P : Type 0) (opened : Option ℕ) (s : PlainSegment) → client.state ≡ st → Steady client → OpenedGood speaker client history conn opened → has_rst s.flags ≡ false →
+      is_live conn.state ≡ true → NodeSaid speaker client P (era history conn (length history)).iss (era history conn (length history)).captures s → Took_it client opened (takes_by st client s)
   unfolding takes_by
-  by_good Is.Idle client P opened s st steady h nr lv said = record { next = opened; good = stays client opened steady h }
-  by_good Is.Reset client P opened s st steady h nr lv said = record { next = opened; good = stays client opened steady h }
-  by_good Is.Opening client P None s st steady h nr lv said =
+  by_good Is.Idle client P opened s st steady h nr lv output = record { next = opened; good = stays client opened steady h }
+  by_good Is.Reset client P opened s st steady h nr lv output = record { next = opened; good = stays client opened steady h }
+  by_good Is.Opening client P None s st steady h nr lv output =
       choose (λ x. Took_it client None x) (has_syn s.flags && (has_ack s.flags && eqb s.ack (wrap (own_first client + 1)))) _ _
-      (λ e. record { next = Some (length past); good = opens_good client P s st steady h lv nr (and_true _ _ e).0 said })
+      (λ e. record { next = Some (length history); good = opens_good client P s st steady h lv nr (and_true _ _ e).0 output })
       (λ e. record { next = None; good = stays client None steady h })
-  by_good Is.Opening client P (Some o) s st steady h nr lv said = absurd (is_asked client Is.Opening o st refl h)
-  by_good Is.Opened client P None s st steady h nr lv said = absurd (not_early client _ st refl h)
-  by_good Is.Closing client P None s st steady h nr lv said = absurd (not_early client _ st refl h)
-  by_good Is.Closed client P None s st steady h nr lv said = absurd (not_early client _ st refl h)
-  by_good Is.Ended client P None s st steady h nr lv said = absurd (not_early client _ st refl h)
-  by_good Is.Opened client P (Some o) s st steady h nr lv said = record { next = Some o; good = asked_good client P o s steady h nr (subst (λ n. NodeSaid speaker client P (era past conn n).first (era past conn n).captures s) (sym (h.live_then lv)) said) }
-  by_good Is.Closing client P (Some o) s st steady h nr lv said = record { next = Some o; good = asked_good client P o s steady h nr (subst (λ n. NodeSaid speaker client P (era past conn n).first (era past conn n).captures s) (sym (h.live_then lv)) said) }
-  by_good Is.Closed client P (Some o) s st steady h nr lv said = record { next = Some o; good = asked_good client P o s steady h nr (subst (λ n. NodeSaid speaker client P (era past conn n).first (era past conn n).captures s) (sym (h.live_then lv)) said) }
-  by_good Is.Ended client P (Some o) s st steady h nr lv said = record { next = Some o; good = asked_good client P o s steady h nr (subst (λ n. NodeSaid speaker client P (era past conn n).first (era past conn n).captures s) (sym (h.live_then lv)) said) }
+  by_good Is.Opening client P (Some o) s st steady h nr lv output = absurd (is_asked client Is.Opening o st refl h)
+  by_good Is.Opened client P None s st steady h nr lv output = absurd (not_early client _ st refl h)
+  by_good Is.Closing client P None s st steady h nr lv output = absurd (not_early client _ st refl h)
+  by_good Is.Closed client P None s st steady h nr lv output = absurd (not_early client _ st refl h)
+  by_good Is.Ended client P None s st steady h nr lv output = absurd (not_early client _ st refl h)
+  by_good Is.Opened client P (Some o) s st steady h nr lv output = record { next = Some o; good = asked_good client P o s steady h nr (subst (λ n. NodeSaid speaker client P (era history conn n).iss (era history conn n).captures s) (sym (h.live_then lv)) output) }
+  by_good Is.Closing client P (Some o) s st steady h nr lv output = record { next = Some o; good = asked_good client P o s steady h nr (subst (λ n. NodeSaid speaker client P (era history conn n).iss (era history conn n).captures s) (sym (h.live_then lv)) output) }
+  by_good Is.Closed client P (Some o) s st steady h nr lv output = record { next = Some o; good = asked_good client P o s steady h nr (subst (λ n. NodeSaid speaker client P (era history conn n).iss (era history conn n).captures s) (sym (h.live_then lv)) output) }
+  by_good Is.Ended client P (Some o) s st steady h nr lv output = record { next = Some o; good = asked_good client P o s steady h nr (subst (λ n. NodeSaid speaker client P (era history conn n).iss (era history conn n).captures s) (sym (h.live_then lv)) output) }
 
   -- any datagram of the node that is not stale
-  pub client_takes_good : (client : AbstractClient) (opened : Option ℕ) (e : Sent) → Steady client → OpenedGood speaker client past conn opened → e.epoch ≡ length past →
-      ToGood speaker client opened past conn e → Took_it client opened (client_takes client (seg e))
+  pub client_takes_good : (client : AbstractClient) (opened : Option ℕ) (e : Sent) → Steady client → OpenedGood speaker client history conn opened → e.epoch ≡ length history →
+      ToGood speaker client opened history conn e → Took_it client opened (client_takes client (seg e))
   unfolding client_takes
   client_takes_good client opened e steady h fresh g =
       choose (λ x. Took_it client opened x) (has_rst (seg e).flags) _ _
@@ -331,14 +331,14 @@ module _ (m : Meaning) (speaker : Speaker) (laws : Speaks m speaker) (past : Lis
             record { short = steady.short; low = steady.low; out_fits = steady.out_fits } (reset_opened client opened h);
       })
       (λ b. record { next = opened; good = stays client opened steady h }))
-      (λ r. by_good client.state client (opened ≡ Some e.epoch) opened (seg e) refl steady h r (g.lives r fresh)
-      (subst (λ n. NodeSaid speaker client (opened ≡ Some e.epoch) (era past conn n).first (era past conn n).captures (seg e)) fresh g.said))
+      (λ r. by_good client.state client (opened ≡ Some e.epoch) opened (seg e) refl steady h r (g.incarnations r fresh)
+      (subst (λ n. NodeSaid speaker client (opened ≡ Some e.epoch) (era history conn n).iss (era history conn n).captures (seg e)) fresh g.output))
 
   -- its own acts
-  says_syn : (client d : AbstractClient) → own_first d ≡ own_first client → ClientSaid client None (length past) (syn_of d)
+  says_syn : (client d : AbstractClient) → own_first d ≡ own_first client → ClientSaid client None (length history) (syn_of d)
   says_syn client d f = said_syn record { syn = refl; no_ack = refl; no_text = refl; seq = f; before = λ o x. absurd (cc) }
 
-  pub opens_by_good : (st : ClientState) (client : AbstractClient) (opened : Option ℕ) → client.state ≡ st → Steady client → OpenedGood speaker client past conn opened → Took_it client opened (opens_by st client)
+  pub opens_by_good : (st : ClientState) (client : AbstractClient) (opened : Option ℕ) → client.state ≡ st → Steady client → OpenedGood speaker client history conn opened → Took_it client opened (opens_by st client)
   unfolding opens_by
   opens_by_good Is.Idle client (Some o) st steady h = absurd (is_asked client Is.Idle o st refl h)
   opens_by_good Is.Idle client None st steady h =
@@ -352,10 +352,10 @@ module _ (m : Meaning) (speaker : Speaker) (laws : Speaks m speaker) (past : Lis
   opens_by_good Is.Opening client opened st steady h = record { next = opened; good = stays client opened steady h }
   opens_by_good _ client opened st steady h = record { next = opened; good = stays client opened steady h }
 
-  speaks_again : (client : AbstractClient) (o : ℕ) (s : PlainSegment) → Steady client → HasOpened speaker client past conn o → IsData client (Some o) s → Took_it client (Some o) (steps_with client s)
+  speaks_again : (client : AbstractClient) (o : ℕ) (s : PlainSegment) → Steady client → HasOpened speaker client history conn o → IsData client (Some o) s → Took_it client (Some o) (steps_with client s)
   speaks_again client o s steady h d = record { next = Some o; good = speaks client client (Some o) s (same_becomes client.state) refl refl steady h (said_data d) }
 
-  repeats_data : (client : AbstractClient) (o : ℕ) → Steady client → HasOpened speaker client past conn o →
+  repeats_data : (client : AbstractClient) (o : ℕ) → Steady client → HasOpened speaker client history conn o →
       Took_it client (Some o) (if ltb 0 client.out then steps_with client (own_request client) else if fin_out client.fin then steps_with client (own_fin client) else steps_with client (ack_of client))
   repeats_data client o steady h =
       choose (λ x. Took_it client (Some o) x) (ltb 0 client.out) _ _
@@ -364,7 +364,7 @@ module _ (m : Meaning) (speaker : Speaker) (laws : Speaks m speaker) (past : Lis
       (λ f. speaks_again client o (own_fin client) steady h (fin_data client client (Some o) refl))
       (λ f. speaks_again client o (ack_of client) steady h (ack_data client client (Some o) refl)))
 
-  pub again_by_good : (st : ClientState) (client : AbstractClient) (opened : Option ℕ) → client.state ≡ st → Steady client → OpenedGood speaker client past conn opened → Took_it client opened (again_by st client)
+  pub again_by_good : (st : ClientState) (client : AbstractClient) (opened : Option ℕ) → client.state ≡ st → Steady client → OpenedGood speaker client history conn opened → Took_it client opened (again_by st client)
   unfolding again_by
   again_by_good Is.Idle client opened st steady h = record { next = opened; good = stays client opened steady h }
   again_by_good Is.Reset client opened st steady h = record { next = opened; good = stays client opened steady h }
@@ -379,12 +379,12 @@ module _ (m : Meaning) (speaker : Speaker) (laws : Speaks m speaker) (past : Lis
   again_by_good Is.Closed client None st steady h = absurd (not_early client _ st refl h)
   again_by_good Is.Ended client None st steady h = absurd (not_early client _ st refl h)
 
-  pub closes_by_good : (st : ClientState) (client : AbstractClient) (opened : Option ℕ) → client.state ≡ st → Steady client → OpenedGood speaker client past conn opened → Took_it client opened (closes_by st client)
+  pub closes_by_good : (st : ClientState) (client : AbstractClient) (opened : Option ℕ) → client.state ≡ st → Steady client → OpenedGood speaker client history conn opened → Took_it client opened (closes_by st client)
   unfolding closes_by
   closes_by_good Is.Opened client None st steady h = absurd (not_early client _ st refl h)
   closes_by_good Is.Opened client (Some o) st steady h =
       let c : AbstractClient = record client { state = Is.Closing } in
-      let g : HasOpened speaker c past conn o = record {
+      let g : HasOpened speaker c history conn o = record {
         time = h.time;
         then_live = h.then_live;
         live_then = h.live_then;
@@ -395,12 +395,12 @@ module _ (m : Meaning) (speaker : Speaker) (laws : Speaks m speaker) (past : Lis
       } in
       record {
         next = Some o;
-        good = goes_on client c o false (Some o) (not_opening past client.state c.state o h.asked) refl refl record { short = steady.short; low = steady.low; out_fits = steady.out_fits } g;
+        good = goes_on client c o false (Some o) (not_opening history client.state c.state o h.asked) refl refl record { short = steady.short; low = steady.low; out_fits = steady.out_fits } g;
       }
   closes_by_good Is.Idle client opened st steady h = record { next = opened; good = stays client opened steady h }
   closes_by_good _ client opened st steady h = record { next = opened; good = stays client opened steady h }
 
-  goes_reset : (client : AbstractClient) (opened : Option ℕ) → Steady client → OpenedGood speaker client past conn opened → Took_it client opened (steps_with (record client { state = Is.Reset }) (own_reset client))
+  goes_reset : (client : AbstractClient) (opened : Option ℕ) → Steady client → OpenedGood speaker client history conn opened → Took_it client opened (steps_with (record client { state = Is.Reset }) (own_reset client))
   goes_reset client opened steady h =
       record {
         next = opened;
@@ -408,18 +408,18 @@ module _ (m : Meaning) (speaker : Speaker) (laws : Speaks m speaker) (past : Lis
             record { short = steady.short; low = steady.low; out_fits = steady.out_fits } (reset_opened client opened h) (said_reset refl);
       }
 
-  pub aborts_by_good : (st : ClientState) (client : AbstractClient) (opened : Option ℕ) → client.state ≡ st → Steady client → OpenedGood speaker client past conn opened → Took_it client opened (aborts_by st client)
+  pub aborts_by_good : (st : ClientState) (client : AbstractClient) (opened : Option ℕ) → client.state ≡ st → Steady client → OpenedGood speaker client history conn opened → Took_it client opened (aborts_by st client)
   unfolding aborts_by
   aborts_by_good Is.Opening client opened st steady h = goes_reset client opened steady h
   aborts_by_good Is.Opened client opened st steady h = goes_reset client opened steady h
   aborts_by_good Is.Closing client opened st steady h = goes_reset client opened steady h
   aborts_by_good _ client opened st steady h = record { next = opened; good = stays client opened steady h }
 
-  window_opened : (client : AbstractClient) (w : ℕ) (opened : Option ℕ) → OpenedGood speaker client past conn opened → OpenedGood speaker (record client { window = w }) past conn opened
+  window_opened : (client : AbstractClient) (w : ℕ) (opened : Option ℕ) → OpenedGood speaker client history conn opened → OpenedGood speaker (record client { window = w }) history conn opened
   window_opened client w None h = record { early = h.early; nothing = h.nothing }
   window_opened client w (Some o) h = recounts client o client.acked client.out client.fin w h
 
-  pub window_good : (client : AbstractClient) (w : ℕ) (opened : Option ℕ) → Steady client → OpenedGood speaker client past conn opened → Took_it client opened (keeps (record client { window = w }))
+  pub window_good : (client : AbstractClient) (w : ℕ) (opened : Option ℕ) → Steady client → OpenedGood speaker client history conn opened → Took_it client opened (keeps (record client { window = w }))
   window_good client w opened steady h =
       record {
         next = opened;

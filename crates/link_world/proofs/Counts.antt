@@ -1,8 +1,8 @@
--- How far a client has come: what its step does to what it took and to the number that it expects. No premise on the server.
+-- The progress of a client: what its step does to what it accepted and to RCV.NXT. No premise on the server.
 use Rattle.std.proofs.Common.{◌≡◌, ℕ, ◌+◌, Bool, true, false, not, ◌&&◌, ◌++◌, length, refl, sym, ap, ◌∙◌, Some, eqb, if◌then◌else◌}
 use Rattle.uip_wire.specs.Numbers.{wrap}
 use Rattle.tcp_segment.specs.Segments.{PlainSegment, has_syn, has_fin, has_rst, has_ack}
-use Rattle.tcp_machine.specs.Segments.{has_place}
+use Rattle.tcp_machine.specs.Segments.{occupies_sequence_space}
 use Rattle.link_client.specs.Client.{AbstractClient, ClientStep, ack_of, after_fin, client_aborts, client_again, client_closes, client_opens, client_takes, has_closed, has_outstanding, hears_ack, is_receiving, is_reset_by, keeps, next_own, one_if, opened_by, own_fin, own_first, own_request, own_reset, sends_next, steps_with, syn_of, takes_by, takes_in_order, takes_text}
 use Rattle.link_client.specs.declared.client_state.ClientState.{ClientState}
 use Rattle.link_client.specs.declared.client_state.ClientState.TheVariants as Is
@@ -41,7 +41,7 @@ reset_becomes _ = refl
 -- what a segment does to the counts
 pub data Kind (client : AbstractClient) (s : PlainSegment) (d : AbstractClient) : Type 0 where
   kept : d.received ≡ client.received → d.expected ≡ client.expected → has_closed d.state ≡ has_closed client.state → becomes_opened client.state d.state ≡ false → Kind client s d
-  took_text : s.seq ≡ client.expected → is_receiving client.state ≡ true → has_rst s.flags ≡ false → has_place s ≡ true → d.received ≡ client.received ++ s.text →
+  took_text : s.seq ≡ client.expected → is_receiving client.state ≡ true → has_rst s.flags ≡ false → occupies_sequence_space s ≡ true → d.received ≡ client.received ++ s.text →
       d.expected ≡ wrap (client.expected + length s.text + one_if (has_fin s.flags)) → has_closed d.state ≡ has_fin s.flags → Kind client s d
   took_open : client.state ≡ Is.Opening → has_rst s.flags ≡ false → has_syn s.flags ≡ true → d.received ≡ client.received → d.expected ≡ wrap (s.seq + 1) → has_closed d.state ≡ false → Kind client s d
 
@@ -86,11 +86,11 @@ in_order_counted client s nr =
     let h : Same client c = hears_same client s in
     let k : Kind client s c = kept h.received h.expected (ap has_closed h.state) (ap (λ x. becomes_opened client.state x) h.state ∙ same_becomes client.state) in
     choose (λ x. Counted client s x) (has_syn s.flags) _ _ (λ e. on_counted true client c s k)
-    (λ e. choose (λ x. Counted client s x) (not (has_place s)) _ _ (λ f. on_counted false client c s k)
+    (λ e. choose (λ x. Counted client s x) (not (occupies_sequence_space s)) _ _ (λ f. on_counted false client c s k)
     (λ f. choose (λ x. Counted client s x) (eqb s.seq c.expected && is_receiving c.state) _ _
     (λ g. let a = and_true (eqb s.seq c.expected) (is_receiving c.state) g in
     on_counted true client (takes_text c s) s
-    (took_text (eqb-eq s.seq c.expected a.0 ∙ h.expected) (ap is_receiving (sym h.state) ∙ a.1) nr (not-false (has_place s) f) (ap (λ l. l ++ s.text) h.received)
+    (took_text (eqb-eq s.seq c.expected a.0 ∙ h.expected) (ap is_receiving (sym h.state) ∙ a.1) nr (not-false (occupies_sequence_space s) f) (ap (λ l. l ++ s.text) h.received)
     (ap (λ n. wrap (n + length s.text + one_if (has_fin s.flags))) h.expected) (done_after c.state (has_fin s.flags) a.1)))
     (λ g. on_counted true client c s k)))
 

@@ -1,4 +1,5 @@
 -- One changed byte: a datagram that passed every check is refused at every address.
+-- [add: fate] A datagram with one changed byte and the further check.
 use Rattle.std.specs.List.{All}
 use Rattle.uip_node.specs.Events.Event.{IcmpRefused, EchoAsked}
 use Rattle.std.specs.Option.{option_map_or}
@@ -33,41 +34,41 @@ use Rattle.uip_node.proofs.Basics.{both_ways, choose}
 
 -- a list around one of its bytes
 pub record Around (bytes : List ℕ) (at : ℕ) (other : ℕ) : Type 0 where
-  pub front : List ℕ
+  pub prefix : List ℕ
   pub one : ℕ
   pub back : List ℕ
-  pub place : length front ≡ at
-  pub is : bytes ≡ front ++ one ∷ back
+  pub place : length prefix ≡ at
+  pub is : bytes ≡ prefix ++ one ∷ back
   pub index : slice_index bytes at ≡ one
-  pub written : set bytes at other ≡ front ++ other ∷ back
+  pub written : set bytes at other ≡ prefix ++ other ∷ back
 
 around : (bytes : List ℕ) (at other : ℕ) → at < length bytes → Around bytes at other
 around [] at other l = absurd (omega arith)
-around (x ∷ xs) zero other l = record { front = []; one = x; back = xs; place = refl; is = refl; index = refl; written = refl }
+around (x ∷ xs) zero other l = record { prefix = []; one = x; back = xs; place = refl; is = refl; index = refl; written = refl }
 around (x ∷ xs) (suc at) other l =
     let r = around xs at other (omega arith) in
-    record { front = x ∷ r.front; one = r.one; back = r.back; place = ap suc r.place; is = ap (λ t. x ∷ t) r.is; index = r.index; written = ap (λ t. x ∷ t) r.written }
+    record { prefix = x ∷ r.prefix; one = r.one; back = r.back; place = ap suc r.place; is = ap (λ t. x ∷ t) r.is; index = r.index; written = ap (λ t. x ∷ t) r.written }
 
-take_around : (front back : List ℕ) (v n : ℕ) → length front < n → take n (front ++ v ∷ back) ≡ front ++ v ∷ take (n - length front - 1) back
+take_around : (prefix back : List ℕ) (v n : ℕ) → length prefix < n → take n (prefix ++ v ∷ back) ≡ prefix ++ v ∷ take (n - length prefix - 1) back
 take_around [] back v zero l = absurd (omega arith)
 take_around [] back v (suc n) l = ap (λ k. v ∷ take k back) (omega arith)
-take_around (x ∷ front) back v zero l = absurd (omega arith)
-take_around (x ∷ front) back v (suc n) l = ap (λ t. x ∷ t) (take_around front back v n (omega arith) ∙ ap (λ k. front ++ v ∷ take k back) (omega arith))
+take_around (x ∷ prefix) back v zero l = absurd (omega arith)
+take_around (x ∷ prefix) back v (suc n) l = ap (λ t. x ∷ t) (take_around prefix back v n (omega arith) ∙ ap (λ k. prefix ++ v ∷ take k back) (omega arith))
 
-drop_around : (front rest : List ℕ) (n : ℕ) → n ≤ length front → drop n (front ++ rest) ≡ drop n front ++ rest
-drop_around front rest zero l = refl
+drop_around : (prefix rest : List ℕ) (n : ℕ) → n ≤ length prefix → drop n (prefix ++ rest) ≡ drop n prefix ++ rest
+drop_around prefix rest zero l = refl
 drop_around [] rest (suc n) l = absurd (omega arith)
-drop_around (x ∷ front) rest (suc n) l = drop_around front rest n (omega arith)
+drop_around (x ∷ prefix) rest (suc n) l = drop_around prefix rest n (omega arith)
 
-take_front : (front rest more : List ℕ) (n : ℕ) → n ≤ length front → take n (front ++ rest) ≡ take n (front ++ more)
-take_front front rest more zero l = refl
-take_front [] rest more (suc n) l = absurd (omega arith)
-take_front (x ∷ front) rest more (suc n) l = ap (λ t. x ∷ t) (take_front front rest more n (omega arith))
+take_prefix : (prefix rest more : List ℕ) (n : ℕ) → n ≤ length prefix → take n (prefix ++ rest) ≡ take n (prefix ++ more)
+take_prefix prefix rest more zero l = refl
+take_prefix [] rest more (suc n) l = absurd (omega arith)
+take_prefix (x ∷ prefix) rest more (suc n) l = ap (λ t. x ∷ t) (take_prefix prefix rest more n (omega arith))
 
-index_front : (front rest more : List ℕ) (n : ℕ) → n < length front → slice_index (front ++ rest) n ≡ slice_index (front ++ more) n
-index_front [] rest more n l = absurd (omega arith)
-index_front (x ∷ front) rest more zero l = refl
-index_front (x ∷ front) rest more (suc n) l = index_front front rest more n (omega arith)
+index_prefix : (prefix rest more : List ℕ) (n : ℕ) → n < length prefix → slice_index (prefix ++ rest) n ≡ slice_index (prefix ++ more) n
+index_prefix [] rest more n l = absurd (omega arith)
+index_prefix (x ∷ prefix) rest more zero l = refl
+index_prefix (x ∷ prefix) rest more (suc n) l = index_prefix prefix rest more n (omega arith)
 
 take_all : (xs : List ℕ) (n : ℕ) → length xs ≤ n → take n xs ≡ xs
 take_all [] zero l = refl
@@ -131,9 +132,9 @@ head_refused bytes own n =
 
 -- what the checks of the header look at
 abbrev decided : ℕ → ℕ → ℕ → ℕ → ℕ → List ℕ → List ℕ → Result IpHead IpFate → Result IpHead IpFate
-decided len first total fragment sum target own last =
+decided len iss total fragment sum target own last =
     if ltb len 20 then Err Ip.Short
-    else if not (eqb first 69) then Err Ip.Version
+    else if not (eqb iss 69) then Err Ip.Version
     else if ltb total 20 || ltb len total then Err Ip.Length
     else if not (eqb (fragment % 16384) 0) then Err Ip.Fragment
     else if not (eqb sum 0) then Err Ip.Checksum
@@ -141,16 +142,16 @@ decided len first total fragment sum target own last =
     else last
 
 -- only the first 20 bytes and the length matter to the header
-same_head : (front back : List ℕ) (one other : ℕ) (own : List ℕ) → 20 ≤ length front → head_or_fate (front ++ other ∷ back) own ≡ head_or_fate (front ++ one ∷ back) own
+same_head : (prefix back : List ℕ) (one other : ℕ) (own : List ℕ) → 20 ≤ length prefix → head_or_fate (prefix ++ other ∷ back) own ≡ head_or_fate (prefix ++ one ∷ back) own
 unfolding head_or_fate
-same_head front back one other own l =
-    let a : List ℕ = front ++ other ∷ back in
-    let b : List ℕ = front ++ one ∷ back in
-    let i : (n : ℕ) → n < length front → slice_index a n ≡ slice_index b n = λ n h. index_front front (other ∷ back) (one ∷ back) n h in
-    let w : (n : ℕ) → n + 1 < length front → word_at a n ≡ word_at b n = λ n h. ap (λ x. 256 * x + slice_index a (n + 1)) (i n (omega (arith, h))) ∙ ap (λ x. 256 * slice_index b n + x) (i (n + 1) h) in
-    let len : length a ≡ length b = omega (arith, length-append front (other ∷ back), length-append front (one ∷ back)) in
-    let t : take 20 a ≡ take 20 b = take_front front (other ∷ back) (one ∷ back) 20 l in
-    let addr : (n : ℕ) → n + 3 < length front → address_at a n ≡ address_at b n = λ n h.
+same_head prefix back one other own l =
+    let a : List ℕ = prefix ++ other ∷ back in
+    let b : List ℕ = prefix ++ one ∷ back in
+    let i : (n : ℕ) → n < length prefix → slice_index a n ≡ slice_index b n = λ n h. index_prefix prefix (other ∷ back) (one ∷ back) n h in
+    let w : (n : ℕ) → n + 1 < length prefix → word_at a n ≡ word_at b n = λ n h. ap (λ x. 256 * x + slice_index a (n + 1)) (i n (omega (arith, h))) ∙ ap (λ x. 256 * slice_index b n + x) (i (n + 1) h) in
+    let len : length a ≡ length b = omega (arith, length-append prefix (other ∷ back), length-append prefix (one ∷ back)) in
+    let t : take 20 a ≡ take 20 b = take_prefix prefix (other ∷ back) (one ∷ back) 20 l in
+    let addr : (n : ℕ) → n + 3 < length prefix → address_at a n ≡ address_at b n = λ n h.
     ap (λ x. x ∷ slice_index a (n + 1) ∷ slice_index a (n + 2) ∷ slice_index a (n + 3) ∷ []) (i n (omega (arith, h)))
     ∙ ap (λ x. slice_index b n ∷ x ∷ slice_index a (n + 2) ∷ slice_index a (n + 3) ∷ []) (i (n + 1) (omega (arith, h)))
     ∙ ap (λ x. slice_index b n ∷ slice_index b (n + 1) ∷ x ∷ slice_index a (n + 3) ∷ []) (i (n + 2) (omega (arith, h)))
@@ -204,64 +205,64 @@ echo_refused head bytes message n =
     choose (λ r. is_refused (option_map_or IcmpRefused r (EchoAsked (take head.total bytes))) ≡ true) (ltb (length message) 8) _ _ (λ z. refl) (λ z.
     choose (λ r. is_refused (option_map_or IcmpRefused r (EchoAsked (take head.total bytes))) ≡ true) (not (eqb (checksum_of message) 0)) _ _ (λ z. refl) (λ z. absurd (n (is_zero (checksum_of message) z))))
 
-payload_is : (head : IpHead) (front back : List ℕ) (v : ℕ) → head.total ≡ length (front ++ v ∷ back) → 20 ≤ length front → payload_of head (front ++ v ∷ back) ≡ drop 20 front ++ v ∷ back
-payload_is head front back v t l =
-    let d : drop 20 (front ++ v ∷ back) ≡ drop 20 front ++ v ∷ back = drop_around front (v ∷ back) 20 l in
-    ap (take (head.total - 20)) d ∙ take_all (drop 20 front ++ v ∷ back) (head.total - 20)
-    (omega (arith, t, length-append front (v ∷ back), length-append (drop 20 front) (v ∷ back), length-drop 20 front))
+payload_is : (head : IpHead) (prefix back : List ℕ) (v : ℕ) → head.total ≡ length (prefix ++ v ∷ back) → 20 ≤ length prefix → payload_of head (prefix ++ v ∷ back) ≡ drop 20 prefix ++ v ∷ back
+payload_is head prefix back v t l =
+    let d : drop 20 (prefix ++ v ∷ back) ≡ drop 20 prefix ++ v ∷ back = drop_around prefix (v ∷ back) 20 l in
+    ap (take (head.total - 20)) d ∙ take_all (drop 20 prefix ++ v ∷ back) (head.total - 20)
+    (omega (arith, t, length-append prefix (v ∷ back), length-append (drop 20 prefix) (v ∷ back), length-drop 20 prefix))
 
-late_refused : (proto : Proto) (head : IpHead) (front back : List ℕ) (one other : ℕ) → one < 256 → other < 256 → one ≢ other → 20 ≤ length front → head.total ≡ length (front ++ one ∷ back) → PassesBy proto head (front ++ one ∷ back) →
-    is_refused (by_proto proto head (front ++ other ∷ back)) ≡ true
-late_refused Tcp head front back one other a b n l t p =
-    let tail : List ℕ = drop 20 front in
-    let len : length (front ++ one ∷ back) ≡ length (front ++ other ∷ back) = omega (arith, length-append front (other ∷ back), length-append front (one ∷ back)) in
-    let was : payload_of head (front ++ one ∷ back) ≡ tail ++ one ∷ back = payload_is head front back one t l in
-    let now : payload_of head (front ++ other ∷ back) ≡ tail ++ other ∷ back = payload_is head front back other (t ∙ len) l in
+late_refused : (proto : Proto) (head : IpHead) (prefix back : List ℕ) (one other : ℕ) → one < 256 → other < 256 → one ≢ other → 20 ≤ length prefix → head.total ≡ length (prefix ++ one ∷ back) → PassesBy proto head (prefix ++ one ∷ back) →
+    is_refused (by_proto proto head (prefix ++ other ∷ back)) ≡ true
+late_refused Tcp head prefix back one other a b n l t p =
+    let tail : List ℕ = drop 20 prefix in
+    let len : length (prefix ++ one ∷ back) ≡ length (prefix ++ other ∷ back) = omega (arith, length-append prefix (other ∷ back), length-append prefix (one ∷ back)) in
+    let was : payload_of head (prefix ++ one ∷ back) ≡ tail ++ one ∷ back = payload_is head prefix back one t l in
+    let now : payload_of head (prefix ++ other ∷ back) ≡ tail ++ other ∷ back = payload_is head prefix back other (t ∙ len) l in
     let pseudo : ℕ → List ℕ = λ k. pseudo_header head.source.0 head.target.0 k in
     let ok : segment_in head.source.0 head.target.0 (tail ++ one ∷ back) ≡ Ok p.0 = subst (λ x. segment_in head.source.0 head.target.0 x ≡ Ok p.0) was p.1 in
     let zero_was : checksum_of (pseudo (length (tail ++ one ∷ back)) ++ (tail ++ one ∷ back)) ≡ 0 = segment_sum head.source.0 head.target.0 (tail ++ one ∷ back) p.0 ok in
     let size : length (tail ++ one ∷ back) ≡ length (tail ++ other ∷ back) = omega (arith, length-append tail (one ∷ back), length-append tail (other ∷ back)) in
     let k : ℕ = length (tail ++ other ∷ back) in
     let tells = one_byte (pseudo k ++ tail) back one other a b n in
-    segment_refused head (front ++ other ∷ back) (tail ++ other ∷ back) now
+    segment_refused head (prefix ++ other ∷ back) (tail ++ other ∷ back) now
     (λ z. tells (ap checksum_of (append_assoc (pseudo k) tail (one ∷ back)) ∙ ap (λ x. checksum_of (pseudo x ++ (tail ++ one ∷ back))) (sym size) ∙ zero_was ∙ sym z ∙ ap checksum_of (sym (append_assoc (pseudo k) tail (other ∷ back)))))
-late_refused Icmp head front back one other a b n l t p =
-    let tail : List ℕ = drop 20 front in
-    let len : length (front ++ one ∷ back) ≡ length (front ++ other ∷ back) = omega (arith, length-append front (other ∷ back), length-append front (one ∷ back)) in
-    let was : payload_of head (front ++ one ∷ back) ≡ tail ++ one ∷ back = payload_is head front back one t l in
-    let now : payload_of head (front ++ other ∷ back) ≡ tail ++ other ∷ back = payload_is head front back other (t ∙ len) l in
+late_refused Icmp head prefix back one other a b n l t p =
+    let tail : List ℕ = drop 20 prefix in
+    let len : length (prefix ++ one ∷ back) ≡ length (prefix ++ other ∷ back) = omega (arith, length-append prefix (other ∷ back), length-append prefix (one ∷ back)) in
+    let was : payload_of head (prefix ++ one ∷ back) ≡ tail ++ one ∷ back = payload_is head prefix back one t l in
+    let now : payload_of head (prefix ++ other ∷ back) ≡ tail ++ other ∷ back = payload_is head prefix back other (t ∙ len) l in
     let zero_was : checksum_of (tail ++ one ∷ back) ≡ 0 = echo_sum (tail ++ one ∷ back) (ap echo_fate (sym was) ∙ p) in
     let tells = one_byte tail back one other a b n in
-    subst (λ x. is_refused (option_map_or IcmpRefused (echo_fate x) (EchoAsked (take head.total (front ++ other ∷ back)))) ≡ true) (sym now)
-    (echo_refused head (front ++ other ∷ back) (tail ++ other ∷ back) (λ z. tells (zero_was ∙ sym z)))
+    subst (λ x. is_refused (option_map_or IcmpRefused (echo_fate x) (EchoAsked (take head.total (prefix ++ other ∷ back)))) ≡ true) (sym now)
+    (echo_refused head (prefix ++ other ∷ back) (tail ++ other ∷ back) (λ z. tells (zero_was ∙ sym z)))
 
-byte_in : (front back : List ℕ) (one : ℕ) → All IsByte (front ++ one ∷ back) → one < 256
+byte_in : (prefix back : List ℕ) (one : ℕ) → All IsByte (prefix ++ one ∷ back) → one < 256
 byte_in [] back one h = h zero one (omega arith)
-byte_in (x ∷ front) back one h = byte_in front back one (λ k d l. h (suc k) d (omega (arith, l)))
+byte_in (x ∷ prefix) back one h = byte_in prefix back one (λ k d l. h (suc k) d (omega (arith, l)))
 
 -- One changed byte: the datagram is refused at every address.
 pub damage_refused : (bytes : List ℕ) (at mask : ℕ) (own : Addr) → IsWholeDatagram bytes → at < length bytes → 1 ≤ mask → mask < 256 → is_refused (event_of own (changed bytes at mask)) ≡ true
 damage_refused bytes at mask own w l m1 m2 =
     let r = around bytes at (bit_xor (slice_index bytes at) mask) l in
     let other : ℕ = bit_xor (slice_index bytes at) mask in
-    let new : List ℕ = r.front ++ other ∷ r.back in
-    let one_low : r.one < 256 = byte_in r.front r.back r.one (subst (λ x. All IsByte x) r.is w.all_bytes) in
+    let new : List ℕ = r.prefix ++ other ∷ r.back in
+    let one_low : r.one < 256 = byte_in r.prefix r.back r.one (subst (λ x. All IsByte x) r.is w.all_bytes) in
     let c = byte_changes (slice_index bytes at) mask (subst (λ x. x < 256) (sym r.index) one_low) m1 m2 in
     let apart : r.one ≢ other = λ e. c.1 (r.index ∙ e) in
     subst (λ x. is_refused (event_of own x) ≡ true) (sym r.written)
     (elim (low_or_not at 20) [
-      | inl e ↦ (let f : length r.front < 20 = omega (arith, e, r.place) in
-          let n : ℕ = 20 - length r.front - 1 in
-          let was : take 20 bytes ≡ r.front ++ r.one ∷ take n r.back = ap (take 20) r.is ∙ take_around r.front r.back r.one 20 f in
-          let now : take 20 new ≡ r.front ++ other ∷ take n r.back = take_around r.front r.back other 20 f in
-          let tells = one_byte r.front (take n r.back) r.one other one_low c.0 apart in
+      | inl e ↦ (let f : length r.prefix < 20 = omega (arith, e, r.place) in
+          let n : ℕ = 20 - length r.prefix - 1 in
+          let was : take 20 bytes ≡ r.prefix ++ r.one ∷ take n r.back = ap (take 20) r.is ∙ take_around r.prefix r.back r.one 20 f in
+          let now : take 20 new ≡ r.prefix ++ other ∷ take n r.back = take_around r.prefix r.back other 20 f in
+          let tells = one_byte r.prefix (take n r.back) r.one other one_low c.0 apart in
           head_refused new own (λ z. tells (ap checksum_of (sym was) ∙ head_sum w.head bytes w.is ∙ sym z ∙ ap checksum_of now)))
-      | inr e ↦ (let f : 20 ≤ length r.front = omega (arith, e, r.place) in
-          let same : head_or_fate new own.0 ≡ head_or_fate bytes own.0 = same_head r.front r.back r.one other own.0 f ∙ ap (λ x. head_or_fate x own.0) (sym r.is) in
+      | inr e ↦ (let f : 20 ≤ length r.prefix = omega (arith, e, r.place) in
+          let same : head_or_fate new own.0 ≡ head_or_fate bytes own.0 = same_head r.prefix r.back r.one other own.0 f ∙ ap (λ x. head_or_fate x own.0) (sym r.is) in
           elim (head_or_refused w.head bytes own.0 w.is) [
             | inl x ↦ subst (λ y. is_refused (by_head new y) ≡ true) (sym (same ∙ x.1)) refl
             | inr x ↦ subst (λ y. is_refused (by_head new y) ≡ true) (sym (same ∙ x))
-                (late_refused w.head.proto w.head r.front r.back r.one other one_low c.0 apart f (w.total ∙ ap length r.is) (subst (λ y. PassesBy w.head.proto w.head y) r.is w.passes))
+                (late_refused w.head.proto w.head r.prefix r.back r.one other one_low c.0 apart f (w.total ∙ ap length r.is) (subst (λ y. PassesBy w.head.proto w.head y) r.is w.passes))
           ])
     ])
   where

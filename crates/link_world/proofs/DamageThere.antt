@@ -1,6 +1,6 @@
 -- Damage in a world that is reached.
 use Rattle.std.proofs.Common.{◌≡◌, ℕ, zero, suc, ◌<◌, ◌≤◌, Bool, List, length, refl, sym, subst, Option, Some}
-use Rattle.app_events.specs.Part.{Meaning}
+use Rattle.app_events.specs.AppSpec.{AppSpec}
 use Rattle.link_world.specs.World.{World, Sent, numbered}
 use Rattle.link_world.specs.Bytes.{sent_bytes, changed}
 use Rattle.link_world.specs.Acts.{does, hands_over}
@@ -15,15 +15,15 @@ use Rattle.link_world.proofs.SoundWorlds.{SoundWorld}
 use Rattle.link_world.proofs.Damages.{bytes_are, not_in_nothing}
 use Rattle.link_world.proofs.Damages.Bytes.{wholly, nothing, nobody}
 
-abbrev Lost : Meaning → (ℕ → Bool) → World → ℕ → ℕ → Who → Option Sent → Type 0
+abbrev Lost : AppSpec → (ℕ → Bool) → World → ℕ → ℕ → Who → Option Sent → Type 0
 Lost m served w at mask who o = IsLoss w (damaged m served w at mask o) × CountsBy who w (damaged m served w at mask o)
 
-by_nobody : (m : Meaning) (served : ℕ → Bool) (w : World) (bytes : List ℕ) (who : Who) → who ≡ FromNode 0
+by_nobody : (m : AppSpec) (served : ℕ → Bool) (w : World) (bytes : List ℕ) (who : Who) → who ≡ FromNode 0
     → IsLoss w (hands_over m served w bytes who) × CountsBy who w (hands_over m served w bytes who)
 by_nobody m served w bytes who y =
     subst (λ x. IsLoss w (hands_over m served w bytes x) × CountsBy x w (hands_over m served w bytes x)) (sym y) (same_world w, refl)
 
-pub there : (m : Meaning) (served : ℕ → Bool) (w : World) (k at mask : ℕ) (e : Sent) → numbered w.sent k ≡ Some e → at < length (sent_bytes w e) → 1 ≤ mask → mask < 256 → SoundWorld w
+pub there : (m : AppSpec) (served : ℕ → Bool) (w : World) (k at mask : ℕ) (e : Sent) → numbered w.sent k ≡ Some e → at < length (sent_bytes w e) → 1 ≤ mask → mask < 256 → SoundWorld w
     → IsLoss w (does m served w (Act.Damage k at mask)) × CountsBy e.who w (does m served w (Act.Damage k at mask))
 there m served w zero at mask e x l a b h = absurd (cc)
 there m served w (suc j) at mask e x l a b h = elim (bytes_are w e.who e.content h (h.sent j e x)) [

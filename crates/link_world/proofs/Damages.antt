@@ -1,9 +1,9 @@
--- Where every datagram is sound, damage is a loss.
+-- If every datagram is sound, damage is a loss.
 use Rattle.std.proofs.Common.{◌≡◌, ℕ, zero, suc, ◌<◌, ◌≤◌, ◌⊎◌, inl, inr, Bool, true, false, List, [], length, refl, sym, ap, subst, arith, Option, Some, None, slice_get, ltb, if◌then◌else◌}
 use Rattle.std.specs.Option.{option_map_or, option_or}
 use Rattle.uip_wire.specs.declared.addr.Addr.{Addr}
 use Rattle.tcp_segment.specs.Segments.{PlainSegment}
-use Rattle.app_events.specs.Part.{Meaning}
+use Rattle.app_events.specs.AppSpec.{AppSpec}
 use Rattle.app_events.specs.Pages.{IsAddr}
 use Rattle.uip_node.specs.Edge.{datagram_to}
 use Rattle.link_world.specs.World.{World, Side, Sent, Content, client_sockets}
@@ -71,7 +71,7 @@ byte_there full false h = absurd (cc)
 pub not_in_nothing : (at : ℕ) (bytes : List ℕ) → bytes ≡ [] → at < length bytes → ⊥
 not_in_nothing at bytes e h = let z : length bytes ≡ 0 = ap (λ (x : List ℕ). length x) e in omega (arith, z, h)
 
-module _ (m : Meaning) (served : ℕ → Bool) where
+module _ (m : AppSpec) (served : ℕ → Bool) where
   handed_over : (w : World) (e : Sent) (at mask : ℕ) → at < length (sent_bytes w e) → 1 ≤ mask → mask < 256 → Bytes w e.who e.content → IsLoss w (hands_over m served w (changed (sent_bytes w e) at mask) e.who)
   handed_over w e at mask l a b h = elim h [
     | wholly x ↦ loses m served w e.who (sent_bytes w e) at mask x l a b

@@ -1,16 +1,16 @@
--- What is done with what may be wanting, and what goes on behind an act or a line.
+-- Steps that may fail, and what follows an act or a line.
 use Rattle.std.proofs.Common.{◌≡◌, ℕ, zero, suc, Bool, List, Option, Some, None, Result, Ok, slice_get, refl}
 use Rattle.std.specs.Option.{option_map_or}
 use Rattle.std.specs.Result.{result_map_both}
 use Rattle.link_schedule.specs.Numbers.{◌>>=◌}
-use Rattle.app_events.specs.Part.{Meaning}
+use Rattle.app_events.specs.AppSpec.{AppSpec}
 use Rattle.link_world.specs.Acts.{hands_over}
 use Rattle.link_world.specs.Bytes.{changed, sent_bytes}
 use Rattle.link_world.specs.World.{World, Sent, numbered}
 use Rattle.link_world.specs.Schedule.{BadLine}
 use Rattle.link_world.specs.declared.step_fault.StepFault.{StepFault}
 
--- what holds where a thing is wanting, and of what is done with it where it is there
+-- what holds if there is no value, and of the result if there is one
 pub where_there : {X Y : Type 0} (P : Y → Type 0) (act : X → Y) (o : Option X) (none : Y) → P none → ((x : X) → o ≡ Some x → P (act x)) → P (option_map_or act o none)
 where_there P act None none p f = p
 where_there P act (Some x) none p f = f x refl
@@ -25,10 +25,10 @@ at_number P act xs (suc n) none p f = where_there P (act (suc n)) (slice_get xs 
 abbrev pub with_mark : ℕ → Result World StepFault → Result World StepFault
 with_mark mark r = r >>= λ w. Ok (record w { mark = mark })
 
--- what the lines behind this one reach
+-- what the lines after this one reach
 abbrev pub goes_on_with : ℕ → (World → Result World BadLine) → Result World StepFault → Result World BadLine
 goes_on_with place next r = result_map_both (λ w. w) (λ why. record { place = place; why = why }) r >>= next
 
--- what damage does to a datagram that may be wanting
-abbrev pub damaged : Meaning → (ℕ → Bool) → World → ℕ → ℕ → Option Sent → World
+-- what damage does to a datagram that may not exist
+abbrev pub damaged : AppSpec → (ℕ → Bool) → World → ℕ → ℕ → Option Sent → World
 damaged m served w at mask e = option_map_or (λ d. hands_over m served w (changed (sent_bytes w d) at mask) d.who) e w

@@ -1,15 +1,15 @@
--- The acts keep what holds of all connections and clients.
+-- The acts preserve what holds of all connections and clients.
 use Rattle.std.specs.List.{All}
 use Rattle.std.proofs.Common.{◌≤◌, ℕ, suc, Bool, List, [], ◌∷◌, length, map, refl, sym, subst, Some}
-use Rattle.app_events.specs.Part.{Meaning}
+use Rattle.app_events.specs.AppSpec.{AppSpec}
 use Rattle.uip_node.specs.Steady.{IsSteady}
-use Rattle.app_events.specs.Pages.{IsWord}
+use Rattle.app_events.specs.Pages.{IsU32}
 use Rattle.tcp_machine.specs.Connection.{Connection}
 use Rattle.uip_node.specs.Events.Event.{Arrived, EchoAsked, Periodic}
 use Rattle.uip_node.specs.Events.Answer.{EchoReplied}
 use Rattle.uip_node.specs.Events.Reply.{Echo}
 use Rattle.uip_node.specs.Node.{remembers}
-use Rattle.link_client.specs.Client.{AbstractClient, ClientStep, client_takes, client_opens, client_again, client_closes, client_aborts, tells_window}
+use Rattle.link_client.specs.Client.{AbstractClient, ClientStep, client_takes, client_opens, client_again, client_closes, client_aborts, advertises_window}
 use Rattle.link_world.specs.World.{World, Sent, Content, client_sockets, client_stepped, delivers, marked, node_handles, with_side}
 use Rattle.link_world.specs.World.Content.{OfSegment, OfPing, OfEcho}
 use Rattle.link_world.specs.Acts.{client_acts, handles_all, does}
@@ -28,12 +28,12 @@ loss_fits w v l f = record {
   node = record {
     size = subst (λ (x : List Connection). length x ≤ 10) (sym l.connections) f.node.size;
     conns = subst FitConns (sym l.connections) f.node.conns;
-    numbers = subst (λ x. All IsWord x) (sym l.numbers) f.node.numbers;
+    numbers = subst (λ x. All IsU32 x) (sym l.numbers) f.node.numbers;
   };
   sides = subst FitSides (sym l.sides) f.sides;
 }
 
-module _ (m : Meaning) (steady : IsSteady m) (served : ℕ → Bool) where
+module _ (m : AppSpec) (steady : IsSteady m) (served : ℕ → Bool) where
   delivers_fit : (w : World) (k : ℕ) (e : Sent) (who : Who) (content : Content) → FitWorld w → FitWorld (delivers m served w k e who content)
   delivers_fit w k e (FromClient number) (OfSegment id s) f =
       at_number FitWorld (λ i side. node_handles m served (with_side w i (marked side k e)) (Arrived (client_sockets side) s)) w.sides number w f
@@ -63,7 +63,7 @@ module _ (m : Meaning) (steady : IsSteady m) (served : ℕ → Bool) where
   does_fit w (Act.Again n) pl f = numbered_fit w n client_again again_setup f
   does_fit w (Act.Closes n) pl f = numbered_fit w n client_closes closes_setup f
   does_fit w (Act.Aborts n) pl f = numbered_fit w n client_aborts aborts_setup f
-  does_fit w (Act.Window n x) pl f = numbered_fit w n (tells_window x) (λ c. refl) f
+  does_fit w (Act.Window n x) pl f = numbered_fit w n (advertises_window x) (λ c. refl) f
   does_fit w (Act.Ping source) pl f = record { node = f.node; sides = f.sides }
   does_fit w (Act.Give k) pl f = at_number FitWorld (λ i e. delivers m served w i e e.who e.content) w.sent k w f (λ n e at. delivers_fit w (suc n) e e.who e.content f)
   does_fit w (Act.Damage k at mask) pl f = loss_fits w (does m served w (Act.Damage k at mask)) pl f

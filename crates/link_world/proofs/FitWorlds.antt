@@ -1,18 +1,18 @@
--- The whole world: every connection and every era has captures of moments alone, and clients have addresses.
+-- The whole world: every connection and every past connection has captures of snapshots alone, and clients have addresses.
 use Rattle.std.specs.List.{All}
 use Rattle.std.proofs.Common.{◌≡◌, ℕ, zero, suc, ◌<◌, Bool, false, List, [], ◌∷◌, ◌++◌, length, get_or, refl, sym, ap, ◌∙◌, subst, Option, Some, None, slice_get, position, ltb}
 use Rattle.tcp_segment.specs.Segments.{PlainSegment}
-use Rattle.app_events.specs.Part.{Meaning}
+use Rattle.app_events.specs.AppSpec.{AppSpec}
 use Rattle.uip_node.specs.Steady.{IsSteady}
-use Rattle.app_events.specs.Pages.{IsMoment, IsAddr}
+use Rattle.app_events.specs.Pages.{IsSnapshot, IsAddr}
 use Rattle.tcp_machine.specs.Connection.{Sockets, Connection, closed, serves, same_sockets}
 use Rattle.tcp_machine.specs.OnTick.{on_tick}
 use Rattle.uip_node.specs.Events.{Reply}
 use Rattle.uip_node.specs.Events.Event.{Arrived, Periodic}
 use Rattle.uip_node.specs.Events.Reply.{Echo, Tcp}
-use Rattle.uip_node.specs.Node.{AbstractNode, NodeStep, moment, connection_in, step}
+use Rattle.uip_node.specs.Node.{AbstractNode, NodeStep, snapshot, connection_in, step}
 use Rattle.link_client.specs.Client.{ClientStep}
-use Rattle.link_world.specs.World.{World, Side, Era, Content, client_sockets, buries, buries_in, addressed, posts, posts_reply, node_stepped, node_handles, with_client, with_side, posts_of_client, client_stepped, era_of}
+use Rattle.link_world.specs.World.{World, Side, PastConnection, Content, client_sockets, retires, retires_in, addressed, posts, posts_reply, node_stepped, node_handles, with_client, with_side, posts_of_client, client_stepped, past_connection_of}
 use Rattle.link_world.specs.declared.who.Who.{Who}
 use Rattle.link_world.specs.declared.who.Who.TheVariants.{FromNode}
 use Rattle.link_world.specs.History.{era}
@@ -20,13 +20,13 @@ use Rattle.uip_node.proofs.Basics.{choose}
 use Rattle.uip_node.proofs.Connections.{get_map, get_set}
 use Rattle.uip_node.proofs.Connections.Written.{here, there}
 use Rattle.uip_node.proofs.Fits.{FitConn, all_nil, asked_fits, on_tick_fits}
-use Rattle.uip_node.proofs.FitNodes.{FitNode, FitStep, index_fits, node_moment, still_fits, happened_fits, arrives_fits}
+use Rattle.uip_node.proofs.FitNodes.{FitNode, FitStep, index_fits, node_snapshot, still_fits, happened_fits, arrives_fits}
 
-abbrev pub FitPast : List Era → Type 0
-FitPast past = (n : ℕ) → All IsMoment (get_or past n (era_of closed)).captures
+abbrev pub FitPast : List PastConnection → Type 0
+FitPast history = (n : ℕ) → All IsSnapshot (get_or history n (past_connection_of closed)).captures
 
 pub record FitSide (side : Side) : Type 0 where
-  pub eras : FitPast side.past
+  pub eras : FitPast side.history
   pub addr : IsAddr side.client.setup.addr
   pub port : side.client.setup.port.0 < 65536
 
@@ -37,23 +37,23 @@ pub record FitWorld (w : World) : Type 0 where
   pub node : FitNode w.node
   pub sides : FitSides w.sides
 
-pub era_fits : (past : List Era) (c : Connection) → FitPast past → FitConn c → (o : ℕ) → All IsMoment (era past c o).captures
-era_fits past c p f o = choose (λ (e : Era). All IsMoment e.captures) (ltb o (length past)) _ _ (λ e. p o) (λ e. f.captures)
+pub era_fits : (history : List PastConnection) (c : Connection) → FitPast history → FitConn c → (o : ℕ) → All IsSnapshot (era history c o).captures
+era_fits history c p f o = choose (λ (e : PastConnection). All IsSnapshot e.captures) (ltb o (length history)) _ _ (λ e. p o) (λ e. f.captures)
 
-past_push : (past : List Era) (x : Era) → FitPast past → All IsMoment x.captures → FitPast (past ++ x ∷ [])
+past_push : (history : List PastConnection) (x : PastConnection) → FitPast history → All IsSnapshot x.captures → FitPast (history ++ x ∷ [])
 past_push [] x h f zero = f
-past_push [] x h f (suc n) = all_nil IsMoment
-past_push (a ∷ past) x h f zero = h zero
-past_push (a ∷ past) x h f (suc n) = past_push past x (λ m. h (suc m)) f n
+past_push [] x h f (suc n) = all_nil IsSnapshot
+past_push (a ∷ history) x h f zero = h zero
+past_push (a ∷ history) x h f (suc n) = past_push history x (λ m. h (suc m)) f n
 
-buries_fit : (gone : Option Connection) (sides : List Side) → ((g : Connection) → gone ≡ Some g → FitConn g) → FitSides sides → FitSides (buries gone sides)
+buries_fit : (gone : Option Connection) (sides : List Side) → ((g : Connection) → gone ≡ Some g → FitConn g) → FitSides sides → FitSides (retires gone sides)
 buries_fit None sides f h k side x = h k side x
 buries_fit (Some g) sides f h k side x =
-    let m = get_map (buries_in g) sides k side x in
+    let m = get_map (retires_in g) sides k side x in
     let s : FitSide m.from = h k m.from m.get in
     subst (λ (o : Side). FitSide o) m.is
     (choose (λ (o : Side). FitSide o) (same_sockets g.sockets (client_sockets m.from)) _ _
-    (λ e. record { eras = past_push m.from.past (record { first = g.first; captures = g.part.captures }) s.eras (f g refl).captures; addr = s.addr; port = s.port })
+    (λ e. record { eras = past_push m.from.history (record { iss = g.iss; captures = g.part.captures }) s.eras (f g refl).captures; addr = s.addr; port = s.port })
     (λ e. s))
 
 posts_fit : (w : World) (who : Who) (again : Bool) (content : Content) → FitWorld w → FitWorld (posts w who again content)
@@ -65,9 +65,9 @@ reply_fit w (Some (Echo request)) f = posts_fit w (FromNode 0) false _ f
 reply_fit w (Some (Tcp sockets id again s)) f = posts_fit w (FromNode (addressed 1 sockets w.sides)) again _ f
 
 stepped_fit : (w : World) (r : NodeStep) → FitWorld w → FitStep r → FitWorld (node_stepped w r)
-stepped_fit w r f h = reply_fit (record w { node = r.node; sides = buries r.gone w.sides }) r.sent record { node = h.node; sides = buries_fit r.gone w.sides h.gone f.sides }
+stepped_fit w r f h = reply_fit (record w { node = r.node; sides = retires r.gone w.sides }) r.sent record { node = h.node; sides = buries_fit r.gone w.sides h.gone f.sides }
 
-module _ (m : Meaning) (steady : IsSteady m) where
+module _ (m : AppSpec) (steady : IsSteady m) where
   pub arrival_fits : (served : ℕ → Bool) (w : World) (sockets : Sockets) (s : PlainSegment) → IsAddr sockets.peer → sockets.peer_port.0 < 65536 → FitWorld w → FitWorld (node_handles m served w (Arrived sockets s))
   arrival_fits served w sockets s a p f = stepped_fit w (step m served w.node (Arrived sockets s)) f (arrives_fits m steady served w.node sockets s (position (serves sockets) w.node.connections) a p f.node)
 
@@ -75,14 +75,14 @@ module _ (m : Meaning) (steady : IsSteady m) where
   periodic_fits served w slot f =
       stepped_fit w (step m served w.node (Periodic slot)) f
       (happened_fits m steady w.node (Periodic slot) slot (connection_in slot w.node) _ f.node
-      (asked_fits m steady (moment w.node (Periodic slot) slot) (node_moment m steady w.node (Periodic slot) slot f.node) (on_tick m (connection_in slot w.node) w.node.numbers)
+      (asked_fits m steady (snapshot w.node (Periodic slot) slot) (node_snapshot m steady w.node (Periodic slot) slot f.node) (on_tick m (connection_in slot w.node) w.node.numbers)
       (on_tick_fits m steady (connection_in slot w.node) w.node.numbers (index_fits w.node.connections slot f.node.conns) f.node.numbers)))
 
   pub still_world : (served : ℕ → Bool) (w : World) (d : AbstractNode) (sent : Option Reply) → d.connections ≡ w.node.connections → d.numbers ≡ w.node.numbers → FitWorld w → FitWorld (node_stepped w (record { node = d; sent = sent; gone = None }))
   still_world served w d sent ec en f = stepped_fit w (record { node = d; sent = sent; gone = None }) f (still_fits m steady w.node d sent ec en f.node)
 
 -- a side is put anew
-pub put_fits : (w : World) (n : ℕ) (side new : Side) → slice_get w.sides n ≡ Some side → new.past ≡ side.past → new.client.setup ≡ side.client.setup → FitWorld w → FitWorld (with_side w (suc n) new)
+pub put_fits : (w : World) (n : ℕ) (side new : Side) → slice_get w.sides n ≡ Some side → new.history ≡ side.history → new.client.setup ≡ side.client.setup → FitWorld w → FitWorld (with_side w (suc n) new)
 put_fits w n side new at q s f = record {
   node = f.node;
   sides = λ k x y. elim (get_set w.sides n new k x y) [
@@ -95,7 +95,7 @@ put_fits w n side new at q s f = record {
   ];
 }
 
-pub client_fits : (w : World) (n : ℕ) (side base : Side) (took : ClientStep) → slice_get w.sides n ≡ Some side → base.past ≡ side.past → base.client.setup ≡ side.client.setup → took.client.setup ≡ base.client.setup → FitWorld w → FitWorld (client_stepped w (suc n) base took)
+pub client_fits : (w : World) (n : ℕ) (side base : Side) (took : ClientStep) → slice_get w.sides n ≡ Some side → base.history ≡ side.history → base.client.setup ≡ side.client.setup → took.client.setup ≡ base.client.setup → FitWorld w → FitWorld (client_stepped w (suc n) base took)
 client_fits w n side base took at q s t f = go took.sent (put_fits w n side (with_client base took.client) at q (t ∙ s) f)
   where
     go : (x : Option PlainSegment) → FitWorld (with_side w (suc n) (with_client base took.client)) → FitWorld (posts_of_client (with_side w (suc n) (with_client base took.client)) (suc n) x)

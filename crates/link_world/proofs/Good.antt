@@ -1,8 +1,9 @@
 -- What holds of one client and of the connection that serves it, as long as the client is clean.
+-- [add: state] A case of each invariant, here and in some fifteen files of this folder; docs/LINK_THEOREM.md names them.
 use Rattle.std.proofs.Common.{◌≡◌, ℕ, suc, ◌+◌, ◌<◌, ◌≤◌, Bool, true, false, List, [], ◌++◌, length, Option, Some, None, slice_get, refl, if◌then◌else◌}
 use Rattle.uip_wire.specs.Numbers.{wrap}
 use Rattle.tcp_segment.specs.Segments.{PlainSegment, has_syn, has_fin, has_rst, has_ack}
-use Rattle.app_events.specs.Part.{Moment, Meaning}
+use Rattle.app_events.specs.AppSpec.{Snapshot, AppSpec}
 use Rattle.app_events.specs.Laws.{IsPrefixOf}
 use Rattle.app_events.specs.declared.state.State.{State}
 use Rattle.app_events.specs.declared.state.State.TheVariants.{Closed, SynRcvd, Established, CloseWait, FinWait1, FinWait2, Closing, TimeWait, LastAck}
@@ -12,7 +13,7 @@ use Rattle.tcp_machine.specs.Ask.{Outcome}
 use Rattle.link_client.specs.Client.{AbstractClient, ClientStep, is_receiving, has_closed, own_first}
 use Rattle.link_client.specs.declared.client_state.ClientState.{ClientState}
 use Rattle.link_client.specs.declared.client_state.ClientState.TheVariants as Is
-use Rattle.link_world.specs.World.{Sent, Content, Era, becomes_opened}
+use Rattle.link_world.specs.World.{Sent, Content, PastConnection, becomes_opened}
 use Rattle.link_world.specs.World.Content.{OfSegment, OfPing, OfEcho}
 use Rattle.link_world.specs.declared.who.Who.{Who}
 use Rattle.link_world.specs.declared.who.Who.TheVariants.{FromClient, FromNode}
@@ -24,7 +25,7 @@ abbrev pub is_some : Option ℕ → Bool
 is_some None = false
 is_some (Some o) = true
 
--- the segment of a datagram; of an echo there is none, and a RST stands in its place
+-- the segment of a datagram; an echo has none, and a RST is used in its place
 abbrev pub no_segment : PlainSegment
 no_segment = record { seq = 0; ack = 0; flags = 4; window = 0; mss = None; text = [] }
 
@@ -48,11 +49,11 @@ pub record Spoken : Type 0 where
   pub connection : Connection
   pub sent : Option PlainSegment
 
-abbrev pub spoken : Meaning → Outcome → Spoken
+abbrev pub spoken : AppSpec → Outcome → Spoken
 spoken m o = record { connection = o.connection; sent = segment_of m o.connection o.step }
 
 -- the text of the whole request is whole and this is its end
-pub record IsAll (speaker : Speaker) (client : AbstractClient) (captures : List Moment) (at : ℕ) : Type 0 where
+pub record IsAll (speaker : Speaker) (client : AbstractClient) (captures : List Snapshot) (at : ℕ) : Type 0 where
   pub whole : speaker.whole client.request captures ≡ true
   pub end : at ≡ length (speaker.text client.request captures)
 
@@ -63,29 +64,29 @@ pub record AtSyn (speaker : Speaker) (c : Connection) : Type 0 where
   pub len : c.len ≡ 1
   pub captures : c.part.captures ≡ []
   pub acked : c.acked ≡ 0
-  pub heard : c.part.heard ≡ []
+  pub delivered : c.part.delivered ≡ []
 
 pub record AtText (speaker : Speaker) (opened : Option ℕ) (client : AbstractClient) (c : Connection) : Type 0 where
   pub opened_is : is_some opened ≡ true
   pub here : speaker.here c.part ≡ true
-  pub heard : IsPrefixOf c.part.heard client.request
-  pub fits : c.part.acked + c.len ≤ length (speaker.text c.part.heard c.part.captures)
+  pub delivered : IsPrefixOf c.part.delivered client.request
+  pub fits : c.part.acked + c.len ≤ length (speaker.text c.part.delivered c.part.captures)
   pub count : c.acked ≡ 1 + c.part.acked
 
--- in ESTABLISHED all that was taken was heard, where the part is not lost
+-- in ESTABLISHED all that was accepted was delivered, if the state is not lost
 pub record AtOpen (speaker : Speaker) (opened : Option ℕ) (client : AbstractClient) (c : Connection) : Type 0 where
   pub text : AtText speaker opened client c
-  pub taken : speaker.lost c.part ≡ false → c.taken ≡ length c.part.heard
+  pub taken : speaker.lost c.part ≡ false → c.taken ≡ length c.part.delivered
 
 pub record AtFin (speaker : Speaker) (opened : Option ℕ) (client : AbstractClient) (c : Connection) : Type 0 where
   pub opened_is : is_some opened ≡ true
   pub ends : IsAll speaker client c.part.captures c.part.acked
   pub count : c.acked ≡ 1 + c.part.acked
-  pub heard : IsPrefixOf c.part.heard client.request
+  pub delivered : IsPrefixOf c.part.delivered client.request
 
 pub record AtRest (opened : Option ℕ) (client : AbstractClient) (c : Connection) : Type 0 where
   pub opened_is : is_some opened ≡ true
-  pub heard : IsPrefixOf c.part.heard client.request
+  pub delivered : IsPrefixOf c.part.delivered client.request
 
 abbrev pub StateGood : Speaker → Option ℕ → AbstractClient → Connection → State → Type 0
 StateGood speaker opened client c Closed = Unit {0}
@@ -99,7 +100,7 @@ StateGood speaker opened client c TimeWait = AtRest opened client c
 StateGood speaker opened client c LastAck = AtFin speaker opened client c
 
 pub record ConnGood (speaker : Speaker) (opened : Option ℕ) (client : AbstractClient) (c : Connection) : Type 0 where
-  pub peer_first : c.peer_first ≡ own_first client
+  pub irs : c.irs ≡ own_first client
   pub state : StateGood speaker opened client c c.state
 
 -- before its client opened, a connection that lives is in SYN-RECEIVED
@@ -109,7 +110,7 @@ unopened speaker client c SynRcvd l g = (refl, g)
 unopened speaker client c Established l g = absurd (let z : false ≡ true = g.text.opened_is in cc)
 unopened speaker client c _ l g = absurd (let z : false ≡ true = g.opened_is in cc)
 
--- What a client has said.
+-- What a client has sent.
 pub record IsSyn (client : AbstractClient) (opened : Option ℕ) (at_epoch : ℕ) (s : PlainSegment) : Type 0 where
   pub syn : has_syn s.flags ≡ true
   pub no_ack : has_ack s.flags ≡ false
@@ -129,63 +130,63 @@ pub data ClientSaid (client : AbstractClient) (opened : Option ℕ) (at_epoch : 
   said_syn : IsSyn client opened at_epoch s → ClientSaid client opened at_epoch s
   said_data : IsData client opened s → ClientSaid client opened at_epoch s
 
--- What the node has said. IsOpen: that the client opened in the epoch of the datagram.
-pub record IsText (speaker : Speaker) (client : AbstractClient) (first : ℕ) (captures : List Moment) (s : PlainSegment) : Type 0 where
+-- What the node has sent. IsOpen: the client opened in the epoch of the datagram.
+pub record IsText (speaker : Speaker) (client : AbstractClient) (iss : ℕ) (captures : List Snapshot) (s : PlainSegment) : Type 0 where
   pub no_syn : has_syn s.flags ≡ false
   pub no_fin : has_fin s.flags ≡ false
   pub at : ℕ
   pub part : IsPart (speaker.text client.request captures) s.text at
-  pub seq : s.seq ≡ wrap (first + 1 + at)
+  pub seq : s.seq ≡ wrap (iss + 1 + at)
 
-pub record IsFin (speaker : Speaker) (client : AbstractClient) (first : ℕ) (captures : List Moment) (s : PlainSegment) : Type 0 where
+pub record IsFin (speaker : Speaker) (client : AbstractClient) (iss : ℕ) (captures : List Snapshot) (s : PlainSegment) : Type 0 where
   pub no_syn : has_syn s.flags ≡ false
   pub is_fin : has_fin s.flags ≡ true
   pub no_text : s.text ≡ []
   pub at : ℕ
   pub ends : IsAll speaker client captures at
-  pub seq : s.seq ≡ wrap (first + 1 + at)
+  pub seq : s.seq ≡ wrap (iss + 1 + at)
 
-pub record IsSynAck (first : ℕ) (s : PlainSegment) : Type 0 where
+pub record IsSynAck (iss : ℕ) (s : PlainSegment) : Type 0 where
   pub syn : has_syn s.flags ≡ true
-  pub seq : s.seq ≡ wrap first
+  pub seq : s.seq ≡ wrap iss
 
 pub record IsAck (s : PlainSegment) : Type 0 where
   pub no_syn : has_syn s.flags ≡ false
   pub no_fin : has_fin s.flags ≡ false
   pub no_text : s.text ≡ []
 
-pub data NodeSaid (speaker : Speaker) (client : AbstractClient) (IsOpen : Type 0) (first : ℕ) (captures : List Moment) (s : PlainSegment) : Type 0 where
-  node_reset : has_rst s.flags ≡ true → NodeSaid speaker client IsOpen first captures s
-  node_syn : has_rst s.flags ≡ false → IsSynAck first s → NodeSaid speaker client IsOpen first captures s
-  node_ack : has_rst s.flags ≡ false → IsAck s → NodeSaid speaker client IsOpen first captures s
-  node_text : has_rst s.flags ≡ false → IsOpen → IsText speaker client first captures s → NodeSaid speaker client IsOpen first captures s
-  node_fin : has_rst s.flags ≡ false → IsOpen → IsFin speaker client first captures s → NodeSaid speaker client IsOpen first captures s
+pub data NodeSaid (speaker : Speaker) (client : AbstractClient) (IsOpen : Type 0) (iss : ℕ) (captures : List Snapshot) (s : PlainSegment) : Type 0 where
+  node_reset : has_rst s.flags ≡ true → NodeSaid speaker client IsOpen iss captures s
+  node_syn : has_rst s.flags ≡ false → IsSynAck iss s → NodeSaid speaker client IsOpen iss captures s
+  node_ack : has_rst s.flags ≡ false → IsAck s → NodeSaid speaker client IsOpen iss captures s
+  node_text : has_rst s.flags ≡ false → IsOpen → IsText speaker client iss captures s → NodeSaid speaker client IsOpen iss captures s
+  node_fin : has_rst s.flags ≡ false → IsOpen → IsFin speaker client iss captures s → NodeSaid speaker client IsOpen iss captures s
 
 -- One step of a connection that lives, seen from its client.
 pub record SentGood (speaker : Speaker) (opened : Option ℕ) (client : AbstractClient) (c : Connection) (s : PlainSegment) : Type 0 where
-  pub lives : has_rst s.flags ≡ false → is_live c.state ≡ true
-  pub said : NodeSaid speaker client (is_some opened ≡ true) c.first c.part.captures s
+  pub incarnations : has_rst s.flags ≡ false → is_live c.state ≡ true
+  pub output : NodeSaid speaker client (is_some opened ≡ true) c.iss c.part.captures s
 
 -- the connection afterwards, d, beside the one before, c
 pub record Moved (speaker : Speaker) (opened : Option ℕ) (client : AbstractClient) (c d : Connection) : Type 0 where
-  pub first : d.first ≡ c.first
-  pub more : List Moment
+  pub iss : d.iss ≡ c.iss
+  pub more : List Snapshot
   pub captures : d.part.captures ≡ c.part.captures ++ more
   pub good : is_live d.state ≡ true → ConnGood speaker opened client d
 
 pub record StepGood (speaker : Speaker) (opened : Option ℕ) (client : AbstractClient) (c : Connection) (step : Spoken) : Type 0 where
   pub moved : Moved speaker opened client c step.connection
-  pub said : (s : PlainSegment) → step.sent ≡ Some s → SentGood speaker opened client step.connection s
+  pub output : (s : PlainSegment) → step.sent ≡ Some s → SentGood speaker opened client step.connection s
 
 -- What is kept of each datagram.
-pub record FromGood (client : AbstractClient) (opened : Option ℕ) (past : List Era) (e : Sent) : Type 0 where
-  pub time : e.epoch ≤ length past
-  pub said : ClientSaid client opened e.epoch (seg e)
+pub record FromGood (client : AbstractClient) (opened : Option ℕ) (history : List PastConnection) (e : Sent) : Type 0 where
+  pub time : e.epoch ≤ length history
+  pub output : ClientSaid client opened e.epoch (seg e)
 
-pub record ToGood (speaker : Speaker) (client : AbstractClient) (opened : Option ℕ) (past : List Era) (c : Connection) (e : Sent) : Type 0 where
-  pub time : e.epoch ≤ length past
-  pub lives : has_rst (seg e).flags ≡ false → e.epoch ≡ length past → is_live c.state ≡ true
-  pub said : NodeSaid speaker client (opened ≡ Some e.epoch) (era past c e.epoch).first (era past c e.epoch).captures (seg e)
+pub record ToGood (speaker : Speaker) (client : AbstractClient) (opened : Option ℕ) (history : List PastConnection) (c : Connection) (e : Sent) : Type 0 where
+  pub time : e.epoch ≤ length history
+  pub incarnations : has_rst (seg e).flags ≡ false → e.epoch ≡ length history → is_live c.state ≡ true
+  pub output : NodeSaid speaker client (opened ≡ Some e.epoch) (era history c e.epoch).iss (era history c e.epoch).captures (seg e)
 
 -- it has not opened
 abbrev pub is_early : ClientState → Bool
@@ -204,18 +205,18 @@ pub record NotOpened (client : AbstractClient) : Type 0 where
   pub early : is_early client.state ≡ true
   pub nothing : client.received ≡ []
 
-pub record HasOpened (speaker : Speaker) (client : AbstractClient) (past : List Era) (c : Connection) (o : ℕ) : Type 0 where
-  pub time : o ≤ length past
-  pub then_live : o ≡ length past → is_live c.state ≡ true
-  pub live_then : is_live c.state ≡ true → o ≡ length past
+pub record HasOpened (speaker : Speaker) (client : AbstractClient) (history : List PastConnection) (c : Connection) (o : ℕ) : Type 0 where
+  pub time : o ≤ length history
+  pub then_live : o ≡ length history → is_live c.state ≡ true
+  pub live_then : is_live c.state ≡ true → o ≡ length history
   pub asked : is_unasked client.state ≡ false
-  pub part : IsPart (speaker.text client.request (era past c o).captures) client.received 0
-  pub expected : is_receiving client.state ≡ true → client.expected ≡ wrap ((era past c o).first + 1 + length client.received)
-  pub all : has_closed client.state ≡ true → IsAll speaker client (era past c o).captures (length client.received)
+  pub part : IsPart (speaker.text client.request (era history c o).captures) client.received 0
+  pub expected : is_receiving client.state ≡ true → client.expected ≡ wrap ((era history c o).iss + 1 + length client.received)
+  pub all : has_closed client.state ≡ true → IsAll speaker client (era history c o).captures (length client.received)
 
-abbrev pub OpenedGood : Speaker → AbstractClient → List Era → Connection → Option ℕ → Type 0
-OpenedGood speaker client past c None = NotOpened client
-OpenedGood speaker client past c (Some o) = HasOpened speaker client past c o
+abbrev pub OpenedGood : Speaker → AbstractClient → List PastConnection → Connection → Option ℕ → Type 0
+OpenedGood speaker client history c None = NotOpened client
+OpenedGood speaker client history c (Some o) = HasOpened speaker client history c o
 
 pub record Steady (client : AbstractClient) : Type 0 where
   pub short : length client.request ≤ 4096
@@ -223,18 +224,18 @@ pub record Steady (client : AbstractClient) : Type 0 where
   pub out_fits : client.acked + client.out ≤ length client.request
 
 -- what is known of one clean client
-pub record Good (speaker : Speaker) (number : ℕ) (client : AbstractClient) (opened : Option ℕ) (past : List Era) (c : Connection) (sent : List Sent) : Type 0 where
+pub record Good (speaker : Speaker) (number : ℕ) (client : AbstractClient) (opened : Option ℕ) (history : List PastConnection) (c : Connection) (sent : List Sent) : Type 0 where
   pub steady : Steady client
-  pub opened_good : OpenedGood speaker client past c opened
+  pub opened_good : OpenedGood speaker client history c opened
   pub connection : is_live c.state ≡ true → ConnGood speaker opened client c
-  pub of_client : (k : ℕ) (e : Sent) → slice_get sent k ≡ Some e → e.who ≡ from number → FromGood client opened past e
-  pub of_node : (k : ℕ) (e : Sent) → slice_get sent k ≡ Some e → e.who ≡ to number → ToGood speaker client opened past c e
+  pub of_client : (k : ℕ) (e : Sent) → slice_get sent k ≡ Some e → e.who ≡ from number → FromGood client opened history e
+  pub of_node : (k : ℕ) (e : Sent) → slice_get sent k ≡ Some e → e.who ≡ to number → ToGood speaker client opened history c e
 
 -- One step of a client.
-pub record TookGood (speaker : Speaker) (client : AbstractClient) (past : List Era) (c : Connection) (opened next : Option ℕ) (took : ClientStep) : Type 0 where
-  pub next_is : next ≡ (if becomes_opened client.state took.client.state then Some (length past) else opened)
+pub record TookGood (speaker : Speaker) (client : AbstractClient) (history : List PastConnection) (c : Connection) (opened next : Option ℕ) (took : ClientStep) : Type 0 where
+  pub next_is : next ≡ (if becomes_opened client.state took.client.state then Some (length history) else opened)
   pub request : took.client.request ≡ client.request
   pub setup : own_first took.client ≡ own_first client
   pub steady : Steady took.client
-  pub opened_good : OpenedGood speaker took.client past c next
-  pub said : (s : PlainSegment) → took.sent ≡ Some s → ClientSaid took.client next (length past) s
+  pub opened_good : OpenedGood speaker took.client history c next
+  pub output : (s : PlainSegment) → took.sent ≡ Some s → ClientSaid took.client next (length history) s

@@ -1,8 +1,8 @@
--- Acts only add datagrams, a client that has spoken is never idle again, and every client stays as planned.
+-- Acts only add datagrams, a client that has sent is never idle again, and every client stays as planned.
 use Rattle.std.proofs.Common.{◌≡◌, ℕ, zero, suc, ◌≤◌, Bool, false, List, [], ◌∷◌, length, map, set, Option, Some, None, slice_get, refl, sym, ap, ◌∙◌, arith}
 use Rattle.std.proofs.lemmas.Option.{slice_get-map}
 use Rattle.std.specs.Prelude.{option_map}
-use Rattle.app_events.specs.Part.{Meaning}
+use Rattle.app_events.specs.AppSpec.{AppSpec}
 use Rattle.tcp_segment.specs.Segments.{PlainSegment}
 use Rattle.tcp_machine.specs.Connection.{Connection, same_sockets}
 use Rattle.uip_node.specs.Counters.{ticks_of}
@@ -11,10 +11,10 @@ use Rattle.uip_node.specs.Edge.{event_of}
 use Rattle.uip_node.specs.Events.Event.{Arrived, EchoAsked}
 use Rattle.uip_node.specs.Events.Reply.{Echo, Tcp}
 use Rattle.uip_node.specs.Node.{NodeStep, step}
-use Rattle.link_client.specs.Client.{AbstractClient, ClientStep, client_takes, keeps, tells_window, client_opens, client_again, client_closes, client_aborts}
+use Rattle.link_client.specs.Client.{AbstractClient, ClientStep, client_takes, keeps, advertises_window, client_opens, client_again, client_closes, client_aborts}
 use Rattle.link_world.specs.Acts.{client_acts, does, handed, handles_all, hands_over, is_idle, state_at}
 use Rattle.link_world.specs.Bytes.{changed, hears_datagram, ping_from, sent_bytes}
-use Rattle.link_world.specs.World.{Content, Sent, Side, World, buries, buries_in, client_sockets, client_stepped, delivers, epoch_of, marked, node_handles, node_stepped, posts, posts_of_client, posts_reply, with_client, with_side}
+use Rattle.link_world.specs.World.{Content, Sent, Side, World, retires, retires_in, client_sockets, client_stepped, delivers, epoch_of, marked, node_handles, node_stepped, posts, posts_of_client, posts_reply, with_client, with_side}
 use Rattle.link_world.specs.World.Content.{OfSegment, OfPing, OfEcho}
 use Rattle.link_world.specs.History.{planned_of}
 use Rattle.link_world.specs.declared.act.Act.{Act}
@@ -44,7 +44,7 @@ grows_on w v u g h = record { sent = omega (arith, g.sent, h.sent); spoken = λ 
 
 pub posts_grows : (w : World) (who : Who) (again : Bool) (content : Content) → Grows w (posts w who again content)
 posts_grows w who again content =
-    let new : Sent = record { who = who; tick = ticks_of w.node.past; epoch = epoch_of who w.sides; again = again; content = content } in
+    let new : Sent = record { who = who; tick = ticks_of w.node.history; epoch = epoch_of who w.sides; again = again; content = content } in
     record { sent = omega (arith, one_longer w.sent new); spoken = λ k s. s; planned = refl }
 
 reply_grows : (w : World) (r : Option Reply) → Grows w (posts_reply w r)
@@ -52,28 +52,28 @@ reply_grows w None = grows_not w
 reply_grows w (Some (Echo request)) = posts_grows w (FromNode 0) false (OfEcho request)
 reply_grows w (Some (Tcp sockets id again s)) = posts_grows w (FromNode (Rattle.link_world.specs.World.addressed 1 sockets w.sides)) again (OfSegment id s)
 
-buried_state : (gone : Connection) (side : Option Side) → state_at (option_map (buries_in gone) side) ≡ state_at side
+buried_state : (gone : Connection) (side : Option Side) → state_at (option_map (retires_in gone) side) ≡ state_at side
 buried_state gone None = refl
 buried_state gone (Some side) = choose (λ (x : Side). x.client.state ≡ side.client.state) (same_sockets gone.sockets (client_sockets side)) _ _ (λ e. refl) (λ e. refl)
 
-buries_spoken : (gone : Option Connection) (sides : List Side) (k : ℕ) → Spoken sides k → Spoken (buries gone sides) k
+buries_spoken : (gone : Option Connection) (sides : List Side) (k : ℕ) → Spoken sides k → Spoken (retires gone sides) k
 buries_spoken None sides k s = s
-buries_spoken (Some g) sides k s = ap (λ o. is_idle (state_at o)) (slice_get-map (buries_in g) sides k) ∙ ap is_idle (buried_state g (slice_get sides k)) ∙ s
+buries_spoken (Some g) sides k s = ap (λ o. is_idle (state_at o)) (slice_get-map (retires_in g) sides k) ∙ ap is_idle (buried_state g (slice_get sides k)) ∙ s
 
-buried_planned : (g : Connection) (side : Side) → planned_of (buries_in g side) ≡ planned_of side
+buried_planned : (g : Connection) (side : Side) → planned_of (retires_in g side) ≡ planned_of side
 buried_planned g side = choose (λ (x : Side). planned_of x ≡ planned_of side) (same_sockets g.sockets (client_sockets side)) _ _ (λ e. refl) (λ e. refl)
 
-map_planned : (g : Connection) (sides : List Side) → map planned_of (map (buries_in g) sides) ≡ map planned_of sides
+map_planned : (g : Connection) (sides : List Side) → map planned_of (map (retires_in g) sides) ≡ map planned_of sides
 map_planned g [] = refl
-map_planned g (side ∷ sides) = ap (λ p. p ∷ map planned_of (map (buries_in g) sides)) (buried_planned g side) ∙ ap (λ ps. planned_of side ∷ ps) (map_planned g sides)
+map_planned g (side ∷ sides) = ap (λ p. p ∷ map planned_of (map (retires_in g) sides)) (buried_planned g side) ∙ ap (λ ps. planned_of side ∷ ps) (map_planned g sides)
 
-buries_planned : (gone : Option Connection) (sides : List Side) → map planned_of (buries gone sides) ≡ map planned_of sides
+buries_planned : (gone : Option Connection) (sides : List Side) → map planned_of (retires gone sides) ≡ map planned_of sides
 buries_planned None sides = refl
 buries_planned (Some g) sides = map_planned g sides
 
 stepped_grows : (w : World) (r : NodeStep) → Grows w (node_stepped w r)
 stepped_grows w r =
-    let v : World = record w { node = r.node; sides = buries r.gone w.sides } in
+    let v : World = record w { node = r.node; sides = retires r.gone w.sides } in
     grows_on w v (node_stepped w r) (record { sent = omega arith; spoken = buries_spoken r.gone w.sides; planned = buries_planned r.gone w.sides }) (reply_grows v r.sent)
 
 -- a side is put anew
@@ -102,7 +102,7 @@ client_grows w n side base took at same keeps =
     let v = with_side w (suc n) (with_client base took.client) in
     grows_on w v (client_stepped w (suc n) base took) (put_grows w n side (with_client base took.client) at (λ h. keeps.stays (ap (λ (c : AbstractClient). is_idle c.state) same ∙ h)) (keeps.planned ∙ ap planned_by same)) (posted_grows v (suc n) took.sent)
 
-module _ (m : Meaning) (served : ℕ → Bool) where
+module _ (m : AppSpec) (served : ℕ → Bool) where
   handles_grows : (w : World) (event : Event) → Grows w (node_handles m served w event)
   handles_grows w event = stepped_grows w (step m served w.node event)
 
@@ -150,7 +150,7 @@ module _ (m : Meaning) (served : ℕ → Bool) where
   does_grows w (Act.Again n) = acts_grows w n client_again again_keeps
   does_grows w (Act.Closes n) = acts_grows w n client_closes closes_keeps
   does_grows w (Act.Aborts n) = acts_grows w n client_aborts aborts_keeps
-  does_grows w (Act.Window n x) = acts_grows w n (tells_window x) (λ c. record { stays = λ h. h; planned = refl })
+  does_grows w (Act.Window n x) = acts_grows w n (advertises_window x) (λ c. record { stays = λ h. h; planned = refl })
   does_grows w (Act.Ping source) = posts_grows w Pinger false (OfPing (ping_from source w.node.addr))
   does_grows w (Act.Give k) = at_number (Grows w) (λ i e. delivers m served w i e e.who e.content) w.sent k w (grows_not w) (λ n e at. delivers_grows w (suc n) e e.who e.content)
   does_grows w (Act.Damage k at mask) =

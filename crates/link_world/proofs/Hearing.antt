@@ -1,4 +1,4 @@
--- What a client's code hears in a datagram is what the world says that it hears.
+-- A client's code receives in a datagram what the world defines.
 use Rattle.std.specs.Prelude.{ℕ, List, Option, Some, None, Result, Ok, Err, take}
 use Rattle.std.specs.Option.{option_map_or}
 use Rattle.std.proofs.Common.{◌≡◌, refl}
@@ -34,6 +34,6 @@ of_head : (setup : Setup) (bytes : List ℕ) (r : Result IpHead IpFate) → hear
 of_head setup bytes (Ok head) = of_proto head.proto setup head bytes
 of_head setup bytes (Err fate) = refl
 
--- what the client's code hears is what the world says that it hears
+-- what the client's code receives is what the world defines
 pub same_hearing : (setup : Setup) (bytes : List ℕ) → client_hears setup bytes ≡ world_hears setup bytes
 same_hearing setup bytes = of_head setup bytes (head_or_fate bytes setup.addr.0)

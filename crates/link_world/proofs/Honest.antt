@@ -1,24 +1,24 @@
--- One client over a link that loses nothing is served whole.
+-- One client over a link that loses nothing has its whole page.
 use Rattle.std.specs.List.{All}
 use Rattle.std.proofs.Common.{◌≡◌, ℕ, zero, suc, ◌+◌, ◌-◌, ◌*◌, ◌<◌, ◌≤◌, min, Bool, true, inr, List, [], ◌∷◌, ◌++◌, length, replicate, refl, sym, ap, ◌∙◌, subst, arith, Some, None, Ok, slice_get}
 use Rattle.std.proofs.Math.Nat.{suc-mul}
 use Rattle.uip_wire.specs.Numbers.{wrap}
 use Rattle.uip_wire.specs.declared.addr.Addr.{Addr}
-use Rattle.app_events.specs.Part.{Part, Meaning}
-use Rattle.app_events.specs.Pages.{Pages, IsPaged, IsWord, IsAddr}
+use Rattle.app_events.specs.AppSpec.{AppState, AppSpec}
+use Rattle.app_events.specs.Pages.{Pages, IsPaged, IsU32, IsAddr}
 use Rattle.app_events.specs.declared.state.State.TheVariants.{SynRcvd}
 use Rattle.tcp_machine.specs.Connection.{Connection}
 use Rattle.tcp_machine.specs.OnSegment.{first_mss}
 use Rattle.tcp_segment.specs.Segments.{PlainSegment}
 use Rattle.uip_node.specs.Counters.{ticks_of}
-use Rattle.uip_node.specs.Node.{AbstractNode, opening}
+use Rattle.uip_node.specs.Node.{AbstractNode, initial_node}
 use Rattle.link_client.specs.Client.{AbstractClient, offered, syn_of, opens_by}
 use Rattle.link_client.specs.declared.client_state.ClientState.TheVariants as Is
 use Rattle.link_client.specs.declared.fin_at.FinAt.{FinAt}
 use Rattle.link_client.specs.declared.setup.Setup.{Setup}
 use Rattle.link_world.specs.World.{World, Side, Sent}
 use Rattle.link_world.specs.Schedule.{plays_line, plays_from, plays}
-use Rattle.link_world.specs.History.{Planned, IsPlanned, IsPlan, opening_world}
+use Rattle.link_world.specs.History.{Planned, IsPlanned, IsPlan, initial_world}
 use Rattle.link_schedule.specs.declared.event.Event.{Event}
 use Rattle.link_schedule.specs.declared.event.Event.TheVariants.{Opens, Round}
 use Rattle.link_world.specs.Headline.{IsAct, IsPlainAct, OfLine, IsSchedulePlayed, IsServed}
@@ -52,16 +52,16 @@ first_sent (suc parts) n seg l =
 abbrev lines_of : ℕ → List Event
 lines_of n = Opens 1 ∷ replicate n Round
 
-module _ (m : Meaning) (pages : Pages) (lawful : IsPaged m pages) (served : ℕ → Bool) (addr : Addr) (numbers : List ℕ) (p : Planned) where
+module _ (m : AppSpec) (pages : Pages) (lawful : IsPaged m pages) (served : ℕ → Bool) (addr : Addr) (numbers : List ℕ) (p : Planned) where
   -- the client opens
-  opening_line : plays_line m served (opening_world addr numbers (p ∷ [])) (Opens 1)
-      ≡ Ok (under_way (opening addr numbers) (only_side (client_at p.setup p.request Is.Opening [] 0 0 FinAt.NotSent 0) None) [] (by_client (ticks_of []) 0 (syn_of (client_at p.setup p.request Is.Opening [] 0 0 FinAt.NotSent 0))))
+  opening_line : plays_line m served (initial_world addr numbers (p ∷ [])) (Opens 1)
+      ≡ Ok (under_way (initial_node addr numbers) (only_side (client_at p.setup p.request Is.Opening [] 0 0 FinAt.NotSent 0) None) [] (by_client (ticks_of []) 0 (syn_of (client_at p.setup p.request Is.Opening [] 0 0 FinAt.NotSent 0))))
   unfolding opens_by
   opening_line = refl
 
   -- the world that is played is served
-  served_whole : (n : ℕ) → IsAddr addr → All IsWord numbers → IsPlan (p ∷ []) → Ended (plays m served (lines_of n) (opening_world addr numbers (p ∷ []))) →
-      (w : World) × (plays m served (lines_of n) (opening_world addr numbers (p ∷ [])) ≡ Ok w) × IsServedWhole pages w
+  served_whole : (n : ℕ) → IsAddr addr → All IsU32 numbers → IsPlan (p ∷ []) → Ended (plays m served (lines_of n) (initial_world addr numbers (p ∷ []))) →
+      (w : World) × (plays m served (lines_of n) (initial_world addr numbers (p ∷ [])) ≡ Ok w) × IsServedWhole pages w
   served_whole n a words plan e =
       let w : World = e.world in
       let side : Side = only_side e.client e.opened in
@@ -78,37 +78,37 @@ module _ (m : Meaning) (pages : Pages) (lawful : IsPaged m pages) (served : ℕ 
       let closed = ap Rattle.link_client.specs.Client.has_closed e.closed in
       (w, e.is, record { side = side; there = there; closed = e.closed; clean = refl; received = has.all closed; whole = has.whole closed })
 
-  module _ (fine : Part → Bool) (left : Part → ℕ) (parts texts : ℕ) (answers : AnswersIn m p.request (first_mss (offered p.setup.mss)) fine left texts) where
-    runs_to_its_end : All IsWord numbers → IsPlanned p → served p.setup.server_port.0 ≡ true → 0 < length p.request → length p.request ≤ parts * p.setup.seg → 2 * parts + 2 * texts + 7 ≤ 65535 →
-        Ended (plays m served (lines_of (2 * parts + 2 * texts + 6)) (opening_world addr numbers (p ∷ [])))
+  module _ (fine : AppState → Bool) (left : AppState → ℕ) (parts texts : ℕ) (answers : AnswersIn m p.request (first_mss (offered p.setup.mss)) fine left texts) where
+    runs_to_its_end : All IsU32 numbers → IsPlanned p → served p.setup.server_port.0 ≡ true → 0 < length p.request → length p.request ≤ parts * p.setup.seg → 2 * parts + 2 * texts + 7 ≤ 65535 →
+        Ended (plays m served (lines_of (2 * parts + 2 * texts + 6)) (initial_world addr numbers (p ∷ [])))
     runs_to_its_end words is port some long room =
         let n : ℕ = 2 * parts + 2 * texts + 3 in
         let setup : Setup = p.setup in
         let request : List ℕ = p.request in
         let opening_client : AbstractClient = client_at setup request Is.Opening [] 0 0 FinAt.NotSent 0 in
         let o = opens_first m pages lawful served addr setup request numbers port in
-        let k : Connection = conn_at m pages lawful served addr setup request SynRcvd 0 o.first 0 1 o.part in
-        let node : AbstractNode = node_at m pages lawful served addr setup request numbers o.past k in
-        let seq : ℕ = wrap (o.first + 0) in
+        let k : Connection = conn_at m pages lawful served addr setup request SynRcvd 0 o.iss 0 1 o.part in
+        let node : AbstractNode = node_at m pages lawful served addr setup request numbers o.history k in
+        let seq : ℕ = wrap (o.iss + 0) in
         let ack : ℕ = wrap (setup.iss.0 + 1 + 0) in
         let s : PlainSegment = node_syn_ack setup request seq ack in
         let x : ℕ = wrap (seq + 1) in
         let next = sends_something setup request [] 0 x in
         let c : AbstractClient = open_with setup request [] 0 (next_out setup request 0) x in
         let one : List Sent = by_client (ticks_of []) 0 (syn_of opening_client) ∷ [] in
-        let two : List Sent = one ++ by_node (ticks_of o.past) o.id s ∷ [] in
-        let expected : x ≡ wrap (o.first + 1) = wrap_wrap (o.first + 0) 1 ∙ ap wrap (let z : o.first + 0 + 1 ≡ o.first + 1 = omega arith in z) in
-        let fit : FitConn k = record { rest = λ r. absurd (cc); captures = subst (λ l. All Rattle.app_events.specs.Pages.IsMoment l) (sym o.none) (all_nil Rattle.app_events.specs.Pages.IsMoment); addr = is.addr; port = is.port } in
+        let two : List Sent = one ++ by_node (ticks_of o.history) o.id s ∷ [] in
+        let expected : x ≡ wrap (o.iss + 1) = wrap_wrap (o.iss + 0) 1 ∙ ap wrap (let z : o.iss + 0 + 1 ≡ o.iss + 1 = omega arith in z) in
+        let fit : FitConn k = record { rest = λ r. absurd (cc); captures = subst (λ l. All Rattle.app_events.specs.Pages.IsSnapshot l) (sym o.none) (all_nil Rattle.app_events.specs.Pages.IsSnapshot); addr = is.addr; port = is.port } in
         let seg : 1 ≤ setup.seg = is.seg.0 in
-        let says = visits_first m pages lawful served addr setup request fine left texts answers numbers o.past o.first x o.part next.segment seg next.brings expected words fit in
+        let says = visits_first m pages lawful served addr setup request fine left texts answers numbers o.history o.iss x o.part next.segment seg next.decodes expected words fit in
         let more : 1 ≤ parts = some_part parts (length request) setup.seg some long in
         let enough : length request ≤ 0 + next_out setup request 0 + (parts - 1) * setup.seg = first_sent parts (length request) setup.seg long in
         let count : 2 * parts + 2 * texts + 6 ≡ suc (suc (suc n)) = omega arith in
-        subst (λ j. Ended (plays m served (lines_of j) (opening_world addr numbers (p ∷ [])))) (sym count)
+        subst (λ j. Ended (plays m served (lines_of j) (initial_world addr numbers (p ∷ [])))) (sym count)
         (subst Ended (sym (ap (λ r. goes_on_with 0 (plays_from m served 1 (replicate (suc (suc (suc n))) Round)) r) opening_line))
-        (node_round m served (suc (suc n)) 1 (opening addr numbers) node opening_client None [] (ticks_of []) 0 o.id (syn_of opening_client) s (omega arith) o.is
-        (client_round m served (suc n) (1 + 1) node opening_client c None one (ticks_of o.past) o.id s next.segment (omega arith) (opens_at_syn_ack setup request seq ack (ap wrap (let z : setup.iss.0 + 1 + 0 ≡ setup.iss.0 + 1 = omega arith in z)) ∙ next.is)
-        (after_visit m pages lawful served addr setup request fine left texts answers seg (parts - 1 + texts) n (parts - 1) o.first (0 + 1) texts (ends m pages lawful served addr setup request fine left texts answers seg (parts - 1 + texts)) node 0 (next_out setup request 0) x (ticks_of o.past) 0 [] two next.segment says expected
+        (node_round m served (suc (suc n)) 1 (initial_node addr numbers) node opening_client None [] (ticks_of []) 0 o.id (syn_of opening_client) s (omega arith) o.is
+        (client_round m served (suc n) (1 + 1) node opening_client c None one (ticks_of o.history) o.id s next.segment (omega arith) (opens_at_syn_ack setup request seq ack (ap wrap (let z : setup.iss.0 + 1 + 0 ≡ setup.iss.0 + 1 = omega arith in z)) ∙ next.is)
+        (after_visit m pages lawful served addr setup request fine left texts answers seg (parts - 1 + texts) n (parts - 1) o.iss (0 + 1) texts (ends m pages lawful served addr setup request fine left texts answers seg (parts - 1 + texts)) node 0 (next_out setup request 0) x (ticks_of o.history) 0 [] two next.segment says expected
         (omega arith) (omega arith) (omega (arith, more)) enough (omega (arith, room)) (1 + 1 + 1)))))
 
 pub honest_link : HonestLink

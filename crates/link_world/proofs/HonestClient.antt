@@ -4,7 +4,7 @@ use Rattle.std.proofs.lemmas.Bool.{le-ltb, lt-ltb, cases_lt, eq-eqb}
 use Rattle.uip_wire.specs.Numbers.{wrap}
 use Rattle.tcp_segment.specs.declared.flags.TheConstants.{FIN, SYN, PSH, ACK}
 use Rattle.tcp_segment.specs.Segments.{PlainSegment, has_fin, has_rst, has_ack}
-use Rattle.tcp_machine.specs.Segments.{has_place}
+use Rattle.tcp_machine.specs.Segments.{occupies_sequence_space}
 use Rattle.link_client.specs.Client.{AbstractClient, ClientStep, sends_next, hears_ack, takes_text, takes_in_order, takes_by, client_takes, own_request, ack_of, own_fin, next_own, has_outstanding, keeps}
 use Rattle.link_client.specs.Client as client
 use Rattle.link_client.specs.declared.client_state.ClientState.{ClientState}
@@ -40,12 +40,12 @@ module _ (setup : Setup) (request : List ℕ) where
     pub window : s.window ≡ 65535
     pub ack : s.ack ≡ x
     pub text : s.text ≡ take (next_out acked) (drop acked request)
-    pub seq : has_place s ≡ true → s.seq ≡ wrap (setup.iss.0 + 1 + acked)
+    pub seq : occupies_sequence_space s ≡ true → s.seq ≡ wrap (setup.iss.0 + 1 + acked)
 
   pub record SendsNext (step : ClientStep) (received : List ℕ) (acked x : ℕ) : Type 0 where
     pub segment : PlainSegment
     pub is : step ≡ record { client = client_at Opened received acked (next_out acked) FinAt.NotSent x; sent = Some segment }
-    pub brings : Brings acked x segment
+    pub decodes : Brings acked x segment
 
   next_none : (a : ℕ) → length request ≤ a → next_out a ≡ 0
   next_none a h = omega (arith, h)
@@ -67,7 +67,7 @@ module _ (setup : Setup) (request : List ℕ) where
   sends_part owed received a x h = record {
     segment = own_request (open_with received a (next_out a) x);
     is = by_rest owed received a x ∙ ap (λ b. if b then part_step received a x else owed_step owed received a x) (lt-ltb a (length request) h);
-    brings = record { no_rst = refl; no_fin = refl; is_ack = refl; window = refl; ack = refl; text = refl; seq = λ p. refl };
+    decodes = record { no_rst = refl; no_fin = refl; is_ack = refl; window = refl; ack = refl; text = refl; seq = λ p. refl };
   }
 
   sends_ack : (received : List ℕ) (a x : ℕ) → length request ≤ a → SendsNext (sends_next true (open_with received a 0 x)) received a x
@@ -76,7 +76,7 @@ module _ (setup : Setup) (request : List ℕ) where
     is = by_rest true received a x
         ∙ ap (λ b. if b then part_step received a x else owed_step true received a x) (le-ltb a (length request) h)
         ∙ ap (λ n. client.steps_with (open_with received a n x) (ack_of (open_with received a 0 x))) (sym (next_none a h));
-    brings = record { no_rst = refl; no_fin = refl; is_ack = refl; window = refl; ack = refl; text = sym (ap (λ n. take n (drop a request)) (next_none a h)); seq = λ p. absurd (cc) };
+    decodes = record { no_rst = refl; no_fin = refl; is_ack = refl; window = refl; ack = refl; text = sym (ap (λ n. take n (drop a request)) (next_none a h)); seq = λ p. absurd (cc) };
   }
 
   pub sends_something : (received : List ℕ) (a x : ℕ) → SendsNext (sends_next true (open_with received a 0 x)) received a x
@@ -125,12 +125,12 @@ module _ (setup : Setup) (request : List ℕ) where
   unfolding client_takes takes_by takes_in_order
   takes_a_text received a o x seq ack text e f h =
       let s : PlainSegment = node_says (ACK + PSH) seq ack text in
-      let placed : not (has_place s) ≡ false = ap (λ b. not (b || false)) (ltb-yes (length text) h) in
+      let placed : not (occupies_sequence_space s) ≡ false = ap (λ b. not (b || false)) (ltb-yes (length text) h) in
       let in_order : eqb seq x && true ≡ true = ap (λ b. b && true) (eq-eqb seq x f) in
       let P : ClientStep → Type 0 = λ r. SendsNext r (received ++ text) (a + o) (wrap (x + length text + 0)) in
-      subst (λ (c : AbstractClient). P (if not (has_place s) then sends_next false c else (if eqb seq c.expected && client.is_receiving c.state then sends_next true (takes_text c s) else sends_next true c)))
+      subst (λ (c : AbstractClient). P (if not (occupies_sequence_space s) then sends_next false c else (if eqb seq c.expected && client.is_receiving c.state then sends_next true (takes_text c s) else sends_next true c)))
       (sym (hears_all received a o x s refl e))
-      (choose P (not (has_place s)) _ _ (λ y. absurd (cc))
+      (choose P (not (occupies_sequence_space s)) _ _ (λ y. absurd (cc))
       (λ n. choose P (eqb seq x && true) _ _ (λ y. sends_something (received ++ text) (a + o) (wrap (x + length text + 0))) (λ y. absurd (cc))))
 
   -- the FIN at the expected number

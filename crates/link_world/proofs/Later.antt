@@ -1,51 +1,51 @@
--- What was said stays true as captures are taken and the client goes on.
+-- What was sent stays true as captures are taken and the client continues.
 use Rattle.std.proofs.Common.{◌≡◌, ℕ, ◌+◌, ◌≤◌, true, ◌⊎◌, inl, inr, List, [], ◌++◌, length, sym, ap, ◌∙◌, subst, Option, Some}
 use Rattle.uip_wire.specs.Numbers.{wrap}
 use Rattle.tcp_segment.specs.Segments.{PlainSegment}
-use Rattle.app_events.specs.Part.{Moment, Meaning}
+use Rattle.app_events.specs.AppSpec.{Snapshot, AppSpec}
 use Rattle.app_events.specs.Laws.{IsPrefixOf}
 use Rattle.link_client.specs.Client.{AbstractClient, own_first}
 use Rattle.uip_node.proofs.Basics.{IsPart, prefix_part, append_nothing}
-use Rattle.link_world.proofs.Speaking.{Speaker, Speaks}
+use Rattle.link_world.proofs.Speaking.{Speaker, HasOutputModel}
 use Rattle.link_world.proofs.Good.{is_some, IsAll, NodeSaid, ClientSaid}
 use Rattle.link_world.proofs.Good.ClientSaid.{said_reset, said_syn, said_data}
 use Rattle.link_world.proofs.Good.NodeSaid.{node_reset, node_syn, node_ack, node_text, node_fin}
 
-module _ (m : Meaning) (speaker : Speaker) (laws : Speaks m speaker) where
-  pub page_more : (r : List ℕ) (k more : List Moment) → IsPrefixOf (speaker.text r k) (speaker.text r (k ++ more))
+module _ (m : AppSpec) (speaker : Speaker) (laws : HasOutputModel m speaker) where
+  pub page_more : (r : List ℕ) (k more : List Snapshot) → IsPrefixOf (speaker.text r k) (speaker.text r (k ++ more))
   page_more r k more = subst (λ q. IsPrefixOf (speaker.text r k) (speaker.text q (k ++ more))) (append_nothing r) (laws.grows r [] k more)
 
-  pub page_heard : (q more : List ℕ) (k : List Moment) → IsPrefixOf (speaker.text q k) (speaker.text (q ++ more) k)
+  pub page_heard : (q more : List ℕ) (k : List Snapshot) → IsPrefixOf (speaker.text q k) (speaker.text (q ++ more) k)
   page_heard q more k = subst (λ l. IsPrefixOf (speaker.text q k) (speaker.text (q ++ more) l)) (append_nothing k) (laws.grows q more k [])
 
-  whole_more : (r : List ℕ) (k more : List Moment) → speaker.whole r k ≡ true → speaker.whole r (k ++ more) ≡ true
+  whole_more : (r : List ℕ) (k more : List Snapshot) → speaker.whole r k ≡ true → speaker.whole r (k ++ more) ≡ true
   whole_more r k more w = subst (λ q. speaker.whole q (k ++ more) ≡ true) (append_nothing r) (laws.stays_whole r [] k more w)
 
-  page_whole : (r : List ℕ) (k more : List Moment) → speaker.whole r k ≡ true → speaker.text r (k ++ more) ≡ speaker.text r k
+  page_whole : (r : List ℕ) (k more : List Snapshot) → speaker.whole r k ≡ true → speaker.text r (k ++ more) ≡ speaker.text r k
   page_whole r k more w = subst (λ q. speaker.text q (k ++ more) ≡ speaker.text r k) (append_nothing r) (laws.stays r [] k more w)
 
-  -- the page of a front of the request begins the page of the whole request
-  pub front_grows : (heard r : List ℕ) (k : List Moment) → IsPrefixOf heard r → IsPrefixOf (speaker.text heard k) (speaker.text r k)
-  front_grows heard r k h = subst (λ q. IsPrefixOf (speaker.text heard k) (speaker.text q k)) h.joined (page_heard heard h.rest k)
+  -- the page of a prefix of the request is a prefix of the page of the whole request
+  pub prefix_grows : (delivered r : List ℕ) (k : List Snapshot) → IsPrefixOf delivered r → IsPrefixOf (speaker.text delivered k) (speaker.text r k)
+  prefix_grows delivered r k h = subst (λ q. IsPrefixOf (speaker.text delivered k) (speaker.text q k)) h.joined (page_heard delivered h.rest k)
 
-  -- where the page of what was heard is whole, it is the page of the whole request
-  pub front_all : (c : AbstractClient) (heard : List ℕ) (k : List Moment) (at : ℕ) → IsPrefixOf heard c.request → speaker.whole heard k ≡ true → at ≡ length (speaker.text heard k) → IsAll speaker c k at
-  front_all c heard k at h w e =
-      let a : speaker.whole c.request k ≡ true = subst (λ q. speaker.whole q k ≡ true) h.joined (subst (λ l. speaker.whole (heard ++ h.rest) l ≡ true) (append_nothing k) (laws.stays_whole heard h.rest k [] w)) in
-      let b : speaker.text c.request k ≡ speaker.text heard k = subst (λ q. speaker.text q k ≡ speaker.text heard k) h.joined (subst (λ l. speaker.text (heard ++ h.rest) l ≡ speaker.text heard k) (append_nothing k) (laws.stays heard h.rest k [] w)) in
+  -- if the page of what was received is whole, it is the page of the whole request
+  pub prefix_all : (c : AbstractClient) (delivered : List ℕ) (k : List Snapshot) (at : ℕ) → IsPrefixOf delivered c.request → speaker.whole delivered k ≡ true → at ≡ length (speaker.text delivered k) → IsAll speaker c k at
+  prefix_all c delivered k at h w e =
+      let a : speaker.whole c.request k ≡ true = subst (λ q. speaker.whole q k ≡ true) h.joined (subst (λ l. speaker.whole (delivered ++ h.rest) l ≡ true) (append_nothing k) (laws.stays_whole delivered h.rest k [] w)) in
+      let b : speaker.text c.request k ≡ speaker.text delivered k = subst (λ q. speaker.text q k ≡ speaker.text delivered k) h.joined (subst (λ l. speaker.text (delivered ++ h.rest) l ≡ speaker.text delivered k) (append_nothing k) (laws.stays delivered h.rest k [] w)) in
       record { whole = a; end = e ∙ ap length (sym b) }
 
-  pub part_later : (r r' : List ℕ) (k k' more : List Moment) (text : List ℕ) (at : ℕ) → r' ≡ r → k' ≡ k ++ more → IsPart (speaker.text r k) text at → IsPart (speaker.text r' k') text at
+  pub part_later : (r r' : List ℕ) (k k' more : List Snapshot) (text : List ℕ) (at : ℕ) → r' ≡ r → k' ≡ k ++ more → IsPart (speaker.text r k) text at → IsPart (speaker.text r' k') text at
   part_later r r' k k' more text at er ek h =
       subst (λ x. IsPart (speaker.text x k') text at) (sym er) (subst (λ x. IsPart (speaker.text r x) text at) (sym ek) (prefix_part (speaker.text r k) (speaker.text r (k ++ more)) text at (page_more r k more) h))
 
-  pub all_later : (c d : AbstractClient) (k k' more : List Moment) (at : ℕ) → d.request ≡ c.request → k' ≡ k ++ more → IsAll speaker c k at → IsAll speaker d k' at
+  pub all_later : (c d : AbstractClient) (k k' more : List Snapshot) (at : ℕ) → d.request ≡ c.request → k' ≡ k ++ more → IsAll speaker c k at → IsAll speaker d k' at
   all_later c d k k' more at er ek h =
       let w : speaker.whole d.request k' ≡ true = subst (λ x. speaker.whole x k' ≡ true) (sym er) (subst (λ x. speaker.whole c.request x ≡ true) (sym ek) (whole_more c.request k more h.whole)) in
       let p : speaker.text d.request k' ≡ speaker.text c.request k = ap (λ x. speaker.text x k') er ∙ ap (λ x. speaker.text c.request x) ek ∙ page_whole c.request k more h.whole in
       record { whole = w; end = h.end ∙ ap length (sym p) }
 
-  pub node_later : (c d : AbstractClient) (P Q : Type 0) (f f' : ℕ) (k k' more : List Moment) (s : PlainSegment) → d.request ≡ c.request →
+  pub node_later : (c d : AbstractClient) (P Q : Type 0) (f f' : ℕ) (k k' more : List Snapshot) (s : PlainSegment) → d.request ≡ c.request →
       (P → Q) → f' ≡ f → k' ≡ k ++ more → NodeSaid speaker c P f k s → NodeSaid speaker d Q f' k' s
   node_later c d P Q f f' k k' more s er pq ef ek (node_reset r) = node_reset r
   node_later c d P Q f f' k k' more s er pq ef ek (node_syn r n) = node_syn r record { syn = n.syn; seq = n.seq ∙ ap wrap (sym ef) }

@@ -1,17 +1,18 @@
--- No act looks at the mark; so what the lines of a schedule reach, a list of acts reaches.
+-- No act reads the mark, so a list of acts reaches what the lines of a schedule reach.
+-- [add: schedule-line] The list of its acts.
 use Rattle.std.specs.List.{All}
 use Rattle.std.proofs.Common.{◌≡◌, ℕ, zero, suc, ◌+◌, inl, inr, Bool, false, List, [], ◌∷◌, ◌++◌, length, map, flat_map, replicate, reverse, refl, sym, ap, ◌∙◌, arith, Option, Some, None, Result, Ok, Err, ltb, if◌then◌else◌}
 use Rattle.std.proofs.lemmas.List.Elements.{All-append}
 use Rattle.std.specs.Option.{option_map_or, option_or}
 use Rattle.link_schedule.specs.Numbers.{◌>>=◌}
-use Rattle.app_events.specs.Part.{Meaning}
+use Rattle.app_events.specs.AppSpec.{AppSpec}
 use Rattle.uip_node.specs.Events.{Event as NodeEvent, Reply, tick}
 use Rattle.uip_node.specs.Events.Event.{EchoAsked, Arrived}
 use Rattle.uip_node.specs.Events.Reply.{Echo, Tcp}
 use Rattle.uip_node.specs.Edge.{event_of}
 use Rattle.uip_node.specs.Node.{NodeStep, step}
-use Rattle.link_client.specs.Client.{AbstractClient, ClientStep, client_takes, client_opens, client_again, client_closes, client_aborts, tells_window}
-use Rattle.link_world.specs.World.{World, Side, Sent, Content, numbered, buries, posts, posts_reply, node_handles, with_client, with_side, client_stepped, marked, client_sockets, delivers}
+use Rattle.link_client.specs.Client.{AbstractClient, ClientStep, client_takes, client_opens, client_again, client_closes, client_aborts, advertises_window}
+use Rattle.link_world.specs.World.{World, Side, Sent, Content, numbered, retires, posts, posts_reply, node_handles, with_client, with_side, client_stepped, marked, client_sockets, delivers}
 use Rattle.link_world.specs.World.Content.{OfSegment, OfPing, OfEcho}
 use Rattle.link_world.specs.Bytes.{bytes_by, sent_bytes, changed, hears_datagram}
 use Rattle.link_world.specs.Acts.{acts, client_acts, does, fault_of, handed, handles_all, hands_over, named_fault, needs, runs}
@@ -29,20 +30,20 @@ use Rattle.uip_node.proofs.Fits.{all_nil, all_cons}
 abbrev at_mark : ℕ → World → World
 at_mark x w = record w { mark = x }
 
-module _ (m : Meaning) (served : ℕ → Bool) (x : ℕ) where
+module _ (m : AppSpec) (served : ℕ → Bool) (x : ℕ) where
   reply_mark : (w : World) (r : Option Reply) → posts_reply (at_mark x w) r ≡ at_mark x (posts_reply w r)
   reply_mark w None = refl
   reply_mark w (Some (Echo request)) = refl
   reply_mark w (Some (Tcp sockets id again s)) = refl
 
   handles_mark : (w : World) (e : NodeEvent) → node_handles m served (at_mark x w) e ≡ at_mark x (node_handles m served w e)
-  handles_mark w e = let r : NodeStep = step m served w.node e in reply_mark (record w { node = r.node; sides = buries r.gone w.sides }) r.sent
+  handles_mark w e = let r : NodeStep = step m served w.node e in reply_mark (record w { node = r.node; sides = retires r.gone w.sides }) r.sent
 
   all_mark : (es : List NodeEvent) (w : World) → handles_all m served es (at_mark x w) ≡ at_mark x (handles_all m served es w)
   all_mark [] w = refl
   all_mark (e ∷ es) w = ap (λ (v : World). handles_all m served es v) (handles_mark w e) ∙ all_mark es (node_handles m served w e)
 
-  -- what is done with what may be wanting
+  -- what is done with a value that may not exist
   some_mark : {X : Type 0} (act marked_act : X → World) (o : Option X) (w : World) → ((y : X) → marked_act y ≡ at_mark x (act y)) → option_map_or marked_act o (at_mark x w) ≡ at_mark x (option_map_or act o w)
   some_mark act marked_act None w h = refl
   some_mark act marked_act (Some y) w h = h y
@@ -103,7 +104,7 @@ module _ (m : Meaning) (served : ℕ → Bool) (x : ℕ) where
   does_mark w (Act.Again n) = client_mark w n client_again
   does_mark w (Act.Closes n) = client_mark w n client_closes
   does_mark w (Act.Aborts n) = client_mark w n client_aborts
-  does_mark w (Act.Window n y) = client_mark w n (tells_window y)
+  does_mark w (Act.Window n y) = client_mark w n (advertises_window y)
   does_mark w (Act.Ping source) = refl
   does_mark w (Act.Give k) =
       some_mark (λ e. delivers m served w k e e.who e.content) (λ e. delivers m served (at_mark x w) k e e.who e.content) (numbered w.sent k) w (λ e. delivers_mark w k e e.who e.content)
@@ -149,7 +150,7 @@ module _ (m : Meaning) (served : ℕ → Bool) (x : ℕ) where
   runs_mark [] w = refl
   runs_mark (act ∷ more) w = ap (λ (r : Result World StepFault). r >>= runs m served more) (acts_mark w act) ∙ then_mark more (λ v. runs_mark more v) (acts m served w act)
 
-module _ (m : Meaning) (served : ℕ → Bool) where
+module _ (m : AppSpec) (served : ℕ → Bool) where
   same_mark : (w u : World) (r : Result World StepFault) → r ≡ with_mark w.mark r → r ≡ Ok u → u.mark ≡ w.mark
   same_mark w u (Ok v) h e = let q : v ≡ u = cc in let z : v ≡ at_mark w.mark v = cc in ap (λ (y : World). y.mark) (sym q) ∙ ap (λ (y : World). y.mark) z
   same_mark w u (Err f) h e = absurd (cc)
@@ -157,14 +158,14 @@ module _ (m : Meaning) (served : ℕ → Bool) where
   pub keeps_mark : (schedule : List Act) (w u : World) → runs m served schedule w ≡ Ok u → u.mark ≡ w.mark
   keeps_mark schedule w u e = same_mark w u (runs m served schedule w) (runs_mark m served w.mark schedule w) e
 
-  then_joined : (front back : List Act) → ((w : World) → runs m served (front ++ back) w ≡ (runs m served front w >>= runs m served back)) → (r : Result World StepFault) →
-      (r >>= runs m served (front ++ back)) ≡ ((r >>= runs m served front) >>= runs m served back)
-  then_joined front back h (Ok v) = h v
-  then_joined front back h (Err f) = refl
+  then_joined : (prefix back : List Act) → ((w : World) → runs m served (prefix ++ back) w ≡ (runs m served prefix w >>= runs m served back)) → (r : Result World StepFault) →
+      (r >>= runs m served (prefix ++ back)) ≡ ((r >>= runs m served prefix) >>= runs m served back)
+  then_joined prefix back h (Ok v) = h v
+  then_joined prefix back h (Err f) = refl
 
-  pub runs_joined : (front back : List Act) (w : World) → runs m served (front ++ back) w ≡ (runs m served front w >>= runs m served back)
+  pub runs_joined : (prefix back : List Act) (w : World) → runs m served (prefix ++ back) w ≡ (runs m served prefix w >>= runs m served back)
   runs_joined [] back w = refl
-  runs_joined (act ∷ front) back w = then_joined front back (λ v. runs_joined front back v) (acts m served w act)
+  runs_joined (act ∷ prefix) back w = then_joined prefix back (λ v. runs_joined prefix back v) (acts m served w act)
 
   back_at : (k : ℕ) (u v : World) (r : Result World StepFault) → with_mark k r ≡ Ok (at_mark k v) → ((z : World) → r ≡ Ok z → z.mark ≡ u.mark) → r ≡ Ok (at_mark u.mark v)
   back_at k u v (Ok z) e same =

@@ -3,7 +3,7 @@ use Rattle.std.specs.List.{All}
 use Rattle.std.proofs.Common.{◌≡◌, ℕ, zero, suc, ◌<◌, Bool, ◌&&◌, List, [], ◌∷◌, length, position, set, refl, sym, subst, arith, Option, Some, None, slice_get, slice_index_or}
 use Rattle.uip_wire.specs.declared.addr.Addr.{Addr}
 use Rattle.tcp_segment.specs.Segments.{PlainSegment, has_rst}
-use Rattle.app_events.specs.Part.{Meaning}
+use Rattle.app_events.specs.AppSpec.{AppSpec}
 use Rattle.app_events.specs.Pages.{Pages, IsPaged}
 use Rattle.app_events.specs.declared.now.Now.{Now}
 use Rattle.tcp_machine.specs.Connection.{Connection, Sockets, closed, serves}
@@ -14,7 +14,7 @@ use Rattle.tcp_machine.specs.OnTick.{on_tick}
 use Rattle.uip_node.specs.Counters.{initial_number}
 use Rattle.uip_node.specs.Events.{Event}
 use Rattle.uip_node.specs.Events.Event.{IpRefused, IcmpRefused, TcpRefused, EchoAsked, Arrived, Overlong, Periodic}
-use Rattle.uip_node.specs.Node.{AbstractNode, NodeStep, arrives_at, connection_in, from_stranger, happened, moment, opening, opens, opens_in, periodic, run, slot_for_syn, step}
+use Rattle.uip_node.specs.Node.{AbstractNode, NodeStep, arrives_at, connection_in, for_no_connection, happened, snapshot, initial_node, opens, opens_in, periodic, run, slot_for_syn, step}
 use Rattle.link_world.specs.Nodes.{CapturesFit, IsOfNode, TextNumbers, TextsAreShort}
 use Rattle.uip_node.specs.Laws.{IsEvent}
 use Rattle.uip_node.proofs.Steadiness.{steady_of}
@@ -27,9 +27,9 @@ use Rattle.link_world.proofs.TextNumbers.{Num, accepted_num, closed_num, segment
 
 -- ---- a fact that each step of a connection keeps at the moments of a node
 
-module _ (m : Meaning) (P : Connection → Type 0) (IsAt : (Connection → Now) → Type 0)
-    (moments : (n : AbstractNode) (event : Event) (slot : ℕ) (old : Connection) → slice_get n.connections slot ≡ Some old → IsAt (moment n event slot))
-    (shut : P closed) (born : (first : ℕ) (sockets : Sockets) (s : PlainSegment) → P (accepted first sockets s))
+module _ (m : AppSpec) (P : Connection → Type 0) (IsAt : (Connection → Now) → Type 0)
+    (snapshots : (n : AbstractNode) (event : Event) (slot : ℕ) (old : Connection) → slice_get n.connections slot ≡ Some old → IsAt (snapshot n event slot))
+    (shut : P closed) (born : (iss : ℕ) (sockets : Sockets) (s : PlainSegment) → P (accepted iss sockets s))
     (hears : (at : Connection → Now) → IsAt at → (c : Connection) (numbers : List ℕ) (s : PlainSegment) → P c → P (asked m at (on_segment m c numbers s)).connection)
     (ticks : (at : Connection → Now) → IsAt at → (c : Connection) (numbers : List ℕ) → P c → P (asked m at (on_tick m c numbers)).connection) where
   abbrev Each : List Connection → Type 0
@@ -51,10 +51,10 @@ module _ (m : Meaning) (P : Connection → Type 0) (IsAt : (Connection → Now) 
   unfolding opens_in
   opens_each n sockets s None h = h
   opens_each n sockets s (Some slot) h =
-      happened_each n (Arrived sockets s) slot (connection_in slot n) (accept (initial_number n.past) sockets s n.numbers) (born (initial_number n.past) sockets s) h
+      happened_each n (Arrived sockets s) slot (connection_in slot n) (accept (initial_number n.history) sockets s n.numbers) (born (initial_number n.history) sockets s) h
 
-  stranger_each : (served : ℕ → Bool) (n : AbstractNode) (sockets : Sockets) (s : PlainSegment) → Each n.connections → Each (from_stranger m served n sockets s).node.connections
-  unfolding from_stranger
+  stranger_each : (served : ℕ → Bool) (n : AbstractNode) (sockets : Sockets) (s : PlainSegment) → Each n.connections → Each (for_no_connection m served n sockets s).node.connections
+  unfolding for_no_connection
   stranger_each served n sockets s h =
       choose (λ (x : NodeStep). Each x.node.connections) (is_plain_syn s && served sockets.own_port.0) _ _ (λ e. opens_each n sockets s (slot_for_syn n.connections) h)
       (λ e. choose (λ (x : NodeStep). Each x.node.connections) (has_rst s.flags) _ _ (λ g. h) (λ g. h))
@@ -64,17 +64,17 @@ module _ (m : Meaning) (P : Connection → Type 0) (IsAt : (Connection → Now) 
   arrives_each served n sockets s (Some slot) e h =
       let at = position_in (serves sockets) n.connections slot e in
       let event : Event = Arrived sockets s in
-      happened_each n event slot (connection_in slot n) _ (hears (moment n event slot) (moments n event slot at.item at.get) (connection_in slot n) n.numbers s (index_each n.connections slot h)) h
+      happened_each n event slot (connection_in slot n) _ (hears (snapshot n event slot) (snapshots n event slot at.item at.get) (connection_in slot n) n.numbers s (index_each n.connections slot h)) h
 
   -- a slot that is none keeps nothing
   periodic_each : (n : AbstractNode) (slot : ℕ) (old : Option Connection) → slice_get n.connections slot ≡ old → Each n.connections → Each (periodic m n slot).node.connections
   unfolding happened
   periodic_each n slot None e h =
-      let new : Connection = (asked m (moment n (Periodic slot) slot) (on_tick m (connection_in slot n) n.numbers)).connection in
+      let new : Connection = (asked m (snapshot n (Periodic slot) slot) (on_tick m (connection_in slot n) n.numbers)).connection in
       subst (λ (cs : List Connection). Each cs) (sym (set_past n.connections slot new e)) h
   periodic_each n slot (Some old) e h =
       let event : Event = Periodic slot in
-      set_each n.connections slot _ (ticks (moment n event slot) (moments n event slot old e) (connection_in slot n) n.numbers (index_each n.connections slot h)) h
+      set_each n.connections slot _ (ticks (snapshot n event slot) (snapshots n event slot old e) (connection_in slot n) n.numbers (index_each n.connections slot h)) h
 
   step_each : (served : ℕ → Bool) (n : AbstractNode) (event : Event) → Each n.connections → Each (step m served n event).node.connections
   step_each served n (IpRefused fate) h = h
@@ -89,8 +89,8 @@ module _ (m : Meaning) (P : Connection → Type 0) (IsAt : (Connection → Now) 
   run_each served [] n h = h
   run_each served (e ∷ es) n h = run_each served es (step m served n e).node (step_each served n e h)
 
-  pub every : (served : ℕ → Bool) (events : List Event) (addr : Addr) (numbers : List ℕ) → Each (run m served events (opening addr numbers)).node.connections
-  every served events addr numbers = run_each served events (opening addr numbers) (λ i c x. subst P (all_closed 10 i c x) shut)
+  pub every : (served : ℕ → Bool) (events : List Event) (addr : Addr) (numbers : List ℕ) → Each (run m served events (initial_node addr numbers)).node.connections
+  every served events addr numbers = run_each served events (initial_node addr numbers) (λ i c x. subst P (all_closed 10 i c x) shut)
 
 pub text_numbers_hold : TextNumbers
 text_numbers_hold m pages lawful c r =
@@ -98,18 +98,18 @@ text_numbers_hold m pages lawful c r =
 
 -- ---- captures
 
-module _ (m : Meaning) (pages : Pages) (lawful : IsPaged m pages) where
+module _ (m : AppSpec) (pages : Pages) (lawful : IsPaged m pages) where
   run_fits : (served : ℕ → Bool) (events : List Event) (n : AbstractNode) → All IsEvent events → FitNode n → FitNode (run m served events n).node
   run_fits served [] n a f = f
   run_fits served (e ∷ es) n a f = run_fits served es (step m served n e).node (λ k d l. a (suc k) d (omega (arith, l))) (event_fits m (steady_of m pages lawful) served n e (a 0 e (omega arith)) f)
 
   fits_of : (c : Connection) → IsOfNode m c → FitConn c
   fits_of c r =
-      (run_fits r.served r.events (opening r.addr r.numbers) r.are_events record { size = omega arith; conns = λ i x y. subst FitConn (all_closed 10 i x y) closed_fits; numbers = r.in_range }).conns r.slot c r.there
+      (run_fits r.served r.events (initial_node r.addr r.numbers) r.are_events record { size = omega arith; conns = λ i x y. subst FitConn (all_closed 10 i x y) closed_fits; numbers = r.in_range }).conns r.slot c r.there
 
 pub captures_fit : CapturesFit
 captures_fit m pages lawful c r = (fits_of m pages lawful c r).captures
 
 pub texts_are_short : TextsAreShort
 texts_are_short m pages lawful c r =
-    subst (λ (xs : List ℕ). length xs < 1073741824) (sym (lawful.said c.part)) (lawful.short c.part.heard c.part.captures (fits_of m pages lawful c r).captures)
+    subst (λ (xs : List ℕ). length xs < 1073741824) (sym (lawful.output c.part)) (lawful.short c.part.delivered c.part.captures (fits_of m pages lawful c r).captures)

@@ -57,7 +57,7 @@ node_reads : (addr : Addr) (side : Side) (id : ℕ) (s : PlainSegment) → id < 
 node_reads addr side id s l g c e =
     arrives (to_node side id s) (datagram_back (to_node side id s) (to_node_place side id s l c) g) addr (address side.client.setup.server addr e)
 
--- a client hears a segment of its server
+-- a client receives a segment of its server
 heard_is : (setup : Setup) (p : Sockets) (s : PlainSegment) → p ≡ server_of setup → heard_by setup (Arrived p s) ≡ Some s
 heard_is setup p s e = ap (λ b. if b then Some s else None) (is_same p (server_of setup) e)
 

@@ -1,20 +1,20 @@
--- How much of a request the server has taken, beside Prefix and whole.
+-- How much of a request the server has accepted, beside Prefix and whole.
 use Rattle.std.specs.List.{All}
 use Rattle.std.proofs.Common.{◌≡◌, ℕ, ◌+◌, ◌<◌, ◌≤◌, Bool, true, false, inl, inr, List, [], ◌∷◌, ◌++◌, length, replicate, refl, sym, ap, ◌∙◌, subst, arith, Option, Some, None, slice_get, if◌then◌else◌}
 use Rattle.uip_wire.specs.Numbers.{wrap}
 use Rattle.uip_wire.specs.declared.addr.Addr.{Addr}
 use Rattle.tcp_segment.specs.Segments.{PlainSegment, has_syn, has_fin, has_rst, has_ack}
-use Rattle.app_events.specs.Part.{Meaning}
-use Rattle.app_events.specs.Pages.{Pages, IsPaged, IsMoment, IsNow, IsWord}
+use Rattle.app_events.specs.AppSpec.{AppSpec}
+use Rattle.app_events.specs.Pages.{Pages, IsPaged, IsSnapshot, IsNow, IsU32}
 use Rattle.app_events.specs.declared.now.Now.{Now}
 use Rattle.tcp_machine.specs.Connection.{Sockets, Connection, closed, is_live}
 use Rattle.tcp_machine.specs.Segments.{is_plain_syn, is_again, syn_ack}
 use Rattle.tcp_machine.specs.Ask.{Outcome, asked}
 use Rattle.tcp_machine.specs.OnSegment.{accepted, on_segment}
 use Rattle.tcp_machine.specs.OnTick.{on_tick}
-use Rattle.link_client.specs.Client.{AbstractClient, ClientStep, one_if, fin_sent, own_first, client_takes, client_opens, client_again, client_closes, client_aborts, tells_window}
-use Rattle.link_world.specs.World.{World, Side, Sent, Era, becomes_opened, with_client, marked, is_clean, client_sockets}
-use Rattle.link_world.specs.History.{era, fresh_side, Planned, IsPlan, opening_world}
+use Rattle.link_client.specs.Client.{AbstractClient, ClientStep, one_if, fin_sent, own_first, client_takes, client_opens, client_again, client_closes, client_aborts, advertises_window}
+use Rattle.link_world.specs.World.{World, Side, Sent, PastConnection, becomes_opened, with_client, marked, is_clean, client_sockets}
+use Rattle.link_world.specs.History.{era, fresh_side, Planned, IsPlan, initial_world}
 use Rattle.uip_node.specs.Laws.{serving}
 use Rattle.link_world.specs.Headline.{IsReached}
 use Rattle.uip_node.proofs.Steadiness.{steady_of}
@@ -27,19 +27,19 @@ use Rattle.uip_node.proofs.Fits.{FitConn}
 use Rattle.link_world.proofs.Sides.{clean_before}
 use Rattle.uip_node.proofs.Connections.{get_map}
 use Rattle.link_world.proofs.Runs.{reached}
-use Rattle.link_world.proofs.Any.{Framed, Steps, Takes, speech, entry, does_framed}
+use Rattle.link_world.proofs.Any.{Framed, Steps, Refines, model, entry, does_framed}
 use Rattle.link_world.proofs.Any
 use Rattle.link_world.proofs.Asking.{used, asked_bytes, EndsIn, AsksOn, client_asks, opens_asks, again_asks, closes_asks, aborts_asks, window_asks, asked_takes, some_place, segment_takes, tick_takes, says_taken}
 use Rattle.link_world.proofs.Asking
 use Rattle.link_world.proofs.Prefix.{everywhere}
 use Rattle.link_world.proofs.Prefix
 
--- The connection took no more of the client's numbers than were used, and its application heard no more than was taken, and no
--- more of the request than was sent.
+-- The connection accepted no more of the client's numbers than were used. Its application received no more than was accepted,
+-- and no more of the request than was sent.
 pub record Within (client : AbstractClient) (c : Connection) : Type 0 where
   pub high : c.taken ≤ used client
-  pub heard : length c.part.heard ≤ c.taken
-  pub asked : length c.part.heard ≤ asked_bytes client
+  pub delivered : length c.part.delivered ≤ c.taken
+  pub asked : length c.part.delivered ≤ asked_bytes client
 
 -- what the connection took of the client's numbers, and where each datagram of the client ends
 pub record Requested (k : ℕ) (client : AbstractClient) (c : Connection) (sent : List Sent) : Type 0 where
@@ -79,7 +79,7 @@ dead_requested : (k : ℕ) (client : AbstractClient) (c : Connection) (sent : Li
 dead_requested k client c sent None g = g
 dead_requested k client c sent (Some o) g = λ l. absurd (cc)
 
--- the connection took so much more
+-- the connection accepted this much more
 live_requested : (k : ℕ) (client : AbstractClient) (c d : Connection) (sent : List Sent) (opened : Option ℕ) → is_live c.state ≡ true → c.taken ≤ d.taken → (Requested k client c sent → Within client d) → RequestedBy k client c sent opened → RequestedBy k client d sent opened
 live_requested k client c d sent None l m n g = g
 live_requested k client c d sent (Some o) l m n g = λ y. (let r = g l in record { low = (let z = r.low in omega (arith, z, m)); within = n r; ends = r.ends })
@@ -91,7 +91,7 @@ one_small : (b : Bool) → one_if b ≤ 1
 one_small true = omega arith
 one_small false = omega arith
 
--- a segment with SYN is not taken: it stands before every number that is expected
+-- a segment with SYN is not accepted: it is before every number that is expected
 not_syn : (client : AbstractClient) (opened : Option ℕ) (epoch taken : ℕ) (s : PlainSegment) → Steady client → ClientSaid client opened epoch s → has_rst s.flags ≡ false → taken ≤ used client → s.seq ≡ wrap (own_first client + 1 + taken) → has_syn s.flags ≡ false
 not_syn client opened epoch taken s st (said_reset r) nr h q = absurd (let z : true ≡ false = sym r ∙ nr in cc)
 not_syn client opened epoch taken s st (said_data d) nr h q = d.no_syn
@@ -104,27 +104,27 @@ not_syn client opened epoch taken s st (said_syn y) nr h q =
     let same : 0 ≡ 1 + taken = same_place (own_first client) 0 (1 + taken) (omega arith) (omega (arith, h, fits, short, small)) (start ∙ sym y.seq ∙ q ∙ ap wrap (let z : own_first client + 1 + taken ≡ own_first client + (1 + taken) = omega arith in z)) in
     absurd (let z : ⊥ = omega (arith, same) in z)
 
-module _ (m : Meaning) (pages : Pages) (lawful : IsPaged m pages) where
+module _ (m : AppSpec) (pages : Pages) (lawful : IsPaged m pages) where
   pub record G (k : ℕ) (side : Side) (c : Connection) (sent : List Sent) : Type 0 where
     pub good : Prefix.G m (everywhere m pages lawful) k side c sent
     pub asked_by : is_clean side ≡ true → RequestedBy k side.client c sent side.opened
-    pub acks : is_clean side ≡ true → Acks k side.client (length side.past) c sent
+    pub acks : is_clean side ≡ true → Acks k side.client (length side.history) c sent
 
   pub other : (k : ℕ) (side : Side) (c : Connection) (sent : List Sent) (e : Sent) → G k side c sent → (e.who ≡ to k → ⊥) → (e.who ≡ from k → ⊥) → G k side c (sent ++ e ∷ [])
   other k side c sent e g t f = record {
     good = Prefix.other m (everywhere m pages lawful) k side c sent e g.good t f;
     asked_by = λ cl. push_requested k side.client c sent e side.opened (g.asked_by cl) (λ w. absurd (f w));
-    acks = λ cl. push_acks k side.client (length side.past) c sent e (g.acks cl) (λ w. absurd (t w));
+    acks = λ cl. push_acks k side.client (length side.history) c sent e (g.acks cl) (λ w. absurd (t w));
   }
 
   not_both : (k : ℕ) (e : Sent) → e.who ≡ to k → e.who ≡ from k → ⊥
   not_both k e t f = absurd (let z : to k ≡ from k = sym t ∙ f in cc)
 
-  pub reset : (k : ℕ) (side : Side) (c : Connection) (sent : List Sent) (e : Sent) → G k side c sent → e.epoch ≡ length side.past → has_syn (seg e).flags ≡ false → has_fin (seg e).flags ≡ false → (seg e).text ≡ [] → has_rst (seg e).flags ≡ true → e.again ≡ false → e.who ≡ to k → G k side c (sent ++ e ∷ [])
+  pub reset : (k : ℕ) (side : Side) (c : Connection) (sent : List Sent) (e : Sent) → G k side c sent → e.epoch ≡ length side.history → has_syn (seg e).flags ≡ false → has_fin (seg e).flags ≡ false → (seg e).text ≡ [] → has_rst (seg e).flags ≡ true → e.again ≡ false → e.who ≡ to k → G k side c (sent ++ e ∷ [])
   reset k side c sent e g q sy fi te rs ag w = record {
     good = Prefix.reset m (everywhere m pages lawful) k side c sent e g.good q sy fi te rs ag w;
     asked_by = λ cl. push_requested k side.client c sent e side.opened (g.asked_by cl) (λ f. absurd (not_both k e w f));
-    acks = λ cl. push_acks k side.client (length side.past) c sent e (g.acks cl) (λ t r. absurd (let z : true ≡ false = sym rs ∙ r in cc));
+    acks = λ cl. push_acks k side.client (length side.history) c sent e (g.acks cl) (λ t r. absurd (let z : true ≡ false = sym rs ∙ r in cc));
   }
 
   pub evict : (k : ℕ) (side : Side) (c : Connection) (sent : List Sent) → is_live c.state ≡ true → G k side c sent → G k (Any.older side c) closed sent
@@ -144,24 +144,24 @@ module _ (m : Meaning) (pages : Pages) (lawful : IsPaged m pages) where
   abbrev GoodSteps : World → Outcome → ℕ → Side → Type 0
   GoodSteps w o k side = Steps m (Prefix.G m (everywhere m pages lawful)) (Prefix.other m (everywhere m pages lawful)) (Prefix.reset m (everywhere m pages lawful)) (Prefix.evict m (everywhere m pages lawful)) (Prefix.mark m (everywhere m pages lawful)) w o k side
 
-  steps_by : (w : World) (old : Connection) (o : Outcome) (k : ℕ) (side : Side) (s : PlainSegment) → is_live old.state ≡ true → G k side old w.sent → Asking.Takes old o.connection s →
+  steps_by : (w : World) (old : Connection) (o : Outcome) (k : ℕ) (side : Side) (s : PlainSegment) → is_live old.state ≡ true → G k side old w.sent → Asking.Refines old o.connection s →
       (is_clean side ≡ true → Requested k side.client old w.sent → Within side.client o.connection) → GoodSteps w o k side → Steps m G other reset evict mark w o k side
   steps_by w old o k side s lv g t enough p =
       let d : Connection = o.connection in
       let more : old.taken ≤ d.taken = (let z = t.row.more in omega (arith, z)) in
       let live = λ (cl : is_clean side ≡ true). live_requested k side.client old d w.sent side.opened lv more (enough cl) (g.asked_by cl) in
-      let acked = λ (cl : is_clean side ≡ true). live_acks k side.client (length side.past) old d w.sent lv more (g.acks cl) in
+      let acked = λ (cl : is_clean side ≡ true). live_acks k side.client (length side.history) old d w.sent lv more (g.acks cl) in
       let dead = λ (cl : is_clean side ≡ true). dead_requested k side.client old w.sent side.opened (g.asked_by cl) in
       record {
         quiet = λ n l. record { good = p.quiet n l; asked_by = live; acks = acked };
         quiet_last = λ n l. record { good = p.quiet_last n l; asked_by = dead; acks = λ cl x. absurd (cc) };
-        says = λ x e l tick id. (let new : Sent = entry (to k) side tick id (speech (is_again o.step) x) in record {
+        says = λ x e l tick id. (let new : Sent = entry (to k) side tick id (model (is_again o.step) x) in record {
           good = p.says x e l tick id;
           asked_by = λ cl. push_requested k side.client d w.sent new side.opened (live cl) (λ y. absurd (cc));
-          acks = λ cl. push_acks k side.client (length side.past) d w.sent new (acked cl)
-              (λ y r. record { at = d.taken; low = omega arith; is = says_taken m pages lawful d o.step x e r ∙ ap (λ n. wrap (n + 1 + d.taken)) (t.row.peer ∙ (let y = (g.good cl).connection lv in y.peer_first)) });
+          acks = λ cl. push_acks k side.client (length side.history) d w.sent new (acked cl)
+              (λ y r. record { at = d.taken; low = omega arith; is = says_taken m pages lawful d o.step x e r ∙ ap (λ n. wrap (n + 1 + d.taken)) (t.row.peer ∙ (let y = (g.good cl).connection lv in y.irs)) });
         });
-        says_last = λ x e l tick id. (let new : Sent = entry (to k) (Any.older side d) tick id (speech (is_again o.step) x) in record {
+        says_last = λ x e l tick id. (let new : Sent = entry (to k) (Any.older side d) tick id (model (is_again o.step) x) in record {
           good = p.says_last x e l tick id;
           asked_by = λ cl. push_requested k side.client closed w.sent new side.opened (dead cl) (λ y. absurd (cc));
           acks = λ cl x. absurd (cc);
@@ -169,39 +169,39 @@ module _ (m : Meaning) (pages : Pages) (lawful : IsPaged m pages) where
       }
 
   -- a segment of the client at its connection
-  enough_room : (client : AbstractClient) (opened : Option ℕ) (epoch k j : ℕ) (c d : Connection) (sent : List Sent) (e : Sent) → Steady client → ClientSaid client opened epoch (seg e) → c.peer_first ≡ own_first client → slice_get sent j ≡ Some e → e.who ≡ from k →
-      Asking.Takes c d (seg e) → Requested k client c sent → Within client d
-  enough_room client opened epoch k j c d sent e st said first there who t r =
+  enough_room : (client : AbstractClient) (opened : Option ℕ) (epoch k j : ℕ) (c d : Connection) (sent : List Sent) (e : Sent) → Steady client → ClientSaid client opened epoch (seg e) → c.irs ≡ own_first client → slice_get sent j ≡ Some e → e.who ≡ from k →
+      Asking.Refines c d (seg e) → Requested k client c sent → Within client d
+  enough_room client opened epoch k j c d sent e st output iss there who t r =
       let row = t.row in
       let more = row.more in
-      let now = row.heard in
+      let now = row.delivered in
       let text = row.handed_text in
       let taken = row.handed_taken in
       let high = r.within.high in
-      let heard = r.within.heard in
+      let delivered = r.within.delivered in
       let before = r.within.asked in
       elim (zero_or_more row.count) [
-        | inl z ↦ record { high = omega (arith, z, high, more); heard = omega (arith, z, heard, more, now, taken); asked = omega (arith, z, before, now, taken) }
+        | inl z ↦ record { high = omega (arith, z, high, more); delivered = omega (arith, z, delivered, more, now, taken); asked = omega (arith, z, before, now, taken) }
         | inr l ↦ (let at = t.place l in
-            let seq : (seg e).seq ≡ wrap (own_first client + 1 + c.taken) = at.0 ∙ ap (λ n. wrap (n + 1 + c.taken)) first in
+            let seq : (seg e).seq ≡ wrap (own_first client + 1 + c.taken) = at.0 ∙ ap (λ n. wrap (n + 1 + c.taken)) iss in
             let small : one_if (fin_sent client.fin) ≤ 1 = one_small (fin_sent client.fin) in
             let short = st.short in
             let fits = st.out_fits in
             let low : c.taken < 4294967296 = omega (arith, high, short, fits, small) in
-            let end = r.ends j e there who at.1 (not_syn client opened epoch c.taken (seg e) st said at.1 high seq) (some_place m pages lawful (seg e) row.count row.most l) c.taken low seq in
+            let end = r.ends j e there who at.1 (not_syn client opened epoch c.taken (seg e) st output at.1 high seq) (some_place m pages lawful (seg e) row.count row.most l) c.taken low seq in
             let all = end.all in
             let most = row.most in
-            let said = end.text in
-            record { high = omega (arith, all, more, most); heard = omega (arith, heard, more, now, taken); asked = omega (arith, heard, now, text, said) })
+            let output = end.text in
+            record { high = omega (arith, all, more, most); delivered = omega (arith, delivered, more, now, taken); asked = omega (arith, delivered, now, text, output) })
       ]
 
-  segment : (w : World) (old : Connection) (numbers : List ℕ) (now : Connection → Now) (k j : ℕ) (side : Side) (e : Sent) → is_live old.state ≡ true → FitConn old → All IsWord numbers → ((c : Connection) → FitConn c → IsNow (now c)) →
-      slice_get w.sent j ≡ Some e → e.who ≡ from k → (is_clean side ≡ true → e.epoch ≡ length side.past) → G k side old w.sent → Steps m G other reset evict mark w (asked m now (on_segment m old numbers (seg e))) k side
+  segment : (w : World) (old : Connection) (numbers : List ℕ) (now : Connection → Now) (k j : ℕ) (side : Side) (e : Sent) → is_live old.state ≡ true → FitConn old → All IsU32 numbers → ((c : Connection) → FitConn c → IsNow (now c)) →
+      slice_get w.sent j ≡ Some e → e.who ≡ from k → (is_clean side ≡ true → e.epoch ≡ length side.history) → G k side old w.sent → Steps m G other reset evict mark w (asked m now (on_segment m old numbers (seg e))) k side
   segment w old numbers now k j side e lv f n is sent who fresh g =
       let o : Outcome = on_segment m old numbers (seg e) in
       let t = asked_takes m pages lawful now old (seg e) o (segment_takes m pages lawful old numbers (seg e)) in
       steps_by w old (asked m now o) k side (seg e) lv g t
-      (λ cl r. (let h = g.good cl in let c = h.connection lv in enough_room side.client side.opened e.epoch k j old (asked m now o).connection w.sent e h.steady (h.of_client j e sent who).said c.peer_first sent who t r))
+      (λ cl r. (let h = g.good cl in let c = h.connection lv in enough_room side.client side.opened e.epoch k j old (asked m now o).connection w.sent e h.steady (h.of_client j e sent who).output c.irs sent who t r))
       (Prefix.segment m (everywhere m pages lawful) w old numbers now k j side e lv f n is sent who fresh g.good)
 
   -- a tick brings no segment
@@ -209,14 +209,14 @@ module _ (m : Meaning) (pages : Pages) (lawful : IsPaged m pages) where
   nothing_more client c d row g =
       let more = row.more in
       let most = row.most in
-      let now = row.heard in
+      let now = row.delivered in
       let none = row.handed_text in
       let high = g.high in
-      let heard = g.heard in
+      let delivered = g.delivered in
       let asked = g.asked in
-      record { high = omega (arith, high, more, most); heard = omega (arith, heard, more, now, none); asked = omega (arith, asked, now, none) }
+      record { high = omega (arith, high, more, most); delivered = omega (arith, delivered, more, now, none); asked = omega (arith, asked, now, none) }
 
-  tick : (w : World) (old : Connection) (numbers : List ℕ) (now : Connection → Now) (k : ℕ) (side : Side) → is_live old.state ≡ true → FitConn old → All IsWord numbers → ((c : Connection) → FitConn c → IsNow (now c)) →
+  tick : (w : World) (old : Connection) (numbers : List ℕ) (now : Connection → Now) (k : ℕ) (side : Side) → is_live old.state ≡ true → FitConn old → All IsU32 numbers → ((c : Connection) → FitConn c → IsNow (now c)) →
       G k side old w.sent → Steps m G other reset evict mark w (asked m now (on_tick m old numbers)) k side
   tick w old numbers now k side lv f n is g =
       let o : Outcome = on_tick m old numbers in
@@ -224,34 +224,34 @@ module _ (m : Meaning) (pages : Pages) (lawful : IsPaged m pages) where
       steps_by w old (asked m now o) k side no_segment lv g t (λ cl r. nothing_more side.client old (asked m now o).connection t.row r.within)
       (Prefix.tick m (everywhere m pages lawful) w old numbers now k side lv f n is g.good)
 
-  born_requested : (k : ℕ) (client : AbstractClient) (past : List Era) (d : Connection) (sent : List Sent) (opened : Option ℕ) → ((o : ℕ) → opened ≡ Some o → length past ≤ o) → OpenedGood (paged pages) client past closed opened → RequestedBy k client closed sent opened → RequestedBy k client d sent opened
-  born_requested k client past d sent None b h g = g
-  born_requested k client past d sent (Some o) b h g = absurd (let z : false ≡ true = h.then_live (let y = b o refl in let t = h.time in omega (arith, t, y)) in cc)
+  born_requested : (k : ℕ) (client : AbstractClient) (history : List PastConnection) (d : Connection) (sent : List Sent) (opened : Option ℕ) → ((o : ℕ) → opened ≡ Some o → length history ≤ o) → OpenedGood (paged pages) client history closed opened → RequestedBy k client closed sent opened → RequestedBy k client d sent opened
+  born_requested k client history d sent None b h g = g
+  born_requested k client history d sent (Some o) b h g = absurd (let z : false ≡ true = h.then_live (let y = b o refl in let t = h.time in omega (arith, t, y)) in cc)
 
-  birth : (w : World) (first : ℕ) (sockets : Sockets) (k j : ℕ) (side : Side) (e : Sent) → client_sockets side ≡ sockets → slice_get w.sent j ≡ Some e → e.who ≡ from k → (is_clean side ≡ true → e.epoch ≡ length side.past) → is_plain_syn (seg e) ≡ true → FitConn (accepted first sockets (seg e)) → G k side closed w.sent →
-      (tick id : ℕ) → G k side (accepted first sockets (seg e)) (w.sent ++ entry (to k) side tick id (speech false (syn_ack (accepted first sockets (seg e)))) ∷ [])
-  birth w first sockets k j side e own sent who fresh plain fit g tick id =
-      let c : Connection = accepted first sockets (seg e) in
-      let new : Sent = entry (to k) side tick id (speech false (syn_ack c)) in
-      let good = Prefix.birth m (everywhere m pages lawful) w first sockets k j side e own sent who fresh plain fit g.good tick id in
-      let none = λ (cl : is_clean side ≡ true) (l : is_live c.state ≡ true) (i : ℕ) (f : Sent) (x : slice_get w.sent i ≡ Some f) (v : f.who ≡ to k) (q : f.epoch ≡ length side.past) (r : has_rst (seg f).flags ≡ false) (a : has_ack (seg f).flags ≡ true).
-      absurd {A = Taken side.client c (seg f)} (let z : false ≡ true = ((g.good cl).of_node i f x v).lives r q in cc) in
+  birth : (w : World) (iss : ℕ) (sockets : Sockets) (k j : ℕ) (side : Side) (e : Sent) → client_sockets side ≡ sockets → slice_get w.sent j ≡ Some e → e.who ≡ from k → (is_clean side ≡ true → e.epoch ≡ length side.history) → is_plain_syn (seg e) ≡ true → FitConn (accepted iss sockets (seg e)) → G k side closed w.sent →
+      (tick id : ℕ) → G k side (accepted iss sockets (seg e)) (w.sent ++ entry (to k) side tick id (model false (syn_ack (accepted iss sockets (seg e)))) ∷ [])
+  birth w iss sockets k j side e own sent who fresh plain fit g tick id =
+      let c : Connection = accepted iss sockets (seg e) in
+      let new : Sent = entry (to k) side tick id (model false (syn_ack c)) in
+      let good = Prefix.birth m (everywhere m pages lawful) w iss sockets k j side e own sent who fresh plain fit g.good tick id in
+      let none = λ (cl : is_clean side ≡ true) (l : is_live c.state ≡ true) (i : ℕ) (f : Sent) (x : slice_get w.sent i ≡ Some f) (v : f.who ≡ to k) (q : f.epoch ≡ length side.history) (r : has_rst (seg f).flags ≡ false) (a : has_ack (seg f).flags ≡ true).
+      absurd {A = Taken side.client c (seg f)} (let z : false ≡ true = ((g.good cl).of_node i f x v).incarnations r q in cc) in
       record {
         good = good;
         asked_by = λ cl. push_requested k side.client c w.sent new side.opened
-            (born_requested k side.client side.past c w.sent side.opened
-            (λ o q. (let y = Prefix.born_by m (everywhere m pages lawful) side e ((g.good cl).of_client j e sent who).said (Prefix.plain_is m (everywhere m pages lawful) (seg e) plain) in subst (λ n. n ≤ o) (fresh cl) (y.before o q)))
+            (born_requested k side.client side.history c w.sent side.opened
+            (λ o q. (let y = Prefix.born_by m (everywhere m pages lawful) side e ((g.good cl).of_client j e sent who).output (Prefix.plain_is m (everywhere m pages lawful) (seg e) plain) in subst (λ n. n ≤ o) (fresh cl) (y.before o q)))
             (g.good cl).opened_good (g.asked_by cl))
             (λ y. absurd (cc));
-        acks = λ cl. push_acks k side.client (length side.past) c w.sent new (none cl)
-            (λ y r. (let z = (good cl).connection refl in record { at = 0; low = omega arith; is = ap (λ n. wrap (n + 1 + 0)) z.peer_first }));
+        acks = λ cl. push_acks k side.client (length side.history) c w.sent new (none cl)
+            (λ y r. (let z = (good cl).connection refl in record { at = 0; low = omega arith; is = ap (λ n. wrap (n + 1 + 0)) z.irs }));
       }
 
   -- the client's numbers go on
   goes_on : (k : ℕ) (client d : AbstractClient) (c : Connection) (sent : List Sent) → used client ≤ used d → asked_bytes client ≤ asked_bytes d → own_first d ≡ own_first client → d.acked ≤ c.taken → Requested k client c sent → Requested k d c sent
   goes_on k client d c sent u b f l r = record {
     low = l;
-    within = (let z = r.within.high in let y = r.within.asked in record { high = omega (arith, z, u); heard = r.within.heard; asked = omega (arith, y, b) });
+    within = (let z = r.within.high in let y = r.within.asked in record { high = omega (arith, z, u); delivered = r.within.delivered; asked = omega (arith, y, b) });
     ends = λ j e x w nr ns p at lo q.
         (let z = r.ends j e x w nr ns p at lo (q ∙ ap (λ n. wrap (n + 1 + at)) f) in let all = z.all in let text = z.text in record { text = omega (arith, text, b); all = omega (arith, all, u) });
   }
@@ -267,38 +267,38 @@ module _ (m : Meaning) (pages : Pages) (lawful : IsPaged m pages) where
   acked_low : (client : AbstractClient) (s : PlainSegment) (t : ClientStep) → AsksOn client s t → used client ≡ 0 → t.client.acked ≡ 0
   acked_low client s t a z = elim a.acked [ inl e ↦ omega (arith, e, z) | inr e ↦ (let y = e.3 in omega (arith, y, z)) ]
 
-  early_of : (client : AbstractClient) (past : List Era) (c : Connection) (o : Option ℕ) → o ≡ None → OpenedGood (paged pages) client past c o → is_early client.state ≡ true
-  early_of client past c None e h = h.early
-  early_of client past c (Some o) e h = absurd (cc)
+  early_of : (client : AbstractClient) (history : List PastConnection) (c : Connection) (o : Option ℕ) → o ≡ None → OpenedGood (paged pages) client history c o → is_early client.state ≡ true
+  early_of client history c None e h = h.early
+  early_of client history c (Some o) e h = absurd (cc)
 
   -- what a step of the client leaves
-  after_step : (k : ℕ) (client : AbstractClient) (past : List Era) (c : Connection) (sent later : List Sent) (opened : Option ℕ) (s : PlainSegment) (t : ClientStep) (b : Bool) → Good (paged pages) k client opened past c sent → AsksOn client s t →
-      Good (paged pages) k t.client (if b then Some (length past) else opened) past c later → (is_live c.state ≡ true → Requested k client c sent → t.client.acked ≤ c.taken) → RequestedBy k client c sent opened → RequestedBy k t.client c sent (if b then Some (length past) else opened)
-  after_step k client past c sent later (Some o) s t true g a h low r = λ l. goes_on k client t.client c sent a.more a.further a.first (low l (r l)) (r l)
-  after_step k client past c sent later (Some o) s t false g a h low r = λ l. goes_on k client t.client c sent a.more a.further a.first (low l (r l)) (r l)
-  after_step k client past c sent later None s t false g a h low r = a.early h.opened_good.early ∙ r
-  after_step k client past c sent later None s t true g a h low r = λ l. (let none = (unopened (paged pages) client c c.state l (g.connection l).state).1 in
+  after_step : (k : ℕ) (client : AbstractClient) (history : List PastConnection) (c : Connection) (sent later : List Sent) (opened : Option ℕ) (s : PlainSegment) (t : ClientStep) (b : Bool) → Good (paged pages) k client opened history c sent → AsksOn client s t →
+      Good (paged pages) k t.client (if b then Some (length history) else opened) history c later → (is_live c.state ≡ true → Requested k client c sent → t.client.acked ≤ c.taken) → RequestedBy k client c sent opened → RequestedBy k t.client c sent (if b then Some (length history) else opened)
+  after_step k client history c sent later (Some o) s t true g a h low r = λ l. goes_on k client t.client c sent a.more a.further a.iss (low l (r l)) (r l)
+  after_step k client history c sent later (Some o) s t false g a h low r = λ l. goes_on k client t.client c sent a.more a.further a.iss (low l (r l)) (r l)
+  after_step k client history c sent later None s t false g a h low r = a.early h.opened_good.early ∙ r
+  after_step k client history c sent later None s t true g a h low r = λ l. (let none = (unopened (paged pages) client c c.state l (g.connection l).state).1 in
       let zero = acked_low client s t a r in
-      let silent : length c.part.heard ≡ 0 = ap (λ (x : List ℕ). length x) none.heard in
+      let silent : length c.part.delivered ≡ 0 = ap (λ (x : List ℕ). length x) none.delivered in
       let start = none.taken in
-      record { low = omega (arith, zero); within = record { high = omega (arith, start); heard = omega (arith, silent); asked = omega (arith, silent) }; ends = λ j e x w. never_asked client t.client e.epoch (seg e) (g.of_client j e x w).said })
+      record { low = omega (arith, zero); within = record { high = omega (arith, start); delivered = omega (arith, silent); asked = omega (arith, silent) }; ends = λ j e x w. never_asked client t.client e.epoch (seg e) (g.of_client j e x w).output })
 
   abbrev GoodTakes : World → ℕ → Side → Connection → ClientStep → Type 0
-  GoodTakes w k base c t = Takes m (Prefix.G m (everywhere m pages lawful)) (Prefix.other m (everywhere m pages lawful)) (Prefix.reset m (everywhere m pages lawful)) (Prefix.evict m (everywhere m pages lawful)) (Prefix.mark m (everywhere m pages lawful)) w k base c t
+  GoodTakes w k base c t = Refines m (Prefix.G m (everywhere m pages lawful)) (Prefix.other m (everywhere m pages lawful)) (Prefix.reset m (everywhere m pages lawful)) (Prefix.evict m (everywhere m pages lawful)) (Prefix.mark m (everywhere m pages lawful)) w k base c t
 
   took_by : (w : World) (k : ℕ) (base : Side) (c : Connection) (s : PlainSegment) (t : ClientStep) → G k base c w.sent → GoodTakes w k base c t → AsksOn base.client s t →
-      (is_clean base ≡ true → is_live c.state ≡ true → Requested k base.client c w.sent → t.client.acked ≤ c.taken) → Takes m G other reset evict mark w k base c t
+      (is_clean base ≡ true → is_live c.state ≡ true → Requested k base.client c w.sent → t.client.acked ≤ c.taken) → Refines m G other reset evict mark w k base c t
   took_by w k base c s t g p a low =
       let b : Bool = becomes_opened base.client.state t.client.state in
-      let after = λ (later : List Sent) (h : is_clean base ≡ true → Good (paged pages) k t.client (with_client base t.client).opened base.past c later) (cl : is_clean base ≡ true).
-      after_step k base.client base.past c w.sent later base.opened s t b (g.good cl) a (h cl) (low cl) (g.asked_by cl) in
-      let acked = λ (cl : is_clean base ≡ true). acks_go_on k base.client t.client (length base.past) c w.sent a.first (g.acks cl) in
+      let after = λ (later : List Sent) (h : is_clean base ≡ true → Good (paged pages) k t.client (with_client base t.client).opened base.history c later) (cl : is_clean base ≡ true).
+      after_step k base.client base.history c w.sent later base.opened s t b (g.good cl) a (h cl) (low cl) (g.asked_by cl) in
+      let acked = λ (cl : is_clean base ≡ true). acks_go_on k base.client t.client (length base.history) c w.sent a.iss (g.acks cl) in
       record {
         quiet = λ n. record { good = p.quiet n; asked_by = after w.sent (p.quiet n); acks = acked };
-        says = λ x e tick. (let new : Sent = entry (from k) (with_client base t.client) tick 0 (speech false x) in record {
+        says = λ x e tick. (let new : Sent = entry (from k) (with_client base t.client) tick 0 (model false x) in record {
           good = p.says x e tick;
           asked_by = λ cl. push_requested k t.client c w.sent new (with_client base t.client).opened (after (w.sent ++ new ∷ []) (p.says x e tick) cl) (λ y. a.ends (p.says x e tick cl).steady x e);
-          acks = λ cl. push_acks k t.client (length base.past) c w.sent new (acked cl) (λ y. absurd (cc));
+          acks = λ cl. push_acks k t.client (length base.history) c w.sent new (acked cl) (λ y. absurd (cc));
         });
       }
 
@@ -319,23 +319,23 @@ module _ (m : Meaning) (pages : Pages) (lawful : IsPaged m pages) where
             omega (arith, now, all, at))
       ]
 
-  took : (w : World) (k j : ℕ) (side : Side) (c : Connection) (number : ℕ) (e : Sent) → ((o : ℕ) → All IsMoment (era side.past c o).captures) → slice_get w.sent j ≡ Some e → e.who ≡ to k → G k side c w.sent →
-      Takes m G other reset evict mark w k (marked side number e) c (client_takes side.client (seg e))
+  took : (w : World) (k j : ℕ) (side : Side) (c : Connection) (number : ℕ) (e : Sent) → ((o : ℕ) → All IsSnapshot (era side.history c o).captures) → slice_get w.sent j ≡ Some e → e.who ≡ to k → G k side c w.sent →
+      Refines m G other reset evict mark w k (marked side number e) c (client_takes side.client (seg e))
   took w k j side c number e fit sent who g =
       let a = client_asks side.client (seg e) in
       took_by w k (marked side number e) c (seg e) (client_takes side.client (seg e)) (mark k side c w.sent number e g) (Prefix.took m (everywhere m pages lawful) w k j side c number e fit sent who g.good) a
       (λ cl l r. (let b = clean_before side number e cl in
       heard_taken side.client c (seg e) (client_takes side.client (seg e)) (g.good b.0).steady a (λ n h. g.acks b.0 l j e sent who b.1 n h) r.low r.within.high))
 
-  own_by : (w : World) (k : ℕ) (side : Side) (c : Connection) (t : ClientStep) → G k side c w.sent → Asking.Asks side.client t → GoodTakes w k side c t → Takes m G other reset evict mark w k side c t
+  own_by : (w : World) (k : ℕ) (side : Side) (c : Connection) (t : ClientStep) → G k side c w.sent → Asking.Asks side.client t → GoodTakes w k side c t → Refines m G other reset evict mark w k side c t
   own_by w k side c t g n p =
-      took_by w k side c no_segment t g p record { more = n.more; further = n.further; acked = inl n.acked; first = n.first; early = n.early; ends = n.ends } (λ cl l r. (let z = r.low in omega (arith, z, n.acked)))
+      took_by w k side c no_segment t g p record { more = n.more; further = n.further; acked = inl n.acked; iss = n.iss; early = n.early; ends = n.ends } (λ cl l r. (let z = r.low in omega (arith, z, n.acked)))
 
   nothing_opened : (o : Option ℕ) → o ≡ None → (k : ℕ) (client : AbstractClient) (c : Connection) (sent : List Sent) → used client ≡ 0 → RequestedBy k client c sent o
   nothing_opened None e k client c sent z = z
   nothing_opened (Some o) e k client c sent z = absurd (cc)
 
-  opening_requested : (addr : Addr) (numbers : List ℕ) (plan : List Planned) → IsPlan plan → Framed m G other reset evict mark (opening_world addr numbers plan)
+  opening_requested : (addr : Addr) (numbers : List ℕ) (plan : List Planned) → IsPlan plan → Framed m G other reset evict mark (initial_world addr numbers plan)
   opening_requested addr numbers plan is =
       let b = Prefix.opening_framed m (everywhere m pages lawful) addr numbers plan is in
       record {
@@ -356,7 +356,7 @@ module _ (m : Meaning) (pages : Pages) (lawful : IsPaged m pages) where
         again = λ w k side c fit g. own_by w k side c (client_again side.client) g (again_asks side.client) (Prefix.own_again m (everywhere m pages lawful) w k side c fit g.good);
         closes = λ w k side c fit g. own_by w k side c (client_closes side.client) g (closes_asks side.client) (Prefix.own_close m (everywhere m pages lawful) w k side c fit g.good);
         aborts = λ w k side c fit g. own_by w k side c (client_aborts side.client) g (aborts_asks side.client) (Prefix.own_abort m (everywhere m pages lawful) w k side c fit g.good);
-        windows = λ x w k side c fit g. own_by w k side c (tells_window x side.client) g (window_asks x side.client) (Prefix.own_window m (everywhere m pages lawful) x w k side c fit g.good);
+        windows = λ x w k side c fit g. own_by w k side c (advertises_window x side.client) g (window_asks x side.client) (Prefix.own_window m (everywhere m pages lawful) x w k side c fit g.good);
       }
       v act harm g fits)
       opening_requested w r

@@ -1,17 +1,17 @@
--- Acts are refused before there are more than 65,535 datagrams: so many at most are in a world that is reached.
+-- Acts are refused before there are more than 65,535 datagrams, so a world that is reached has at most that number.
 use Rattle.std.specs.Option.{option_or}
 use Rattle.std.proofs.Common.{◌≡◌, ℕ, suc, ◌+◌, ◌≤◌, Bool, true, false, List, [], ◌∷◌, length, refl, ap, arith, Option, Some, None, ltb, if◌then◌else◌}
 use Rattle.std.proofs.lemmas.Grind.{common_steps}
-use Rattle.app_events.specs.Part.{Meaning}
+use Rattle.app_events.specs.AppSpec.{AppSpec}
 use Rattle.uip_node.specs.Counters.{ticks_of}
 use Rattle.uip_node.specs.Events.{Event, Reply, tick}
 use Rattle.uip_node.specs.Events.Event.{Arrived, EchoAsked}
 use Rattle.uip_node.specs.Events.Reply.{Echo, Tcp}
 use Rattle.uip_node.specs.Node.{NodeStep, step}
-use Rattle.link_client.specs.Client.{AbstractClient, ClientStep, client_takes, tells_window, client_opens, client_again, client_closes, client_aborts}
+use Rattle.link_client.specs.Client.{AbstractClient, ClientStep, client_takes, advertises_window, client_opens, client_again, client_closes, client_aborts}
 use Rattle.link_world.specs.Acts.{client_acts, does, fault_of, handles_all, named_fault, needs}
 use Rattle.link_world.specs.Bytes.{ping_from}
-use Rattle.link_world.specs.World.{Content, Sent, Side, World, addressed, buries, client_sockets, client_stepped, delivers, epoch_of, marked, node_handles, node_stepped, posts, posts_reply, with_client, with_side}
+use Rattle.link_world.specs.World.{Content, Sent, Side, World, addressed, retires, client_sockets, client_stepped, delivers, epoch_of, marked, node_handles, node_stepped, posts, posts_reply, with_client, with_side}
 use Rattle.link_world.specs.World.Content.{OfSegment, OfPing, OfEcho}
 use Rattle.link_world.specs.declared.act.Act.{Act}
 use Rattle.link_world.specs.declared.step_fault.StepFault.{StepFault}
@@ -22,7 +22,7 @@ use Rattle.link_world.proofs.Doing.{at_number, where_there}
 use Rattle.link_world.proofs.Harmless.{Harmless}
 use Rattle.link_world.proofs.Rounds.{one_longer}
 
--- v has so many datagrams more than w at most
+-- v has at most this number of datagrams more than w
 abbrev pub Adds : ℕ → World → World → Type 0
 Adds n w v = length v.sent ≤ length w.sent + n
 
@@ -32,7 +32,7 @@ HasRoom w = length w.sent ≤ 65535
 
 posts_one : (w : World) (who : Who) (again : Bool) (content : Content) → Adds 1 w (posts w who again content)
 posts_one w who again content =
-    let new : Sent = record { who = who; tick = ticks_of w.node.past; epoch = epoch_of who w.sides; again = again; content = content } in
+    let new : Sent = record { who = who; tick = ticks_of w.node.history; epoch = epoch_of who w.sides; again = again; content = content } in
     omega (arith, one_longer w.sent new)
 
 reply_one : (w : World) (r : Option Reply) → Adds 1 w (posts_reply w r)
@@ -41,7 +41,7 @@ reply_one w (Some (Echo request)) = posts_one w (FromNode 0) false (OfEcho reque
 reply_one w (Some (Tcp sockets id again s)) = posts_one w (FromNode (addressed 1 sockets w.sides)) again (OfSegment id s)
 
 stepped_one : (w : World) (r : NodeStep) → Adds 1 w (node_stepped w r)
-stepped_one w r = reply_one (record w { node = r.node; sides = buries r.gone w.sides }) r.sent
+stepped_one w r = reply_one (record w { node = r.node; sides = retires r.gone w.sides }) r.sent
 
 client_one : (w : World) (number : ℕ) (base : Side) (took : ClientStep) → Adds 1 w (client_stepped w number base took)
 client_one w number base took =
@@ -54,7 +54,7 @@ client_one w number base took =
 same : (w : World) → Adds 1 w w
 same w = omega arith
 
-module _ (m : Meaning) (served : ℕ → Bool) where
+module _ (m : AppSpec) (served : ℕ → Bool) where
   handles_one : (w : World) (event : Event) → Adds 1 w (node_handles m served w event)
   handles_one w event = stepped_one w (step m served w.node event)
 
@@ -80,9 +80,9 @@ module _ (m : Meaning) (served : ℕ → Bool) where
   acts_one : (w : World) (number : ℕ) (act : AbstractClient → ClientStep) → Adds 1 w (client_acts w number act)
   acts_one w number act = at_number (λ v. Adds 1 w v) (λ i side. client_stepped w i side (act side.client)) w.sides number w (same w) (λ n side at. client_one w (suc n) side (act side.client))
 
-  -- that a client tells its window sends nothing
-  window_none : (w : World) (number x : ℕ) → Adds 0 w (client_acts w number (tells_window x))
-  window_none w number x = at_number (λ v. Adds 0 w v) (λ i side. client_stepped w i side (tells_window x side.client)) w.sides number w (omega arith) (λ n side at. omega arith)
+  -- an advertised window of a client sends nothing
+  window_none : (w : World) (number x : ℕ) → Adds 0 w (client_acts w number (advertises_window x))
+  window_none w number x = at_number (λ v. Adds 0 w v) (λ i side. client_stepped w i side (advertises_window x side.client)) w.sides number w (omega arith) (λ n side at. omega arith)
 
   does_adds : (w : World) (act : Act) → Harmless m served w act → Adds (needs act) w (does m served w act)
   does_adds w (Act.Opens n) h = acts_one w n client_opens

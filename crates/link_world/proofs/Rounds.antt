@@ -4,7 +4,7 @@ use Rattle.std.proofs.lemmas.Bool.{le-ltb}
 use Rattle.std.specs.List.{range_with_len}
 use Rattle.std.specs.Option.{option_map_or, option_or}
 use Rattle.link_schedule.specs.Numbers.{◌>>=◌}
-use Rattle.app_events.specs.Part.{Meaning}
+use Rattle.app_events.specs.AppSpec.{AppSpec}
 use Rattle.tcp_segment.specs.Segments.{PlainSegment}
 use Rattle.tcp_machine.specs.Connection.{same_sockets}
 use Rattle.uip_node.specs.Events.Reply.{Tcp}
@@ -26,7 +26,7 @@ use Rattle.uip_node.proofs.SocketPairs.{same_self}
 
 -- the side of a client to which nothing stale came, and whose connection never became CLOSED
 abbrev pub only_side : AbstractClient → Option ℕ → Side
-only_side c opened = record { client = c; past = []; opened = opened; first_stale = None }
+only_side c opened = record { client = c; history = []; opened = opened; first_stale = None }
 
 -- one client, and one datagram that no round has gone past
 abbrev pub under_way : AbstractNode → Side → List Sent → Sent → World
@@ -63,7 +63,7 @@ none_past k = let left : k - k ≡ 0 = omega arith in ap (λ x. range_with_len (
 highest : (k n : ℕ) → k ≤ n → max k n ≡ n
 highest k n h = omega arith
 
-module _ (m : Meaning) (served : ℕ → Bool) where
+module _ (m : AppSpec) (served : ℕ → Bool) where
   only_act : (r : Result World StepFault) → (r >>= runs m served []) ≡ r
   only_act (Ok w) = refl
   only_act (Err f) = refl
@@ -103,26 +103,26 @@ module _ (m : Meaning) (served : ℕ → Bool) where
   pub node_answers : (n d : AbstractNode) (c : AbstractClient) (opened : Option ℕ) (before : List Sent) (tick id number : ℕ) (again : Bool) (s t : PlainSegment) → suc (length before) + 1 ≤ 65535 →
       arrives m served n (client_sockets (only_side c opened)) s ≡ record { node = d; sent = Some (Tcp (client_sockets (only_side c opened)) number again t); gone = None } →
       plays_line m served (under_way n (only_side c opened) before (sent_by (FromClient 1) tick false id s)) Round
-      ≡ Ok (under_way d (only_side c opened) (before ++ sent_by (FromClient 1) tick false id s ∷ []) (sent_by (FromNode 1) (ticks_of d.past) again number t))
+      ≡ Ok (under_way d (only_side c opened) (before ++ sent_by (FromClient 1) tick false id s ∷ []) (sent_by (FromNode 1) (ticks_of d.history) again number t))
   node_answers n d c opened before tick id number again s t room e =
       let side : Side = only_side c opened in
-      let first : Sent = sent_by (FromClient 1) tick false id s in
-      let all : List Sent = before ++ first ∷ [] in
+      let iss : Sent = sent_by (FromClient 1) tick false id s in
+      let all : List Sent = before ++ iss ∷ [] in
       let own : same_sockets (client_sockets side) (client_sockets side) ≡ true = same_self (client_sockets side) in
-      round_of_one n side before first room
-      ∙ ap (λ (r : NodeStep). Ok (record (node_stepped (under_way n side before first) r) { mark = length all })) e
-      ∙ ap (λ b. Ok (record (posts (record (under_way n side before first) { node = d }) (FromNode (if b then 1 else 0)) again (OfSegment number t)) { mark = length all })) own
+      round_of_one n side before iss room
+      ∙ ap (λ (r : NodeStep). Ok (record (node_stepped (under_way n side before iss) r) { mark = length all })) e
+      ∙ ap (λ b. Ok (record (posts (record (under_way n side before iss) { node = d }) (FromNode (if b then 1 else 0)) again (OfSegment number t)) { mark = length all })) own
 
   -- What a delivery to the client leaves, where it answers, and where it is silent.
   pub client_answers : (n : AbstractNode) (c d : AbstractClient) (opened : Option ℕ) (before : List Sent) (tick id : ℕ) (again : Bool) (s t : PlainSegment) → suc (length before) + 1 ≤ 65535 →
       client_takes c s ≡ record { client = d; sent = Some t } →
       plays_line m served (under_way n (only_side c opened) before (sent_by (FromNode 1) tick again id s)) Round
-      ≡ Ok (under_way n (only_side d (if becomes_opened c.state d.state then Some 0 else opened)) (before ++ sent_by (FromNode 1) tick again id s ∷ []) (sent_by (FromClient 1) (ticks_of n.past) false 0 t))
+      ≡ Ok (under_way n (only_side d (if becomes_opened c.state d.state then Some 0 else opened)) (before ++ sent_by (FromNode 1) tick again id s ∷ []) (sent_by (FromClient 1) (ticks_of n.history) false 0 t))
   client_answers n c d opened before tick id again s t room e =
       let side : Side = only_side c opened in
-      let first : Sent = sent_by (FromNode 1) tick again id s in
-      round_of_one n side before first room
-      ∙ ap (λ (r : ClientStep). Ok (record (client_stepped (under_way n side before first) 1 side r) { mark = length (before ++ first ∷ []) })) e
+      let iss : Sent = sent_by (FromNode 1) tick again id s in
+      round_of_one n side before iss room
+      ∙ ap (λ (r : ClientStep). Ok (record (client_stepped (under_way n side before iss) 1 side r) { mark = length (before ++ iss ∷ []) })) e
 
   pub client_is_silent : (n : AbstractNode) (c d : AbstractClient) (opened : Option ℕ) (before : List Sent) (tick id : ℕ) (again : Bool) (s : PlainSegment) → suc (length before) + 1 ≤ 65535 →
       client_takes c s ≡ record { client = d; sent = None } →
@@ -130,6 +130,6 @@ module _ (m : Meaning) (served : ℕ → Bool) where
       ≡ Ok (at_rest n (only_side d (if becomes_opened c.state d.state then Some 0 else opened)) (before ++ sent_by (FromNode 1) tick again id s ∷ []))
   client_is_silent n c d opened before tick id again s room e =
       let side : Side = only_side c opened in
-      let first : Sent = sent_by (FromNode 1) tick again id s in
-      round_of_one n side before first room
-      ∙ ap (λ (r : ClientStep). Ok (record (client_stepped (under_way n side before first) 1 side r) { mark = length (before ++ first ∷ []) })) e
+      let iss : Sent = sent_by (FromNode 1) tick again id s in
+      round_of_one n side before iss room
+      ∙ ap (λ (r : ClientStep). Ok (record (client_stepped (under_way n side before iss) 1 side r) { mark = length (before ++ iss ∷ []) })) e

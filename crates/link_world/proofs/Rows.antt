@@ -1,13 +1,15 @@
 -- Whole schedules, computed from the definitions alone.
+-- [add: counter] The lists of counters, and the length of a page that has them.
+-- [add: act] A worked schedule with the act.
 use Rattle.std.proofs.Common.{◌≡◌, ◌+◌, ◌==◌, ℕ, Bool, true, false, List, [], ◌∷◌, ◌++◌, map, length, replicate, flat_map, if◌then◌else◌, refl, Option, Some, None, Result, Ok, Err}
 use Rattle.tcp_segment.specs.declared.flags.TheConstants.{FIN, SYN, RST, PSH, ACK}
 use Rattle.app_events.specs.declared.row.Row.{Row}
-use Rattle.app_events.specs.Part.{Moment}
+use Rattle.app_events.specs.AppSpec.{Snapshot}
 use Rattle.tcp_machine.specs.Ask.{idles}
-use Rattle.tcp_machine.specs.OnSegment.{peer_closes, goes_on, in_established, fin_acked, fin_waits, on_segment}
+use Rattle.tcp_machine.specs.OnSegment.{peer_closes, stays_established, in_established, fin_acked, fin_waits, on_segment}
 use Rattle.tcp_machine.specs.OnTick.{rests_on, ticks_established}
 use Rattle.uip_node.specs.Counters.{ticks_of}
-use Rattle.uip_node.specs.Node.{happened, opens_in, from_stranger}
+use Rattle.uip_node.specs.Node.{happened, opens_in, for_no_connection}
 use Rattle.link_client.specs.Client.{sends_next, takes_in_order, takes_by, client_takes, opens_by, again_by, closes_by, aborts_by}
 use Rattle.link_client.specs.declared.client_state.ClientState.{ClientState}
 use Rattle.link_client.specs.declared.client_state.ClientState.TheVariants as Is
@@ -20,7 +22,7 @@ use Rattle.tcp_segment.specs.Received.{segment_in}
 use Rattle.link_world.specs.declared.step_fault.StepFault.TheVariants.{NoDatagram, NoByte, AlreadyOpen}
 use Rattle.link_world.specs.Bytes.{ping_from}
 use Rattle.link_world.specs.Schedule.{plays, BadLine}
-use Rattle.link_world.specs.History.{Planned, opening_world}
+use Rattle.link_world.specs.History.{Planned, initial_world}
 use Rattle.link_schedule.specs.declared.event.Event.{Event}
 use Rattle.link_schedule.specs.declared.event.Event.TheVariants.{Opens, Again, Closes, Aborts, Window, Ping, Give, Damage, Tick, Round, Lose}
 use Rattle.link_world.specs.declared.who.Who.{Who}
@@ -56,7 +58,7 @@ abbrev text_of : ℕ → List Piece
 text_of n = Plain (replicate n 7) ∷ []
 
 abbrev played : List Piece → List Planned → List Event → Result World BadLine
-played pieces plan events = plays (sample pieces) web events (opening_world (record { 0 = 10 ∷ 0 ∷ 0 ∷ 1 ∷ [] }) [] plan)
+played pieces plan events = plays (sample pieces) web events (initial_world (record { 0 = 10 ∷ 0 ∷ 0 ∷ 1 ∷ [] }) [] plan)
 
 -- What is reported: for each client its state, the bytes that it received and its first stale datagram; ticks; datagrams.
 pub record ClientLine : Type 0 where
@@ -73,7 +75,7 @@ abbrev line_of : Side → ClientLine
 line_of side = record { state = side.client.state; received = length side.client.received; first_stale = side.first_stale }
 
 abbrev reported : World → Report
-reported w = record { clients = map line_of w.sides; ticks = ticks_of w.node.past; datagrams = length w.sent }
+reported w = record { clients = map line_of w.sides; ticks = ticks_of w.node.history; datagrams = length w.sent }
 
 abbrev report_of : Result World BadLine → Result Report BadLine
 report_of (Ok w) = Ok (reported w)
@@ -120,7 +122,7 @@ client_says flags seq len = record { tick = 0; who = FromClient 1; flags = flags
 a_page_shown : all_shown (played (text_of 86) usual (Opens 1 ∷ rounds 12))
     ≡ client_says SYN 1000 0 ∷ node_says 0 (SYN + ACK) 0 0 false ∷ client_says (ACK + PSH) 1001 18 ∷ node_says 0 (ACK + PSH) 1 86 false
     ∷ client_says ACK 1019 0 ∷ node_says 0 (FIN + ACK) 87 0 false ∷ client_says (FIN + ACK) 1019 0 ∷ node_says 0 ACK 88 0 false ∷ []
-unfolding idles peer_closes goes_on in_established fin_acked fin_waits on_segment rests_on ticks_established happened opens_in from_stranger sends_next takes_in_order takes_by client_takes opens_by again_by closes_by aborts_by
+unfolding idles peer_closes stays_established in_established fin_acked fin_waits on_segment rests_on ticks_established happened opens_in for_no_connection sends_next takes_in_order takes_by client_takes opens_by again_by closes_by aborts_by
 a_page_shown = refl
 
 abbrev lost_segment_run : Result World BadLine
@@ -169,7 +171,7 @@ table_page = Plain (replicate 80 7) ∷ Made (λ m. flat_map row_text m.now.rows
 abbrev full_table_run : Result World BadLine
 full_table_run = played table_page eleven (Opens 1 ∷ Opens 2 ∷ Opens 3 ∷ Opens 4 ∷ Opens 5 ∷ Opens 6 ∷ Opens 7 ∷ Opens 8 ∷ Opens 9 ∷ Opens 10 ∷ Opens 11 ∷ rounds 2 ++ Give 22 ∷ Give 32 ∷ Give 33 ∷ Give 34 ∷ Give 35 ∷ Give 36 ∷ Give 37 ∷ Give 38 ∷ Give 39 ∷ Give 40 ∷ [])
 
-abbrev counts_text : Moment → List ℕ
+abbrev counts_text : Snapshot → List ℕ
 counts_text m = flat_map (λ n. replicate 11 n) m.now.net
 
 abbrev counts_page : List Piece
@@ -228,7 +230,7 @@ endings =
     ∷ []
 
 endings_hold : map (λ row. report_of row.0) endings ≡ map (λ row. row.1) endings
-unfolding idles peer_closes goes_on in_established fin_acked fin_waits on_segment rests_on ticks_established happened opens_in from_stranger sends_next takes_in_order takes_by client_takes opens_by again_by closes_by aborts_by ping_from
+unfolding idles peer_closes stays_established in_established fin_acked fin_waits on_segment rests_on ticks_established happened opens_in for_no_connection sends_next takes_in_order takes_by client_takes opens_by again_by closes_by aborts_by ping_from
 endings_hold = refl
 
 -- the numbers of datagrams in runs, and what is shown of each
@@ -249,10 +251,10 @@ datagrams =
     ∷ []
 
 datagrams_hold : map (λ row. shown row.0 row.1) datagrams ≡ map (λ row. Some row.2) datagrams
-unfolding idles peer_closes goes_on in_established fin_acked fin_waits on_segment rests_on ticks_established happened opens_in from_stranger sends_next takes_in_order takes_by client_takes opens_by again_by closes_by aborts_by
+unfolding idles peer_closes stays_established in_established fin_acked fin_waits on_segment rests_on ticks_established happened opens_in for_no_connection sends_next takes_in_order takes_by client_takes opens_by again_by closes_by aborts_by
 datagrams_hold = refl
 
--- datagrams whose text is told
+-- datagrams with a given text
 abbrev texts : List (ℕ × Result World BadLine × List ℕ)
 texts =
     (6, generator_again_run, flat_map (λ n. replicate 11 n) (3 ∷ 2 ∷ 0 ∷ 0 ∷ 0 ∷ 0 ∷ 0 ∷ 0 ∷ 0 ∷ 0 ∷ 0 ∷ 0 ∷ 0 ∷ 0 ∷ 3 ∷ 2 ∷ 0 ∷ 0 ∷ 0 ∷ 0 ∷ []))
@@ -263,7 +265,7 @@ texts =
     ∷ []
 
 texts_hold : map (λ row. said_in row.0 row.1) texts ≡ map (λ row. row.2) texts
-unfolding idles peer_closes goes_on in_established fin_acked fin_waits on_segment rests_on ticks_established happened opens_in from_stranger sends_next takes_in_order takes_by client_takes opens_by again_by closes_by aborts_by ping_from
+unfolding idles peer_closes stays_established in_established fin_acked fin_waits on_segment rests_on ticks_established happened opens_in for_no_connection sends_next takes_in_order takes_by client_takes opens_by again_by closes_by aborts_by ping_from
 texts_hold = refl
 
 -- runs with damage, and acts that are refused
@@ -279,9 +281,9 @@ damages =
     ∷ []
 
 damages_hold : map (λ row. report_of row.0) damages ≡ map (λ row. row.1) damages
-unfolding idles peer_closes goes_on in_established fin_acked fin_waits on_segment rests_on ticks_established happened opens_in from_stranger sends_next takes_in_order takes_by client_takes opens_by again_by closes_by aborts_by folded head_or_fate head_bytes datagram_bytes segment_in
+unfolding idles peer_closes stays_established in_established fin_acked fin_waits on_segment rests_on ticks_established happened opens_in for_no_connection sends_next takes_in_order takes_by client_takes opens_by again_by closes_by aborts_by folded head_or_fate head_bytes datagram_bytes segment_in
 damages_hold = refl
 
 damaged_again : shown 5 (damaged_run 45) ≡ Some (node_says 4 (ACK + PSH) 1 86 true)
-unfolding idles peer_closes goes_on in_established fin_acked fin_waits on_segment rests_on ticks_established happened opens_in from_stranger sends_next takes_in_order takes_by client_takes opens_by again_by closes_by aborts_by folded head_or_fate head_bytes datagram_bytes segment_in
+unfolding idles peer_closes stays_established in_established fin_acked fin_waits on_segment rests_on ticks_established happened opens_in for_no_connection sends_next takes_in_order takes_by client_takes opens_by again_by closes_by aborts_by folded head_or_fate head_bytes datagram_bytes segment_in
 damaged_again = refl

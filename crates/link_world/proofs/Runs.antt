@@ -1,17 +1,17 @@
--- What every act keeps holds of every world that is reached.
+-- What every act preserves holds in every world that is reached.
 use Rattle.std.specs.List.{All}
 use Rattle.std.proofs.Common.{◌≡◌, ℕ, suc, ◌⊎◌, inl, inr, Bool, List, [], ◌∷◌, refl, subst, arith, Option, Some, None, Result, Ok, Err}
 use Rattle.std.specs.Option.{option_map_or}
 use Rattle.uip_wire.specs.declared.addr.Addr.{Addr}
-use Rattle.app_events.specs.Part.{Meaning}
-use Rattle.app_events.specs.Pages.{Pages, IsPaged, IsMoment, IsWord, IsAddr}
+use Rattle.app_events.specs.AppSpec.{AppSpec}
+use Rattle.app_events.specs.Pages.{Pages, IsPaged, IsSnapshot, IsU32, IsAddr}
 use Rattle.tcp_machine.specs.Connection.{Connection}
 use Rattle.link_world.specs.World.{World, Side}
 use Rattle.link_schedule.specs.Numbers.{◌>>=◌}
 use Rattle.link_world.specs.Acts.{does, fault_of, acts, runs}
 use Rattle.link_world.specs.declared.act.Act.{Act}
 use Rattle.link_world.specs.declared.step_fault.StepFault.{StepFault}
-use Rattle.link_world.specs.History.{Planned, IsPlanned, IsPlan, fresh_side, opening_world, started}
+use Rattle.link_world.specs.History.{Planned, IsPlanned, IsPlan, fresh_side, initial_world, started}
 use Rattle.uip_node.specs.Steady.{IsSteady}
 use Rattle.link_world.specs.Headline.{IsReachedPlainly, IsAct, IsPlainAct, IsReached}
 use Rattle.uip_node.specs.Laws.{HasBytes}
@@ -31,14 +31,14 @@ use Rattle.link_world.proofs.SoundWorlds.{KnownWorld, SoundWorld, does_sound}
 use Rattle.link_world.proofs.Damages.{act_harmless}
 
 -- the opening world
-opening_fits : (addr : Addr) (numbers : List ℕ) (plan : List Planned) → All IsWord numbers → IsPlan plan → FitWorld (opening_world addr numbers plan)
+opening_fits : (addr : Addr) (numbers : List ℕ) (plan : List Planned) → All IsU32 numbers → IsPlan plan → FitWorld (initial_world addr numbers plan)
 opening_fits addr numbers plan n is = record {
   node = record { size = omega arith; conns = λ i c x. subst (λ z. FitConn z) (all_closed 10 i c x) closed_fits; numbers = n };
   sides = λ k side x. (let p = get_map fresh_side plan k side x in let g : IsPlanned p.from = is.each k p.from p.get in
-      subst (λ (o : Side). FitSide o) p.is record { eras = λ i. all_nil IsMoment; addr = g.addr; port = g.port });
+      subst (λ (o : Side). FitSide o) p.is record { eras = λ i. all_nil IsSnapshot; addr = g.addr; port = g.port });
 }
 
-opening_sound : (addr : Addr) (numbers : List ℕ) (plan : List Planned) → IsAddr addr → IsPlan plan → SoundWorld (opening_world addr numbers plan)
+opening_sound : (addr : Addr) (numbers : List ℕ) (plan : List Planned) → IsAddr addr → IsPlan plan → SoundWorld (initial_world addr numbers plan)
 opening_sound addr numbers plan a is = record {
   addr = a;
   conns = λ i c x. subst (λ z. Lens z) (all_closed 10 i c x) closed_lens;
@@ -48,7 +48,7 @@ opening_sound addr numbers plan a is = record {
         port = g.port;
         server = g.server;
         server_port = g.server_port;
-        first = g.first;
+        iss = g.iss;
         offered = g.offered;
         seg = g.seg.1;
         request = g.all_bytes;
@@ -68,7 +68,7 @@ no_fault : (v w : World) (f : Option StepFault) → option_map_or Err f (Ok v) �
 no_fault v w None e = refl
 no_fault v w (Some f) e = absurd (cc)
 
-module _ (m : Meaning) (served : ℕ → Bool) (Fine : Act → Type 0) (P : World → Type 0) (step : (w : World) (act : Act) → Fine act → fault_of w act ≡ None → P w → P (does m served w act)) where
+module _ (m : AppSpec) (served : ℕ → Bool) (Fine : Act → Type 0) (P : World → Type 0) (step : (w : World) (act : Act) → Fine act → fault_of w act ≡ None → P w → P (does m served w act)) where
   one_keeps : (v w : World) (act : Act) (more : List Act) (r : Result World StepFault) → acts m served v act ≡ r → Fine act → P v →
       ((u : World) → P u → runs m served more u ≡ Ok w → P w) → (r >>= runs m served more) ≡ Ok w → P w
   one_keeps v w act more (Ok u) q f p rest e =
@@ -81,7 +81,7 @@ module _ (m : Meaning) (served : ℕ → Bool) (Fine : Act → Type 0) (P : Worl
       one_keeps v w act more (acts m served v act) refl (a 0 act (omega arith)) p
       (λ u q. run_keeps more u w (λ k d l. a (suc k) d (omega (arith, l))) q) e
 
-module _ (m : Meaning) (pages : Pages) (steady : IsSteady m) (H : Connection → Type 0) (bytes : HasBytes pages → SaysBytesWhere m H) where
+module _ (m : AppSpec) (pages : Pages) (steady : IsSteady m) (H : Connection → Type 0) (bytes : HasBytes pages → SaysBytesWhere m H) where
   module _ (served : ℕ → Bool) (P : World → Type 0) (step : (w : World) (act : Act) → Harmless m served w act → P w → FitWorld w → P (does m served w act)) where
     record Kept (w : World) : Type 0 where
       fact : P w
@@ -108,21 +108,21 @@ module _ (m : Meaning) (pages : Pages) (steady : IsSteady m) (H : Connection →
     fine : (schedule : List Act) → All IsAct schedule → HasBytes pages ⊎ All IsPlainAct schedule → All Fine schedule
     fine schedule a b k d l = (a k d l, elim b [ inl page ↦ inl page | inr plain ↦ inr (plain k d l) ])
 
-    opening_known : (addr : Addr) (numbers : List ℕ) (plan : List Planned) → IsAddr addr → IsPlan plan → HasBytes pages → KnownWorld H (opening_world addr numbers plan)
+    opening_known : (addr : Addr) (numbers : List ℕ) (plan : List Planned) → IsAddr addr → IsPlan plan → HasBytes pages → KnownWorld H (initial_world addr numbers plan)
     opening_known addr numbers plan a is page = record {
       sound = opening_sound addr numbers plan a is;
       known = λ i c x. subst H (all_closed 10 i c x) (bytes page).closed_knows;
     }
 
-    schedule_keeps : (addr : Addr) (numbers : List ℕ) (plan : List Planned) (schedule : List Act) (w : World) → IsAddr addr → All IsWord numbers → IsPlan plan → All Fine schedule →
-        runs m served schedule (opening_world addr numbers plan) ≡ Ok w → P (opening_world addr numbers plan) → Kept w
+    schedule_keeps : (addr : Addr) (numbers : List ℕ) (plan : List Planned) (schedule : List Act) (w : World) → IsAddr addr → All IsU32 numbers → IsPlan plan → All Fine schedule →
+        runs m served schedule (initial_world addr numbers plan) ≡ Ok w → P (initial_world addr numbers plan) → Kept w
     schedule_keeps addr numbers plan schedule w a n is f e p =
-        run_keeps m served Fine Kept act_keeps schedule (opening_world addr numbers plan) w f
+        run_keeps m served Fine Kept act_keeps schedule (initial_world addr numbers plan) w f
         record { fact = p; fits = opening_fits addr numbers plan n is; room = omega arith; known = opening_known addr numbers plan a is } e
 
   -- any fact that each harmless act keeps
   pub reached_where : (P : World → Type 0) → ((served : ℕ → Bool) (w : World) (act : Act) → Harmless m served w act → P w → FitWorld w → P (does m served w act)) →
-      ((addr : Addr) (numbers : List ℕ) (plan : List Planned) → IsPlan plan → P (opening_world addr numbers plan)) → (w : World) → IsReached m pages w → P w
+      ((addr : Addr) (numbers : List ℕ) (plan : List Planned) → IsPlan plan → P (initial_world addr numbers plan)) → (w : World) → IsReached m pages w → P w
   reached_where P step opening w r =
       (schedule_keeps r.served P (step r.served) r.start.addr r.start.numbers r.start.plan r.schedule w r.start.is_addr r.start.in_range r.start.is_plan
       (fine r.served P (step r.served) r.schedule r.are_acts r.bytes) r.accepted (opening r.start.addr r.start.numbers r.start.plan r.start.is_plan)).fact
@@ -151,26 +151,26 @@ module _ (m : Meaning) (pages : Pages) (steady : IsSteady m) (H : Connection →
 
 -- ---- of an application whose text is a page
 
-pub reached : (m : Meaning) (pages : Pages) → IsPaged m pages → (P : World → Type 0) → ((served : ℕ → Bool) (w : World) (act : Act) → Harmless m served w act → P w → FitWorld w → P (does m served w act)) →
-    ((addr : Addr) (numbers : List ℕ) (plan : List Planned) → IsPlan plan → P (opening_world addr numbers plan)) → (w : World) → IsReached m pages w → P w
+pub reached : (m : AppSpec) (pages : Pages) → IsPaged m pages → (P : World → Type 0) → ((served : ℕ → Bool) (w : World) (act : Act) → Harmless m served w act → P w → FitWorld w → P (does m served w act)) →
+    ((addr : Addr) (numbers : List ℕ) (plan : List Planned) → IsPlan plan → P (initial_world addr numbers plan)) → (w : World) → IsReached m pages w → P w
 reached m pages lawful P step opening w r = reached_where m pages (steady_of m pages lawful) (λ c. Unit {0}) (pages_say_bytes m pages lawful) P step opening w r
 
-pub reached_sound : (m : Meaning) (pages : Pages) → IsPaged m pages → HasBytes pages → (w : World) → IsReached m pages w → SoundWorld w
+pub reached_sound : (m : AppSpec) (pages : Pages) → IsPaged m pages → HasBytes pages → (w : World) → IsReached m pages w → SoundWorld w
 reached_sound m pages lawful page w r = (known_where m pages (steady_of m pages lawful) (λ c. Unit {0}) (pages_say_bytes m pages lawful) page w r).sound
 
-pub reached_on : (m : Meaning) (pages : Pages) → IsPaged m pages → (P : World → Type 0) → ((served : ℕ → Bool) (w : World) (act : Act) → Harmless m served w act → P w → FitWorld w → P (does m served w act)) →
+pub reached_on : (m : AppSpec) (pages : Pages) → IsPaged m pages → (P : World → Type 0) → ((served : ℕ → Bool) (w : World) (act : Act) → Harmless m served w act → P w → FitWorld w → P (does m served w act)) →
     (v w : World) → IsLater m pages v w → P v → P w
 reached_on m pages lawful P step v w l p = on_where m pages (steady_of m pages lawful) (λ c. Unit {0}) (pages_say_bytes m pages lawful) P step v w l p
 
 -- any fact that each harmless act keeps, of a world that is reached with no damage
-pub reached_plainly : (m : Meaning) → IsSteady m → (P : World → Type 0) → ((served : ℕ → Bool) (w : World) (act : Act) → Harmless m served w act → P w → FitWorld w → P (does m served w act)) →
-    ((addr : Addr) (numbers : List ℕ) (plan : List Planned) → IsPlan plan → P (opening_world addr numbers plan)) → (w : World) → IsReachedPlainly m w → P w
+pub reached_plainly : (m : AppSpec) → IsSteady m → (P : World → Type 0) → ((served : ℕ → Bool) (w : World) (act : Act) → Harmless m served w act → P w → FitWorld w → P (does m served w act)) →
+    ((addr : Addr) (numbers : List ℕ) (plan : List Planned) → IsPlan plan → P (initial_world addr numbers plan)) → (w : World) → IsReachedPlainly m w → P w
 reached_plainly m steady P step opening w r =
     (run_keeps m r.served IsPlainAct (λ v. P v × FitWorld v)
     (λ v act plain ok k. (let h : Harmless m r.served v act = plain_harmless m r.served v act plain in (step r.served v act h k.0 k.1, does_fit m steady r.served v act h k.1)))
     r.schedule (started r.start) w r.plain (opening r.start.addr r.start.numbers r.start.plan r.start.is_plan, opening_fits r.start.addr r.start.numbers r.start.plan r.start.in_range r.start.is_plan) r.accepted).0
 
 -- and such a world has room
-pub room_plainly : (m : Meaning) (w : World) → IsReachedPlainly m w → HasRoom w
+pub room_plainly : (m : AppSpec) (w : World) → IsReachedPlainly m w → HasRoom w
 room_plainly m w r =
     run_keeps m r.served IsPlainAct HasRoom (λ v act plain ok k. keeps_room m r.served v act (plain_harmless m r.served v act plain) ok) r.schedule (started r.start) w r.plain (omega arith) r.accepted

@@ -1,26 +1,26 @@
--- Same bytes: what is sent again while it is outstanding is the same, and is marked so.
+-- Same bytes: a retransmission of what is outstanding is identical, and is marked.
 use Rattle.std.proofs.Common.{◌≡◌, ℕ, suc, ◌+◌, ◌*◌, length-append, ◌<◌, ◌≤◌, min, Bool, true, false, ◌⊎◌, inl, inr, List, [], ◌∷◌, ◌++◌, length, replicate, refl, sym, ap, ◌∙◌, subst, arith, Option, Some, None, slice_get, eqb, if◌then◌else◌}
 use Rattle.std.proofs.lemmas.Grind.{common_steps}
 use Rattle.uip_wire.specs.Numbers.{wrap}
 use Rattle.uip_wire.specs.declared.addr.Addr.{Addr}
 use Rattle.uip_wire.specs.declared.sizes.TheConstants.{OWN_MSS}
 use Rattle.tcp_segment.specs.Segments.{PlainSegment, has_syn, has_fin, has_rst}
-use Rattle.app_events.specs.Part.{Meaning}
+use Rattle.app_events.specs.AppSpec.{AppSpec}
 use Rattle.app_events.specs.Pages.{Pages}
 use Rattle.tcp_machine.specs.Connection.{Sockets, Connection, closed, is_live}
-use Rattle.tcp_machine.specs.Segments.{segment_of, is_again, has_place, is_plain_syn, syn_ack}
+use Rattle.tcp_machine.specs.Segments.{segment_of, is_again, occupies_sequence_space, is_plain_syn, syn_ack}
 use Rattle.tcp_machine.specs.Ask.{Outcome, asked}
 use Rattle.tcp_machine.specs.OnSegment.{first_mss, accepted, on_segment}
 use Rattle.tcp_machine.specs.OnTick.{on_tick}
 use Rattle.app_events.specs.declared.state.State.{State}
 use Rattle.app_events.specs.declared.state.State.TheVariants.{Closed, SynRcvd, Established, CloseWait, FinWait1, FinWait2, Closing, TimeWait, LastAck}
 use Rattle.link_client.specs.Client.{ClientStep, one_if}
-use Rattle.link_world.specs.World.{World, Side, Sent, Content, client_sockets, with_client, marked, is_clean, era_of}
+use Rattle.link_world.specs.World.{World, Side, Sent, Content, client_sockets, with_client, marked, is_clean, past_connection_of}
 use Rattle.link_world.specs.World.Content.{OfSegment, OfPing, OfEcho}
 use Rattle.link_world.specs.Acts.{does}
 use Rattle.link_world.specs.declared.act.Act.{Act}
 use Rattle.uip_node.specs.Laws.{serving, Alike}
-use Rattle.link_world.specs.History.{Planned, IsPlan, opening_world}
+use Rattle.link_world.specs.History.{Planned, IsPlan, initial_world}
 use Rattle.link_world.specs.Headline.{IsReached, RepeatsSameBytes, MarksRepeats, SameBytes, SameBytesPlainly, AgainExactly, AgainExactlyPlainly, IsReachedPlainly}
 use Rattle.uip_node.specs.Steady.{IsSteady}
 use Rattle.uip_node.proofs.Steadiness.{steady_of}
@@ -38,7 +38,7 @@ use Rattle.uip_node.proofs.FitNodes.{closed_fits}
 use Rattle.uip_node.specs.Laws.{HasBytes}
 use Rattle.link_world.proofs.SaidBytes.{SaysBytesWhere, pages_say_bytes}
 use Rattle.link_world.proofs.Runs.{reached_plainly, reached_where, room_plainly, room_where}
-use Rattle.link_world.proofs.Any.{Framed, Steps, Takes, any_step, speech, entry, does_framed}
+use Rattle.link_world.proofs.Any.{Framed, Steps, Refines, any_step, model, entry, does_framed}
 use Rattle.link_world.proofs.Any
 use Rattle.uip_node.proofs.Stepped.{stepped_fits, stepped_tells}
 use Rattle.uip_node.proofs.Moves.{Moves, asked_moves, segment_moves, tick_moves}
@@ -74,7 +74,7 @@ pub record Before (sent : List Sent) (e : Sent) (i : ℕ) : Type 0 where
   pub there : slice_get sent place ≡ Some it
   pub who : it.who ≡ e.who
   pub epoch : it.epoch ≡ e.epoch
-  pub placed : has_place (seg it) ≡ true
+  pub placed : occupies_sequence_space (seg it) ≡ true
   pub seq : (seg it).seq ≡ (seg e).seq
   pub alike : Alike (seg it) (seg e)
 
@@ -83,10 +83,10 @@ before_more sent new e i b = record { place = b.place; earlier = b.earlier; it =
 
 pub record IsOld (c : Connection) (s : PlainSegment) : Type 0 where
   pub at : ℕ
-  pub seq : s.seq ≡ wrap (c.first + at)
-  pub past : at < c.acked
+  pub seq : s.seq ≡ wrap (c.iss + at)
+  pub history : at < c.acked
 
--- any number is as low as is needed: that none comes round is told by the list of datagrams
+-- any number is low enough: the list of datagrams shows that none wraps around
 abbrev pub Any_low : ℕ → Type 0
 Any_low n = Unit {0}
 
@@ -94,15 +94,15 @@ Any_low n = Unit {0}
 pub near_by : (acked : Bool) (c d : Connection) → Moves acked c d → d.acked ≤ c.acked + c.len
 near_by acked c d h = elim (h.place) [ inl e ↦ omega (arith, e) | inr e ↦ omega (arith, e.1) ]
 
-module _ (m : Meaning) (steady : IsSteady m) where
+module _ (m : AppSpec) (steady : IsSteady m) where
   -- what is outstanding was sent
   pub record WasSent (k : ℕ) (side : Side) (c : Connection) (sent : List Sent) : Type 0 where
     pub place : ℕ
     pub it : Sent
     pub there : slice_get sent place ≡ Some it
     pub who : it.who ≡ to k
-    pub epoch : it.epoch ≡ length side.past
-    pub placed : has_place (seg it) ≡ true
+    pub epoch : it.epoch ≡ length side.history
+    pub placed : occupies_sequence_space (seg it) ≡ true
     pub due_now : IsDue m steady Any_low (λ p f. tt) c (seg it)
 
   pub record Told (k : ℕ) (side : Side) (c : Connection) (sent : List Sent) : Type 0 where
@@ -112,16 +112,16 @@ module _ (m : Meaning) (steady : IsSteady m) where
     pub room : is_live c.state ≡ true → c.acked + c.len ≤ 1460 * length sent
     pub safe : is_live c.state ≡ true → Safe m steady Any_low (λ p f. tt) c
     pub was_sent : is_live c.state ≡ true → 0 < c.len → WasSent k side c sent
-    pub time : (j : ℕ) (e : Sent) → slice_get sent j ≡ Some e → e.who ≡ to k → e.epoch ≤ length side.past
-    pub tells : (j : ℕ) (e : Sent) → slice_get sent j ≡ Some e → e.who ≡ to k → has_place (seg e) ≡ true → e.epoch ≡ length side.past → (is_live c.state ≡ true) × (IsOld c (seg e) ⊎ IsDue m steady Any_low (λ p f. tt) c (seg e))
+    pub time : (j : ℕ) (e : Sent) → slice_get sent j ≡ Some e → e.who ≡ to k → e.epoch ≤ length side.history
+    pub tells : (j : ℕ) (e : Sent) → slice_get sent j ≡ Some e → e.who ≡ to k → occupies_sequence_space (seg e) ≡ true → e.epoch ≡ length side.history → (is_live c.state ≡ true) × (IsOld c (seg e) ⊎ IsDue m steady Any_low (λ p f. tt) c (seg e))
     pub repeats : (i : ℕ) (e : Sent) → slice_get sent i ≡ Some e → e.who ≡ to k → e.again ≡ true → Before sent e i
     pub agree : length sent ≤ 65535 → (i j : ℕ) (e f : Sent) → slice_get sent i ≡ Some e → slice_get sent j ≡ Some f → j < i → e.who ≡ to k → f.who ≡ to k → e.epoch ≡ f.epoch →
-        has_place (seg e) ≡ true → has_place (seg f) ≡ true → (seg e).seq ≡ (seg f).seq → (e.again ≡ true) × Alike (seg f) (seg e)
+        occupies_sequence_space (seg e) ≡ true → occupies_sequence_space (seg f) ≡ true → (seg e).seq ≡ (seg f).seq → (e.again ≡ true) × Alike (seg f) (seg e)
 
-  -- a list with one more, of which nothing has to be told
+  -- a list with one more, about which nothing is needed
   record IsSilent (side : Side) (e : Sent) : Type 0 where
-    epoch : e.epoch ≤ length side.past
-    unplaced : has_place (seg e) ≡ true → ⊥
+    epoch : e.epoch ≤ length side.history
+    unplaced : occupies_sequence_space (seg e) ≡ true → ⊥
     unmarked : e.again ≡ true → ⊥
 
   push_silent : (k : ℕ) (side : Side) (c : Connection) (sent : List Sent) (new : Sent) → Told k side c sent → (new.who ≡ to k → IsSilent side new) → Told k side c (sent ++ new ∷ [])
@@ -131,22 +131,22 @@ module _ (m : Meaning) (steady : IsSteady m) where
     room = λ l. (let r = t.room l in omega (arith, r, length-append sent (new ∷ [])));
     safe = t.safe;
     was_sent = λ l z. (let x = t.was_sent l z in record { place = x.place; it = x.it; there = get_older sent new x.it x.place x.there; who = x.who; epoch = x.epoch; placed = x.placed; due_now = x.due_now });
-    time = λ j e x w. elim (get_push sent new j e x) [ older h ↦ t.time j e h w | newest i h ↦ (let s = (q (ap (λ n. n.who) h ∙ w)).epoch in subst (λ n. n ≤ length side.past) (ap (λ n. n.epoch) h) s) ];
-    tells = λ j e x w p y. elim (get_push sent new j e x) [ older h ↦ t.tells j e h w p y | newest i h ↦ absurd ((q (ap (λ n. n.who) h ∙ w)).unplaced (ap (λ n. has_place (seg n)) h ∙ p)) ];
+    time = λ j e x w. elim (get_push sent new j e x) [ older h ↦ t.time j e h w | newest i h ↦ (let s = (q (ap (λ n. n.who) h ∙ w)).epoch in subst (λ n. n ≤ length side.history) (ap (λ n. n.epoch) h) s) ];
+    tells = λ j e x w p y. elim (get_push sent new j e x) [ older h ↦ t.tells j e h w p y | newest i h ↦ absurd ((q (ap (λ n. n.who) h ∙ w)).unplaced (ap (λ n. occupies_sequence_space (seg n)) h ∙ p)) ];
     repeats = λ j e x w a. elim (get_push sent new j e x) [ older h ↦ before_more sent new e j (t.repeats j e h w a) | newest i h ↦ absurd ((q (ap (λ n. n.who) h ∙ w)).unmarked (ap (λ n. n.again) h ∙ a)) ];
     agree = λ few i j e f x y l we wf ep pe pf se. elim (get_push sent new i e x) [
       | older h ↦ elim (get_push sent new j f y) [
         | older g ↦ t.agree (omega (arith, few, length-append sent (new ∷ []))) i j e f h g l we wf ep pe pf se
-        | newest b g ↦ absurd ((q (ap (λ n. n.who) g ∙ wf)).unplaced (ap (λ n. has_place (seg n)) g ∙ pf))
+        | newest b g ↦ absurd ((q (ap (λ n. n.who) g ∙ wf)).unplaced (ap (λ n. occupies_sequence_space (seg n)) g ∙ pf))
       ]
-      | newest b h ↦ absurd ((q (ap (λ n. n.who) h ∙ we)).unplaced (ap (λ n. has_place (seg n)) h ∙ pe))
+      | newest b h ↦ absurd ((q (ap (λ n. n.who) h ∙ we)).unplaced (ap (λ n. occupies_sequence_space (seg n)) h ∙ pe))
     ];
   }
 
   pub other : (k : ℕ) (side : Side) (c : Connection) (sent : List Sent) (e : Sent) → Told k side c sent → (e.who ≡ to k → ⊥) → (e.who ≡ from k → ⊥) → Told k side c (sent ++ e ∷ [])
   other k side c sent e t n f = push_silent k side c sent e t (λ w. absurd (n w))
 
-  pub reset : (k : ℕ) (side : Side) (c : Connection) (sent : List Sent) (e : Sent) → Told k side c sent → e.epoch ≡ length side.past → has_syn (seg e).flags ≡ false → has_fin (seg e).flags ≡ false → (seg e).text ≡ [] → has_rst (seg e).flags ≡ true → e.again ≡ false → e.who ≡ to k → Told k side c (sent ++ e ∷ [])
+  pub reset : (k : ℕ) (side : Side) (c : Connection) (sent : List Sent) (e : Sent) → Told k side c sent → e.epoch ≡ length side.history → has_syn (seg e).flags ≡ false → has_fin (seg e).flags ≡ false → (seg e).text ≡ [] → has_rst (seg e).flags ≡ true → e.again ≡ false → e.who ≡ to k → Told k side c (sent ++ e ∷ [])
   reset k side c sent e t q a b x rs ag w = push_silent k side c sent e t (λ w. record { epoch = omega (arith, q); unplaced = λ p. nothing_placed (seg e) a b x p; unmarked = λ p. absurd (cc) })
 
   -- the connection is gone
@@ -157,8 +157,8 @@ module _ (m : Meaning) (steady : IsSteady m) where
     room = λ x. absurd (cc);
     safe = λ x. absurd (cc);
     was_sent = λ x. absurd (cc);
-    time = λ j e x w. omega (arith, t.time j e x w, length_push side.past (era_of d));
-    tells = λ j e x w p q. absurd (omega (arith, t.time j e x w, length_push side.past (era_of d), q));
+    time = λ j e x w. omega (arith, t.time j e x w, length_push side.history (past_connection_of d));
+    tells = λ j e x w p q. absurd (omega (arith, t.time j e x w, length_push side.history (past_connection_of d), q));
     repeats = t.repeats;
     agree = t.agree;
   }
@@ -166,7 +166,7 @@ module _ (m : Meaning) (steady : IsSteady m) where
   pub evict : (k : ℕ) (side : Side) (c : Connection) (sent : List Sent) → is_live c.state ≡ true → Told k side c sent → Told k (Any.older side c) closed sent
   evict k side c sent l t = leaves k side c c closed sent refl closed_fits closed_lens t
 
-  same_past : (k : ℕ) (side new : Side) (c : Connection) (sent : List Sent) → new.past ≡ side.past → Told k side c sent → Told k new c sent
+  same_past : (k : ℕ) (side new : Side) (c : Connection) (sent : List Sent) → new.history ≡ side.history → Told k side c sent → Told k new c sent
   same_past k side new c sent q t = record {
     fit = t.fit;
     lens = t.lens;
@@ -190,8 +190,8 @@ module _ (m : Meaning) (steady : IsSteady m) where
   due_size : (c : Connection) (st : State) → SafeState m steady Any_low (λ p f. tt) c st → 0 < c.len → c.len ≡ size (due m st c)
   due_size c Closed h l = absurd h
   due_size c SynRcvd h l = h.len
-  due_size c Established h l = (let e = cut_length (m.said c.part) c.part.acked c.len h.fits in omega (arith, e))
-  due_size c CloseWait h l = (let e = cut_length (m.said c.part) c.part.acked c.len h.text.fits in omega (arith, e))
+  due_size c Established h l = (let e = cut_length (m.output c.part) c.part.acked c.len h.fits in omega (arith, e))
+  due_size c CloseWait h l = (let e = cut_length (m.output c.part) c.part.acked c.len h.text.fits in omega (arith, e))
   due_size c FinWait1 h l = h.len
   due_size c FinWait2 h l = absurd (let z = h.len in omega (arith, z, l))
   due_size c Closing h l = h.len
@@ -205,20 +205,20 @@ module _ (m : Meaning) (steady : IsSteady m) where
       let y : one_if (has_syn s.flags) ≡ one_if (has_syn t.flags) = ap (λ n. one_if (has_syn n)) a.flags in
       omega (arith, x, f, y)
 
-  -- what was told of c holds of d, into which it goes on, apart from what is outstanding
+  -- what held of c holds of d, into which it continues, apart from what is outstanding
   module _ (k : ℕ) (side : Side) (c d : Connection) (sent : List Sent) (t : Told k side c sent) (live : is_live c.state ≡ true) (l : is_live d.state ≡ true) (o : Onto m steady Any_low (λ p f. tt) c d) (f : Safe m steady Any_low (λ p f. tt) d) (fit : FitConn d) (lens : Lens d) (near : d.acked ≤ c.acked + c.len) where
-    tells_on : (j : ℕ) (e : Sent) → slice_get sent j ≡ Some e → e.who ≡ to k → has_place (seg e) ≡ true → e.epoch ≡ length side.past → (is_live d.state ≡ true) × (IsOld d (seg e) ⊎ IsDue m steady Any_low (λ p f. tt) d (seg e))
+    tells_on : (j : ℕ) (e : Sent) → slice_get sent j ≡ Some e → e.who ≡ to k → occupies_sequence_space (seg e) ≡ true → e.epoch ≡ length side.history → (is_live d.state ≡ true) × (IsOld d (seg e) ⊎ IsDue m steady Any_low (λ p f. tt) d (seg e))
     tells_on j e x w p q = (
       l,
       elim (t.tells j e x w p q).1 [
-        | inl a ↦ inl record { at = a.at; seq = a.seq ∙ ap (λ n. wrap (n + a.at)) (sym o.first); past = omega (arith, a.past, o.grows) }
+        | inl a ↦ inl record { at = a.at; seq = a.seq ∙ ap (λ n. wrap (n + a.at)) (sym o.iss); history = omega (arith, a.history, o.grows) }
         | inr n ↦ elim (same_or_more c.acked d.acked o.grows) [
           | inl s ↦ (let z = o.kept n.len (sym s) in inr record {
             len = z.0;
-            seq = n.seq ∙ ap (λ x. wrap (x + c.acked)) (sym o.first) ∙ ap (λ x. wrap (d.first + x)) s;
+            seq = n.seq ∙ ap (λ x. wrap (x + c.acked)) (sym o.iss) ∙ ap (λ x. wrap (d.iss + x)) s;
             alike = alike_trans (seg e) (due m c.state c) (due m d.state d) n.alike (alike_sym (due m d.state d) (due m c.state c) z.1);
           })
-          | inr y ↦ inl record { at = c.acked; seq = n.seq ∙ ap (λ x. wrap (x + c.acked)) (sym o.first); past = y }
+          | inr y ↦ inl record { at = c.acked; seq = n.seq ∙ ap (λ x. wrap (x + c.acked)) (sym o.iss); history = y }
         ]
       ],
     )
@@ -237,7 +237,7 @@ module _ (m : Meaning) (steady : IsSteady m) where
           placed = x.placed;
           due_now = record {
             len = y.0;
-            seq = x.due_now.seq ∙ ap (λ n. wrap (n + c.acked)) (sym o.first) ∙ ap (λ n. wrap (d.first + n)) (sym s);
+            seq = x.due_now.seq ∙ ap (λ n. wrap (n + c.acked)) (sym o.iss) ∙ ap (λ n. wrap (d.iss + n)) (sym s);
             alike = alike_trans (seg x.it) (due m c.state c) (due m d.state d) x.due_now.alike (alike_sym (due m d.state d) (due m c.state c) y.1);
           };
         }
@@ -269,17 +269,17 @@ module _ (m : Meaning) (steady : IsSteady m) where
     }
 
     -- a new datagram that has a place
-    module _ (again : Bool) (new : Sent) (who : new.who ≡ to k) (epoch : new.epoch ≡ length side.past) (mark_is : new.again ≡ again) (placed : has_place (seg new) ≡ true) (h : Tells m steady Any_low (λ p f. tt) c d again (seg new)) where
+    module _ (again : Bool) (new : Sent) (who : new.who ≡ to k) (epoch : new.epoch ≡ length side.history) (mark_is : new.again ≡ again) (placed : occupies_sequence_space (seg new) ≡ true) (h : Tells m steady Any_low (λ p f. tt) c d again (seg new)) where
       low : length (sent ++ new ∷ []) ≤ 65535 → d.acked < 4294967296
       low few = (let r = t.room live in omega (arith, few, near, r, length-append sent (new ∷ [])))
 
       -- an earlier datagram at its number is the same, and then this one is a repetition
-      meets : length (sent ++ new ∷ []) ≤ 65535 → (j : ℕ) (e : Sent) → slice_get sent j ≡ Some e → e.who ≡ to k → has_place (seg e) ≡ true → e.epoch ≡ length side.past → (seg e).seq ≡ (seg new).seq → (again ≡ true) × Alike (seg e) (seg new)
+      meets : length (sent ++ new ∷ []) ≤ 65535 → (j : ℕ) (e : Sent) → slice_get sent j ≡ Some e → e.who ≡ to k → occupies_sequence_space (seg e) ≡ true → e.epoch ≡ length side.history → (seg e).seq ≡ (seg new).seq → (again ≡ true) × Alike (seg e) (seg new)
       meets few j e x w p q s =
           elim (t.tells j e x w p q).1 [
-            | inl a ↦ (let z : a.at ≡ d.acked = same_place d.first a.at d.acked (let g = a.past in let b = low few in omega (arith, g, b, o.grows)) (low few) (ap (λ n. wrap (n + a.at)) o.first ∙ sym a.seq ∙ s ∙ h.due_now.seq) in absurd (let g = a.past in omega (arith, g, o.grows, z)))
+            | inl a ↦ (let z : a.at ≡ d.acked = same_place d.iss a.at d.acked (let g = a.history in let b = low few in omega (arith, g, b, o.grows)) (low few) (ap (λ n. wrap (n + a.at)) o.iss ∙ sym a.seq ∙ s ∙ h.due_now.seq) in absurd (let g = a.history in omega (arith, g, o.grows, z)))
             | inr n ↦ (let cl : c.acked < 4294967296 = (let b = low few in omega (arith, b, o.grows)) in
-                let z : c.acked ≡ d.acked = same_place d.first c.acked d.acked cl (low few) (ap (λ x. wrap (x + c.acked)) o.first ∙ sym n.seq ∙ s ∙ h.due_now.seq) in
+                let z : c.acked ≡ d.acked = same_place d.iss c.acked d.acked cl (low few) (ap (λ x. wrap (x + c.acked)) o.iss ∙ sym n.seq ∙ s ∙ h.due_now.seq) in
                 let y = o.kept n.len (sym z) in (
                   must again (λ b. (let g = h.new b n.len in absurd (omega (arith, g, z)))),
                   alike_trans (seg e) (due m c.state c) (seg new) n.alike
@@ -295,7 +295,7 @@ module _ (m : Meaning) (steady : IsSteady m) where
       before_it a =
           let r = h.repeated a in
           let x = t.was_sent live r.0 in
-          let s : (seg x.it).seq ≡ (seg new).seq = x.due_now.seq ∙ ap (λ n. wrap (n + c.acked)) (sym o.first) ∙ ap (λ n. wrap (d.first + n)) (sym r.1) ∙ sym h.due_now.seq in
+          let s : (seg x.it).seq ≡ (seg new).seq = x.due_now.seq ∙ ap (λ n. wrap (n + c.acked)) (sym o.iss) ∙ ap (λ n. wrap (d.iss + n)) (sym r.1) ∙ sym h.due_now.seq in
           record {
             place = x.place;
             earlier = get_inside sent x.it x.place x.there;
@@ -316,7 +316,7 @@ module _ (m : Meaning) (steady : IsSteady m) where
         room = λ x. (let r = t.room live in let n = lens.len in omega (arith, near, r, n, length-append sent (new ∷ [])));
         safe = λ x. f;
         was_sent = λ x z. record { place = length sent; it = new; there = get_newest sent new; who = who; epoch = epoch; placed = placed; due_now = h.due_now };
-        time = λ j e x w. elim (get_push sent new j e x) [ older g ↦ t.time j e g w | newest i g ↦ (let q : e.epoch ≡ length side.past = ap (λ n. n.epoch) (sym g) ∙ epoch in omega (arith, q)) ];
+        time = λ j e x w. elim (get_push sent new j e x) [ older g ↦ t.time j e g w | newest i g ↦ (let q : e.epoch ≡ length side.history = ap (λ n. n.epoch) (sym g) ∙ epoch in omega (arith, q)) ];
         tells = λ j e x w p q. elim (get_push sent new j e x) [
           | older g ↦ tells_on j e g w p q
           | newest i g ↦ (l, inr (subst (λ n. IsDue m steady Any_low (λ p f. tt) d (seg n)) g h.due_now))
@@ -343,20 +343,20 @@ module _ (m : Meaning) (steady : IsSteady m) where
     quiet = λ n l. moves k side old o.connection w.sent t live l (h.onto l) (h.safe l) fit lens near
         (λ z. elim (h.still l z) [
           | inl y ↦ y
-          | inr y ↦ absurd (let e : Some y.said ≡ None = sym y.is ∙ n in cc)
+          | inr y ↦ absurd (let e : Some y.output ≡ None = sym y.is ∙ n in cc)
         ]);
     quiet_last = λ n l. leaves k side old o.connection closed w.sent refl closed_fits closed_lens t;
-    says = λ s e l tick id. Rattle.uip_node.proofs.Basics.both_ways (has_place s)
-        (λ p. says_placed k side old o.connection w.sent t live l (h.onto l) (h.safe l) fit lens near (is_again o.step) (entry (to k) side tick id (speech (is_again o.step) s)) refl refl refl p (h.said s e p))
-        (λ p. push_silent k side o.connection w.sent (entry (to k) side tick id (speech (is_again o.step) s))
+    says = λ s e l tick id. Rattle.uip_node.proofs.Basics.both_ways (occupies_sequence_space s)
+        (λ p. says_placed k side old o.connection w.sent t live l (h.onto l) (h.safe l) fit lens near (is_again o.step) (entry (to k) side tick id (model (is_again o.step) s)) refl refl refl p (h.output s e p))
+        (λ p. push_silent k side o.connection w.sent (entry (to k) side tick id (model (is_again o.step) s))
         (moves k side old o.connection w.sent t live l (h.onto l) (h.safe l) fit lens near
         (λ z. elim (h.still l z) [
           | inl y ↦ y
-          | inr y ↦ absurd (let q : Some y.said ≡ Some s = sym y.is ∙ e in let u : has_place s ≡ true = only_some (λ x. has_place x ≡ true) y.said s q y.placed in cc)
+          | inr y ↦ absurd (let q : Some y.output ≡ Some s = sym y.is ∙ e in let u : occupies_sequence_space s ≡ true = only_some (λ x. occupies_sequence_space x ≡ true) y.output s q y.placed in cc)
         ]))
-        (λ w'. record { epoch = omega arith; unplaced = λ x. absurd (cc); unmarked = λ x. absurd (let u : has_place s ≡ true = h.marked s e x in cc) }));
-    says_last = λ s e l tick id. push_silent k (Any.older side o.connection) closed w.sent (entry (to k) (Any.older side o.connection) tick id (speech (is_again o.step) s)) (leaves k side old o.connection closed w.sent refl closed_fits closed_lens t)
-        (λ w'. record { epoch = omega arith; unplaced = λ x. absurd (let u : is_live o.connection.state ≡ true = (h.said s e x).live in cc); unmarked = λ x. absurd (let u : is_live o.connection.state ≡ true = (h.said s e (h.marked s e x)).live in cc) });
+        (λ w'. record { epoch = omega arith; unplaced = λ x. absurd (cc); unmarked = λ x. absurd (let u : occupies_sequence_space s ≡ true = h.marked s e x in cc) }));
+    says_last = λ s e l tick id. push_silent k (Any.older side o.connection) closed w.sent (entry (to k) (Any.older side o.connection) tick id (model (is_again o.step) s)) (leaves k side old o.connection closed w.sent refl closed_fits closed_lens t)
+        (λ w'. record { epoch = omega arith; unplaced = λ x. absurd (let u : is_live o.connection.state ≡ true = (h.output s e x).live in cc); unmarked = λ x. absurd (let u : is_live o.connection.state ≡ true = (h.output s e (h.marked s e x)).live in cc) });
   }
 
   some_mss : (n : ℕ) → 0 < (if eqb n 0 then 536 else min OWN_MSS n)
@@ -366,20 +366,20 @@ module _ (m : Meaning) (steady : IsSteady m) where
   mss_some None = omega arith
   mss_some (Some n) = some_mss n
 
-  pub birth : (w : World) (first : ℕ) (sockets : Sockets) (k j : ℕ) (side : Side) (e : Sent) → client_sockets side ≡ sockets → slice_get w.sent j ≡ Some e → e.who ≡ from k → (is_clean side ≡ true → e.epoch ≡ length side.past) → is_plain_syn (seg e) ≡ true → FitConn (accepted first sockets (seg e)) → Told k side closed w.sent →
-      (tick id : ℕ) → Told k side (accepted first sockets (seg e)) (w.sent ++ entry (to k) side tick id (speech false (syn_ack (accepted first sockets (seg e)))) ∷ [])
-  birth w first sockets k j side e own sent who fresh plain fit t tick id =
-      let c : Connection = accepted first sockets (seg e) in
-      let new : Sent = entry (to k) side tick id (speech false (syn_ack c)) in
+  pub birth : (w : World) (iss : ℕ) (sockets : Sockets) (k j : ℕ) (side : Side) (e : Sent) → client_sockets side ≡ sockets → slice_get w.sent j ≡ Some e → e.who ≡ from k → (is_clean side ≡ true → e.epoch ≡ length side.history) → is_plain_syn (seg e) ≡ true → FitConn (accepted iss sockets (seg e)) → Told k side closed w.sent →
+      (tick id : ℕ) → Told k side (accepted iss sockets (seg e)) (w.sent ++ entry (to k) side tick id (model false (syn_ack (accepted iss sockets (seg e)))) ∷ [])
+  birth w iss sockets k j side e own sent who fresh plain fit t tick id =
+      let c : Connection = accepted iss sockets (seg e) in
+      let new : Sent = entry (to k) side tick id (model false (syn_ack c)) in
       let due_now : IsDue m steady Any_low (λ p f. tt) c (syn_ack c) = record { len = omega arith; seq = refl; alike = alike_refl (syn_ack c) } in
-      let none : (j : ℕ) (x : Sent) → slice_get w.sent j ≡ Some x → x.who ≡ to k → has_place (seg x) ≡ true → x.epoch ≡ length side.past → ⊥ = λ j x g w p q. absurd (let z = (t.tells j x g w p q).0 in cc) in
+      let none : (j : ℕ) (x : Sent) → slice_get w.sent j ≡ Some x → x.who ≡ to k → occupies_sequence_space (seg x) ≡ true → x.epoch ≡ length side.history → ⊥ = λ j x g w p q. absurd (let z = (t.tells j x g w p q).0 in cc) in
       record {
         fit = fit;
-        lens = accepted_lens first sockets (seg e);
+        lens = accepted_lens iss sockets (seg e);
         room = λ l. omega (arith, length-append w.sent (new ∷ []));
         safe = λ l. record { mss = mss_some (seg e).mss; initial = mss_some (seg e).mss; state = record { len = refl; acked = refl } };
         was_sent = λ x z. record { place = length w.sent; it = new; there = get_newest w.sent new; who = refl; epoch = refl; placed = refl; due_now = due_now };
-        time = λ i x g wh. elim (get_push w.sent new i x g) [ older h ↦ t.time i x h wh | newest b h ↦ (let q : x.epoch ≡ length side.past = ap (λ n. n.epoch) (sym h) in omega (arith, q)) ];
+        time = λ i x g wh. elim (get_push w.sent new i x g) [ older h ↦ t.time i x h wh | newest b h ↦ (let q : x.epoch ≡ length side.history = ap (λ n. n.epoch) (sym h) in omega (arith, q)) ];
         tells = λ i x g wh p q. elim (get_push w.sent new i x g) [ older h ↦ absurd (none i x h wh p q) | newest b h ↦ (refl, inr (subst (λ n. IsDue m steady Any_low (λ p f. tt) c (seg n)) h due_now)) ];
         repeats = λ i x g wh a. elim (get_push w.sent new i x g) [ older h ↦ before_more w.sent new x i (t.repeats i x h wh a) | newest b h ↦ absurd (let z : false ≡ true = ap (λ n. n.again) h ∙ a in cc) ];
         agree = λ few i j x y g g' lt we wf ep pe pf se. elim (get_push w.sent new i x g) [
@@ -394,13 +394,13 @@ module _ (m : Meaning) (steady : IsSteady m) where
         ];
       }
 
-  -- a client's step leaves what the node said
-  pub takes : (w : World) (k : ℕ) (base : Side) (c : Connection) (step : ClientStep) → Told k base c w.sent → Takes m Told other reset evict mark w k base c step
+  -- a client's step leaves what the node sent unchanged
+  pub takes : (w : World) (k : ℕ) (base : Side) (c : Connection) (step : ClientStep) → Told k base c w.sent → Refines m Told other reset evict mark w k base c step
   takes w k base c step t =
       let good : Told k (with_client base step.client) c w.sent = same_past k base (with_client base step.client) c w.sent refl t in
-      record { quiet = λ n. good; says = λ s e tick. push_silent k (with_client base step.client) c w.sent (entry (from k) (with_client base step.client) tick 0 (speech false s)) good (λ x. absurd (cc)) }
+      record { quiet = λ n. good; says = λ s e tick. push_silent k (with_client base step.client) c w.sent (entry (from k) (with_client base step.client) tick 0 (model false s)) good (λ x. absurd (cc)) }
 
-  pub opening_told : (addr : Addr) (numbers : List ℕ) (plan : List Planned) → IsPlan plan → Framed m Told other reset evict mark (opening_world addr numbers plan)
+  pub opening_told : (addr : Addr) (numbers : List ℕ) (plan : List Planned) → IsPlan plan → Framed m Told other reset evict mark (initial_world addr numbers plan)
   opening_told addr numbers plan is = record {
     apart = opening_apart plan is;
     single = λ p i j x y a b u v. absurd (let z = none_serves 10 p i x a in cc);
@@ -431,13 +431,14 @@ pub record IsSegment (content : Content) : Type 0 where
   pub segment : PlainSegment
   pub is : content ≡ OfSegment id segment
 
-is_segment : (content : Content) → has_place (segment_in content) ≡ true → IsSegment content
+is_segment : (content : Content) → occupies_sequence_space (segment_in content) ≡ true → IsSegment content
 is_segment (OfSegment id s) h = record { id = id; segment = s; is = refl }
 is_segment (OfPing d) h = absurd (let z : false ≡ true = h in cc)
 is_segment (OfEcho d) h = absurd (let z : false ≡ true = h in cc)
 
--- what is told of a world says that it repeats the same bytes, and, where it has no more datagrams than it can have, that it marks repeats
-module _ (m : Meaning) (steady : IsSteady m) (w : World)
+-- what is known of a world implies that it repeats the same bytes. If it has no more datagrams than it can have, it also marks
+-- repeats.
+module _ (m : AppSpec) (steady : IsSteady m) (w : World)
     (told : (k : ℕ) (side : Side) → slice_get w.sides k ≡ Some side → Told m steady k side (serving (client_sockets side) w.node.connections) w.sent) where
   repeats_bytes : RepeatsSameBytes w
   repeats_bytes k side x i e id s g who content again =
@@ -455,7 +456,7 @@ module _ (m : Meaning) (steady : IsSteady m) (w : World)
           id = c.id;
           segment = c.segment;
           content = c.is;
-          placed = ap has_place (sym t) ∙ b.placed;
+          placed = ap occupies_sequence_space (sym t) ∙ b.placed;
           seq = ap (λ n. n.seq) (sym t) ∙ b.seq ∙ ap (λ n. n.seq) q;
           alike = subst (λ n. Alike c.segment n) q (subst (λ n. Alike n (seg e)) t b.alike);
         },
@@ -465,17 +466,17 @@ module _ (m : Meaning) (steady : IsSteady m) (w : World)
   marks_repeats few k side x i j e f id id' s t g h lt we wf ce cf ep se pe pf =
       let q : seg e ≡ s = ap segment_in ce in
       let q' : seg f ≡ t = ap segment_in cf in
-      let a = (told k side x).agree few i j e f g h lt we wf ep (ap has_place q ∙ pe) (ap has_place q' ∙ pf) (ap (λ n. n.seq) q ∙ se ∙ ap (λ n. n.seq) (sym q')) in
+      let a = (told k side x).agree few i j e f g h lt we wf ep (ap occupies_sequence_space q ∙ pe) (ap occupies_sequence_space q' ∙ pf) (ap (λ n. n.seq) q ∙ se ∙ ap (λ n. n.seq) (sym q')) in
       (a.0, subst (λ n. Alike n s) q' (subst (λ n. Alike (seg f) n) q a.1))
 
-module _ (m : Meaning) (steady : IsSteady m) where
+module _ (m : AppSpec) (steady : IsSteady m) where
   abbrev ToldWorld : World → Type 0
   ToldWorld v = Framed m (Told m steady) (other m steady) (reset m steady) (evict m steady) (mark m steady) v
 
   told_plainly : (w : World) → IsReachedPlainly m w → ToldWorld w
   told_plainly w r = reached_plainly m steady ToldWorld (told_step m steady) (opening_told m steady) w r
 
-  -- and where bytes are said, damage or not
+  -- and if bytes are sent, damage or not
   told_where : (pages : Pages) (H : Connection → Type 0) → (HasBytes pages → SaysBytesWhere m H) → (w : World) → IsReached m pages w → ToldWorld w
   told_where pages H bytes w r = reached_where m pages steady H bytes ToldWorld (told_step m steady) (opening_told m steady) w r
 
@@ -485,10 +486,10 @@ same_bytes_plainly m steady w r = repeats_bytes m steady w (told_plainly m stead
 pub again_exactly_plainly : AgainExactlyPlainly
 again_exactly_plainly m steady w r = marks_repeats m steady w (told_plainly m steady w r).each (room_plainly m w r)
 
-pub same_bytes_where : (m : Meaning) (pages : Pages) (steady : IsSteady m) (H : Connection → Type 0) → (HasBytes pages → SaysBytesWhere m H) → (w : World) → IsReached m pages w → RepeatsSameBytes w
+pub same_bytes_where : (m : AppSpec) (pages : Pages) (steady : IsSteady m) (H : Connection → Type 0) → (HasBytes pages → SaysBytesWhere m H) → (w : World) → IsReached m pages w → RepeatsSameBytes w
 same_bytes_where m pages steady H bytes w r = repeats_bytes m steady w (told_where m steady pages H bytes w r).each
 
-pub again_exactly_where : (m : Meaning) (pages : Pages) (steady : IsSteady m) (H : Connection → Type 0) → (HasBytes pages → SaysBytesWhere m H) → (w : World) → IsReached m pages w → MarksRepeats w
+pub again_exactly_where : (m : AppSpec) (pages : Pages) (steady : IsSteady m) (H : Connection → Type 0) → (HasBytes pages → SaysBytesWhere m H) → (w : World) → IsReached m pages w → MarksRepeats w
 again_exactly_where m pages steady H bytes w r = marks_repeats m steady w (told_where m steady pages H bytes w r).each (room_where m pages steady H bytes w r)
 
 -- an application whose text is a page

@@ -1,51 +1,51 @@
 -- A small application with a page of pieces, some of them made from a capture, for the computed rows.
 use Rattle.std.specs.Prelude.{ℕ, ◌+◌, ◌-◌, ◌==◌, ◌&&◌, min, Bool, true, false, not, List, [], ◌∷◌, ◌++◌, length, nat_lt, if◌then◌else◌}
-use Rattle.app_events.specs.Part.{Part, Moment, Meaning}
+use Rattle.app_events.specs.AppSpec.{AppState, Snapshot, AppSpec}
 use Rattle.app_events.specs.declared.want.Want.{Want}
 use Rattle.app_events.specs.declared.want.Want.TheVariants.{Nothing, Send, Close, Abort}
 
 pub data Piece : Type 0 where
   Plain : (text : List ℕ) → Piece
-  Made : (text : Moment → List ℕ) → Piece
+  Made : (text : Snapshot → List ℕ) → Piece
 
 -- the pieces joined, up to the first that needs a capture which is not there
-abbrev pub joined : List Piece → List Moment → List ℕ
+abbrev pub joined : List Piece → List Snapshot → List ℕ
 joined [] k = []
 joined (Plain text ∷ more) k = text ++ joined more k
 joined (Made text ∷ more) [] = []
-joined (Made text ∷ more) (moment ∷ k) = text moment ++ joined more k
+joined (Made text ∷ more) (snapshot ∷ k) = text snapshot ++ joined more k
 
-abbrev pub all_there : List Piece → List Moment → Bool
+abbrev pub all_there : List Piece → List Snapshot → Bool
 all_there [] k = true
 all_there (Plain text ∷ more) k = all_there more k
 all_there (Made text ∷ more) [] = false
-all_there (Made text ∷ more) (moment ∷ k) = all_there more k
+all_there (Made text ∷ more) (snapshot ∷ k) = all_there more k
 
 -- a request is decided at its sixth byte
 abbrev pub is_decided : List ℕ → Bool
-is_decided heard = nat_lt 5 (length heard)
+is_decided delivered = nat_lt 5 (length delivered)
 
-abbrev pub page : List Piece → Part → List ℕ
-page pieces p = if is_decided p.heard then joined pieces p.captures else []
+abbrev pub page : List Piece → AppState → List ℕ
+page pieces p = if is_decided p.delivered then joined pieces p.captures else []
 
-abbrev pub is_whole : List Piece → Part → Bool
-is_whole pieces p = is_decided p.heard && all_there pieces p.captures
+abbrev pub is_whole : List Piece → AppState → Bool
+is_whole pieces p = is_decided p.delivered && all_there pieces p.captures
 
-abbrev pub wants : Part → Bool → ℕ → Want
-wants p whole said =
+abbrev pub wants : AppState → Bool → ℕ → Want
+wants p whole output =
     if p.polls == 20 then Abort
-    else if whole && (p.acked == said) then Close
-    else if nat_lt p.acked said then Send (min 1460 (said - p.acked))
+    else if whole && (p.acked == output) then Close
+    else if nat_lt p.acked output then Send (min 1460 (output - p.acked))
     else Nothing
 
-abbrev pub needs_capture : List Piece → Part → Bool
-needs_capture pieces p = is_decided p.heard && (not (all_there pieces p.captures) && (p.acked == length (joined pieces p.captures)))
+abbrev pub needs_capture : List Piece → AppState → Bool
+needs_capture pieces p = is_decided p.delivered && (not (all_there pieces p.captures) && (p.acked == length (joined pieces p.captures)))
 
-abbrev pub sample : List Piece → Meaning
+abbrev pub sample : List Piece → AppSpec
 sample pieces = record {
-  said = λ p. page pieces p;
-  connected = λ numbers port. record { part = record { port = port; heard = []; captures = []; acked = 0; polls = 0; own = 0 }; numbers = numbers };
-  newdata = λ numbers p piece. record { part = record p { heard = p.heard ++ piece; polls = 0 }; numbers = numbers };
+  output = λ p. page pieces p;
+  connected = λ numbers port. record { part = record { port = port; delivered = []; captures = []; acked = 0; polls = 0; own = 0 }; numbers = numbers };
+  newdata = λ numbers p piece. record { part = record p { delivered = p.delivered ++ piece; polls = 0 }; numbers = numbers };
   prepare = λ numbers p now. (if needs_capture pieces p then record p { captures = p.captures ++ record { numbers = numbers; now = now } ∷ [] } else p);
   want = λ numbers p. wants p (is_whole pieces p) (length (page pieces p));
   acked = λ numbers p n. record { part = record p { acked = p.acked + n; polls = 0 }; numbers = numbers };

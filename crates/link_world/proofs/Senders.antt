@@ -1,31 +1,31 @@
--- Each datagram is a client's, a pinger's or the node's, and the node speaks to clients alone.
+-- Each datagram is a client's, a pinger's or the node's, and the node sends to clients alone.
 use Rattle.std.proofs.Common.{◌≡◌, ℕ, zero, suc, Bool, true, false, ◌&&◌, List, [], ◌∷◌, ◌++◌, map, set, refl, sym, ap, ◌∙◌, subst, arith, Option, Some, None, slice_get, slice_index_or}
 use Rattle.std.specs.Prelude.{option_map}
 use Rattle.std.specs.Option.{option_map_or}
 use Rattle.std.proofs.lemmas.Option.{slice_get-map}
 use Rattle.tcp_segment.specs.Segments.{PlainSegment, has_rst}
-use Rattle.app_events.specs.Part.{Meaning}
+use Rattle.app_events.specs.AppSpec.{AppSpec}
 use Rattle.app_events.specs.Pages.{Pages, IsPaged}
 use Rattle.tcp_machine.specs.Connection.{Sockets, Connection, closed, is_live, serves, same_sockets}
-use Rattle.tcp_machine.specs.Segments.{is_plain_syn, segment_of, is_again, reset_to_none}
+use Rattle.tcp_machine.specs.Segments.{is_plain_syn, segment_of, is_again, reset_for_no_connection}
 use Rattle.tcp_machine.specs.Ask.{Outcome, leaves, asked}
 use Rattle.tcp_machine.specs.OnSegment.{accept, on_segment}
 use Rattle.tcp_machine.specs.OnTick.{on_tick}
 use Rattle.tcp_machine.specs.declared.step.Step.{Step}
-use Rattle.uip_node.specs.Events.{Event, Answer, Past, Reply}
+use Rattle.uip_node.specs.Events.{Event, Answer, HistoryEntry, Reply}
 use Rattle.uip_node.specs.Events.Event.{Arrived, EchoAsked, Periodic}
 use Rattle.uip_node.specs.Events.Answer.{Silent, Spoke, NoSlot}
 use Rattle.uip_node.specs.Events.Reply.{Echo, Tcp}
 use Rattle.uip_node.specs.Counters.{initial_number, ident_of}
-use Rattle.uip_node.specs.Node.{AbstractNode, NodeStep, moment, happened, connection_in, slot_for_syn, passes, refuses, opens_in, opens, from_stranger, arrives_at, step}
-use Rattle.link_client.specs.Client.{AbstractClient, ClientStep, client_takes, client_opens, client_again, client_closes, client_aborts, tells_window}
+use Rattle.uip_node.specs.Node.{AbstractNode, NodeStep, snapshot, happened, connection_in, slot_for_syn, passes, refuses, opens_in, opens, for_no_connection, arrives_at, step}
+use Rattle.link_client.specs.Client.{AbstractClient, ClientStep, client_takes, client_opens, client_again, client_closes, client_aborts, advertises_window}
 use Rattle.link_client.specs.declared.setup.Setup.{Setup}
-use Rattle.link_world.specs.World.{World, Side, Sent, Content, client_sockets, buries, buries_in, addressed, posts, posts_reply, node_stepped, node_handles, with_client, with_side, client_stepped, marked, delivers}
+use Rattle.link_world.specs.World.{World, Side, Sent, Content, client_sockets, retires, retires_in, addressed, posts, posts_reply, node_stepped, node_handles, with_client, with_side, client_stepped, marked, delivers}
 use Rattle.link_world.specs.World.Content.{OfSegment, OfPing, OfEcho}
 use Rattle.link_world.specs.Bytes.{ping_from}
 use Rattle.link_world.specs.Acts.{client_acts, handles_all, does}
 use Rattle.uip_node.specs.Laws.{serving}
-use Rattle.link_world.specs.History.{Planned, opening_world}
+use Rattle.link_world.specs.History.{Planned, initial_world}
 use Rattle.link_world.specs.declared.act.Act.{Act}
 use Rattle.link_world.specs.declared.who.Who.{Who}
 use Rattle.link_world.specs.declared.who.Who.TheVariants.{FromClient, FromNode, Pinger}
@@ -119,9 +119,9 @@ put_stays (s ∷ ss) zero side new at e (suc k) old h = record { new = old; get 
 put_stays (s ∷ ss) (suc n) side new at e zero old h = record { new = old; get = h; same = refl }
 put_stays (s ∷ ss) (suc n) side new at e (suc k) old h = let r : Stays (set ss n new) k old = put_stays ss n side new at e k old h in record { new = r.new; get = r.get; same = r.same }
 
-buries_stay : (gone : Option Connection) (sides : List Side) → AllStay sides (buries gone sides)
+buries_stay : (gone : Option Connection) (sides : List Side) → AllStay sides (retires gone sides)
 buries_stay None sides k side h = record { new = side; get = h; same = refl }
-buries_stay (Some g) sides k side h = record { new = buries_in g side; get = slice_get-map (buries_in g) sides k ∙ ap (λ (o : Option Side). Rattle.std.specs.Prelude.option_map (buries_in g) o) h; same = buried_sockets (Some g) side }
+buries_stay (Some g) sides k side h = record { new = retires_in g side; get = slice_get-map (retires_in g) sides k ∙ ap (λ (o : Option Side). Rattle.std.specs.Prelude.option_map (retires_in g) o) h; same = buried_sockets (Some g) side }
 
 -- ---- one more datagram
 
@@ -147,7 +147,7 @@ MaySay sides sent (Tcp sockets id again s) = HasClient sides sockets
 
 record StepFrom (sides : List Side) (sent : List Sent) (r : NodeStep) : Type 0 where
   conns : HaveClients sides r.node.connections
-  said : (x : Reply) → r.sent ≡ Some x → MaySay sides sent x
+  output : (x : Reply) → r.sent ≡ Some x → MaySay sides sent x
 
 -- the client with these sockets is addressed
 is_number : (sides : List Side) (p : Sockets) → HasClient sides p → IsNumberOf sides (addressed 1 p sides)
@@ -167,10 +167,10 @@ say_stays a b sent (Tcp sockets id again s) f h = client_stays a b sockets f h
 
 stepped_from : (w : World) (r : NodeStep) → StepFrom w.sides w.sent r → HasSenders w → HasSenders (node_stepped w r)
 stepped_from w r g h =
-    let stay : AllStay w.sides (buries r.gone w.sides) = buries_stay r.gone w.sides in
-    reply_from (record w { node = r.node; sides = buries r.gone w.sides }) r.sent (λ x e. say_stays w.sides (buries r.gone w.sides) w.sent x stay (g.said x e)) record {
-      conns = clients_stay w.sides (buries r.gone w.sides) r.node.connections stay g.conns;
-      sent = senders_stay w.sides (buries r.gone w.sides) w.sent stay h.sent;
+    let stay : AllStay w.sides (retires r.gone w.sides) = buries_stay r.gone w.sides in
+    reply_from (record w { node = r.node; sides = retires r.gone w.sides }) r.sent (λ x e. say_stays w.sides (retires r.gone w.sides) w.sent x stay (g.output x e)) record {
+      conns = clients_stay w.sides (retires r.gone w.sides) r.node.connections stay g.conns;
+      sent = senders_stay w.sides (retires r.gone w.sides) w.sent stay h.sent;
     }
 
 module _ (sides : List Side) (sent : List Sent) where
@@ -185,45 +185,45 @@ module _ (sides : List Side) (sent : List Sent) where
   index_client (c ∷ cs) zero h l = h zero c refl l
   index_client (c ∷ cs) (suc i) h l = index_client cs i (λ j x g. h (suc j) x g) l
 
-  replies_from : (said : Option PlainSegment) (sockets : Sockets) (id : ℕ) (again : Bool) → ((s : PlainSegment) → said ≡ Some s → HasClient sides sockets) → (x : Reply) → option_map (λ s. Tcp sockets id again s) said ≡ Some x → MaySay sides sent x
+  replies_from : (output : Option PlainSegment) (sockets : Sockets) (id : ℕ) (again : Bool) → ((s : PlainSegment) → output ≡ Some s → HasClient sides sockets) → (x : Reply) → option_map (λ s. Tcp sockets id again s) output ≡ Some x → MaySay sides sent x
   replies_from None sockets id again f x e = absurd (cc)
   replies_from (Some s) sockets id again f x e = only_some (λ r. MaySay sides sent r) (Tcp sockets id again s) x e (f s refl)
 
-  module _ (m : Meaning) where
+  module _ (m : AppSpec) where
     happened_from : (n : AbstractNode) (event : Event) (slot : ℕ) (old : Connection) (o : Outcome) → (is_live o.connection.state ≡ true → HasClient sides o.connection.sockets) →
         ((s : PlainSegment) → segment_of m o.connection o.step ≡ Some s → HasClient sides o.connection.sockets) → HaveClients sides n.connections → StepFrom sides sent (happened m n event slot old o)
     unfolding happened
     happened_from n event slot old o f g h = record {
       conns = set_clients n.connections slot o.connection f h;
-      said = (let past : List Past = record { event = event; answer = option_map_or (λ s. Spoke (is_again o.step)) (segment_of m o.connection o.step) Silent } ∷ n.past in
-          replies_from (segment_of m o.connection o.step) o.connection.sockets (ident_of past) (is_again o.step) g);
+      output = (let history : List HistoryEntry = record { event = event; answer = option_map_or (λ s. Spoke (is_again o.step)) (segment_of m o.connection o.step) Silent } ∷ n.history in
+          replies_from (segment_of m o.connection o.step) o.connection.sockets (ident_of history) (is_again o.step) g);
     }
 
     still_from : (n : AbstractNode) (event : Event) (answer : Answer) → HaveClients sides n.connections → StepFrom sides sent (passes n event answer)
-    still_from n event answer h = record { conns = h; said = λ x e. absurd (cc) }
+    still_from n event answer h = record { conns = h; output = λ x e. absurd (cc) }
 
     opens_from : (n : AbstractNode) (p : Sockets) (s : PlainSegment) (slot : Option ℕ) → HasClient sides p → HaveClients sides n.connections → StepFrom sides sent (opens m n p s slot)
     unfolding opens_in
     opens_from n p s None c h = still_from n (Arrived p s) NoSlot h
     opens_from n p s (Some slot) c h =
-        let g : StepFrom sides sent (happened m n (Arrived p s) slot (connection_in slot n) (accept (initial_number n.past) p s n.numbers)) =
-        happened_from n (Arrived p s) slot (connection_in slot n) (accept (initial_number n.past) p s n.numbers) (λ l. c) (λ x e. c) h in
-        record { conns = g.conns; said = g.said }
+        let g : StepFrom sides sent (happened m n (Arrived p s) slot (connection_in slot n) (accept (initial_number n.history) p s n.numbers)) =
+        happened_from n (Arrived p s) slot (connection_in slot n) (accept (initial_number n.history) p s n.numbers) (λ l. c) (λ x e. c) h in
+        record { conns = g.conns; output = g.output }
 
     refuses_from : (n : AbstractNode) (p : Sockets) (s : PlainSegment) → HasClient sides p → HaveClients sides n.connections → StepFrom sides sent (refuses n p s)
     refuses_from n p s c h = record {
       conns = h;
-      said = λ x e. (let past : List Past = record { event = Arrived p s; answer = Spoke false } ∷ n.past in
-          only_some (λ r. MaySay sides sent r) (Tcp p (ident_of past) false (reset_to_none s)) x e c);
+      output = λ x e. (let history : List HistoryEntry = record { event = Arrived p s; answer = Spoke false } ∷ n.history in
+          only_some (λ r. MaySay sides sent r) (Tcp p (ident_of history) false (reset_for_no_connection s)) x e c);
     }
 
-    stranger_from : (served : ℕ → Bool) (n : AbstractNode) (p : Sockets) (s : PlainSegment) → HasClient sides p → HaveClients sides n.connections → StepFrom sides sent (from_stranger m served n p s)
-    unfolding from_stranger
+    stranger_from : (served : ℕ → Bool) (n : AbstractNode) (p : Sockets) (s : PlainSegment) → HasClient sides p → HaveClients sides n.connections → StepFrom sides sent (for_no_connection m served n p s)
+    unfolding for_no_connection
     stranger_from served n p s c h =
         choose (λ x. StepFrom sides sent x) (is_plain_syn s && served p.own_port.0) _ _ (λ e. opens_from n p s (slot_for_syn n.connections) c h)
         (λ e. choose (λ x. StepFrom sides sent x) (has_rst s.flags) _ _ (λ q. still_from n (Arrived p s) Silent h) (λ q. refuses_from n p s c h))
 
-    -- a connection that keeps its sockets goes on
+    -- a connection that has the same sockets continues
     goes_on_from : (n : AbstractNode) (event : Event) (slot : ℕ) (c : Connection) (o : Outcome) → o.connection.sockets ≡ c.sockets → HasClient sides c.sockets → HaveClients sides n.connections → StepFrom sides sent (happened m n event slot c o)
     goes_on_from n event slot c o e k h =
         let known : HasClient sides o.connection.sockets = subst (λ p. HasClient sides p) (sym e) k in
@@ -236,7 +236,7 @@ module _ (sides : List Side) (sent : List Sent) where
     arrives_from served n p s c slot q e k h =
         let old : Connection = connection_in slot n in
         let o : Outcome = on_segment m old n.numbers s in
-        goes_on_from n (Arrived p s) slot old (asked m (moment n (Arrived p s) slot) o) (asked_keeps m (moment n (Arrived p s) slot) old o (on_segment_keeps m old n.numbers s))
+        goes_on_from n (Arrived p s) slot old (asked m (snapshot n (Arrived p s) slot) o) (asked_keeps m (snapshot n (Arrived p s) slot) old o (on_segment_keeps m old n.numbers s))
         (subst (λ (z : Sockets). HasClient sides z) (sym (ap (λ (z : Connection). z.sockets) q ∙ served_sockets p c e)) k) h
 
     arrival_from : (served : ℕ → Bool) (n : AbstractNode) (p : Sockets) (s : PlainSegment) → HasClient sides p → HaveClients sides n.connections → StepFrom sides sent (step m served n (Arrived p s))
@@ -254,8 +254,8 @@ module _ (sides : List Side) (sent : List Sent) where
         let c : Connection = connection_in slot n in
         let o : Outcome = on_tick m c n.numbers in
         both_ways (is_live c.state)
-        (λ l. goes_on_from n (Periodic slot) slot c (asked m (moment n (Periodic slot) slot) o) (asked_keeps m (moment n (Periodic slot) slot) c o (on_tick_keeps m c n.numbers)) (index_client n.connections slot h l) h)
-        (λ l. subst (λ (x : Outcome). StepFrom sides sent (happened m n (Periodic slot) slot c (asked m (moment n (Periodic slot) slot) x))) (sym (on_tick_closed m c n.numbers l))
+        (λ l. goes_on_from n (Periodic slot) slot c (asked m (snapshot n (Periodic slot) slot) o) (asked_keeps m (snapshot n (Periodic slot) slot) c o (on_tick_keeps m c n.numbers)) (index_client n.connections slot h l) h)
+        (λ l. subst (λ (x : Outcome). StepFrom sides sent (happened m n (Periodic slot) slot c (asked m (snapshot n (Periodic slot) slot) x))) (sym (on_tick_closed m c n.numbers l))
         (happened_from n (Periodic slot) slot c (leaves c n.numbers Step.Drop) (λ e. absurd (let z : true ≡ false = sym e ∙ l in cc)) (λ s e. absurd (nothing_said c s e)) h))
 
 -- ---- the acts
@@ -285,7 +285,7 @@ loss_from w v l h =
     let sent : AllFrom w.sides v.sent = subst (λ t. AllFrom w.sides t) (sym l.sent) h.sent in
     record { conns = subst (λ s. HaveClients s v.node.connections) (sym l.sides) conns; sent = subst (λ s. AllFrom s v.sent) (sym l.sides) sent }
 
-module _ (m : Meaning) (served : ℕ → Bool) where
+module _ (m : AppSpec) (served : ℕ → Bool) where
   gives_node_from : (w : World) (n k : ℕ) (e : Sent) (s : PlainSegment) (side : Side) → slice_get w.sides n ≡ Some side → HasSenders w
       → HasSenders (node_handles m served (with_side w (suc n) (marked side k e)) (Arrived (client_sockets side) s))
   gives_node_from w n k e s side at h =
@@ -295,7 +295,7 @@ module _ (m : Meaning) (served : ℕ → Bool) where
       (arrival_from v.sides v.sent m served v.node (client_sockets side) s record { index = n; side = marked side k e; get = get_set_same w.sides n side (marked side k e) at; same = refl } g.conns) g
 
   echo_from : (w : World) (datagram : List ℕ) → IsAsked w.sent datagram → HasSenders w → HasSenders (node_handles m served w (EchoAsked datagram))
-  echo_from w datagram a h = stepped_from w (step m served w.node (EchoAsked datagram)) record { conns = h.conns; said = λ x e. only_some (λ r. MaySay w.sides w.sent r) (Echo datagram) x e a } h
+  echo_from w datagram a h = stepped_from w (step m served w.node (EchoAsked datagram)) record { conns = h.conns; output = λ x e. only_some (λ r. MaySay w.sides w.sent r) (Echo datagram) x e a } h
 
   delivers_from : (w : World) (k : ℕ) (e : Sent) (who : Who) (content : Content) → ((datagram : List ℕ) → content ≡ OfPing datagram → IsAsked w.sent datagram) → HasSenders w → HasSenders (delivers m served w k e who content)
   delivers_from w k e (FromClient number) (OfSegment id s) a h =
@@ -327,7 +327,7 @@ module _ (m : Meaning) (served : ℕ → Bool) where
   does_from w (Act.Again n) l h = act_from w n client_again again_setup h
   does_from w (Act.Closes n) l h = act_from w n client_closes closes_setup h
   does_from w (Act.Aborts n) l h = act_from w n client_aborts aborts_setup h
-  does_from w (Act.Window n x) l h = act_from w n (tells_window x) (λ c. refl) h
+  does_from w (Act.Window n x) l h = act_from w n (advertises_window x) (λ c. refl) h
   does_from w (Act.Ping source) l h = posts_from w Pinger false (OfPing (ping_from source w.node.addr)) (tt, tt) h
   does_from w (Act.Give k) l h =
       at_number HasSenders (λ i e. delivers m served w i e e.who e.content) w.sent k w h
@@ -335,13 +335,13 @@ module _ (m : Meaning) (served : ℕ → Bool) where
   does_from w (Act.Damage k at mask) l h = loss_from w (does m served w (Act.Damage k at mask)) l h
   does_from w Act.Tick l h = slots_from (0 ∷ 1 ∷ 2 ∷ 3 ∷ 4 ∷ 5 ∷ 6 ∷ 7 ∷ 8 ∷ 9 ∷ []) w h
 
-opening_from : (addr : Rattle.uip_wire.specs.declared.addr.Addr.Addr) (numbers : List ℕ) (plan : List Planned) → HasSenders (opening_world addr numbers plan)
+opening_from : (addr : Rattle.uip_wire.specs.declared.addr.Addr.Addr) (numbers : List ℕ) (plan : List Planned) → HasSenders (initial_world addr numbers plan)
 opening_from addr numbers plan = record {
-  conns = λ i c x. subst (λ (z : Connection). is_live z.state ≡ true → HasClient (opening_world addr numbers plan).sides z.sockets) (all_closed 10 i c x) (λ l. absurd (cc));
+  conns = λ i c x. subst (λ (z : Connection). is_live z.state ≡ true → HasClient (initial_world addr numbers plan).sides z.sockets) (all_closed 10 i c x) (λ l. absurd (cc));
   sent = λ k e x. absurd (cc);
 }
 
-pub has_senders : (m : Meaning) (pages : Pages) → IsPaged m pages → (w : World) → IsReached m pages w → HasSenders w
+pub has_senders : (m : AppSpec) (pages : Pages) → IsPaged m pages → (w : World) → IsReached m pages w → HasSenders w
 has_senders m pages lawful w r = reached m pages lawful (λ v. HasSenders v) (λ served v act l h f. does_from m served v act l h) (λ addr numbers plan is. opening_from addr numbers plan) w r
 
 pub sent_to_clients : SentToClients

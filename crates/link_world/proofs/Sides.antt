@@ -1,7 +1,7 @@
--- What the world's acts do to the sides, in small.
+-- What the world's acts do to the sides, step by step.
 use Rattle.std.proofs.Common.{◌≡◌, ℕ, zero, suc, ◌+◌, Bool, true, false, not, ◌&&◌, List, [], ◌∷◌, ◌++◌, set, refl, sym, ap, ◌∙◌, arith, Option, Some, None, is_none, slice_get, if◌then◌else◌}
 use Rattle.tcp_machine.specs.Connection.{Sockets, Connection, same_sockets}
-use Rattle.link_world.specs.World.{Side, Sent, client_sockets, buries, buries_in, addressed, era_of, marked, is_clean, epoch}
+use Rattle.link_world.specs.World.{Side, Sent, client_sockets, retires, retires_in, addressed, past_connection_of, marked, is_clean, epoch}
 use Rattle.std.specs.Option.{option_or}
 use Rattle.uip_node.proofs.Basics.{both_ways, choose, eqb-eq}
 use Rattle.uip_node.proofs.Connections.{get_map, get_set}
@@ -14,16 +14,16 @@ Apart sides = (j k : ℕ) (a b : Side) → slice_get sides j ≡ Some a → slic
 -- the side after the node's step
 abbrev pub buried : Option Connection → Side → Side
 buried None side = side
-buried (Some g) side = buries_in g side
+buried (Some g) side = retires_in g side
 
 pub record Buried (gone : Option Connection) (sides : List Side) (k : ℕ) (new : Side) : Type 0 where
   pub from : Side
   pub get : slice_get sides k ≡ Some from
   pub is : buried gone from ≡ new
 
-pub get_buried : (gone : Option Connection) (sides : List Side) (k : ℕ) (new : Side) → slice_get (buries gone sides) k ≡ Some new → Buried gone sides k new
+pub get_buried : (gone : Option Connection) (sides : List Side) (k : ℕ) (new : Side) → slice_get (retires gone sides) k ≡ Some new → Buried gone sides k new
 get_buried None sides k new h = record { from = new; get = h; is = refl }
-get_buried (Some g) sides k new h = let m = get_map (buries_in g) sides k new h in record { from = m.from; get = m.get; is = m.is }
+get_buried (Some g) sides k new h = let m = get_map (retires_in g) sides k new h in record { from = m.from; get = m.get; is = m.is }
 
 pub buried_sockets : (gone : Option Connection) (side : Side) → client_sockets (buried gone side) ≡ client_sockets side
 buried_sockets None side = refl
@@ -49,11 +49,11 @@ addressed_is at peer k (s ∷ ss) h =
 pub gone_is : (a b x : Bool) → a ≡ true → b ≡ x → (c : Connection) → (if a && not b then Some c else None) ≡ (if not x then Some c else None)
 gone_is a b x e f c = ap (λ y. if y && not b then Some c else None) e ∙ ap (λ y. if not y then Some c else None) f
 
-pub buried_here : (g : Connection) (side : Side) → g.sockets ≡ client_sockets side → buries_in g side ≡ record side { past = side.past ++ era_of g ∷ [] }
-buried_here g side e = ap (λ b. if b then record side { past = side.past ++ era_of g ∷ [] } else side) (is_same g.sockets (client_sockets side) e)
+pub buried_here : (g : Connection) (side : Side) → g.sockets ≡ client_sockets side → retires_in g side ≡ record side { history = side.history ++ past_connection_of g ∷ [] }
+buried_here g side e = ap (λ b. if b then record side { history = side.history ++ past_connection_of g ∷ [] } else side) (is_same g.sockets (client_sockets side) e)
 
-pub buried_elsewhere : (g : Connection) (side : Side) → same_sockets g.sockets (client_sockets side) ≡ false → buries_in g side ≡ side
-buried_elsewhere g side e = ap (λ b. if b then record side { past = side.past ++ era_of g ∷ [] } else side) e
+pub buried_elsewhere : (g : Connection) (side : Side) → same_sockets g.sockets (client_sockets side) ≡ false → retires_in g side ≡ side
+buried_elsewhere g side e = ap (λ b. if b then record side { history = side.history ++ past_connection_of g ∷ [] } else side) e
 
 pub put_apart : (sides : List Side) (n : ℕ) (side new : Side) → slice_get sides n ≡ Some side → client_sockets new ≡ client_sockets side → Apart sides → Apart (set sides n new)
 put_apart sides n side new at q h j k a b x y p =

@@ -21,7 +21,7 @@ pub record IsSoundClient (c : AbstractClient) : Type 0 where
   pub port : c.setup.port.0 < 65536
   pub server : IsAddr c.setup.server
   pub server_port : c.setup.server_port.0 < 65536
-  pub first : own_first c < 4294967296
+  pub iss : own_first c < 4294967296
   pub offered : c.setup.mss < 65536
   pub seg : c.setup.seg ≤ 1460
   pub request : All IsByte c.request
@@ -31,13 +31,13 @@ pub record IsSoundClient (c : AbstractClient) : Type 0 where
 
 pub record SoundStep (x : ClientStep) : Type 0 where
   pub client : IsSoundClient x.client
-  pub said : (s : PlainSegment) → x.sent ≡ Some s → IsSoundSegment s
+  pub output : (s : PlainSegment) → x.sent ≡ Some s → IsSoundSegment s
 
 kept : (c : AbstractClient) → IsSoundClient c → SoundStep (keeps c)
-kept c h = record { client = h; said = λ s e. absurd (cc) }
+kept c h = record { client = h; output = λ s e. absurd (cc) }
 
 given : (c : AbstractClient) (s : PlainSegment) → IsSoundClient c → IsSoundSegment s → SoundStep (client.steps_with c s)
-given c s h g = record { client = h; said = λ x e. only_some (λ y. IsSoundSegment y) s x e g }
+given c s h g = record { client = h; output = λ x e. only_some (λ y. IsSoundSegment y) s x e g }
 
 plain : (seq ack flags window : ℕ) → seq < 4294967296 → ack < 4294967296 → flags < 64 → window < 65536 → IsSoundSegment (record { seq = seq; ack = ack; flags = flags; window = window; mss = None; text = [] })
 plain seq ack flags window a b f w = record { seq = a; ack = b; flags = f; window = w; mss = tt; short = omega arith; alone = inr refl; text = all_nil IsByte }
@@ -59,7 +59,7 @@ not_zero w h = grind (arith, common_steps)
 
 syn_sound : (c : AbstractClient) → IsSoundClient c → IsSoundSegment (syn_of c)
 syn_sound c h = record {
-  seq = h.first;
+  seq = h.iss;
   ack = omega arith;
   flags = omega arith;
   window = h.window;
@@ -81,29 +81,29 @@ abort_sound c d h = plain (next_own c) c.expected 20 c.window (wrap_low _) h.exp
 sends_sound : (owed : Bool) (c : AbstractClient) → IsSoundClient c → SoundStep (sends_next owed c)
 sends_sound owed c h =
     let d : AbstractClient = record c { out = min c.setup.seg (length c.request - c.acked) } in
-    let g : IsSoundClient d = record { addr = h.addr; port = h.port; server = h.server; server_port = h.server_port; first = h.first; offered = h.offered; seg = h.seg; request = h.request; expected = h.expected; window = h.window; out = omega (arith, h.seg) } in
+    let g : IsSoundClient d = record { addr = h.addr; port = h.port; server = h.server; server_port = h.server_port; iss = h.iss; offered = h.offered; seg = h.seg; request = h.request; expected = h.expected; window = h.window; out = omega (arith, h.seg) } in
     of_sends SoundStep c owed (kept c h) (given c (ack_of c) h (ack_sound c h)) (λ o r. given d (own_request d) g (request_sound d g))
-    (λ o m n. given _ (client.own_fin c) record { addr = h.addr; port = h.port; server = h.server; server_port = h.server_port; first = h.first; offered = h.offered; seg = h.seg; request = h.request; expected = h.expected; window = h.window; out = h.out } (end_sound c h))
+    (λ o m n. given _ (client.own_fin c) record { addr = h.addr; port = h.port; server = h.server; server_port = h.server_port; iss = h.iss; offered = h.offered; seg = h.seg; request = h.request; expected = h.expected; window = h.window; out = h.out } (end_sound c h))
 
 hears_sound : (c : AbstractClient) (s : PlainSegment) → IsSoundClient c → IsSoundClient (hears_ack c s)
 hears_sound c s h =
     choose (λ x. IsSoundClient x) (has_ack s.flags && (client_waits c && eqb s.ack (next_own c))) _ _
-    (λ e. record { addr = h.addr; port = h.port; server = h.server; server_port = h.server_port; first = h.first; offered = h.offered; seg = h.seg; request = h.request; expected = h.expected; window = h.window; out = omega arith })
+    (λ e. record { addr = h.addr; port = h.port; server = h.server; server_port = h.server_port; iss = h.iss; offered = h.offered; seg = h.seg; request = h.request; expected = h.expected; window = h.window; out = omega arith })
     (λ e. h)
 
 text_taken : (c : AbstractClient) (s : PlainSegment) → IsSoundClient c → IsSoundClient (takes_text c s)
-text_taken c s h = record { addr = h.addr; port = h.port; server = h.server; server_port = h.server_port; first = h.first; offered = h.offered; seg = h.seg; request = h.request; expected = wrap_low _; window = h.window; out = h.out }
+text_taken c s h = record { addr = h.addr; port = h.port; server = h.server; server_port = h.server_port; iss = h.iss; offered = h.offered; seg = h.seg; request = h.request; expected = wrap_low _; window = h.window; out = h.out }
 
 order_sound : (c : AbstractClient) (s : PlainSegment) → IsSoundClient c → SoundStep (takes_in_order c s)
 order_sound c s h = of_order SoundStep c s (sends_sound true c h) (sends_sound false c h) (λ g. sends_sound true (takes_text c s) (text_taken c s h))
 
 in_other_state : (c : AbstractClient) (st : ClientState) → IsSoundClient c → IsSoundClient (record c { state = st })
-in_other_state c st h = record { addr = h.addr; port = h.port; server = h.server; server_port = h.server_port; first = h.first; offered = h.offered; seg = h.seg; request = h.request; expected = h.expected; window = h.window; out = h.out }
+in_other_state c st h = record { addr = h.addr; port = h.port; server = h.server; server_port = h.server_port; iss = h.iss; offered = h.offered; seg = h.seg; request = h.request; expected = h.expected; window = h.window; out = h.out }
 
 pub takes_sound : (c : AbstractClient) (s : PlainSegment) → IsSoundClient c → SoundStep (client_takes c s)
 takes_sound c s h =
     of_takes SoundStep c s (kept c h) (λ b. kept _ (in_other_state c Is.Reset h))
-    (λ e r f. sends_sound true (opened_by c s) record { addr = h.addr; port = h.port; server = h.server; server_port = h.server_port; first = h.first; offered = h.offered; seg = h.seg; request = h.request; expected = wrap_low _; window = h.window; out = h.out })
+    (λ e r f. sends_sound true (opened_by c s) record { addr = h.addr; port = h.port; server = h.server; server_port = h.server_port; iss = h.iss; offered = h.offered; seg = h.seg; request = h.request; expected = wrap_low _; window = h.window; out = h.out })
     (λ r. order_sound (hears_ack c s) s (hears_sound c s h))
 
 pub opens_sound : (c : AbstractClient) → IsSoundClient c → SoundStep (client_opens c)
@@ -119,5 +119,5 @@ closes_sound c h = of_closes SoundStep c (kept c h) (λ e. sends_sound false (re
 pub aborts_sound : (c : AbstractClient) → IsSoundClient c → SoundStep (client_aborts c)
 aborts_sound c h = of_aborts SoundStep c (kept c h) (λ e. given _ (client.own_reset c) (in_other_state c Is.Reset h) (abort_sound c c h))
 
-pub window_sound : (w : ℕ) (c : AbstractClient) → w < 65536 → IsSoundClient c → SoundStep (client.tells_window w c)
-window_sound w c l h = kept _ record { addr = h.addr; port = h.port; server = h.server; server_port = h.server_port; first = h.first; offered = h.offered; seg = h.seg; request = h.request; expected = h.expected; window = l; out = h.out }
+pub window_sound : (w : ℕ) (c : AbstractClient) → w < 65536 → IsSoundClient c → SoundStep (client.advertises_window w c)
+window_sound w c l h = kept _ record { addr = h.addr; port = h.port; server = h.server; server_port = h.server_port; iss = h.iss; offered = h.offered; seg = h.seg; request = h.request; expected = h.expected; window = l; out = h.out }

@@ -2,15 +2,15 @@
 use Rattle.std.proofs.Common.{◌≡◌, ℕ, suc, ◌<◌, Bool, false, List, [], ◌∷◌, map, refl, sym, ap, ◌∙◌, subst, arith, Option, Some, None, slice_get}
 use Rattle.uip_wire.specs.declared.addr.Addr.{Addr}
 use Rattle.tcp_segment.specs.Segments.{PlainSegment}
-use Rattle.app_events.specs.Part.{Meaning}
+use Rattle.app_events.specs.AppSpec.{AppSpec}
 use Rattle.app_events.specs.Pages.{IsAddr}
 use Rattle.tcp_machine.specs.Connection.{Connection, same_sockets}
 use Rattle.uip_node.specs.Events.{Reply}
 use Rattle.uip_node.specs.Events.Event.{Arrived, EchoAsked, Periodic}
 use Rattle.uip_node.specs.Events.Reply.{Echo, Tcp}
 use Rattle.uip_node.specs.Node.{AbstractNode, NodeStep, step}
-use Rattle.link_client.specs.Client.{AbstractClient, ClientStep, client_takes, client_opens, client_again, client_closes, client_aborts, tells_window}
-use Rattle.link_world.specs.World.{World, Side, Sent, Content, client_sockets, buries, buries_in, addressed, posts, posts_reply, posts_of_client, node_stepped, node_handles, with_client, with_side, client_stepped, marked, delivers}
+use Rattle.link_client.specs.Client.{AbstractClient, ClientStep, client_takes, client_opens, client_again, client_closes, client_aborts, advertises_window}
+use Rattle.link_world.specs.World.{World, Side, Sent, Content, client_sockets, retires, retires_in, addressed, posts, posts_reply, posts_of_client, node_stepped, node_handles, with_client, with_side, client_stepped, marked, delivers}
 use Rattle.link_world.specs.World.Content.{OfSegment, OfPing, OfEcho}
 use Rattle.link_world.specs.Bytes.{ping_from}
 use Rattle.link_world.specs.Acts.{client_acts, handles_all, does}
@@ -45,7 +45,7 @@ pub record SoundWorld (w : World) : Type 0 where
   pub sides : SoundSides w.sides
   pub sent : (k : ℕ) (e : Sent) → slice_get w.sent k ≡ Some e → SoundSent w.node.addr e.who e.content
 
--- the mark says nothing of it
+-- the mark does not matter to it
 pub sound_marked : (w : World) (mark : ℕ) → SoundWorld (record w { mark = mark }) → SoundWorld w
 sound_marked w mark h = record { addr = h.addr; conns = h.conns; sides = h.sides; sent = h.sent }
 
@@ -64,15 +64,15 @@ reply_sound w (Some (Tcp sockets id again s)) f h =
     let g : (id < 65536) × IsSoundSegment s = f (Tcp sockets id again s) refl in
     posts_sound w (FromNode (addressed 1 sockets w.sides)) again (OfSegment id s) (of_segment id s refl g.0 g.1) h
 
-buried_sound : (gone : Option Connection) (sides : List Side) → SoundSides sides → SoundSides (buries gone sides)
+buried_sound : (gone : Option Connection) (sides : List Side) → SoundSides sides → SoundSides (retires gone sides)
 buried_sound None sides h k side x = h k side x
 buried_sound (Some g) sides h k side x =
-    let p = get_map (buries_in g) sides k side x in
+    let p = get_map (retires_in g) sides k side x in
     let s : IsSoundClient p.from.client = h k p.from p.get in
     subst (λ (o : Side). IsSoundClient o.client) p.is (choose (λ (o : Side). IsSoundClient o.client) (same_sockets g.sockets (client_sockets p.from)) _ _ (λ e. s) (λ e. s))
 
 stepped_sound : (H : Connection → Type 0) (w : World) (r : NodeStep) → SoundNode H w.node r → SoundWorld w → SoundWorld (node_stepped w r)
-stepped_sound H w r g h = reply_sound (record w { node = r.node; sides = buries r.gone w.sides }) r.sent g.said record {
+stepped_sound H w r g h = reply_sound (record w { node = r.node; sides = retires r.gone w.sides }) r.sent g.output record {
   addr = subst (λ x. IsAddr x) (sym g.addr) h.addr;
   conns = g.conns;
   sides = buried_sound r.gone w.sides h.sides;
@@ -92,7 +92,7 @@ client_sound w n base took s h =
     let v : World = with_side w (suc n) (with_client base took.client) in
     let g : SoundWorld v = put_sound w n (with_client base took.client) s.client h in
     where_there SoundWorld (λ x. posts v (FromClient (suc n)) false (OfSegment 0 x)) took.sent v g
-    (λ x e. posts_sound v (FromClient (suc n)) false (OfSegment 0 x) (of_segment 0 x refl (omega arith) (s.said x e)) g)
+    (λ x e. posts_sound v (FromClient (suc n)) false (OfSegment 0 x) (of_segment 0 x refl (omega arith) (s.output x e)) g)
 
 same_segment : (P : PlainSegment → Type 0) (id id' : ℕ) (s t : PlainSegment) → OfSegment id s ≡ OfSegment id' t → P t → P s
 same_segment P id id' s t e h = subst P (let f : t ≡ s = cc in f) h
@@ -134,7 +134,7 @@ module _ (H : Connection → Type 0) where
   stepped_known : (w : World) (r : NodeStep) → SoundNode H w.node r → SoundWorld w → KnownWorld H (node_stepped w r)
   stepped_known w r g h = record {
     sound = stepped_sound H w r g h;
-    known = same_known (node_stepped w r) (record w { node = r.node; sides = buries r.gone w.sides }) (reply_node (record w { node = r.node; sides = buries r.gone w.sides }) r.sent) g.known;
+    known = same_known (node_stepped w r) (record w { node = r.node; sides = retires r.gone w.sides }) (reply_node (record w { node = r.node; sides = retires r.gone w.sides }) r.sent) g.known;
   }
 
   client_known : (w : World) (n : ℕ) (base : Side) (took : ClientStep) → SoundStep took → KnownWorld H w → KnownWorld H (client_stepped w (suc n) base took)
@@ -143,7 +143,7 @@ module _ (H : Connection → Type 0) where
     known = same_known (client_stepped w (suc n) base took) w (posted_node (with_side w (suc n) (with_client base took.client)) (suc n) took.sent) h.known;
   }
 
-module _ (m : Meaning) (steady : IsSteady m) (H : Connection → Type 0) (bytes : SaysBytesWhere m H) (served : ℕ → Bool) where
+module _ (m : AppSpec) (steady : IsSteady m) (H : Connection → Type 0) (bytes : SaysBytesWhere m H) (served : ℕ → Bool) where
   gives_node_sound : (w : World) (n k : ℕ) (e : Sent) (s : PlainSegment) (side : Side) → slice_get w.sides n ≡ Some side → IsSoundSegment s → FitWorld w → KnownWorld H w
       → KnownWorld H (node_handles m served (with_side w (suc n) (marked side k e)) (Arrived (client_sockets side) s))
   gives_node_sound w n k e s side at g f h =
@@ -153,7 +153,7 @@ module _ (m : Meaning) (steady : IsSteady m) (H : Connection → Type 0) (bytes 
       stepped_known H v (step m served v.node (Arrived (client_sockets side) s)) (arrival_node m steady H bytes served v.node (client_sockets side) s (f.sides n side at).addr (f.sides n side at).port g vf.node vh.conns h.known) vh
 
   echo_sound : (w : World) (datagram : List ℕ) → KnownWorld H w → KnownWorld H (node_handles m served w (EchoAsked datagram))
-  echo_sound w datagram h = stepped_known H w (step m served w.node (EchoAsked datagram)) record { addr = refl; conns = h.sound.conns; known = h.known; said = λ x e. only_some (λ r. SoundReply r) (Echo datagram) x e tt } h.sound
+  echo_sound w datagram h = stepped_known H w (step m served w.node (EchoAsked datagram)) record { addr = refl; conns = h.sound.conns; known = h.known; output = λ x e. only_some (λ r. SoundReply r) (Echo datagram) x e tt } h.sound
 
   delivers_sound : (w : World) (k : ℕ) (e : Sent) (who : Who) (content : Content) → SoundSent w.node.addr who content → FitWorld w → KnownWorld H w → KnownWorld H (delivers m served w k e who content)
   delivers_sound w k e (FromClient number) (OfSegment id s) g f h =
@@ -186,7 +186,7 @@ module _ (m : Meaning) (steady : IsSteady m) (H : Connection → Type 0) (bytes 
   does_sound w (Act.Again n) is l f h = act_sound w n client_again again_sound h
   does_sound w (Act.Closes n) is l f h = act_sound w n client_closes closes_sound h
   does_sound w (Act.Aborts n) is l f h = act_sound w n client_aborts aborts_sound h
-  does_sound w (Act.Window n x) is l f h = act_sound w n (tells_window x) (λ c s. window_sound x c is s) h
+  does_sound w (Act.Window n x) is l f h = act_sound w n (advertises_window x) (λ c s. window_sound x c is s) h
   does_sound w (Act.Ping source) is l f h = record { sound = posts_sound w Pinger false (OfPing (ping_from source w.node.addr)) (of_ping source refl refl is) h.sound; known = h.known }
   does_sound w (Act.Give k) is l f h =
       at_number (KnownWorld H) (λ i e. delivers m served w i e e.who e.content) w.sent k w h (λ n e at. delivers_sound w (suc n) e e.who e.content (h.sound.sent n e at) f h)

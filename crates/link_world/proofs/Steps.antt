@@ -1,9 +1,9 @@
--- One step of a connection keeps what holds of it.
+-- One step of a connection preserves what holds of it.
 use Rattle.std.proofs.Common.{◌≡◌, ℕ, ◌+◌, ◌<◌, ◌≤◌, min, Bool, true, false, not, ◌&&◌, inl, inr, List, [], ◌++◌, length, take, drop, refl, sym, ap, ◌∙◌, subst, arith, Option, Some, None, length-append, ltb, append_assoc}
 use Rattle.uip_wire.specs.Numbers.{wrap}
 use Rattle.tcp_segment.specs.Segments.{PlainSegment, has_fin, has_rst, has_ack}
 use Rattle.rexmit_timer.specs.declared.timer.Beat.{Beat}
-use Rattle.app_events.specs.Part.{Part, Moment, Meaning}
+use Rattle.app_events.specs.AppSpec.{AppState, Snapshot, AppSpec}
 use Rattle.app_events.specs.Laws.{IsPrefixOf}
 use Rattle.app_events.specs.Pages.{MayWant}
 use Rattle.app_events.specs.declared.now.Now.{Now}
@@ -14,79 +14,79 @@ use Rattle.app_events.specs.declared.want.Want.TheVariants.{Nothing, Send, Close
 use Rattle.tcp_machine.specs.Connection.{Connection, is_live, rcv_nxt}
 use Rattle.tcp_machine.specs.Segments.{bare_ack, syn_ack, text_segment, fin_of, reset_of}
 use Rattle.tcp_machine.specs.Ask.{Outcome, leaves, closes, after_own_fin, peer_has_closed, idles, does_as_wanted, prepared, ask, asked_for, asked}
-use Rattle.tcp_machine.specs.OnSegment.{is_out_of_order, is_acked, rests, has_text, hears, takes, with_part, in_state, with_window, connects, peer_closes, goes_on, in_established, fin_acked, fin_waits, by_state, on_segment}
+use Rattle.tcp_machine.specs.OnSegment.{is_out_of_order, is_acked, rests, has_text, hears, takes, with_part, in_state, with_window, connects, peer_closes, stays_established, in_established, fin_acked, fin_waits, by_state, on_segment}
 use Rattle.tcp_machine.specs.OnTick.{outstanding, grows_older, by_beat, on_tick}
 use Rattle.tcp_machine.specs.declared.step.Step.{Step}
 use Rattle.link_client.specs.Client.{AbstractClient, own_first}
 use Rattle.uip_node.proofs.Basics.{IsPart, prefix_part, prefix_length, prefix_joins, and_true, same_place, empty_part, zero_or_more, ltb-zero, in_place, choose, append_nothing, cut_part, both_ways}
-use Rattle.tcp_machine.specs.Stands.{is_open}
+use Rattle.tcp_machine.specs.Represents.{is_open}
 use Rattle.uip_node.proofs.Cases.{by_open, by_own_fin, fin_lives, on_tick_by, open_live}
-use Rattle.link_world.proofs.Later.{page_more, page_heard, front_grows, front_all}
+use Rattle.link_world.proofs.Later.{page_more, page_heard, prefix_grows, prefix_all}
 use Rattle.link_world.proofs.Good.{Spoken, spoken, AtSyn, AtText, AtOpen, AtFin, ConnGood, StateGood, Moved, StepGood, SentGood, ClientSaid, IsData, Steady}
 use Rattle.link_world.proofs.Good.NodeSaid.{node_reset, node_syn, node_ack, node_text, node_fin}
 use Rattle.link_world.proofs.Good.ClientSaid.{said_reset, said_syn, said_data}
-use Rattle.link_world.proofs.Speaking.{Speaker, Speaks, page_by, HearsSome, KeepsHeard, Heard, hears_is, prepare_is, acked_is, wants_is}
+use Rattle.link_world.proofs.Speaking.{Speaker, HasOutputModel, page_by, HearsSome, KeepsHeard, Heard, hears_is, prepare_is, acked_is, wants_is}
 
-module _ (m : Meaning) (speaker : Speaker) (laws : Speaks m speaker) where
+module _ (m : AppSpec) (speaker : Speaker) (laws : HasOutputModel m speaker) where
   module _ (opened : Option ℕ) (client : AbstractClient) where
-    -- what a connection may say
+    -- what a connection may send
     says_ack : (d : Connection) → is_live d.state ≡ true → SentGood speaker opened client d (bare_ack d)
-    says_ack d l = record { lives = λ e. l; said = node_ack refl record { no_syn = refl; no_fin = refl; no_text = refl } }
+    says_ack d l = record { incarnations = λ e. l; output = node_ack refl record { no_syn = refl; no_fin = refl; no_text = refl } }
 
     says_reset : (d c : Connection) → SentGood speaker opened client d (reset_of c)
-    says_reset d c = record { lives = λ e. absurd (let z : true ≡ false = e in cc); said = node_reset refl }
+    says_reset d c = record { incarnations = λ e. absurd (let z : true ≡ false = e in cc); output = node_reset refl }
 
     pub says_syn : (d : Connection) → is_live d.state ≡ true → d.acked ≡ 0 → SentGood speaker opened client d (syn_ack d)
-    says_syn d l z = record { lives = λ e. l; said = node_syn refl record { syn = refl; seq = ap wrap (omega (arith, z)) } }
+    says_syn d l z = record { incarnations = λ e. l; output = node_syn refl record { syn = refl; seq = ap wrap (omega (arith, z)) } }
 
     says_text : (d : Connection) → is_live d.state ≡ true → AtText speaker opened client d → SentGood speaker opened client d (text_segment m d)
     says_text d l h =
-        let said : m.said d.part ≡ speaker.text d.part.heard d.part.captures = laws.said d.part h.here in
+        let output : m.output d.part ≡ speaker.text d.part.delivered d.part.captures = laws.output d.part h.here in
         record {
-          lives = λ e. l;
-          said = node_text refl h.opened_is record {
+          incarnations = λ e. l;
+          output = node_text refl h.opened_is record {
             no_syn = refl;
             no_fin = refl;
             at = d.part.acked;
-            part = subst (λ t. IsPart (speaker.text client.request d.part.captures) (take d.len (drop d.part.acked t)) d.part.acked) (sym said)
-                (prefix_part (speaker.text d.part.heard d.part.captures) (speaker.text client.request d.part.captures) (take d.len (drop d.part.acked (speaker.text d.part.heard d.part.captures))) d.part.acked
-                (front_grows m speaker laws d.part.heard client.request d.part.captures h.heard) (cut_part (speaker.text d.part.heard d.part.captures) d.part.acked d.len h.fits));
+            part = subst (λ t. IsPart (speaker.text client.request d.part.captures) (take d.len (drop d.part.acked t)) d.part.acked) (sym output)
+                (prefix_part (speaker.text d.part.delivered d.part.captures) (speaker.text client.request d.part.captures) (take d.len (drop d.part.acked (speaker.text d.part.delivered d.part.captures))) d.part.acked
+                (prefix_grows m speaker laws d.part.delivered client.request d.part.captures h.delivered) (cut_part (speaker.text d.part.delivered d.part.captures) d.part.acked d.len h.fits));
             seq = ap wrap (omega (arith, h.count));
           };
         }
 
     says_fin : (d : Connection) → is_live d.state ≡ true → AtFin speaker opened client d → SentGood speaker opened client d (fin_of d)
     says_fin d l h = record {
-      lives = λ e. l;
-      said = node_fin refl h.opened_is record { no_syn = refl; is_fin = refl; no_text = refl; at = d.part.acked; ends = h.ends; seq = ap wrap (omega (arith, h.count)) };
+      incarnations = λ e. l;
+      output = node_fin refl h.opened_is record { no_syn = refl; is_fin = refl; no_text = refl; at = d.part.acked; ends = h.ends; seq = ap wrap (omega (arith, h.count)) };
     }
 
     move_silent : (c d : Connection) → Moved speaker opened client c d → StepGood speaker opened client c (record { connection = d; sent = None })
-    move_silent c d h = record { moved = h; said = λ s e. absurd (cc) }
+    move_silent c d h = record { moved = h; output = λ s e. absurd (cc) }
 
     move_says : (c d : Connection) (s : PlainSegment) → Moved speaker opened client c d → SentGood speaker opened client d s → StepGood speaker opened client c (record { connection = d; sent = Some s })
-    move_says c d s h g = record { moved = h; said = λ x e. subst (λ y. SentGood speaker opened client d y) (let e' : s ≡ x = cc in e') g }
+    move_says c d s h g = record { moved = h; output = λ x e. subst (λ y. SentGood speaker opened client d y) (let e' : s ≡ x = cc in e') g }
 
     stays_good : (c : Connection) → ConnGood speaker opened client c → Moved speaker opened client c c
-    stays_good c g = record { first = refl; more = []; captures = sym (append_nothing c.part.captures); good = λ l. g }
+    stays_good c g = record { iss = refl; more = []; captures = sym (append_nothing c.part.captures); good = λ l. g }
 
     -- d is c in another state, or with other counts
-    turns : (c d : Connection) → d.first ≡ c.first → d.part.captures ≡ c.part.captures → d.peer_first ≡ own_first client → StateGood speaker opened client d d.state → Moved speaker opened client c d
-    turns c d f k pf s = record { first = f; more = []; captures = k ∙ sym (append_nothing c.part.captures); good = λ y. record { peer_first = pf; state = s } }
+    turns : (c d : Connection) → d.iss ≡ c.iss → d.part.captures ≡ c.part.captures → d.irs ≡ own_first client → StateGood speaker opened client d d.state → Moved speaker opened client c d
+    turns c d f k pf s = record { iss = f; more = []; captures = k ∙ sym (append_nothing c.part.captures); good = λ y. record { irs = pf; state = s } }
 
-    closes_good : (c d : Connection) → d.first ≡ c.first → d.part.captures ≡ c.part.captures → Moved speaker opened client c (closes d)
-    closes_good c d f k = record { first = f; more = []; captures = k ∙ sym (append_nothing c.part.captures); good = λ l. absurd (cc) }
+    closes_good : (c d : Connection) → d.iss ≡ c.iss → d.part.captures ≡ c.part.captures → Moved speaker opened client c (closes d)
+    closes_good c d f k = record { iss = f; more = []; captures = k ∙ sym (append_nothing c.part.captures); good = λ l. absurd (cc) }
 
     -- a step from b, which c had become
-    from_good : (c b : Connection) (step : Spoken) (more : List Moment) → b.first ≡ c.first → b.part.captures ≡ c.part.captures ++ more → StepGood speaker opened client b step → StepGood speaker opened client c step
+    from_good : (c b : Connection) (step : Spoken) (more : List Snapshot) → b.iss ≡ c.iss → b.part.captures ≡ c.part.captures ++ more → StepGood speaker opened client b step → StepGood speaker opened client c step
     from_good c b step more f k g = record {
       moved = record {
-        first = g.moved.first ∙ f;
+        iss = g.moved.iss ∙ f;
         more = more ++ g.moved.more;
         captures = g.moved.captures ∙ ap (λ l. l ++ g.moved.more) k ∙ append_assoc c.part.captures more g.moved.more;
         good = g.moved.good;
       };
-      said = g.said;
+      output = g.output;
     }
 
     state_at : (d : Connection) (st : State) → d.state ≡ st → StateGood speaker opened client d st → StateGood speaker opened client d d.state
@@ -96,7 +96,7 @@ module _ (m : Meaning) (speaker : Speaker) (laws : Speaks m speaker) where
     text_at : (c : Connection) (st : State) → is_open st ≡ true → StateGood speaker opened client c st → AtText speaker opened client c
     text_at c st o h = by_open (λ x. StateGood speaker opened client c x → AtText speaker opened client c) (λ g. g.text) (λ g. g) st o h
 
-    text_state : (c d : Connection) (st : State) → is_open st ≡ true → StateGood speaker opened client c st → AtText speaker opened client d → d.taken ≡ c.taken → d.part.heard ≡ c.part.heard → speaker.lost d.part ≡ speaker.lost c.part → StateGood speaker opened client d st
+    text_state : (c d : Connection) (st : State) → is_open st ≡ true → StateGood speaker opened client c st → AtText speaker opened client d → d.taken ≡ c.taken → d.part.delivered ≡ c.part.delivered → speaker.lost d.part ≡ speaker.lost c.part → StateGood speaker opened client d st
     text_state c d st o h t e f l =
         by_open (λ x. StateGood speaker opened client c x → StateGood speaker opened client d x) (λ g. record { text = t; taken = λ n. e ∙ g.taken (sym l ∙ n) ∙ ap length (sym f) }) (λ g. t) st o h
 
@@ -104,24 +104,24 @@ module _ (m : Meaning) (speaker : Speaker) (laws : Speaks m speaker) where
     fin_state d st h = by_own_fin (λ x. StateGood speaker opened client d x) h h st
 
     -- the same text with other counts
-    like_text : (c d : Connection) → speaker.here d.part ≡ true → d.part.heard ≡ c.part.heard → d.part.captures ≡ c.part.captures → d.acked ≡ 1 + d.part.acked → d.part.acked + d.len ≤ length (speaker.text c.part.heard c.part.captures) → AtText speaker opened client c → AtText speaker opened client d
+    like_text : (c d : Connection) → speaker.here d.part ≡ true → d.part.delivered ≡ c.part.delivered → d.part.captures ≡ c.part.captures → d.acked ≡ 1 + d.part.acked → d.part.acked + d.len ≤ length (speaker.text c.part.delivered c.part.captures) → AtText speaker opened client c → AtText speaker opened client d
     like_text c d here f k n l h =
-        let e : length (speaker.text d.part.heard d.part.captures) ≡ length (speaker.text c.part.heard c.part.captures) = ap (λ q. length (speaker.text q d.part.captures)) f ∙ ap (λ q. length (speaker.text c.part.heard q)) k in
-        record { opened_is = h.opened_is; here = here; heard = subst (λ q. IsPrefixOf q client.request) (sym f) h.heard; fits = omega (arith, e, l); count = n }
+        let e : length (speaker.text d.part.delivered d.part.captures) ≡ length (speaker.text c.part.delivered c.part.captures) = ap (λ q. length (speaker.text q d.part.captures)) f ∙ ap (λ q. length (speaker.text c.part.delivered q)) k in
+        record { opened_is = h.opened_is; here = here; delivered = subst (λ q. IsPrefixOf q client.request) (sym f) h.delivered; fits = omega (arith, e, l); count = n }
 
-    -- what is wanted
+    -- what is requested
     wanted_good : (w : Want) (fresh : Bool) (c : Connection) (numbers : List ℕ) → is_open c.state ≡ true → ConnGood speaker opened client c → AtText speaker opened client c → MayWant (page_by speaker) c.part w →
         StepGood speaker opened client c (spoken m (does_as_wanted w fresh c numbers))
     unfolding idles
     wanted_good Abort fresh c numbers o g h w = move_says c (closes c) (reset_of (closes c)) (closes_good c c refl refl) (says_reset (closes c) (closes c))
     wanted_good Close fresh c numbers o g h w =
         let d : Connection = record c { state = after_own_fin c.state; len = 1; age = 0 } in
-        let a : AtFin speaker opened client d = record { opened_is = h.opened_is; ends = front_all m speaker laws client c.part.heard c.part.captures c.part.acked h.heard w.0 w.1; count = h.count; heard = h.heard } in
-        move_says c d (fin_of d) (turns c d refl refl g.peer_first (fin_state d c.state a)) (says_fin d (fin_lives c.state) a)
+        let a : AtFin speaker opened client d = record { opened_is = h.opened_is; ends = prefix_all m speaker laws client c.part.delivered c.part.captures c.part.acked h.delivered w.0 w.1; count = h.count; delivered = h.delivered } in
+        move_says c d (fin_of d) (turns c d refl refl g.irs (fin_state d c.state a)) (says_fin d (fin_lives c.state) a)
     wanted_good (Send n) fresh c numbers o g h w =
         let d : Connection = record c { len = min n c.mss; age = 0 } in
         let t : AtText speaker opened client d = like_text c d h.here refl refl h.count (omega (arith, w.1)) h in
-        move_says c d (text_segment m d) (turns c d refl refl g.peer_first (text_state c d c.state o g.state t refl refl refl)) (says_text d (open_live c.state o) t)
+        move_says c d (text_segment m d) (turns c d refl refl g.irs (text_state c d c.state o g.state t refl refl refl)) (says_text d (open_live c.state o) t)
     wanted_good Nothing fresh c numbers o g h w =
         choose (λ (x : Outcome). StepGood speaker opened client c (spoken m x)) (peer_has_closed c.state) _ _
         (λ e. move_says c (closes c) (reset_of (closes c)) (closes_good c c refl refl) (says_reset (closes c) (closes c)))
@@ -140,13 +140,13 @@ module _ (m : Meaning) (speaker : Speaker) (laws : Speaks m speaker) where
         let g : ConnGood speaker opened client d = a.moved.good (open_live d.state a.is_asked) in
         let h : AtText speaker opened client d = text_at d d.state a.is_asked g.state in
         let p = prepare_is m speaker laws numbers d.part now h.here in
-        let q : Part = m.prepare numbers d.part now in
+        let q : AppState = m.prepare numbers d.part now in
         let b : Connection = prepared m now d numbers in
-        let e : length (speaker.text q.heard q.captures) ≡ length (speaker.text d.part.heard (d.part.captures ++ p.more)) = ap (λ x. length (speaker.text x q.captures)) p.keeps.heard ∙ ap (λ x. length (speaker.text d.part.heard x)) p.captures in
-        let more : length (speaker.text d.part.heard d.part.captures) ≤ length (speaker.text d.part.heard (d.part.captures ++ p.more)) = prefix_length (speaker.text d.part.heard d.part.captures) (speaker.text d.part.heard (d.part.captures ++ p.more)) (page_more m speaker laws d.part.heard d.part.captures p.more) in
-        let t : AtText speaker opened client b = record { opened_is = h.opened_is; here = p.keeps.here; heard = subst (λ x. IsPrefixOf x client.request) (sym p.keeps.heard) h.heard; fits = omega (arith, e, more, h.fits, p.acked); count = omega (arith, h.count, p.acked) } in
-        let gb : ConnGood speaker opened client b = record { peer_first = g.peer_first; state = text_state d b d.state a.is_asked g.state t refl p.keeps.heard p.keeps.lost } in
-        from_good c b (spoken m (ask m now fresh d numbers)) (a.moved.more ++ p.more) a.moved.first
+        let e : length (speaker.text q.delivered q.captures) ≡ length (speaker.text d.part.delivered (d.part.captures ++ p.more)) = ap (λ x. length (speaker.text x q.captures)) p.keeps.delivered ∙ ap (λ x. length (speaker.text d.part.delivered x)) p.captures in
+        let more : length (speaker.text d.part.delivered d.part.captures) ≤ length (speaker.text d.part.delivered (d.part.captures ++ p.more)) = prefix_length (speaker.text d.part.delivered d.part.captures) (speaker.text d.part.delivered (d.part.captures ++ p.more)) (page_more m speaker laws d.part.delivered d.part.captures p.more) in
+        let t : AtText speaker opened client b = record { opened_is = h.opened_is; here = p.keeps.here; delivered = subst (λ x. IsPrefixOf x client.request) (sym p.keeps.delivered) h.delivered; fits = omega (arith, e, more, h.fits, p.acked); count = omega (arith, h.count, p.acked) } in
+        let gb : ConnGood speaker opened client b = record { irs = g.irs; state = text_state d b d.state a.is_asked g.state t refl p.keeps.delivered p.keeps.lost } in
+        from_good c b (spoken m (ask m now fresh d numbers)) (a.moved.more ++ p.more) a.moved.iss
         (p.captures ∙ ap (λ l. l ++ p.more) a.moved.captures ∙ append_assoc c.part.captures a.moved.more p.more)
         (wanted_good (m.want numbers q) fresh b numbers a.is_asked gb t (wants_is m speaker laws numbers q t.here (omega (arith, t.fits))))
 
@@ -162,23 +162,23 @@ module _ (m : Meaning) (speaker : Speaker) (laws : Speaks m speaker) where
     abbrev pub OutGood : Connection → Outcome → Type 0
     OutGood c o = OutBy c o.connection o.step
 
-    asked_for_good : (moment : Connection → Now) (c d : Connection) (numbers : List ℕ) (s : Step) → OutBy c d s → StepGood speaker opened client c (spoken m (asked_for m moment (leaves d numbers s) s))
-    asked_for_good moment c d numbers (Step.Ask fresh) h = asking_good c d (moment d) fresh numbers h
-    asked_for_good moment c d numbers _ h = h
+    asked_for_good : (snapshot : Connection → Now) (c d : Connection) (numbers : List ℕ) (s : Step) → OutBy c d s → StepGood speaker opened client c (spoken m (asked_for m snapshot (leaves d numbers s) s))
+    asked_for_good snapshot c d numbers (Step.Ask fresh) h = asking_good c d (snapshot d) fresh numbers h
+    asked_for_good snapshot c d numbers _ h = h
 
-    pub asked_good : (moment : Connection → Now) (c : Connection) (o : Outcome) → OutGood c o → StepGood speaker opened client c (spoken m (asked m moment o))
-    asked_good moment c o h = asked_for_good moment c o.connection o.numbers o.step h
+    pub asked_good : (snapshot : Connection → Now) (c : Connection) (o : Outcome) → OutGood c o → StepGood speaker opened client c (spoken m (asked m snapshot o))
+    asked_good snapshot c o h = asked_for_good snapshot c o.connection o.numbers o.step h
 
-    -- the peer's text stands in its request where the connection expects it
+    -- the peer's text is in its request at the offset that the connection expects
     said_part : (at_epoch : ℕ) (c : Connection) (s : PlainSegment) (n : ℕ) → Steady client → ClientSaid client opened at_epoch s → has_rst s.flags ≡ false →
-        c.peer_first ≡ own_first client → c.taken ≡ n → n ≤ length client.request → (0 < length s.text → s.seq ≡ rcv_nxt c) → IsPart client.request s.text n
+        c.irs ≡ own_first client → c.taken ≡ n → n ≤ length client.request → (0 < length s.text → s.seq ≡ rcv_nxt c) → IsPart client.request s.text n
     said_part at_epoch c s n steady (said_reset r) nr pf t l e = absurd (cc)
     said_part at_epoch c s n steady (said_syn y) nr pf t l e = empty_part client.request s.text n (ap length y.no_text) l
     said_part at_epoch c s n steady (said_data d) nr pf t l e =
         elim (zero_or_more (length s.text)) [
           | inl z ↦ empty_part client.request s.text n z l
           | inr k ↦ (let a : s.seq ≡ wrap (own_first client + 1 + d.at) = d.seq k in
-              let b : s.seq ≡ wrap (c.peer_first + 1 + c.taken) = e k in
+              let b : s.seq ≡ wrap (c.irs + 1 + c.taken) = e k in
               let f : d.at ≡ n = same_place (own_first client + 1) d.at n (omega (arith, d.part.fits, steady.short)) (omega (arith, l, steady.short)) (sym a ∙ b ∙ ap (λ x. wrap (x + 1 + c.taken)) pf ∙ ap (λ x. wrap (own_first client + 1 + x)) t) in
               subst (λ x. IsPart client.request s.text x) f d.part)
         ]
@@ -188,46 +188,46 @@ module _ (m : Meaning) (speaker : Speaker) (laws : Speaks m speaker) where
     is_data at_epoch s (said_syn y) nr a = absurd (let n : has_ack s.flags ≡ false = y.no_ack in cc)
     is_data at_epoch s (said_data d) nr a = d
 
-    -- What is heard of a text that stands behind what was heard: a front of it, or nothing where the part is lost.
-    heard_front : (p q : Part) (text : List ℕ) → IsPrefixOf p.heard client.request → (speaker.lost p ≡ false → IsPart client.request text (length p.heard)) → HearsSome speaker p q text → IsPrefixOf q.heard client.request
-    heard_front p q text h t x =
+    -- What is received of a text that follows what was received: a prefix of it, or nothing if the state is lost.
+    heard_prefix : (p q : AppState) (text : List ℕ) → IsPrefixOf p.delivered client.request → (speaker.lost p ≡ false → IsPart client.request text (length p.delivered)) → HearsSome speaker p q text → IsPrefixOf q.delivered client.request
+    heard_prefix p q text h t x =
         both_ways (speaker.lost p)
         (λ l. subst (λ y. IsPrefixOf y client.request) (sym (x.no_more l).0) h)
-        (λ l. let all : IsPrefixOf (p.heard ++ text) client.request = prefix_joins client.request p.heard text h (t l) in
-        subst (λ y. IsPrefixOf y client.request) (sym x.heard) record {
+        (λ l. let all : IsPrefixOf (p.delivered ++ text) client.request = prefix_joins client.request p.delivered text h (t l) in
+        subst (λ y. IsPrefixOf y client.request) (sym x.delivered) record {
           rest = x.rest ++ all.rest;
-          joined = sym (append_assoc (p.heard ++ x.front) x.rest all.rest) ∙ ap (λ y. y ++ all.rest) (append_assoc p.heard x.front x.rest ∙ ap (λ y. p.heard ++ y) x.joined) ∙ all.joined;
+          joined = sym (append_assoc (p.delivered ++ x.prefix) x.rest all.rest) ∙ ap (λ y. y ++ all.rest) (append_assoc p.delivered x.prefix x.rest ∙ ap (λ y. p.delivered ++ y) x.joined) ∙ all.joined;
         })
 
-    -- where the part is not lost afterwards, all of it is heard
-    heard_whole : (p q : Part) (text : List ℕ) → HearsSome speaker p q text → speaker.lost q ≡ false → (speaker.lost p ≡ false) × (length q.heard ≡ length p.heard + length text)
+    -- if the state is not lost afterwards, all of it is received
+    heard_whole : (p q : AppState) (text : List ℕ) → HearsSome speaker p q text → speaker.lost q ≡ false → (speaker.lost p ≡ false) × (length q.delivered ≡ length p.delivered + length text)
     heard_whole p q text x l = (
       both_ways (speaker.lost p) (λ y. absurd (let z : speaker.lost q ≡ true = (x.no_more y).1 in cc)) (λ y. y),
       elim (x.all) [
-        | inl e ↦ (let t : x.front ≡ text = sym (append_nothing x.front) ∙ ap (λ y. x.front ++ y) (sym e) ∙ x.joined in
-            ap (λ y. length y) x.heard ∙ length-append p.heard x.front ∙ ap (λ y. length p.heard + length y) t)
+        | inl e ↦ (let t : x.prefix ≡ text = sym (append_nothing x.prefix) ∙ ap (λ y. x.prefix ++ y) (sym e) ∙ x.joined in
+            ap (λ y. length y) x.delivered ∙ length-append p.delivered x.prefix ∙ ap (λ y. length p.delivered + length y) t)
         | inr e ↦ absurd (cc)
       ],
     )
 
-    -- text is heard in ESTABLISHED; the state may change, and the peer's window
-    heard_text : (c d : Connection) (text : List ℕ) → AtText speaker opened client c → (speaker.lost c.part ≡ false → IsPart client.request text (length c.part.heard)) → Heard m speaker laws c.part d.part text → d.acked ≡ c.acked → d.len ≡ c.len → AtText speaker opened client d
+    -- text is received in ESTABLISHED; the state may change, and the peer's window
+    heard_text : (c d : Connection) (text : List ℕ) → AtText speaker opened client c → (speaker.lost c.part ≡ false → IsPart client.request text (length c.part.delivered)) → Heard m speaker laws c.part d.part text → d.acked ≡ c.acked → d.len ≡ c.len → AtText speaker opened client d
     heard_text c d text h p x ea el =
-        let front : List ℕ = x.some.front in
-        let e : length (speaker.text d.part.heard d.part.captures) ≡ length (speaker.text (c.part.heard ++ front) c.part.captures) = ap (λ q. length (speaker.text q d.part.captures)) x.some.heard ∙ ap (λ q. length (speaker.text (c.part.heard ++ front) q)) x.captures in
-        let more : length (speaker.text c.part.heard c.part.captures) ≤ length (speaker.text (c.part.heard ++ front) c.part.captures) = prefix_length (speaker.text c.part.heard c.part.captures) (speaker.text (c.part.heard ++ front) c.part.captures) (page_heard m speaker laws c.part.heard front c.part.captures) in
+        let prefix : List ℕ = x.some.prefix in
+        let e : length (speaker.text d.part.delivered d.part.captures) ≡ length (speaker.text (c.part.delivered ++ prefix) c.part.captures) = ap (λ q. length (speaker.text q d.part.captures)) x.some.delivered ∙ ap (λ q. length (speaker.text (c.part.delivered ++ prefix) q)) x.captures in
+        let more : length (speaker.text c.part.delivered c.part.captures) ≤ length (speaker.text (c.part.delivered ++ prefix) c.part.captures) = prefix_length (speaker.text c.part.delivered c.part.captures) (speaker.text (c.part.delivered ++ prefix) c.part.captures) (page_heard m speaker laws c.part.delivered prefix c.part.captures) in
         record {
           opened_is = h.opened_is;
           here = x.some.here;
-          heard = heard_front c.part d.part text h.heard p x.some;
+          delivered = heard_prefix c.part d.part text h.delivered p x.some;
           fits = omega (arith, e, more, h.fits, x.acked, el);
           count = omega (arith, h.count, x.acked, ea);
         }
 
-    front_fits : (c : Connection) → AtText speaker opened client c → length c.part.heard ≤ length client.request
-    front_fits c h = prefix_length c.part.heard client.request h.heard
+    prefix_fits : (c : Connection) → AtText speaker opened client c → length c.part.delivered ≤ length client.request
+    prefix_fits c h = prefix_length c.part.delivered client.request h.delivered
 
-    peer_closes_good : (c : Connection) (numbers : List ℕ) (s : PlainSegment) → c.peer_first ≡ own_first client → AtOpen speaker opened client c → (speaker.lost c.part ≡ false → IsPart client.request s.text (length c.part.heard)) → OutGood c (peer_closes m c numbers s)
+    peer_closes_good : (c : Connection) (numbers : List ℕ) (s : PlainSegment) → c.irs ≡ own_first client → AtOpen speaker opened client c → (speaker.lost c.part ≡ false → IsPart client.request s.text (length c.part.delivered)) → OutGood c (peer_closes m c numbers s)
     unfolding peer_closes
     peer_closes_good c numbers s pf h part =
         let x = hears_is m speaker laws numbers c.part s.text h.text.here in
@@ -238,8 +238,8 @@ module _ (m : Meaning) (speaker : Speaker) (laws : Speaks m speaker) where
         (λ e. move_says c d (bare_ack d) w (says_ack d refl))
         (λ e. record { moved = w; is_asked = refl; idle = ltb-zero c.len e })
 
-    goes_on_good : (acked : Bool) (c : Connection) (numbers : List ℕ) (s : PlainSegment) → c.state ≡ Established → c.peer_first ≡ own_first client → AtOpen speaker opened client c → (speaker.lost c.part ≡ false → IsPart client.request s.text (length c.part.heard)) → OutGood c (goes_on m acked c numbers s)
-    unfolding goes_on
+    goes_on_good : (acked : Bool) (c : Connection) (numbers : List ℕ) (s : PlainSegment) → c.state ≡ Established → c.irs ≡ own_first client → AtOpen speaker opened client c → (speaker.lost c.part ≡ false → IsPart client.request s.text (length c.part.delivered)) → OutGood c (stays_established m acked c numbers s)
+    unfolding stays_established
     goes_on_good acked c numbers s st pf h part =
         let x = hears_is m speaker laws numbers c.part s.text h.text.here in
         let d : Connection = with_window s.window (with_part (hears m numbers c.part s.text).part (takes (length s.text) c)) in
@@ -254,10 +254,10 @@ module _ (m : Meaning) (speaker : Speaker) (laws : Speaks m speaker) where
         (λ f. record { moved = w; is_asked = ap is_open st; idle = ltb-zero c.len f }))
 
     established_good : (at_epoch : ℕ) (acked : Bool) (c : Connection) (numbers : List ℕ) (s : PlainSegment) → Steady client → ClientSaid client opened at_epoch s → has_rst s.flags ≡ false →
-        c.state ≡ Established → c.peer_first ≡ own_first client → AtOpen speaker opened client c → (0 < length s.text → s.seq ≡ rcv_nxt c) → OutGood c (in_established m acked c numbers s)
+        c.state ≡ Established → c.irs ≡ own_first client → AtOpen speaker opened client c → (0 < length s.text → s.seq ≡ rcv_nxt c) → OutGood c (in_established m acked c numbers s)
     unfolding in_established
-    established_good at_epoch acked c numbers s steady said nr st pf h e =
-        let part : speaker.lost c.part ≡ false → IsPart client.request s.text (length c.part.heard) = λ l. said_part at_epoch c s (length c.part.heard) steady said nr pf (h.taken l) (front_fits c h.text) e in
+    established_good at_epoch acked c numbers s steady output nr st pf h e =
+        let part : speaker.lost c.part ≡ false → IsPart client.request s.text (length c.part.delivered) = λ l. said_part at_epoch c s (length c.part.delivered) steady output nr pf (h.taken l) (prefix_fits c h.text) e in
         choose (λ (o : Outcome). OutGood c o) (has_fin s.flags) _ _
         (λ f. peer_closes_good c numbers s pf h part)
         (λ f. goes_on_good acked c numbers s st pf h part)
@@ -267,11 +267,11 @@ module _ (m : Meaning) (speaker : Speaker) (laws : Speaks m speaker) where
     ack_text c numbers h =
         let n : (m.acked numbers c.part c.len).part.acked ≡ c.part.acked + c.len = acked_is m speaker laws numbers c.part c.len h.here h.fits in
         let x : KeepsHeard speaker c.part (m.acked numbers c.part c.len).part = laws.acked numbers c.part c.len h.here in
-        like_text c (with_part (m.acked numbers c.part c.len).part (rests c)) x.here x.heard (laws.steady.acked_captures numbers c.part c.len) (omega (arith, n, h.count)) (omega (arith, n, h.fits)) h
+        like_text c (with_part (m.acked numbers c.part c.len).part (rests c)) x.here x.delivered (laws.steady.acked_captures numbers c.part c.len) (omega (arith, n, h.count)) (omega (arith, n, h.fits)) h
 
-    out_from : (c b : Connection) (d : Connection) (s : Step) → b.first ≡ c.first → b.part.captures ≡ c.part.captures → OutBy b d s → OutBy c d s
+    out_from : (c b : Connection) (d : Connection) (s : Step) → b.iss ≡ c.iss → b.part.captures ≡ c.part.captures → OutBy b d s → OutBy c d s
     out_from c b d (Step.Ask fresh) f k h = record {
-      moved = record { first = h.moved.first ∙ f; more = h.moved.more; captures = h.moved.captures ∙ ap (λ l. l ++ h.moved.more) k; good = h.moved.good };
+      moved = record { iss = h.moved.iss ∙ f; more = h.moved.more; captures = h.moved.captures ∙ ap (λ l. l ++ h.moved.more) k; good = h.moved.good };
       is_asked = h.is_asked;
       idle = h.idle;
     }
@@ -283,15 +283,15 @@ module _ (m : Meaning) (speaker : Speaker) (laws : Speaks m speaker) where
     out_from c b d Step.Reset f k h = from_good c b (record { connection = d; sent = Some (reset_of d) }) [] f (k ∙ sym (append_nothing c.part.captures)) h
 
     connects_good : (at_epoch : ℕ) (c : Connection) (numbers : List ℕ) (s : PlainSegment) → Steady client → ClientSaid client opened at_epoch s → has_rst s.flags ≡ false → has_ack s.flags ≡ true →
-        c.peer_first ≡ own_first client → AtSyn speaker c → (0 < length s.text → s.seq ≡ rcv_nxt c) → OutGood c (connects m c numbers s)
-    connects_good at_epoch c numbers s steady said nr ac pf h e =
-        let told = is_data at_epoch s said nr ac in
-        let start : Part = (m.connected numbers c.sockets.own_port.0).part in
+        c.irs ≡ own_first client → AtSyn speaker c → (0 < length s.text → s.seq ≡ rcv_nxt c) → OutGood c (connects m c numbers s)
+    connects_good at_epoch c numbers s steady output nr ac pf h e =
+        let told = is_data at_epoch s output nr ac in
+        let start : AppState = (m.connected numbers c.sockets.own_port.0).part in
         let x = hears_is m speaker laws (m.connected numbers c.sockets.own_port.0).numbers start s.text (laws.connected_here numbers c.sockets.own_port.0 h.port) in
         let d : Connection = with_part (hears m (m.connected numbers c.sockets.own_port.0).numbers start s.text).part (takes (length s.text) (in_state Established (rests c))) in
-        let none : start.heard ≡ [] = laws.connected_heard numbers c.sockets.own_port.0 h.port in
-        let part : IsPart client.request s.text 0 = said_part at_epoch c s 0 steady said nr pf h.taken (omega arith) e in
-        let begins : IsPrefixOf start.heard client.request = subst (λ q. IsPrefixOf q client.request) (sym none) record { rest = client.request; joined = refl } in
+        let none : start.delivered ≡ [] = laws.connected_heard numbers c.sockets.own_port.0 h.port in
+        let part : IsPart client.request s.text 0 = said_part at_epoch c s 0 steady output nr pf h.taken (omega arith) e in
+        let begins : IsPrefixOf start.delivered client.request = subst (λ q. IsPrefixOf q client.request) (sym none) record { rest = client.request; joined = refl } in
         let acked : d.part.acked ≡ 0 = x.acked ∙ laws.steady.connected_acked numbers c.sockets.own_port.0 in
         let k : d.part.captures ≡ [] = x.captures ∙ laws.steady.connected_captures numbers c.sockets.own_port.0 in
         record {
@@ -299,7 +299,7 @@ module _ (m : Meaning) (speaker : Speaker) (laws : Speaks m speaker) where
             text = record {
               opened_is = told.opened_is;
               here = x.some.here;
-              heard = heard_front start d.part s.text begins (λ l. subst (λ n. IsPart client.request s.text n) (sym (ap length none)) part) x.some;
+              delivered = heard_prefix start d.part s.text begins (λ l. subst (λ n. IsPart client.request s.text n) (sym (ap length none)) part) x.some;
               fits = omega (arith, acked);
               count = omega (arith, acked, h.acked, h.len);
             };
@@ -310,82 +310,82 @@ module _ (m : Meaning) (speaker : Speaker) (laws : Speaks m speaker) where
         }
 
     by_state_good : (at_epoch : ℕ) (st : State) (acked : Bool) (c : Connection) (numbers : List ℕ) (s : PlainSegment) → Steady client → ClientSaid client opened at_epoch s → has_rst s.flags ≡ false →
-        c.state ≡ st → c.peer_first ≡ own_first client → StateGood speaker opened client c st → is_acked c s ≡ acked → (0 < length s.text → s.seq ≡ rcv_nxt c) → is_live st ≡ true →
+        c.state ≡ st → c.irs ≡ own_first client → StateGood speaker opened client c st → is_acked c s ≡ acked → (0 < length s.text → s.seq ≡ rcv_nxt c) → is_live st ≡ true →
         OutGood c (by_state m st acked c numbers s)
     unfolding fin_acked fin_waits
-    by_state_good at_epoch Closed acked c numbers s steady said nr st pf h ac e lv = absurd (cc)
-    by_state_good at_epoch SynRcvd true c numbers s steady said nr st pf h ac e lv = connects_good at_epoch c numbers s steady said nr (and_true _ _ ac).0 pf h e
-    by_state_good at_epoch SynRcvd false c numbers s steady said nr st pf h ac e lv = move_silent c c (stays_good c record { peer_first = pf; state = state_at c SynRcvd st h })
-    by_state_good at_epoch Established true c numbers s steady said nr st pf h ac e lv =
+    by_state_good at_epoch Closed acked c numbers s steady output nr st pf h ac e lv = absurd (cc)
+    by_state_good at_epoch SynRcvd true c numbers s steady output nr st pf h ac e lv = connects_good at_epoch c numbers s steady output nr (and_true _ _ ac).0 pf h e
+    by_state_good at_epoch SynRcvd false c numbers s steady output nr st pf h ac e lv = move_silent c c (stays_good c record { irs = pf; state = state_at c SynRcvd st h })
+    by_state_good at_epoch Established true c numbers s steady output nr st pf h ac e lv =
         let b : Connection = with_part (m.acked numbers c.part c.len).part (rests c) in
         let o : Outcome = in_established m true b (m.acked numbers c.part c.len).numbers s in
         out_from c b o.connection o.step refl (laws.steady.acked_captures numbers c.part c.len)
-        (established_good at_epoch true b (m.acked numbers c.part c.len).numbers s steady said nr st pf record { text = ack_text c numbers h.text; taken = λ l. (let x = laws.acked numbers c.part c.len h.text.here in h.taken (sym x.lost ∙ l) ∙ ap length (sym x.heard)) } e)
-    by_state_good at_epoch Established false c numbers s steady said nr st pf h ac e lv = established_good at_epoch false c numbers s steady said nr st pf h e
-    by_state_good at_epoch CloseWait true c numbers s steady said nr st pf h ac e lv =
+        (established_good at_epoch true b (m.acked numbers c.part c.len).numbers s steady output nr st pf record { text = ack_text c numbers h.text; taken = λ l. (let x = laws.acked numbers c.part c.len h.text.here in h.taken (sym x.lost ∙ l) ∙ ap length (sym x.delivered)) } e)
+    by_state_good at_epoch Established false c numbers s steady output nr st pf h ac e lv = established_good at_epoch false c numbers s steady output nr st pf h e
+    by_state_good at_epoch CloseWait true c numbers s steady output nr st pf h ac e lv =
         let b : Connection = with_part (m.acked numbers c.part c.len).part (rests c) in
         let d : Connection = with_window s.window b in
         let t : AtText speaker opened client b = ack_text c numbers h in
-        let u : AtText speaker opened client d = record { opened_is = t.opened_is; here = t.here; heard = t.heard; fits = t.fits; count = t.count } in
+        let u : AtText speaker opened client d = record { opened_is = t.opened_is; here = t.here; delivered = t.delivered; fits = t.fits; count = t.count } in
         record { moved = turns c d refl (laws.steady.acked_captures numbers c.part c.len) pf (state_at d CloseWait st u); is_asked = ap is_open st; idle = refl }
-    by_state_good at_epoch CloseWait false c numbers s steady said nr st pf h ac e lv =
+    by_state_good at_epoch CloseWait false c numbers s steady output nr st pf h ac e lv =
         let d : Connection = with_window s.window c in
-        let u : AtText speaker opened client d = record { opened_is = h.opened_is; here = h.here; heard = h.heard; fits = h.fits; count = h.count } in
+        let u : AtText speaker opened client d = record { opened_is = h.opened_is; here = h.here; delivered = h.delivered; fits = h.fits; count = h.count } in
         move_silent c d (turns c d refl refl pf (state_at d CloseWait st u))
-    by_state_good at_epoch FinWait1 true c numbers s steady said nr st pf h ac e lv =
+    by_state_good at_epoch FinWait1 true c numbers s steady output nr st pf h ac e lv =
         choose (λ (o : Outcome). OutGood c o) (has_fin s.flags) _ _
-        (λ f. let d : Connection = in_state TimeWait (takes (length s.text + 1) (rests c)) in move_says c d (bare_ack d) (turns c d refl refl pf record { opened_is = h.opened_is; heard = h.heard }) (says_ack d refl))
-        (λ f. let d : Connection = in_state FinWait2 (takes (length s.text) (rests c)) in move_silent c d (turns c d refl refl pf record { opened_is = h.opened_is; heard = h.heard }))
-    by_state_good at_epoch FinWait1 false c numbers s steady said nr st pf h ac e lv =
-        let g : ConnGood speaker opened client c = record { peer_first = pf; state = state_at c FinWait1 st h } in
+        (λ f. let d : Connection = in_state TimeWait (takes (length s.text + 1) (rests c)) in move_says c d (bare_ack d) (turns c d refl refl pf record { opened_is = h.opened_is; delivered = h.delivered }) (says_ack d refl))
+        (λ f. let d : Connection = in_state FinWait2 (takes (length s.text) (rests c)) in move_silent c d (turns c d refl refl pf record { opened_is = h.opened_is; delivered = h.delivered }))
+    by_state_good at_epoch FinWait1 false c numbers s steady output nr st pf h ac e lv =
+        let g : ConnGood speaker opened client c = record { irs = pf; state = state_at c FinWait1 st h } in
         choose (λ (o : Outcome). OutGood c o) (has_fin s.flags) _ _
         (λ f. let d : Connection = in_state Closing (takes (length s.text + 1) c) in
-        let a : AtFin speaker opened client d = record { opened_is = h.opened_is; ends = h.ends; count = h.count; heard = h.heard } in
+        let a : AtFin speaker opened client d = record { opened_is = h.opened_is; ends = h.ends; count = h.count; delivered = h.delivered } in
         move_says c d (bare_ack d) (turns c d refl refl pf a) (says_ack d refl))
         (λ f. choose (λ (o : Outcome). OutGood c o) (has_text s) _ _
         (λ i. let d : Connection = takes (length s.text) c in
-        let a : AtFin speaker opened client d = record { opened_is = h.opened_is; ends = h.ends; count = h.count; heard = h.heard } in
+        let a : AtFin speaker opened client d = record { opened_is = h.opened_is; ends = h.ends; count = h.count; delivered = h.delivered } in
         move_says c d (bare_ack d) (turns c d refl refl pf (state_at d FinWait1 st a)) (says_ack d (ap is_live st)))
         (λ i. move_silent c c (stays_good c g)))
-    by_state_good at_epoch FinWait2 acked c numbers s steady said nr st pf h ac e lv =
+    by_state_good at_epoch FinWait2 acked c numbers s steady output nr st pf h ac e lv =
         choose (λ (o : Outcome). OutGood c o) (has_fin s.flags) _ _
-        (λ f. let d : Connection = record (in_state TimeWait (takes (length s.text + 1) c)) { age = 0 } in move_says c d (bare_ack d) (turns c d refl refl pf record { opened_is = h.opened_is; heard = h.heard }) (says_ack d refl))
+        (λ f. let d : Connection = record (in_state TimeWait (takes (length s.text + 1) c)) { age = 0 } in move_says c d (bare_ack d) (turns c d refl refl pf record { opened_is = h.opened_is; delivered = h.delivered }) (says_ack d refl))
         (λ f. choose (λ (o : Outcome). OutGood c o) (has_text s) _ _
-        (λ i. let d : Connection = takes (length s.text) c in move_says c d (bare_ack d) (turns c d refl refl pf (state_at d FinWait2 st record { opened_is = h.opened_is; heard = h.heard })) (says_ack d (ap is_live st)))
-        (λ i. move_silent c c (stays_good c record { peer_first = pf; state = state_at c FinWait2 st h })))
-    by_state_good at_epoch Closing true c numbers s steady said nr st pf h ac e lv =
-        let d : Connection = in_state TimeWait (rests c) in move_silent c d (turns c d refl refl pf record { opened_is = h.opened_is; heard = h.heard })
-    by_state_good at_epoch Closing false c numbers s steady said nr st pf h ac e lv = move_silent c c (stays_good c record { peer_first = pf; state = state_at c Closing st h })
-    by_state_good at_epoch LastAck true c numbers s steady said nr st pf h ac e lv = move_silent c (closes (rests c)) (closes_good c (rests c) refl refl)
-    by_state_good at_epoch LastAck false c numbers s steady said nr st pf h ac e lv = move_silent c c (stays_good c record { peer_first = pf; state = state_at c LastAck st h })
-    by_state_good at_epoch TimeWait acked c numbers s steady said nr st pf h ac e lv =
-        move_says c c (bare_ack c) (stays_good c record { peer_first = pf; state = state_at c TimeWait st h }) (says_ack c (ap is_live st))
+        (λ i. let d : Connection = takes (length s.text) c in move_says c d (bare_ack d) (turns c d refl refl pf (state_at d FinWait2 st record { opened_is = h.opened_is; delivered = h.delivered })) (says_ack d (ap is_live st)))
+        (λ i. move_silent c c (stays_good c record { irs = pf; state = state_at c FinWait2 st h })))
+    by_state_good at_epoch Closing true c numbers s steady output nr st pf h ac e lv =
+        let d : Connection = in_state TimeWait (rests c) in move_silent c d (turns c d refl refl pf record { opened_is = h.opened_is; delivered = h.delivered })
+    by_state_good at_epoch Closing false c numbers s steady output nr st pf h ac e lv = move_silent c c (stays_good c record { irs = pf; state = state_at c Closing st h })
+    by_state_good at_epoch LastAck true c numbers s steady output nr st pf h ac e lv = move_silent c (closes (rests c)) (closes_good c (rests c) refl refl)
+    by_state_good at_epoch LastAck false c numbers s steady output nr st pf h ac e lv = move_silent c c (stays_good c record { irs = pf; state = state_at c LastAck st h })
+    by_state_good at_epoch TimeWait acked c numbers s steady output nr st pf h ac e lv =
+        move_says c c (bare_ack c) (stays_good c record { irs = pf; state = state_at c TimeWait st h }) (says_ack c (ap is_live st))
 
     -- a segment of its client
     pub on_segment_good : (at_epoch : ℕ) (c : Connection) (numbers : List ℕ) (s : PlainSegment) → Steady client → ClientSaid client opened at_epoch s → ConnGood speaker opened client c → is_live c.state ≡ true →
         OutGood c (on_segment m c numbers s)
     unfolding on_segment
-    on_segment_good at_epoch c numbers s steady said g lv =
+    on_segment_good at_epoch c numbers s steady output g lv =
         choose (λ (o : Outcome). OutGood c o) (has_rst s.flags) _ _
         (λ r. move_silent c (closes c) (closes_good c c refl refl))
         (λ r. choose (λ (o : Outcome). OutGood c o) (is_out_of_order c s) _ _
         (λ f. move_says c c (bare_ack c) (stays_good c g) (says_ack c lv))
-        (λ f. by_state_good at_epoch c.state (is_acked c s) c numbers s steady said r refl g.peer_first g.state refl (in_place s (rcv_nxt c) f) lv))
+        (λ f. by_state_good at_epoch c.state (is_acked c s) c numbers s steady output r refl g.irs g.state refl (in_place s (rcv_nxt c) f) lv))
 
     -- the timer
     older : (c : Connection) (st : State) → StateGood speaker opened client c st → StateGood speaker opened client (grows_older c) st
     older c Closed h = tt
-    older c SynRcvd h = record { port = h.port; taken = h.taken; len = h.len; captures = h.captures; acked = h.acked; heard = h.heard }
-    older c Established h = record { text = record { opened_is = h.text.opened_is; here = h.text.here; heard = h.text.heard; fits = h.text.fits; count = h.text.count }; taken = h.taken }
-    older c CloseWait h = record { opened_is = h.opened_is; here = h.here; heard = h.heard; fits = h.fits; count = h.count }
-    older c FinWait1 h = record { opened_is = h.opened_is; ends = h.ends; count = h.count; heard = h.heard }
-    older c FinWait2 h = record { opened_is = h.opened_is; heard = h.heard }
-    older c Closing h = record { opened_is = h.opened_is; ends = h.ends; count = h.count; heard = h.heard }
-    older c TimeWait h = record { opened_is = h.opened_is; heard = h.heard }
-    older c LastAck h = record { opened_is = h.opened_is; ends = h.ends; count = h.count; heard = h.heard }
+    older c SynRcvd h = record { port = h.port; taken = h.taken; len = h.len; captures = h.captures; acked = h.acked; delivered = h.delivered }
+    older c Established h = record { text = record { opened_is = h.text.opened_is; here = h.text.here; delivered = h.text.delivered; fits = h.text.fits; count = h.text.count }; taken = h.taken }
+    older c CloseWait h = record { opened_is = h.opened_is; here = h.here; delivered = h.delivered; fits = h.fits; count = h.count }
+    older c FinWait1 h = record { opened_is = h.opened_is; ends = h.ends; count = h.count; delivered = h.delivered }
+    older c FinWait2 h = record { opened_is = h.opened_is; delivered = h.delivered }
+    older c Closing h = record { opened_is = h.opened_is; ends = h.ends; count = h.count; delivered = h.delivered }
+    older c TimeWait h = record { opened_is = h.opened_is; delivered = h.delivered }
+    older c LastAck h = record { opened_is = h.opened_is; ends = h.ends; count = h.count; delivered = h.delivered }
 
     older_moved : (c : Connection) → ConnGood speaker opened client c → Moved speaker opened client c (grows_older c)
-    older_moved c g = turns c (grows_older c) refl refl g.peer_first (older c c.state g.state)
+    older_moved c g = turns c (grows_older c) refl refl g.irs (older c c.state g.state)
 
     -- what is outstanding is sent again
     again_good : (c d : Connection) (st : State) → Moved speaker opened client c d → d.state ≡ st → StateGood speaker opened client d st → OutBy c d (outstanding true st)
@@ -416,9 +416,9 @@ module _ (m : Meaning) (speaker : Speaker) (laws : Speaks m speaker) where
           let a : (m.polled numbers c.part).part.acked ≡ c.part.acked = (laws.steady.lawful.polled_keeps numbers c.part tt).1 in
           let k : (m.polled numbers c.part).part.captures ≡ c.part.captures = laws.steady.polled_captures numbers c.part in
           let d : Connection = with_part (m.polled numbers c.part).part c in
-          let t : AtText speaker opened client d = like_text c d x.here x.heard k (omega (arith, h.text.count, a)) (omega (arith, h.text.fits, a)) h.text in
+          let t : AtText speaker opened client d = like_text c d x.here x.delivered k (omega (arith, h.text.count, a)) (omega (arith, h.text.fits, a)) h.text in
           record {
-            moved = turns c d refl k g.peer_first (state_at d Established e record { text = t; taken = λ l. h.taken (sym x.lost ∙ l) ∙ ap length (sym x.heard) });
+            moved = turns c d refl k g.irs (state_at d Established e record { text = t; taken = λ l. h.taken (sym x.lost ∙ l) ∙ ap length (sym x.delivered) });
             is_asked = ap is_open e;
             idle = z;
           });

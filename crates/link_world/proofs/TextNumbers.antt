@@ -1,8 +1,8 @@
--- The numbers of a connection beside those of its application's part, whatever happens.
+-- The numbers of a connection beside those of its application's state, whatever happens.
 use Rattle.std.proofs.Common.{◌≡◌, ℕ, ◌+◌, ◌≤◌, Bool, true, false, not, ◌&&◌, inl, inr, List, [], ◌++◌, length, refl, sym, ap, ◌∙◌, subst, arith, length-append, ltb}
 use Rattle.tcp_segment.specs.Segments.{PlainSegment, has_fin, has_rst}
 use Rattle.rexmit_timer.specs.declared.timer.Beat.{Beat}
-use Rattle.app_events.specs.Part.{Meaning}
+use Rattle.app_events.specs.AppSpec.{AppSpec}
 use Rattle.app_events.specs.Pages.{Pages, IsPaged}
 use Rattle.app_events.specs.declared.now.Now.{Now}
 use Rattle.app_events.specs.declared.state.State.{State}
@@ -11,22 +11,22 @@ use Rattle.app_events.specs.declared.want.Want.{Want}
 use Rattle.app_events.specs.declared.want.Want.TheVariants.{Nothing, Send, Close, Abort}
 use Rattle.tcp_machine.specs.Connection.{Connection, Sockets, closed, is_live}
 use Rattle.tcp_machine.specs.Ask.{Outcome, after_own_fin, closes, peer_has_closed, idles, does_as_wanted, prepared, asked}
-use Rattle.tcp_machine.specs.OnSegment.{accepted, hears, is_out_of_order, is_acked, rests, has_text, in_state, takes, with_part, with_window, in_established, peer_closes, goes_on, fin_acked, fin_waits, by_state, on_segment}
+use Rattle.tcp_machine.specs.OnSegment.{accepted, hears, is_out_of_order, is_acked, rests, has_text, in_state, takes, with_part, with_window, in_established, peer_closes, stays_established, fin_acked, fin_waits, by_state, on_segment}
 use Rattle.tcp_machine.specs.OnTick.{grows_older, by_beat, on_tick}
 use Rattle.tcp_machine.specs.declared.step.Step.{Step}
 use Rattle.link_world.specs.Nodes.{HasTextNumbers}
 use Rattle.uip_node.proofs.Basics.{choose}
-use Rattle.tcp_machine.specs.Stands.{is_open}
+use Rattle.tcp_machine.specs.Represents.{is_open}
 use Rattle.uip_node.proofs.Cases.{asked_by, by_open, by_own_fin, is_ask, no_ask_again, on_tick_by, open_live}
 use Rattle.uip_node.proofs.Handed.{Heard, hears_is}
 
 -- the numbers, by the state
 abbrev AtNumbers : State → Connection → Type 0
 AtNumbers Closed c = Unit {0}
-AtNumbers SynRcvd c = (c.acked ≡ 0) × (c.len ≡ 1) × (c.taken ≡ 0) × (c.part.heard ≡ [])
-AtNumbers Established c = (c.acked ≡ 1 + c.part.acked) × (c.taken ≡ length c.part.heard)
-AtNumbers CloseWait c = (c.acked ≡ 1 + c.part.acked) × (c.taken ≡ length c.part.heard + 1)
-AtNumbers _ c = length c.part.heard ≤ c.taken
+AtNumbers SynRcvd c = (c.acked ≡ 0) × (c.len ≡ 1) × (c.taken ≡ 0) × (c.part.delivered ≡ [])
+AtNumbers Established c = (c.acked ≡ 1 + c.part.acked) × (c.taken ≡ length c.part.delivered)
+AtNumbers CloseWait c = (c.acked ≡ 1 + c.part.acked) × (c.taken ≡ length c.part.delivered + 1)
+AtNumbers _ c = length c.part.delivered ≤ c.taken
 
 pub record Num (c : Connection) : Type 0 where
   pub at : AtNumbers c.state c
@@ -43,19 +43,19 @@ closes_num : (c : Connection) → Num (closes c)
 closes_num c = record { at = tt }
 
 -- in ESTABLISHED and CLOSE-WAIT, with the same numbers
-open_num : (c d : Connection) (st : State) → is_open st ≡ true → d.acked ≡ c.acked → d.taken ≡ c.taken → d.part.acked ≡ c.part.acked → d.part.heard ≡ c.part.heard → AtNumbers st c → AtNumbers st d
+open_num : (c d : Connection) (st : State) → is_open st ≡ true → d.acked ≡ c.acked → d.taken ≡ c.taken → d.part.acked ≡ c.part.acked → d.part.delivered ≡ c.part.delivered → AtNumbers st c → AtNumbers st d
 open_num c d st o a t pa ph h =
     by_open (λ x. AtNumbers x c → AtNumbers x d) (λ g. (omega (arith, a, pa, g.0), omega (arith, t, ap length ph, g.1))) (λ g. (omega (arith, a, pa, g.0), omega (arith, t, ap length ph, g.1))) st o h
 
 -- the same numbers in the same state; what is outstanding stays too
-like_num : (c d : Connection) (st : State) → d.acked ≡ c.acked → d.len ≡ c.len → d.taken ≡ c.taken → d.part.acked ≡ c.part.acked → d.part.heard ≡ c.part.heard → AtNumbers st c → AtNumbers st d
+like_num : (c d : Connection) (st : State) → d.acked ≡ c.acked → d.len ≡ c.len → d.taken ≡ c.taken → d.part.acked ≡ c.part.acked → d.part.delivered ≡ c.part.delivered → AtNumbers st c → AtNumbers st d
 like_num c d Closed a l t pa ph h = tt
 like_num c d SynRcvd a l t pa ph h = (a ∙ h.0, l ∙ h.1, t ∙ h.2, ph ∙ h.3)
 like_num c d Established a l t pa ph h = (omega (arith, a, pa, h.0), omega (arith, t, ap length ph, h.1))
 like_num c d CloseWait a l t pa ph h = (omega (arith, a, pa, h.0), omega (arith, t, ap length ph, h.1))
 like_num c d _ a l t pa ph h = omega (arith, t, ap length ph, h)
 
-low_num : (c : Connection) (st : State) → is_live st ≡ true → AtNumbers st c → length c.part.heard ≤ c.taken
+low_num : (c : Connection) (st : State) → is_live st ≡ true → AtNumbers st c → length c.part.delivered ≤ c.taken
 low_num c Closed l h = absurd (cc)
 low_num c SynRcvd l h = omega (arith, ap length h.3)
 low_num c Established l h = omega (arith, h.1)
@@ -63,10 +63,10 @@ low_num c CloseWait l h = omega (arith, h.1)
 low_num c _ l h = h
 
 -- the state after an own FIN
-fin_num : (d : Connection) (st : State) → length d.part.heard ≤ d.taken → AtNumbers (after_own_fin st) d
+fin_num : (d : Connection) (st : State) → length d.part.delivered ≤ d.taken → AtNumbers (after_own_fin st) d
 fin_num d st h = by_own_fin (λ x. AtNumbers x d) h h st
 
-module _ (m : Meaning) (pages : Pages) (lawful : IsPaged m pages) where
+module _ (m : AppSpec) (pages : Pages) (lawful : IsPaged m pages) where
   wanted_num : (w : Want) (fresh : Bool) (c : Connection) (numbers : List ℕ) → is_open c.state ≡ true → Num c → Num (does_as_wanted w fresh c numbers).connection
   unfolding idles
   wanted_num Abort fresh c numbers o g = closes_num c
@@ -89,25 +89,25 @@ module _ (m : Meaning) (pages : Pages) (lawful : IsPaged m pages) where
 
   -- ---- a segment
 
-  closes_in : (c : Connection) (numbers : List ℕ) (s : PlainSegment) → c.acked ≡ 1 + c.part.acked → c.taken ≡ length c.part.heard → OutNum (peer_closes m c numbers s)
+  closes_in : (c : Connection) (numbers : List ℕ) (s : PlainSegment) → c.acked ≡ 1 + c.part.acked → c.taken ≡ length c.part.delivered → OutNum (peer_closes m c numbers s)
   unfolding peer_closes
   closes_in c numbers s a t =
       let x : Heard m pages lawful c.part (hears m numbers c.part s.text).part s.text = hears_is m pages lawful numbers c.part s.text in
       let d : Connection = in_state CloseWait (with_window s.window (with_part (hears m numbers c.part s.text).part (takes (length s.text + 1) c))) in
-      let g : Num d = record { at = (omega (arith, a, x.acked), omega (arith, t, ap length x.heard, length-append c.part.heard s.text)) } in
+      let g : Num d = record { at = (omega (arith, a, x.acked), omega (arith, t, ap length x.delivered, length-append c.part.delivered s.text)) } in
       choose (λ (o : Outcome). OutNum o) (ltb 0 c.len) _ _ (λ e. record { num = g; open_there = λ z. refl }) (λ e. record { num = g; open_there = λ z. refl })
 
-  goes_on_in : (acked : Bool) (c : Connection) (numbers : List ℕ) (s : PlainSegment) → c.state ≡ Established → c.acked ≡ 1 + c.part.acked → c.taken ≡ length c.part.heard → OutNum (goes_on m acked c numbers s)
-  unfolding goes_on
+  goes_on_in : (acked : Bool) (c : Connection) (numbers : List ℕ) (s : PlainSegment) → c.state ≡ Established → c.acked ≡ 1 + c.part.acked → c.taken ≡ length c.part.delivered → OutNum (stays_established m acked c numbers s)
+  unfolding stays_established
   goes_on_in acked c numbers s st a t =
       let x : Heard m pages lawful c.part (hears m numbers c.part s.text).part s.text = hears_is m pages lawful numbers c.part s.text in
       let d : Connection = with_window s.window (with_part (hears m numbers c.part s.text).part (takes (length s.text) c)) in
-      let g : Num d = num_at d Established st (omega (arith, a, x.acked), omega (arith, t, ap length x.heard, length-append c.part.heard s.text)) in
+      let g : Num d = num_at d Established st (omega (arith, a, x.acked), omega (arith, t, ap length x.delivered, length-append c.part.delivered s.text)) in
       let o : is_open d.state ≡ true = ap is_open st in
       choose (λ (o : Outcome). OutNum o) (not acked && not (has_text s)) _ _ (λ e. record { num = g; open_there = λ z. o })
       (λ e. choose (λ (o : Outcome). OutNum o) (ltb 0 c.len) _ _ (λ f. record { num = g; open_there = λ z. o }) (λ f. record { num = g; open_there = λ z. o }))
 
-  established_num : (acked : Bool) (c : Connection) (numbers : List ℕ) (s : PlainSegment) → c.state ≡ Established → c.acked ≡ 1 + c.part.acked → c.taken ≡ length c.part.heard → OutNum (in_established m acked c numbers s)
+  established_num : (acked : Bool) (c : Connection) (numbers : List ℕ) (s : PlainSegment) → c.state ≡ Established → c.acked ≡ 1 + c.part.acked → c.taken ≡ length c.part.delivered → OutNum (in_established m acked c numbers s)
   unfolding in_established
   established_num acked c numbers s st a t = choose (λ (o : Outcome). OutNum o) (has_fin s.flags) _ _ (λ e. closes_in c numbers s a t) (λ e. goes_on_in acked c numbers s st a t)
 
@@ -121,23 +121,23 @@ module _ (m : Meaning) (pages : Pages) (lawful : IsPaged m pages) where
       let port : ℕ = c.sockets.own_port.0 in
       let start = m.connected numbers port in
       let x : Heard m pages lawful start.part (hears m start.numbers start.part s.text).part s.text = hears_is m pages lawful start.numbers start.part s.text in
-      let none : start.part.heard ≡ [] = lawful.connected_heard numbers port in
+      let none : start.part.delivered ≡ [] = lawful.connected_heard numbers port in
       let zero : start.part.acked ≡ 0 = lawful.connected_acked numbers port in
-      let text : length (hears m start.numbers start.part s.text).part.heard ≡ length s.text = ap length x.heard ∙ ap (λ l. length (l ++ s.text)) none in
+      let text : length (hears m start.numbers start.part s.text).part.delivered ≡ length s.text = ap length x.delivered ∙ ap (λ l. length (l ++ s.text)) none in
       record { num = record { at = (omega (arith, h.0, h.1, x.acked, zero), omega (arith, h.2, text)) }; open_there = λ z. refl }
   by_state_num SynRcvd false c numbers s e h = still c SynRcvd Step.Drop numbers e refl h
   by_state_num Established true c numbers s e h =
       let told = m.acked numbers c.part c.len in
       let b : Connection = with_part told.part (rests c) in
       let moved : told.part.acked ≡ c.part.acked + c.len = lawful.acked_moves numbers c.part c.len in
-      let same : told.part.heard ≡ c.part.heard = lawful.acked_like numbers c.part c.len in
+      let same : told.part.delivered ≡ c.part.delivered = lawful.acked_like numbers c.part c.len in
       established_num true b told.numbers s e (omega (arith, h.0, moved)) (omega (arith, h.1, ap length same))
   by_state_num Established false c numbers s e h = established_num false c numbers s e h.0 h.1
   by_state_num CloseWait true c numbers s e h =
       let told = m.acked numbers c.part c.len in
       let d : Connection = with_window s.window (with_part told.part (rests c)) in
       let moved : told.part.acked ≡ c.part.acked + c.len = lawful.acked_moves numbers c.part c.len in
-      let same : told.part.heard ≡ c.part.heard = lawful.acked_like numbers c.part c.len in
+      let same : told.part.delivered ≡ c.part.delivered = lawful.acked_like numbers c.part c.len in
       record { num = num_at d CloseWait e (omega (arith, h.0, moved), omega (arith, h.1, ap length same)); open_there = λ z. ap is_open e }
   by_state_num CloseWait false c numbers s e h = still (with_window s.window c) CloseWait Step.Drop numbers e refl (h.0, h.1)
   by_state_num FinWait1 true c numbers s e h =
@@ -183,7 +183,7 @@ module _ (m : Meaning) (pages : Pages) (lawful : IsPaged m pages) where
     polled = λ e l.
         (let x = lawful.polled_like numbers c.part in
         let d : Connection = with_part (m.polled numbers c.part).part c in
-        record { num = record { at = open_num c d c.state (ap is_open e) refl refl x.acked x.heard g.at }; open_there = λ z. ap is_open e });
+        record { num = record { at = open_num c d c.state (ap is_open e) refl refl x.acked x.delivered g.at }; open_there = λ z. ap is_open e });
   }
 
   pub segment_num : (at : Connection → Now) (c : Connection) (numbers : List ℕ) (s : PlainSegment) → Num c → Num (asked m at (on_segment m c numbers s)).connection
@@ -195,17 +195,17 @@ module _ (m : Meaning) (pages : Pages) (lawful : IsPaged m pages) where
 pub closed_num : Num closed
 closed_num = record { at = tt }
 
-pub accepted_num : (first : ℕ) (sockets : Sockets) (s : PlainSegment) → Num (accepted first sockets s)
-accepted_num first sockets s = record { at = (refl, refl, refl, refl) }
+pub accepted_num : (iss : ℕ) (sockets : Sockets) (s : PlainSegment) → Num (accepted iss sockets s)
+accepted_num iss sockets s = record { at = (refl, refl, refl, refl) }
 
--- what they say together
+-- what they imply together
 pub text_numbers : (c : Connection) → Num c → HasTextNumbers c
 text_numbers c g = record {
-  said = λ e. elim e [
+  output = λ e. elim e [
     | inl x ↦ (let h : AtNumbers Established c = subst (λ st. AtNumbers st c) x g.at in h.0)
     | inr x ↦ (let h : AtNumbers CloseWait c = subst (λ st. AtNumbers st c) x g.at in h.0)
   ];
   established = λ x. (let h : AtNumbers Established c = subst (λ st. AtNumbers st c) x g.at in h.1);
   close_wait = λ x. (let h : AtNumbers CloseWait c = subst (λ st. AtNumbers st c) x g.at in h.1);
-  heard = λ l. low_num c c.state l g.at;
+  delivered = λ l. low_num c c.state l g.at;
 }

@@ -13,7 +13,7 @@ use Rattle.rexmit_timer.specs.declared.timer.Beat.TheVariants.{Again}
 use Rattle.rexmit_timer.specs.declared.timer.Timer.{Timer}
 use Rattle.rexmit_timer.proofs.AgeTable.{repeats}
 use Rattle.tcp_segment.specs.Segments.{PlainSegment}
-use Rattle.app_events.specs.Part.{Meaning}
+use Rattle.app_events.specs.AppSpec.{AppSpec}
 use Rattle.app_events.specs.declared.now.Now.{Now}
 use Rattle.app_events.specs.declared.state.State.{State}
 use Rattle.app_events.specs.declared.state.State.TheVariants.{SynRcvd, Established, CloseWait, FinWait1, Closing, LastAck}
@@ -24,7 +24,7 @@ use Rattle.tcp_machine.specs.OnTick.{limit_of, outstanding, grows_older, by_beat
 use Rattle.tcp_machine.specs.declared.step.Step.{Step}
 use Rattle.uip_node.specs.Events.{Event}
 use Rattle.uip_node.specs.Events.Event.{Periodic}
-use Rattle.uip_node.specs.Node.{AbstractNode, moment, happened}
+use Rattle.uip_node.specs.Node.{AbstractNode, snapshot, happened}
 use Rattle.link_world.specs.Headline.{may_wait, IsExpired, SendsAgain, Tick}
 use Rattle.uip_node.proofs.Basics.{and_true, ltb-yes}
 use Rattle.uip_node.proofs.Connections.{index_of}
@@ -47,22 +47,22 @@ le_is : (a b : ℕ) → nat_le a b ≡ true → a ≤ b
 le_is a b h = grind (arith, common_steps)
 
 -- ages up to one that has come were reached
-front : (age limit : ℕ) (xs ys : List ℕ) → limit ≤ age → list_all (λ a. nat_le a limit) xs ≡ true → length xs ≤ reached age (xs ++ ys)
-front age limit [] ys l h = omega arith
-front age limit (x ∷ xs) ys l h =
+prefix : (age limit : ℕ) (xs ys : List ℕ) → limit ≤ age → list_all (λ a. nat_le a limit) xs ≡ true → length xs ≤ reached age (xs ++ ys)
+prefix age limit [] ys l h = omega arith
+prefix age limit (x ∷ xs) ys l h =
     let both = and_true (nat_le x limit) (list_all (λ a. nat_le a limit) xs) h in
-    omega (arith, one_more age x (xs ++ ys) (omega (arith, l, le_is x limit both.0)), front age limit xs ys l both.1)
+    omega (arith, one_more age x (xs ++ ys) (omega (arith, l, le_is x limit both.0)), prefix age limit xs ys l both.1)
 
 -- at age 102 six were reached, and at age 249 all nine
 six : (age : ℕ) → 102 ≤ age → 6 ≤ tries_at age
 six age h =
-    let f : 6 ≤ reached age ages = front age 102 (4 ∷ 8 ∷ 15 ∷ 28 ∷ 53 ∷ 102 ∷ []) (151 ∷ 200 ∷ 249 ∷ []) h refl in
+    let f : 6 ≤ reached age ages = prefix age 102 (4 ∷ 8 ∷ 15 ∷ 28 ∷ 53 ∷ 102 ∷ []) (151 ∷ 200 ∷ 249 ∷ []) h refl in
     let r : reached age ages ≡ tries_at age = reached_is age ages in
     omega (arith, f, r)
 
 nine : (age : ℕ) → 249 ≤ age → 9 ≤ tries_at age
 nine age h =
-    let f : 9 ≤ reached age ages = front age 249 ages [] h refl in
+    let f : 9 ≤ reached age ages = prefix age 249 ages [] h refl in
     let r : reached age ages ≡ tries_at age = reached_is age ages in
     omega (arith, f, r)
 
@@ -90,7 +90,7 @@ again_beat c x =
     let timer : Timer = record { count = count_at c.age; tries = tries_at c.age } in
     sym (repeats (limit_of c.state) c.age timer (limit_low c.state) (early c.state c.age t) record { count = refl; tries = refl } count t).beat
 
-module _ (m : Meaning) where
+module _ (m : AppSpec) where
   by_state : (st : State) (c : Connection) (numbers : List ℕ) → c.state ≡ st → may_wait st ≡ true → 0 < c.len → tick_by m st c numbers ≡ waits_for_ack m c numbers
   unfolding ticks_established
   by_state SynRcvd c numbers e w l = refl
@@ -127,15 +127,15 @@ module _ (m : Meaning) where
   sends_it n event slot c s x e a o = record {
     id = _;
     segment = x;
-    sends = ap (λ (z : Option PlainSegment). option_map (λ t. Tcp c.sockets (ident_of (record { event = event; answer = option_map_or (λ t. Spoke (is_again s)) (segment_of m (grows_older c) s) Silent } ∷ n.past)) (is_again s) t) z) e
-        ∙ ap (λ b. Some (Tcp c.sockets (ident_of (record { event = event; answer = option_map_or (λ t. Spoke (is_again s)) (segment_of m (grows_older c) s) Silent } ∷ n.past)) b x)) a;
+    sends = ap (λ (z : Option PlainSegment). option_map (λ t. Tcp c.sockets (ident_of (record { event = event; answer = option_map_or (λ t. Spoke (is_again s)) (segment_of m (grows_older c) s) Silent } ∷ n.history)) (is_again s) t) z) e
+        ∙ ap (λ b. Some (Tcp c.sockets (ident_of (record { event = event; answer = option_map_or (λ t. Spoke (is_again s)) (segment_of m (grows_older c) s) Silent } ∷ n.history)) b x)) a;
     is = o;
   }
 
 pub tick : Tick
 tick m served n slot c at x =
     let d = due m c.state (grows_older c) x.waits in
-    subst (λ z. SendsAgain m c (happened m n (Periodic slot) slot z (asked m (moment n (Periodic slot) slot) (on_tick m z n.numbers))).sent) (sym (index_of n.connections slot closed c at))
-    (subst (λ o. SendsAgain m c (happened m n (Periodic slot) slot c (asked m (moment n (Periodic slot) slot) o)).sent) (sym (tick_is m c n.numbers x))
-    (subst (λ o. SendsAgain m c (happened m n (Periodic slot) slot c o).sent) (sym (not_asked m c.state (moment n (Periodic slot) slot) (grows_older c) n.numbers))
+    subst (λ z. SendsAgain m c (happened m n (Periodic slot) slot z (asked m (snapshot n (Periodic slot) slot) (on_tick m z n.numbers))).sent) (sym (index_of n.connections slot closed c at))
+    (subst (λ o. SendsAgain m c (happened m n (Periodic slot) slot c (asked m (snapshot n (Periodic slot) slot) o)).sent) (sym (tick_is m c n.numbers x))
+    (subst (λ o. SendsAgain m c (happened m n (Periodic slot) slot c o).sent) (sym (not_asked m c.state (snapshot n (Periodic slot) slot) (grows_older c) n.numbers))
     (sends_it m n (Periodic slot) slot c (outstanding true c.state) d.segment d.is d.again d.is)))

@@ -1,4 +1,4 @@
--- The bytes of the datagrams of a world, and a byte of them that is changed on the way.
+-- The bytes of the datagrams of a world, and the change of one byte on the way.
 use Rattle.std.specs.Option.{option_map_or}
 use Rattle.std.specs.Prelude.{ℕ, List, [], ◌∷◌, ◌++◌, Option, Some, None, slice_index, slice_set, bit_xor, if◌then◌else◌}
 use Rattle.uip_wire.specs.declared.addr.Addr.{Addr}
@@ -20,11 +20,11 @@ use Rattle.link_world.specs.declared.who.Who.TheVariants.{FromClient, FromNode, 
 unfoldable pub ping_from : Addr → Addr → List ℕ
 ping_from source target = head_bytes 28 1 Icmp source.0 target.0 ++ 8 ∷ 0 ∷ 247 ∷ 253 ∷ 0 ∷ 1 ∷ 0 ∷ 1 ∷ []
 
--- the server as a client's connection sees it
+-- the server as the connection of a client knows it
 abbrev pub server_of : Setup → Sockets
 server_of setup = record { peer = setup.server; peer_port = setup.server_port; own_port = setup.port }
 
--- a client's datagram, and one of the node to a client
+-- a datagram of a client, and one of the node to a client
 abbrev pub client_bytes : ℕ → PlainSegment → Side → List ℕ
 client_bytes id s side = datagram_bytes (datagram_to side.client.setup.addr (server_of side.client.setup) id s)
 
@@ -42,11 +42,11 @@ bytes_by w who (OfEcho request) = echo_reply request
 abbrev pub sent_bytes : World → Sent → List ℕ
 sent_bytes w e = bytes_by w e.who e.content
 
--- the byte at a place is changed by exclusive or with the mask
+-- the byte at an offset, changed by exclusive or with the mask
 abbrev pub changed : List ℕ → ℕ → ℕ → List ℕ
 changed bytes at mask = slice_set bytes at (bit_xor (slice_index bytes at) mask)
 
--- What a client hears in an event of its address: a segment of its server, or nothing.
+-- What a client receives by an event at its address: a segment of its server, or nothing.
 abbrev pub heard_by : Setup → Event → Option PlainSegment
 heard_by setup (Arrived sockets s) = if same_sockets sockets (server_of setup) then Some s else None
 heard_by setup _ = None

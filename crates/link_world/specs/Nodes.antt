@@ -1,42 +1,42 @@
--- What a node keeps of its connections and of their applications' parts, whatever happens to it.
+-- Invariants of the connections of a node and of the states of their applications, for any events.
 use Rattle.std.specs.List.{All}
 use Rattle.std.specs.Prelude.{◌≡◌, ℕ, ◌+◌, ◌<◌, ◌≤◌, ◌⊎◌, Bool, true, List, length, Some, slice_get}
 use Rattle.uip_wire.specs.declared.addr.Addr.{Addr}
-use Rattle.app_events.specs.Part.{Meaning}
-use Rattle.app_events.specs.Pages.{Pages, IsPaged, IsMoment, IsWord}
+use Rattle.app_events.specs.AppSpec.{AppSpec}
+use Rattle.app_events.specs.Pages.{Pages, IsPaged, IsSnapshot, IsU32}
 use Rattle.app_events.specs.declared.state.State.TheVariants.{Established, CloseWait}
 use Rattle.tcp_machine.specs.Connection.{Connection, is_live}
 use Rattle.uip_node.specs.Events.{Event}
 use Rattle.uip_node.specs.Laws.{IsEvent}
-use Rattle.uip_node.specs.Node.{opening, run}
+use Rattle.uip_node.specs.Node.{initial_node, run}
 
 -- a connection of a node that such events reach
-pub record IsOfNode (m : Meaning) (c : Connection) : Type 0 where
+pub record IsOfNode (m : AppSpec) (c : Connection) : Type 0 where
   pub served : ℕ → Bool
   pub addr : Addr
   pub numbers : List ℕ
-  pub in_range : All IsWord numbers
+  pub in_range : All IsU32 numbers
   pub events : List Event
   pub are_events : All IsEvent events
   pub slot : ℕ
-  pub there : slice_get (run m served events (opening addr numbers)).node.connections slot ≡ Some c
+  pub there : slice_get (run m served events (initial_node addr numbers)).node.connections slot ≡ Some c
 
--- The numbers of a text: what the peer has acknowledged is the SYN and what the application counts as acknowledged, and what was
--- taken is what it was handed, with the FIN in CLOSE-WAIT. Later nothing is handed to it any more.
+-- The peer has acknowledged the SYN and what the application counts as acknowledged. What was accepted is what the application received,
+-- and the FIN in CLOSE-WAIT. Later the application receives nothing more.
 pub record HasTextNumbers (c : Connection) : Type 0 where
-  pub said : (c.state ≡ Established) ⊎ (c.state ≡ CloseWait) → c.acked ≡ 1 + c.part.acked
-  pub established : c.state ≡ Established → c.taken ≡ length c.part.heard
-  pub close_wait : c.state ≡ CloseWait → c.taken ≡ length c.part.heard + 1
-  pub heard : is_live c.state ≡ true → length c.part.heard ≤ c.taken
+  pub output : (c.state ≡ Established) ⊎ (c.state ≡ CloseWait) → c.acked ≡ 1 + c.part.acked
+  pub established : c.state ≡ Established → c.taken ≡ length c.part.delivered
+  pub close_wait : c.state ≡ CloseWait → c.taken ≡ length c.part.delivered + 1
+  pub delivered : is_live c.state ≡ true → length c.part.delivered ≤ c.taken
 
--- The numbers of a text, at every node.
+-- The counts of text agree, at every node.
 abbrev pub TextNumbers : Type 0
-TextNumbers = (m : Meaning) (pages : Pages) → IsPaged m pages → (c : Connection) → IsOfNode m c → HasTextNumbers c
+TextNumbers = (m : AppSpec) (pages : Pages) → IsPaged m pages → (c : Connection) → IsOfNode m c → HasTextNumbers c
 
--- Captures fit: what an application captures has rows whose slots and tries are one digit, and numbers in the range of their types.
+-- Snapshots fit: a captured snapshot has rows with one digit for slot and tries, and numbers within their types.
 abbrev pub CapturesFit : Type 0
-CapturesFit = (m : Meaning) (pages : Pages) → IsPaged m pages → (c : Connection) → IsOfNode m c → All IsMoment c.part.captures
+CapturesFit = (m : AppSpec) (pages : Pages) → IsPaged m pages → (c : Connection) → IsOfNode m c → All IsSnapshot c.part.captures
 
--- Texts are short: no connection says 2^30 bytes.
+-- Texts are short: no connection sends 2^30 bytes.
 abbrev pub TextsAreShort : Type 0
-TextsAreShort = (m : Meaning) (pages : Pages) → IsPaged m pages → (c : Connection) → IsOfNode m c → length (m.said c.part) < 1073741824
+TextsAreShort = (m : AppSpec) (pages : Pages) → IsPaged m pages → (c : Connection) → IsOfNode m c → length (m.output c.part) < 1073741824

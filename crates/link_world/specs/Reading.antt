@@ -1,7 +1,7 @@
--- What the bytes of a datagram say, and who sends what to whom.
+-- What the bytes of a datagram contain, and who sends what to whom.
 use Rattle.std.specs.Prelude.{◌≡◌, ℕ, ◌≤◌, List, length, Some, slice_get}
 use Rattle.uip_wire.specs.declared.sizes.TheConstants.{LARGEST_DATAGRAM}
-use Rattle.app_events.specs.Part.{Meaning}
+use Rattle.app_events.specs.AppSpec.{AppSpec}
 use Rattle.app_events.specs.Pages.{Pages, IsPaged}
 use Rattle.uip_node.specs.Events.Event.{EchoAsked, Arrived}
 use Rattle.uip_node.specs.Edge.{event_of}
@@ -13,8 +13,8 @@ use Rattle.link_world.specs.declared.who.Who.TheVariants.{FromClient, FromNode, 
 use Rattle.uip_node.specs.Laws.{HasBytes}
 use Rattle.link_world.specs.Headline.{IsReached}
 
--- What its receiver reads in the bytes of a datagram is what was sent. Between a client and the node this needs that the client's
--- server is the node.
+-- The receiver reads in the bytes of a datagram what was sent. Between a client and the node this requires that the server of the client
+-- is the node.
 abbrev pub IsRead : World → Who → Content → List ℕ → Type 0
 IsRead w (FromClient number) (OfSegment id s) bytes =
     (side : Side) → numbered w.sides number ≡ Some side → side.client.setup.server ≡ w.node.addr
@@ -25,18 +25,18 @@ IsRead w (FromNode number) (OfSegment id s) bytes =
 IsRead w Pinger (OfPing datagram) bytes = event_of w.node.addr bytes ≡ EchoAsked datagram
 IsRead w who content bytes = Unit {0}  -- nothing else is delivered
 
--- Bytes are read: where the texts of the pages are bytes, so is every datagram that was sent, and none is longer than the largest.
+-- Bytes are read: if the pages are bytes, so is every datagram sent, and none is longer than the largest datagram.
 abbrev pub BytesAreRead : Type 0
 BytesAreRead =
-    (m : Meaning) (pages : Pages) → IsPaged m pages → HasBytes pages → (w : World) → IsReached m pages w →
+    (m : AppSpec) (pages : Pages) → IsPaged m pages → HasBytes pages → (w : World) → IsReached m pages w →
     (k : ℕ) (e : Sent) → slice_get w.sent k ≡ Some e → IsRead w e.who e.content (sent_bytes w e)
     × (length (sent_bytes w e) ≤ LARGEST_DATAGRAM)
 
--- a client has this number
+-- A client has this number.
 abbrev pub IsNumberOf : List Side → ℕ → Type 0
 IsNumberOf sides number = (side : Side) × (numbered sides number ≡ Some side)
 
--- A segment is of a client or to one, an echo request is a pinger's, and an echo reply goes to no client.
+-- A segment is from a client or to one. An echo request is from a pinger, and an echo reply is for no client.
 abbrev pub IsSentBy : List Side → Who → Content → Type 0
 IsSentBy sides (FromClient number) (OfSegment id s) = IsNumberOf sides number
 IsSentBy sides (FromNode number) (OfSegment id s) = IsNumberOf sides number
@@ -44,8 +44,8 @@ IsSentBy sides (FromNode number) (OfEcho request) = number ≡ 0
 IsSentBy sides Pinger (OfPing datagram) = Unit {0}
 IsSentBy sides who content = ⊥
 
--- Sent to clients: so is every datagram; the node's segments go to clients alone.
+-- Sent to clients: this holds for every datagram; the segments of the node are for clients only.
 abbrev pub SentToClients : Type 0
 SentToClients =
-    (m : Meaning) (pages : Pages) → IsPaged m pages → (w : World) → IsReached m pages w →
+    (m : AppSpec) (pages : Pages) → IsPaged m pages → (w : World) → IsReached m pages w →
     (k : ℕ) (e : Sent) → slice_get w.sent k ≡ Some e → IsSentBy w.sides e.who e.content

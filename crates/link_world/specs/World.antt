@@ -1,8 +1,8 @@
--- The world of a replay: the node, the clients, and the list of all datagrams that were ever sent.
+-- The world of a replay: the node, the clients, and the list of all datagrams ever sent.
 use Rattle.std.specs.Option.{option_map_or, option_or}
 use Rattle.std.specs.Prelude.{ℕ, zero, suc, ◌+◌, ◌==◌, Bool, true, false, List, [], ◌∷◌, ◌++◌, length, map, Option, Some, None, if◌then◌else◌, is_none, slice_get, slice_set}
 use Rattle.tcp_segment.specs.Segments.{PlainSegment}
-use Rattle.app_events.specs.Part.{Moment, Meaning}
+use Rattle.app_events.specs.AppSpec.{Snapshot, AppSpec}
 use Rattle.tcp_machine.specs.Connection.{Sockets, Connection, same_sockets}
 use Rattle.uip_node.specs.Events.{Event, Reply}
 use Rattle.uip_node.specs.Events.Event.{EchoAsked, Arrived}
@@ -15,26 +15,26 @@ use Rattle.link_client.specs.declared.client_state.ClientState.TheVariants.{Open
 use Rattle.link_world.specs.declared.who.Who.{Who}
 use Rattle.link_world.specs.declared.who.Who.TheVariants.{FromClient, FromNode, Pinger}
 
--- What a connection leaves behind when it becomes CLOSED.
-pub record Era : Type 0 where
-  pub first : ℕ  -- its first number
-  pub captures : List Moment
+-- What the world keeps of a connection that became CLOSED.
+pub record PastConnection : Type 0 where
+  pub iss : ℕ  -- its ISS
+  pub captures : List Snapshot
 
-abbrev pub era_of : Connection → Era
-era_of c = record { first = c.first; captures = c.part.captures }
+abbrev pub past_connection_of : Connection → PastConnection
+past_connection_of c = record { iss = c.iss; captures = c.part.captures }
 
 -- A client, and what the world keeps of it.
 pub record Side : Type 0 where
   pub client : AbstractClient
-  pub past : List Era  -- the connections with its sockets that became CLOSED, the oldest first
+  pub history : List PastConnection  -- the connections with its sockets that became CLOSED, the oldest first
   pub opened : Option ℕ  -- the epoch in which it became Opened
   pub first_stale : Option ℕ  -- the number of the first stale datagram that was delivered from or to it
 
 -- The epoch of a client: how often the server's connection with its sockets has become CLOSED.
 abbrev pub epoch : Side → ℕ
-epoch side = length side.past
+epoch side = length side.history
 
--- no stale datagram was delivered from it or to it
+-- No stale datagram was delivered from it or to it.
 abbrev pub is_clean : Side → Bool
 is_clean side = is_none side.first_stale
 
@@ -42,7 +42,7 @@ is_clean side = is_none side.first_stale
 abbrev pub client_sockets : Side → Sockets
 client_sockets side = record { peer = side.client.setup.addr; peer_port = side.client.setup.port; own_port = side.client.setup.server_port }
 
--- What a datagram is, apart from its addresses.
+-- The content of a datagram, without its addresses.
 pub data Content : Type 0 where
   OfSegment : (id : ℕ) (segment : PlainSegment) → Content
   OfPing : (datagram : List ℕ) → Content  -- an echo request
@@ -52,17 +52,17 @@ pub data Content : Type 0 where
 pub record Sent : Type 0 where
   pub who : Who
   pub tick : ℕ  -- the tick count at sending
-  pub epoch : ℕ  -- the client's epoch at the end of the step that sent it, 0 where no client is meant
-  pub again : Bool  -- the node sent it again while it was outstanding
+  pub epoch : ℕ  -- the epoch of the client at the end of the step that sent it, 0 if it concerns no client
+  pub again : Bool  -- the node marked it as a retransmission
   pub content : Content
 
 pub record World : Type 0 where
   pub node : AbstractNode
   pub sides : List Side
   pub sent : List Sent  -- numbered from 1
-  pub mark : ℕ  -- the highest number that a round has gone past
+  pub mark : ℕ  -- the highest number that a round has passed
 
--- what stands at a number, counted from 1
+-- the element with a number, counted from 1
 abbrev pub numbered : {X : Type 0} → List X → ℕ → Option X
 numbered xs zero = None
 numbered xs (suc n) = slice_get xs n
@@ -71,15 +71,15 @@ abbrev pub set_numbered : {X : Type 0} → List X → ℕ → X → List X
 set_numbered xs zero x = xs
 set_numbered xs (suc n) x = slice_set xs n x
 
--- the client whose connection became CLOSED is one epoch on
-abbrev pub buries_in : Connection → Side → Side
-buries_in gone side =
-    if same_sockets gone.sockets (client_sockets side) then record side { past = side.past ++ era_of gone ∷ [] } else side
+-- If the connection of the client became CLOSED, its epoch rises by one.
+abbrev pub retires_in : Connection → Side → Side
+retires_in gone side =
+    if same_sockets gone.sockets (client_sockets side) then record side { history = side.history ++ past_connection_of gone ∷ [] } else side
 
-abbrev pub buries : Option Connection → List Side → List Side
-buries gone sides = option_map_or (λ c. map (buries_in c) sides) gone sides
+abbrev pub retires : Option Connection → List Side → List Side
+retires gone sides = option_map_or (λ c. map (retires_in c) sides) gone sides
 
--- the client, by its number, whose sockets a datagram of the node has; 0 where there is none
+-- the number of the client with the sockets of a datagram of the node; 0 if there is none
 abbrev pub addressed : ℕ → Sockets → List Side → ℕ
 addressed number sockets [] = 0
 addressed number sockets (side ∷ sides) = if same_sockets sockets (client_sockets side) then number else addressed
@@ -93,7 +93,7 @@ epoch_of Pinger sides = 0
 -- one more datagram
 abbrev pub posts : World → Who → Bool → Content → World
 posts w who again content = record w {
-  sent = w.sent ++ record { who = who; tick = ticks_of w.node.past; epoch = epoch_of who w.sides; again = again; content = content } ∷ [];
+  sent = w.sent ++ record { who = who; tick = ticks_of w.node.history; epoch = epoch_of who w.sides; again = again; content = content } ∷ [];
 }
 
 abbrev pub posts_reply : World → Option Reply → World
@@ -101,11 +101,11 @@ posts_reply w None = w
 posts_reply w (Some (Echo request)) = posts w (FromNode 0) false (OfEcho request)
 posts_reply w (Some (Tcp sockets id again s)) = posts w (FromNode (addressed 1 sockets w.sides)) again (OfSegment id s)
 
--- The node took a step: first the CLOSED connection is buried, then the answer is posted, with the epoch after that.
+-- The node took a step. First the CLOSED connection becomes a past connection, then the reply is posted with the new epoch.
 abbrev pub node_stepped : World → NodeStep → World
-node_stepped w r = posts_reply (record w { node = r.node; sides = buries r.gone w.sides }) r.sent
+node_stepped w r = posts_reply (record w { node = r.node; sides = retires r.gone w.sides }) r.sent
 
-abbrev pub node_handles : Meaning → (ℕ → Bool) → World → Event → World
+abbrev pub node_handles : AppSpec → (ℕ → Bool) → World → Event → World
 node_handles m served w event = node_stepped w (step m served w.node event)
 
 abbrev pub becomes_opened : ClientState → ClientState → Bool
@@ -129,18 +129,19 @@ posts_of_client w number sent = option_map_or (λ s. posts w (FromClient number)
 abbrev pub client_stepped : World → ℕ → Side → ClientStep → World
 client_stepped w number side took = posts_of_client (with_side w number (with_client side took.client)) number took.sent
 
--- A datagram is stale where its client's epoch is another one when it is delivered. The first such is kept.
+-- A datagram is stale if the epoch of its client is another one when it is delivered. The first such is recorded.
 abbrev pub marked : Side → ℕ → Sent → Side
 marked side number e = record side {
   first_stale = option_or side.first_stale (if e.epoch == epoch side then None else Some number);
 }
 
--- what is done with the client of a number, where there is one
+-- the world after an action on the client with a number, if there is one
 abbrev pub at_side : World → ℕ → (Side → World) → World
 at_side w number act = option_map_or act (numbered w.sides number) w
 
--- Datagram k is delivered: a client's and a ping go to the node, a TCP datagram of the node to its client, an echo reply to nobody.
-abbrev pub delivers : Meaning → (ℕ → Bool) → World → ℕ → Sent → Who → Content → World
+-- Datagram k is delivered. A datagram of a client and a ping arrive at the node, a TCP datagram of the node at its client, an echo reply
+-- nowhere.
+abbrev pub delivers : AppSpec → (ℕ → Bool) → World → ℕ → Sent → Who → Content → World
 delivers m served w k e (FromClient number) (OfSegment id s) =
     at_side w number (λ side. node_handles m served (with_side w number (marked side k e)) (Arrived (client_sockets side) s))
 delivers m served w k e (FromNode number) (OfSegment id s) =

@@ -1,6 +1,7 @@
 use uip_wire::Addr;
 
 /// One act in a world. Clients and datagrams are numbered from 1.
+/// [add: act] A variant.
 #[derive(Clone, Copy, Debug, PartialEq, Eq)]
 pub enum Act {
     Opens(u8),
@@ -11,7 +12,7 @@ pub enum Act {
     Ping(Addr),
     /// The datagram of this number is delivered.
     Give(u32),
-    /// It is handed over with its byte at a place changed by exclusive or with the mask.
+    /// The datagram is delivered with its byte at an offset changed, by exclusive or with the mask.
     Damage { number: u32, at: u16, mask: u8 },
     Tick,
 }

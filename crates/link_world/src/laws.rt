@@ -1,6 +1,6 @@
-//! The headline of the link world: whatever a schedule loses, repeats or reorders, a clean client has received a prefix of its
-//! page, and the whole of it where it saw a plain close. Each law is the clause of a function without parameters; how the
-//! proof goes is told in docs/LINK_THEOREM.md.
+//! The guarantee of the link world: whatever a schedule loses, repeats or reorders, a clean client has received a prefix of its
+//! page, and all of it if it saw a normal close. Each law is the clause of a function without parameters; docs/LINK_THEOREM.md
+//! describes the proof.
 
 ghost use Rattle.link_world.specs.Parts.{CleanParts};
 ghost use Rattle.link_world.specs.Honest.{HonestLink};
@@ -9,27 +9,27 @@ ghost use Rattle.link_world.specs.Headline.{PrefixAndWhole, SameBytes, SameBytes
 ghost use Rattle.link_world.specs.Nodes.{CapturesFit, TextNumbers, TextsAreShort};
 ghost use Rattle.link_world.specs.Times.{AcknowledgedLater, EpochsAreFew, MarkIsLow, NoneIsEmpty, OneConnection, SidesAsPlanned};
 
-/// A clean client has received a prefix of its page, and the whole page where it took the server's FIN in sequence.
+/// A clean client has received a prefix of its page, and the whole page if it accepted the server's FIN in sequence.
 pub fn prefix_and_whole()
     ensures { PrefixAndWhole }
 {}
 
-/// What is sent again while it is outstanding has the same number, flags and text as before.
+/// A retransmission of what is outstanding has the same number, flags and text as before.
 pub fn same_bytes()
     ensures { SameBytes }
 {}
 
-/// The same without a page, and with no bound on what is said, where nothing is damaged.
+/// The same without a page, and with no bound on the output, if nothing is damaged.
 pub fn same_bytes_plainly()
     ensures { SameBytesPlainly }
 {}
 
-/// A datagram is marked as sent again exactly where an earlier one of the same connection stands at its number.
+/// A datagram is marked as a retransmission exactly if an earlier one of the same connection has its number.
 pub fn again_exactly()
     ensures { AgainExactly }
 {}
 
-/// The same without a page, and with no bound on what is said, where nothing is damaged.
+/// The same without a page, and with no bound on the output, if nothing is damaged.
 pub fn again_exactly_plainly()
     ensures { AgainExactlyPlainly }
 {}
@@ -39,7 +39,7 @@ pub fn tick()
     ensures { Tick }
 {}
 
-/// A whole datagram that is handed over with one byte changed changes no client, no connection, no number and no list.
+/// A whole datagram that is delivered with one byte changed changes no client, no connection, no number and no list.
 pub fn damage_is_loss()
     ensures { DamageIsLoss }
 {}
@@ -49,7 +49,7 @@ pub fn one_segment()
     ensures { OneSegment }
 {}
 
-/// What the lines of a schedule reach is reached by a list of acts.
+/// A list of acts reaches what the lines of a schedule reach.
 pub fn lines_are_acts()
     ensures { LinesAreActs }
 {}
@@ -59,18 +59,18 @@ pub fn clean_parts()
     ensures { CleanParts }
 {}
 
-/// Over a link that loses nothing a client is served whole, within two rounds for each part of its request, two for each text of
-/// its page, and six more.
+/// Over a link that loses nothing, a client has its whole page within two rounds for each part of its request, two for each
+/// text of its page, and six more.
 pub fn honest_link()
     ensures { HonestLink }
 {}
 
-/// The bytes of each datagram say to its receiver what was sent, and are no more than the largest datagram has.
+/// Its receiver reads the bytes of each datagram as what was sent. They are no more than the largest datagram has.
 pub fn bytes_are_read()
     ensures { BytesAreRead }
 {}
 
-/// Each segment is of a client or to one: the node speaks to clients alone.
+/// Each segment is of a client or to one: the node sends to clients alone.
 pub fn sent_to_clients()
     ensures { SentToClients }
 {}
@@ -80,7 +80,7 @@ pub fn damage_is_loss_there()
     ensures { DamageIsLossThere }
 {}
 
-/// As long as a client's epoch is the same, a connection with it that lives goes on living, and its first number stays.
+/// While a client's epoch is the same, a connection with it stays alive, and its ISS stays the same.
 pub fn one_connection()
     ensures { OneConnection }
 {}
@@ -105,8 +105,8 @@ pub fn none_is_empty()
     ensures { NoneIsEmpty }
 {}
 
-/// At every node what a connection's peer has acknowledged is what its application counts, and what it was handed is what was
-/// taken.
+/// At every node, what a connection's peer has acknowledged is what its application counts, and what was delivered to the
+/// application is what was accepted.
 pub fn text_numbers()
     ensures { TextNumbers }
 {}
@@ -116,7 +116,7 @@ pub fn captures_fit()
     ensures { CapturesFit }
 {}
 
-/// No connection of a node says 2^30 bytes.
+/// No connection of a node sends 2^30 bytes.
 pub fn texts_are_short()
     ensures { TextsAreShort }
 {}

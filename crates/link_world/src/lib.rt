@@ -1,6 +1,6 @@
-//! The world of a replay over plain data: one node, its clients, and every datagram that was ever sent, which a schedule gives,
-//! repeats, reorders, damages or loses. `specs/` has the definitions and the laws about them, each of which is the clause of a function
-//! here.
+//! The world of a replay over plain data: one node, its clients, and every datagram that was ever sent. A schedule delivers,
+//! repeats, reorders, damages or loses these. `specs/` has the definitions and the laws about them; each law is the clause of a
+//! function here.
 #![tactic(auto)]
 
 mod act;

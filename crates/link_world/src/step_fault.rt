@@ -3,7 +3,7 @@
 pub enum StepFault {
     /// The datagram's number is 0 or not yet sent.
     NoDatagram,
-    /// The damaged place is past the datagram.
+    /// The damaged offset is past the datagram.
     NoByte,
     /// The client is not idle.
     AlreadyOpen,

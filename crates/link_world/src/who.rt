@@ -2,8 +2,8 @@
 #[derive(Clone, Copy, Debug, PartialEq, Eq)]
 pub enum Who {
     FromClient(u8),
-    /// From the node to this client; 0 where it goes to none.
+    /// From the node to this client, or 0 if it goes to none.
     FromNode(u8),
-    /// Someone who only asks for an echo.
+    /// A host that only sends echo requests.
     Pinger,
 }

@@ -1,4 +1,4 @@
--- The machine words of `BoxParts`: a pointer into a block, and what the allocator is stored as. Assumes `Logic`.
+-- The machine words of `BoxParts`: a pointer into a block, and the stored form of the allocator. Assumes `Logic`.
 use Rattle.std.proofs.Common.{◌≡◌, ℕ, List, [], ◌∷◌, ◌++◌, refl, subst}
 use mathlib.Core.Bool.{true, ◌&&◌}
 use lib.Dec.{T}

@@ -1,5 +1,5 @@
-//! A box taken apart into its pointer and its allocator, and put together again. The parts own what the box owned, so that a
-//! struct can keep a box by its address alone.
+//! A box split into its pointer and its allocator, and made again. The parts own what the box owned, so that a struct can store
+//! a box by its address alone.
 #![tactic(auto)]
 
 mod parts;

@@ -1,11 +1,13 @@
+//! The parts of a box.
+
 ghost use Rattle.std.specs.Prelude.{◌≡◌};
 ghost use Rattle.std_alloc.specs.Box.Ownership.{box_owns};
 
 use std::alloc::Allocator;
 use std::marker::Model;
 
-/// The pointer of a box and the allocator that frees its block. They own the value and the block, and are never let go but
-/// as a box again.
+/// The pointer of a box and the allocator that frees its block. They own the value and the block, and can only become a box
+/// again.
 pub struct BoxParts<T, A: Allocator> {
     pub at: *mut T,
     pub alloc: A,
@@ -17,7 +19,7 @@ impl<T, A: Allocator> Model for BoxParts<T, A> {
 }
 
 impl<T: Drop, A: Allocator> BoxParts<T, A> {
-    /// The parts of a box.
+    /// Splits a box into its parts.
     pub fn from_box(whole: Box<T, A>) -> BoxParts<T, A>
         ensures { result.value ≡ whole.value }
     {
@@ -25,7 +27,7 @@ impl<T: Drop, A: Allocator> BoxParts<T, A> {
         BoxParts { at, alloc }
     }
 
-    /// The box of the parts.
+    /// Makes the box of the parts.
     pub fn into_box(self) -> Box<T, A>
         ensures { result.value ≡ self.value }
     {

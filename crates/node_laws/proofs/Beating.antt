@@ -1,12 +1,12 @@
--- A connection with something outstanding: when its timer beats, and how it ends.
+-- A connection with something outstanding: when its timer expires, and how it ends.
 use Rattle.std.specs.List.{All, list_any}
 use Rattle.std.proofs.Common.{◌≡◌, ℕ, ◌+◌, ◌<◌, ◌≤◌, Bool, true, false, not, ◌==◌, ◌&&◌, ◌⊎◌, inl, inr, List, length, take, refl, sym, ap, ◌∙◌, subst, arith, Option, Some, None, eqb, ltb, if◌then◌else◌}
 use Rattle.std.proofs.lemmas.Bool.{eq-eqb, cases_lt}
 use Rattle.tcp_segment.specs.Segments.{PlainSegment, has_syn, has_fin, has_rst}
 use Rattle.rexmit_timer.specs.Ages.{ages, beat_at, give_up_age}
 use Rattle.rexmit_timer.specs.declared.timer.Beat.{Beat}
-use Rattle.app_events.specs.Part.{Part, Meaning}
-use Rattle.app_events.specs.Pages.{IsMoment}
+use Rattle.app_events.specs.AppSpec.{AppState, AppSpec}
+use Rattle.app_events.specs.Pages.{IsSnapshot}
 use Rattle.app_events.specs.States.{is_time_wait}
 use Rattle.app_events.specs.declared.now.Now.{Now}
 use Rattle.app_events.specs.declared.state.State.{State}
@@ -16,16 +16,16 @@ use Rattle.app_events.specs.declared.want.Want.TheVariants.{Nothing, Send, Close
 use Rattle.tcp_machine.specs.Connection.{Connection, is_live}
 use Rattle.tcp_machine.specs.Segments.{segment_of, is_again, syn_ack, text_segment, fin_of}
 use Rattle.tcp_machine.specs.Ask.{Outcome, leaves, closes, after_own_fin, peer_has_closed, idles, does_as_wanted, prepared, asked}
-use Rattle.tcp_machine.specs.OnSegment.{first_mss, is_out_of_order, is_acked, rests, has_text, with_part, peer_closes, goes_on, in_established, fin_acked, fin_waits, by_state, on_segment}
+use Rattle.tcp_machine.specs.OnSegment.{first_mss, is_out_of_order, is_acked, rests, has_text, with_part, peer_closes, stays_established, in_established, fin_acked, fin_waits, by_state, on_segment}
 use Rattle.tcp_machine.specs.OnTick.{limit_of, outstanding, grows_older, by_beat, polls, ticks_established, waits_for_ack, on_tick, tick_by}
 use Rattle.tcp_machine.specs.declared.step.Step.{Step}
 use Rattle.uip_node.specs.Laws.{Alike}
 use Rattle.uip_node.specs.Steady.{IsSteady}
 use Rattle.uip_node.proofs.Basics.{choose, cut_length, ltb-yes, zero_or_more}
-use Rattle.tcp_machine.specs.Stands.{is_open}
+use Rattle.tcp_machine.specs.Represents.{is_open}
 use Rattle.uip_node.proofs.Cases.{asked_by, fin_lives, is_ask, open_live, on_tick_by}
 use Rattle.uip_node.proofs.Told.{SafeState, OutTells, due}
-use Rattle.node_laws.specs.Promise.{size_of}
+use Rattle.node_laws.specs.Promise.{sequence_length}
 
 pub mss_some : (o : Option ℕ) → 0 < first_mss o
 mss_some None = omega arith
@@ -45,7 +45,7 @@ new_age SynRcvd = omega arith
 new_age Closed = omega arith
 new_age _ = omega arith
 
-module _ (m : Meaning) where
+module _ (m : AppSpec) where
   wanted_young : (w : Want) (fresh : Bool) (c : Connection) (numbers : List ℕ) → Young c → Young (does_as_wanted w fresh c numbers).connection
   unfolding idles
   wanted_young Abort fresh c numbers y = λ l. absurd (cc)
@@ -60,10 +60,10 @@ module _ (m : Meaning) where
       asked_by m (λ x. Young x.connection) at o (λ a fresh. (let b : Connection = prepared m (at o.connection) o.connection o.numbers in wanted_young (m.want o.numbers b.part) fresh b o.numbers y)) y
 
   established_young : (acked : Bool) (c : Connection) (numbers : List ℕ) (s : PlainSegment) → c.state ≡ Established → IsYoung Established c → Young (in_established m acked c numbers s).connection
-  unfolding in_established peer_closes goes_on
+  unfolding in_established peer_closes stays_established
   established_young acked c numbers s e y =
       let same : is_live c.state ≡ true → IsYoung c.state c = λ l. subst (λ st. IsYoung st c) (sym e) y in
-      choose (λ (o : Outcome). Young o.connection) (has_fin s.flags) (peer_closes m c numbers s) (goes_on m acked c numbers s)
+      choose (λ (o : Outcome). Young o.connection) (has_fin s.flags) (peer_closes m c numbers s) (stays_established m acked c numbers s)
       (λ f. choose (λ (o : Outcome). Young o.connection) (ltb 0 c.len) _ _ (λ g l. y) (λ g l. y))
       (λ f. choose (λ (o : Outcome). Young o.connection) (not acked && not (has_text s)) _ _ (λ g. same) (λ g. choose (λ (o : Outcome). Young o.connection) (ltb 0 c.len) _ _ (λ h. same) (λ h. same)))
 
@@ -97,21 +97,21 @@ module _ (m : Meaning) where
 
   -- ---- what is outstanding
 
-  module _ (steady : IsSteady m) (Low : ℕ → Type 0) (low_text : (p : Part) → All IsMoment p.captures → Low (length (m.said p))) where
+  module _ (steady : IsSteady m) (Low : ℕ → Type 0) (low_text : (p : AppState) → All IsSnapshot p.captures → Low (length (m.output p))) where
     abbrev pub SafeAt : Connection → State → Type 0
     SafeAt c st = SafeState m steady Low low_text c st
 
-    size_is : (s t : PlainSegment) (n : ℕ) → Alike s t → size_of t ≡ n → size_of s ≡ n
+    size_is : (s t : PlainSegment) (n : ℕ) → Alike s t → sequence_length t ≡ n → sequence_length s ≡ n
     size_is s t n a h =
         ap (λ z. length z + (if has_syn s.flags then 1 else 0) + (if has_fin s.flags then 1 else 0)) a.text
         ∙ ap (λ z. length t.text + (if has_syn z then 1 else 0) + (if has_fin z then 1 else 0)) a.flags ∙ h
 
     -- how many numbers it takes up
-    pub due_size : (d : Connection) (st : State) (s : PlainSegment) → SafeAt d st → 0 < d.len → Alike s (due m st d) → size_of s ≡ d.len
+    pub due_size : (d : Connection) (st : State) (s : PlainSegment) → SafeAt d st → 0 < d.len → Alike s (due m st d) → sequence_length s ≡ d.len
     due_size d Closed s h l a = absurd h
     due_size d SynRcvd s h l a = size_is s (syn_ack d) d.len a (sym h.len)
-    due_size d Established s h l a = size_is s (text_segment m d) d.len a (let z : length (text_segment m d).text ≡ d.len = cut_length (m.said d.part) d.part.acked d.len h.fits in omega (arith, z))
-    due_size d CloseWait s h l a = size_is s (text_segment m d) d.len a (let z : length (text_segment m d).text ≡ d.len = cut_length (m.said d.part) d.part.acked d.len h.text.fits in omega (arith, z))
+    due_size d Established s h l a = size_is s (text_segment m d) d.len a (let z : length (text_segment m d).text ≡ d.len = cut_length (m.output d.part) d.part.acked d.len h.fits in omega (arith, z))
+    due_size d CloseWait s h l a = size_is s (text_segment m d) d.len a (let z : length (text_segment m d).text ≡ d.len = cut_length (m.output d.part) d.part.acked d.len h.text.fits in omega (arith, z))
     due_size d FinWait1 s h l a = size_is s (fin_of d) d.len a (sym h.len)
     due_size d FinWait2 s h l a = absurd (let z = h.len in omega (arith, l, z))
     due_size d Closing s h l a = size_is s (fin_of d) d.len a (sym h.len)
@@ -134,7 +134,7 @@ module _ (m : Meaning) where
     pub ticks_are : (c : Connection) (numbers : List ℕ) → SafeAt c c.state → 0 < c.len → on_tick m c numbers ≡ by_beat m (beat_at (limit_of c.state) (c.age + 1)) c numbers
     ticks_are c numbers h l = ticks_by c.state c numbers h l
 
-    -- what is outstanding is said again
+    -- what is outstanding is retransmitted
     pub due_again : (st : State) (c : Connection) → SafeAt c st → 0 < c.len → (segment_of m c (outstanding true st) ≡ Some (due m st c)) × (is_again (outstanding true st) ≡ true)
     due_again Closed c h l = absurd h
     due_again SynRcvd c h l = (refl, refl)
@@ -213,7 +213,7 @@ module _ (m : Meaning) where
     LivesOn o = is_live o.connection.state ≡ true
 
     established_lives : (c : Connection) (numbers : List ℕ) (s : PlainSegment) → is_live c.state ≡ true → LivesOn (in_established m false c numbers s)
-    unfolding in_established peer_closes goes_on
+    unfolding in_established peer_closes stays_established
     established_lives c numbers s l =
         choose LivesOn (has_fin s.flags) _ _ (λ e. choose LivesOn (ltb 0 c.len) _ _ (λ f. refl) (λ f. refl))
         (λ e. choose LivesOn (not false && not (has_text s)) _ _ (λ f. l) (λ f. choose LivesOn (ltb 0 c.len) _ _ (λ g. l) (λ g. l)))

@@ -1,30 +1,30 @@
--- What an application has heard is bytes, where bytes come.
+-- What is delivered to an application is bytes, if bytes are received.
 use Rattle.std.specs.List.{All}
 use Rattle.std.proofs.Common.{◌≡◌, ℕ, ◌+◌, Bool, true, false, not, ◌&&◌, List, [], ◌∷◌, length, ltb, subst, arith}
 use Rattle.tcp_segment.specs.Segments.{PlainSegment, has_fin, has_rst}
 use Rattle.rexmit_timer.specs.declared.timer.Beat.{Beat}
 use Rattle.app_events.specs.Pages.{IsByte}
-use Rattle.app_events.specs.Part.{Part, Meaning}
+use Rattle.app_events.specs.AppSpec.{AppState, AppSpec}
 use Rattle.app_events.specs.declared.now.Now.{Now}
 use Rattle.app_events.specs.declared.state.State.{State}
 use Rattle.app_events.specs.declared.state.State.TheVariants.{Closed, SynRcvd, Established, CloseWait, FinWait1, FinWait2, Closing, TimeWait, LastAck}
 use Rattle.tcp_machine.specs.Connection.{Connection}
 use Rattle.tcp_machine.specs.Ask.{Outcome, does_as_wanted, prepared, asked}
-use Rattle.tcp_machine.specs.OnSegment.{hears, is_out_of_order, is_acked, rests, has_text, with_part, peer_closes, goes_on, in_established, fin_acked, fin_waits, by_state, on_segment}
+use Rattle.tcp_machine.specs.OnSegment.{hears, is_out_of_order, is_acked, rests, has_text, with_part, peer_closes, stays_established, in_established, fin_acked, fin_waits, by_state, on_segment}
 use Rattle.tcp_machine.specs.OnTick.{by_beat, on_tick}
 use Rattle.uip_node.proofs.Basics.{choose}
 use Rattle.uip_node.proofs.Cases.{Unmoved, asked_by, on_tick_by, wanted_unmoved}
-use Rattle.node_laws.specs.Speakers.{SaysBytes}
+use Rattle.node_laws.specs.Speakers.{SendsBytes}
 
--- its part has heard bytes
+-- bytes were delivered to its state
 abbrev pub HeardBytes : Connection → Type 0
-HeardBytes c = All IsByte c.part.heard
+HeardBytes c = All IsByte c.part.delivered
 
-module _ (m : Meaning) (bytes : SaysBytes m) where
+module _ (m : AppSpec) (bytes : SendsBytes m) where
   abbrev Out : Outcome → Type 0
   Out o = HeardBytes o.connection
 
-  hears_bytes : (numbers : List ℕ) (p : Part) (piece : List ℕ) → All IsByte p.heard → All IsByte piece → All IsByte (hears m numbers p piece).part.heard
+  hears_bytes : (numbers : List ℕ) (p : AppState) (piece : List ℕ) → All IsByte p.delivered → All IsByte piece → All IsByte (hears m numbers p piece).part.delivered
   hears_bytes numbers p [] h are = h
   hears_bytes numbers p (x ∷ xs) h are = bytes.newdata numbers p (x ∷ xs) h are
 
@@ -33,11 +33,11 @@ module _ (m : Meaning) (bytes : SaysBytes m) where
       asked_by m Out at o
       (λ a fresh. (let b : Connection = prepared m (at o.connection) o.connection o.numbers in
       let u : Unmoved b (does_as_wanted (m.want o.numbers b.part) fresh b o.numbers).connection = wanted_unmoved m (m.want o.numbers b.part) fresh b o.numbers in
-      subst (λ (p : Part). All IsByte p.heard) (Rattle.std.proofs.Common.sym u.part) (bytes.prepare o.numbers o.connection.part (at o.connection) h)))
+      subst (λ (p : AppState). All IsByte p.delivered) (Rattle.std.proofs.Common.sym u.part) (bytes.prepare o.numbers o.connection.part (at o.connection) h)))
       h
 
   established_bytes : (acked : Bool) (c : Connection) (numbers : List ℕ) (s : PlainSegment) → All IsByte s.text → HeardBytes c → Out (in_established m acked c numbers s)
-  unfolding in_established peer_closes goes_on
+  unfolding in_established peer_closes stays_established
   established_bytes acked c numbers s are h =
       let x = hears_bytes numbers c.part s.text h are in
       choose Out (has_fin s.flags) _ _

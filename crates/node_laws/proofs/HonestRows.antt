@@ -2,49 +2,49 @@
 use Rattle.std.proofs.Common.{◌≡◌, ◌+◌, ℕ, false, inl, inr, List, [], ◌∷◌, refl, arith, Some, None}
 use Rattle.tcp_segment.specs.Segments.{PlainSegment, has_rst}
 use Rattle.tcp_segment.specs.declared.flags.TheConstants.{SYN, PSH, ACK}
-use Rattle.app_events.specs.FixedMeaning.{hello}
+use Rattle.app_events.specs.FixedSpec.{hello}
 use Rattle.tcp_machine.specs.Ask.{idles}
-use Rattle.tcp_machine.specs.OnSegment.{peer_closes, goes_on, in_established, fin_acked, fin_waits, on_segment}
+use Rattle.tcp_machine.specs.OnSegment.{peer_closes, stays_established, in_established, fin_acked, fin_waits, on_segment}
 use Rattle.tcp_machine.specs.OnTick.{rests_on, ticks_established}
 use Rattle.uip_node.specs.Events.Event.{Periodic}
-use Rattle.uip_node.specs.Node.{happened, opens_in, from_stranger}
+use Rattle.uip_node.specs.Node.{happened, opens_in, for_no_connection}
 use Rattle.uip_node.proofs.Basics.{only_some}
-use Rattle.node_laws.specs.HonestPeers.{Asker, IsHonest, text_came, bare_acks, receives_all}
-use Rattle.node_laws.specs.Talks.{Exchange}
-use Rattle.node_laws.proofs.Rows.{says, talk_over, told}
+use Rattle.node_laws.specs.HonestPeers.{Asker, IsHonest, text_received, bare_acks, receives_all}
+use Rattle.node_laws.specs.Traces.{Exchange}
+use Rattle.node_laws.proofs.Rows.{says, session_over, told}
 
 abbrev segment : ℕ → ℕ → List ℕ → PlainSegment
 segment seq ack text = record { seq = seq; ack = ack; flags = ACK; window = 8192; mss = None; text = text }
 
 -- It acknowledges the SYN, waits for a call of the slot, asks by one byte, and acknowledges the one text once that was sent again.
 abbrev honest : List Exchange
-honest = talk_over (says 1000 0 SYN [] ∷ says 1001 1 ACK [] ∷ Periodic 0 ∷ says 1001 1 ACK (120 ∷ [])
+honest = session_over (says 1000 0 SYN [] ∷ says 1001 1 ACK [] ∷ Periodic 0 ∷ says 1001 1 ACK (120 ∷ [])
     ∷ Periodic 0 ∷ Periodic 0 ∷ Periodic 0 ∷ Periodic 0 ∷ says 1002 7 ACK [] ∷ [])
 
 abbrev asker : Asker
-asker = record { request = 120 ∷ []; peer_first = 1000; first = 0; mss = 536 }
+asker = record { request = 120 ∷ []; irs = 1000; iss = 0; mss = 536 }
 
 -- So it is honest: each of its segments is the next, and it is waited for between them.
 is_honest : IsHonest asker honest
-unfolding idles peer_closes goes_on in_established fin_acked fin_waits on_segment rests_on ticks_established happened opens_in from_stranger
-is_honest = (inr record { segment = segment 1002 7 []; came = refl; syn = refl; fin = refl; rst = refl; acks = refl; seq = refl; part = record { rest = []; joined = refl }; ack = refl; window = omega arith; some = λ e. refl }, (inl (refl, λ s e. only_some (λ t. has_rst t.flags ≡ false) (record { seq = 1; ack = 1002; flags = ACK + PSH; window = 1460; mss = None; text = hello }) s e refl), (inl (refl, λ s e. absurd (cc)), (inl (refl, λ s e. absurd (cc)), (inl (refl, λ s e. absurd (cc)), (inr record { segment = segment 1001 1 (120 ∷ []); came = refl; syn = refl; fin = refl; rst = refl; acks = refl; seq = refl; part = record { rest = []; joined = refl }; ack = refl; window = omega arith; some = λ e. absurd (cc) }, (inl (refl, λ s e. absurd (cc)), (inr record { segment = segment 1001 1 []; came = refl; syn = refl; fin = refl; rst = refl; acks = refl; seq = refl; part = record { rest = 120 ∷ []; joined = refl }; ack = refl; window = omega arith; some = λ e. refl }, record { syn = record { seq = 1000; ack = 0; flags = SYN; window = 8192; mss = None; text = [] }; came = refl; number = refl; mss = refl; text = refl; answer = record { seq = 0; ack = 1001; flags = SYN + ACK; window = 1460; mss = Some 1460; text = [] }; said = refl; answers = refl; seq = refl }))))))))
+unfolding idles peer_closes stays_established in_established fin_acked fin_waits on_segment rests_on ticks_established happened opens_in for_no_connection
+is_honest = (inr record { segment = segment 1002 7 []; received = refl; syn = refl; fin = refl; rst = refl; acks = refl; seq = refl; part = record { rest = []; joined = refl }; ack = refl; window = omega arith; some = λ e. refl }, (inl (refl, λ s e. only_some (λ t. has_rst t.flags ≡ false) (record { seq = 1; ack = 1002; flags = ACK + PSH; window = 1460; mss = None; text = hello }) s e refl), (inl (refl, λ s e. absurd (cc)), (inl (refl, λ s e. absurd (cc)), (inl (refl, λ s e. absurd (cc)), (inr record { segment = segment 1001 1 (120 ∷ []); received = refl; syn = refl; fin = refl; rst = refl; acks = refl; seq = refl; part = record { rest = []; joined = refl }; ack = refl; window = omega arith; some = λ e. absurd (cc) }, (inl (refl, λ s e. absurd (cc)), (inr record { segment = segment 1001 1 []; received = refl; syn = refl; fin = refl; rst = refl; acks = refl; seq = refl; part = record { rest = 120 ∷ []; joined = refl }; ack = refl; window = omega arith; some = λ e. refl }, record { syn = record { seq = 1000; ack = 0; flags = SYN; window = 8192; mss = None; text = [] }; received = refl; number = refl; mss = refl; text = refl; answer = record { seq = 0; ack = 1001; flags = SYN + ACK; window = 1460; mss = Some 1460; text = [] }; output = refl; answers = refl; seq = refl }))))))))
 
 -- the request is that byte, and two acknowledgements without text are more than the one text
-asked : text_came honest ≡ 120 ∷ []
-unfolding idles peer_closes goes_on in_established fin_acked fin_waits on_segment rests_on ticks_established happened opens_in from_stranger
+asked : text_received honest ≡ 120 ∷ []
+unfolding idles peer_closes stays_established in_established fin_acked fin_waits on_segment rests_on ticks_established happened opens_in for_no_connection
 asked = refl
 
 acknowledged : bare_acks honest ≡ 2
-unfolding idles peer_closes goes_on in_established fin_acked fin_waits on_segment rests_on ticks_established happened opens_in from_stranger
+unfolding idles peer_closes stays_established in_established fin_acked fin_waits on_segment rests_on ticks_established happened opens_in for_no_connection
 acknowledged = refl
 
 -- and the receiver has the page
 has_page : receives_all 0 honest ≡ hello
-unfolding idles peer_closes goes_on in_established fin_acked fin_waits on_segment rests_on ticks_established happened opens_in from_stranger
+unfolding idles peer_closes stays_established in_established fin_acked fin_waits on_segment rests_on ticks_established happened opens_in for_no_connection
 has_page = refl
 
 -- the SYN is sent again in the fourth call of the slot
-sent_syn_twice : told (talk_over (says 1000 0 SYN [] ∷ Periodic 0 ∷ Periodic 0 ∷ Periodic 0 ∷ Periodic 0 ∷ []))
+sent_syn_twice : told (session_over (says 1000 0 SYN [] ∷ Periodic 0 ∷ Periodic 0 ∷ Periodic 0 ∷ Periodic 0 ∷ []))
     ≡ Some (0, []) ∷ None ∷ None ∷ None ∷ Some (0, []) ∷ []
-unfolding idles peer_closes goes_on in_established fin_acked fin_waits on_segment rests_on ticks_established happened opens_in from_stranger
+unfolding idles peer_closes stays_established in_established fin_acked fin_waits on_segment rests_on ticks_established happened opens_in for_no_connection
 sent_syn_twice = refl

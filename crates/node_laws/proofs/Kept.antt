@@ -1,61 +1,61 @@
--- What is shown of a life exchange by exchange, and the promise that comes of it.
+-- What is proved of an incarnation exchange by exchange, and the guarantee that follows.
 use Rattle.std.specs.List.{All}
 use Rattle.std.proofs.Common.{◌≡◌, ℕ, zero, suc, ◌<◌, ◌≤◌, true, false, List, [], ◌∷◌, length, drop, refl, Some, slice_get}
 use Rattle.tcp_segment.specs.Segments.{PlainSegment, has_fin, has_rst}
-use Rattle.app_events.specs.Pages.{IsMoment}
+use Rattle.app_events.specs.Pages.{IsSnapshot}
 use Rattle.tcp_machine.specs.OnSegment.{first_mss}
-use Rattle.tcp_machine.specs.Segments.{has_place}
+use Rattle.tcp_machine.specs.Segments.{occupies_sequence_space}
 use Rattle.uip_node.specs.Laws.{Alike}
 use Rattle.uip_node.proofs.Basics.{append_nothing, prefix_refl}
-use Rattle.node_laws.specs.Talks.{Exchange, said_at}
+use Rattle.node_laws.specs.Traces.{Exchange, sent_at}
 use Rattle.node_laws.proofs.Speaking.{IsTold}
-use Rattle.node_laws.specs.Receivers.{Carries, IsReceived}
-use Rattle.node_laws.specs.Promise.{Account, Speech, Begins, IsTaken, SaysPart, Acknowledges, IsAcknowledged, GrowsInto}
+use Rattle.node_laws.specs.Receivers.{CarriesByte, IsReceived}
+use Rattle.node_laws.specs.Promise.{Account, OutputModel, Begins, IsAcceptedText, SendsSlice, Acknowledges, IsAcknowledged, IsExtendedBy}
 
--- a FIN was said
-pub record HasEnded (life : List Exchange) : Type 0 where
+-- a FIN was sent
+pub record HasEnded (incarnation : List Exchange) : Type 0 where
   pub place : ℕ
   pub exchange : Exchange
   pub segment : PlainSegment
-  pub there : slice_get life place ≡ Some exchange
-  pub said : exchange.said ≡ Some segment
+  pub there : slice_get incarnation place ≡ Some exchange
+  pub output : exchange.output ≡ Some segment
   pub fin : has_fin segment.flags ≡ true
 
 abbrev pub Unended : List Exchange → Type 0
-Unended life = HasEnded life → ⊥
+Unended incarnation = HasEnded incarnation → ⊥
 
-pub record Kept (speech : Speech) (life : List Exchange) : Type 0 where
+pub record Kept (model : OutputModel) (incarnation : List Exchange) : Type 0 where
   pub account : Account
-  pub begins : Begins life account
-  pub taken : IsTaken account.peer_first life account.text account.ended
-  pub moments : All IsMoment account.captures
-  pub sent : IsReceived account.first life account.sent
-  pub says : (k : ℕ) (x : Exchange) (s : PlainSegment) → slice_get life k ≡ Some x → x.said ≡ Some s → SaysPart account.first account.sent s
-  pub short : (k : ℕ) (x : Exchange) (s : PlainSegment) → slice_get life k ≡ Some x → x.said ≡ Some s → length s.text ≤ first_mss account.peer_mss
-  pub acknowledges : (k : ℕ) (x : Exchange) (s : PlainSegment) → slice_get life k ≡ Some x → x.said ≡ Some s → has_rst s.flags ≡ false
-      → Acknowledges account.peer_first (drop k life) account.text s
-  pub same : length account.sent < 1073741824 → (i j : ℕ) (x y : Exchange) (s t : PlainSegment) → i < j → slice_get life i ≡ Some x
-      → slice_get life j ≡ Some y → x.said ≡ Some s → y.said ≡ Some t → has_place s ≡ true → has_place t ≡ true → s.seq ≡ t.seq → Alike t s
-  pub one : (i j : ℕ) (x y : Exchange) (s t : PlainSegment) → i < j → slice_get life i ≡ Some x → slice_get life j ≡ Some y
-      → x.said ≡ Some s → y.said ≡ Some t → has_place s ≡ true → has_place t ≡ true → (s.seq ≡ t.seq → ⊥) → IsAcknowledged life i j t
-  pub of_page : IsTold speech (HasEnded life) account.text account.captures account.sent
+  pub begins : Begins incarnation account
+  pub taken : IsAcceptedText account.irs incarnation account.text account.ended
+  pub snapshots : All IsSnapshot account.captures
+  pub sent : IsReceived account.iss incarnation account.sent
+  pub says : (k : ℕ) (x : Exchange) (s : PlainSegment) → slice_get incarnation k ≡ Some x → x.output ≡ Some s → SendsSlice account.iss account.sent s
+  pub short : (k : ℕ) (x : Exchange) (s : PlainSegment) → slice_get incarnation k ≡ Some x → x.output ≡ Some s → length s.text ≤ first_mss account.peer_mss
+  pub acknowledges : (k : ℕ) (x : Exchange) (s : PlainSegment) → slice_get incarnation k ≡ Some x → x.output ≡ Some s → has_rst s.flags ≡ false
+      → Acknowledges account.irs (drop k incarnation) account.text s
+  pub same : length account.sent < 1073741824 → (i j : ℕ) (x y : Exchange) (s t : PlainSegment) → i < j → slice_get incarnation i ≡ Some x
+      → slice_get incarnation j ≡ Some y → x.output ≡ Some s → y.output ≡ Some t → occupies_sequence_space s ≡ true → occupies_sequence_space t ≡ true → s.seq ≡ t.seq → Alike t s
+  pub one : (i j : ℕ) (x y : Exchange) (s t : PlainSegment) → i < j → slice_get incarnation i ≡ Some x → slice_get incarnation j ≡ Some y
+      → x.output ≡ Some s → y.output ≡ Some t → occupies_sequence_space s ≡ true → occupies_sequence_space t ≡ true → (s.seq ≡ t.seq → ⊥) → IsAcknowledged incarnation i j t
+  pub of_page : IsTold model (HasEnded incarnation) account.text account.captures account.sent
 
-pub grows_refl : (a : Account) → GrowsInto a a
-grows_refl a = record { peer_first = refl; first = refl; peer_mss = refl; text = prefix_refl a.text; ended = λ e. e; captures = ([], append_nothing a.captures); sent = prefix_refl a.sent }
+pub grows_refl : (a : Account) → IsExtendedBy a a
+grows_refl a = record { irs = refl; iss = refl; peer_mss = refl; text = prefix_refl a.text; ended = λ e. e; captures = ([], append_nothing a.captures); sent = prefix_refl a.sent }
 
--- the exchange in which something was said
-pub record SaidIn (life : List Exchange) (k : ℕ) (s : PlainSegment) : Type 0 where
+-- the exchange in which something was sent
+pub record SaidIn (incarnation : List Exchange) (k : ℕ) (s : PlainSegment) : Type 0 where
   pub exchange : Exchange
-  pub there : slice_get life k ≡ Some exchange
-  pub said : exchange.said ≡ Some s
+  pub there : slice_get incarnation k ≡ Some exchange
+  pub output : exchange.output ≡ Some s
 
-pub said_in : (life : List Exchange) (k : ℕ) (s : PlainSegment) → said_at life k ≡ Some s → SaidIn life k s
+pub said_in : (incarnation : List Exchange) (k : ℕ) (s : PlainSegment) → sent_at incarnation k ≡ Some s → SaidIn incarnation k s
 said_in [] k s h = absurd (cc)
-said_in (x ∷ life) zero s h = record { exchange = x; there = refl; said = h }
-said_in (x ∷ life) (suc k) s h = let r = said_in life k s h in record { exchange = r.exchange; there = r.there; said = r.said }
+said_in (x ∷ incarnation) zero s h = record { exchange = x; there = refl; output = h }
+said_in (x ∷ incarnation) (suc k) s h = let r = said_in incarnation k s h in record { exchange = r.exchange; there = r.there; output = r.output }
 
 -- what was received before is received
-pub received_on : (first : ℕ) (x : Exchange) (life : List Exchange) (text : List ℕ) → IsReceived first life text → IsReceived first (x ∷ life) text
-received_on first x life text h at byte e =
-    (let c : Carries first life at byte = h at byte e in
-    record { place = suc c.place; segment = c.segment; said = c.said; from = c.from; seq = c.seq; within = c.within; sum = c.sum; is = c.is })
+pub received_on : (iss : ℕ) (x : Exchange) (incarnation : List Exchange) (text : List ℕ) → IsReceived iss incarnation text → IsReceived iss (x ∷ incarnation) text
+received_on iss x incarnation text h at byte e =
+    (let c : CarriesByte iss incarnation at byte = h at byte e in
+    record { place = suc c.place; segment = c.segment; output = c.output; from = c.from; seq = c.seq; within = c.within; sum = c.sum; is = c.is })

@@ -11,7 +11,7 @@ pub mod Wire
 pub mod Hearing
 pub mod PeerReads
 pub mod TurnRuns
-pub mod EveryTurn
+pub mod EveryTraceConforms
 pub mod Rows
 pub mod HonestRows
 pub mod WindowRows
@@ -19,7 +19,7 @@ pub mod WrongLives
 pub mod Steps
 pub mod Slots
 pub mod GoodNodes
-pub mod HonestTalks
+pub mod HonestSessions
 pub mod HonestConnections
 pub mod HonestPeers
 pub mod Beating

@@ -6,23 +6,23 @@ use Rattle.std.proofs.lemmas.List.Elements.{All-head, All-tail}
 use Rattle.uip_wire.specs.declared.addr.Addr.{Addr}
 use Rattle.tcp_segment.specs.ReadBack.{IsReadBack, head_of}
 use Rattle.tcp_segment.specs.Segments.{PlainSegment, Datagram, datagram_bytes, has_rst}
-use Rattle.app_events.specs.Part.{Meaning}
-use Rattle.app_events.specs.Pages.{IsAddr, IsByte, IsWord}
+use Rattle.app_events.specs.AppSpec.{AppSpec}
+use Rattle.app_events.specs.Pages.{IsAddr, IsByte, IsU32}
 use Rattle.tcp_machine.specs.Connection.{Sockets, Connection, closed, is_live, serves, same_sockets}
-use Rattle.tcp_machine.specs.Segments.{is_again, is_plain_syn, reset_to_none, segment_of}
+use Rattle.tcp_machine.specs.Segments.{is_again, is_plain_syn, reset_for_no_connection, segment_of}
 use Rattle.tcp_machine.specs.Ask.{Outcome, asked}
 use Rattle.tcp_machine.specs.OnSegment.{accepted, on_segment}
 use Rattle.tcp_machine.specs.OnTick.{on_tick}
 use Rattle.tcp_machine.specs.declared.step.Step.{Step}
 use Rattle.uip_node.specs.Edge.{by_head, by_segment, datagram_to}
-use Rattle.uip_node.specs.Events.{Event, Reply, Past}
+use Rattle.uip_node.specs.Events.{Event, Reply, HistoryEntry}
 use Rattle.uip_node.specs.Events.Event.{IpRefused, IcmpRefused, TcpRefused, EchoAsked, Arrived, Overlong, Periodic}
 use Rattle.uip_node.specs.Events.Reply.{Tcp}
 use Rattle.uip_node.specs.Counters.{ident_of}
-use Rattle.uip_node.specs.Node.{AbstractNode, NodeStep, arrives_at, from_stranger, happened, opening, opens as opens_at, opens_in, refuses, slot_for_syn, step}
+use Rattle.uip_node.specs.Node.{AbstractNode, NodeStep, arrives_at, for_no_connection, happened, initial_node, opens as opens_at, opens_in, refuses, slot_for_syn, step}
 use Rattle.uip_node.specs.Laws.{serving}
 use Rattle.uip_node.specs.Steady.{IsSteady}
-use Rattle.node_laws.specs.Speakers.{SaysBytes}
+use Rattle.node_laws.specs.Speakers.{SendsBytes}
 use Rattle.node_laws.proofs.Hearing.{HeardBytes, asked_bytes, on_segment_bytes, on_tick_bytes}
 use Rattle.uip_node.proofs.Basics.{both_ways, choose, only_some, wrap_low}
 use Rattle.uip_node.proofs.Fits.{FitConn, FitOut, all_nil, all_cons, asked_fits, on_segment_fits, on_tick_fits}
@@ -31,11 +31,11 @@ use Rattle.uip_node.proofs.Connections.{none_serves, all_closed, Single, serving
 use Rattle.uip_node.proofs.SocketPairs.{same_is, same_self}
 use Rattle.uip_node.proofs.SoundSegments.{closed_lens, Lens, accepted_lens, asked_lens, on_segment_lens, on_tick_lens, IsSoundSegment, said_sound}
 use Rattle.uip_node.proofs.DatagramsBack.{IsPlace, datagram_back, datagram_short}
-use Rattle.node_laws.specs.Talks.{Exchange, came_from, exchange, said_to}
+use Rattle.node_laws.specs.Traces.{Exchange, received_from, exchange, sent_to}
 use Rattle.node_laws.specs.Wire.{IsOfLine, IsReadByPeer, IsReadThere, seen_from_peer}
-use Rattle.node_laws.proofs.Lines.{Does, Comes, comes, left_of}
-use Rattle.node_laws.proofs.Lines.Does.{passes_by, evicted, unanswered, refused, born, hears, ticks}
-use Rattle.node_laws.proofs.Steps.{LineStep, Happens, Changes, IsStep, changed, turns_over}
+use Rattle.node_laws.proofs.Lines.{OfMedium, Comes, comes, left_of}
+use Rattle.node_laws.proofs.Lines.OfMedium.{passes_by, evicted, unanswered, refused, born, hears, ticks}
+use Rattle.node_laws.proofs.Steps.{LineStep, OfNode, Changes, IsStep, changed, trace_over}
 use Rattle.node_laws.proofs.Wire.{IsWire, line_wire, wire_event}
 
 -- sockets whose numbers fit their types
@@ -44,18 +44,18 @@ record Fits (p : Sockets) : Type 0 where
   peer_port : p.peer_port.0 < 65536
   own_port : p.own_port.0 < 65536
 
--- what came from a peer tells that its sockets fit
-record Came (p : Sockets) (s : PlainSegment) : Type 0 where
+-- what was received from a peer shows that its sockets fit
+record MediumInput (p : Sockets) (s : PlainSegment) : Type 0 where
   fits : Fits p
   ack : s.ack < 4294967296
   text : All IsByte s.text
 
-came_fits : (p : Sockets) (event : Event) (s : PlainSegment) → IsWire event → came_from p event ≡ Some s → Came p s
+came_fits : (p : Sockets) (event : Event) (s : PlainSegment) → IsWire event → received_from p event ≡ Some s → MediumInput p s
 came_fits p (Arrived q t) s w e =
     both_ways (same_sockets q p)
     (λ h. (let z : Some t ≡ Some s = sym (ap (λ b. if b then Some t else None) h) ∙ e in
-    let g : Came p t = subst (λ y. Came y t) (same_is q p h) record { fits = record { addr = w.0; peer_port = w.1; own_port = w.2 }; ack = w.3; text = w.4 } in
-    only_some (λ y. Came p y) t s z g))
+    let g : MediumInput p t = subst (λ y. MediumInput y t) (same_is q p h) record { fits = record { addr = w.0; peer_port = w.1; own_port = w.2 }; ack = w.3; text = w.4 } in
+    only_some (λ y. MediumInput p y) t s z g))
     (λ h. absurd (let z : None ≡ Some s = sym (ap (λ b. if b then Some t else None) h) ∙ e in cc))
 came_fits p (IpRefused fate) s w e = absurd (cc)
 came_fits p (IcmpRefused fate) s w e = absurd (cc)
@@ -64,7 +64,7 @@ came_fits p (EchoAsked datagram) s w e = absurd (cc)
 came_fits p Overlong s w e = absurd (cc)
 came_fits p (Periodic slot) s w e = absurd (cc)
 
-reset_sound : (s : PlainSegment) → s.ack < 4294967296 → IsSoundSegment (reset_to_none s)
+reset_sound : (s : PlainSegment) → s.ack < 4294967296 → IsSoundSegment (reset_for_no_connection s)
 reset_sound s h = record { seq = h; ack = wrap_low _; flags = omega arith; window = omega arith; mss = tt; short = omega arith; alone = inr refl; text = all_nil IsByte }
 
 -- ---- the identification of what is sent is below 2^16
@@ -72,29 +72,29 @@ reset_sound s h = record { seq = h; ack = wrap_low _; flags = omega arith; windo
 abbrev LowId : NodeStep → Type 0
 LowId r = (p : Sockets) (id : ℕ) (again : Bool) (s : PlainSegment) → r.sent ≡ Some (Tcp p id again s) → id < 65536
 
-said_low : (said : Option PlainSegment) (q : Sockets) (n : ℕ) (b : Bool) → n < 65536 → (p : Sockets) (id : ℕ) (again : Bool) (s : PlainSegment) → option_map (λ x. Tcp q n b x) said ≡ Some (Tcp p id again s) → id < 65536
+said_low : (output : Option PlainSegment) (q : Sockets) (n : ℕ) (b : Bool) → n < 65536 → (p : Sockets) (id : ℕ) (again : Bool) (s : PlainSegment) → option_map (λ x. Tcp q n b x) output ≡ Some (Tcp p id again s) → id < 65536
 said_low None q n b l p id again s e = absurd (cc)
 said_low (Some x) q n b l p id again s e = (let z : n ≡ id = cc in omega (arith, l, z))
 
-ident_low : (past : List Past) → ident_of past < 65536
-ident_low past = omega arith
+ident_low : (history : List HistoryEntry) → ident_of history < 65536
+ident_low history = omega arith
 
-module _ (m : Meaning) (served : ℕ → Bool) where
+module _ (m : AppSpec) (served : ℕ → Bool) where
   happened_low : (n : AbstractNode) (event : Event) (slot : ℕ) (old : Connection) (o : Outcome) → LowId (happened m n event slot old o)
   unfolding happened
-  happened_low n event slot old o p id again s e = said_low (segment_of m o.connection o.step) o.connection.sockets (ident_of (happened m n event slot old o).node.past) (is_again o.step) (ident_low (happened m n event slot old o).node.past) p id again s e
+  happened_low n event slot old o p id again s e = said_low (segment_of m o.connection o.step) o.connection.sockets (ident_of (happened m n event slot old o).node.history) (is_again o.step) (ident_low (happened m n event slot old o).node.history) p id again s e
 
   opens_low : (n : AbstractNode) (q : Sockets) (s : PlainSegment) (slot : Option ℕ) → LowId (opens_at m n q s slot)
   unfolding opens_in
   opens_low n q s None p id again t e = absurd (cc)
   opens_low n q s (Some slot) p id again t e = happened_low n _ slot _ _ p id again t e
 
-  stranger_low : (n : AbstractNode) (q : Sockets) (s : PlainSegment) → LowId (from_stranger m served n q s)
-  unfolding from_stranger
+  stranger_low : (n : AbstractNode) (q : Sockets) (s : PlainSegment) → LowId (for_no_connection m served n q s)
+  unfolding for_no_connection
   stranger_low n q s =
       choose (λ r. LowId r) (is_plain_syn s && served q.own_port.0) _ _ (λ e. opens_low n q s (slot_for_syn n.connections))
       (λ e. choose (λ r. LowId r) (has_rst s.flags) _ _ (λ f p id again t g. absurd (cc))
-      (λ f p id again t g. said_low (Some (reset_to_none s)) q (ident_of (refuses n q s).node.past) false (ident_low (refuses n q s).node.past) p id again t g))
+      (λ f p id again t g. said_low (Some (reset_for_no_connection s)) q (ident_of (refuses n q s).node.history) false (ident_low (refuses n q s).node.history) p id again t g))
 
   arrives_low : (n : AbstractNode) (q : Sockets) (s : PlainSegment) (found : Option ℕ) → LowId (arrives_at m served n q s found)
   arrives_low n q s None p id again t e = stranger_low n q s p id again t e
@@ -114,7 +114,7 @@ module _ (m : Meaning) (served : ℕ → Bool) where
 record SoundConn (p : Sockets) (c : Connection) : Type 0 where
   fits : Fits p
   lens : Lens c
-  heard : HeardBytes c
+  delivered : HeardBytes c
 
 record SoundSaid (p : Sockets) (s : PlainSegment) : Type 0 where
   fits : Fits p
@@ -122,51 +122,51 @@ record SoundSaid (p : Sockets) (s : PlainSegment) : Type 0 where
 
 record SoundDoes (p : Sockets) (d : Connection) (x : Exchange) : Type 0 where
   conn : is_live d.state ≡ true → SoundConn p d
-  said : (s : PlainSegment) → x.said ≡ Some s → SoundSaid p s
+  output : (s : PlainSegment) → x.output ≡ Some s → SoundSaid p s
 
-module _ (m : Meaning) (steady : IsSteady m) (bytes : SaysBytes m) where
-  still_sound : (p : Sockets) (c d : Connection) (x : Exchange) → x.said ≡ None → (is_live d.state ≡ true → d ≡ c) → (is_live c.state ≡ true → SoundConn p c) → SoundDoes p d x
+module _ (m : AppSpec) (steady : IsSteady m) (bytes : SendsBytes m) where
+  still_sound : (p : Sockets) (c d : Connection) (x : Exchange) → x.output ≡ None → (is_live d.state ≡ true → d ≡ c) → (is_live c.state ≡ true → SoundConn p c) → SoundDoes p d x
   still_sound p c d x n e h = record {
     conn = λ l. (let q : d ≡ c = e l in subst (λ z. SoundConn p z) (sym q) (h (subst (λ z. is_live z.state ≡ true) q l)));
-    said = λ s f. absurd (let z : None ≡ Some s = sym n ∙ f in cc);
+    output = λ s f. absurd (let z : None ≡ Some s = sym n ∙ f in cc);
   }
 
-  step_does : (p : Sockets) (d : Connection) (x : Exchange) (o : Outcome) → Fits p → FitConn o.connection → Lens o.connection → HeardBytes o.connection → x.said ≡ segment_of m o.connection o.step → d ≡ left_of o.connection → SoundDoes p d x
-  step_does p d x o f fit lens heard e q = record {
+  step_does : (p : Sockets) (d : Connection) (x : Exchange) (o : Outcome) → Fits p → FitConn o.connection → Lens o.connection → HeardBytes o.connection → x.output ≡ segment_of m o.connection o.step → d ≡ left_of o.connection → SoundDoes p d x
+  step_does p d x o f fit lens delivered e q = record {
     conn = λ l. record {
       fits = f;
       lens = subst (λ z. Lens z) (sym q) (choose (λ z. Lens z) (is_live o.connection.state) o.connection closed (λ y. lens) (λ y. closed_lens));
-      heard = subst (λ z. HeardBytes z) (sym q) (choose (λ z. HeardBytes z) (is_live o.connection.state) o.connection closed (λ y. heard) (λ y. all_nil IsByte));
+      delivered = subst (λ z. HeardBytes z) (sym q) (choose (λ z. HeardBytes z) (is_live o.connection.state) o.connection closed (λ y. delivered) (λ y. all_nil IsByte));
     };
-    said = λ s g. record { fits = f; segment = said_sound m o.connection o.step s lens (bytes.said o.connection.part heard fit.captures) (sym e ∙ g) };
+    output = λ s g. record { fits = f; segment = said_sound m o.connection o.step s lens (bytes.output o.connection.part delivered fit.captures) (sym e ∙ g) };
   }
 
-  does_sound : (served : ℕ → Bool) (p : Sockets) (event : Event) (sent : Option Reply) (c d : Connection) → IsWire event → Does m served p c d (exchange p event sent) → (is_live c.state ≡ true → SoundConn p c) → SoundDoes p d (exchange p event sent)
+  does_sound : (served : ℕ → Bool) (p : Sockets) (event : Event) (sent : Option Reply) (c d : Connection) → IsWire event → OfMedium m served p c d (exchange p event sent) → (is_live c.state ≡ true → SoundConn p c) → SoundDoes p d (exchange p event sent)
   does_sound served p event sent c d w does h =
       let x : Exchange = exchange p event sent in
-      let came : (s : PlainSegment) → x.came ≡ Some s → Came p s = λ s e. came_fits p event s w e in
+      let received : (s : PlainSegment) → x.received ≡ Some s → MediumInput p s = λ s e. came_fits p event s w e in
       elim does [
-        | passes_by e f ↦ still_sound p c d x (ap (λ y. y.said) e) (λ l. f) h
-        | evicted e f ↦ still_sound p c d x (ap (λ y. y.said) e) (λ l. absurd (let z : is_live d.state ≡ false = ap (λ y. is_live y.state) f in cc)) h
-        | unanswered s l e f ↦ still_sound p c d x (ap (λ y. y.said) e) (λ z. f) h
-        | refused s r l e f ↦ (let k : Came p s = came s (ap (λ y. y.came) e) in record {
+        | passes_by e f ↦ still_sound p c d x (ap (λ y. y.output) e) (λ l. f) h
+        | evicted e f ↦ still_sound p c d x (ap (λ y. y.output) e) (λ l. absurd (let z : is_live d.state ≡ false = ap (λ y. is_live y.state) f in cc)) h
+        | unanswered s l e f ↦ still_sound p c d x (ap (λ y. y.output) e) (λ z. f) h
+        | refused s r l e f ↦ (let k : MediumInput p s = received s (ap (λ y. y.received) e) in record {
           conn = λ z. absurd (let y : is_live d.state ≡ false = ap (λ y. is_live y.state) f ∙ l in cc);
-          said = λ t g. record { fits = k.fits; segment = only_some (λ y. IsSoundSegment y) (reset_to_none s) t (sym (ap (λ y. y.said) e) ∙ g) (reset_sound s k.ack) };
+          output = λ t g. record { fits = k.fits; segment = only_some (λ y. IsSoundSegment y) (reset_for_no_connection s) t (sym (ap (λ y. y.output) e) ∙ g) (reset_sound s k.ack) };
         })
-        | born first s plain port fit e f ↦ (let k : Came p s = came s (ap (λ y. y.came) e) in
-            let b : Connection = accepted first p s in
+        | born iss s plain port fit e f ↦ (let k : MediumInput p s = received s (ap (λ y. y.received) e) in
+            let b : Connection = accepted iss p s in
             record {
-              conn = λ z. record { fits = k.fits; lens = subst (λ y. Lens y) (sym f) (accepted_lens first p s); heard = subst (λ y. HeardBytes y) (sym f) (all_nil IsByte) };
-              said = λ t g. record { fits = k.fits; segment = said_sound m b (Step.SynAck false) t (accepted_lens first p s) (bytes.said b.part (all_nil IsByte) fit.captures) (sym (ap (λ y. y.said) e) ∙ g) };
+              conn = λ z. record { fits = k.fits; lens = subst (λ y. Lens y) (sym f) (accepted_lens iss p s); delivered = subst (λ y. HeardBytes y) (sym f) (all_nil IsByte) };
+              output = λ t g. record { fits = k.fits; segment = said_sound m b (Step.SynAck false) t (accepted_lens iss p s) (bytes.output b.part (all_nil IsByte) fit.captures) (sym (ap (λ y. y.output) e) ∙ g) };
             })
         | hears s numbers at alive fit words is q ↦
             (let o : Outcome = on_segment m c numbers s in
             let fo : FitOut o = on_segment_fits m steady c numbers s fit words in
-            step_does p d x (asked m at o) (h alive).fits (asked_fits m steady at is o fo).conn (asked_lens m at o (on_segment_lens m c numbers s (h alive).lens)) (asked_bytes m bytes at o (on_segment_bytes m bytes c numbers s (came s (ap (λ y. y.came) q.0)).text (h alive).heard)) (ap (λ y. y.said) q.0) q.1)
+            step_does p d x (asked m at o) (h alive).fits (asked_fits m steady at is o fo).conn (asked_lens m at o (on_segment_lens m c numbers s (h alive).lens)) (asked_bytes m bytes at o (on_segment_bytes m bytes c numbers s (received s (ap (λ y. y.received) q.0)).text (h alive).delivered)) (ap (λ y. y.output) q.0) q.1)
         | ticks numbers at alive fit words is q ↦
             (let o : Outcome = on_tick m c numbers in
             let fo : FitOut o = on_tick_fits m steady c numbers fit words in
-            step_does p d x (asked m at o) (h alive).fits (asked_fits m steady at is o fo).conn (asked_lens m at o (on_tick_lens m c numbers (h alive).lens)) (asked_bytes m bytes at o (on_tick_bytes m bytes c numbers (h alive).heard)) (ap (λ y. y.said) q.0) q.1)
+            step_does p d x (asked m at o) (h alive).fits (asked_fits m steady at is o fo).conn (asked_lens m at o (on_tick_lens m c numbers (h alive).lens)) (asked_bytes m bytes at o (on_tick_bytes m bytes c numbers (h alive).delivered)) (ap (λ y. y.output) q.0) q.1)
       ]
 
   record SoundAll (n : AbstractNode) : Type 0 where
@@ -194,25 +194,25 @@ module _ (m : Meaning) (steady : IsSteady m) (bytes : SaysBytes m) where
         let c : Comes m served n event r = comes m served steady n event (wire_event event w) g.single g.fit in
         let s : (p : Sockets) → SoundDoes p (serving p r.node.connections) (exchange p event r.sent) = λ p. does_sound served p event r.sent (serving p n.connections) (serving p r.node.connections) w (c.each p) (g.each p) in (
           record { single = c.single; fit = event_fits m steady served n event (wire_event event w) g.fit; each = λ p. (s p).conn },
-          λ p id again t e. (let said : said_to p r.sent ≡ Some t = ap (λ z. said_to p z) e ∙ ap (λ b. if b then Some t else None) (same_self p) in
-              let k : SoundSaid p t = (s p).said t said in
+          λ p id again t e. (let output : sent_to p r.sent ≡ Some t = ap (λ z. sent_to p z) e ∙ ap (λ b. if b then Some t else None) (same_self p) in
+              let k : SoundSaid p t = (s p).output t output in
               read_there own p id again t is_own k.fits (step_low m served n event p id again t e) k.segment),
         )
 
-    all_read : (steps : List LineStep) (n : AbstractNode) → All (IsStep own) steps → SoundAll n → All (IsReadByPeer own) (turns_over m served steps n)
+    all_read : (steps : List LineStep) (n : AbstractNode) → All (IsStep own) steps → SoundAll n → All (IsReadByPeer own) (trace_over m served steps n)
     all_read [] n a g = all_nil (IsReadByPeer own)
-    all_read (Happens e ∷ steps) n a g =
-        let x = step_all n e (All-head (IsStep own) (Happens e) steps a) g in
-        all_cons (IsReadByPeer own) _ _ x.1 (all_read steps (step m served n e).node (All-tail (IsStep own) (Happens e) steps a) x.0)
+    all_read (OfNode e ∷ steps) n a g =
+        let x = step_all n e (All-head (IsStep own) (OfNode e) steps a) g in
+        all_cons (IsReadByPeer own) _ _ x.1 (all_read steps (step m served n e).node (All-tail (IsStep own) (OfNode e) steps a) x.0)
     all_read (Changes change ∷ steps) n a g =
         let words = All-head (IsStep own) (Changes change) steps a in
         let fit : FitNode (changed change n) = record { size = g.fit.size; conns = g.fit.conns; numbers = words n.numbers g.fit.numbers } in
         all_read steps (changed change n) (All-tail (IsStep own) (Changes change) steps a) (record { single = g.single; fit = fit; each = g.each })
 
-pub every_peer_reads : (m : Meaning) → IsSteady m → SaysBytes m → (served : ℕ → Bool) (own : Addr) → IsAddr own → (numbers : List ℕ) → All IsWord numbers
-    → (steps : List LineStep) → All (IsStep own) steps → All (IsReadByPeer own) (turns_over m served steps (opening own numbers))
+pub every_peer_reads : (m : AppSpec) → IsSteady m → SendsBytes m → (served : ℕ → Bool) (own : Addr) → IsAddr own → (numbers : List ℕ) → All IsU32 numbers
+    → (steps : List LineStep) → All (IsStep own) steps → All (IsReadByPeer own) (trace_over m served steps (initial_node own numbers))
 every_peer_reads m steady bytes served own a numbers w steps of =
-    all_read m steady bytes served own a steps (opening own numbers) of record {
+    all_read m steady bytes served own a steps (initial_node own numbers) of record {
       single = λ q i j x y a b u v. absurd (let z = none_serves 10 q i x a in cc);
       fit = record { size = omega arith; conns = λ i x y. subst FitConn (all_closed 10 i x y) closed_fits; numbers = w };
       each = λ p l. absurd (let z : is_live (serving p (replicate 10 closed)).state ≡ false = ap (λ c. is_live c.state) (serving_free (replicate 10 closed) p (none_serves 10 p)) in cc);

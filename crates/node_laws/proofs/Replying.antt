@@ -1,7 +1,7 @@
--- What a connection answers: never a SYN, a RST only where it is gone, and no text longer than the peer takes.
+-- What a connection replies: never a SYN, a RST only if it is CLOSED, and no text longer than the peer accepts.
 use Rattle.std.proofs.Common.{◌≡◌, ℕ, ◌≤◌, Bool, true, false, not, ◌&&◌, List, length, take, drop, refl, arith, ltb, Some, None, length-take}
 use Rattle.tcp_segment.specs.Segments.{PlainSegment, has_fin, has_rst, has_syn}
-use Rattle.app_events.specs.Part.{Meaning}
+use Rattle.app_events.specs.AppSpec.{AppSpec}
 use Rattle.app_events.specs.declared.now.Now.{Now}
 use Rattle.app_events.specs.declared.state.State.{State}
 use Rattle.app_events.specs.declared.state.State.TheVariants.{Closed, SynRcvd, Established, CloseWait, FinWait1, FinWait2, Closing, TimeWait, LastAck}
@@ -11,7 +11,7 @@ use Rattle.rexmit_timer.specs.declared.timer.Beat.{Beat}
 use Rattle.tcp_machine.specs.Connection.{Connection, is_live, rcv_nxt}
 use Rattle.tcp_machine.specs.Segments.{segment_of, bare_ack, syn_ack, text_segment, fin_of, reset_of}
 use Rattle.tcp_machine.specs.Ask.{Outcome, peer_has_closed, idles, does_as_wanted, prepared, asked}
-use Rattle.tcp_machine.specs.OnSegment.{is_out_of_order, is_acked, has_text, peer_closes, goes_on, in_established, fin_acked, fin_waits, by_state, on_segment, with_part, rests}
+use Rattle.tcp_machine.specs.OnSegment.{is_out_of_order, is_acked, has_text, peer_closes, stays_established, in_established, fin_acked, fin_waits, by_state, on_segment, with_part, rests}
 use Rattle.tcp_machine.specs.OnTick.{outstanding, by_beat, on_tick}
 use Rattle.tcp_machine.specs.declared.step.Step.{Step}
 use Rattle.uip_node.proofs.Basics.{choose, only_some}
@@ -34,7 +34,7 @@ record NoSyn (o : Outcome) : Type 0 where
 calm : (o : Outcome) → is_syn_ack o.step ≡ false → is_reset o.step ≡ false → NoSyn o
 calm o a b = record { no_syn = a; gone = λ z. absurd (cc) }
 
-module _ (m : Meaning) where
+module _ (m : AppSpec) where
   wanted_no : (w : Want) (fresh : Bool) (c : Connection) (numbers : List ℕ) → NoSyn (does_as_wanted w fresh c numbers)
   unfolding idles
   wanted_no Abort fresh c numbers = record { no_syn = refl; gone = λ z. refl }
@@ -46,7 +46,7 @@ module _ (m : Meaning) where
   asked_no at o h = asked_by m (λ x. NoSyn x) at o (λ a fresh. (let b : Connection = prepared m (at o.connection) o.connection o.numbers in wanted_no (m.want o.numbers b.part) fresh b o.numbers)) h
 
   established_no : (acked : Bool) (c : Connection) (numbers : List ℕ) (s : PlainSegment) → NoSyn (in_established m acked c numbers s)
-  unfolding in_established peer_closes goes_on
+  unfolding in_established peer_closes stays_established
   established_no acked c numbers s =
       choose (λ o. NoSyn o) (has_fin s.flags) _ _
       (λ e. choose (λ o. NoSyn o) (ltb 0 c.len) _ _ (λ f. calm _ refl refl) (λ f. calm _ refl refl))
@@ -110,7 +110,7 @@ module _ (m : Meaning) where
   said_reset d Step.Reset s e r = refl
   said_reset d (Step.Ask fresh) s e r = absurd (cc)
 
-  -- a connection that says a RST is gone
+  -- a connection that sends a RST is gone
   pub reset_ends : (at : Connection → Now) (c : Connection) (numbers : List ℕ) (s t : PlainSegment) → (let o : Outcome = asked m at (on_segment m c numbers s) in segment_of m o.connection o.step ≡ Some t) → has_rst t.flags ≡ true
       → is_live (asked m at (on_segment m c numbers s)).connection.state ≡ false
   reset_ends at c numbers s t e r = (let o : Outcome = asked m at (on_segment m c numbers s) in (asked_no at (on_segment m c numbers s) (on_segment_no c numbers s)).gone (said_reset o.connection o.step t e r))
@@ -147,18 +147,18 @@ module _ (m : Meaning) where
   tick_reset_ends at c numbers t e r = (let o : Outcome = asked m at (on_tick m c numbers) in asked_ends at (on_tick m c numbers) (on_tick_ends c numbers) (said_reset o.connection o.step t e r))
 
 -- no text is longer than what is outstanding
-pub step_short : (m : Meaning) (most : ℕ) (c : Connection) (st : Step) (s : PlainSegment) → LensWithin most c → segment_of m c st ≡ Some s → length s.text ≤ most
+pub step_short : (m : AppSpec) (most : ℕ) (c : Connection) (st : Step) (s : PlainSegment) → LensWithin most c → segment_of m c st ≡ Some s → length s.text ≤ most
 step_short m most c Step.Drop s l e = absurd (cc)
 step_short m most c Step.Ack s l e = only_some (λ x. length x.text ≤ most) (bare_ack c) s e (omega arith)
 step_short m most c (Step.SynAck again) s l e = only_some (λ x. length x.text ≤ most) (syn_ack c) s e (omega arith)
 step_short m most c (Step.Text again) s l e = only_some (λ x. length x.text ≤ most) (text_segment m c) s e
-    (let h : length (take c.len (drop c.part.acked (m.said c.part))) ≤ c.len = simp length-take (omega arith) in omega (arith, h, l.len))
+    (let h : length (take c.len (drop c.part.acked (m.output c.part))) ≤ c.len = simp length-take (omega arith) in omega (arith, h, l.len))
 step_short m most c (Step.Fin again) s l e = only_some (λ x. length x.text ≤ most) (fin_of c) s e (omega arith)
 step_short m most c Step.Reset s l e = only_some (λ x. length x.text ≤ most) (reset_of c) s e (omega arith)
 step_short m most c (Step.Ask fresh) s l e = absurd (cc)
 
 -- every segment of a connection acknowledges what it took
-pub said_ack : (m : Meaning) (d : Connection) (st : Step) (s : PlainSegment) → segment_of m d st ≡ Some s → s.ack ≡ rcv_nxt d
+pub said_ack : (m : AppSpec) (d : Connection) (st : Step) (s : PlainSegment) → segment_of m d st ≡ Some s → s.ack ≡ rcv_nxt d
 said_ack m d Step.Drop s e = absurd (cc)
 said_ack m d Step.Ack s e = only_some (λ x. x.ack ≡ rcv_nxt d) (bare_ack d) s e refl
 said_ack m d (Step.SynAck again) s e = only_some (λ x. x.ack ≡ rcv_nxt d) (syn_ack d) s e refl

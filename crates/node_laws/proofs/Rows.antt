@@ -1,18 +1,18 @@
--- Lives of worked talks, computed from the definitions alone.
+-- Worked incarnations, computed from the definitions alone.
 use Rattle.std.specs.Prelude.{option_map}
 use Rattle.std.proofs.Common.{◌≡◌, ◌+◌, ℕ, Bool, true, false, List, [], ◌∷◌, map, refl, Option, Some, None, ◌==◌}
 use Rattle.tcp_segment.specs.declared.flags.TheConstants.{FIN, SYN, RST, ACK}
-use Rattle.app_events.specs.FixedMeaning.{fixed_meaning, hello}
+use Rattle.app_events.specs.FixedSpec.{fixed_spec, hello}
 use Rattle.tcp_machine.specs.Connection.{Sockets}
 use Rattle.tcp_machine.specs.Ask.{idles}
-use Rattle.tcp_machine.specs.OnSegment.{peer_closes, goes_on, in_established, fin_acked, fin_waits, on_segment}
+use Rattle.tcp_machine.specs.OnSegment.{peer_closes, stays_established, in_established, fin_acked, fin_waits, on_segment}
 use Rattle.tcp_machine.specs.OnTick.{rests_on, ticks_established}
 use Rattle.uip_node.specs.Events.{Event}
 use Rattle.uip_node.specs.Events.Event.{Arrived, Periodic}
-use Rattle.uip_node.specs.Node.{happened, opens_in, from_stranger}
-use Rattle.node_laws.specs.Talks.{Exchange, talk_of, is_life, is_opening}
-use Rattle.uip_node.specs.Node.{opening}
-use Rattle.node_laws.specs.Turns.{turns_of}
+use Rattle.uip_node.specs.Node.{happened, opens_in, for_no_connection}
+use Rattle.node_laws.specs.Traces.{Exchange, exchanges_with, is_incarnation, is_opening}
+use Rattle.uip_node.specs.Node.{initial_node}
+use Rattle.node_laws.specs.Turns.{trace_of}
 
 abbrev pub web : ℕ → Bool
 web port = port == 80
@@ -23,39 +23,39 @@ peer = record { peer = record { 0 = 10 ∷ 0 ∷ 0 ∷ 2 ∷ [] }; peer_port = r
 abbrev pub says : ℕ → ℕ → ℕ → List ℕ → Event
 says seq ack flags text = Arrived peer (record { seq = seq; ack = ack; flags = flags; window = 8192; mss = None; text = text })
 
-abbrev pub talk_over : List Event → List Exchange
-talk_over events = talk_of peer (turns_of fixed_meaning web events (opening (record { 0 = 10 ∷ 0 ∷ 0 ∷ 1 ∷ [] }) []))
+abbrev pub session_over : List Event → List Exchange
+session_over events = exchanges_with peer (trace_of fixed_spec web events (initial_node (record { 0 = 10 ∷ 0 ∷ 0 ∷ 1 ∷ [] }) []))
 
 -- a SYN, a byte, the acknowledgement of the text and of the FIN, and the peer's FIN are one life
-one_life : is_life (talk_over (says 1000 0 SYN [] ∷ says 1001 1 ACK (120 ∷ []) ∷ says 1002 7 ACK [] ∷ says 1002 8 (FIN + ACK) [] ∷ [])) ≡ true
-unfolding idles peer_closes goes_on in_established fin_acked fin_waits on_segment rests_on ticks_established happened opens_in from_stranger
+one_life : is_incarnation (session_over (says 1000 0 SYN [] ∷ says 1001 1 ACK (120 ∷ []) ∷ says 1002 7 ACK [] ∷ says 1002 8 (FIN + ACK) [] ∷ [])) ≡ true
+unfolding idles peer_closes stays_established in_established fin_acked fin_waits on_segment rests_on ticks_established happened opens_in for_no_connection
 one_life = refl
 
--- behind a reset a SYN begins another
-two_lives : map (λ x. is_opening x) (talk_over (says 1000 0 SYN [] ∷ says 1001 1 ACK (120 ∷ []) ∷ says 1002 7 RST [] ∷ says 5000 0 SYN [] ∷ [])) ≡ true ∷ false ∷ false ∷ true ∷ []
-unfolding idles peer_closes goes_on in_established fin_acked fin_waits on_segment rests_on ticks_established happened opens_in from_stranger
+-- after a reset a SYN begins another
+two_lives : map (λ x. is_opening x) (session_over (says 1000 0 SYN [] ∷ says 1001 1 ACK (120 ∷ []) ∷ says 1002 7 RST [] ∷ says 5000 0 SYN [] ∷ [])) ≡ true ∷ false ∷ false ∷ true ∷ []
+unfolding idles peer_closes stays_established in_established fin_acked fin_waits on_segment rests_on ticks_established happened opens_in for_no_connection
 two_lives = refl
 
 -- a SYN in a life begins none
-one_still : map (λ x. is_opening x) (talk_over (says 1000 0 SYN [] ∷ says 1000 0 SYN [] ∷ says 1001 1 ACK (120 ∷ []) ∷ says 5000 0 SYN [] ∷ [])) ≡ false ∷ false ∷ false ∷ true ∷ []
-unfolding idles peer_closes goes_on in_established fin_acked fin_waits on_segment rests_on ticks_established happened opens_in from_stranger
+one_still : map (λ x. is_opening x) (session_over (says 1000 0 SYN [] ∷ says 1000 0 SYN [] ∷ says 1001 1 ACK (120 ∷ []) ∷ says 5000 0 SYN [] ∷ [])) ≡ false ∷ false ∷ false ∷ true ∷ []
+unfolding idles peer_closes stays_established in_established fin_acked fin_waits on_segment rests_on ticks_established happened opens_in for_no_connection
 one_still = refl
 
--- what is said in these exchanges, the newest first
+-- what is sent in these exchanges, the newest first
 abbrev pub told : List Exchange → List (Option (ℕ × List ℕ))
 told [] = []
-told (x ∷ older) = option_map (λ s. (s.seq, s.text)) x.said ∷ told older
+told (x ∷ older) = option_map (λ s. (s.seq, s.text)) x.output ∷ told older
 
 -- the peer's window shrinks to 3, and the text is cut to it
-shrunk_window : told (talk_over (Arrived peer (record { seq = 1000; ack = 0; flags = SYN; window = 8192; mss = None; text = [] })
+shrunk_window : told (session_over (Arrived peer (record { seq = 1000; ack = 0; flags = SYN; window = 8192; mss = None; text = [] })
     ∷ says 1001 1 ACK [] ∷ Arrived peer (record { seq = 1001; ack = 1; flags = ACK; window = 3; mss = None; text = 120 ∷ [] })
     ∷ Arrived peer (record { seq = 1002; ack = 4; flags = ACK; window = 3; mss = None; text = [] }) ∷ []))
     ≡ Some (4, 108 ∷ 111 ∷ 10 ∷ []) ∷ Some (1, 104 ∷ 101 ∷ 108 ∷ []) ∷ None ∷ Some (0, []) ∷ []
-unfolding idles peer_closes goes_on in_established fin_acked fin_waits on_segment rests_on ticks_established happened opens_in from_stranger
+unfolding idles peer_closes stays_established in_established fin_acked fin_waits on_segment rests_on ticks_established happened opens_in for_no_connection
 shrunk_window = refl
 
 -- nothing is acknowledged, and in the fourth call of the slot the text is sent again
-sent_twice : told (talk_over (says 1000 0 SYN [] ∷ says 1001 1 ACK (120 ∷ []) ∷ Periodic 0 ∷ Periodic 0 ∷ Periodic 0 ∷ Periodic 0 ∷ []))
+sent_twice : told (session_over (says 1000 0 SYN [] ∷ says 1001 1 ACK (120 ∷ []) ∷ Periodic 0 ∷ Periodic 0 ∷ Periodic 0 ∷ Periodic 0 ∷ []))
     ≡ Some (1, hello) ∷ None ∷ None ∷ None ∷ Some (1, hello) ∷ Some (0, []) ∷ []
-unfolding idles peer_closes goes_on in_established fin_acked fin_waits on_segment rests_on ticks_established happened opens_in from_stranger
+unfolding idles peer_closes stays_established in_established fin_acked fin_waits on_segment rests_on ticks_established happened opens_in for_no_connection
 sent_twice = refl

@@ -1,14 +1,14 @@
--- What an event does to the connection in one slot, and what it is in the talk with its peer.
+-- What an event does to the connection in one slot, and what it adds to the exchanges with its peer.
 use Rattle.std.specs.Option.{option_or}
 use Rattle.std.specs.Prelude.{option_map}
 use Rattle.std.proofs.Common.{◌≡◌, ℕ, zero, suc, ◌+◌, Bool, true, false, not, ◌==◌, ◌&&◌, ◌⊎◌, inl, inr, List, [], ◌∷◌, set, position, refl, sym, ap, ◌∙◌, subst, arith, Option, Some, None, slice_get, slice_index_or, eqb}
 use Rattle.std.proofs.lemmas.Bool.{eq-eqb}
 use Rattle.tcp_segment.specs.Segments.{PlainSegment, has_rst}
-use Rattle.app_events.specs.Part.{Meaning}
+use Rattle.app_events.specs.AppSpec.{AppSpec}
 use Rattle.app_events.specs.States.{is_time_wait}
 use Rattle.tcp_table.specs.Slots.{longest_wait}
 use Rattle.tcp_machine.specs.Connection.{Sockets, Connection, closed, is_live, serves, same_sockets}
-use Rattle.tcp_machine.specs.Segments.{segment_of, is_again, is_plain_syn, reset_to_none, syn_ack}
+use Rattle.tcp_machine.specs.Segments.{segment_of, is_again, is_plain_syn, reset_for_no_connection, syn_ack}
 use Rattle.tcp_machine.specs.Ask.{Outcome, leaves, asked}
 use Rattle.tcp_machine.specs.OnSegment.{accepted, on_segment}
 use Rattle.tcp_machine.specs.OnTick.{on_tick}
@@ -17,7 +17,7 @@ use Rattle.uip_node.specs.Counters.{initial_number, ident_of}
 use Rattle.uip_node.specs.Events.{Event}
 use Rattle.uip_node.specs.Events.Event.{IpRefused, IcmpRefused, TcpRefused, EchoAsked, Arrived, Overlong, Periodic}
 use Rattle.uip_node.specs.Events.Reply.{Tcp}
-use Rattle.uip_node.specs.Node.{AbstractNode, NodeStep, moment, happened, connection_in, slot_for_syn, opens_in, opens, refuses, from_stranger, arrives_at, periodic, step}
+use Rattle.uip_node.specs.Node.{AbstractNode, NodeStep, snapshot, happened, connection_in, slot_for_syn, opens_in, opens, refuses, for_no_connection, arrives_at, periodic, step}
 use Rattle.uip_node.specs.Laws.{serving}
 use Rattle.uip_node.proofs.Basics.{both_ways, choose, and_true, eqb-eq, not-true}
 use Rattle.uip_node.proofs.SocketPairs.{same_is, is_same, serves_not}
@@ -26,7 +26,7 @@ use Rattle.uip_node.proofs.Connections.Written.{here, there}
 use Rattle.uip_node.proofs.Connections.Finds.{finds, finds_none}
 use Rattle.uip_node.proofs.Finding.{found}
 use Rattle.uip_node.proofs.Peers.{on_segment_keeps, asked_keeps, on_tick_keeps, on_tick_closed}
-use Rattle.node_laws.specs.Talks.{came_from, said_to, exchange}
+use Rattle.node_laws.specs.Traces.{received_from, sent_to, exchange}
 use Rattle.node_laws.proofs.Lines.{quiet, met, meets, came_here, came_elsewhere, said_here, said_elsewhere}
 
 -- ---- the slot that a SYN takes
@@ -54,10 +54,10 @@ abbrev place : Event → ℕ
 place (Periodic j) = j
 place _ = 0
 
-module _ (m : Meaning) (served : ℕ → Bool) (n : AbstractNode) (p : Sockets) (i : ℕ) (c : Connection) where
+module _ (m : AppSpec) (served : ℕ → Bool) (n : AbstractNode) (p : Sockets) (i : ℕ) (c : Connection) where
   -- the connection takes this step
-  pub record Acted (event : Event) (r : NodeStep) (came : Option PlainSegment) (o : Outcome) : Type 0 where
-    pub exchanged : exchange p event r.sent ≡ met came (segment_of m o.connection o.step)
+  pub record Acted (event : Event) (r : NodeStep) (received : Option PlainSegment) (o : Outcome) : Type 0 where
+    pub exchanged : exchange p event r.sent ≡ met received (segment_of m o.connection o.step)
     pub id : ℕ
     pub sent : r.sent ≡ option_map (λ s. Tcp p id (is_again o.step) s) (segment_of m o.connection o.step)
     pub table : r.node.connections ≡ set n.connections i o.connection
@@ -65,8 +65,8 @@ module _ (m : Meaning) (served : ℕ → Bool) (n : AbstractNode) (p : Sockets) 
 
   -- The slot is called, or a segment comes from its peer, or the event is another's, or the connection, in TIME-WAIT, makes room.
   pub data Acts (event : Event) (r : NodeStep) : Type 0 where
-    is_called : event ≡ Periodic i → Acted event r None (asked m (moment n event i) (on_tick m c n.numbers)) → Acts event r
-    is_met : (s : PlainSegment) → event ≡ Arrived p s → Acted event r (Some s) (asked m (moment n event i) (on_segment m c n.numbers s)) → Acts event r
+    is_called : event ≡ Periodic i → Acted event r None (asked m (snapshot n event i) (on_tick m c n.numbers)) → Acts event r
+    is_met : (s : PlainSegment) → event ≡ Arrived p s → Acted event r (Some s) (asked m (snapshot n event i) (on_segment m c n.numbers s)) → Acts event r
     is_apart : (event ≡ Periodic i → ⊥) → exchange p event r.sent ≡ quiet → slice_get r.node.connections i ≡ Some c → Acts event r
     makes_room : exchange p event r.sent ≡ quiet → is_time_wait c.state ≡ true → Free p r.node.connections → Acts event r
 
@@ -80,32 +80,32 @@ module _ (m : Meaning) (served : ℕ → Bool) (n : AbstractNode) (p : Sockets) 
     still : (event : Event) (r : NodeStep) → (event ≡ Periodic i → ⊥) → exchange p event r.sent ≡ quiet → r.node.connections ≡ n.connections → Acts event r
     still event r away x e = is_apart away x (ap (λ l. slice_get l i) e ∙ at)
 
-    acted : (event : Event) (came : Option PlainSegment) (o : Outcome) → came_from p event ≡ came → o.connection.sockets ≡ p → Acted event (happened m n event i c o) came o
+    acted : (event : Event) (received : Option PlainSegment) (o : Outcome) → received_from p event ≡ received → o.connection.sockets ≡ p → Acted event (happened m n event i c o) received o
     unfolding happened
-    acted event came o e q =
+    acted event received o e q =
         let r : NodeStep = happened m n event i c o in
         record {
-          exchanged = meets (came_from p event) (said_to p r.sent) came (segment_of m o.connection o.step) e (said_here p o.connection.sockets (ident_of r.node.past) (is_again o.step) (segment_of m o.connection o.step) q);
-          id = ident_of r.node.past;
-          sent = ap (λ z. option_map (λ s. Tcp z (ident_of r.node.past) (is_again o.step) s) (segment_of m o.connection o.step)) q;
+          exchanged = meets (received_from p event) (sent_to p r.sent) received (segment_of m o.connection o.step) e (said_here p o.connection.sockets (ident_of r.node.history) (is_again o.step) (segment_of m o.connection o.step) q);
+          id = ident_of r.node.history;
+          sent = ap (λ z. option_map (λ s. Tcp z (ident_of r.node.history) (is_again o.step) s) (segment_of m o.connection o.step)) q;
           table = refl;
           numbers = refl;
         }
 
-    -- another slot's connection takes a step, and that says nothing to this peer
-    elsewhere : (event : Event) (j : ℕ) (old : Connection) (o : Outcome) → (event ≡ Periodic i → ⊥) → (j ≡ i → ⊥) → came_from p event ≡ None → same_sockets o.connection.sockets p ≡ false → Acts event (happened m n event j old o)
+    -- another slot's connection takes a step, which sends nothing to this peer
+    elsewhere : (event : Event) (j : ℕ) (old : Connection) (o : Outcome) → (event ≡ Periodic i → ⊥) → (j ≡ i → ⊥) → received_from p event ≡ None → same_sockets o.connection.sockets p ≡ false → Acts event (happened m n event j old o)
     unfolding happened
     elsewhere event j old o away other e q =
         let r : NodeStep = happened m n event j old o in
         is_apart away
-        (meets (came_from p event) (said_to p r.sent) None None e (said_elsewhere p o.connection.sockets (ident_of r.node.past) (is_again o.step) (segment_of m o.connection o.step) q))
+        (meets (received_from p event) (sent_to p r.sent) None None e (said_elsewhere p o.connection.sockets (ident_of r.node.history) (is_again o.step) (segment_of m o.connection o.step) q))
         (get_set_other n.connections j o.connection i (λ z. other (sym z)) ∙ at)
 
-    -- nothing is said at all
-    silent : (event : Event) (j : ℕ) (old d : Connection) (numbers : List ℕ) → (event ≡ Periodic i → ⊥) → (j ≡ i → ⊥) → came_from p event ≡ None → Acts event (happened m n event j old (leaves d numbers Step.Drop))
+    -- nothing is sent at all
+    silent : (event : Event) (j : ℕ) (old d : Connection) (numbers : List ℕ) → (event ≡ Periodic i → ⊥) → (j ≡ i → ⊥) → received_from p event ≡ None → Acts event (happened m n event j old (leaves d numbers Step.Drop))
     unfolding happened
     silent event j old d numbers away other e =
-        is_apart away (meets (came_from p event) None None None e refl) (get_set_other n.connections j d i (λ z. other (sym z)) ∙ at)
+        is_apart away (meets (received_from p event) None None None e refl) (get_set_other n.connections j d i (λ z. other (sym z)) ∙ at)
 
     other_call : (j : ℕ) → (j ≡ i → ⊥) → Acts (Periodic j) (periodic m n j)
     other_call j other =
@@ -113,13 +113,13 @@ module _ (m : Meaning) (served : ℕ → Bool) (n : AbstractNode) (p : Sockets) 
         let old : Connection = connection_in j n in
         let away : event ≡ Periodic i → ⊥ = λ e. other (ap place e) in
         both_ways (is_live old.state)
-        (λ l. let o : Outcome = asked m (moment n event j) (on_tick m old n.numbers) in
-        let keeps : o.connection.sockets ≡ old.sockets = asked_keeps m (moment n event j) old (on_tick m old n.numbers) (on_tick_keeps m old n.numbers) in
+        (λ l. let o : Outcome = asked m (snapshot n event j) (on_tick m old n.numbers) in
+        let keeps : o.connection.sockets ≡ old.sockets = asked_keeps m (snapshot n event j) old (on_tick m old n.numbers) (on_tick_keeps m old n.numbers) in
         elsewhere event j old o away other refl
         (both_ways (same_sockets old.sockets p)
         (λ e. absurd (let u : serves p old ≡ true = ap (λ b. b && same_sockets old.sockets p) l ∙ e in other (single p j i old c (index_live n.connections j l) at u own)))
         (λ e. ap (λ z. same_sockets z p) keeps ∙ e)))
-        (λ l. let none : asked m (moment n event j) (on_tick m old n.numbers) ≡ leaves old n.numbers Step.Drop = ap (λ o. asked m (moment n event j) o) (on_tick_closed m old n.numbers l) in
+        (λ l. let none : asked m (snapshot n event j) (on_tick m old n.numbers) ≡ leaves old n.numbers Step.Drop = ap (λ o. asked m (snapshot n event j) o) (on_tick_closed m old n.numbers l) in
         subst (λ o. Acts event (happened m n event j old o)) (sym none) (silent event j old old n.numbers away other refl))
 
     called : (j : ℕ) → Acts (Periodic j) (periodic m n j)
@@ -128,10 +128,10 @@ module _ (m : Meaning) (served : ℕ → Bool) (n : AbstractNode) (p : Sockets) 
         (λ e. let q : i ≡ j = sym (eqb-eq j i e) in
         let event : Event = Periodic i in
         let in_it : connection_in i n ≡ c = index_of n.connections i closed c at in
-        let o : Outcome = asked m (moment n event i) (on_tick m c n.numbers) in
-        let keeps : o.connection.sockets ≡ c.sockets = asked_keeps m (moment n event i) c (on_tick m c n.numbers) (on_tick_keeps m c n.numbers) in
+        let o : Outcome = asked m (snapshot n event i) (on_tick m c n.numbers) in
+        let keeps : o.connection.sockets ≡ c.sockets = asked_keeps m (snapshot n event i) c (on_tick m c n.numbers) (on_tick_keeps m c n.numbers) in
         let h : Acts event (periodic m n i) =
-        subst (λ z. Acts event (happened m n event i z (asked m (moment n event i) (on_tick m z n.numbers)))) (sym in_it) (is_called refl (acted event None o refl (keeps ∙ peer))) in
+        subst (λ z. Acts event (happened m n event i z (asked m (snapshot n event i) (on_tick m z n.numbers)))) (sym in_it) (is_called refl (acted event None o refl (keeps ∙ peer))) in
         subst (λ k. Acts (Periodic k) (periodic m n k)) q h)
         (λ e. other_call j (λ z. let y : eqb j i ≡ true = eq-eqb j i z in cc))
 
@@ -140,7 +140,7 @@ module _ (m : Meaning) (served : ℕ → Bool) (n : AbstractNode) (p : Sockets) 
       no_call : Arrived q s ≡ Periodic i → ⊥
       no_call e = cc
 
-      far_came : came_from p (Arrived q s) ≡ None
+      far_came : received_from p (Arrived q s) ≡ None
       far_came = came_elsewhere p q s far
 
       -- where another takes its slot, none serves the peer
@@ -153,24 +153,24 @@ module _ (m : Meaning) (served : ℕ → Bool) (n : AbstractNode) (p : Sockets) 
 
       opened : (slot : Option ℕ) → slot_for_syn n.connections ≡ slot → Acts (Arrived q s) (opens m n q s slot)
       unfolding opens_in happened
-      opened None e = still (Arrived q s) (opens m n q s None) no_call (meets (came_from p (Arrived q s)) None None None far_came refl) refl
+      opened None e = still (Arrived q s) (opens m n q s None) no_call (meets (received_from p (Arrived q s)) None None None far_came refl) refl
       opened (Some k) e =
-          let new : Connection = accepted (initial_number n.past) q s in
+          let new : Connection = accepted (initial_number n.history) q s in
           let r : NodeStep = opens m n q s (Some k) in
-          let x : exchange p (Arrived q s) r.sent ≡ quiet = meets (came_from p (Arrived q s)) (said_to p r.sent) None None far_came (said_elsewhere p q (ident_of r.node.past) false (Some (syn_ack new)) far) in
+          let x : exchange p (Arrived q s) r.sent ≡ quiet = meets (received_from p (Arrived q s)) (sent_to p r.sent) None None far_came (said_elsewhere p q (ident_of r.node.history) false (Some (syn_ack new)) far) in
           both_ways (eqb k i)
           (λ z. makes_room x (slot_free n.connections i c (e ∙ ap Some (eqb-eq k i z)) at live) (gone k (eqb-eq k i z) new far))
           (λ z. is_apart no_call x (get_set_other n.connections k new i (λ y. (let w : eqb k i ≡ true = eq-eqb k i (sym y) in cc)) ∙ at))
 
-      stranger : Acts (Arrived q s) (from_stranger m served n q s)
-      unfolding from_stranger
+      stranger : Acts (Arrived q s) (for_no_connection m served n q s)
+      unfolding for_no_connection
       stranger =
           choose (λ r. Acts (Arrived q s) r) (is_plain_syn s && served q.own_port.0) _ _
           (λ e. opened (slot_for_syn n.connections) refl)
           (λ e. choose (λ r. Acts (Arrived q s) r) (has_rst s.flags) _ _
-          (λ f. still (Arrived q s) _ no_call (meets (came_from p (Arrived q s)) None None None far_came refl) refl)
+          (λ f. still (Arrived q s) _ no_call (meets (received_from p (Arrived q s)) None None None far_came refl) refl)
           (λ f. still (Arrived q s) (refuses n q s) no_call
-          (meets (came_from p (Arrived q s)) (said_to p (refuses n q s).sent) None None far_came (said_elsewhere p q (ident_of (refuses n q s).node.past) false (Some (reset_to_none s)) far)) refl))
+          (meets (received_from p (Arrived q s)) (sent_to p (refuses n q s).sent) None None far_came (said_elsewhere p q (ident_of (refuses n q s).node.history) false (Some (reset_for_no_connection s)) far)) refl))
 
       far_arrival : (where_found : Option ℕ) → position (serves q) n.connections ≡ where_found → Acts (Arrived q s) (arrives_at m served n q s where_found)
       far_arrival o e =
@@ -178,8 +178,8 @@ module _ (m : Meaning) (served : ℕ → Bool) (n : AbstractNode) (p : Sockets) 
             | finds k g at_k u ↦
                 (let old : Connection = serving q n.connections in
                 let event : Event = Arrived q s in
-                let out : Outcome = asked m (moment n event k) (on_segment m old n.numbers s) in
-                let keeps : out.connection.sockets ≡ old.sockets = asked_keeps m (moment n event k) old (on_segment m old n.numbers s) (on_segment_keeps m old n.numbers s) in
+                let out : Outcome = asked m (snapshot n event k) (on_segment m old n.numbers s) in
+                let keeps : out.connection.sockets ≡ old.sockets = asked_keeps m (snapshot n event k) old (on_segment m old n.numbers s) (on_segment_keeps m old n.numbers s) in
                 let same : old.sockets ≡ q = same_is old.sockets q (and_true (is_live old.state) (same_sockets old.sockets q) u).1 in
                 let slot : connection_in k n ≡ old = index_of n.connections k closed old at_k in
                 let other : k ≡ i → ⊥ = λ z. (let w : Some old ≡ Some c = sym at_k ∙ ap (slice_get n.connections) z ∙ at in
@@ -187,7 +187,7 @@ module _ (m : Meaning) (served : ℕ → Bool) (n : AbstractNode) (p : Sockets) 
                 let h : Acts event (happened m n event k old out) = elsewhere event k old out no_call other far_came (ap (λ z. same_sockets z p) (keeps ∙ same) ∙ far) in
                 let k' : o ≡ Some k = sym e ∙ g ∙ ap Some (omega arith) in
                 subst (λ z. Acts event (arrives_at m served n q s z)) (sym k')
-                (subst (λ z. Acts event (happened m n event k z (asked m (moment n event k) (on_segment m z n.numbers s)))) (sym slot) h))
+                (subst (λ z. Acts event (happened m n event k z (asked m (snapshot n event k) (on_segment m z n.numbers s)))) (sym slot) h))
             | finds_none g free ↦ (let k' : o ≡ None = sym e ∙ g in subst (λ z. Acts (Arrived q s) (arrives_at m served n q s z)) (sym k') stranger)
           ]
 
@@ -198,13 +198,13 @@ module _ (m : Meaning) (served : ℕ → Bool) (n : AbstractNode) (p : Sockets) 
           | finds k g at_k u ↦
               (let k' : k ≡ i = single p k i (serving p n.connections) c at_k at u own in
               let event : Event = Arrived p s in
-              let out : Outcome = asked m (moment n event i) (on_segment m c n.numbers s) in
-              let keeps : out.connection.sockets ≡ c.sockets = asked_keeps m (moment n event i) c (on_segment m c n.numbers s) (on_segment_keeps m c n.numbers s) in
+              let out : Outcome = asked m (snapshot n event i) (on_segment m c n.numbers s) in
+              let keeps : out.connection.sockets ≡ c.sockets = asked_keeps m (snapshot n event i) c (on_segment m c n.numbers s) (on_segment_keeps m c n.numbers s) in
               let slot : connection_in i n ≡ c = index_of n.connections i closed c at in
               let h : Acts event (happened m n event i c out) = is_met s refl (acted event (Some s) out (came_here p p s refl) (keeps ∙ peer)) in
               let o' : o ≡ Some i = sym e ∙ g ∙ ap Some (let z : 0 + k ≡ k = omega arith in z) ∙ ap Some k' in
               subst (λ z. Acts event (arrives_at m served n p s z)) (sym o')
-              (subst (λ z. Acts event (happened m n event i z (asked m (moment n event i) (on_segment m z n.numbers s)))) (sym slot) h))
+              (subst (λ z. Acts event (happened m n event i z (asked m (snapshot n event i) (on_segment m z n.numbers s)))) (sym slot) h))
           | finds_none g free ↦ absurd (let z : serves p c ≡ false = free i c at in cc)
         ]
 

@@ -1,4 +1,4 @@
--- What stands where in a text.
+-- The offsets of bytes in a text.
 use Rattle.std.proofs.Common.{◌≡◌, ℕ, zero, suc, ◌+◌, ◌<◌, ◌≤◌, ◌⊎◌, List, [], ◌∷◌, ◌++◌, length, take, drop, refl, sym, ap, ◌∙◌, arith, Some, None, slice_get, length-append}
 use Rattle.app_events.specs.Laws.{IsPrefixOf}
 use Rattle.uip_node.proofs.Basics.{append_nothing}
@@ -46,7 +46,7 @@ all_of_it xs ys h e =
 pub most_or_more : (n most : ℕ) → (n ≤ most) ⊎ (most < n)
 most_or_more n most = grind arith
 
--- what stands in two texts joined
+-- the bytes of two texts joined
 pub data InBoth (xs ys : List ℕ) (i b : ℕ) : Type 0 where
   in_first : slice_get xs i ≡ Some b → InBoth xs ys i b
   in_second : (j : ℕ) → i ≡ length xs + j → slice_get ys j ≡ Some b → InBoth xs ys i b

@@ -1,11 +1,11 @@
--- Every life of every talk.
+-- Every incarnation with every peer.
 use Rattle.std.specs.List.{All}
 use Rattle.std.specs.Option.{option_map_or}
 use Rattle.std.proofs.Common.{◌≡◌, ℕ, zero, suc, ◌<◌, length, drop, Bool, true, false, inl, inr, List, [], ◌∷◌, ◌++◌, replicate, refl, sym, ap, ◌∙◌, subst, arith, Option, Some, None, if◌then◌else◌}
 use Rattle.std.proofs.lemmas.List.Elements.{All-head, All-tail}
 use Rattle.uip_wire.specs.declared.addr.Addr.{Addr}
-use Rattle.app_events.specs.Part.{Meaning}
-use Rattle.app_events.specs.Pages.{IsWord}
+use Rattle.app_events.specs.AppSpec.{AppSpec}
+use Rattle.app_events.specs.Pages.{IsU32}
 use Rattle.tcp_segment.specs.Segments.{PlainSegment, has_rst, has_syn}
 use Rattle.tcp_segment.specs.declared.flags.TheConstants.{SYN}
 use Rattle.tcp_machine.specs.Connection.{Sockets, Connection, closed, is_live}
@@ -14,22 +14,22 @@ use Rattle.tcp_machine.specs.Ask.{Outcome, asked}
 use Rattle.tcp_machine.specs.OnSegment.{accepted, on_segment}
 use Rattle.tcp_machine.specs.OnTick.{on_tick}
 use Rattle.uip_node.specs.Events.{Event}
-use Rattle.uip_node.specs.Node.{AbstractNode, opening, step}
+use Rattle.uip_node.specs.Node.{AbstractNode, initial_node, step}
 use Rattle.uip_node.specs.Laws.{serving, IsEvent}
 use Rattle.uip_node.proofs.Basics.{both_ways, eqb-eq, only_some}
 use Rattle.uip_node.proofs.FitNodes.{FitNode, closed_fits, event_fits}
 use Rattle.uip_node.proofs.Fits.{FitConn, all_nil, all_cons}
 use Rattle.uip_node.proofs.Connections.{none_serves, all_closed, Single, serving_free}
 use Rattle.uip_node.specs.Steady.{IsSteady}
-use Rattle.node_laws.specs.Speakers.{Speaks, SpeaksAt}
-use Rattle.node_laws.specs.Talks.{Exchange, exchange, talk_behind, talk_of, is_opening, is_empty, is_life, IsLifeIn}
-use Rattle.node_laws.specs.Promise.{Account, KeepsAccount, KeepsText, KeepsLife, GrowsInto, Speech}
-use Rattle.node_laws.specs.Asked.{HasNoReset, LivesOn, IsAskedFor, NothingUnasked, OpensServed}
-use Rattle.node_laws.proofs.Steps.{LineStep, Happens, Changes, IsStep, changed, turns_over}
+use Rattle.node_laws.specs.Speakers.{HasOutputModel, SpeaksAt}
+use Rattle.node_laws.specs.Traces.{Exchange, exchange, exchanges_onto, exchanges_with, is_opening, is_empty, is_incarnation, IsIncarnationIn}
+use Rattle.node_laws.specs.Promise.{Account, AccountHolds, TextConforms, IncarnationConforms, IsExtendedBy, OutputModel}
+use Rattle.node_laws.specs.Asked.{IsWithoutReset, LivesOn, IsSolicited, NothingUnsolicited, OpensServed}
+use Rattle.node_laws.proofs.Steps.{LineStep, OfNode, Changes, IsStep, changed, trace_over}
 use Rattle.node_laws.proofs.Wire.{line_wire, wire_event}
 use Rattle.node_laws.proofs.Replying.{answer_no_syn, rst_silent, rst_ends, reset_ends, tick_reset_ends}
-use Rattle.node_laws.proofs.Lines.{Does, Comes, comes, met, left_of}
-use Rattle.node_laws.proofs.Lines.Does.{passes_by, evicted, unanswered, refused, born, hears, ticks}
+use Rattle.node_laws.proofs.Lines.{OfMedium, Comes, comes, met, left_of}
+use Rattle.node_laws.proofs.Lines.OfMedium.{passes_by, evicted, unanswered, refused, born, hears, ticks}
 use Rattle.node_laws.proofs.Lives.{Good, Onward, goes_on, begins_by}
 use Rattle.node_laws.proofs.Receiving.{keeps_account, keeps_text}
 
@@ -43,24 +43,24 @@ empty_is : (xs : List Exchange) → is_empty xs ≡ true → xs ≡ []
 empty_is [] h = refl
 empty_is (x ∷ xs) h = absurd (cc)
 
--- a life goes on at its front
-life_on : (x : Exchange) (so_far : List Exchange) → is_opening x ≡ false → HasNoReset x → LivesOn so_far → LivesOn (x ∷ so_far)
+-- an incarnation continues at its newest end
+life_on : (x : Exchange) (so_far : List Exchange) → is_opening x ≡ false → IsWithoutReset x → LivesOn so_far → LivesOn (x ∷ so_far)
 life_on x so_far o q h = record {
-  life = x ∷ h.life;
+  incarnation = x ∷ h.incarnation;
   older = h.older;
   split = ap (λ l. x ∷ l) h.split;
-  is = ap (λ b. if b then is_empty h.life else is_life h.life) o ∙ h.is;
-  unreset = all_cons HasNoReset x h.life q h.unreset;
+  is = ap (λ b. if b then is_empty h.incarnation else is_incarnation h.incarnation) o ∙ h.is;
+  unreset = all_cons IsWithoutReset x h.incarnation q h.unreset;
 }
 
-life_new : (x : Exchange) (so_far : List Exchange) → is_opening x ≡ true → HasNoReset x → LivesOn (x ∷ so_far)
-life_new x so_far o q = record { life = x ∷ []; older = so_far; split = refl; is = ap (λ b. if b then is_empty [] else is_life []) o; unreset = all_cons HasNoReset x [] q (all_nil HasNoReset) }
+life_new : (x : Exchange) (so_far : List Exchange) → is_opening x ≡ true → IsWithoutReset x → LivesOn (x ∷ so_far)
+life_new x so_far o q = record { incarnation = x ∷ []; older = so_far; split = refl; is = ap (λ b. if b then is_empty [] else is_incarnation []) o; unreset = all_cons IsWithoutReset x [] q (all_nil IsWithoutReset) }
 
-came_is : (x : Exchange) (s : PlainSegment) (said : Option PlainSegment) → x ≡ met (Some s) said → x.came ≡ Some s
-came_is x s said e = ap (λ z. z.came) e
+came_is : (x : Exchange) (s : PlainSegment) (output : Option PlainSegment) → x ≡ met (Some s) output → x.received ≡ Some s
+came_is x s output e = ap (λ z. z.received) e
 
 -- a step: its life, and that it is asked for
-module _ (m : Meaning) (served : ℕ → Bool) (p : Sockets) where
+module _ (m : AppSpec) (served : ℕ → Bool) (p : Sockets) where
   plain_no_rst : (s : PlainSegment) → is_plain_syn s ≡ true → has_rst s.flags ≡ false
   plain_no_rst s h = ap has_rst (let q : s.flags ≡ SYN = eqb-eq s.flags SYN h in q)
 
@@ -68,32 +68,32 @@ module _ (m : Meaning) (served : ℕ → Bool) (p : Sockets) where
   left_live d l = both_ways (is_live d.state) (λ e. e) (λ e. absurd (let z : is_live (left_of d).state ≡ false = ap (λ b. is_live (if b then d else closed).state) e in cc))
 
   -- no RST passes where the connection lives on
-  clean : (c d : Connection) (x : Exchange) → Does m served p c d x → is_live d.state ≡ true → HasNoReset x
+  clean : (c d : Connection) (x : Exchange) → OfMedium m served p c d x → is_live d.state ≡ true → IsWithoutReset x
   clean c d x does l = elim does [
-    | passes_by e f ↦ record { came = λ s q. absurd (let z : None ≡ Some s = sym (ap (λ y. y.came) e) ∙ q in cc); said = λ s q. absurd (let z : None ≡ Some s = sym (ap (λ y. y.said) e) ∙ q in cc) }
+    | passes_by e f ↦ record { received = λ s q. absurd (let z : None ≡ Some s = sym (ap (λ y. y.received) e) ∙ q in cc); output = λ s q. absurd (let z : None ≡ Some s = sym (ap (λ y. y.output) e) ∙ q in cc) }
     | evicted e f ↦ absurd (let z : is_live d.state ≡ false = ap (λ y. is_live y.state) f in cc)
     | unanswered s q e f ↦ absurd (let z : is_live d.state ≡ false = ap (λ y. is_live y.state) f ∙ q in cc)
     | refused s r q e f ↦ absurd (let z : is_live d.state ≡ false = ap (λ y. is_live y.state) f ∙ q in cc)
-    | born first s plain port fit e f ↦ record {
-      came = λ t q. only_some (λ y. has_rst y.flags ≡ false) s t (sym (ap (λ y. y.came) e) ∙ q) (plain_no_rst s plain);
-      said = λ t q. only_some (λ y. has_rst y.flags ≡ false) (syn_ack (accepted first p s)) t (sym (ap (λ y. y.said) e) ∙ q) refl;
+    | born iss s plain port fit e f ↦ record {
+      received = λ t q. only_some (λ y. has_rst y.flags ≡ false) s t (sym (ap (λ y. y.received) e) ∙ q) (plain_no_rst s plain);
+      output = λ t q. only_some (λ y. has_rst y.flags ≡ false) (syn_ack (accepted iss p s)) t (sym (ap (λ y. y.output) e) ∙ q) refl;
     }
     | hears s numbers at alive fit words is h ↦ (let o : Outcome = asked m at (on_segment m c numbers s) in
         let k : is_live o.connection.state ≡ true = left_live o.connection (sym (ap (λ y. is_live y.state) h.1) ∙ l) in
         record {
-          came = λ t q. only_some (λ y. has_rst y.flags ≡ false) s t (sym (ap (λ y. y.came) h.0) ∙ q)
+          received = λ t q. only_some (λ y. has_rst y.flags ≡ false) s t (sym (ap (λ y. y.received) h.0) ∙ q)
               (both_ways (has_rst s.flags) (λ r. absurd (let z = rst_ends m at c numbers s r in cc)) (λ r. r));
-          said = λ t q. both_ways (has_rst t.flags) (λ r. absurd (let z = reset_ends m at c numbers s t (sym (ap (λ y. y.said) h.0) ∙ q) r in cc)) (λ r. r);
+          output = λ t q. both_ways (has_rst t.flags) (λ r. absurd (let z = reset_ends m at c numbers s t (sym (ap (λ y. y.output) h.0) ∙ q) r in cc)) (λ r. r);
         })
     | ticks numbers at alive fit words is h ↦ (let o : Outcome = asked m at (on_tick m c numbers) in
         let k : is_live o.connection.state ≡ true = left_live o.connection (sym (ap (λ y. is_live y.state) h.1) ∙ l) in
         record {
-          came = λ t q. absurd (let z : None ≡ Some t = sym (ap (λ y. y.came) h.0) ∙ q in cc);
-          said = λ t q. both_ways (has_rst t.flags) (λ r. absurd (let z = tick_reset_ends m at c numbers t (sym (ap (λ y. y.said) h.0) ∙ q) r in cc)) (λ r. r);
+          received = λ t q. absurd (let z : None ≡ Some t = sym (ap (λ y. y.received) h.0) ∙ q in cc);
+          output = λ t q. both_ways (has_rst t.flags) (λ r. absurd (let z = tick_reset_ends m at c numbers t (sym (ap (λ y. y.output) h.0) ∙ q) r in cc)) (λ r. r);
         })
   ]
 
-  lives_on : (c d : Connection) (x : Exchange) (so_far : List Exchange) → Does m served p c d x → (is_live c.state ≡ true → LivesOn so_far) → is_live d.state ≡ true → LivesOn (x ∷ so_far)
+  lives_on : (c d : Connection) (x : Exchange) (so_far : List Exchange) → OfMedium m served p c d x → (is_live c.state ≡ true → LivesOn so_far) → is_live d.state ≡ true → LivesOn (x ∷ so_far)
   lives_on c d x so_far does h l =
       both_ways (is_opening x) (λ o. life_new x so_far o (clean c d x does l))
       (λ o. life_on x so_far o (clean c d x does l) (elim does [
@@ -101,40 +101,40 @@ module _ (m : Meaning) (served : ℕ → Bool) (p : Sockets) where
         | evicted e f ↦ absurd (let z : is_live d.state ≡ false = ap (λ y. is_live y.state) f in cc)
         | unanswered s q e f ↦ absurd (let z : is_live d.state ≡ false = ap (λ y. is_live y.state) f ∙ q in cc)
         | refused s r q e f ↦ absurd (let z : is_live d.state ≡ false = ap (λ y. is_live y.state) f ∙ q in cc)
-        | born first s plain port fit e f ↦ absurd (let z : is_opening x ≡ true = ap (λ y. is_opening y) e in cc)
+        | born iss s plain port fit e f ↦ absurd (let z : is_opening x ≡ true = ap (λ y. is_opening y) e in cc)
         | hears s numbers at alive fit words is q ↦ h alive
         | ticks numbers at alive fit words is q ↦ h alive
       ]))
 
-  asked_for : (c d : Connection) (x : Exchange) (so_far : List Exchange) → Does m served p c d x → (is_live c.state ≡ true → LivesOn so_far) → IsAskedFor x so_far
+  asked_for : (c d : Connection) (x : Exchange) (so_far : List Exchange) → OfMedium m served p c d x → (is_live c.state ≡ true → LivesOn so_far) → IsSolicited x so_far
   asked_for c d x so_far does h s q = elim does [
-    | passes_by e f ↦ absurd (let z : None ≡ Some s = sym (ap (λ y. y.said) e) ∙ q in cc)
-    | evicted e f ↦ absurd (let z : None ≡ Some s = sym (ap (λ y. y.said) e) ∙ q in cc)
-    | unanswered t l e f ↦ absurd (let z : None ≡ Some s = sym (ap (λ y. y.said) e) ∙ q in cc)
-    | refused t r l e f ↦ inl (t, ap (λ y. y.came) e, r)
-    | born first t plain port fit e f ↦ inl (t, ap (λ y. y.came) e, plain_no_rst t plain)
+    | passes_by e f ↦ absurd (let z : None ≡ Some s = sym (ap (λ y. y.output) e) ∙ q in cc)
+    | evicted e f ↦ absurd (let z : None ≡ Some s = sym (ap (λ y. y.output) e) ∙ q in cc)
+    | unanswered t l e f ↦ absurd (let z : None ≡ Some s = sym (ap (λ y. y.output) e) ∙ q in cc)
+    | refused t r l e f ↦ inl (t, ap (λ y. y.received) e, r)
+    | born iss t plain port fit e f ↦ inl (t, ap (λ y. y.received) e, plain_no_rst t plain)
     | hears t numbers at alive fit words is w ↦
         inl (
           t,
-          ap (λ y. y.came) w.0,
+          ap (λ y. y.received) w.0,
           both_ways (has_rst t.flags)
-              (λ r. absurd (let z : None ≡ Some s = sym (rst_silent m at c numbers t r) ∙ sym (ap (λ y. y.said) w.0) ∙ q in cc))
+              (λ r. absurd (let z : None ≡ Some s = sym (rst_silent m at c numbers t r) ∙ sym (ap (λ y. y.output) w.0) ∙ q in cc))
               (λ r. r),
         )
-    | ticks numbers at alive fit words is w ↦ inr (ap (λ y. y.came) w.0, h alive)
+    | ticks numbers at alive fit words is w ↦ inr (ap (λ y. y.received) w.0, h alive)
   ]
 
-  no_opening : (said : Option PlainSegment) → ((t : PlainSegment) → said ≡ Some t → has_syn t.flags ≡ false) → option_map_or (λ s. has_syn s.flags) said false ≡ false
+  no_opening : (output : Option PlainSegment) → ((t : PlainSegment) → output ≡ Some t → has_syn t.flags ≡ false) → option_map_or (λ s. has_syn s.flags) output false ≡ false
   no_opening None h = refl
   no_opening (Some t) h = h t refl
 
-  opens_served : (c d : Connection) (x : Exchange) → Does m served p c d x → is_opening x ≡ true → served p.own_port.0 ≡ true
+  opens_served : (c d : Connection) (x : Exchange) → OfMedium m served p c d x → is_opening x ≡ true → served p.own_port.0 ≡ true
   opens_served c d x does o = elim does [
     | passes_by e f ↦ absurd (let z : is_opening x ≡ false = ap (λ y. is_opening y) e in cc)
     | evicted e f ↦ absurd (let z : is_opening x ≡ false = ap (λ y. is_opening y) e in cc)
     | unanswered s l e f ↦ absurd (let z : is_opening x ≡ false = ap (λ y. is_opening y) e in cc)
     | refused s r l e f ↦ absurd (let z : is_opening x ≡ false = ap (λ y. is_opening y) e in cc)
-    | born first s plain port fit e f ↦ port
+    | born iss s plain port fit e f ↦ port
     | hears s numbers at alive fit words is h ↦
         (let oo : Outcome = asked m at (on_segment m c numbers s) in
         absurd (let z : is_opening x ≡ false = ap (λ y. is_opening y) h.0 ∙ no_opening (segment_of m oo.connection oo.step) (λ t q. answer_no_syn m at c numbers s t q) in cc))
@@ -145,84 +145,84 @@ module _ (m : Meaning) (served : ℕ → Bool) (p : Sockets) where
   ports_on x so_far a h [] y before e o = a (ap (λ z. is_opening z) (cons_head x y so_far before e) ∙ o)
   ports_on x so_far a h (w ∷ later) y before e o = h later y before (cons_tail x w so_far (later ++ (y ∷ before)) e) o
 
-  asked_on : (x : Exchange) (so_far : List Exchange) → IsAskedFor x so_far → NothingUnasked so_far → NothingUnasked (x ∷ so_far)
+  asked_on : (x : Exchange) (so_far : List Exchange) → IsSolicited x so_far → NothingUnsolicited so_far → NothingUnsolicited (x ∷ so_far)
   asked_on x so_far a h [] y before e =
-      subst (λ z. IsAskedFor z before) (cons_head x y so_far before e) (subst (λ z. IsAskedFor x z) (cons_tail x y so_far before e) a)
+      subst (λ z. IsSolicited z before) (cons_head x y so_far before e) (subst (λ z. IsSolicited x z) (cons_tail x y so_far before e) a)
   asked_on x so_far a h (w ∷ later) y before e = h later y before (cons_tail x w so_far (later ++ (y ∷ before)) e)
 
--- what the whole run comes to
-pub record Ends (speech : Speech) (served : ℕ → Bool) (p : Sockets) (so_far : List Exchange) : Type 0 where
-  pub lives : (life : List Exchange) → IsLifeIn so_far life → KeepsLife speech life
-  pub asked : NothingUnasked so_far
+-- the result of the whole run
+pub record Ends (model : OutputModel) (served : ℕ → Bool) (p : Sockets) (so_far : List Exchange) : Type 0 where
+  pub incarnations : (incarnation : List Exchange) → IsIncarnationIn so_far incarnation → IncarnationConforms model incarnation
+  pub asked : NothingUnsolicited so_far
   pub ports : OpensServed served p so_far
 
-module _ (m : Meaning) (steady : IsSteady m) (port : ℕ) (speech : Speech) (laws : SpeaksAt m port speech) (served : ℕ → Bool) (p : Sockets) (here : p.own_port.0 ≡ port) where
+module _ (m : AppSpec) (steady : IsSteady m) (port : ℕ) (model : OutputModel) (laws : SpeaksAt m port model) (served : ℕ → Bool) (p : Sockets) (here : p.own_port.0 ≡ port) where
   -- a life at its present moment, and its promise
-  record Current (c : Connection) (life : List Exchange) : Type 0 where
-    good : Good m steady port speech laws c life
-    promise : KeepsLife speech life
+  record Current (c : Connection) (incarnation : List Exchange) : Type 0 where
+    good : Good m steady port model laws c incarnation
+    promise : IncarnationConforms model incarnation
     newest : promise.account 0 ≡ good.kept.account
 
-  -- an account in front of those before
-  abbrev in_front : Account → (ℕ → Account) → ℕ → Account
-  in_front a old zero = a
-  in_front a old (suc back) = old back
+  -- an account before the older ones
+  abbrev with_newest : Account → (ℕ → Account) → ℕ → Account
+  with_newest a old zero = a
+  with_newest a old (suc back) = old back
 
-  born_current : (d : Connection) (x : Exchange) → Good m steady port speech laws d (x ∷ []) → Current d (x ∷ [])
+  born_current : (d : Connection) (x : Exchange) → Good m steady port model laws d (x ∷ []) → Current d (x ∷ [])
   born_current d x g = record { good = g; promise = record { account = λ back. g.kept.account; keeps = only; tells = only_text; grows = λ back l. absurd (omega (arith, l)) }; newest = refl }
     where
-      only : (back : ℕ) → back < 1 → KeepsAccount (drop back (x ∷ [])) g.kept.account
-      only zero l = keeps_account speech (x ∷ []) g.kept
+      only : (back : ℕ) → back < 1 → AccountHolds (drop back (x ∷ [])) g.kept.account
+      only zero l = keeps_account model (x ∷ []) g.kept
       only (suc back) l = absurd (omega (arith, l))
 
-      only_text : (back : ℕ) → back < 1 → KeepsText speech (drop back (x ∷ [])) g.kept.account
-      only_text zero l = keeps_text m port speech laws (x ∷ []) g.kept
+      only_text : (back : ℕ) → back < 1 → TextConforms model (drop back (x ∷ [])) g.kept.account
+      only_text zero l = keeps_text m port model laws (x ∷ []) g.kept
       only_text (suc back) l = absurd (omega (arith, l))
 
-  current_longer : (c d : Connection) (x : Exchange) (life : List Exchange) (v : Current c life) → Onward m steady port speech laws c life v.good d x → Current d (x ∷ life)
-  current_longer c d x life v o = record { good = o.good; promise = record { account = in_front o.good.kept.account v.promise.account; keeps = keeps_on; tells = tells_on; grows = grows_on }; newest = refl }
+  current_longer : (c d : Connection) (x : Exchange) (incarnation : List Exchange) (v : Current c incarnation) → Onward m steady port model laws c incarnation v.good d x → Current d (x ∷ incarnation)
+  current_longer c d x incarnation v o = record { good = o.good; promise = record { account = with_newest o.good.kept.account v.promise.account; keeps = keeps_on; tells = tells_on; grows = grows_on }; newest = refl }
     where
-      keeps_on : (back : ℕ) → back < length (x ∷ life) → KeepsAccount (drop back (x ∷ life)) (in_front o.good.kept.account v.promise.account back)
-      keeps_on zero l = keeps_account speech (x ∷ life) o.good.kept
+      keeps_on : (back : ℕ) → back < length (x ∷ incarnation) → AccountHolds (drop back (x ∷ incarnation)) (with_newest o.good.kept.account v.promise.account back)
+      keeps_on zero l = keeps_account model (x ∷ incarnation) o.good.kept
       keeps_on (suc back) l = v.promise.keeps back (omega (arith, l))
 
-      tells_on : (back : ℕ) → back < length (x ∷ life) → KeepsText speech (drop back (x ∷ life)) (in_front o.good.kept.account v.promise.account back)
-      tells_on zero l = keeps_text m port speech laws (x ∷ life) o.good.kept
+      tells_on : (back : ℕ) → back < length (x ∷ incarnation) → TextConforms model (drop back (x ∷ incarnation)) (with_newest o.good.kept.account v.promise.account back)
+      tells_on zero l = keeps_text m port model laws (x ∷ incarnation) o.good.kept
       tells_on (suc back) l = v.promise.tells back (omega (arith, l))
 
-      grows_on : (back : ℕ) → suc back < length (x ∷ life) → GrowsInto (in_front o.good.kept.account v.promise.account (suc back)) (in_front o.good.kept.account v.promise.account back)
-      grows_on zero l = subst (λ a. GrowsInto a o.good.kept.account) (sym v.newest) o.grew
+      grows_on : (back : ℕ) → suc back < length (x ∷ incarnation) → IsExtendedBy (with_newest o.good.kept.account v.promise.account (suc back)) (with_newest o.good.kept.account v.promise.account back)
+      grows_on zero l = subst (λ a. IsExtendedBy a o.good.kept.account) (sym v.newest) o.grew
       grows_on (suc back) l = v.promise.grows back (omega (arith, l))
 
   record Inv (n : AbstractNode) (so_far : List Exchange) : Type 0 where
     single : Single n.connections
     fit : FitNode n
-    current : (life before : List Exchange) → so_far ≡ life ++ before → is_life life ≡ true → Current (serving p n.connections) life
-    ever : (later life before : List Exchange) → so_far ≡ later ++ (life ++ before) → is_life life ≡ true → KeepsLife speech life
-    lives : is_live (serving p n.connections).state ≡ true → LivesOn so_far
-    asked : NothingUnasked so_far
+    current : (incarnation before : List Exchange) → so_far ≡ incarnation ++ before → is_incarnation incarnation ≡ true → Current (serving p n.connections) incarnation
+    ever : (later incarnation before : List Exchange) → so_far ≡ later ++ (incarnation ++ before) → is_incarnation incarnation ≡ true → IncarnationConforms model incarnation
+    incarnations : is_live (serving p n.connections).state ≡ true → LivesOn so_far
+    asked : NothingUnsolicited so_far
     ports : OpensServed served p so_far
 
-  -- the life that goes on, one exchange longer
-  current_on : (c d : Connection) (x : Exchange) (so_far : List Exchange) → Does m served p c d x → ((life before : List Exchange) → so_far ≡ life ++ before → is_life life ≡ true → Current c life) →
-      (life before : List Exchange) → x ∷ so_far ≡ life ++ before → is_life life ≡ true → Current d life
+  -- the incarnation that continues, one exchange longer
+  current_on : (c d : Connection) (x : Exchange) (so_far : List Exchange) → OfMedium m served p c d x → ((incarnation before : List Exchange) → so_far ≡ incarnation ++ before → is_incarnation incarnation ≡ true → Current c incarnation) →
+      (incarnation before : List Exchange) → x ∷ so_far ≡ incarnation ++ before → is_incarnation incarnation ≡ true → Current d incarnation
   current_on c d x so_far does h [] before e l = absurd (cc)
   current_on c d x so_far does h (y ∷ older) before e l =
       let head : x ≡ y = cons_head x y so_far (older ++ before) e in
       let tail : so_far ≡ older ++ before = cons_tail x y so_far (older ++ before) e in
       subst (λ z. Current d (z ∷ older)) head
       (both_ways (is_opening y)
-      (λ o. let none : older ≡ [] = empty_is older (sym (ap (λ b. if b then is_empty older else is_life older) o) ∙ l) in
-      subst (λ z. Current d (x ∷ z)) (sym none) (born_current d x (begins_by m steady port speech laws served p here c d x does (ap (λ z. is_opening z) head ∙ o))))
-      (λ o. let lives : is_life older ≡ true = sym (ap (λ b. if b then is_empty older else is_life older) o) ∙ l in
-      let v : Current c older = h older before tail lives in
-      current_longer c d x older v (goes_on m steady port speech laws served p here c d x older does (ap (λ z. is_opening z) head ∙ o) v.good)))
+      (λ o. let none : older ≡ [] = empty_is older (sym (ap (λ b. if b then is_empty older else is_incarnation older) o) ∙ l) in
+      subst (λ z. Current d (x ∷ z)) (sym none) (born_current d x (begins_by m steady port model laws served p here c d x does (ap (λ z. is_opening z) head ∙ o))))
+      (λ o. let incarnations : is_incarnation older ≡ true = sym (ap (λ b. if b then is_empty older else is_incarnation older) o) ∙ l in
+      let v : Current c older = h older before tail incarnations in
+      current_longer c d x older v (goes_on m steady port model laws served p here c d x older does (ap (λ z. is_opening z) head ∙ o) v.good)))
 
-  ever_on : (d : Connection) (x : Exchange) (so_far : List Exchange) → ((life before : List Exchange) → x ∷ so_far ≡ life ++ before → is_life life ≡ true → Current d life) →
-      ((later life before : List Exchange) → so_far ≡ later ++ (life ++ before) → is_life life ≡ true → KeepsLife speech life) →
-      (later life before : List Exchange) → x ∷ so_far ≡ later ++ (life ++ before) → is_life life ≡ true → KeepsLife speech life
-  ever_on d x so_far h g [] life before e l = (h life before e l).promise
-  ever_on d x so_far h g (y ∷ later) life before e l = g later life before (cons_tail x y so_far (later ++ (life ++ before)) e) l
+  ever_on : (d : Connection) (x : Exchange) (so_far : List Exchange) → ((incarnation before : List Exchange) → x ∷ so_far ≡ incarnation ++ before → is_incarnation incarnation ≡ true → Current d incarnation) →
+      ((later incarnation before : List Exchange) → so_far ≡ later ++ (incarnation ++ before) → is_incarnation incarnation ≡ true → IncarnationConforms model incarnation) →
+      (later incarnation before : List Exchange) → x ∷ so_far ≡ later ++ (incarnation ++ before) → is_incarnation incarnation ≡ true → IncarnationConforms model incarnation
+  ever_on d x so_far h g [] incarnation before e l = (h incarnation before e l).promise
+  ever_on d x so_far h g (y ∷ later) incarnation before e l = g later incarnation before (cons_tail x y so_far (later ++ (incarnation ++ before)) e) l
 
   step_inv : (n : AbstractNode) (so_far : List Exchange) (event : Event) → IsEvent event → Inv n so_far → Inv (step m served n event).node (exchange p event (step m served n event).sent ∷ so_far)
   step_inv n so_far event is i =
@@ -234,58 +234,58 @@ module _ (m : Meaning) (steady : IsSteady m) (port : ℕ) (speech : Speech) (law
         fit = event_fits m steady served n event is i.fit;
         current = now;
         ever = ever_on (serving p (step m served n event).node.connections) x so_far now i.ever;
-        lives = lives_on m served p (serving p n.connections) (serving p (step m served n event).node.connections) x so_far (c.each p) i.lives;
-        asked = asked_on m served p x so_far (asked_for m served p (serving p n.connections) (serving p (step m served n event).node.connections) x so_far (c.each p) i.lives) i.asked;
+        incarnations = lives_on m served p (serving p n.connections) (serving p (step m served n event).node.connections) x so_far (c.each p) i.incarnations;
+        asked = asked_on m served p x so_far (asked_for m served p (serving p n.connections) (serving p (step m served n event).node.connections) x so_far (c.each p) i.incarnations) i.asked;
         ports = ports_on m served p x so_far (opens_served m served p (serving p n.connections) (serving p (step m served n event).node.connections) x (c.each p)) i.ports;
       }
 
   -- the numbers of the application were changed
-  changed_inv : (n : AbstractNode) (so_far : List Exchange) (change : List ℕ → List ℕ) → ((numbers : List ℕ) → All IsWord numbers → All IsWord (change numbers))
+  changed_inv : (n : AbstractNode) (so_far : List Exchange) (change : List ℕ → List ℕ) → ((numbers : List ℕ) → All IsU32 numbers → All IsU32 (change numbers))
       → Inv n so_far → Inv (changed change n) so_far
   changed_inv n so_far change words i = record {
     single = i.single;
     fit = record { size = i.fit.size; conns = i.fit.conns; numbers = words n.numbers i.fit.numbers };
     current = i.current;
     ever = i.ever;
-    lives = i.lives;
+    incarnations = i.incarnations;
     asked = i.asked;
     ports = i.ports;
   }
 
-  run_inv : (own : Addr) (steps : List LineStep) (n : AbstractNode) (so_far : List Exchange) → All (IsStep own) steps → Inv n so_far → Ends speech served p (talk_behind p (turns_over m served steps n) so_far)
-  run_inv own [] n so_far a i = record { lives = λ life l. i.ever l.later life l.before l.split l.is; asked = i.asked; ports = i.ports }
-  run_inv own (Happens e ∷ steps) n so_far a i =
-      run_inv own steps (step m served n e).node (exchange p e (step m served n e).sent ∷ so_far) (All-tail (IsStep own) (Happens e) steps a)
-      (step_inv n so_far e (wire_event e (line_wire own e (All-head (IsStep own) (Happens e) steps a))) i)
+  run_inv : (own : Addr) (steps : List LineStep) (n : AbstractNode) (so_far : List Exchange) → All (IsStep own) steps → Inv n so_far → Ends model served p (exchanges_onto p (trace_over m served steps n) so_far)
+  run_inv own [] n so_far a i = record { incarnations = λ incarnation l. i.ever l.later incarnation l.before l.split l.is; asked = i.asked; ports = i.ports }
+  run_inv own (OfNode e ∷ steps) n so_far a i =
+      run_inv own steps (step m served n e).node (exchange p e (step m served n e).sent ∷ so_far) (All-tail (IsStep own) (OfNode e) steps a)
+      (step_inv n so_far e (wire_event e (line_wire own e (All-head (IsStep own) (OfNode e) steps a))) i)
   run_inv own (Changes change ∷ steps) n so_far a i =
       run_inv own steps (changed change n) so_far (All-tail (IsStep own) (Changes change) steps a)
       (changed_inv n so_far change (All-head (IsStep own) (Changes change) steps a) i)
 
-  no_life : (life before : List Exchange) → [] ≡ life ++ before → is_life life ≡ true → ⊥
+  no_life : (incarnation before : List Exchange) → [] ≡ incarnation ++ before → is_incarnation incarnation ≡ true → ⊥
   no_life [] before e l = absurd (cc)
-  no_life (x ∷ life) before e l = absurd (cc)
+  no_life (x ∷ incarnation) before e l = absurd (cc)
 
-  no_life_later : (later life before : List Exchange) → [] ≡ later ++ (life ++ before) → is_life life ≡ true → ⊥
-  no_life_later [] life before e l = no_life life before e l
-  no_life_later (x ∷ later) life before e l = absurd (cc)
+  no_life_later : (later incarnation before : List Exchange) → [] ≡ later ++ (incarnation ++ before) → is_incarnation incarnation ≡ true → ⊥
+  no_life_later [] incarnation before e l = no_life incarnation before e l
+  no_life_later (x ∷ later) incarnation before e l = absurd (cc)
 
   no_exchange : (later : List Exchange) (x : Exchange) (before : List Exchange) → [] ≡ later ++ (x ∷ before) → ⊥
   no_exchange [] x before e = absurd (cc)
   no_exchange (y ∷ later) x before e = absurd (cc)
 
-  opening_inv : (addr : Addr) (numbers : List ℕ) → All IsWord numbers → Inv (opening addr numbers) []
+  opening_inv : (addr : Addr) (numbers : List ℕ) → All IsU32 numbers → Inv (initial_node addr numbers) []
   opening_inv addr numbers w = record {
     single = λ q i j x y a b u v. absurd (let z = none_serves 10 q i x a in cc);
     fit = record { size = omega arith; conns = λ i x y. subst FitConn (all_closed 10 i x y) closed_fits; numbers = w };
-    current = λ life before e l. absurd (no_life life before e l);
-    ever = λ later life before e l. absurd (no_life_later later life before e l);
-    lives = λ l. absurd (let z : is_live (serving p (replicate 10 closed)).state ≡ false = ap (λ c. is_live c.state) (serving_free (replicate 10 closed) p (none_serves 10 p)) in cc);
+    current = λ incarnation before e l. absurd (no_life incarnation before e l);
+    ever = λ later incarnation before e l. absurd (no_life_later later incarnation before e l);
+    incarnations = λ l. absurd (let z : is_live (serving p (replicate 10 closed)).state ≡ false = ap (λ c. is_live c.state) (serving_free (replicate 10 closed) p (none_serves 10 p)) in cc);
     asked = λ later x before e. absurd (no_exchange later x before e);
     ports = λ later x before e o. absurd (no_exchange later x before e);
   }
 
-pub talk_ends : (m : Meaning) (speech : ℕ → Speech) → IsSteady m → (speaks : Speaks m speech) (served : ℕ → Bool) (own : Addr) (numbers : List ℕ) → All IsWord numbers → (steps : List LineStep) → All (IsStep own) steps → (p : Sockets)
-    → Ends (speech p.own_port.0) served p (talk_of p (turns_over m served steps (opening own numbers)))
-talk_ends m speech steady speaks served own numbers w steps a p =
+pub session_ends : (m : AppSpec) (model : ℕ → OutputModel) → IsSteady m → (speaks : HasOutputModel m model) (served : ℕ → Bool) (own : Addr) (numbers : List ℕ) → All IsU32 numbers → (steps : List LineStep) → All (IsStep own) steps → (p : Sockets)
+    → Ends (model p.own_port.0) served p (exchanges_with p (trace_over m served steps (initial_node own numbers)))
+session_ends m model steady speaks served own numbers w steps a p =
     let port : ℕ = p.own_port.0 in
-    run_inv m steady port (speech port) (speaks port) served p refl own steps (opening own numbers) [] a (opening_inv m steady port (speech port) (speaks port) served p refl own numbers w)
+    run_inv m steady port (model port) (speaks port) served p refl own steps (initial_node own numbers) [] a (opening_inv m steady port (model port) (speaks port) served p refl own numbers w)

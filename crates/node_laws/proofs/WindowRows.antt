@@ -1,17 +1,17 @@
--- The window and the timer of worked talks, computed from the definitions alone.
+-- The window and the timer of worked exchanges, computed from the definitions alone.
 use Rattle.std.proofs.Common.{◌≡◌, ◌+◌, ℕ, true, false, inl, inr, List, [], ◌∷◌, refl, arith, Some, None}
 use Rattle.tcp_segment.specs.Segments.{PlainSegment}
 use Rattle.tcp_segment.specs.declared.flags.TheConstants.{SYN, PSH, ACK}
-use Rattle.tcp_machine.specs.Segments.{has_place}
+use Rattle.tcp_machine.specs.Segments.{occupies_sequence_space}
 use Rattle.uip_node.proofs.Basics.{only_some}
 use Rattle.uip_node.proofs.Fits.{all_nil}
-use Rattle.node_laws.specs.Asked.{HasNoReset}
-use Rattle.node_laws.specs.Talks.{Exchange}
+use Rattle.node_laws.specs.Asked.{IsWithoutReset}
+use Rattle.node_laws.specs.Traces.{Exchange}
 use Rattle.node_laws.specs.Timers.{IsOutstanding}
 use Rattle.node_laws.specs.Windows.{FitsNewest}
 use Rattle.node_laws.specs.WrongLives.{exchanged, segment}
 
--- a segment of the peer with a window of three bytes, and what is said to it
+-- a segment of the peer with a window of three bytes, and the reply to it
 abbrev narrow : ℕ → ℕ → List ℕ → PlainSegment
 narrow seq ack text = record { seq = seq; ack = ack; flags = ACK; window = 3; mss = None; text = text }
 
@@ -31,17 +31,17 @@ four_do_not : FitsNewest shrunk 4 → ⊥
 four_do_not h = elim h [
   | inl q ↦ absurd (let z : Some (narrow 1002 4 []) ≡ None = q.0 in cc)
   | inr q ↦ elim q.2 [
-    | inl passed ↦ absurd (let z : has_place passed.0.answer ≡ true = only_some (λ t. has_place t ≡ true) rest passed.0.answer passed.0.said refl in let y = passed.0.bare in cc)
+    | inl passed ↦ absurd (let z : occupies_sequence_space passed.0.answer ≡ true = only_some (λ t. occupies_sequence_space t ≡ true) rest passed.0.answer passed.0.output refl in let y = passed.0.bare in cc)
     | inr allowed ↦ elim allowed [
       | inl l ↦ (let w : q.0.window ≡ 3 = only_some (λ t. t.window ≡ 3) (narrow 1002 4 []) q.0 q.1 refl in omega (arith, l, w))
       | inr more ↦ elim more [
         | inl z ↦ absurd (let w : q.0.window ≡ 3 = only_some (λ t. t.window ≡ 3) (narrow 1002 4 []) q.0 q.1 refl in omega (arith, z, w))
-        | inr first ↦ absurd (let z : false ≡ true = (first.syn_alone 0 (segment 1 1002 (ACK + PSH) (104 ∷ 101 ∷ 108 ∷ [])) refl refl).0 in cc)
+        | inr iss ↦ absurd (let z : false ≡ true = (iss.syn_alone 0 (segment 1 1002 (ACK + PSH) (104 ∷ 101 ∷ 108 ∷ [])) refl refl).0 in cc)
       ]
     ]
   ]
 ]
 
--- the rest of the text is outstanding, and the front of it is not
+-- the rest of the text is outstanding, and its prefix is not
 is_out : IsOutstanding shrunk rest
-is_out = record { place = 0; said = refl; placed = refl; unacked = λ k t l c f e. absurd (omega (arith, l)); unreset = all_nil HasNoReset }
+is_out = record { place = 0; output = refl; placed = refl; unacked = λ k t l c f e. absurd (omega (arith, l)); unreset = all_nil IsWithoutReset }

@@ -2,7 +2,7 @@
 use Rattle.std.proofs.Common.{◌≡◌, ℕ, ◌≤◌, min, Bool, true, false, not, ◌&&◌, ◌⊎◌, inl, inr, List, refl, sym, ap, ◌∙◌, arith, eqb, ltb, if◌then◌else◌}
 use Rattle.tcp_segment.specs.Segments.{PlainSegment, has_fin, has_rst}
 use Rattle.rexmit_timer.specs.declared.timer.Beat.{Beat}
-use Rattle.app_events.specs.Part.{Meaning}
+use Rattle.app_events.specs.AppSpec.{AppSpec}
 use Rattle.app_events.specs.declared.now.Now.{Now}
 use Rattle.app_events.specs.declared.state.State.{State}
 use Rattle.app_events.specs.declared.state.State.TheVariants.{Closed, SynRcvd, Established, CloseWait, FinWait1, FinWait2, Closing, TimeWait, LastAck}
@@ -10,11 +10,11 @@ use Rattle.app_events.specs.declared.want.Want.{Want}
 use Rattle.app_events.specs.declared.want.Want.TheVariants.{Nothing, Send, Close, Abort}
 use Rattle.tcp_machine.specs.Connection.{Connection}
 use Rattle.tcp_machine.specs.Ask.{Outcome, leaves, closes, after_own_fin, peer_has_closed, idles, does_as_wanted, prepared, asked}
-use Rattle.tcp_machine.specs.OnSegment.{is_out_of_order, is_acked, rests, has_text, with_part, peer_closes, goes_on, in_established, fin_acked, fin_waits, by_state, on_segment}
+use Rattle.tcp_machine.specs.OnSegment.{is_out_of_order, is_acked, rests, has_text, with_part, peer_closes, stays_established, in_established, fin_acked, fin_waits, by_state, on_segment}
 use Rattle.tcp_machine.specs.OnTick.{outstanding, by_beat, on_tick}
 use Rattle.tcp_machine.specs.declared.step.Step.{Step}
 use Rattle.uip_node.proofs.Basics.{choose, eqb-eq}
-use Rattle.tcp_machine.specs.Stands.{is_open}
+use Rattle.tcp_machine.specs.Represents.{is_open}
 use Rattle.uip_node.proofs.Cases.{asked_by, by_own_fin, is_ask, on_tick_by}
 
 -- ---- the first text
@@ -57,7 +57,7 @@ pub record StaysAtSyn (c : Connection) (numbers : List ℕ) (s : PlainSegment) (
   pub same : o.connection ≡ c
   pub none : (is_out_of_order c s ≡ true) × (o ≡ leaves c numbers Step.Ack) ⊎ (is_acked c s ≡ false) × (o ≡ leaves c numbers Step.Drop)
 
-module _ (m : Meaning) where
+module _ (m : AppSpec) where
   wanted_short : (w : Want) (fresh : Bool) (c : Connection) (numbers : List ℕ) → NewIsShort (does_as_wanted w fresh c numbers)
   unfolding idles
   wanted_short Abort fresh c numbers = λ e. absurd (cc)
@@ -111,7 +111,7 @@ module _ (m : Meaning) where
   -- ---- a segment
 
   established_new : (acked : Bool) (c : Connection) (numbers : List ℕ) (s : PlainSegment) → NoNew (in_established m acked c numbers s)
-  unfolding in_established peer_closes goes_on
+  unfolding in_established peer_closes stays_established
   established_new acked c numbers s =
       choose NoNew (has_fin s.flags) _ _ (λ e. choose NoNew (ltb 0 c.len) _ _ (λ f. refl) (λ f. refl))
       (λ e. choose NoNew (not acked && not (has_text s)) _ _ (λ f. refl) (λ f. choose NoNew (ltb 0 c.len) _ _ (λ g. refl) (λ g. refl)))
@@ -140,7 +140,7 @@ module _ (m : Meaning) where
       choose NoNew (has_rst s.flags) _ _ (λ e. refl) (λ e. choose NoNew (is_out_of_order c s) _ _ (λ f. refl) (λ f. by_state_new c.state (is_acked c s) c numbers s))
 
   established_bounds : (flag : Bool) (c b : Connection) (numbers ns : List ℕ) (s : PlainSegment) → Bounds c numbers s (in_established m flag b ns s)
-  unfolding in_established peer_closes goes_on
+  unfolding in_established peer_closes stays_established
   established_bounds flag c b numbers ns s =
       choose (Bounds c numbers s) (has_fin s.flags) _ _
       (λ e. choose (Bounds c numbers s) (ltb 0 b.len) _ _ (λ f. bounds (by_window s.window b.initial_mss)) (λ f. bounds (by_window s.window b.initial_mss)))
@@ -182,7 +182,7 @@ module _ (m : Meaning) where
   not_syn c st e n h = n (sym e ∙ h)
 
   established_syn : (flag : Bool) (c b : Connection) (numbers ns : List ℕ) (s : PlainSegment) → (b.state ≡ SynRcvd → ⊥) → AtSynStill c numbers s (in_established m flag b ns s)
-  unfolding in_established peer_closes goes_on
+  unfolding in_established peer_closes stays_established
   established_syn flag c b numbers ns s n =
       choose (AtSynStill c numbers s) (has_fin s.flags) _ _ (λ e. choose (AtSynStill c numbers s) (ltb 0 b.len) _ _ (λ f h. absurd (cc)) (λ f h. absurd (cc)))
       (λ e. choose (AtSynStill c numbers s) (not flag && not (has_text s)) _ _ (λ f h. absurd (n h)) (λ f. choose (AtSynStill c numbers s) (ltb 0 b.len) _ _ (λ g h. absurd (n h)) (λ g h. absurd (n h))))
@@ -220,7 +220,7 @@ module _ (m : Meaning) where
     pub new : NoNew o
     pub mss : is_open o.connection.state ≡ true → (o.connection.mss ≡ c.mss) × (is_open c.state ≡ true)
     pub at_syn : o.connection.state ≡ SynRcvd → (c.state ≡ SynRcvd) × ((o.step ≡ Step.Drop) ⊎ (o.step ≡ Step.SynAck true))
-    pub numbers_same : (o.connection.first ≡ c.first) × (o.connection.acked ≡ c.acked)
+    pub numbers_same : (o.connection.iss ≡ c.iss) × (o.connection.acked ≡ c.acked)
 
   beat_on : (b : Beat) (c : Connection) (numbers : List ℕ) → TicksOn c (by_beat m b c numbers)
   beat_on Beat.Wait c numbers = record { new = refl; mss = λ e. (refl, e); at_syn = λ e. (e, inl refl); numbers_same = (refl, refl) }

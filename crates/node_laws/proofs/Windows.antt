@@ -1,4 +1,4 @@
--- Every new text fits the window of the newest segment that its connection took.
+-- Every new text fits the window of the newest segment that was not out of order.
 use Rattle.std.specs.List.{All}
 use Rattle.std.specs.Option.{option_map_or}
 use Rattle.std.proofs.Common.{◌≡◌, ℕ, zero, suc, ◌+◌, ◌<◌, ◌≤◌, ◌==◌, Bool, true, false, not, ◌&&◌, ◌||◌, inl, inr, List, [], ◌∷◌, ◌++◌, length, take, drop, refl, sym, ap, ◌∙◌, subst, arith, Option, Some, None, slice_get, eqb, ltb, length-take, if◌then◌else◌}
@@ -8,35 +8,35 @@ use Rattle.uip_wire.specs.Numbers.{wrap}
 use Rattle.uip_wire.specs.declared.addr.Addr.{Addr}
 use Rattle.tcp_segment.specs.declared.flags.TheConstants.{SYN}
 use Rattle.tcp_segment.specs.Segments.{PlainSegment, has_syn, has_fin, has_ack}
-use Rattle.app_events.specs.Part.{Meaning}
-use Rattle.app_events.specs.Pages.{IsWord, IsNow}
+use Rattle.app_events.specs.AppSpec.{AppSpec}
+use Rattle.app_events.specs.Pages.{IsU32, IsNow}
 use Rattle.app_events.specs.declared.now.Now.{Now}
 use Rattle.app_events.specs.declared.state.State.{State}
 use Rattle.app_events.specs.declared.state.State.TheVariants.{SynRcvd, Established, CloseWait}
-use Rattle.tcp_machine.specs.Connection.{Sockets, Connection, closed, is_live, snd_nxt, rcv_nxt}
-use Rattle.tcp_machine.specs.Segments.{has_place, segment_of, is_again, is_plain_syn, reset_to_none, bare_ack, fin_of, reset_of, syn_ack, text_segment}
+use Rattle.tcp_machine.specs.Connection.{Sockets, Connection, closed, is_live, snd_una, rcv_nxt}
+use Rattle.tcp_machine.specs.Segments.{occupies_sequence_space, segment_of, is_again, is_plain_syn, reset_for_no_connection, bare_ack, fin_of, reset_of, syn_ack, text_segment}
 use Rattle.tcp_machine.specs.Ask.{Outcome, leaves, asked}
 use Rattle.tcp_machine.specs.OnSegment.{accepted, is_out_of_order, is_acked, on_segment}
 use Rattle.tcp_machine.specs.OnTick.{on_tick}
 use Rattle.tcp_machine.specs.declared.step.Step.{Step}
 use Rattle.uip_node.specs.Events.{Event}
 use Rattle.uip_node.specs.Laws.{serving, IsEvent, Alike}
-use Rattle.uip_node.specs.Node.{AbstractNode, opening, step}
+use Rattle.uip_node.specs.Node.{AbstractNode, initial_node, step}
 use Rattle.uip_node.specs.Steady.{IsSteady}
 use Rattle.uip_node.proofs.Basics.{both_ways, and_true, eqb-eq, ltb-yes, not-true, only_some}
-use Rattle.tcp_machine.specs.Stands.{is_open}
+use Rattle.tcp_machine.specs.Represents.{is_open}
 use Rattle.uip_node.proofs.Cases.{}
 use Rattle.uip_node.proofs.Fits.{FitConn, on_segment_fits, on_tick_fits}
 use Rattle.uip_node.proofs.Stepped.{stepped_tells}
 use Rattle.uip_node.proofs.Told.{SafeState, StepTells, OutTells, due, segment_tells, tick_tells}
-use Rattle.node_laws.specs.Talks.{Exchange, said_at, exchange, is_opening, is_life, is_empty, IsLifeIn, talk_behind}
-use Rattle.node_laws.specs.Turns.{turns_of}
-use Rattle.node_laws.specs.Windows.{IsPassedOver, FitsNewest, IsNewText, FitsWindows, WindowsAreKept}
+use Rattle.node_laws.specs.Traces.{Exchange, sent_at, exchange, is_opening, is_incarnation, is_empty, IsIncarnationIn, exchanges_onto}
+use Rattle.node_laws.specs.Turns.{trace_of}
+use Rattle.node_laws.specs.Windows.{IsPassedOver, FitsNewest, IsNewText, FitsWindows, WindowsAreRespected}
 use Rattle.node_laws.specs.Wire.{IsOfLine}
 use Rattle.node_laws.proofs.Beating.{ask_open, mss_some}
 use Rattle.node_laws.proofs.GoodNodes.{AnyLength, Good, SafeConn, first_is, good_on, good_start, low_text}
-use Rattle.node_laws.proofs.Lines.{Does, Comes, comes, quiet, met, left_of}
-use Rattle.node_laws.proofs.Lines.Does.{passes_by, evicted, unanswered, refused, born, hears, ticks}
+use Rattle.node_laws.proofs.Lines.{OfMedium, Comes, comes, quiet, met, left_of}
+use Rattle.node_laws.proofs.Lines.OfMedium.{passes_by, evicted, unanswered, refused, born, hears, ticks}
 use Rattle.node_laws.proofs.Replying.{answer_no_syn}
 use Rattle.node_laws.proofs.WindowSteps.{NewIsShort, is_new_text, asked_short, asked_so, segment_bounds, segment_new, StaysAtSyn, segment_syn, tick_on}
 use Rattle.node_laws.proofs.WindowSteps.AskedSo.{unasked, spoke}
@@ -45,24 +45,24 @@ use Rattle.node_laws.proofs.WindowSteps.Bounds.{passes, bounds, connects_it, spe
 no_text : (P : Type 0) (s t : PlainSegment) → Some s ≡ Some t → s.text ≡ [] → 0 < length t.text → P
 no_text P s t e z l = (let q : t.text ≡ [] = only_some (λ x. x.text ≡ []) s t e z in absurd (let y = ap length q in omega (arith, y, l)))
 
-placed_text : (s : PlainSegment) → 0 < length s.text → has_place s ≡ true
+placed_text : (s : PlainSegment) → 0 < length s.text → occupies_sequence_space s ≡ true
 placed_text s l = ap (λ b. b || (has_syn s.flags || has_fin s.flags)) (ltb-yes (length s.text) l)
 
--- out of order is what stands at another number
-out_of_order : (c : Connection) (s : PlainSegment) → is_out_of_order c s ≡ true → (has_place s ≡ true) × (s.seq ≡ rcv_nxt c → ⊥)
+-- out of order is what is at another number
+out_of_order : (c : Connection) (s : PlainSegment) → is_out_of_order c s ≡ true → (occupies_sequence_space s ≡ true) × (s.seq ≡ rcv_nxt c → ⊥)
 out_of_order c s h =
-    let a = and_true (has_place s) (not (eqb s.seq (rcv_nxt c))) h in
+    let a = and_true (occupies_sequence_space s) (not (eqb s.seq (rcv_nxt c))) h in
     (a.0, λ e. (let z : eqb s.seq (rcv_nxt c) ≡ true = eq-eqb s.seq (rcv_nxt c) e in let y = not-true (eqb s.seq (rcv_nxt c)) a.1 in cc))
 
-module _ (m : Meaning) where
-  -- a step that says text
+module _ (m : AppSpec) where
+  -- a step that sends text
   text_new : (d : Connection) (st : Step) (s : PlainSegment) → segment_of m d st ≡ Some s → 0 < length s.text → is_again st ≡ false → (is_new_text st ≡ true) × (length s.text ≤ d.len)
   text_new d Step.Drop s e l a = absurd (cc)
   text_new d Step.Ack s e l a = no_text _ (bare_ack d) s e refl l
   text_new d (Step.SynAck again) s e l a = no_text _ (syn_ack d) s e refl l
   text_new d (Step.Text again) s e l a = (
     ap not a,
-    only_some (λ t. length t.text ≤ d.len) (text_segment m d) s e (let z : length (take d.len (drop d.part.acked (m.said d.part))) ≤ d.len = (let y = length-take d.len (drop d.part.acked (m.said d.part)) in omega (arith, y)) in z),
+    only_some (λ t. length t.text ≤ d.len) (text_segment m d) s e (let z : length (take d.len (drop d.part.acked (m.output d.part))) ≤ d.len = (let y = length-take d.len (drop d.part.acked (m.output d.part)) in omega (arith, y)) in z),
   )
   text_new d (Step.Fin again) s e l a = no_text _ (fin_of d) s e refl l
   text_new d Step.Reset s e l a = no_text _ (reset_of d) s e refl l
@@ -75,41 +75,41 @@ module _ (m : Meaning) where
   text_open _ d s a l = absurd (let z = ap length a.text in omega (arith, z, l))
 
 -- one exchange more: what is new then
-fits_on : (x : Exchange) (life : List Exchange) → ((s : PlainSegment) → IsNewText (x ∷ life) 0 s → FitsNewest (x ∷ life) (length s.text)) → FitsWindows life → FitsWindows (x ∷ life)
-fits_on x life h g zero s n = h s n
-fits_on x life h g (suc k) s n = g k s record { said = n.said; some = n.some; new = λ j t l e p q. n.new (suc j) t (omega (arith, l)) e p q }
+fits_on : (x : Exchange) (incarnation : List Exchange) → ((s : PlainSegment) → IsNewText (x ∷ incarnation) 0 s → FitsNewest (x ∷ incarnation) (length s.text)) → FitsWindows incarnation → FitsWindows (x ∷ incarnation)
+fits_on x incarnation h g zero s n = h s n
+fits_on x incarnation h g (suc k) s n = g k s record { output = n.output; some = n.some; new = λ j t l e p q. n.new (suc j) t (omega (arith, l)) e p q }
 
--- nothing with text is said
-fits_quietly : (x : Exchange) (life : List Exchange) → ((s : PlainSegment) → x.said ≡ Some s → s.text ≡ []) → FitsWindows life → FitsWindows (x ∷ life)
-fits_quietly x life h g = fits_on x life (λ s n. (let e = h s n.said in let l = n.some in absurd (let z = ap length e in omega (arith, z, l)))) g
+-- nothing with text is sent
+fits_quietly : (x : Exchange) (incarnation : List Exchange) → ((s : PlainSegment) → x.output ≡ Some s → s.text ≡ []) → FitsWindows incarnation → FitsWindows (x ∷ incarnation)
+fits_quietly x incarnation h g = fits_on x incarnation (λ s n. (let e = h s n.output in let l = n.some in absurd (let z = ap length e in omega (arith, z, l)))) g
 
-module _ (m : Meaning) (steady : IsSteady m) (ports : ℕ → Bool) (p : Sockets) where
-  -- what is outstanding was said
-  record SaidDue (life : List Exchange) (number : ℕ) : Type 0 where
+module _ (m : AppSpec) (steady : IsSteady m) (ports : ℕ → Bool) (p : Sockets) where
+  -- what is outstanding was sent
+  record SentDue (incarnation : List Exchange) (number : ℕ) : Type 0 where
     place : ℕ
     segment : PlainSegment
-    said : said_at life place ≡ Some segment
-    placed : has_place segment ≡ true
+    output : sent_at incarnation place ≡ Some segment
+    placed : occupies_sequence_space segment ≡ true
     seq : segment.seq ≡ number
 
   -- a SYN that this number acknowledges
   abbrev IsSyn : PlainSegment → ℕ → Type 0
   IsSyn t number = (has_syn t.flags ≡ true) × (wrap (t.seq + 1) ≡ number)
 
-  -- in SYN-RECEIVED only the SYN was said, and what acknowledges it was passed over
-  record AtSyn (life : List Exchange) (number : ℕ) : Type 0 where
-    alone : (k : ℕ) (t : PlainSegment) → said_at life k ≡ Some t → has_place t ≡ true → IsSyn t number
-    first : (k : ℕ) (y : Exchange) (t : PlainSegment) → slice_get life k ≡ Some y → y.came ≡ Some t → has_ack t.flags ≡ true → t.ack ≡ number → IsPassedOver y t
+  -- in SYN-RECEIVED only the SYN was sent, and what acknowledges it was out of order
+  record AtSyn (incarnation : List Exchange) (number : ℕ) : Type 0 where
+    alone : (k : ℕ) (t : PlainSegment) → sent_at incarnation k ≡ Some t → occupies_sequence_space t ≡ true → IsSyn t number
+    no_earlier : (k : ℕ) (y : Exchange) (t : PlainSegment) → slice_get incarnation k ≡ Some y → y.received ≡ Some t → has_ack t.flags ≡ true → t.ack ≡ number → IsPassedOver y t
 
-  record LiveWindowed (c : Connection) (life : List Exchange) : Type 0 where
+  record LiveWindowed (c : Connection) (incarnation : List Exchange) : Type 0 where
     safe : SafeConn m steady c
-    within : is_open c.state ≡ true → (size : ℕ) → size ≤ c.mss → FitsNewest life size
-    syn : c.state ≡ SynRcvd → AtSyn life (wrap (snd_nxt c + 1))
-    said : 0 < c.len → SaidDue life (wrap (c.first + c.acked))
+    within : is_open c.state ≡ true → (size : ℕ) → size ≤ c.mss → FitsNewest incarnation size
+    syn : c.state ≡ SynRcvd → AtSyn incarnation (wrap (snd_una c + 1))
+    output : 0 < c.len → SentDue incarnation (wrap (c.iss + c.acked))
 
-  record Windowed (c : Connection) (life : List Exchange) : Type 0 where
-    fits : FitsWindows life
-    live : is_live c.state ≡ true → LiveWindowed c life
+  record Windowed (c : Connection) (incarnation : List Exchange) : Type 0 where
+    fits : FitsWindows incarnation
+    live : is_live c.state ≡ true → LiveWindowed c incarnation
 
   -- the SYN alone is outstanding
   syn_len : (c : Connection) (st : State) → SafeState m steady AnyLength (low_text m) c st → st ≡ SynRcvd → c.len ≡ 1
@@ -117,49 +117,49 @@ module _ (m : Meaning) (steady : IsSteady m) (ports : ℕ → Bool) (p : Sockets
   syn_len c _ h e = absurd (cc)
 
   -- in SYN-RECEIVED, one exchange more
-  syn_on : (x : Exchange) (life : List Exchange) (number : ℕ) → ((t : PlainSegment) → x.said ≡ Some t → has_place t ≡ true → IsSyn t number)
-      → ((t : PlainSegment) → x.came ≡ Some t → has_ack t.flags ≡ true → t.ack ≡ number → IsPassedOver x t) → AtSyn life number → AtSyn (x ∷ life) number
-  syn_on x life number h g a = record { alone = alone_on; first = first_on }
+  syn_on : (x : Exchange) (incarnation : List Exchange) (number : ℕ) → ((t : PlainSegment) → x.output ≡ Some t → occupies_sequence_space t ≡ true → IsSyn t number)
+      → ((t : PlainSegment) → x.received ≡ Some t → has_ack t.flags ≡ true → t.ack ≡ number → IsPassedOver x t) → AtSyn incarnation number → AtSyn (x ∷ incarnation) number
+  syn_on x incarnation number h g a = record { alone = alone_on; no_earlier = first_on }
     where
-      alone_on : (k : ℕ) (t : PlainSegment) → said_at (x ∷ life) k ≡ Some t → has_place t ≡ true → IsSyn t number
+      alone_on : (k : ℕ) (t : PlainSegment) → sent_at (x ∷ incarnation) k ≡ Some t → occupies_sequence_space t ≡ true → IsSyn t number
       alone_on zero t e q = h t e q
       alone_on (suc k) t e q = a.alone k t e q
 
-      first_on : (k : ℕ) (y : Exchange) (t : PlainSegment) → slice_get (x ∷ life) k ≡ Some y → y.came ≡ Some t → has_ack t.flags ≡ true → t.ack ≡ number → IsPassedOver y t
-      first_on zero y t e c f q = (let same : x ≡ y = cc in subst (λ z. IsPassedOver z t) same (g t (ap (λ z. z.came) same ∙ c) f q))
-      first_on (suc k) y t e c f q = a.first k y t e c f q
+      first_on : (k : ℕ) (y : Exchange) (t : PlainSegment) → slice_get (x ∷ incarnation) k ≡ Some y → y.received ≡ Some t → has_ack t.flags ≡ true → t.ack ≡ number → IsPassedOver y t
+      first_on zero y t e c f q = (let same : x ≡ y = cc in subst (λ z. IsPassedOver z t) same (g t (ap (λ z. z.received) same ∙ c) f q))
+      first_on (suc k) y t e c f q = a.no_earlier k y t e c f q
 
   -- a step of a live connection
-  module _ (c : Connection) (life : List Exchange) (w : Windowed c life) (alive : is_live c.state ≡ true) (came : Option PlainSegment) (r : Outcome)
+  module _ (c : Connection) (incarnation : List Exchange) (w : Windowed c incarnation) (alive : is_live c.state ≡ true) (received : Option PlainSegment) (r : Outcome)
       (tells : StepTells m steady AnyLength (low_text m) c r.connection (segment_of m r.connection r.step) (is_again r.step)) (short : NewIsShort r)
-      (within : (let x : Exchange = met came (segment_of m r.connection r.step) in is_open r.connection.state ≡ true → (size : ℕ) → size ≤ r.connection.mss → FitsNewest (x ∷ life) size))
-      (syn : (let x : Exchange = met came (segment_of m r.connection r.step) in r.connection.state ≡ SynRcvd → AtSyn (x ∷ life) (wrap (snd_nxt r.connection + 1)))) where
+      (within : (let x : Exchange = met received (segment_of m r.connection r.step) in is_open r.connection.state ≡ true → (size : ℕ) → size ≤ r.connection.mss → FitsNewest (x ∷ incarnation) size))
+      (syn : (let x : Exchange = met received (segment_of m r.connection r.step) in r.connection.state ≡ SynRcvd → AtSyn (x ∷ incarnation) (wrap (snd_una r.connection + 1)))) where
     abbrev d : Connection
     d = r.connection
 
     abbrev x : Exchange
-    x = met came (segment_of m d r.step)
+    x = met received (segment_of m d r.step)
 
-    v : LiveWindowed c life
+    v : LiveWindowed c incarnation
     v = w.live alive
 
-    new_fits : (s : PlainSegment) → IsNewText (x ∷ life) 0 s → FitsNewest (x ∷ life) (length s.text)
+    new_fits : (s : PlainSegment) → IsNewText (x ∷ incarnation) 0 s → FitsNewest (x ∷ incarnation) (length s.text)
     new_fits s n =
-        let told = tells.said s n.said (placed_text s n.some) in
+        let told = tells.output s n.output (placed_text s n.some) in
         both_ways (is_again r.step)
-        (λ e. absurd (let k = told.repeated e in let q = v.said k.0 in
-        let first : d.first ≡ c.first = (tells.onto told.live).first in
-        n.new (suc q.place) q.segment (omega arith) q.said q.placed
-        (q.seq ∙ ap wrap (let same = k.1 in let z : c.first + c.acked ≡ d.first + d.acked = omega (arith, same, first) in z) ∙ sym told.due_now.seq)))
-        (λ e. (let t = text_new m d r.step s n.said n.some e in
+        (λ e. absurd (let k = told.repeated e in let q = v.output k.0 in
+        let iss : d.iss ≡ c.iss = (tells.onto told.live).iss in
+        n.new (suc q.place) q.segment (omega arith) q.output q.placed
+        (q.seq ∙ ap wrap (let same = k.1 in let z : c.iss + c.acked ≡ d.iss + d.acked = omega (arith, same, iss) in z) ∙ sym told.due_now.seq)))
+        (λ e. (let t = text_new m d r.step s n.output n.some e in
         let fits = short t.0 in
         within (text_open m d.state d s told.due_now.alike n.some) (length s.text) (let l = t.1 in omega (arith, l, fits))))
 
-    said_on : is_live d.state ≡ true → 0 < d.len → SaidDue (x ∷ life) (wrap (d.first + d.acked))
+    said_on : is_live d.state ≡ true → 0 < d.len → SentDue (x ∷ incarnation) (wrap (d.iss + d.acked))
     said_on l some = elim (tells.still l some) [
-      | inl still ↦ (let q = v.said still.some in let first : d.first ≡ c.first = (tells.onto l).first in let same = still.same in
-          record { place = suc q.place; segment = q.segment; said = q.said; placed = q.placed; seq = q.seq ∙ ap wrap (let z : c.first + c.acked ≡ d.first + d.acked = omega (arith, same, first) in z) })
-      | inr anew ↦ record { place = 0; segment = anew.said; said = anew.is; placed = anew.placed; seq = (tells.said anew.said anew.is anew.placed).due_now.seq }
+      | inl still ↦ (let q = v.output still.some in let iss : d.iss ≡ c.iss = (tells.onto l).iss in let same = still.same in
+          record { place = suc q.place; segment = q.segment; output = q.output; placed = q.placed; seq = q.seq ∙ ap wrap (let z : c.iss + c.acked ≡ d.iss + d.acked = omega (arith, same, iss) in z) })
+      | inr anew ↦ record { place = 0; segment = anew.output; output = anew.is; placed = anew.placed; seq = (tells.output anew.output anew.is anew.placed).due_now.seq }
     ]
 
     left_live : (e : Connection) → is_live (left_of e).state ≡ true → (is_live e.state ≡ true) × (left_of e ≡ e)
@@ -167,14 +167,14 @@ module _ (m : Meaning) (steady : IsSteady m) (ports : ℕ → Bool) (p : Sockets
         (λ l h. (l, ap (λ b. if b then e else closed) l))
         (λ l h. absurd (let z : is_live (left_of e).state ≡ false = ap (λ b. is_live (if b then e else closed).state) l in cc))
 
-    windowed_step : Windowed (left_of d) (x ∷ life)
+    windowed_step : Windowed (left_of d) (x ∷ incarnation)
     windowed_step = record {
-      fits = fits_on x life new_fits w.fits;
-      live = λ l. (let q = left_live d l in subst (λ z. LiveWindowed z (x ∷ life)) (sym q.1) record { safe = tells.safe q.0; within = within; syn = syn; said = said_on q.0 });
+      fits = fits_on x incarnation new_fits w.fits;
+      live = λ l. (let q = left_live d l in subst (λ z. LiveWindowed z (x ∷ incarnation)) (sym q.1) record { safe = tells.safe q.0; within = within; syn = syn; output = said_on q.0 });
     }
 
-  module _ (c : Connection) (life : List Exchange) (w : Windowed c life) (alive : is_live c.state ≡ true) (fit : FitConn c) (numbers : List ℕ) (words : All IsWord numbers) (at : Connection → Now) (is : (z : Connection) → FitConn z → IsNow (at z)) where
-    now : LiveWindowed c life
+  module _ (c : Connection) (incarnation : List Exchange) (w : Windowed c incarnation) (alive : is_live c.state ≡ true) (fit : FitConn c) (numbers : List ℕ) (words : All IsU32 numbers) (at : Connection → Now) (is : (z : Connection) → FitConn z → IsNow (at z)) where
+    now : LiveWindowed c incarnation
     now = w.live alive
 
     -- a segment comes
@@ -194,24 +194,24 @@ module _ (m : Meaning) (steady : IsSteady m) (ports : ℕ → Bool) (p : Sockets
       is_passed : is_out_of_order c s ≡ true → o ≡ leaves c numbers Step.Ack → IsPassedOver y s
       is_passed h e =
           let q = out_of_order c s h in
-          record { placed = q.0; answer = bare_ack c; said = ap (λ z. (let k : Outcome = asked m at z in segment_of m k.connection k.step)) e; bare = refl; other = q.1 }
+          record { placed = q.0; answer = bare_ack c; output = ap (λ z. (let k : Outcome = asked m at z in segment_of m k.connection k.step)) e; bare = refl; other = q.1 }
 
       -- the number that acknowledges the SYN
-      acks_syn : c.state ≡ SynRcvd → is_acked c s ≡ true → s.ack ≡ wrap (snd_nxt c + 1)
+      acks_syn : c.state ≡ SynRcvd → is_acked c s ≡ true → s.ack ≡ wrap (snd_una c + 1)
       acks_syn e a =
-          let b = and_true (has_ack s.flags) (ltb 0 c.len && (s.ack == wrap (snd_nxt c + c.len))) a in
-          let d = and_true (ltb 0 c.len) (s.ack == wrap (snd_nxt c + c.len)) b.1 in
-          eqb-eq s.ack (wrap (snd_nxt c + c.len)) d.1 ∙ ap (λ n. wrap (snd_nxt c + n)) (syn_len c c.state now.safe.state e)
+          let b = and_true (has_ack s.flags) (ltb 0 c.len && (s.ack == wrap (snd_una c + c.len))) a in
+          let d = and_true (ltb 0 c.len) (s.ack == wrap (snd_una c + c.len)) b.1 in
+          eqb-eq s.ack (wrap (snd_una c + c.len)) d.1 ∙ ap (λ n. wrap (snd_una c + n)) (syn_len c c.state now.safe.state e)
 
-      not_acked : c.state ≡ SynRcvd → is_acked c s ≡ false → has_ack s.flags ≡ true → s.ack ≡ wrap (snd_nxt c + 1) → ⊥
+      not_acked : c.state ≡ SynRcvd → is_acked c s ≡ false → has_ack s.flags ≡ true → s.ack ≡ wrap (snd_una c + 1) → ⊥
       not_acked e a f g =
           let one : c.len ≡ 1 = syn_len c c.state now.safe.state e in
-          let here : (s.ack == wrap (snd_nxt c + c.len)) ≡ true = eq-eqb s.ack (wrap (snd_nxt c + c.len)) (g ∙ ap (λ n. wrap (snd_nxt c + n)) (sym one)) in
-          let all : is_acked c s ≡ true = ap (λ b. b && (ltb 0 c.len && (s.ack == wrap (snd_nxt c + c.len)))) f ∙ ap (λ b. b && (s.ack == wrap (snd_nxt c + c.len))) (ltb-yes c.len (omega (arith, one))) ∙ here in
+          let here : (s.ack == wrap (snd_una c + c.len)) ≡ true = eq-eqb s.ack (wrap (snd_una c + c.len)) (g ∙ ap (λ n. wrap (snd_una c + n)) (sym one)) in
+          let all : is_acked c s ≡ true = ap (λ b. b && (ltb 0 c.len && (s.ack == wrap (snd_una c + c.len)))) f ∙ ap (λ b. b && (s.ack == wrap (snd_una c + c.len))) (ltb-yes c.len (omega (arith, one))) ∙ here in
           cc
 
       -- where the application may speak, the next text is bounded
-      bounded : is_open o.connection.state ≡ true → (size : ℕ) → size ≤ o.connection.mss → FitsNewest (y ∷ life) size
+      bounded : is_open o.connection.state ≡ true → (size : ℕ) → size ≤ o.connection.mss → FitsNewest (y ∷ incarnation) size
       bounded open_there size l = elim (segment_bounds m c numbers s) [
         | passes h e ↦ inr (
           s,
@@ -223,37 +223,37 @@ module _ (m : Meaning) (steady : IsSteady m) (ports : ℕ → Bool) (p : Sockets
         )
         | bounds b ↦ inr (s, refl, inr (elim (b size l) [ inl k ↦ inl k | inr k ↦ inr (inl k) ]))
         | connects_it e a ↦ (let syn = now.syn e in
-            inr (s, refl, inr (inr (inr record { acks = (and_true (has_ack s.flags) (ltb 0 c.len && (s.ack == wrap (snd_nxt c + c.len))) a).0; syn_alone = λ k z g h. (let j = syn.alone k z g h in (j.0, acks_syn e a ∙ sym j.1)); first = λ k z t g h f q. syn.first k z t g h f (q ∙ acks_syn e a) }))))
+            inr (s, refl, inr (inr (inr record { acks = (and_true (has_ack s.flags) (ltb 0 c.len && (s.ack == wrap (snd_una c + c.len))) a).0; syn_alone = λ k z g h. (let j = syn.alone k z g h in (j.0, acks_syn e a ∙ sym j.1)); no_earlier = λ k z t g h f q. syn.no_earlier k z t g h f (q ∙ acks_syn e a) }))))
         | speaks_no_more e ↦ absurd (cc)
       ]
 
-      heard_within : is_open r.connection.state ≡ true → (size : ℕ) → size ≤ r.connection.mss → FitsNewest (y ∷ life) size
+      heard_within : is_open r.connection.state ≡ true → (size : ℕ) → size ≤ r.connection.mss → FitsNewest (y ∷ incarnation) size
       heard_within open_then size l = elim (asked_so m at o (ask_open m steady AnyLength (low_text m) c o.connection o.step told)) [
         | unasked e ↦ bounded (ap (λ z. is_open z.connection.state) (sym e) ∙ open_then) size (let q : r.connection.mss ≡ o.connection.mss = ap (λ z. z.connection.mss) e in omega (arith, l, q))
         | spoke open_there same none ↦ bounded open_there size (let q = same open_then in omega (arith, l, q))
       ]
 
-      still_syn : r ≡ o → StaysAtSyn c numbers s o → AtSyn (y ∷ life) (wrap (snd_nxt r.connection + 1))
+      still_syn : r ≡ o → StaysAtSyn c numbers s o → AtSyn (y ∷ incarnation) (wrap (snd_una r.connection + 1))
       still_syn e h =
-          let number : wrap (snd_nxt c + 1) ≡ wrap (snd_nxt r.connection + 1) = ap (λ z. wrap (snd_nxt z + 1)) (sym h.same ∙ ap (λ z. z.connection) (sym e)) in
-          subst (AtSyn (y ∷ life)) number (elim h.none [
-            | inl g ↦ syn_on y life (wrap (snd_nxt c + 1))
+          let number : wrap (snd_una c + 1) ≡ wrap (snd_una r.connection + 1) = ap (λ z. wrap (snd_una z + 1)) (sym h.same ∙ ap (λ z. z.connection) (sym e)) in
+          subst (AtSyn (y ∷ incarnation)) number (elim h.none [
+            | inl g ↦ syn_on y incarnation (wrap (snd_una c + 1))
                 (λ t q placed. (let z : Some (bare_ack c) ≡ Some t = sym (ap (λ z. segment_of m z.connection z.step) (e ∙ g.1)) ∙ q in
-                absurd (let u : has_place t ≡ false = only_some (λ k. has_place k ≡ false) (bare_ack c) t z refl in cc)))
+                absurd (let u : occupies_sequence_space t ≡ false = only_some (λ k. occupies_sequence_space k ≡ false) (bare_ack c) t z refl in cc)))
                 (λ t q f k. only_some (λ z. IsPassedOver y z) s t q (is_passed g.0 g.1)) (now.syn h.before)
-            | inr g ↦ syn_on y life (wrap (snd_nxt c + 1))
+            | inr g ↦ syn_on y incarnation (wrap (snd_una c + 1))
                 (λ t q placed. (let z : None ≡ Some t = sym (ap (λ z. segment_of m z.connection z.step) (e ∙ g.1)) ∙ q in absurd (cc)))
                 (λ t q f k. absurd (let same : s ≡ t = cc in not_acked h.before g.0 (ap (λ z. has_ack z.flags) same ∙ f) (ap (λ z. z.ack) same ∙ k))) (now.syn h.before)
           ])
 
-      heard_syn : r.connection.state ≡ SynRcvd → AtSyn (y ∷ life) (wrap (snd_nxt r.connection + 1))
+      heard_syn : r.connection.state ≡ SynRcvd → AtSyn (y ∷ incarnation) (wrap (snd_una r.connection + 1))
       heard_syn h = elim (asked_so m at o (ask_open m steady AnyLength (low_text m) c o.connection o.step told)) [
         | unasked e ↦ still_syn e (segment_syn m c numbers s (ap (λ z. z.connection.state) (sym e) ∙ h))
         | spoke open_there same none ↦ absurd (none h)
       ]
 
-      heard : Windowed (left_of r.connection) (y ∷ life)
-      heard = windowed_step c life w alive (Some s) r (stepped_tells m steady AnyLength (low_text m) at c o is (on_segment_fits m steady c numbers s fit words) told) (asked_short m at o (segment_new m c numbers s)) heard_within heard_syn
+      delivered : Windowed (left_of r.connection) (y ∷ incarnation)
+      delivered = windowed_step c incarnation w alive (Some s) r (stepped_tells m steady AnyLength (low_text m) at c o is (on_segment_fits m steady c numbers s fit words) told) (asked_short m at o (segment_new m c numbers s)) heard_within heard_syn
 
     -- the slot is called
     abbrev oo : Outcome
@@ -268,7 +268,7 @@ module _ (m : Meaning) (steady : IsSteady m) (ports : ℕ → Bool) (p : Sockets
     tick_told : OutTells m steady AnyLength (low_text m) c oo.connection oo.step
     tick_told = tick_tells m steady AnyLength (low_text m) c numbers now.safe
 
-    ticked_within : is_open rr.connection.state ≡ true → (size : ℕ) → size ≤ rr.connection.mss → FitsNewest (z ∷ life) size
+    ticked_within : is_open rr.connection.state ≡ true → (size : ℕ) → size ≤ rr.connection.mss → FitsNewest (z ∷ incarnation) size
     ticked_within open_then size l =
         let t = tick_on m c numbers in
         elim (asked_so m at oo (ask_open m steady AnyLength (low_text m) c oo.connection oo.step tick_told)) [
@@ -278,93 +278,93 @@ module _ (m : Meaning) (steady : IsSteady m) (ports : ℕ → Bool) (p : Sockets
               inl (refl, now.within k.1 size (let q = same open_then in let j = k.0 in omega (arith, l, q, j))))
         ]
 
-    ticked_still : rr ≡ oo → oo.connection.state ≡ SynRcvd → AtSyn (z ∷ life) (wrap (snd_nxt rr.connection + 1))
+    ticked_still : rr ≡ oo → oo.connection.state ≡ SynRcvd → AtSyn (z ∷ incarnation) (wrap (snd_una rr.connection + 1))
     ticked_still e h =
         let t = tick_on m c numbers in
         let k = t.at_syn h in
-        let kept : snd_nxt c ≡ snd_nxt oo.connection =
-        (let j = t.numbers_same in ap wrap (let a = j.0 in let b = j.1 in let q : c.first + c.acked ≡ oo.connection.first + oo.connection.acked = omega (arith, a, b) in q)) in
-        let same : snd_nxt c ≡ snd_nxt rr.connection = kept ∙ ap (λ q. snd_nxt q.connection) (sym e) in
-        let none : (u : PlainSegment) → None ≡ Some u → has_ack u.flags ≡ true → u.ack ≡ wrap (snd_nxt c + 1) → IsPassedOver z u = λ u q f g. absurd (cc) in
-        subst (λ n. AtSyn (z ∷ life) (wrap (n + 1))) same
-        (syn_on z life (wrap (snd_nxt c + 1))
+        let kept : snd_una c ≡ snd_una oo.connection =
+        (let j = t.numbers_same in ap wrap (let a = j.0 in let b = j.1 in let q : c.iss + c.acked ≡ oo.connection.iss + oo.connection.acked = omega (arith, a, b) in q)) in
+        let same : snd_una c ≡ snd_una rr.connection = kept ∙ ap (λ q. snd_una q.connection) (sym e) in
+        let none : (u : PlainSegment) → None ≡ Some u → has_ack u.flags ≡ true → u.ack ≡ wrap (snd_una c + 1) → IsPassedOver z u = λ u q f g. absurd (cc) in
+        subst (λ n. AtSyn (z ∷ incarnation) (wrap (n + 1))) same
+        (syn_on z incarnation (wrap (snd_una c + 1))
         (λ u q placed. elim k.1 [
           | inl g ↦ absurd (let y : None ≡ Some u = sym (ap (λ q. segment_of m q.connection q.step) e ∙ ap (λ st. segment_of m oo.connection st) g) ∙ q in cc)
-          | inr g ↦ only_some (λ y. IsSyn y (wrap (snd_nxt c + 1))) (syn_ack oo.connection) u (sym (ap (λ q. segment_of m q.connection q.step) e ∙ ap (λ st. segment_of m oo.connection st) g) ∙ q) (refl, ap (λ n. wrap (n + 1)) (sym kept))
+          | inr g ↦ only_some (λ y. IsSyn y (wrap (snd_una c + 1))) (syn_ack oo.connection) u (sym (ap (λ q. segment_of m q.connection q.step) e ∙ ap (λ st. segment_of m oo.connection st) g) ∙ q) (refl, ap (λ n. wrap (n + 1)) (sym kept))
         ])
         none (now.syn k.0))
 
-    ticked_syn : rr.connection.state ≡ SynRcvd → AtSyn (z ∷ life) (wrap (snd_nxt rr.connection + 1))
+    ticked_syn : rr.connection.state ≡ SynRcvd → AtSyn (z ∷ incarnation) (wrap (snd_una rr.connection + 1))
     ticked_syn h = elim (asked_so m at oo (ask_open m steady AnyLength (low_text m) c oo.connection oo.step tick_told)) [
       | unasked e ↦ ticked_still e (ap (λ q. q.connection.state) (sym e) ∙ h)
       | spoke open_there same none ↦ absurd (none h)
     ]
 
-    ticked : Windowed (left_of rr.connection) (z ∷ life)
-    ticked = windowed_step c life w alive None rr (stepped_tells m steady AnyLength (low_text m) at c oo is (on_tick_fits m steady c numbers fit words) tick_told) (asked_short m at oo (tick_on m c numbers).new) ticked_within ticked_syn
+    ticked : Windowed (left_of rr.connection) (z ∷ incarnation)
+    ticked = windowed_step c incarnation w alive None rr (stepped_tells m steady AnyLength (low_text m) at c oo is (on_tick_fits m steady c numbers fit words) tick_told) (asked_short m at oo (tick_on m c numbers).new) ticked_within ticked_syn
 
   -- ---- what an event does
 
-  dead_windowed : (d : Connection) (x : Exchange) (life : List Exchange) → is_live d.state ≡ false → ((s : PlainSegment) → x.said ≡ Some s → s.text ≡ []) → FitsWindows life → Windowed d (x ∷ life)
-  dead_windowed d x life dead none w = record { fits = fits_quietly x life none w; live = λ l. absurd (cc) }
+  dead_windowed : (d : Connection) (x : Exchange) (incarnation : List Exchange) → is_live d.state ≡ false → ((s : PlainSegment) → x.output ≡ Some s → s.text ≡ []) → FitsWindows incarnation → Windowed d (x ∷ incarnation)
+  dead_windowed d x incarnation dead none w = record { fits = fits_quietly x incarnation none w; live = λ l. absurd (cc) }
 
-  silent_text : (x : Exchange) → x.said ≡ None → (s : PlainSegment) → x.said ≡ Some s → s.text ≡ []
+  silent_text : (x : Exchange) → x.output ≡ None → (s : PlainSegment) → x.output ≡ Some s → s.text ≡ []
   silent_text x e s h = absurd (let z : None ≡ Some s = sym e ∙ h in cc)
 
   -- nothing passes
-  quiet_windowed : (c : Connection) (life : List Exchange) → Windowed c life → Windowed c (quiet ∷ life)
-  quiet_windowed c life w = record {
-    fits = fits_quietly quiet life (λ s e. absurd (cc)) w.fits;
+  quiet_windowed : (c : Connection) (incarnation : List Exchange) → Windowed c incarnation → Windowed c (quiet ∷ incarnation)
+  quiet_windowed c incarnation w = record {
+    fits = fits_quietly quiet incarnation (λ s e. absurd (cc)) w.fits;
     live = λ l. (let v = w.live l in record {
       safe = v.safe;
       within = λ o size k. inl (refl, v.within o size k);
-      syn = λ e. syn_on quiet life (wrap (snd_nxt c + 1)) (λ t q placed. absurd (cc)) (λ t q f g. absurd (cc)) (v.syn e);
-      said = λ k. (let q = v.said k in record { place = suc q.place; segment = q.segment; said = q.said; placed = q.placed; seq = q.seq });
+      syn = λ e. syn_on quiet incarnation (wrap (snd_una c + 1)) (λ t q placed. absurd (cc)) (λ t q f g. absurd (cc)) (v.syn e);
+      output = λ k. (let q = v.output k in record { place = suc q.place; segment = q.segment; output = q.output; placed = q.placed; seq = q.seq });
     });
   }
 
-  windowed_on : (c d : Connection) (x : Exchange) (life : List Exchange) → Does m ports p c d x → is_opening x ≡ false → Windowed c life → Windowed d (x ∷ life)
-  windowed_on c d x life does shut w = elim does [
-    | passes_by e f ↦ subst (λ k. Windowed k (x ∷ life)) (sym f) (subst (λ k. Windowed c (k ∷ life)) (sym e) (quiet_windowed c life w))
-    | evicted e f ↦ dead_windowed d x life (ap (λ k. is_live k.state) f) (silent_text x (ap (λ k. k.said) e)) w.fits
-    | unanswered s l e f ↦ dead_windowed d x life (ap (λ k. is_live k.state) f ∙ l) (silent_text x (ap (λ k. k.said) e)) w.fits
-    | refused s q l e f ↦ dead_windowed d x life (ap (λ k. is_live k.state) f ∙ l)
-        (λ t h. (let k : Some (reset_to_none s) ≡ Some t = sym (ap (λ k. k.said) e) ∙ h in only_some (λ k. k.text ≡ []) (reset_to_none s) t k refl)) w.fits
-    | born first s plain port fit e f ↦ absurd (let k : is_opening x ≡ true = ap (λ k. is_opening k) e in cc)
-    | hears s numbers at alive fit words is h ↦ subst (λ k. Windowed k (x ∷ life)) (sym h.1) (subst (λ k. Windowed (left_of (asked m at (on_segment m c numbers s)).connection) (k ∷ life)) (sym h.0) (heard c life w alive fit numbers words at is s))
-    | ticks numbers at alive fit words is h ↦ subst (λ k. Windowed k (x ∷ life)) (sym h.1) (subst (λ k. Windowed (left_of (asked m at (on_tick m c numbers)).connection) (k ∷ life)) (sym h.0) (ticked c life w alive fit numbers words at is))
+  windowed_on : (c d : Connection) (x : Exchange) (incarnation : List Exchange) → OfMedium m ports p c d x → is_opening x ≡ false → Windowed c incarnation → Windowed d (x ∷ incarnation)
+  windowed_on c d x incarnation does shut w = elim does [
+    | passes_by e f ↦ subst (λ k. Windowed k (x ∷ incarnation)) (sym f) (subst (λ k. Windowed c (k ∷ incarnation)) (sym e) (quiet_windowed c incarnation w))
+    | evicted e f ↦ dead_windowed d x incarnation (ap (λ k. is_live k.state) f) (silent_text x (ap (λ k. k.output) e)) w.fits
+    | unanswered s l e f ↦ dead_windowed d x incarnation (ap (λ k. is_live k.state) f ∙ l) (silent_text x (ap (λ k. k.output) e)) w.fits
+    | refused s q l e f ↦ dead_windowed d x incarnation (ap (λ k. is_live k.state) f ∙ l)
+        (λ t h. (let k : Some (reset_for_no_connection s) ≡ Some t = sym (ap (λ k. k.output) e) ∙ h in only_some (λ k. k.text ≡ []) (reset_for_no_connection s) t k refl)) w.fits
+    | born iss s plain port fit e f ↦ absurd (let k : is_opening x ≡ true = ap (λ k. is_opening k) e in cc)
+    | hears s numbers at alive fit words is h ↦ subst (λ k. Windowed k (x ∷ incarnation)) (sym h.1) (subst (λ k. Windowed (left_of (asked m at (on_segment m c numbers s)).connection) (k ∷ incarnation)) (sym h.0) (delivered c incarnation w alive fit numbers words at is s))
+    | ticks numbers at alive fit words is h ↦ subst (λ k. Windowed k (x ∷ incarnation)) (sym h.1) (subst (λ k. Windowed (left_of (asked m at (on_tick m c numbers)).connection) (k ∷ incarnation)) (sym h.0) (ticked c incarnation w alive fit numbers words at is))
   ]
 
   -- ---- it begins
 
-  born_windowed : (first : ℕ) (s : PlainSegment) → is_plain_syn s ≡ true → Windowed (accepted first p s) (met (Some s) (Some (syn_ack (accepted first p s))) ∷ [])
-  born_windowed first s plain =
-      let c : Connection = accepted first p s in
+  born_windowed : (iss : ℕ) (s : PlainSegment) → is_plain_syn s ≡ true → Windowed (accepted iss p s) (met (Some s) (Some (syn_ack (accepted iss p s))) ∷ [])
+  born_windowed iss s plain =
+      let c : Connection = accepted iss p s in
       let x : Exchange = met (Some s) (Some (syn_ack c)) in
       record {
-        fits = fits_quietly x [] (λ t e. only_some (λ k. k.text ≡ []) (syn_ack c) t e refl) (λ k t n. absurd (let z : None ≡ Some t = n.said in cc));
+        fits = fits_quietly x [] (λ t e. only_some (λ k. k.text ≡ []) (syn_ack c) t e refl) (λ k t n. absurd (let z : None ≡ Some t = n.output in cc));
         live = λ l. record {
           safe = record { mss = mss_some s.mss; initial = mss_some s.mss; state = record { len = refl; acked = refl } };
           within = λ o. absurd (cc);
-          syn = λ e. syn_on x [] (wrap (snd_nxt c + 1)) (λ t q placed. only_some (λ k. IsSyn k (wrap (snd_nxt c + 1))) (syn_ack c) t q (refl, refl))
+          syn = λ e. syn_on x [] (wrap (snd_una c + 1)) (λ t q placed. only_some (λ k. IsSyn k (wrap (snd_una c + 1))) (syn_ack c) t q (refl, refl))
               (λ t q f g. absurd (let same : s ≡ t = cc in let flags : s.flags ≡ SYN = eqb-eq s.flags SYN plain in
               let z : has_ack t.flags ≡ false = ap (λ k. has_ack k.flags) (sym same) ∙ ap has_ack flags in cc))
-              record { alone = λ k t e q. absurd (cc); first = λ k y t e q f g. absurd (cc) };
-          said = λ k. record { place = 0; segment = syn_ack c; said = refl; placed = refl; seq = refl };
+              record { alone = λ k t e q. absurd (cc); no_earlier = λ k y t e q f g. absurd (cc) };
+          output = λ k. record { place = 0; segment = syn_ack c; output = refl; placed = refl; seq = refl };
         };
       }
 
-  no_opening : (said : Option PlainSegment) → ((t : PlainSegment) → said ≡ Some t → has_syn t.flags ≡ false) → option_map_or (λ s. has_syn s.flags) said false ≡ false
+  no_opening : (output : Option PlainSegment) → ((t : PlainSegment) → output ≡ Some t → has_syn t.flags ≡ false) → option_map_or (λ s. has_syn s.flags) output false ≡ false
   no_opening None h = refl
   no_opening (Some t) h = h t refl
 
-  windowed_first : (c d : Connection) (x : Exchange) → Does m ports p c d x → is_opening x ≡ true → Windowed d (x ∷ [])
+  windowed_first : (c d : Connection) (x : Exchange) → OfMedium m ports p c d x → is_opening x ≡ true → Windowed d (x ∷ [])
   windowed_first c d x does opened = elim does [
     | passes_by e f ↦ absurd (let k : is_opening x ≡ false = ap (λ k. is_opening k) e in cc)
     | evicted e f ↦ absurd (let k : is_opening x ≡ false = ap (λ k. is_opening k) e in cc)
     | unanswered s l e f ↦ absurd (let k : is_opening x ≡ false = ap (λ k. is_opening k) e in cc)
     | refused s q l e f ↦ absurd (let k : is_opening x ≡ false = ap (λ k. is_opening k) e in cc)
-    | born first s plain port fit e f ↦ subst (λ k. Windowed k (x ∷ [])) (sym f) (subst (λ k. Windowed (accepted first p s) (k ∷ [])) (sym e) (born_windowed first s plain))
+    | born iss s plain port fit e f ↦ subst (λ k. Windowed k (x ∷ [])) (sym f) (subst (λ k. Windowed (accepted iss p s) (k ∷ [])) (sym e) (born_windowed iss s plain))
     | hears s numbers at alive fit words is h ↦ absurd (let r : Outcome = asked m at (on_segment m c numbers s) in
         let k : is_opening x ≡ false = ap (λ k. is_opening k) h.0 ∙ no_opening (segment_of m r.connection r.step) (λ t q. answer_no_syn m at c numbers s t q) in cc)
     | ticks numbers at alive fit words is h ↦ absurd (let k : is_opening x ≡ false = ap (λ k. is_opening k) h.0 in cc)
@@ -372,33 +372,33 @@ module _ (m : Meaning) (steady : IsSteady m) (ports : ℕ → Bool) (p : Sockets
 
   -- ---- the run
 
-  empty_is : (life : List Exchange) → is_empty life ≡ true → life ≡ []
+  empty_is : (incarnation : List Exchange) → is_empty incarnation ≡ true → incarnation ≡ []
   empty_is [] e = refl
-  empty_is (x ∷ life) e = absurd (cc)
+  empty_is (x ∷ incarnation) e = absurd (cc)
 
   record Inv (n : AbstractNode) (so_far : List Exchange) : Type 0 where
     good : Good n
-    current : (life before : List Exchange) → so_far ≡ life ++ before → is_life life ≡ true → Windowed (serving p n.connections) life
-    ever : (later life before : List Exchange) → so_far ≡ later ++ (life ++ before) → is_life life ≡ true → FitsWindows life
+    current : (incarnation before : List Exchange) → so_far ≡ incarnation ++ before → is_incarnation incarnation ≡ true → Windowed (serving p n.connections) incarnation
+    ever : (later incarnation before : List Exchange) → so_far ≡ later ++ (incarnation ++ before) → is_incarnation incarnation ≡ true → FitsWindows incarnation
 
-  current_on : (c d : Connection) (x : Exchange) (so_far : List Exchange) → Does m ports p c d x → ((life before : List Exchange) → so_far ≡ life ++ before → is_life life ≡ true → Windowed c life)
-      → (life before : List Exchange) → x ∷ so_far ≡ life ++ before → is_life life ≡ true → Windowed d life
+  current_on : (c d : Connection) (x : Exchange) (so_far : List Exchange) → OfMedium m ports p c d x → ((incarnation before : List Exchange) → so_far ≡ incarnation ++ before → is_incarnation incarnation ≡ true → Windowed c incarnation)
+      → (incarnation before : List Exchange) → x ∷ so_far ≡ incarnation ++ before → is_incarnation incarnation ≡ true → Windowed d incarnation
   current_on c d x so_far does h [] before e l = absurd (cc)
   current_on c d x so_far does h (y ∷ older) before e l =
       let head : x ≡ y = cc in
       let tail : so_far ≡ older ++ before = cc in
       subst (λ k. Windowed d (k ∷ older)) head
       (both_ways (is_opening y)
-      (λ o. let none : older ≡ [] = empty_is older (sym (ap (λ b. if b then is_empty older else is_life older) o) ∙ l) in
+      (λ o. let none : older ≡ [] = empty_is older (sym (ap (λ b. if b then is_empty older else is_incarnation older) o) ∙ l) in
       subst (λ k. Windowed d (x ∷ k)) (sym none) (windowed_first c d x does (ap (λ k. is_opening k) head ∙ o)))
-      (λ o. let lives : is_life older ≡ true = sym (ap (λ b. if b then is_empty older else is_life older) o) ∙ l in
-      windowed_on c d x older does (ap (λ k. is_opening k) head ∙ o) (h older before tail lives)))
+      (λ o. let incarnations : is_incarnation older ≡ true = sym (ap (λ b. if b then is_empty older else is_incarnation older) o) ∙ l in
+      windowed_on c d x older does (ap (λ k. is_opening k) head ∙ o) (h older before tail incarnations)))
 
-  ever_on : (d : Connection) (x : Exchange) (so_far : List Exchange) → ((life before : List Exchange) → x ∷ so_far ≡ life ++ before → is_life life ≡ true → Windowed d life)
-      → ((later life before : List Exchange) → so_far ≡ later ++ (life ++ before) → is_life life ≡ true → FitsWindows life)
-      → (later life before : List Exchange) → x ∷ so_far ≡ later ++ (life ++ before) → is_life life ≡ true → FitsWindows life
-  ever_on d x so_far h g [] life before e l = (h life before e l).fits
-  ever_on d x so_far h g (y ∷ later) life before e l = g later life before (let tail : so_far ≡ later ++ (life ++ before) = cc in tail) l
+  ever_on : (d : Connection) (x : Exchange) (so_far : List Exchange) → ((incarnation before : List Exchange) → x ∷ so_far ≡ incarnation ++ before → is_incarnation incarnation ≡ true → Windowed d incarnation)
+      → ((later incarnation before : List Exchange) → so_far ≡ later ++ (incarnation ++ before) → is_incarnation incarnation ≡ true → FitsWindows incarnation)
+      → (later incarnation before : List Exchange) → x ∷ so_far ≡ later ++ (incarnation ++ before) → is_incarnation incarnation ≡ true → FitsWindows incarnation
+  ever_on d x so_far h g [] incarnation before e l = (h incarnation before e l).fits
+  ever_on d x so_far h g (y ∷ later) incarnation before e l = g later incarnation before (let tail : so_far ≡ later ++ (incarnation ++ before) = cc in tail) l
 
   step_inv : (n : AbstractNode) (so_far : List Exchange) (event : Event) → IsEvent event → Inv n so_far → Inv (step m ports n event).node (exchange p event (step m ports n event).sent ∷ so_far)
   step_inv n so_far event is i =
@@ -411,22 +411,22 @@ module _ (m : Meaning) (steady : IsSteady m) (ports : ℕ → Bool) (p : Sockets
         ever = ever_on (serving p (step m ports n event).node.connections) x so_far after i.ever;
       }
 
-  run_inv : (own : Addr) (es : List Event) (n : AbstractNode) (so_far : List Exchange) → All (IsOfLine own) es → Inv n so_far → (life : List Exchange) → IsLifeIn (talk_behind p (turns_of m ports es n) so_far) life → FitsWindows life
-  run_inv own [] n so_far a i life l = i.ever l.later life l.before l.split l.is
-  run_inv own (e ∷ es) n so_far a i life l =
+  run_inv : (own : Addr) (es : List Event) (n : AbstractNode) (so_far : List Exchange) → All (IsOfLine own) es → Inv n so_far → (incarnation : List Exchange) → IsIncarnationIn (exchanges_onto p (trace_of m ports es n) so_far) incarnation → FitsWindows incarnation
+  run_inv own [] n so_far a i incarnation l = i.ever l.later incarnation l.before l.split l.is
+  run_inv own (e ∷ es) n so_far a i incarnation l =
       run_inv own es (step m ports n e).node (exchange p e (step m ports n e).sent ∷ so_far) (All-tail (IsOfLine own) e es a)
-      (step_inv n so_far e (first_is own e es a) i) life l
+      (step_inv n so_far e (first_is own e es a) i) incarnation l
 
-  none_lives : (later life before : List Exchange) → [] ≡ later ++ (life ++ before) → is_life life ≡ true → ⊥
+  none_lives : (later incarnation before : List Exchange) → [] ≡ later ++ (incarnation ++ before) → is_incarnation incarnation ≡ true → ⊥
   none_lives [] [] before e l = absurd (cc)
-  none_lives [] (x ∷ life) before e l = absurd (cc)
-  none_lives (x ∷ later) life before e l = absurd (cc)
+  none_lives [] (x ∷ incarnation) before e l = absurd (cc)
+  none_lives (x ∷ later) incarnation before e l = absurd (cc)
 
-pub windows_are_kept : WindowsAreKept
-windows_are_kept m steady ports own addr numbers words events of p life l =
-    run_inv m steady ports p own events (opening own numbers) [] of
+pub windows_are_respected : WindowsAreRespected
+windows_are_respected m steady ports own addr numbers words events of p incarnation l =
+    run_inv m steady ports p own events (initial_node own numbers) [] of
     record {
       good = good_start own numbers words;
       current = λ some before e k. absurd (none_lives m steady ports p [] some before e k);
       ever = λ later some before e k. absurd (none_lives m steady ports p later some before e k);
-    } life l
+    } incarnation l

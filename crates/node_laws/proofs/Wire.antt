@@ -1,4 +1,4 @@
--- What bytes bring fits its types.
+-- What bytes decode to fits its types.
 use Rattle.std.specs.List.{All}
 use Rattle.std.specs.Option.{option_map_or}
 use Rattle.std.proofs.Common.{ℕ, zero, suc, ◌+◌, ◌-◌, ◌%◌, ◌<◌, not, ◌||◌, List, [], ◌∷◌, ◌++◌, length, take, drop, refl, sym, subst, arith, Option, Some, None, Result, eqb, ltb, bytes_eq, slice_index}

@@ -1,162 +1,162 @@
--- Wrong lives are refused by the promise alone.
+-- The guarantee alone excludes wrong incarnations.
 use Rattle.std.proofs.Common.{◌≡◌, ◌+◌, ◌<◌, ◌≤◌, ◌⊎◌, ℕ, zero, suc, Bool, true, false, List, [], ◌∷◌, ◌++◌, length, take, refl, sym, ap, ◌∙◌, subst, arith, inl, inr, Some, if◌then◌else◌}
 use Rattle.uip_wire.specs.Numbers.{wrap}
 use Rattle.tcp_segment.specs.Segments.{PlainSegment}
-use Rattle.app_events.specs.FixedMeaning.{hello, fixed_text, some_heard}
+use Rattle.app_events.specs.FixedSpec.{hello, fixed_text, some_heard}
 use Rattle.uip_node.specs.Events.Event.{EchoAsked}
 use Rattle.uip_node.proofs.Basics.{only_some, prefix_length, prefix_refl}
 use Rattle.app_events.specs.Laws.{IsPrefixOf}
-use Rattle.node_laws.specs.Promise.{Speech}
-use Rattle.node_laws.specs.Promise.Speech.{Paged, Talked, Free}
-use Rattle.node_laws.specs.Receivers.{Carries, IsReceived}
-use Rattle.node_laws.specs.Talks.{came_at, said_at}
+use Rattle.node_laws.specs.Promise.{OutputModel}
+use Rattle.node_laws.specs.Promise.OutputModel.{Paged, Interactive, Free}
+use Rattle.node_laws.specs.Receivers.{CarriesByte, IsReceived}
+use Rattle.node_laws.specs.Traces.{received_at, sent_at}
 use Rattle.node_laws.proofs.Texts.{element, get_inside, most_or_more}
 use Rattle.node_laws.specs.Asked.{IsEchoed}
-use Rattle.node_laws.specs.Promise.{Account, Opening, IsTaken, KeepsAccount, KeepsLife, NumbersTell, IsAcknowledged}
+use Rattle.node_laws.specs.Promise.{Account, Opening, IsAcceptedText, AccountHolds, IncarnationConforms, NumbersGiveOffsets, IsAcknowledged}
 use Rattle.app_events.specs.Pages.{Pages}
-use Rattle.node_laws.specs.Talks.{Exchange}
-use Rattle.node_laws.specs.Promise.{IsOfPage, KeepsText}
+use Rattle.node_laws.specs.Traces.{Exchange}
+use Rattle.node_laws.specs.Promise.{IsPrefixOfPage, TextConforms}
 use Rattle.node_laws.specs.WrongLives.{SpeaksBy, hello_pages, mirror_pages, opened, segment, cut_again, ends_early, repeats_byte, acknowledges_refused, two_under_way, tells_another, echoes_before, WrongLivesFall}
 
 -- where the life begins
 record Numbers (a : Account) : Type 0 where
-  first : wrap a.first ≡ 0
-  peer_first : a.peer_first ≡ 1000
+  iss : wrap a.iss ≡ 0
+  irs : a.irs ≡ 1000
 
 numbers_of : (a : Account) → Opening opened a → Numbers a
 numbers_of a h = record {
-  first = (let q : 0 ≡ wrap a.first = only_some (λ s. s.seq ≡ wrap a.first → 0 ≡ wrap a.first) (segment 0 1001 18 []) h.answer h.said (λ e. e) h.seq in sym q);
-  peer_first = (let q : 1000 ≡ a.peer_first = only_some (λ s. s.seq ≡ a.peer_first → 1000 ≡ a.peer_first) (segment 1000 0 2 []) h.syn h.came (λ e. e) h.number in sym q);
+  iss = (let q : 0 ≡ wrap a.iss = only_some (λ s. s.seq ≡ wrap a.iss → 0 ≡ wrap a.iss) (segment 0 1001 18 []) h.answer h.output (λ e. e) h.seq in sym q);
+  irs = (let q : 1000 ≡ a.irs = only_some (λ s. s.seq ≡ a.irs → 1000 ≡ a.irs) (segment 1000 0 2 []) h.syn h.received (λ e. e) h.number in sym q);
 }
 
-text_short : (heard : List ℕ) → length (fixed_text heard) ≤ 6
+text_short : (delivered : List ℕ) → length (fixed_text delivered) ≤ 6
 text_short [] = omega arith
 text_short (x ∷ xs) = omega arith
 
-whole_length : (heard : List ℕ) → some_heard heard ≡ true → length (fixed_text heard) ≡ 6
+whole_length : (delivered : List ℕ) → some_heard delivered ≡ true → length (fixed_text delivered) ≡ 6
 whole_length [] h = absurd (cc)
 whole_length (x ∷ xs) h = refl
 
--- what is said there is at most the six bytes at one number
-said_short : (place : ℕ) (s : PlainSegment) → said_at cut_again place ≡ Some s → ((s.seq ≡ 1) × (length s.text ≤ 6)) ⊎ (s.text ≡ [])
+-- what is sent there is at most the six bytes at one number
+said_short : (place : ℕ) (s : PlainSegment) → sent_at cut_again place ≡ Some s → ((s.seq ≡ 1) × (length s.text ≤ 6)) ⊎ (s.text ≡ [])
 said_short zero s h = inl (only_some (λ z. (z.seq ≡ 1) × (length z.text ≤ 6)) (segment 1 1002 24 (take 5 hello)) s h (refl, omega arith))
 said_short (suc zero) s h = inl (only_some (λ z. (z.seq ≡ 1) × (length z.text ≤ 6)) (segment 1 1002 24 hello) s h (refl, omega arith))
 said_short (suc (suc zero)) s h = inr (only_some (λ z. z.text ≡ []) (segment 0 1001 18 []) s h refl)
 said_short (suc (suc (suc place))) s h = absurd (cc)
 
-none_there : (first byte : ℕ) → wrap first ≡ 0 → Carries first cut_again 1073741823 byte → ⊥
-none_there first byte z c =
+none_there : (iss byte : ℕ) → wrap iss ≡ 0 → CarriesByte iss cut_again 1073741823 byte → ⊥
+none_there iss byte z c =
     let inside : c.within < length c.segment.text = get_inside c.segment.text byte c.within c.is in
-    elim (said_short c.place c.segment c.said) [
-      | inl q ↦ (let seq : 1 ≡ wrap (first + 1 + c.from) = sym q.0 ∙ c.seq in let sum = c.sum in omega (arith, q.1, inside, z, seq, sum))
+    elim (said_short c.place c.segment c.output) [
+      | inl q ↦ (let seq : 1 ≡ wrap (iss + 1 + c.from) = sym q.0 ∙ c.seq in let sum = c.sum in omega (arith, q.1, inside, z, seq, sum))
       | inr q ↦ (let none : length c.segment.text ≡ 0 = ap length q in omega (arith, none, inside))
     ]
 
-sent_short : (first : ℕ) (sent : List ℕ) → wrap first ≡ 0 → IsReceived first cut_again sent → length sent < 1073741824
-sent_short first sent z h = elim (most_or_more (length sent) 1073741823) [
+sent_short : (iss : ℕ) (sent : List ℕ) → wrap iss ≡ 0 → IsReceived iss cut_again sent → length sent < 1073741824
+sent_short iss sent z h = elim (most_or_more (length sent) 1073741823) [
   | inl l ↦ omega (arith, l)
-  | inr l ↦ absurd (let g = element sent 1073741823 l in none_there first g.0 z (h 1073741823 g.0 g.1))
+  | inr l ↦ absurd (let g = element sent 1073741823 l in none_there iss g.0 z (h 1073741823 g.0 g.1))
 ]
 
-few_sent : (speech : Speech) (k : KeepsLife speech cut_again) → length (k.account 0).sent < 1073741824
-few_sent speech k =
-    let g : KeepsAccount cut_again (k.account 0) = k.keeps 0 (omega arith) in
-    sent_short (k.account 0).first (k.account 0).sent (numbers_of (k.account 0) g.begins).first g.sent
+few_sent : (model : OutputModel) (k : IncarnationConforms model cut_again) → length (k.account 0).sent < 1073741824
+few_sent model k =
+    let g : AccountHolds cut_again (k.account 0) = k.keeps 0 (omega arith) in
+    sent_short (k.account 0).iss (k.account 0).sent (numbers_of (k.account 0) g.begins).iss g.sent
 
-numbers_tell : (speech : Speech) (k : KeepsLife speech cut_again) → NumbersTell cut_again (k.account 0)
+numbers_tell : (model : OutputModel) (k : IncarnationConforms model cut_again) → NumbersGiveOffsets cut_again (k.account 0)
 numbers_tell Free k = k.tells 0 (omega arith) (few_sent Free k)
-numbers_tell (Talked talks) k = (k.tells 0 (omega arith)).1 (few_sent (Talked talks) k)
+numbers_tell (Interactive sessions) k = (k.tells 0 (omega arith)).1 (few_sent (Interactive sessions) k)
 numbers_tell (Paged pages) k = (k.tells 0 (omega arith)).1
 
-cut_resend : (speech : Speech) → KeepsLife speech cut_again → ⊥
-cut_resend speech k =
-    let z = (numbers_tell speech k).same 0 1 _ _ (omega arith) refl refl refl refl refl in
+cut_resend : (model : OutputModel) → IncarnationConforms model cut_again → ⊥
+cut_resend model k =
+    let z = (numbers_tell model k).same 0 1 _ _ (omega arith) refl refl refl refl refl in
     let y : 6 ≡ 5 = ap length z.text in
     omega (arith, y)
 
 -- what was sent is of a page of something that was taken
-of_some_page : (pages : Pages) (speech : Speech) (life : List Exchange) (a : Account) → SpeaksBy pages speech → KeepsText speech life a
-    → (heard : List ℕ) × IsPrefixOf heard a.text × IsOfPage pages heard life a
-of_some_page pages speech life a (inl e) h = (let g : KeepsText (Paged pages) life a = subst (λ z. KeepsText z life a) e h in (a.text, prefix_refl a.text, g.0))
-of_some_page pages speech life a (inr e) h = (let g : KeepsText (Talked pages) life a = subst (λ z. KeepsText z life a) e h in g.0)
+of_some_page : (pages : Pages) (model : OutputModel) (incarnation : List Exchange) (a : Account) → SpeaksBy pages model → TextConforms model incarnation a
+    → (delivered : List ℕ) × IsPrefixOf delivered a.text × IsPrefixOfPage pages delivered incarnation a
+of_some_page pages model incarnation a (inl e) h = (let g : TextConforms (Paged pages) incarnation a = subst (λ z. TextConforms z incarnation a) e h in (a.text, prefix_refl a.text, g.0))
+of_some_page pages model incarnation a (inr e) h = (let g : TextConforms (Interactive pages) incarnation a = subst (λ z. TextConforms z incarnation a) e h in g.0)
 
-early_fin : (speech : Speech) → SpeaksBy hello_pages speech → KeepsLife speech ends_early → ⊥
-early_fin speech by k =
-    let g : KeepsAccount ends_early (k.account 0) = k.keeps 0 (omega arith) in
+early_fin : (model : OutputModel) → SpeaksBy hello_pages model → IncarnationConforms model ends_early → ⊥
+early_fin model by k =
+    let g : AccountHolds ends_early (k.account 0) = k.keeps 0 (omega arith) in
     let n = numbers_of (k.account 0) g.begins in
     let f = (g.says 0 _ refl).fin refl in
-    let h = of_some_page hello_pages speech ends_early (k.account 0) by (k.tells 0 (omega arith)) in
+    let h = of_some_page hello_pages model ends_early (k.account 0) by (k.tells 0 (omega arith)) in
     let e = h.2.ends 0 _ refl refl in
     let l : length (k.account 0).sent ≡ 6 = ap length e.0 ∙ whole_length h.0 e.1 in
-    let a : wrap (k.account 0).first ≡ 0 = n.first in
-    let q : 4 ≡ wrap ((k.account 0).first + 1 + length (k.account 0).sent) = f.1 in
+    let a : wrap (k.account 0).iss ≡ 0 = n.iss in
+    let q : 4 ≡ wrap ((k.account 0).iss + 1 + length (k.account 0).sent) = f.1 in
     omega (arith, a, l, q)
 
-repeated_byte : (speech : Speech) → SpeaksBy hello_pages speech → KeepsLife speech repeats_byte → ⊥
-repeated_byte speech by k =
-    let g : KeepsAccount repeats_byte (k.account 0) = k.keeps 0 (omega arith) in
+repeated_byte : (model : OutputModel) → SpeaksBy hello_pages model → IncarnationConforms model repeats_byte → ⊥
+repeated_byte model by k =
+    let g : AccountHolds repeats_byte (k.account 0) = k.keeps 0 (omega arith) in
     let t = (g.says 0 _ refl).bytes (omega arith) in
-    let h = of_some_page hello_pages speech repeats_byte (k.account 0) by (k.tells 0 (omega arith)) in
-    let n = prefix_length (k.account 0).sent (fixed_text h.0) h.2.front in
+    let h = of_some_page hello_pages model repeats_byte (k.account 0) by (k.tells 0 (omega arith)) in
+    let n = prefix_length (k.account 0).sent (fixed_text h.0) h.2.prefix in
     let l = text_short h.0 in
     let f : t.at + 7 ≤ length (k.account 0).sent = t.slice.fits in
     omega (arith, l, n, f)
 
-second_segment : (speech : Speech) → KeepsLife speech two_under_way → ⊥
-second_segment speech k =
-    let g : KeepsAccount two_under_way (k.account 0) = k.keeps 0 (omega arith) in
+second_segment : (model : OutputModel) → IncarnationConforms model two_under_way → ⊥
+second_segment model k =
+    let g : AccountHolds two_under_way (k.account 0) = k.keeps 0 (omega arith) in
     none_came (g.one 0 1 _ _ (omega arith) refl refl refl refl (λ e. (let z : 4 ≡ 1 = e in omega (arith, z))))
   where
-    none_at : (s : PlainSegment) (place : ℕ) → place ≡ 0 → came_at two_under_way place ≡ Some s → ⊥
+    none_at : (s : PlainSegment) (place : ℕ) → place ≡ 0 → received_at two_under_way place ≡ Some s → ⊥
     none_at s zero e h = absurd (cc)
     none_at s (suc place) e h = absurd (omega (arith, e))
 
     none_came : IsAcknowledged two_under_way 0 1 (segment 1 1002 24 (take 3 hello)) → ⊥
-    none_came a = none_at a.segment a.place (let l = a.to in omega (arith, l)) a.came
+    none_came a = none_at a.segment a.place (let l = a.to in omega (arith, l)) a.received
 
 -- of the opening nothing is taken
-opening_taken : (n : ℕ) (text : List ℕ) (ended : Bool) → n ≡ 1000 → IsTaken n (opened ∷ []) text ended → (text ≡ []) × (ended ≡ false)
+opening_taken : (n : ℕ) (text : List ℕ) (ended : Bool) → n ≡ 1000 → IsAcceptedText n (opened ∷ []) text ended → (text ≡ []) × (ended ≡ false)
 opening_taken n text ended e h = elim h [
   | inl g ↦ g
-  | inr t ↦ absurd (let a : 1000 ≡ wrap (n + 1 + length t.taken) = only_some (λ s. s.seq ≡ wrap (n + 1 + length t.taken) → 1000 ≡ wrap (n + 1 + length t.taken)) (segment 1000 0 2 []) t.segment t.came (λ q. q) t.seq in
+  | inr t ↦ absurd (let a : 1000 ≡ wrap (n + 1 + length t.taken) = only_some (λ s. s.seq ≡ wrap (n + 1 + length t.taken) → 1000 ≡ wrap (n + 1 + length t.taken)) (segment 1000 0 2 []) t.segment t.received (λ q. q) t.seq in
       let b : length t.taken ≡ 0 = ap length t.before.0 in omega (arith, a, b, e))
 ]
 
 -- nor of what came at another number
-refused_taken : (n : ℕ) (text : List ℕ) (ended : Bool) → n ≡ 1000 → IsTaken n acknowledges_refused text ended → (text ≡ []) × (ended ≡ false)
+refused_taken : (n : ℕ) (text : List ℕ) (ended : Bool) → n ≡ 1000 → IsAcceptedText n acknowledges_refused text ended → (text ≡ []) × (ended ≡ false)
 refused_taken n text ended e h = elim h [
   | inl g ↦ opening_taken n text ended e g
-  | inr t ↦ absurd (let a : 1005 ≡ wrap (n + 1 + length t.taken) = only_some (λ s. s.seq ≡ wrap (n + 1 + length t.taken) → 1005 ≡ wrap (n + 1 + length t.taken)) (segment 1005 1 16 (120 ∷ [])) t.segment t.came (λ q. q) t.seq in
+  | inr t ↦ absurd (let a : 1005 ≡ wrap (n + 1 + length t.taken) = only_some (λ s. s.seq ≡ wrap (n + 1 + length t.taken) → 1005 ≡ wrap (n + 1 + length t.taken)) (segment 1005 1 16 (120 ∷ [])) t.segment t.received (λ q. q) t.seq in
       let b : length t.taken ≡ 0 = ap length (opening_taken n t.taken false e t.before).0 in omega (arith, a, b, e))
 ]
 
-refused : (speech : Speech) → KeepsLife speech acknowledges_refused → ⊥
-refused speech k =
-    let g : KeepsAccount acknowledges_refused (k.account 0) = k.keeps 0 (omega arith) in
+refused : (model : OutputModel) → IncarnationConforms model acknowledges_refused → ⊥
+refused model k =
+    let g : AccountHolds acknowledges_refused (k.account 0) = k.keeps 0 (omega arith) in
     let n = numbers_of (k.account 0) g.begins in
-    let p : (k.account 0).peer_first ≡ 1000 = n.peer_first in
+    let p : (k.account 0).irs ≡ 1000 = n.irs in
     let a = g.acknowledges 0 _ refl refl in
-    let t = refused_taken (k.account 0).peer_first a.taken a.ended p a.is in
+    let t = refused_taken (k.account 0).irs a.taken a.ended p a.is in
     let l : length a.taken ≡ 0 = ap length t.0 in
-    let q : 1006 ≡ wrap ((k.account 0).peer_first + 1 + length a.taken + 0) = a.ack ∙ ap (λ b. wrap ((k.account 0).peer_first + 1 + length a.taken + (if b then 1 else 0))) t.1 in
+    let q : 1006 ≡ wrap ((k.account 0).irs + 1 + length a.taken + 0) = a.ack ∙ ap (λ b. wrap ((k.account 0).irs + 1 + length a.taken + (if b then 1 else 0))) t.1 in
     omega (arith, l, p, q)
 
 -- a segment without text adds none
-nothing_taken : (n : ℕ) (text : List ℕ) (ended : Bool) → n ≡ 1000 → IsTaken n tells_another text ended → text ≡ []
+nothing_taken : (n : ℕ) (text : List ℕ) (ended : Bool) → n ≡ 1000 → IsAcceptedText n tells_another text ended → text ≡ []
 nothing_taken n text ended e h = elim h [
   | inl g ↦ (opening_taken n text ended e g).0
-  | inr t ↦ t.joined ∙ ap (λ l. l ++ t.segment.text) (opening_taken n t.taken false e t.before).0 ∙ only_some (λ s. s.text ≡ []) (segment 1001 1 16 []) t.segment t.came refl
+  | inr t ↦ t.joined ∙ ap (λ l. l ++ t.segment.text) (opening_taken n t.taken false e t.before).0 ∙ only_some (λ s. s.text ≡ []) (segment 1001 1 16 []) t.segment t.received refl
 ]
 
-other_page : (speech : Speech) → SpeaksBy mirror_pages speech → KeepsLife speech tells_another → ⊥
-other_page speech by k =
-    let g : KeepsAccount tells_another (k.account 0) = k.keeps 0 (omega arith) in
+other_page : (model : OutputModel) → SpeaksBy mirror_pages model → IncarnationConforms model tells_another → ⊥
+other_page model by k =
+    let g : AccountHolds tells_another (k.account 0) = k.keeps 0 (omega arith) in
     let n = numbers_of (k.account 0) g.begins in
     let t = (g.says 0 _ refl).bytes (omega arith) in
-    let h = of_some_page mirror_pages speech tells_another (k.account 0) by (k.tells 0 (omega arith)) in
-    let m = prefix_length (k.account 0).sent h.0 h.2.front in
+    let h = of_some_page mirror_pages model tells_another (k.account 0) by (k.tells 0 (omega arith)) in
+    let m = prefix_length (k.account 0).sent h.0 h.2.prefix in
     let o = prefix_length h.0 (k.account 0).text h.1 in
-    let l : length (k.account 0).text ≡ 0 = ap length (nothing_taken (k.account 0).peer_first (k.account 0).text (k.account 0).ended n.peer_first g.taken) in
+    let l : length (k.account 0).text ≡ 0 = ap length (nothing_taken (k.account 0).irs (k.account 0).text (k.account 0).ended n.irs g.taken) in
     let f : t.at + 1 ≤ length (k.account 0).sent = t.slice.fits in
     omega (arith, l, m, o, f)
 

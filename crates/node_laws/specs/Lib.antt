@@ -1,11 +1,11 @@
-pub mod Talks
+pub mod Traces
 pub mod Receivers
 pub mod Promise
 pub mod Asked
 pub mod Wire
 pub mod Turns
 pub mod Speakers
-pub mod KeepsTurns
+pub mod TraceConforms
 pub mod HonestPeers
 pub mod Timers
 pub mod Windows

@@ -1,44 +1,44 @@
--- Every receiver of a life: it puts a text together from the segments that were sent to it, in whatever order, with whatever losses
--- and repetitions they reach it, and however it keeps or cuts them.
+-- Every receiver of an incarnation. It reassembles text from the segments sent to it, with any order, loss and duplication, and may keep
+-- or discard any part of them.
 use Rattle.std.specs.Option.{option_map_or}
 use Rattle.std.specs.Prelude.{◌≡◌, ℕ, ◌+◌, ◌==◌, true, List, [], ◌∷◌, ◌++◌, length, Some, slice_get, if◌then◌else◌}
 use Rattle.uip_wire.specs.Numbers.{wrap}
 use Rattle.tcp_segment.specs.Segments.{PlainSegment, has_fin}
-use Rattle.node_laws.specs.Talks.{Exchange, said_at}
+use Rattle.node_laws.specs.Traces.{Exchange, sent_at}
 
--- a segment of the life has this byte `at` numbers behind the number that follows the SYN
-pub record Carries (first : ℕ) (life : List Exchange) (at byte : ℕ) : Type 0 where
+-- A segment of the incarnation carries this byte at offset `at` of the text; offset 0 has the sequence number after the SYN.
+pub record CarriesByte (iss : ℕ) (incarnation : List Exchange) (at byte : ℕ) : Type 0 where
   pub place : ℕ
   pub segment : PlainSegment
-  pub said : said_at life place ≡ Some segment
+  pub output : sent_at incarnation place ≡ Some segment
   pub from : ℕ
-  pub seq : segment.seq ≡ wrap (first + 1 + from)
+  pub seq : segment.seq ≡ wrap (iss + 1 + from)
   pub within : ℕ
   pub sum : at ≡ from + within
   pub is : slice_get segment.text within ≡ Some byte
 
--- each byte of the text came in a segment that has it at its number
+-- Each byte of the text was carried by a segment, at its sequence number.
 abbrev pub IsReceived : ℕ → List Exchange → List ℕ → Type 0
-IsReceived first life text = (at byte : ℕ) → slice_get text at ≡ Some byte → Carries first life at byte
+IsReceived iss incarnation text = (at byte : ℕ) → slice_get text at ≡ Some byte → CarriesByte iss incarnation at byte
 
--- the FIN of a segment of the life stands behind so much text
-pub record EndsBehind (first : ℕ) (life : List Exchange) (count : ℕ) : Type 0 where
+-- A segment of the incarnation has a FIN, whose number follows `count` bytes of text.
+pub record EndsAfter (iss : ℕ) (incarnation : List Exchange) (count : ℕ) : Type 0 where
   pub place : ℕ
   pub segment : PlainSegment
-  pub said : said_at life place ≡ Some segment
+  pub output : sent_at incarnation place ≡ Some segment
   pub fin : has_fin segment.flags ≡ true
-  pub seq : wrap (segment.seq + length segment.text) ≡ wrap (first + 1 + count)
+  pub seq : wrap (segment.seq + length segment.text) ≡ wrap (iss + 1 + count)
 
--- The plainest receiver takes the text of a segment at the number that it expects, and lets go all others.
+-- The simplest receiver accepts the text of a segment at the number that it expects, and discards all other segments.
 abbrev pub takes_next : ℕ → List ℕ → PlainSegment → List ℕ
-takes_next first got s = if s.seq == wrap (first + 1 + length got) then got ++ s.text else got
+takes_next iss got s = if s.seq == wrap (iss + 1 + length got) then got ++ s.text else got
 
--- what it has where the segments of these exchanges reach it in this order: some never, some again, some late
+-- what the simplest receiver has if the segments of these exchanges arrive in this order; some may be missing, repeated or late
 abbrev pub receives : ℕ → List Exchange → List ℕ → List ℕ → List ℕ
-receives first life [] got = got
-receives first life (place ∷ places) got =
-    receives first life places (option_map_or (λ s. takes_next first got s) (said_at life place) got)
+receives iss incarnation [] got = got
+receives iss incarnation (place ∷ places) got =
+    receives iss incarnation places (option_map_or (λ s. takes_next iss got s) (sent_at incarnation place) got)
 
--- It is one of those above.
+-- The simplest receiver is one of those above.
 abbrev pub PlainestReceives : Type 0
-PlainestReceives = (first : ℕ) (life : List Exchange) (places : List ℕ) → IsReceived first life (receives first life places [])
+PlainestReceives = (iss : ℕ) (incarnation : List Exchange) (places : List ℕ) → IsReceived iss incarnation (receives iss incarnation places [])

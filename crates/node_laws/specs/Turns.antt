@@ -1,11 +1,11 @@
--- The turns of a node, by its definition.
+-- The trace of a node, by its definition.
 use Rattle.std.specs.Prelude.{ℕ, Bool, List, [], ◌∷◌}
-use Rattle.app_events.specs.Part.{Meaning}
+use Rattle.app_events.specs.AppSpec.{AppSpec}
 use Rattle.uip_node.specs.Events.{Event}
 use Rattle.uip_node.specs.Node.{AbstractNode, step}
-use Rattle.node_laws.specs.Talks.{Turn}
+use Rattle.node_laws.specs.Traces.{TraceEntry}
 
--- the turns of a node over these events
-abbrev pub turns_of : Meaning → (ℕ → Bool) → List Event → AbstractNode → List Turn
-turns_of m served [] n = []
-turns_of m served (e ∷ es) n = record { event = e; sent = (step m served n e).sent } ∷ turns_of m served es (step m served n e).node
+-- the trace of a node over these events, the oldest first
+abbrev pub trace_of : AppSpec → (ℕ → Bool) → List Event → AbstractNode → List TraceEntry
+trace_of m served [] n = []
+trace_of m served (e ∷ es) n = record { event = e; sent = (step m served n e).sent } ∷ trace_of m served es (step m served n e).node

@@ -1,43 +1,45 @@
+//! The laws of a node's trace.
+
 ghost use Rattle.node_laws.specs.HonestPeers.{HonestPeer};
-ghost use Rattle.node_laws.specs.KeepsTurns.{EveryTurn, EveryTurnOfPages};
+ghost use Rattle.node_laws.specs.TraceConforms.{EveryTraceConforms, EveryTraceOfPagesConforms};
 ghost use Rattle.node_laws.specs.Receivers.{PlainestReceives};
-ghost use Rattle.node_laws.specs.Timers.{TimerRunsOut};
-ghost use Rattle.node_laws.specs.Windows.{WindowsAreKept};
+ghost use Rattle.node_laws.specs.Timers.{RetransmitsOrResets};
+ghost use Rattle.node_laws.specs.Windows.{WindowsAreRespected};
 ghost use Rattle.node_laws.specs.WrongLives.{WrongLivesFall};
 
-/// Whatever comes over a line, from any peers, to an application that takes back no text: in each turn of a node its lives keep their
-/// promises, at each port by the pages that the application has there, and nothing is sent unasked.
-pub fn every_turn()
-    ensures { EveryTurn }
+/// Holds for any datagrams, from any peers, and every application that never retracts text. Every incarnation of every connection in a
+/// node's trace conforms to the output model of its port, and nothing is sent unsolicited.
+pub fn every_trace_conforms()
+    ensures { EveryTraceConforms }
 {}
 
-/// So it is of an application whose text is a page at every port.
-pub fn every_turn_of_pages()
-    ensures { EveryTurnOfPages }
+/// The same for an application whose text is a page at every port.
+pub fn every_trace_of_pages_conforms()
+    ensures { EveryTraceOfPagesConforms }
 {}
 
-/// A receiver that takes the text of a segment at the number that it expects, and lets go all others, is one of those of which the promise
-/// speaks.
+/// The simplest receiver, which accepts in-order segments and discards all others, is one of those that the guarantee covers.
 pub fn plainest_receives()
     ensures { PlainestReceives }
 {}
 
-/// A resend that is cut, a FIN too early, a byte twice, and other wrongs of a node: the promise alone refuses each.
+/// The guarantee alone excludes wrong traces: a truncated retransmission, a FIN too early, a byte sent twice, and others.
 pub fn wrong_lives_fall()
     ensures { WrongLivesFall }
 {}
 
-/// A peer that asks, acknowledges each segment and loses nothing has its whole page and a FIN after a stated number of its segments.
+/// A peer that sends a request, acknowledges each segment and loses none has its whole page and a FIN after a stated number of its
+/// segments.
 pub fn honest_peer()
     ensures { HonestPeer }
 {}
 
-/// What is outstanding is sent again, or given up with a RST, within 49 calls of each slot in which nothing comes from the peer.
-pub fn timer_runs_out()
-    ensures { TimerRunsOut }
+/// What is outstanding is retransmitted, or the connection reset, within 49 calls of each slot in which nothing is received from the peer.
+pub fn retransmits_or_resets()
+    ensures { RetransmitsOrResets }
 {}
 
-/// Text that is sent for the first time is no longer than the newest window that the peer told and the node took.
-pub fn windows_are_kept()
-    ensures { WindowsAreKept }
+/// Text that is sent for the first time is no longer than the window of the newest segment received that was not out of order.
+pub fn windows_are_respected()
+    ensures { WindowsAreRespected }
 {}

@@ -1,10 +1,10 @@
-//! What a node keeps over any events, with any peers, forged or damaged datagrams among what comes: each life of a connection keeps its
-//! promise, and any receiver has a prefix of one text, which is of one page where the application has pages.
+//! The guarantee on every trace of a node, for any events and any peers, with forged and damaged datagrams. Every incarnation of a
+//! connection conforms, and any receiver has a prefix of one text, which is part of one page if the application has pages.
 #![tactic(auto)]
 
 mod laws;
 
 pub use laws::{
-    every_turn, every_turn_of_pages, honest_peer, plainest_receives, timer_runs_out,
-    windows_are_kept, wrong_lives_fall,
+    every_trace_conforms, every_trace_of_pages_conforms, honest_peer, plainest_receives,
+    retransmits_or_resets, windows_are_respected, wrong_lives_fall,
 };

@@ -1,4 +1,4 @@
--- The constants of the code that definitions cite, with their values: a definition that names one says this number.
+-- The constants of the code that definitions cite, with their values.
 use Rattle.std.specs.Prelude.{◌≡◌, ℕ}
 use Rattle.packet_buffer.specs.declared.packet.TheConstants.{LEAST_AREA}
 

@@ -1,17 +1,17 @@
--- What a packet is once a lent part of its area is given back.
+-- A packet after a borrowed part of its area is given back.
 use Rattle.std.specs.Prelude.{ℕ, List, ◌+◌, ◌++◌, take, drop, length}
 use Rattle.std.specs.Borrow.{Lends, MutBor, Fml, Array, u8}
 use Rattle.packet_buffer.specs.Buffer.{Buffer}
 use Rattle.packet_buffer.specs.contracts.packet.Packet.{the_row}
 
--- a slice keeps its length
+-- A slice keeps its length.
 abbrev pub fitted : List ℕ → List ℕ → List ℕ
 fitted old new = take (length old) (new ++ drop (length new) old)
 
 abbrev pub LendsArea : MutBor Buffer → MutBor (List ℕ) → Fml
 LendsArea s r = Lends the_row (Array u8 0) s r (λ area. record { area = fitted s.now.area area; len = s.now.len })
 
--- what stands from a place on is written over
+-- The bytes from an offset on are overwritten.
 abbrev pub spliced : List ℕ → ℕ → List ℕ → List ℕ
 spliced old at new = take (length old) (take at old ++ (new ++ drop (at + length new) old))
 

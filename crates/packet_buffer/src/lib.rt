@@ -1,5 +1,5 @@
-//! The one packet of the stack: an area that a datagram is received into, answered in and sent from, with the length of the
-//! datagram that stands in it. Its room is taken once, when it is made, and stays.
+//! The one packet of the stack: an area in which a datagram is received, answered and sent, with the length of that datagram. `new`
+//! allocates it once; its size never changes.
 #![tactic(auto)]
 
 mod laws;

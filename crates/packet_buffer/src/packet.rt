@@ -7,17 +7,17 @@ ghost use Rattle.uip_edge.specs.declared.no_memory.NoMemory.{NoMemory};
 use std::alloc::Global;
 use std::marker::Model;
 use uip_edge::NoMemory;
-use uip_wire::LARGEST_DATAGRAM;
+use uip_wire::{LARGEST_DATAGRAM, copy_bytes};
 
-/// The smallest area in bytes: it holds a SYN with its option, the largest segment that is sent without text.
+/// The smallest area, in bytes: it holds a SYN with its option, the largest segment that is sent without text.
 pub const LEAST_AREA: usize = 44;
 
-/// An area of 44 to 1500 bytes, and the length of the datagram at its front.
+/// An area of 44 to 1500 bytes, and the length of the datagram at its start.
 #[derive(Drop)]
 pub struct Packet {
-    /// The bytes of the datagram, and behind them what stood there before.
+    /// The bytes of the datagram, and after them what was there before.
     pub area: Vec<u8>,
-    /// The length of the current datagram in bytes.
+    /// The length of the current datagram, in bytes.
     pub len: usize,
 }
 
@@ -33,7 +33,7 @@ impl Model for Packet {
 }
 
 impl Packet {
-    /// An area of `size` zero bytes with no datagram in it.
+    /// Allocates an area of `size` zero bytes, 44 to 1500, with no datagram in it.
     pub fn new(alloc: Global, size: usize) -> Result<Packet, NoMemory>
         requires least { LEAST_AREA ≤ size }
         requires most { size ≤ LARGEST_DATAGRAM }
@@ -45,7 +45,7 @@ impl Packet {
         }
     }
 
-    /// The size of the area in bytes.
+    /// Returns the size of the area, in bytes.
     pub fn size(&self) -> usize
         ensures exact { result ≡ length self.now.area }
         ensures bounds { HasSize result }
@@ -53,23 +53,23 @@ impl Packet {
         self.area.len()
     }
 
-    /// The current datagram.
+    /// Returns the current datagram.
     pub fn bytes(&self) -> &[u8]
         ensures { result.now ≡ datagram_in self.now }
     {
         &self.area[..self.len]
     }
 
-    /// Copies a datagram to the front; the bytes behind it stay.
+    /// Copies a datagram to the start. The bytes after it are unchanged.
     pub fn load(&mut self, datagram: &[u8])
         requires { length datagram.now ≤ length self.old.area }
         ensures { self.new ≡ record { area = datagram.now ++ drop (length datagram.now) self.old.area; len = length datagram.now } }
     {
-        copy_front(&mut self.area, datagram);
+        copy_prefix(&mut self.area, datagram);
         self.len = datagram.len();
     }
 
-    /// Sets the length of the current datagram; the area stays.
+    /// Sets the length of the current datagram. The area is unchanged.
     pub fn set_len(&mut self, len: usize)
         requires { len ≤ length self.old.area }
         ensures { self.new ≡ record self.old { len = len } }
@@ -77,7 +77,7 @@ impl Packet {
         self.len = len;
     }
 
-    /// A part of the area, `len` bytes from place `at` on, for writing; all else stays.
+    /// Borrows `len` bytes of the area from offset `at` on, for writing. All else is unchanged.
     pub fn part_mut(&mut self, at: usize, len: usize) -> &mut [u8]
         requires { at + len ≤ length self.old.area }
         ensures* writes_back { sem 𝓛 (LendsPart self.entry at result) }
@@ -86,7 +86,7 @@ impl Packet {
         self.area.slice_mut(at..at + len)
     }
 
-    /// The whole area, for writing; the length of the datagram stays.
+    /// Borrows the whole area for writing. The length of the datagram is unchanged.
     pub fn area_mut(&mut self) -> &mut [u8]
         ensures* writes_back { sem 𝓛 (LendsArea self.entry result) }
         ensures value { result.now ≡ self.old.area }
@@ -96,10 +96,10 @@ impl Packet {
     }
 }
 
-/// Copies to the front of a slice.
-fn copy_front(area: &mut [u8], datagram: &[u8])
+/// Copies to the start of a slice.
+fn copy_prefix(area: &mut [u8], datagram: &[u8])
     requires { length datagram.now ≤ length area.old }
     ensures { area.new ≡ datagram.now ++ drop (length datagram.now) area.old }
 {
-    area[..datagram.len()].copy_from_slice(datagram);
+    copy_bytes(&mut area[..datagram.len()], datagram);
 }

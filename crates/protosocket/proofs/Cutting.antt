@@ -1,4 +1,4 @@
--- What stands before the first element that passes, by its place.
+-- What is before the first element that passes, by its index.
 use Rattle.std.proofs.Common.{◌≡◌, ℕ, ◌+◌, ◌<◌, ◌≤◌, if◌then◌else◌, length-take, subst, refl, Bool, true, false, Some, None, List, ◌++◌, length, take, min, get_or, position, sym, ap, ◌∙◌, inl, inr, arith, cond, is_some, true≢false, Result, Ok, Err, IsOk, OnOk}
 use Rattle.std.specs.List.{before_first, list_any, position_or_len}
 use Rattle.std.proofs.lemmas.Bool.{cases_lt, lt-ltb}
@@ -42,7 +42,7 @@ least_of part room =
       | inr h ↦ take_all (min (length part) room) part (omega arith) ∙ sym (take_all room part h)
     ]
 
--- the front of a name of 64 bytes, where what there is room for comes to it
+-- the prefix of a name of 64 bytes, to which what there is room for is appended
 pub kept : (name part all : List ℕ) (room count : ℕ) → room + length name ≡ 64 → count ≡ min (length part) room
     → all ≡ name ++ take count part → all ≡ take 64 (name ++ part)
 kept name part all room count full least e =

@@ -1,4 +1,4 @@
--- Pieces that are heard in turn.
+-- Pieces that are received in turn.
 use Rattle.std.specs.List.{concat, fold}
 use Rattle.std.proofs.Common.{◌≡◌, ℕ, List, [], ◌∷◌, ◌++◌, refl, sym, ap, ◌∙◌, append_assoc, append-nil}
 use Rattle.protosocket.specs.Line.{Line, after, fresh, HearsInPieces}

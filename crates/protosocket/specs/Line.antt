@@ -1,10 +1,11 @@
--- A word of a request line as it is heard (RFC 1945, section 5.1): it ends at its first stop, and its name at its first '?'.
+-- A word of a request line, as it is received (RFC 1945, section 5.1): it ends at its first stop, and its name at its first
+-- '?'.
 use Rattle.std.specs.Prelude.{◌≡◌, ℕ, ◌+◌, ◌==◌, ◌||◌, Bool, false, List, [], ◌++◌, length, take, nat_lt, if◌then◌else◌}
 use Rattle.std.specs.List.{before_first, concat, fold, list_any}
 use Rattle.protosocket.specs.declared.stops.Stops.{Stops}
 use Rattle.protosocket.specs.declared.stops.Stops.TheVariants.{Space, SpaceOrLine}
 
--- what is kept of the bytes that were heard
+-- what is stored of the bytes received
 pub record Line : Type 0 where
   pub name : List ℕ
   pub over : Bool
@@ -12,7 +13,7 @@ pub record Line : Type 0 where
   pub done : Bool
   pub stops : Stops
 
--- a space ends a word, and where the line may end too, CR and LF do
+-- a space ends a word; if the line may end too, CR and LF do
 abbrev pub is_stop : Stops → ℕ → Bool
 is_stop Space byte = byte == 32
 is_stop SpaceOrLine byte = (byte == 32) || ((byte == 13) || (byte == 10))
@@ -25,15 +26,15 @@ is_query_mark byte = byte == 63
 abbrev pub word_of : Stops → List ℕ → List ℕ
 word_of stops piece = before_first (is_stop stops) piece
 
--- the part of further bytes of a word that belongs to its name: nothing, where a '?' came before
+-- the part of further bytes of a word that belongs to its name: nothing, if a '?' was received before
 abbrev pub name_part : Bool → List ℕ → List ℕ
 name_part query word = if query then [] else before_first is_query_mark word
 
--- so many bytes of a name are kept
+-- the greatest number of bytes of a name that are stored
 abbrev pub longest_name : ℕ
 longest_name = 64
 
--- further bytes of the word are heard
+-- further bytes of the word are received
 abbrev pub with_word : Line → List ℕ → Line
 with_word line word = record line {
   name = take longest_name (line.name ++ name_part line.query word);
@@ -41,25 +42,25 @@ with_word line word = record line {
   query = line.query || list_any is_query_mark word;
 }
 
--- a piece is heard
+-- a piece is received
 abbrev pub after : Line → List ℕ → Line
 after line piece =
     if line.done then line
     else record (with_word line (word_of line.stops piece)) { done = list_any (is_stop line.stops) piece }
 
--- the bytes that are taken of it: those of the word, and its stop
+-- how many bytes of it are consumed: those of the word, and its stop
 abbrev pub part_taken : Line → List ℕ → ℕ
 part_taken line piece =
     if line.done then 0
     else length (word_of line.stops piece) + (if list_any (is_stop line.stops) piece then 1 else 0)
 
--- nothing is heard yet
+-- nothing is received yet
 abbrev pub fresh : Stops → Line
 fresh stops = record { name = []; over = false; query = false; done = false; stops = stops }
 
--- a line that heard these bytes in all: the name is what stands before the word's first '?'
-abbrev pub heard : Stops → List ℕ → Line
-heard stops bytes = record {
+-- a line that received these bytes in all: the name is what is before the word's first '?'
+abbrev pub delivered : Stops → List ℕ → Line
+delivered stops bytes = record {
   name = take longest_name (before_first is_query_mark (word_of stops bytes));
   over = nat_lt longest_name (length (before_first is_query_mark (word_of stops bytes)));
   query = list_any is_query_mark (word_of stops bytes);
@@ -67,6 +68,6 @@ heard stops bytes = record {
   stops = stops;
 }
 
--- in whatever pieces they came
+-- in whatever pieces they are received
 abbrev pub HearsInPieces : Type 0
-HearsInPieces = (stops : Stops) (pieces : List (List ℕ)) → fold after (fresh stops) pieces ≡ heard stops (concat pieces)
+HearsInPieces = (stops : Stops) (pieces : List (List ℕ)) → fold after (fresh stops) pieces ≡ delivered stops (concat pieces)

@@ -4,7 +4,7 @@ ghost use Rattle.std.specs.Prelude.{[]};
 
 use protothread::Says;
 
-/// Says nothing: it stands where the connection is to be closed.
+/// Sends nothing: the connection is to be closed here.
 #[derive(Clone, Copy, Drop)]
 pub struct CloseOut;
 

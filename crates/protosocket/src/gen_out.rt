@@ -6,7 +6,7 @@ ghost use Rattle.generators.specs.Text.{capture_text};
 use generators::{Capture, fill_at, text_len};
 use protothread::Says;
 
-/// Says the text of its capture from place `at` on. It does not look at the world.
+/// Sends the text of its capture from offset `at` on. It does not read the world.
 #[derive(Drop)]
 pub struct GenOut {
     pub capture: Capture,
@@ -27,7 +27,7 @@ impl Says for GenOut {
     }
 
     fn advance(&mut self, _world: &[u8], count: usize) {
-        // The text's length is at most 4200, so the place stays in 32 bits.
+        // The text has at most 4200 bytes, so the offset fits in 32 bits.
         self.at = (text_len(&self.capture).min(self.at as usize + count)) as u32;
     }
 }

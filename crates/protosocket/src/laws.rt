@@ -1,8 +1,8 @@
-//! What holds of every word that is heard.
+//! What holds for every word that is received.
 
 ghost use Rattle.protosocket.specs.Line.{HearsInPieces};
 
-/// A word that is heard in pieces is heard as the whole of them.
+/// Receiving a word in pieces gives the same value as receiving it at once.
 #[tactic(auto, using(crate::proofs::Pieces::hears_in_pieces))]
 pub fn hears_in_pieces()
     ensures { HearsInPieces }

@@ -1,6 +1,6 @@
-//! The protosocket of a connection (Dunkels 2006): the threads that hear a word of a request and that say the pieces of
-//! a reply. Each is a value that is its own resume point and is given no allocator; a thread that says text makes the
-//! same bytes again for as long as they are not acknowledged.
+//! The protosocket of a connection (Dunkels 2006): the threads that receive a word of a request and that send the pieces of a
+//! reply. Each is a value that is its own resume point and is passed no allocator. A thread that sends text makes identical
+//! bytes until they are acknowledged.
 #![tactic(auto)]
 
 mod close_out;

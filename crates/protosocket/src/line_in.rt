@@ -1,28 +1,28 @@
-//! A word of a request line, heard piece by piece.
+//! A word of a request line, received piece by piece.
 
 ghost use Rattle.std.specs.Prelude.{◌≡◌, ◌+◌, ◌++◌, ◌||◌, length, nat_lt, position, take};
 ghost use Rattle.std.specs.List.{before_first, list_any};
 ghost use Rattle.protosocket.specs.Line.{after, part_taken, fresh, is_query_mark, is_stop, longest_name, with_word, word_of};
-ghost use Rattle.protosocket.specs.Lemmas.Hearing.{takes_front, takes_all, takes_nothing, hears_joined};
+ghost use Rattle.protosocket.specs.Lemmas.Hearing.{takes_prefix, takes_all, takes_nothing, hears_joined};
 
 use crate::stops::Stops;
 use arrayvec::ArrayVec;
 use protothread::Hears;
 use std::marker::Model;
 
-/// The most bytes of a name that are kept. No name of a site is longer.
+/// The greatest length of a name that is stored, in bytes. No name of a site is longer.
 const LONGEST_NAME: usize = 64;
 
-/// Hears bytes up to and with the first stop, and keeps the front of the name that stands before the first `?`.
+/// Receives bytes up to and with the first stop, and stores the prefix of the name before the first `?`.
 #[derive(Drop)]
 pub struct LineIn {
     /// The first bytes of the name.
     pub name: ArrayVec<u8, LONGEST_NAME>,
-    /// The name has more bytes than are kept.
+    /// The name has more bytes than are stored.
     pub over: bool,
-    /// A `?` came.
+    /// A `?` was received.
     pub query: bool,
-    /// The stop came.
+    /// The stop was received.
     pub done: bool,
     /// The bytes that end the word.
     pub stops: Stops,
@@ -36,7 +36,7 @@ impl Model for LineIn {
     ghost view = { λ l. record { name = l.name.items; over = l.over; query = l.query; done = l.done; stops = l.stops } };
 }
 
-/// What stands in the piece before the first stop, and whether one is there.
+/// Returns the part of the piece before the first stop, and whether there is a stop.
 #[tactic(auto, using(crate::proofs::Cutting::cut_there, crate::proofs::Cutting::is_there, crate::proofs::Cutting::not_there, crate::proofs::Cutting::not_cut))]
 fn until_stop(piece: &[u8], stops: Stops) -> (&[u8], bool)
     ensures word { result.0.now ≡ word_of stops piece.now }
@@ -48,14 +48,14 @@ fn until_stop(piece: &[u8], stops: Stops) -> (&[u8], bool)
     }
 }
 
-/// The place of the first `?`.
+/// Returns the offset of the first `?`.
 fn mark_in(word: &[u8]) -> Option<usize>
     ensures { result ≡ position is_query_mark word.now }
 {
     word.iter().position(|byte| *byte == b'?')
 }
 
-/// What stands in the word before the first `?`, and whether one is there.
+/// Returns the part of the word before the first `?`, and whether there is one.
 #[tactic(auto, using(crate::proofs::Cutting::cut_there, crate::proofs::Cutting::is_there, crate::proofs::Cutting::not_there, crate::proofs::Cutting::not_cut))]
 fn until_mark(word: &[u8]) -> (&[u8], bool)
     ensures name { result.0.now ≡ before_first is_query_mark word.now }
@@ -67,7 +67,7 @@ fn until_mark(word: &[u8]) -> (&[u8], bool)
     }
 }
 
-/// Appends as much as there is room for, and answers whether more would have come.
+/// Appends as much as there is room for, and returns whether there is more.
 fn keep(name: &mut ArrayVec<u8, LONGEST_NAME>, part: &[u8]) -> bool
     ensures name { name.new.items ≡ take longest_name (name.old.items ++ part.now) }
     ensures over { result ≡ nat_lt longest_name (length (name.old.items ++ part.now)) }
@@ -79,7 +79,7 @@ fn keep(name: &mut ArrayVec<u8, LONGEST_NAME>, part: &[u8]) -> bool
 }
 
 impl LineIn {
-    /// Nothing is heard yet.
+    /// Returns the thread before any byte.
     pub fn new(stops: Stops) -> LineIn
         ensures { result ≡ fresh stops }
     {
@@ -92,12 +92,12 @@ impl LineIn {
         }
     }
 
-    /// Hears further bytes of the word.
+    /// Receives further bytes of the word.
     fn hear(&mut self, word: &[u8])
         ensures { self.new ≡ with_word self.old word.now }
     {
-        let (front, marked) = until_mark(word);
-        let part = if self.query { &word[..0] } else { front };
+        let (prefix, marked) = until_mark(word);
+        let part = if self.query { &word[..0] } else { prefix };
         let more = keep(&mut self.name, part);
         self.over = self.over || more;
         self.query = self.query || marked;
@@ -111,6 +111,7 @@ impl Hears for LineIn {
 
     ghost taken = { part_taken };
 
+    #[inline(never)]
     fn feed(&mut self, piece: &[u8]) -> usize {
         if self.done {
             return 0;
@@ -125,7 +126,7 @@ impl Hears for LineIn {
         self.done
     }
 
-    ghost takes_a_front = { takes_front };
+    ghost refines_a_prefix = { takes_prefix };
 
     ghost takes_all_or_is_done = { takes_all };
 

@@ -1,10 +1,10 @@
-//! Bytes of the world, sent as they are.
+//! Bytes of the world, sent unchanged.
 
 ghost use Rattle.std.specs.Prelude.{◌≤◌, length, slice_range};
 
 use protothread::{Run, Says};
 
-/// Says the text of its run.
+/// Sends the text of its run.
 #[derive(Clone, Copy, Drop)]
 pub struct SendOut {
     pub run: Run,

@@ -13,7 +13,7 @@ pub enum Stops {
 }
 
 impl Stops {
-    /// Whether the byte ends the word.
+    /// Returns whether the byte ends the word.
     fn is_stop(self, byte: u8) -> bool
         ensures { result ≡ is_stop self byte }
     {
@@ -23,7 +23,7 @@ impl Stops {
         }
     }
 
-    /// The place of the first byte that ends the word.
+    /// Returns the offset of the first byte that ends the word.
     pub(crate) fn place_in(self, piece: &[u8]) -> Option<usize>
         ensures { result ≡ position (is_stop self) piece.now }
     {

@@ -1,4 +1,4 @@
-//! A request line is heard in pieces that end at any place.
+//! A request line, received in pieces that end at any offset.
 
 use crate::{LineIn, Stops};
 use protothread::Hears;

@@ -1,4 +1,4 @@
--- A text of two parts, of which a front is let go: part of the first, or all of it and part of the second.
+-- A text of two parts, of which a prefix is dropped: part of the first, or all of it and part of the second.
 use Rattle.std.proofs.Common.{◌≡◌, ℕ, ◌+◌, ◌-◌, ◌≤◌, List, ◌++◌, length, take, drop, min, sym, ap, ◌∙◌, arith, inl, inr, slice_range}
 use Rattle.std.proofs.lemmas.List.{drop_all, drop-append-le, drop-drop, drop-take}
 use Rattle.std.proofs.lemmas.Bool.{cases_lt}
@@ -15,7 +15,7 @@ drop_split a b m n e =
       | inr h ↦
           let p : length a ≤ m = omega arith in
           let q : n ≡ length a + (n - m) = omega arith in
-          ap (λ front. front ++ drop (n - m) b) (drop_all m a p)
+          ap (λ prefix. prefix ++ drop (n - m) b) (drop_all m a p)
           ∙ sym (ap (λ k. drop k (a ++ b)) q ∙ drop-append-add a b (n - m))
     ]
 

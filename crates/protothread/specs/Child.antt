@@ -1,7 +1,7 @@
--- The child of a thread, which may not be there.
+-- The child of a thread, if there is one.
 use Rattle.std.specs.Prelude.{ℕ, List, [], Option, Some, None}
 
--- a child that is there fits the world
+-- if there is a child, it fits the world
 abbrev pub ChildFits : {C : Type 0} → (C → List ℕ → Type 0) → Option C → List ℕ → Type 0
 ChildFits fits None world = Unit {0}
 ChildFits fits (Some child) world = fits child world

@@ -1,10 +1,10 @@
-//! Two threads in a row, for `Then` and `Child`.
+//! Two threads, one after the other, for `Then` and `Child`.
 
 ghost use Rattle.std.specs.Prelude.{◌≡◌, ◌<◌, ◌≤◌, ◌^◌, ◌++◌, length, take, drop};
 
 use crate::says::Says;
 
-/// Fills from the text of the first, and where that ends from the text of the second.
+/// Fills from the text of the first thread, and after its end from the text of the second.
 pub(crate) fn fill_both<A: Says, B: Says>(first: &A, second: &B, world: &[u8], out: &mut [u8])
     requires first_fits { A.fits first.now world.now }
     requires second_fits { B.fits second.now world.now }
@@ -13,12 +13,12 @@ pub(crate) fn fill_both<A: Says, B: Says>(first: &A, second: &B, world: &[u8], o
     ensures { out.new ≡ take (length out.old) (A.text_left first.now world.now ++ B.text_left second.now world.now) }
 {
     let middle = first.left(world).min(out.len());
-    let (front, back) = out.split_at_mut(middle);
-    first.fill(world, front);
+    let (prefix, back) = out.split_at_mut(middle);
+    first.fill(world, prefix);
     second.fill(world, back);
 }
 
-/// Lets go of bytes of the first, and where that ends of bytes of the second.
+/// Advances the first thread, and after its end the second.
 pub(crate) fn advance_both<A: Says, B: Says>(
     first: &mut A,
     second: &mut B,

@@ -6,7 +6,7 @@ ghost use Rattle.protothread.specs.Child.{ChildFits, child_text};
 use crate::both::{advance_both, fill_both};
 use crate::says::Says;
 
-/// Says the text of the child, where there is one, and then that of the parent.
+/// Sends the text of the child, if there is one, and then that of the parent.
 #[derive(Drop)]
 pub struct Child<P, C> {
     pub parent: P,

@@ -1,6 +1,6 @@
-//! Protothreads as values that are their own resume points (Dunkels 2006): a thread that says text, or hears bytes, keeps
-//! no more than where it goes on. What it reads, its world, is handed in at each call. Threads are put together by
-//! sequence (`Then`) and by a child that is said before its parent goes on (`Child`).
+//! Protothreads as values (Dunkels 2006): a thread that sends text, or receives bytes, stores only its resume point. What it
+//! reads, its world, is passed at each call. Threads are combined in sequence (`Then`), and with a child that is sent before
+//! its parent continues (`Child`).
 #![tactic(auto)]
 
 mod both;

@@ -3,8 +3,9 @@
 ghost use Rattle.std.specs.Prelude.{◌≤◌, length, slice_range};
 
 use crate::says::Says;
+use uip_wire::copy_bytes;
 
-/// Says the bytes of its world from place `at` up to before place `end`.
+/// Sends the bytes of its world from offset `at` up to before offset `end`.
 #[derive(Clone, Copy, Drop)]
 pub struct Run {
     pub at: u32,
@@ -23,7 +24,7 @@ impl Says for Run {
     fn fill(&self, world: &[u8], out: &mut [u8]) {
         let at = self.at as usize;
         let end = at + out.len();
-        out.copy_from_slice(&world[at..end]);
+        copy_bytes(out, &world[at..end]);
     }
 
     fn advance(&mut self, _world: &[u8], count: usize) {

@@ -1,4 +1,4 @@
-//! A page of a head, a child and a tail is said in pieces that end at any place.
+//! A page of a head, a child and a tail, sent in pieces that end at any offset.
 
 use crate::{Child, Run, Says, Then};
 
@@ -11,9 +11,9 @@ fn a_page_is_said_and_goes_on(rt: HostRuntime) {
     let first = Run { at: 0, end: 4 };
     let mut thread = Then { first, second };
     assert_eq!(rt; thread.left(world), 11);
-    let mut front = [0; 6];
-    thread.fill(world, &mut front);
-    assert!(rt; front == *b"headch");
+    let mut prefix = [0; 6];
+    thread.fill(world, &mut prefix);
+    assert!(rt; prefix == *b"headch");
     thread.advance(world, 6);
     assert_eq!(rt; thread.left(world), 5);
     let mut rest = [0; 5];

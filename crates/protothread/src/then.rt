@@ -5,7 +5,7 @@ ghost use Rattle.std.specs.Prelude.{◌++◌};
 use crate::both::{advance_both, fill_both};
 use crate::says::Says;
 
-/// Says the text of the first, and then that of the second.
+/// Sends the text of the first thread, and then that of the second.
 #[derive(Clone, Copy, Drop)]
 pub struct Then<A, B> {
     pub first: A,

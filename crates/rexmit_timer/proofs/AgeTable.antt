@@ -1,4 +1,4 @@
--- The ages against the counter: a table of every age below the last and every limit, computed once.
+-- The ages against the counter: a table for every age below the last and every limit, computed once.
 use Rattle.std.proofs.Common.{◌≡◌, ℕ, ◌+◌, ◌-◌, ◌*◌, ◌^◌, ◌<◌, ◌≤◌, Bool, true, false, min, refl, sym, ap, ◌∙◌, arith, nat_lt, ◌==◌, ◌&&◌}
 use Rattle.std.proofs.lemmas.Bool.{agree_below, agree_below_at, and_parts, eqb-true, eq-eqb, ne_eqb, ltb-true, lt-ltb, le-ltb}
 use Rattle.rexmit_timer.specs.declared.timer.Beat.{Beat}

@@ -1,31 +1,31 @@
--- The timer told by ages: the age of what is outstanding is the number of ticks since it was first sent
--- (RFC 793 section 3.7 leaves the times to the implementation; these are uIP's, from a first value of three ticks).
+-- The timer by ages: the age of what is outstanding is the number of ticks since it was first sent. RFC 793, section 3.7 leaves the times
+-- to the implementation; these are uIP's, from a first value of three ticks.
 use Rattle.std.specs.Prelude.{◌≡◌, ℕ, ◌+◌, ◌-◌, List, [], ◌∷◌, ◌==◌, nat_le, if◌then◌else◌, take, count_by, slice_index}
 use Rattle.std.specs.List.{list_any}
 use Rattle.rexmit_timer.specs.declared.timer.Beat.{Beat}
 use Rattle.rexmit_timer.specs.declared.timer.Beat.TheVariants.{Wait, Again, GiveUp}
 use Rattle.rexmit_timer.specs.declared.timer.Timer.{Timer}
 
--- the ages at which it is sent again while retransmissions are left, and the last age of all
+-- The ages at which it is retransmitted while retransmissions are left, and the last age of all.
 abbrev pub ages : List ℕ
 ages = 4 ∷ 8 ∷ 15 ∷ 28 ∷ 53 ∷ 102 ∷ 151 ∷ 200 ∷ 249 ∷ []
 
--- with at most `limit` retransmissions it is given up at the age after those
+-- With at most `limit` retransmissions the connection is reset at the age after those.
 abbrev pub give_up_age : ℕ → ℕ
 give_up_age limit = slice_index ages limit
 
--- what the tick asks that brings it to an age
+-- What the tick returns that reaches an age.
 abbrev pub beat_at : ℕ → ℕ → Beat
 beat_at limit age =
     if age == give_up_age limit then GiveUp
     else if list_any (λ a. a == age) (take limit ages) then Again
     else Wait
 
--- how many of the ages were reached
+-- The number of ages reached.
 abbrev pub tries_at : ℕ → ℕ
 tries_at age = count_by (λ a. nat_le a age) ages
 
--- how many ticks before the next of the ages, less one
+-- The number of ticks before the next of the ages, less one.
 abbrev pub count_at : ℕ → ℕ
 count_at age = slice_index ages (tries_at age) - age - 1
 
@@ -34,7 +34,7 @@ pub record IsAtAge (timer : Timer) (age : ℕ) : Type 0 where
   pub count : timer.count ≡ count_at age
   pub tries : timer.tries ≡ tries_at age
 
--- the timer goes on with the next age, unless it gave up
+-- The timer continues with the next age, unless the limit is reached.
 abbrev pub GoesOn : Beat → Timer → ℕ → Type 0
 GoesOn Wait new age = IsAtAge new age
 GoesOn Again new age = IsAtAge new age

@@ -1,4 +1,4 @@
--- What a tick leaves of the timer, by its beat.
+-- The timer after a tick, by the result of the tick.
 use Rattle.std.specs.Prelude.{◌≡◌, ◌+◌, ◌-◌, ◌*◌, ◌^◌, min}
 use Rattle.rexmit_timer.specs.declared.timer.Beat.{Beat}
 use Rattle.rexmit_timer.specs.declared.timer.Beat.TheVariants.{Wait, Again, GiveUp}

@@ -1,4 +1,4 @@
--- The constants of the code that definitions cite, with their values: a definition that names one says this number.
+-- The constants of the code that definitions cite, with their values.
 use Rattle.std.specs.Prelude.{◌≡◌, ℕ}
 use Rattle.rexmit_timer.specs.declared.timer.TheConstants.{FIRST_COUNT, TEXT_LIMIT, SYN_ACK_LIMIT}
 

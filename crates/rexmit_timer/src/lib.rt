@@ -1,6 +1,6 @@
-//! The retransmission timer of one connection. It counts ticks down to the next retransmission of what is outstanding,
-//! waits longer each time (RFC 793 section 3.7 leaves the choice to the implementation; this is uIP's back-off from a
-//! fixed first value of three ticks), and gives up after a limit. Its beats are a list of ages.
+//! The retransmission timer of one connection. It counts ticks down to the next retransmission of what is outstanding, waits longer each
+//! time, and gives up after a limit. RFC 793, section 3.7 leaves the times to the implementation; these are uIP's back-off from a fixed
+//! first value of three ticks. `specs/Ages.antt` has them as a list of ages.
 #![tactic(auto)]
 
 mod laws;

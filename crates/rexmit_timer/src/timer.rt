@@ -1,17 +1,17 @@
-//! The timer and its beats.
+//! The timer and its ticks.
 
 ghost use Rattle.std.specs.Prelude.{◌≡◌, ℕ, ◌+◌, ◌*◌, ◌^◌, ◌<◌, ◌≤◌, ◌↔◌, min};
 ghost use Rattle.rexmit_timer.specs.Beats.{IsAfter};
 ghost use Rattle.rexmit_timer.specs.Ages.{give_up_age, IsAtAge, IsBeatOfAge};
 
-/// The ticks that are still waited before the next retransmission, and how many retransmissions there were.
+/// The ticks until the next retransmission, and the number of retransmissions so far.
 #[derive(Clone, Copy, Drop)]
 pub struct Timer {
     pub count: u8,
     pub tries: u8,
 }
 
-/// What a tick asks of the connection: nothing, a retransmission, or that it gives up.
+/// The result of a tick: wait, retransmit, or give up.
 #[derive(Clone, Copy, Drop)]
 pub enum Beat {
     Wait,
@@ -29,7 +29,7 @@ pub const TEXT_LIMIT: u8 = 8;
 pub const SYN_ACK_LIMIT: u8 = 5;
 
 impl Timer {
-    /// The timer of what was just sent for the first time.
+    /// Returns the timer of what was just sent for the first time.
     pub fn fresh() -> Timer
         ensures count { result.count ≡ FIRST_COUNT }
         ensures tries { result.tries ≡ 0 }
@@ -41,7 +41,7 @@ impl Timer {
         }
     }
 
-    /// The timer of a connection with nothing outstanding.
+    /// Returns the timer of a connection with nothing outstanding.
     pub fn rest() -> Timer
         ensures count { result.count ≡ 0 }
         ensures tries { result.tries ≡ 0 }
@@ -49,7 +49,7 @@ impl Timer {
         Timer { count: 0, tries: 0 }
     }
 
-    /// One tick, where at most `limit` retransmissions are made.
+    /// Counts one tick, with at most `limit` retransmissions.
     pub fn tick(&mut self, limit: u8) -> Beat
         requires tries { self.old.tries ≤ limit }
         requires limit { limit ≤ TEXT_LIMIT }
@@ -72,7 +72,7 @@ impl Timer {
     }
 }
 
-/// The ticks before the next retransmission, less one: doubled with each of the first four.
+/// Returns the ticks before the next retransmission, less one: doubled with each of the first four.
 fn next_count(tries: u8) -> u8
     ensures { result ≡ 3 * 2 ^ min tries 4 }
 {

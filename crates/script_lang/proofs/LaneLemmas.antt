@@ -1,4 +1,4 @@
--- Bytes that are looked at together: where the first one of a kind stands, and the first mark.
+-- Bytes that are compared at once: the offset of the first one of a kind, and the first mark.
 use Rattle.std.proofs.Common.{◌≡◌, ◌&&◌, ℕ, ◌+◌, ◌≤◌, ◌%◌, ◌^◌, false, not, cond, eqb, List, length, map, replicate, ap, ◌∙◌, sym, arith}
 use Rattle.std.specs.List.{prefix_len}
 use Rattle.std.proofs.lemmas.Simd.{bitmask_splat, first_set_mask_l, length-chunk, run_in_chunk_fails, run_in_chunk_le, run_in_chunk_stops}
@@ -9,7 +9,7 @@ use Rattle.script_lang.specs.Places.{first_place, is_byte}
 use Rattle.script_lang.specs.Directives.{is_directive_mark}
 use Rattle.script_lang.proofs.PlaceLemmas.{first_place-behind, first_place-is, same-first}
 
--- the mask of the 32 lanes from a place on: a bit is set where the byte stands
+-- the mask of the 32 lanes from an offset on: a bit is set if the byte is there
 abbrev pub mask_at : List ℕ → ℕ → ℕ → ℕ
 mask_at text byte at =
     mask_l (map (top 7) (zip2 (λ a b. cond (eqb a b) 255 0) (chunk at 32 text) (replicate 32 byte))) % 2 ^ 64
@@ -45,7 +45,7 @@ some-lane text byte at room some =
     lanes-first text byte at (count_trailing_zeros 64 (mask_at text byte at)) room
     (sym (ap (λ t. cond t 32 (count_trailing_zeros 64 (mask_at text byte at))) some) ∙ mask-counted text byte at room)
 
--- a mark stands only where its first byte does
+-- a mark is only where its first byte is
 pub mark-from-byte : (text : List ℕ) (a b r : ℕ) → a ≤ b → r ≡ first_place (is_byte text 37) a b
     → first_place (is_directive_mark text) r b ≡ first_place (is_directive_mark text) a b
 mark-from-byte text a b r h e =

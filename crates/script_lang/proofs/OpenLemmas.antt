@@ -1,4 +1,4 @@
--- What it means that a directive is open at a place.
+-- What it means that a directive is open at an offset.
 use Rattle.std.proofs.Common.{◌≡◌, ℕ, zero, suc, ◌+◌, ◌-◌, ◌<◌, ◌≤◌, Bool, true, false, not, ◌&&◌, List, ap, ◌∙◌, sym, inl, inr, arith}
 use Rattle.std.specs.List.{range_with_len, list_any}
 use Rattle.std.proofs.lemmas.Bool.{cases_eq, or_left, or_right, or_cases, and_from, and_parts, false_from_ne_true, not_from_false, not-true, true≢false}
@@ -41,7 +41,7 @@ any-false test a b none =
     let found = any-passes test a b t in
     true≢false (sym found.3 ∙ none found.0 found.1 found.2))
 
--- `%!` stands at q, before p, and no line ends between
+-- `%!` is at q, before p, and no line ends between
 pub record Opens (text : List ℕ) (p q : ℕ) : Type 0 where
   pub before : q < p
   pub mark : is_directive_mark text q ≡ true

@@ -1,4 +1,4 @@
--- Read from place to place, `piece_at` gives the pieces of the whole text.
+-- Read from offset to offset, `piece_at` gives the pieces of the whole text.
 use Rattle.std.proofs.Common.{◌≡◌, ℕ, zero, suc, ◌+◌, ◌-◌, ◌<◌, ◌≤◌, Bool, true, false, ◌||◌, cond, List, [], ◌∷◌, length, min, filter, map, eqb, refl, ap, ◌∙◌, sym, subst, inl, inr, ◌⊎◌, arith}
 use Rattle.std.specs.List.{range_with_len}
 use Rattle.std.proofs.lemmas.Bool.{cases_Bool, cond-false, cases_eq, or_left, ne_eqb, eq-eqb}

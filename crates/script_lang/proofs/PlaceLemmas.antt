@@ -1,4 +1,4 @@
--- The first place that passes a test, one place at a time: what the searching loops keep.
+-- The first offset that passes a test, one offset at a time: the invariant of the search loops.
 use Rattle.std.proofs.Common.{◌≡◌, ◌==◌, ℕ, nat_lt, zero, suc, ◌+◌, ◌-◌, ◌<◌, ◌≤◌, Bool, true, false, cond, ◌∷◌, [], List, Some, refl, ap, ◌∙◌, sym, inl, inr, arith, find, unwrap_or}
 use Rattle.std.specs.List.{range_with_len}
 use Rattle.std.proofs.lemmas.Bool.{cases_eq, cases_lt, cases_order, eq-eqb, le-ltb, lt-ltb, ne_eqb, true≢false}
@@ -71,9 +71,9 @@ same-first test a b r s one other = elim (cases_order r s) [
   ]
 ]
 
--- the first place of a range and of its front
-pub past-front : (test : ℕ → Bool) (a n b r s : ℕ) → n < b → a ≤ n → IsFirst test a (n + 1) r → IsFirst test a b s → (r == n + 1) ≡ nat_lt n s
-past-front test a n b r s within some one other = elim (cases_eq r (n + 1)) [
+-- the first offset of a range and of its prefix
+pub history-prefix : (test : ℕ → Bool) (a n b r s : ℕ) → n < b → a ≤ n → IsFirst test a (n + 1) r → IsFirst test a b s → (r == n + 1) ≡ nat_lt n s
+history-prefix test a n b r s within some one other = elim (cases_eq r (n + 1)) [
   | inl same ↦ eq-eqb r (n + 1) same ∙ sym (lt-ltb n s (elim (cases_lt s (n + 1)) [
     | inl below ↦ absurd (true≢false (sym (other.here (omega (arith, below, within))) ∙ one.before s other.low (omega (arith, below, same))))
     | inr above ↦ omega (arith, above, some)
@@ -84,7 +84,7 @@ past-front test a n b r s within some one other = elim (cases_eq r (n + 1)) [
   ])
 ]
 
--- a front in which no place passes is passed over
+-- a prefix in which no offset passes is skipped
 pub first_place-behind : (test : ℕ → Bool) (a m b : ℕ) → a ≤ m → m ≤ b → ((k : ℕ) → a ≤ k → k < m → test k ≡ false) → first_place test m b ≡ first_place test a b
 first_place-behind test a m b low high none =
     let rest = first_place-is test m b high in
@@ -97,10 +97,10 @@ first_place-behind test a m b low high none =
     })
     (first_place-is test a b (omega arith))
 
--- a place that passes in the front is the first of all
-pub first_place-front : (test : ℕ → Bool) (a m b : ℕ) → a ≤ m → m ≤ b → first_place test a m < m → first_place test a m ≡ first_place test a b
-first_place-front test a m b low high lt =
-    let front = first_place-is test a m low in
+-- an offset that passes in the prefix is the first of all
+pub first_place-prefix : (test : ℕ → Bool) (a m b : ℕ) → a ≤ m → m ≤ b → first_place test a m < m → first_place test a m ≡ first_place test a b
+first_place-prefix test a m b low high lt =
+    let prefix = first_place-is test a m low in
     same-first test a b (first_place test a m) (first_place test a b)
-    (record { low = front.low; high = omega arith; before = front.before; here = λ _. front.here lt })
+    (record { low = prefix.low; high = omega arith; before = prefix.before; here = λ _. prefix.here lt })
     (first_place-is test a b (omega arith))

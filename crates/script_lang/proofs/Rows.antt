@@ -1,4 +1,4 @@
--- Scripts worked by hand: what the definition says of them.
+-- Scripts worked by hand: what the definition gives for them.
 use Rattle.std.specs.Prelude.{◌≡◌, [], ◌∷◌, ◌++◌, codes, refl}
 use Rattle.script_lang.specs.declared.function.Function.TheVariants.{FileStats, NetStats, Ticks, Unknown}
 use Rattle.script_lang.specs.declared.piece.PieceOf.TheVariants.{Text, Include, Call}

@@ -60,7 +60,7 @@ mark-bytes text p m =
     record {
       inside = elim (cases_lt (p + 1) (length text)) [
         | inl lt ↦ omega arith
-        | inr past ↦ let zero : slice_index text (p + 1) ≡ 0 = get_or_past text (p + 1) 0 past in absurd (omega (arith, zero, bang))
+        | inr history ↦ let zero : slice_index text (p + 1) ≡ 0 = get_or_past text (p + 1) 0 history in absurd (omega (arith, zero, bang))
       ];
       first = ne_eqb (slice_index text p) 10 (λ e. omega (arith, percent, e));
       second = ne_eqb (slice_index text (p + 1)) 10 (λ e. omega (arith, bang, e));
@@ -107,7 +107,7 @@ directive-goes text a m =
     let mark = mark-bytes text a m in
     directive-goes-by text a (line_end text (a + 2)) m mark (first_place-is (is_line_end text) (a + 2) (length text) mark.inside)
 
--- no directive opens where none is open and no `%!` stands
+-- no directive opens if none is open and there is no `%!`
 still-closed : (text : List ℕ) (a b : ℕ) → a ≤ b → is_inside_directive text a ≡ false → ((k : ℕ) → a ≤ k → k < b → is_directive_mark text k ≡ false) → is_inside_directive text b ≡ false
 still-closed text a b le closed none = closed-by text b (λ q o.
     elim (cases_lt q a) [

@@ -1,4 +1,4 @@
--- What a script needs to know of the functions that it can call.
+-- The functions that a script can call, as far as reading a script needs them.
 use Rattle.std.specs.Prelude.{ℕ, Bool, List}
 
 pub record Calling (F : Type 0) : Type 0 where

@@ -1,21 +1,21 @@
--- Where something stands in a script: the first place of a part that passes a test, and the first word of a part.
+-- Offsets in a script: the first offset of a part that passes a test, and the first word of a part.
 use Rattle.std.specs.Prelude.{ℕ, ◌-◌, ◌==◌, Bool, not, List, slice_index, find, unwrap_or, if◌then◌else◌}
 use Rattle.std.specs.List.{range_with_len}
 use Rattle.script_lang.specs.declared.words.Span.{Span}
 
--- the places from a up to before b
+-- the offsets from a up to before b
 abbrev pub places : ℕ → ℕ → List ℕ
 places a b = range_with_len a (b - a)
 
--- the first place from a up to before b that passes the test, else b
+-- the first offset from a up to before b that passes the test, else b
 abbrev pub first_place : (ℕ → Bool) → ℕ → ℕ → ℕ
 first_place test a b = unwrap_or (find test (places a b)) b
 
--- the byte c stands at place p
+-- the byte c is at offset p
 abbrev pub is_byte : List ℕ → ℕ → ℕ → Bool
 is_byte text c p = slice_index text p == c
 
--- the part from a up to before b; both numbers are 0 where it is empty
+-- the part from a up to before b; both numbers are 0 if it is empty
 abbrev pub span : ℕ → ℕ → Span
 span a b = if a == b then record { at = 0; len = 0 } else record { at = a; len = b - a }
 

@@ -1,9 +1,12 @@
+//! The functions of uIP that a script can call.
+
 ghost use Rattle.std.specs.Prelude.{◌≡◌};
 ghost use Rattle.script_lang.specs.Functions.{function_named, length_at_most};
 
 use crate::calls::Calls;
 
 /// A function that a script calls by its name.
+/// [add: function] A variant, its name, its greatest length, and whether it takes a capture.
 #[derive(Clone, Copy, Debug, PartialEq, Eq)]
 pub enum Function {
     /// `file-stats`: the hit count of the file that the argument names.
@@ -14,12 +17,12 @@ pub enum Function {
     NetStats,
     /// `ticks`: the tick count.
     Ticks,
-    /// Any other name, or none: the empty text.
+    /// Any other name, or none: an empty text.
     Unknown,
 }
 
-/// The function of that name.
-#[inline(always)]
+/// Returns the function with this name.
+#[inline(never)]
 pub(crate) fn function_of(name: &[u8]) -> Function
     ensures { result ≡ function_named name.now }
 {
@@ -40,7 +43,8 @@ pub(crate) fn function_of(name: &[u8]) -> Function
     }
 }
 
-/// The greatest length of the text that the function gives, in bytes.
+/// Returns the greatest length of the function's text, in bytes.
+/// [add: counter] The length of the text of all counters: eleven bytes more.
 #[inline(always)]
 pub fn greatest_len(function: Function) -> usize
     ensures { result ≡ length_at_most function }

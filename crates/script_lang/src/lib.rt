@@ -1,6 +1,6 @@
-//! The scripts of the web server's pages: text with directives that begin at `%!` and end with their line. `next_piece`
-//! reads the next text run, include or call from any place of a script that is no inside of a directive, so a page's
-//! thread keeps one number and no table of pieces. No call is given an allocator; that none takes memory is no clause.
+//! The scripts of a site's pages: text with directives that begin at `%!` and end with their line. `next_piece` reads the next
+//! text run, include or call at any offset that is not inside a directive. A page's thread therefore stores one number and no
+//! table of pieces. No call is passed an allocator.
 #![tactic(auto)]
 
 mod calls;

@@ -1,17 +1,19 @@
+//! The pieces of a script, by offsets in its bytes.
+
 use crate::function::Function;
 
-/// A piece of a script, by places of the script's bytes.
+/// A piece of a script, by offsets in the script's bytes.
 #[derive(Clone, Copy, Debug, PartialEq, Eq)]
 pub enum PieceOf<F> {
-    /// A text run: the bytes that are sent as they stand.
+    /// A text run: bytes that are sent unchanged.
     Text { at: usize, len: usize },
-    /// The file whose name stands there; both numbers are 0 where the directive has no name.
+    /// The file with the name at this offset. Both numbers are 0 if the directive has no name.
     Include { at: usize, len: usize },
-    /// What the function gives for the argument that stands there; both numbers are 0 where there is none.
+    /// The function's text for the argument at this offset. Both numbers are 0 if there is no argument.
     Call { function: F, at: usize, len: usize },
 }
 
-/// A piece, and the place directly after it.
+/// A piece, and the offset after it.
 #[derive(Clone, Copy, Debug, PartialEq, Eq)]
 pub struct FoundOf<F> {
     pub piece: PieceOf<F>,
@@ -21,5 +23,5 @@ pub struct FoundOf<F> {
 /// A piece of a script that calls the functions of uIP.
 pub type Piece = PieceOf<Function>;
 
-/// Such a piece, and the place directly after it.
+/// Such a piece, and the offset after it.
 pub type Found = FoundOf<Function>;

@@ -1,3 +1,5 @@
+//! Reads the pieces of a script, from any offset at which a piece can begin.
+
 ghost use Rattle.std.specs.Prelude.{◌≡◌, ◌+◌, ◌<◌, ◌≤◌, ◌↔◌, ◌∷◌, [], length, nat_lt, IsTrue, IsNone, IfSome, MatchOption};
 ghost use Rattle.script_lang.specs.Directives.{IsPlace, is_directive_mark, before_cr, directive_within};
 ghost use Rattle.script_lang.specs.Pieces.{piece_by, pieces_by, pieces_from, run_end, LiesWithin};
@@ -7,14 +9,14 @@ use crate::piece::{Found, FoundOf, PieceOf};
 use crate::search::{byte_from, is_mark_at, mark_from, other_from};
 use crate::words::word_in;
 
-/// The piece from `at` on, and `None` at the text's end. `at` is a place at or inside a text run, at the start of a
-/// directive, or the text's length; inside a text run the piece is the rest of that run.
+/// Returns the piece at `at`, or `None` at the end of the text. `at` is in a text run or at its end, at the start of a
+/// directive, or the length of the text. Inside a text run the piece is the rest of the run.
 #[inline(always)]
 pub fn next_piece_of<F: Calls>(text: &[u8], at: usize) -> Option<FoundOf<F>>
     requires { IsPlace text.now at }
     ensures none { IsNone result ↔ (at ≡ length text.now) }
 
-    // Read from place to place, these are the pieces of the whole text.
+    // Read from offset to offset, these are the pieces of the whole text.
     ensures pieces { MatchOption result (pieces_by F.calling.named text.now at ≡ [])
         (λ found. pieces_by F.calling.named text.now at ≡ found ∷ pieces_by F.calling.named text.now found.next) }
     ensures within { IfSome result (λ found. LiesWithin (length text.now) found.piece) }
@@ -26,13 +28,13 @@ pub fn next_piece_of<F: Calls>(text: &[u8], at: usize) -> Option<FoundOf<F>>
     Some(piece_from::<F>(text, at))
 }
 
-/// The same where a script calls the functions of uIP.
+/// Does the same for a script that calls the functions of uIP.
 #[inline(always)]
 pub fn next_piece(text: &[u8], at: usize) -> Option<Found>
     requires { IsPlace text.now at }
     ensures none { IsNone result ↔ (at ≡ length text.now) }
 
-    // Read from place to place, these are the pieces of the whole text.
+    // Read from offset to offset, these are the pieces of the whole text.
     ensures pieces { MatchOption result (pieces_from text.now at ≡ [])
         (λ found. pieces_from text.now at ≡ found ∷ pieces_from text.now found.next) }
     ensures within { IfSome result (λ found. LiesWithin (length text.now) found.piece) }
@@ -41,7 +43,7 @@ pub fn next_piece(text: &[u8], at: usize) -> Option<Found>
     next_piece_of(text, at)
 }
 
-/// Whether a text run goes on for more than `count` bytes from `at` on. It looks at no byte that is further away.
+/// Returns whether a text run continues for more than `count` bytes after `at`. It reads no byte further away.
 #[inline(always)]
 pub fn runs_past(text: &[u8], at: usize, count: usize) -> bool
     requires { at < length text.now }
@@ -54,7 +56,7 @@ pub fn runs_past(text: &[u8], at: usize, count: usize) -> bool
     mark_from(text, at, end) == end
 }
 
-/// The piece from `at` on.
+/// Returns the piece at `at`.
 #[inline(always)]
 fn piece_from<F: Calls>(text: &[u8], at: usize) -> FoundOf<F>
     requires { at < length text.now }
@@ -69,7 +71,7 @@ fn piece_from<F: Calls>(text: &[u8], at: usize) -> FoundOf<F>
     FoundOf { piece, next }
 }
 
-/// The directive that begins at `at`.
+/// Returns the directive that begins at `at`.
 #[inline(always)]
 fn directive_from<F: Calls>(text: &[u8], at: usize) -> FoundOf<F>
     requires mark { IsTrue (is_directive_mark text.now at) }
@@ -85,7 +87,7 @@ fn directive_from<F: Calls>(text: &[u8], at: usize) -> FoundOf<F>
     FoundOf { piece, next }
 }
 
-/// Where the inner part from `from` on ends, if its line ends at `stop`: there, or at the CR before.
+/// Returns the end of the inner part that begins at `from`, if its line ends at `stop`: there, or at the CR before it.
 #[inline(always)]
 fn without_cr(text: &[u8], from: usize, stop: usize) -> usize
     requires ordered { from ≤ stop }
@@ -100,7 +102,7 @@ fn without_cr(text: &[u8], from: usize, stop: usize) -> usize
     stop
 }
 
-/// The directive whose inner part goes from `from` up to before `to`.
+/// Returns the directive with the inner part from `from` up to before `to`.
 #[inline(always)]
 fn directive_in<F: Calls>(text: &[u8], from: usize, to: usize) -> PieceOf<F>
     requires ordered { from ≤ to }

@@ -1,13 +1,15 @@
+//! Searches a script for a byte, 32 bytes at a time.
+
 ghost use Rattle.std.specs.Prelude.{◌≡◌, ◌+◌, ◌<◌, ◌≤◌, not, length};
 ghost use Rattle.script_lang.specs.Places.{is_byte, first_place};
 ghost use Rattle.script_lang.specs.Directives.{is_directive_mark};
 
 use std::simd::prelude::*;
 
-/// So many bytes are looked at together.
+/// How many bytes are compared at once.
 const LANES: usize = 32;
 
-/// The first place from `from` up to before `to` where `byte` stands, else `to`.
+/// Returns the first offset of `byte` from `from` up to before `to`, else `to`.
 #[inline(never)]
 pub(crate) fn byte_from(text: &[u8], byte: u8, from: usize, to: usize) -> usize
     requires ordered { from ≤ to }
@@ -27,7 +29,7 @@ pub(crate) fn byte_from(text: &[u8], byte: u8, from: usize, to: usize) -> usize
     byte_one_by_one(text, byte, at, to)
 }
 
-/// The same of the lanes from a place on.
+/// Does the same for the lanes from an offset on.
 #[inline(always)]
 fn byte_in_lanes(text: &[u8], byte: u8, at: usize) -> usize
     requires { at + LANES ≤ length text.now }
@@ -41,7 +43,7 @@ fn byte_in_lanes(text: &[u8], byte: u8, at: usize) -> usize
     at + mask.trailing_zeros() as usize
 }
 
-/// The same of a few bytes, one by one.
+/// Does the same for a few bytes, one by one.
 #[inline(always)]
 fn byte_one_by_one(text: &[u8], byte: u8, from: usize, to: usize) -> usize
     requires ordered { from ≤ to }
@@ -58,7 +60,7 @@ fn byte_one_by_one(text: &[u8], byte: u8, from: usize, to: usize) -> usize
     to
 }
 
-/// The first place from `from` up to before `to` where another byte than `byte` stands, else `to`.
+/// Returns the first offset of another byte than `byte` from `from` up to before `to`, else `to`.
 #[inline(always)]
 pub(crate) fn other_from(text: &[u8], byte: u8, from: usize, to: usize) -> usize
     requires ordered { from ≤ to }
@@ -75,7 +77,7 @@ pub(crate) fn other_from(text: &[u8], byte: u8, from: usize, to: usize) -> usize
     to
 }
 
-/// Whether `%!` stands at the place.
+/// Returns whether `%!` is at the offset.
 #[inline(always)]
 pub(crate) fn is_mark_at(text: &[u8], at: usize) -> bool
     requires { at < length text.now }
@@ -84,7 +86,7 @@ pub(crate) fn is_mark_at(text: &[u8], at: usize) -> bool
     text[at] == b'%' && text.len() - at > 1 && text[at + 1] == b'!'
 }
 
-/// The first place from `from` up to before `to` where `%!` stands, else `to`.
+/// Returns the first offset of `%!` from `from` up to before `to`, else `to`.
 #[inline(always)]
 pub(crate) fn mark_from(text: &[u8], from: usize, to: usize) -> usize
     requires ordered { from ≤ to }

@@ -3,15 +3,15 @@ ghost use Rattle.script_lang.specs.Places.{word};
 
 use crate::search::{byte_from, other_from};
 
-/// A part of a script. Both numbers are 0 where it is empty.
+/// A part of a script. Both numbers are 0 if it is empty.
 #[derive(Clone, Copy)]
 pub(crate) struct Span {
     pub at: usize,
     pub len: usize,
 }
 
-/// The first word of the part from `from` up to before `to`; words are parted by spaces.
-#[inline(always)]
+/// Returns the first word of the part from `from` up to before `to`. Spaces separate words.
+#[inline(never)]
 pub(crate) fn word_in(text: &[u8], from: usize, to: usize) -> Span
     requires ordered { from ≤ to }
     requires inside { to ≤ length text.now }

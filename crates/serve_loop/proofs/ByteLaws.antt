@@ -1,4 +1,4 @@
--- What a serial line brings is bytes.
+-- A serial line decodes to bytes.
 use Rattle.std.specs.List.{All}
 use Rattle.std.proofs.Common.{ℕ, ◌<◌, List, [], ◌∷◌, ◌++◌, length, map, sym, subst, arith, eqb, nat_le, append_assoc, append-nil}
 use Rattle.std.proofs.lemmas.List.Elements.{All-append, All-cons, All-head, All-nil, All-tail}
@@ -8,7 +8,7 @@ use Rattle.uip_slip.specs.Frames.{Frame, Datagram, Overlong, frame_of, meant, op
 use Rattle.uip_slip.proofs.PartLaws.{open_part-end, open_part-plain, parts-byte}
 use Rattle.uip_node.proofs.Basics.{both_ways, choose}
 use Rattle.serve_loop.specs.Items.{BringsBytes, CarriesBytes}
-use Rattle.serve_loop.specs.SlipWay.{came_by, slip_way}
+use Rattle.serve_loop.specs.SerialMedium.{came_by, slip_medium}
 
 meant_low : (b : ℕ) → b < 256 → meant b < 256
 meant_low b h = choose (λ x. x < 256) (eqb b 220) _ _ (λ e. omega arith) (λ e. choose (λ x. x < 256) (eqb b 221) _ _ (λ f. omega arith) (λ f. h))
@@ -28,11 +28,11 @@ open_low before b low h = both_ways (eqb b 192)
     (λ e. subst (λ l. All IsByte l) (sym (open_part-end before b e)) (All-nil IsByte))
     (λ e. subst (λ l. All IsByte l) (sym (open_part-plain before (b ∷ []) (parts-byte b e))) (All-append IsByte (open_part before) (b ∷ []) h (All-cons IsByte b [] low (All-nil IsByte))))
 
-open_behind : (before bytes : List ℕ) → All IsByte (open_part before) → All IsByte bytes → All IsByte (open_part (before ++ bytes))
-open_behind before [] h a = subst (λ l. All IsByte (open_part l)) (sym (append-nil before)) h
-open_behind before (b ∷ bytes) h a =
+opened_later : (before bytes : List ℕ) → All IsByte (open_part before) → All IsByte bytes → All IsByte (open_part (before ++ bytes))
+opened_later before [] h a = subst (λ l. All IsByte (open_part l)) (sym (append-nil before)) h
+opened_later before (b ∷ bytes) h a =
     subst (λ l. All IsByte (open_part l)) (append_assoc before (b ∷ []) bytes)
-    (open_behind (before ++ b ∷ []) bytes (open_low before b (All-head IsByte b bytes a) h) (All-tail IsByte b bytes a))
+    (opened_later (before ++ b ∷ []) bytes (open_low before b (All-head IsByte b bytes a) h) (All-tail IsByte b bytes a))
 
 frame_bytes : (xs : List ℕ) → All IsByte xs → All CarriesBytes (map came_by (frame_of xs))
 frame_bytes [] h = All-nil CarriesBytes
@@ -41,8 +41,8 @@ frame_bytes (b ∷ bytes) h =
     (λ e. All-cons CarriesBytes (came_by (Datagram (b ∷ bytes))) [] h (All-nil CarriesBytes))
     (λ e. All-cons CarriesBytes (came_by Overlong) [] tt (All-nil CarriesBytes))
 
-pub slip_brings_bytes : BringsBytes slip_way
+pub slip_brings_bytes : BringsBytes slip_medium
 slip_brings_bytes before b a low =
     choose (λ (l : List Frame). All CarriesBytes (map came_by l)) (eqb b 192) _ _
-    (λ e. frame_bytes (unescaped (open_part before)) (unescaped_low (open_part before) (open_behind [] before (All-nil IsByte) a)))
+    (λ e. frame_bytes (unescaped (open_part before)) (unescaped_low (open_part before) (opened_later [] before (All-nil IsByte) a)))
     (λ e. All-nil CarriesBytes)

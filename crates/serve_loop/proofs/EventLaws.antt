@@ -1,12 +1,12 @@
--- What items do behind others, and what bytes do of which the last alone may make a tick.
+-- The events of items after others, and of bytes of which only the last may make a tick.
 use Rattle.std.proofs.Common.{◌≡◌, ℕ, ◌+◌, ◌<◌, false, List, [], ◌∷◌, ◌++◌, if◌then◌else◌, length, map, sym, ap, ◌∙◌, append-nil, append_assoc, arith, length-append, subst}
 use Rattle.std.proofs.lemmas.List.{map-append}
 use Rattle.uip_wire.specs.declared.addr.Addr.{Addr}
 use Rattle.uip_edge.specs.declared.item.Item.{Item}
 use Rattle.uip_edge.specs.declared.item.Item.TheVariants.{Byte, Quiet}
-use Rattle.serve_loop.specs.LineDeeds.{beat_on, deed_by, deeds_behind, tick_on}
+use Rattle.serve_loop.specs.LineStationEvents.{beat_on, station_event_by, station_events_after, tick_on}
 use Rattle.serve_loop.specs.Pace.{is_beat}
-use Rattle.line_medium.specs.Ways.{Way, all_brought}
+use Rattle.line_medium.specs.Media.{MediumSpec, all_decoded}
 use Rattle.uip_edge.specs.Coming.{bytes_among}
 use Rattle.uip_edge.proofs.Told.{bytes_among-map}
 
@@ -18,50 +18,50 @@ silent_rest : (pace before count more : ℕ) → more ≡ count + 1 → IsSilent
 silent_rest pace before count more size silent k some within =
     ap (λ n. is_beat pace n) (omega arith) ∙ silent (k + 1) (omega arith) (omega arith)
 
-module _ {C : Type 0} (w : Way C) (own : Addr) where
+module _ {C : Type 0} (w : MediumSpec C) (own : Addr) where
   -- the items of further ones follow
   pub events-then : (pace : ℕ) (before : List ℕ) (xs ys : List Item)
-      → deeds_behind w own pace before (xs ++ ys) ≡ deeds_behind w own pace before xs ++ deeds_behind w own pace (before ++ bytes_among xs) ys
-  events-then pace before [] ys = ap (λ l. deeds_behind w own pace l ys) (sym (append-nil before))
+      → station_events_after w own pace before (xs ++ ys) ≡ station_events_after w own pace before xs ++ station_events_after w own pace (before ++ bytes_among xs) ys
+  events-then pace before [] ys = ap (λ l. station_events_after w own pace l ys) (sym (append-nil before))
   events-then pace before (Byte b ∷ xs) ys =
-      let frame = map (deed_by own) (w.brings before b) in
+      let frame = map (station_event_by own) (w.decodes before b) in
       let more = beat_on w pace (length before + 1) in
       let behind = before ++ b ∷ [] in
       ap (λ l. frame ++ more ++ l) (events-then pace behind xs ys)
-      ∙ ap (λ l. frame ++ more ++ (deeds_behind w own pace behind xs ++ deeds_behind w own pace l ys)) (append_assoc before (b ∷ []) (bytes_among xs))
-      ∙ sym (append_assoc (frame ++ more) (deeds_behind w own pace behind xs) (deeds_behind w own pace (before ++ b ∷ bytes_among xs) ys))
+      ∙ ap (λ l. frame ++ more ++ (station_events_after w own pace behind xs ++ station_events_after w own pace l ys)) (append_assoc before (b ∷ []) (bytes_among xs))
+      ∙ sym (append_assoc (frame ++ more) (station_events_after w own pace behind xs) (station_events_after w own pace (before ++ b ∷ bytes_among xs) ys))
   events-then pace before (Quiet ∷ xs) ys =
       ap (λ l. tick_on w ++ l) (events-then pace before xs ys)
-      ∙ sym (append_assoc (tick_on w) (deeds_behind w own pace before xs) (deeds_behind w own pace (before ++ bytes_among xs) ys))
+      ∙ sym (append_assoc (tick_on w) (station_events_after w own pace before xs) (station_events_after w own pace (before ++ bytes_among xs) ys))
 
   -- bytes and then others
   pub events-bytes : (pace : ℕ) (before xs ys : List ℕ)
-      → deeds_behind w own pace before (map Byte (xs ++ ys)) ≡ deeds_behind w own pace before (map Byte xs) ++ deeds_behind w own pace (before ++ xs) (map Byte ys)
+      → station_events_after w own pace before (map Byte (xs ++ ys)) ≡ station_events_after w own pace before (map Byte xs) ++ station_events_after w own pace (before ++ xs) (map Byte ys)
   events-bytes pace before xs ys =
-      ap (λ l. deeds_behind w own pace before l) (map-append Byte xs ys)
+      ap (λ l. station_events_after w own pace before l) (map-append Byte xs ys)
       ∙ events-then pace before (map Byte xs) (map Byte ys)
-      ∙ ap (λ l. deeds_behind w own pace before (map Byte xs) ++ deeds_behind w own pace (before ++ l) (map Byte ys)) (bytes_among-map xs)
+      ∙ ap (λ l. station_events_after w own pace before (map Byte xs) ++ station_events_after w own pace (before ++ l) (map Byte ys)) (bytes_among-map xs)
 
   silent_first : (pace before count : ℕ) → 1 < count → IsSilent pace before count → beat_on w pace (before + 1) ≡ []
   silent_first pace before count more silent = ap (λ b. if b then tick_on w else []) (silent 1 (omega arith) more)
 
   -- such bytes do what they bring, and then the tick that the last one makes
   pub events-run : (pace : ℕ) (before bytes : List ℕ) → 0 < length bytes → IsSilent pace (length before) (length bytes)
-      → deeds_behind w own pace before (map Byte bytes) ≡ map (deed_by own) (all_brought w before bytes) ++ beat_on w pace (length before + length bytes)
+      → station_events_after w own pace before (map Byte bytes) ≡ map (station_event_by own) (all_decoded w before bytes) ++ beat_on w pace (length before + length bytes)
   events-run pace before [] some silent = absurd (omega arith)
   events-run pace before (b ∷ []) some silent =
-      append-nil (map (deed_by own) (w.brings before b) ++ beat_on w pace (length before + 1))
-      ∙ ap (λ l. map (deed_by own) l ++ beat_on w pace (length before + 1)) (sym (append-nil (w.brings before b)))
+      append-nil (map (station_event_by own) (w.decodes before b) ++ beat_on w pace (length before + 1))
+      ∙ ap (λ l. map (station_event_by own) l ++ beat_on w pace (length before + 1)) (sym (append-nil (w.decodes before b)))
   events-run pace before (b ∷ c ∷ bytes) some silent =
       let behind = before ++ b ∷ [] in
       let rest = c ∷ bytes in
-      let this = w.brings before b in
+      let this = w.decodes before b in
       let size : length behind ≡ length before + 1 = length-append before (b ∷ []) in
       let quiet : IsSilent pace (length behind) (length rest) =
       subst (λ (n : ℕ). IsSilent pace n (length rest)) (sym size) (silent_rest pace (length before) (length rest) (length (b ∷ rest)) (omega arith) silent) in
-      ap (λ l. (map (deed_by own) this ++ l) ++ deeds_behind w own pace behind (map Byte rest)) (silent_first pace (length before) (length (b ∷ rest)) (omega arith) silent)
-      ∙ ap (λ l. l ++ deeds_behind w own pace behind (map Byte rest)) (append-nil (map (deed_by own) this))
-      ∙ ap (λ l. map (deed_by own) this ++ l) (events-run pace behind (c ∷ bytes) (omega arith) quiet)
-      ∙ ap (λ n. map (deed_by own) this ++ (map (deed_by own) (all_brought w behind rest) ++ beat_on w pace n)) (omega (arith, size))
-      ∙ sym (append_assoc (map (deed_by own) this) (map (deed_by own) (all_brought w behind rest)) (beat_on w pace (length before + length (b ∷ rest))))
-      ∙ ap (λ l. l ++ beat_on w pace (length before + length (b ∷ rest))) (sym (map-append (deed_by own) this (all_brought w behind rest)))
+      ap (λ l. (map (station_event_by own) this ++ l) ++ station_events_after w own pace behind (map Byte rest)) (silent_first pace (length before) (length (b ∷ rest)) (omega arith) silent)
+      ∙ ap (λ l. l ++ station_events_after w own pace behind (map Byte rest)) (append-nil (map (station_event_by own) this))
+      ∙ ap (λ l. map (station_event_by own) this ++ l) (events-run pace behind (c ∷ bytes) (omega arith) quiet)
+      ∙ ap (λ n. map (station_event_by own) this ++ (map (station_event_by own) (all_decoded w behind rest) ++ beat_on w pace n)) (omega (arith, size))
+      ∙ sym (append_assoc (map (station_event_by own) this) (map (station_event_by own) (all_decoded w behind rest)) (beat_on w pace (length before + length (b ∷ rest))))
+      ∙ ap (λ l. l ++ beat_on w pace (length before + length (b ∷ rest))) (sym (map-append (station_event_by own) this (all_decoded w behind rest)))

@@ -1,7 +1,7 @@
 pub mod AddrLaws
 pub mod ByteLaws
 pub mod EventLaws
-pub mod FrontLaws
+pub mod PrefixLaws
 pub mod NodeLaws
 pub mod PaceLaws
 pub mod RunLaws

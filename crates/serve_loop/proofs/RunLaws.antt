@@ -1,103 +1,103 @@
--- A run over deeds, put together from its parts.
+-- A run over events, put together from its parts.
 use Rattle.std.proofs.Common.{◌≡◌, ℕ, Bool, List, [], ◌∷◌, ◌++◌, Option, None, Some, refl, sym, ap, ◌∙◌, append-nil, append_assoc, subst}
 use Rattle.std.specs.Io.KnownBytes.{Appends}
 use Rattle.uip_wire.specs.declared.addr.Addr.{Addr}
-use Rattle.app_events.specs.Part.{Meaning}
+use Rattle.app_events.specs.AppSpec.{AppSpec}
 use Rattle.uip_edge.specs.Writing.{BreaksOff}
 use Rattle.uip_edge.proofs.Breaking.{breaks_by, breaks_then}
 use Rattle.uip_edge.proofs.Told.{Appends-then, appends_by, Appends-none}
 use Rattle.uip_node.specs.Events.{Event, Reply}
 use Rattle.uip_node.specs.Node.{AbstractNode, NodeStep, Ran, joined, run, step}
 use Rattle.serve_loop.specs.Texts.{text_for, text_of}
-use Rattle.serve_loop.specs.DeedRuns.{FrontSaid, Deed, Station, StopsIn, AllSaid, after_deeds, after_deed, said, said_by_deed}
-use Rattle.line_medium.specs.Ways.{Way}
+use Rattle.serve_loop.specs.StationRuns.{PrefixWritten, StationEvent, Station, StopsIn, AllSaid, station_after_all, station_after, output, output_of_event}
+use Rattle.line_medium.specs.Media.{MediumSpec}
 
-module _ {A : Type 0} (m : Meaning) (served : ℕ → Bool) (w : Way A) (own : Addr) where
-  after-append : (xs ys : List (Deed A)) (s : Station A) → after_deeds m served (xs ++ ys) s ≡ after_deeds m served ys (after_deeds m served xs s)
+module _ {A : Type 0} (m : AppSpec) (served : ℕ → Bool) (w : MediumSpec A) (own : Addr) where
+  after-append : (xs ys : List (StationEvent A)) (s : Station A) → station_after_all m served (xs ++ ys) s ≡ station_after_all m served ys (station_after_all m served xs s)
   after-append [] ys s = refl
-  after-append (x ∷ xs) ys s = after-append xs ys (after_deed m served s x)
+  after-append (x ∷ xs) ys s = after-append xs ys (station_after m served s x)
 
-  pub said-append : (xs ys : List (Deed A)) (s : Station A)
-      → said m served w own (xs ++ ys) s ≡ said m served w own xs s ++ said m served w own ys (after_deeds m served xs s)
-  said-append [] ys s = refl
-  said-append (x ∷ xs) ys s =
-      let next = after_deed m served s x in
-      ap (λ l. said_by_deed m served w own s x ++ l) (said-append xs ys next)
-      ∙ sym (append_assoc (said_by_deed m served w own s x) (said m served w own xs next) (said m served w own ys (after_deeds m served xs next)))
+  pub output-append : (xs ys : List (StationEvent A)) (s : Station A)
+      → output m served w own (xs ++ ys) s ≡ output m served w own xs s ++ output m served w own ys (station_after_all m served xs s)
+  output-append [] ys s = refl
+  output-append (x ∷ xs) ys s =
+      let next = station_after m served s x in
+      ap (λ l. output_of_event m served w own s x ++ l) (output-append xs ys next)
+      ∙ sym (append_assoc (output_of_event m served w own s x) (output m served w own xs next) (output m served w own ys (station_after_all m served xs next)))
 
-  pub wrote_by : (xs ys : List (Deed A)) (P Q : Station A → Type 0) (a b : Option (List ℕ)) → xs ≡ ys → AllSaid m served w own ys P Q a b → AllSaid m served w own xs P Q a b
-  wrote_by xs ys P Q a b e v = subst (λ (l : List (Deed A)). AllSaid m served w own l P Q a b) (sym e) v
+  pub wrote_by : (xs ys : List (StationEvent A)) (P Q : Station A → Type 0) (a b : Option (List ℕ)) → xs ≡ ys → AllSaid m served w own ys P Q a b → AllSaid m served w own xs P Q a b
+  wrote_by xs ys P Q a b e v = subst (λ (l : List (StationEvent A)). AllSaid m served w own l P Q a b) (sym e) v
 
-  pub broke_by : (xs ys : List (Deed A)) (P Q : Station A → Type 0) (a b : Option (List ℕ)) → xs ≡ ys → FrontSaid m served w own ys P Q a b → FrontSaid m served w own xs P Q a b
-  broke_by xs ys P Q a b e v = subst (λ (l : List (Deed A)). FrontSaid m served w own l P Q a b) (sym e) v
+  pub broke_by : (xs ys : List (StationEvent A)) (P Q : Station A → Type 0) (a b : Option (List ℕ)) → xs ≡ ys → PrefixWritten m served w own ys P Q a b → PrefixWritten m served w own xs P Q a b
+  broke_by xs ys P Q a b e v = subst (λ (l : List (StationEvent A)). PrefixWritten m served w own l P Q a b) (sym e) v
 
   -- nothing happened
   pub wrote_none : (P Q : Station A → Type 0) (a : Option (List ℕ)) → ((s : Station A) → P s → Q s) → AllSaid m served w own [] P Q a a
   wrote_none P Q a on = record { each = λ s p. (on s p, Appends-none a) }
 
   -- one deed
-  one_text : (x : Deed A) (s : Station A) → said m served w own (x ∷ []) s ≡ said_by_deed m served w own s x
-  one_text x s = append-nil (said_by_deed m served w own s x)
+  one_text : (x : StationEvent A) (s : Station A) → output m served w own (x ∷ []) s ≡ output_of_event m served w own s x
+  one_text x s = append-nil (output_of_event m served w own s x)
 
-  pub wrote_one : (x : Deed A) (P Q : Station A → Type 0) (a b : Option (List ℕ))
-      → ((s : Station A) → P s → Q (after_deed m served s x) × Appends a b (said_by_deed m served w own s x))
+  pub wrote_one : (x : StationEvent A) (P Q : Station A → Type 0) (a b : Option (List ℕ))
+      → ((s : Station A) → P s → Q (station_after m served s x) × Appends a b (output_of_event m served w own s x))
       → AllSaid m served w own (x ∷ []) P Q a b
   wrote_one x P Q a b f = record { each = λ s p. ((f s p).0, appends_by a b _ _ (one_text x s) (f s p).1) }
 
-  pub broke_one : (x : Deed A) (P Q : Station A → Type 0) (a b : Option (List ℕ))
-      → ((s : Station A) → P s → Q (after_deed m served s x) × BreaksOff [] (said_by_deed m served w own s x) a b)
-      → FrontSaid m served w own (x ∷ []) P Q a b
+  pub broke_one : (x : StationEvent A) (P Q : Station A → Type 0) (a b : Option (List ℕ))
+      → ((s : Station A) → P s → Q (station_after m served s x) × BreaksOff [] (output_of_event m served w own s x) a b)
+      → PrefixWritten m served w own (x ∷ []) P Q a b
   broke_one x P Q a b f =
       record { each = λ s p. record { done = []; last = x; later = []; split = refl; after = (f s p).0; broke = (f s p).1 } }
 
   -- deeds, and then others
-  pub wrote_then : (xs ys : List (Deed A)) (P Q R : Station A → Type 0) (a b c : Option (List ℕ)) → AllSaid m served w own xs P Q a b → AllSaid m served w own ys Q R b c
+  pub wrote_then : (xs ys : List (StationEvent A)) (P Q R : Station A → Type 0) (a b c : Option (List ℕ)) → AllSaid m served w own xs P Q a b → AllSaid m served w own ys Q R b c
       → AllSaid m served w own (xs ++ ys) P R a c
   wrote_then xs ys P Q R a b c u v = record {
     each = λ s p.
-        let mid : Station A = after_deeds m served xs s in
+        let mid : Station A = station_after_all m served xs s in
         let first = u.each s p in
         let more = v.each mid first.0 in (
           subst (λ (k : Station A). R k) (sym (after-append xs ys s)) more.0,
-          appends_by a c _ _ (said-append xs ys s) (Appends-then a b c _ _ first.1 more.1),
+          appends_by a c _ _ (output-append xs ys s) (Appends-then a b c _ _ first.1 more.1),
         );
   }
 
-  stops_then : (xs ys : List (Deed A)) (R : Station A → Type 0) (a b c : Option (List ℕ)) (s : Station A) → Appends a b (said m served w own xs s)
-      → StopsIn m served w own ys R b c (after_deeds m served xs s) → StopsIn m served w own (xs ++ ys) R a c s
+  stops_then : (xs ys : List (StationEvent A)) (R : Station A → Type 0) (a b c : Option (List ℕ)) (s : Station A) → Appends a b (output m served w own xs s)
+      → StopsIn m served w own ys R b c (station_after_all m served xs s) → StopsIn m served w own (xs ++ ys) R a c s
   stops_then xs ys R a b c s first more = record {
     done = xs ++ more.done;
     last = more.last;
     later = more.later;
     split = ap (λ l. xs ++ l) more.split ∙ sym (append_assoc xs more.done (more.last ∷ more.later));
     after = subst (λ (k : Station A). R k)
-        (sym (ap (λ (l : List (Deed A)). after_deeds m served l s) (append_assoc xs more.done (more.last ∷ [])) ∙ after-append xs (more.done ++ more.last ∷ []) s))
+        (sym (ap (λ (l : List (StationEvent A)). station_after_all m served l s) (append_assoc xs more.done (more.last ∷ [])) ∙ after-append xs (more.done ++ more.last ∷ []) s))
         more.after;
-    broke = breaks_by _ _ _ _ a c (said-append xs more.done s)
-        (ap (λ (k : Station A). said_by_deed m served w own k more.last) (after-append xs more.done s))
-        (breaks_then (said m served w own xs s) _ _ a b c first more.broke);
+    broke = breaks_by _ _ _ _ a c (output-append xs more.done s)
+        (ap (λ (k : Station A). output_of_event m served w own k more.last) (after-append xs more.done s))
+        (breaks_then (output m served w own xs s) _ _ a b c first more.broke);
   }
 
-  pub broke_then : (xs ys : List (Deed A)) (P Q R : Station A → Type 0) (a b c : Option (List ℕ)) → AllSaid m served w own xs P Q a b → FrontSaid m served w own ys Q R b c
-      → FrontSaid m served w own (xs ++ ys) P R a c
+  pub broke_then : (xs ys : List (StationEvent A)) (P Q R : Station A → Type 0) (a b c : Option (List ℕ)) → AllSaid m served w own xs P Q a b → PrefixWritten m served w own ys Q R b c
+      → PrefixWritten m served w own (xs ++ ys) P R a c
   broke_then xs ys P Q R a b c u v = record {
-    each = λ s p. let first = u.each s p in stops_then xs ys R a b c s first.1 (v.each (after_deeds m served xs s) first.0);
+    each = λ s p. let first = u.each s p in stops_then xs ys R a b c s first.1 (v.each (station_after_all m served xs s) first.0);
   }
 
   -- further deeds that are not reached
-  stops_more : (xs ys : List (Deed A)) (Q : Station A → Type 0) (a b : Option (List ℕ)) (s : Station A) → StopsIn m served w own xs Q a b s → StopsIn m served w own (xs ++ ys) Q a b s
+  stops_more : (xs ys : List (StationEvent A)) (Q : Station A → Type 0) (a b : Option (List ℕ)) (s : Station A) → StopsIn m served w own xs Q a b s → StopsIn m served w own (xs ++ ys) Q a b s
   stops_more xs ys Q a b s it =
       let split = ap (λ l. l ++ ys) it.split ∙ append_assoc it.done (it.last ∷ it.later) ys in
       record { done = it.done; last = it.last; later = it.later ++ ys; split = split; after = it.after; broke = it.broke }
 
-  pub broke_more : (xs ys : List (Deed A)) (P Q : Station A → Type 0) (a b : Option (List ℕ)) → FrontSaid m served w own xs P Q a b → FrontSaid m served w own (xs ++ ys) P Q a b
+  pub broke_more : (xs ys : List (StationEvent A)) (P Q : Station A → Type 0) (a b : Option (List ℕ)) → PrefixWritten m served w own xs P Q a b → PrefixWritten m served w own (xs ++ ys) P Q a b
   broke_more xs ys P Q a b v = record { each = λ s p. stops_more xs ys Q a b s (v.each s p) }
 
   -- a stronger property before
-  pub wrote_from : (xs : List (Deed A)) (O P Q : Station A → Type 0) (a b : Option (List ℕ)) → ((s : Station A) → O s → P s) → AllSaid m served w own xs P Q a b → AllSaid m served w own xs O Q a b
+  pub wrote_from : (xs : List (StationEvent A)) (O P Q : Station A → Type 0) (a b : Option (List ℕ)) → ((s : Station A) → O s → P s) → AllSaid m served w own xs P Q a b → AllSaid m served w own xs O Q a b
   wrote_from xs O P Q a b on v = record { each = λ s p. v.each s (on s p) }
 
-  pub broke_from : (xs : List (Deed A)) (O P Q : Station A → Type 0) (a b : Option (List ℕ)) → ((s : Station A) → O s → P s) → FrontSaid m served w own xs P Q a b → FrontSaid m served w own xs O Q a b
+  pub broke_from : (xs : List (StationEvent A)) (O P Q : Station A → Type 0) (a b : Option (List ℕ)) → ((s : Station A) → O s → P s) → PrefixWritten m served w own xs P Q a b → PrefixWritten m served w own xs O Q a b
   broke_from xs O P Q a b on v = record { each = λ s p. v.each s (on s p) }
 
 -- the same of a serial line's texts
@@ -105,7 +105,7 @@ pub text_of-joined : (own : Addr) (o : Option Reply) (rest : List Reply) → tex
 text_of-joined own None rest = refl
 text_of-joined own (Some reply) rest = refl
 
-module _ (m : Meaning) (served : ℕ → Bool) (own : Addr) where
+module _ (m : AppSpec) (served : ℕ → Bool) (own : Addr) where
   pub run-text-append : (xs ys : List Event) (n : AbstractNode)
       → text_of own (run m served (xs ++ ys) n).sent ≡ text_of own (run m served xs n).sent ++ text_of own (run m served ys (run m served xs n).node).sent
   run-text-append [] ys n = refl

@@ -3,7 +3,7 @@ use Rattle.std.proofs.Common.{refl, sym, ◌≡◌, ℕ, ◌+◌, ◌<◌, ◌�
 use Rattle.std.specs.List.{All}
 use Rattle.std.proofs.lemmas.List.Elements.{All-append}
 use Rattle.uip_wire.specs.declared.addr.Addr.{Addr}
-use Rattle.app_events.specs.Part.{Meaning}
+use Rattle.app_events.specs.AppSpec.{AppSpec}
 use Rattle.app_events.specs.declared.app.App.{Ghosts}
 use Rattle.uip_edge.specs.declared.item.Item.{Item}
 use Rattle.uip_edge.specs.declared.serve_end.ServeEnd.{ServeEnd}
@@ -16,26 +16,26 @@ use Rattle.uip_node.specs.State.{Node}
 use Rattle.line_medium.specs.declared.medium.Medium.{Ghosts as MediumGhosts}
 use Rattle.serve_loop.specs.declared.pacer.Pacer.{Pacer}
 use Rattle.serve_loop.specs.Items.{IsItem}
-use Rattle.serve_loop.specs.LineDeeds.{deeds_behind, line_deeds}
-use Rattle.serve_loop.specs.DeedRuns.{Deed, Station, AllSaid}
-use Rattle.line_medium.specs.Ways.{Way}
-use Rattle.serve_loop.specs.DeedServing.{IsStationed, SaidBy, ServesOver}
+use Rattle.serve_loop.specs.LineStationEvents.{station_events_after, station_events_of_line}
+use Rattle.serve_loop.specs.StationRuns.{StationEvent, Station, AllSaid}
+use Rattle.line_medium.specs.Media.{MediumSpec}
+use Rattle.serve_loop.specs.StationServing.{IsStationed, SaidBy, ServesOver}
 use Rattle.serve_loop.specs.Turns.{IsHere, Turns}
 use Rattle.serve_loop.proofs.EventLaws.{events-then}
 use Rattle.serve_loop.proofs.RunLaws.{broke_by, broke_then, wrote_by, wrote_then}
-use Rattle.uip_edge.specs.Told.{IsCalm, LineTold, LineUnfailed}
+use Rattle.uip_edge.specs.Views.{IsCalm, LineView, LineUnfailed}
 use Rattle.uip_edge.specs.Ending.{EndsBy}
 
 -- what was written up to such an end
-written_by : {C : Type 0} (m : Meaning) (served : ℕ → Bool) (w : Way C) (own : Addr) (xs ys zs : List (Deed C)) (P Q R : Station C → Type 0) (a b c : Option (List ℕ)) (end : ServeEnd)
+written_by : {C : Type 0} (m : AppSpec) (served : ℕ → Bool) (w : MediumSpec C) (own : Addr) (xs ys zs : List (StationEvent C)) (P Q R : Station C → Type 0) (a b c : Option (List ℕ)) (end : ServeEnd)
     → zs ≡ xs ++ ys → AllSaid m served w own xs P Q a b → SaidBy end m served w own ys Q R b c → SaidBy end m served w own zs P R a c
 written_by m served w own xs ys zs P Q R a b c ends.End e u v = wrote_by m served w own _ _ _ _ _ _ e (wrote_then m served w own xs ys P Q R a b c u v)
 written_by m served w own xs ys zs P Q R a b c ends.LinkFault e u v = wrote_by m served w own _ _ _ _ _ _ e (wrote_then m served w own xs ys P Q R a b c u v)
 written_by m served w own xs ys zs P Q R a b c ends.Budget e u v = wrote_by m served w own _ _ _ _ _ _ e (wrote_then m served w own xs ys P Q R a b c u v)
 written_by m served w own xs ys zs P Q R a b c ends.WriteFault e u v = broke_by m served w own _ _ _ _ _ _ e (broke_then m served w own xs ys P Q R a b c u v)
 
--- an end that no fault brought is the link's, where fewer items are told than are allowed
-pub end_told : (n : ℕ) (old new : LineTold) (all taken : List Item) (end : ServeEnd) → old.link.coming ≡ Some all → length all < n
+-- an end without a fault is the link's, if fewer items are known than are allowed
+pub end_told : (n : ℕ) (old new : LineView) (all taken : List Item) (end : ServeEnd) → old.link.coming ≡ Some all → length all < n
     → Consumes old.link.coming new.link.coming taken → EndsBy n old new taken end → LineUnfailed old new → end ≡ ends.End
 end_told n old new all taken ends.End told short c e calm = refl
 end_told n old new all taken ends.Budget told short c e calm =
@@ -43,71 +43,71 @@ end_told n old new all taken ends.Budget told short c e calm =
 end_told n old new all taken ends.LinkFault told short c e calm = absurd (omega (arith, e.1, calm.link.same, calm.link.below))
 end_told n old new all taken ends.WriteFault told short c e calm = absurd (omega (arith, e.2, calm.sink.same, calm.sink.below))
 
-module _ {A S : Type 0} (g : Ghosts A S) {C : Type 0} (w : Way C) where
-  abbrev At : (List C → Type 0) → Meaning → Addr → Node A S → Station C → Type 0
+module _ {A S : Type 0} (g : Ghosts A S) {C : Type 0} (w : MediumSpec C) where
+  abbrev At : (List C → Type 0) → AppSpec → Addr → Node A S → Station C → Type 0
   At did m own node s = IsHere g did m own node s
 
-  -- a node stands in the public sense where it stands with its meaning and its address
-  enters : (did : List C → Type 0) (node : Node A S) (s : Station C) → IsStationed g did node s → At did (g.meaning (g.kept node.shared)) node.addr node s
+  -- a node represents one in the public sense if it does with its specification and its address
+  enters : (did : List C → Type 0) (node : Node A S) (s : Station C) → IsStationed g did node s → At did (g.app_spec (g.config node.shared)) node.addr node s
   enters did node s p = record { stands = record { meant = refl; address = sym p.stands.addr; stands = p.stands }; acted = p.acted }
 
-  leaves : (did : List C → Type 0) (m : Meaning) (own : Addr) (node : Node A S) (s : Station C) → At did m own node s → IsStationed g did node s
+  leaves : (did : List C → Type 0) (m : AppSpec) (own : Addr) (node : Node A S) (s : Station C) → At did m own node s → IsStationed g did node s
   leaves did m own node s p = record { stands = p.stands.stands; acted = p.acted }
 
-  all_public : (did did' : List C → Type 0) (deeds : List (Deed C)) (before after : Node A S) (a b : Option (List ℕ))
-      → AllSaid (g.meaning (g.kept before.shared)) g.served w before.addr deeds (At did (g.meaning (g.kept before.shared)) before.addr before) (At did' (g.meaning (g.kept before.shared)) before.addr after) a b
-      → AllSaid (g.meaning (g.kept before.shared)) g.served w before.addr deeds (IsStationed g did before) (IsStationed g did' after) a b
-  all_public did did' deeds before after a b v = record { each = λ s p. let it = v.each s (enters did before s p) in (leaves did' _ _ after _ it.0, it.1) }
+  all_public : (did did' : List C → Type 0) (station_events : List (StationEvent C)) (before after : Node A S) (a b : Option (List ℕ))
+      → AllSaid (g.app_spec (g.config before.shared)) g.served w before.addr station_events (At did (g.app_spec (g.config before.shared)) before.addr before) (At did' (g.app_spec (g.config before.shared)) before.addr after) a b
+      → AllSaid (g.app_spec (g.config before.shared)) g.served w before.addr station_events (IsStationed g did before) (IsStationed g did' after) a b
+  all_public did did' station_events before after a b v = record { each = λ s p. let it = v.each s (enters did before s p) in (leaves did' _ _ after _ it.0, it.1) }
 
-  public_wrote : (did did' : List C → Type 0) (end : ServeEnd) (deeds : List (Deed C)) (before after : Node A S) (a b : Option (List ℕ))
-      → SaidBy end (g.meaning (g.kept before.shared)) g.served w before.addr deeds (At did (g.meaning (g.kept before.shared)) before.addr before) (At did' (g.meaning (g.kept before.shared)) before.addr after) a b
-      → SaidBy end (g.meaning (g.kept before.shared)) g.served w before.addr deeds (IsStationed g did before) (IsStationed g did' after) a b
-  public_wrote did did' ends.End deeds before after a b v = all_public did did' deeds before after a b v
-  public_wrote did did' ends.Budget deeds before after a b v = all_public did did' deeds before after a b v
-  public_wrote did did' ends.LinkFault deeds before after a b v = all_public did did' deeds before after a b v
-  public_wrote did did' ends.WriteFault deeds before after a b v = record {
+  public_wrote : (did did' : List C → Type 0) (end : ServeEnd) (station_events : List (StationEvent C)) (before after : Node A S) (a b : Option (List ℕ))
+      → SaidBy end (g.app_spec (g.config before.shared)) g.served w before.addr station_events (At did (g.app_spec (g.config before.shared)) before.addr before) (At did' (g.app_spec (g.config before.shared)) before.addr after) a b
+      → SaidBy end (g.app_spec (g.config before.shared)) g.served w before.addr station_events (IsStationed g did before) (IsStationed g did' after) a b
+  public_wrote did did' ends.End station_events before after a b v = all_public did did' station_events before after a b v
+  public_wrote did did' ends.Budget station_events before after a b v = all_public did did' station_events before after a b v
+  public_wrote did did' ends.LinkFault station_events before after a b v = all_public did did' station_events before after a b v
+  public_wrote did did' ends.WriteFault station_events before after a b v = record {
     each = λ s p.
         let it = v.each s (enters did before s p) in
         record { done = it.done; last = it.last; later = it.later; split = it.split; after = leaves did' _ _ after _ it.after; broke = it.broke };
   }
 
-  -- what was written goes on with a turn
+  -- the output continues with a turn
   pub on_wrote : (did did1 did2 : List C → Type 0) (pace : ℕ) (taken items : List Item) (start node node' : Node A S) (a b c : Option (List ℕ))
-      → ((m : Meaning) (own : Addr) → AllSaid m g.served w own (line_deeds w own pace taken) (At did m own start) (At did1 m own node) a b)
-      → ((m : Meaning) (own : Addr) → AllSaid m g.served w own (deeds_behind w own pace (bytes_among taken) items) (At did1 m own node) (At did2 m own node') b c)
-      → (m : Meaning) (own : Addr) → AllSaid m g.served w own (line_deeds w own pace (taken ++ items)) (At did m own start) (At did2 m own node') a c
+      → ((m : AppSpec) (own : Addr) → AllSaid m g.served w own (station_events_of_line w own pace taken) (At did m own start) (At did1 m own node) a b)
+      → ((m : AppSpec) (own : Addr) → AllSaid m g.served w own (station_events_after w own pace (bytes_among taken) items) (At did1 m own node) (At did2 m own node') b c)
+      → (m : AppSpec) (own : Addr) → AllSaid m g.served w own (station_events_of_line w own pace (taken ++ items)) (At did m own start) (At did2 m own node') a c
   on_wrote did did1 did2 pace taken items start node node' a b c v t m own =
       wrote_by m g.served w own _ _ _ _ _ _ (events-then w own pace [] taken items)
-      (wrote_then m g.served w own (line_deeds w own pace taken) (deeds_behind w own pace (bytes_among taken) items) _ (At did1 m own node) _ _ b _ (v m own) (t m own))
+      (wrote_then m g.served w own (station_events_of_line w own pace taken) (station_events_after w own pace (bytes_among taken) items) _ (At did1 m own node) _ _ b _ (v m own) (t m own))
 
   -- a serving that took all that it might
-  pub spent : (did did1 : List C → Type 0) (pace n : ℕ) (taken : List Item) (start node : Node A S) (old new : LineTold)
+  pub spent : (did did1 : List C → Type 0) (pace n : ℕ) (taken : List Item) (start node : Node A S) (old new : LineView)
       → All IsItem taken → Consumes old.link.coming new.link.coming taken → length taken ≡ n → IsCalm old new
-      → ((m : Meaning) (own : Addr) → AllSaid m g.served w own (line_deeds w own pace taken) (At did m own start) (At did1 m own node) old.sink.written new.sink.written)
+      → ((m : AppSpec) (own : Addr) → AllSaid m g.served w own (station_events_of_line w own pace taken) (At did m own start) (At did1 m own node) old.sink.written new.sink.written)
       → ServesOver g w did did1 pace n start node old new ends.Budget
   spent did did1 pace n taken start node old new is c all calm v = record {
     taken = taken;
     are = is;
     consumed = c;
     ends = (all, calm.link, calm.sink);
-    wrote = public_wrote did did1 ends.Budget _ start node _ _ (v (g.meaning (g.kept start.shared)) start.addr);
+    wrote = public_wrote did did1 ends.Budget _ start node _ _ (v (g.app_spec (g.config start.shared)) start.addr);
   }
 
 -- a serving that ends in a turn
-module _ {A S M : Type 0} (g : Ghosts A S) (h : MediumGhosts M) (k : h.Set) (medium0 medium medium' : M) where
-  abbrev w : Way h.Act
-  w = h.way k
+module _ {A S M : Type 0} (g : Ghosts A S) (h : MediumGhosts M) (k : h.Config) (medium0 medium medium' : M) where
+  abbrev w : MediumSpec h.Act
+  w = h.spec k
 
-  abbrev Here : M → Meaning → Addr → Node A S → Station h.Act → Type 0
+  abbrev Here : M → AppSpec → Addr → Node A S → Station h.Act → Type 0
   Here x m own node s = IsHere g (h.did x k) m own node s
 
-  pub stopped : (pace n : ℕ) (taken : List Item) (start node node' : Node A S) (old mid new : LineTold) (pacer : Pacer) (room : ℕ) (end : ServeEnd)
+  pub stopped : (pace n : ℕ) (taken : List Item) (start node node' : Node A S) (old mid new : LineView) (pacer : Pacer) (room : ℕ) (end : ServeEnd)
       → All IsItem taken → Consumes old.link.coming mid.link.coming taken → length taken < n → room + length taken ≤ n → IsCalm old mid
-      → ((m : Meaning) (own : Addr) → AllSaid m g.served w own (line_deeds w own pace taken) (Here medium0 m own start) (Here medium m own node) old.sink.written mid.sink.written)
+      → ((m : AppSpec) (own : Addr) → AllSaid m g.served w own (station_events_of_line w own pace taken) (Here medium0 m own start) (Here medium m own node) old.sink.written mid.sink.written)
       → Turns g h k pace (bytes_among taken) medium medium' node node' mid new pacer room (Ended end)
       → ServesOver g w (h.did medium0 k) (h.did medium' k) pace n start node' old new end
   stopped pace n taken start node node' old mid new pacer room end is c below fits calm v t =
-      let m = g.meaning (g.kept start.shared) in
+      let m = g.app_spec (g.config start.shared) in
       let own = start.addr in
       record {
         taken = taken ++ t.items;
@@ -115,7 +115,7 @@ module _ {A S M : Type 0} (g : Ghosts A S) (h : MediumGhosts M) (k : h.Set) (med
         consumed = Consumes-then _ _ _ taken t.items c t.consumed;
         ends = ends_by n taken t.items old mid new end c below (let within = t.within in omega arith) calm t.cause;
         wrote = public_wrote g w (h.did medium0 k) (h.did medium' k) end _ start node' _ _
-            (written_by m g.served w own (line_deeds w own pace taken) (deeds_behind w own pace (bytes_among taken) t.items) _
+            (written_by m g.served w own (station_events_of_line w own pace taken) (station_events_after w own pace (bytes_among taken) t.items) _
             (Here medium0 m own start) (Here medium m own node) (Here medium' m own node') old.sink.written mid.sink.written new.sink.written end
             (events-then w own pace [] taken t.items) (v m own) (t.wrote m own));
       }

@@ -1,18 +1,18 @@
--- What bytes bring over a serial line.
+-- What bytes decode to over a serial line.
 use Rattle.std.proofs.Common.{◌≡◌, ℕ, List, [], ◌∷◌, ◌++◌, map, refl, sym, ap, ◌∙◌}
 use Rattle.std.proofs.lemmas.List.{map-append}
 use Rattle.uip_slip.specs.Frames.{Frame, completed, frames}
 use Rattle.uip_slip.proofs.FrameLaws.{completed_by, completed_told}
-use Rattle.serve_loop.specs.SlipWay.{came_by, slip_way}
-use Rattle.line_medium.specs.Ways.{all_brought}
+use Rattle.serve_loop.specs.SerialMedium.{came_by, slip_medium}
+use Rattle.line_medium.specs.Media.{all_decoded}
 
 -- bytes bring the frames that they complete
-brought_is : (before bytes : List ℕ) → all_brought slip_way before bytes ≡ map came_by (completed_by before bytes)
+brought_is : (before bytes : List ℕ) → all_decoded slip_medium before bytes ≡ map came_by (completed_by before bytes)
 brought_is before [] = refl
 brought_is before (b ∷ rest) =
     ap (λ l. map came_by (completed before b) ++ l) (brought_is (before ++ b ∷ []) rest)
     ∙ sym (map-append came_by (completed before b) (completed_by (before ++ b ∷ []) rest))
 
--- what a decoder tells of more bytes is what they bring
-pub brought_told : (before bytes : List ℕ) (told : List Frame) → frames (before ++ bytes) ≡ frames before ++ told → all_brought slip_way before bytes ≡ map came_by told
+-- what a decoder reports of more bytes is what they bring
+pub brought_told : (before bytes : List ℕ) (told : List Frame) → frames (before ++ bytes) ≡ frames before ++ told → all_decoded slip_medium before bytes ≡ map came_by told
 brought_told before bytes told e = brought_is before bytes ∙ ap (λ l. map came_by l) (completed_told before bytes told e)

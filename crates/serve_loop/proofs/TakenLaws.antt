@@ -1,8 +1,8 @@
--- What was done for a run of which the last byte brought something.
+-- What was done for a run whose last byte completed a frame.
 use Rattle.std.proofs.Common.{◌≡◌, ℕ, ◌<◌, ◌≤◌, List, [], ◌∷◌, ◌++◌, Option, length, map, take, ap, ◌∙◌, append-nil, subst, refl}
 use Rattle.std.specs.Io.KnownBytes.{Appends}
 use Rattle.uip_wire.specs.declared.addr.Addr.{Addr}
-use Rattle.app_events.specs.Part.{Meaning}
+use Rattle.app_events.specs.AppSpec.{AppSpec}
 use Rattle.app_events.specs.declared.app.App.{Ghosts}
 use Rattle.uip_edge.proofs.Told.{appends_by, Appends-none}
 use Rattle.uip_node.specs.State.{Node}
@@ -10,27 +10,27 @@ use Rattle.uip_node.specs.Edge.{event_of}
 use Rattle.uip_node.specs.Counted.{seen}
 use Rattle.uip_node.specs.Events.Event.{Overlong as OverlongFrame}
 use Rattle.uip_node.specs.Node.{AbstractNode, step}
-use Rattle.uip_node.specs.StandsFor.{Stands}
+use Rattle.uip_node.specs.Represents.{Represents}
 use Rattle.uip_edge.specs.Writing.{BreaksOff}
-use Rattle.serve_loop.specs.LineDeeds.{deed_by}
-use Rattle.serve_loop.specs.DeedRuns.{FrontSaid, Does, Happens, Station, AllSaid}
+use Rattle.serve_loop.specs.LineStationEvents.{station_event_by}
+use Rattle.serve_loop.specs.StationRuns.{PrefixWritten, OfMedium, OfNode, Station, AllSaid}
 use Rattle.serve_loop.specs.Turns.{IsHere}
-use Rattle.line_medium.specs.Ways.{Came, Datagram, Overlong, Own, Way, acts_among, all_brought}
+use Rattle.line_medium.specs.Media.{MediumInput, Datagram, Overlong, Own, MediumSpec, acts_among, all_decoded}
 use Rattle.serve_loop.proofs.NodeLaws.{node_on}
 use Rattle.uip_edge.proofs.Breaking.{breaks_by}
 use Rattle.serve_loop.proofs.RunLaws.{broke_by, broke_from, broke_one, wrote_by, wrote_from, wrote_none, wrote_one}
 
 module _ {A S Set C : Type 0} (g : Ghosts A S)
-    (way : Set → Way C) (fed : Set → List ℕ → Type 0) (did did' : Set → List C → Type 0) (bytes : List ℕ) (n : ℕ) (shown : List ℕ) (node : Node A S)
-    (on : (k : Set) (before : List ℕ) (acts : List C) → fed k before → did k acts → did' k (acts ++ acts_among (all_brought (way k) before (take n bytes)))) where
-  abbrev Came_of : Set → List ℕ → List (Came C)
-  Came_of k before = all_brought (way k) before (take n bytes)
+    (spec : Set → MediumSpec C) (fed : Set → List ℕ → Type 0) (did did' : Set → List C → Type 0) (bytes : List ℕ) (n : ℕ) (shown : List ℕ) (node : Node A S)
+    (on : (k : Set) (before : List ℕ) (acts : List C) → fed k before → did k acts → did' k (acts ++ acts_among (all_decoded (spec k) before (take n bytes)))) where
+  abbrev Came_of : Set → List ℕ → List (MediumInput C)
+  Came_of k before = all_decoded (spec k) before (take n bytes)
 
-  abbrev Here : (Set → List C → Type 0) → Set → Meaning → Addr → Station C → Type 0
+  abbrev Here : (Set → List C → Type 0) → Set → AppSpec → Addr → Station C → Type 0
   Here d k m own s = IsHere g (d k) m own node s
 
   -- what came holds no act
-  moved : (k : Set) (m : Meaning) (own : Addr) (before : List ℕ) (ds : List (Came C)) → fed k before → Came_of k before ≡ ds → acts_among ds ≡ []
+  moved : (k : Set) (m : AppSpec) (own : Addr) (before : List ℕ) (ds : List (MediumInput C)) → fed k before → Came_of k before ≡ ds → acts_among ds ≡ []
       → (s : Station C) → Here did k m own s → Here did' k m own s
   moved k m own before ds h e none s p = record {
     stands = p.stands;
@@ -38,7 +38,7 @@ module _ {A S Set C : Type 0} (g : Ghosts A S)
   }
 
   -- the last act
-  acted_on : (k : Set) (m : Meaning) (own : Addr) (before : List ℕ) (act : C) → fed k before → Came_of k before ≡ Own act ∷ []
+  acted_on : (k : Set) (m : AppSpec) (own : Addr) (before : List ℕ) (act : C) → fed k before → Came_of k before ≡ Own act ∷ []
       → (s : Station C) → Here did k m own s → Here did' k m own (record { acts = s.acts ++ act ∷ []; node = s.node })
   acted_on k m own before act h e s p = record {
     stands = p.stands;
@@ -46,67 +46,67 @@ module _ {A S Set C : Type 0} (g : Ghosts A S)
   }
 
   pub nothing_wrote : ((k : Set) (before : List ℕ) → fed k before → Came_of k before ≡ []) → (a : Option (List ℕ))
-      → (k : Set) (before : List ℕ) → fed k before → (m : Meaning) (own : Addr) → AllSaid m g.served (way k) own (map (deed_by own) (Came_of k before)) (Here did k m own) (Here did' k m own) a a
+      → (k : Set) (before : List ℕ) → fed k before → (m : AppSpec) (own : Addr) → AllSaid m g.served (spec k) own (map (station_event_by own) (Came_of k before)) (Here did k m own) (Here did' k m own) a a
   nothing_wrote told a k before h m own =
-      wrote_by m g.served (way k) own _ [] _ _ _ _ (ap (λ l. map (deed_by own) l) (told k before h))
-      (wrote_none m g.served (way k) own _ _ a (moved k m own before [] h (told k before h) refl))
+      wrote_by m g.served (spec k) own _ [] _ _ _ _ (ap (λ l. map (station_event_by own) l) (told k before h))
+      (wrote_none m g.served (spec k) own _ _ a (moved k m own before [] h (told k before h) refl))
 
   pub overlong_wrote : (after : Node A S) (a : Option (List ℕ)) → ((k : Set) (before : List ℕ) → fed k before → Came_of k before ≡ Overlong ∷ [])
-      → g.kept after.shared ≡ g.kept node.shared
-      → ((n : AbstractNode) → Stands g node n n.past → Stands g after (step (g.meaning (g.kept node.shared)) g.served n OverlongFrame).node (seen OverlongFrame n.past))
+      → g.config after.shared ≡ g.config node.shared
+      → ((n : AbstractNode) → Represents g node n n.history → Represents g after (step (g.app_spec (g.config node.shared)) g.served n OverlongFrame).node (seen OverlongFrame n.history))
       → (k : Set) (before : List ℕ) → fed k before
-      → (m : Meaning) (own : Addr) → AllSaid m g.served (way k) own (map (deed_by own) (Came_of k before)) (Here did k m own) (λ s. IsHere g (did' k) m own after s) a a
+      → (m : AppSpec) (own : Addr) → AllSaid m g.served (spec k) own (map (station_event_by own) (Came_of k before)) (Here did k m own) (λ s. IsHere g (did' k) m own after s) a a
   overlong_wrote after a told same steps k before h m own =
-      wrote_by m g.served (way k) own _ _ _ _ _ _ (ap (λ l. map (deed_by own) l) (told k before h))
-      (wrote_one m g.served (way k) own (Happens OverlongFrame) (Here did k m own) (λ s. IsHere g (did' k) m own after s) a a
+      wrote_by m g.served (spec k) own _ _ _ _ _ _ (ap (λ l. map (station_event_by own) l) (told k before h))
+      (wrote_one m g.served (spec k) own (OfNode OverlongFrame) (Here did k m own) (λ s. IsHere g (did' k) m own after s) a a
       (λ s p. (
         record {
           stands = node_on g m own node after OverlongFrame s.node same
-              (subst (λ (x : Meaning). Stands g after (step x g.served s.node OverlongFrame).node (seen OverlongFrame s.node.past)) p.stands.meant (steps s.node p.stands.stands))
+              (subst (λ (x : AppSpec). Represents g after (step x g.served s.node OverlongFrame).node (seen OverlongFrame s.node.history)) p.stands.meant (steps s.node p.stands.stands))
               p.stands;
           acted = (moved k m own before _ h (told k before h) refl s p).acted;
         },
         Appends-none a,
       )))
 
-  module _ (Q : Set → Meaning → Addr → Station C → Type 0) (a b : Option (List ℕ)) where
+  module _ (Q : Set → AppSpec → Addr → Station C → Type 0) (a b : Option (List ℕ)) where
     pub datagram_wrote : ((k : Set) (before : List ℕ) → fed k before → Came_of k before ≡ Datagram shown ∷ [])
-        → ((k : Set) (m : Meaning) (own : Addr) → AllSaid m g.served (way k) own (Happens (event_of own shown) ∷ []) (Here did' k m own) (Q k m own) a b)
-        → (k : Set) (before : List ℕ) → fed k before → (m : Meaning) (own : Addr) → AllSaid m g.served (way k) own (map (deed_by own) (Came_of k before)) (Here did k m own) (Q k m own) a b
+        → ((k : Set) (m : AppSpec) (own : Addr) → AllSaid m g.served (spec k) own (OfNode (event_of own shown) ∷ []) (Here did' k m own) (Q k m own) a b)
+        → (k : Set) (before : List ℕ) → fed k before → (m : AppSpec) (own : Addr) → AllSaid m g.served (spec k) own (map (station_event_by own) (Came_of k before)) (Here did k m own) (Q k m own) a b
     datagram_wrote told wrote k before h m own =
-        wrote_by m g.served (way k) own _ _ _ _ _ _ (ap (λ l. map (deed_by own) l) (told k before h))
-        (wrote_from m g.served (way k) own _ _ _ _ a b (moved k m own before _ h (told k before h) refl) (wrote k m own))
+        wrote_by m g.served (spec k) own _ _ _ _ _ _ (ap (λ l. map (station_event_by own) l) (told k before h))
+        (wrote_from m g.served (spec k) own _ _ _ _ a b (moved k m own before _ h (told k before h) refl) (wrote k m own))
 
     pub datagram_broke : 0 < n → n ≤ length bytes → ((k : Set) (before : List ℕ) → fed k before → Came_of k before ≡ Datagram shown ∷ [])
-        → ((k : Set) (m : Meaning) (own : Addr) → FrontSaid m g.served (way k) own (Happens (event_of own shown) ∷ []) (Here did' k m own) (Q k m own) a b)
+        → ((k : Set) (m : AppSpec) (own : Addr) → PrefixWritten m g.served (spec k) own (OfNode (event_of own shown) ∷ []) (Here did' k m own) (Q k m own) a b)
         → (k : Set) (before : List ℕ) → fed k before
-        → (x : ℕ) × (0 < x) × (x ≤ length bytes) × ((m : Meaning) (own : Addr) → FrontSaid m g.served (way k) own (map (deed_by own) (all_brought (way k) before (take x bytes))) (Here did k m own) (Q k m own) a b)
+        → (x : ℕ) × (0 < x) × (x ≤ length bytes) × ((m : AppSpec) (own : Addr) → PrefixWritten m g.served (spec k) own (map (station_event_by own) (all_decoded (spec k) before (take x bytes))) (Here did k m own) (Q k m own) a b)
     datagram_broke some within told broke k before h = (
       n,
       some,
       within,
-      λ m own. broke_by m g.served (way k) own _ _ _ _ _ _ (ap (λ l. map (deed_by own) l) (told k before h))
-          (broke_from m g.served (way k) own _ _ _ _ a b (moved k m own before _ h (told k before h) refl) (broke k m own)),
+      λ m own. broke_by m g.served (spec k) own _ _ _ _ _ _ (ap (λ l. map (station_event_by own) l) (told k before h))
+          (broke_from m g.served (spec k) own _ _ _ _ a b (moved k m own before _ h (told k before h) refl) (broke k m own)),
     )
 
-  module _ (a b : Option (List ℕ)) (told : (k : Set) (before : List ℕ) → fed k before → (act : C) × (Came_of k before ≡ Own act ∷ []) × ((way k).says act ≡ shown)) where
+  module _ (a b : Option (List ℕ)) (told : (k : Set) (before : List ℕ) → fed k before → (act : C) × (Came_of k before ≡ Own act ∷ []) × ((spec k).says act ≡ shown)) where
     pub own_wrote : Appends a b shown
-        → (k : Set) (before : List ℕ) → fed k before → (m : Meaning) (own : Addr) → AllSaid m g.served (way k) own (map (deed_by own) (Came_of k before)) (Here did k m own) (Here did' k m own) a b
+        → (k : Set) (before : List ℕ) → fed k before → (m : AppSpec) (own : Addr) → AllSaid m g.served (spec k) own (map (station_event_by own) (Came_of k before)) (Here did k m own) (Here did' k m own) a b
     own_wrote wrote k before h m own =
         let it = told k before h in
-        wrote_by m g.served (way k) own _ _ _ _ _ _ (ap (λ l. map (deed_by own) l) it.1)
-        (wrote_one m g.served (way k) own (Does it.0) (Here did k m own) (Here did' k m own) a b
+        wrote_by m g.served (spec k) own _ _ _ _ _ _ (ap (λ l. map (station_event_by own) l) it.1)
+        (wrote_one m g.served (spec k) own (OfMedium it.0) (Here did k m own) (Here did' k m own) a b
         (λ s p. (acted_on k m own before it.0 h it.1 s p, appends_by a b shown _ it.2 wrote)))
 
     pub own_broke : 0 < n → n ≤ length bytes → BreaksOff [] shown a b
         → (k : Set) (before : List ℕ) → fed k before
-        → (x : ℕ) × (0 < x) × (x ≤ length bytes) × ((m : Meaning) (own : Addr) → FrontSaid m g.served (way k) own (map (deed_by own) (all_brought (way k) before (take x bytes))) (Here did k m own) (Here did' k m own) a b)
+        → (x : ℕ) × (0 < x) × (x ≤ length bytes) × ((m : AppSpec) (own : Addr) → PrefixWritten m g.served (spec k) own (map (station_event_by own) (all_decoded (spec k) before (take x bytes))) (Here did k m own) (Here did' k m own) a b)
     own_broke some within wrote k before h =
         let it = told k before h in (
           n,
           some,
           within,
-          λ m own. broke_by m g.served (way k) own _ _ _ _ _ _ (ap (λ l. map (deed_by own) l) it.1)
-              (broke_one m g.served (way k) own (Does it.0) (Here did k m own) (Here did' k m own) a b
+          λ m own. broke_by m g.served (spec k) own _ _ _ _ _ _ (ap (λ l. map (station_event_by own) l) it.1)
+              (broke_one m g.served (spec k) own (OfMedium it.0) (Here did k m own) (Here did' k m own) a b
               (λ s p. (acted_on k m own before it.0 h it.1 s p, breaks_by [] [] _ _ a b refl it.2 wrote))),
         )

@@ -1,11 +1,11 @@
-pub mod DeedRuns
-pub mod DeedServing
+pub mod StationRuns
+pub mod StationServing
 pub mod Items
-pub mod LineDeeds
+pub mod LineStationEvents
 pub mod LineEvents
 pub mod LineOutput
 pub mod Pace
-pub mod SlipWay
+pub mod SerialMedium
 pub mod Texts
 pub mod Turns
 pub mod TurnCalls

@@ -1,8 +1,8 @@
--- What a server does in one turn, told of all bytes that it took before.
+-- What a server does in one turn, for any bytes that it consumed before.
 use Rattle.std.specs.List.{All}
 use Rattle.std.specs.Prelude.{◌≡◌, ◌≤◌, ℕ, Bool, List, ◌++◌, Option, length, ⊤}
 use Rattle.uip_wire.specs.declared.addr.Addr.{Addr}
-use Rattle.app_events.specs.Part.{Meaning}
+use Rattle.app_events.specs.AppSpec.{AppSpec}
 use Rattle.app_events.specs.declared.app.App.{Ghosts}
 use Rattle.uip_edge.specs.declared.item.Item.{Item}
 use Rattle.uip_edge.specs.declared.serve_end.ServeEnd.{ServeEnd}
@@ -13,30 +13,30 @@ use Rattle.uip_edge.specs.Coming.{Consumes, bytes_among}
 use Rattle.uip_edge.specs.Turns.{IfTook, TurnsBy}
 use Rattle.uip_node.specs.State.{Node}
 use Rattle.uip_node.specs.Node.{AbstractNode}
-use Rattle.uip_node.specs.StandsFor.{Stands}
-use Rattle.line_medium.specs.Ways.{Way}
+use Rattle.uip_node.specs.Represents.{Represents}
+use Rattle.line_medium.specs.Media.{MediumSpec}
 use Rattle.line_medium.specs.declared.medium.Medium.{Ghosts as MediumGhosts}
 use Rattle.serve_loop.specs.declared.pacer.Pacer.{Pacer}
-use Rattle.serve_loop.specs.DeedRuns.{AllSaid, Deed, FrontSaid, Station}
-use Rattle.serve_loop.specs.DeedServing.{SaidBy}
+use Rattle.serve_loop.specs.StationRuns.{AllSaid, StationEvent, PrefixWritten, Station}
+use Rattle.serve_loop.specs.StationServing.{SaidBy}
 use Rattle.serve_loop.specs.Items.{IsItem}
-use Rattle.serve_loop.specs.LineDeeds.{deeds_behind}
+use Rattle.serve_loop.specs.LineStationEvents.{station_events_after}
 use Rattle.serve_loop.specs.Pace.{HasPassed}
-use Rattle.uip_edge.specs.Told.{LineTold}
+use Rattle.uip_edge.specs.Views.{LineView}
 
--- the node stands for the abstract node, which has this address, and its application has this meaning
-pub record IsNode {A S : Type 0} (g : Ghosts A S) (m : Meaning) (own : Addr) (node : Node A S) (n : AbstractNode) : Type 0 where
-  pub meant : g.meaning (g.kept node.shared) ≡ m
+-- The node represents the abstract node, which has this address, and its application has this specification.
+pub record IsNode {A S : Type 0} (g : Ghosts A S) (m : AppSpec) (own : Addr) (node : Node A S) (n : AbstractNode) : Type 0 where
+  pub meant : g.app_spec (g.config node.shared) ≡ m
   pub address : n.addr ≡ own
-  pub stands : Stands g node n n.past
+  pub stands : Represents g node n n.history
 
--- the node, and the medium that did these acts, stand at this station
-pub record IsHere {A S C : Type 0} (g : Ghosts A S) (did : List C → Type 0) (m : Meaning)
+-- The node, and the medium that did these acts, represent this station.
+pub record IsHere {A S C : Type 0} (g : Ghosts A S) (did : List C → Type 0) (m : AppSpec)
     (own : Addr) (node : Node A S) (s : Station C) : Type 0 where
   pub stands : IsNode g m own node s.node
   pub acted : did s.acts
 
--- a medium and a node, and what is written
+-- a medium, a node, and what is written
 pub record Place (M A S : Type 0) : Type 0 where
   pub medium : M
   pub node : Node A S
@@ -45,47 +45,48 @@ pub record Place (M A S : Type 0) : Type 0 where
 abbrev pub place : {M A S : Type 0} → M → Node A S → Option (List ℕ) → Place M A S
 place medium node text = record { medium = medium; node = node; text = text }
 
--- From wherever the medium, set so, and the node stood, they stand behind these deeds, and all that is said for them was written.
-abbrev pub Plays : {A S M : Type 0} (g : Ghosts A S) (h : MediumGhosts M) (k : h.Set)
-    → (Addr → List (Deed h.Act)) → Place M A S → Place M A S → Type 0
-Plays g h k deeds old new = (m : Meaning) (own : Addr)
-    → AllSaid m g.served (h.way k) own (deeds own)
+-- From any station that the medium with this configuration and the node represent, they represent the station after these events, and the
+-- output was written.
+abbrev pub Plays : {A S M : Type 0} (g : Ghosts A S) (h : MediumGhosts M) (k : h.Config)
+    → (Addr → List (StationEvent h.Act)) → Place M A S → Place M A S → Type 0
+Plays g h k station_events old new = (m : AppSpec) (own : Addr)
+    → AllSaid m g.served (h.spec k) own (station_events own)
     (IsHere g (h.did old.medium k) m own old.node) (IsHere g (h.did new.medium k) m own new.node) old.text new.text
 
--- The writing broke off, behind a front of these deeds.
-abbrev pub Breaks : {A S M : Type 0} (g : Ghosts A S) (h : MediumGhosts M) (k : h.Set)
-    → (Addr → List (Deed h.Act)) → Place M A S → Place M A S → Type 0
-Breaks g h k deeds old new = (m : Meaning) (own : Addr)
-    → FrontSaid m g.served (h.way k) own (deeds own)
+-- The writing failed, after a prefix of these events.
+abbrev pub Breaks : {A S M : Type 0} (g : Ghosts A S) (h : MediumGhosts M) (k : h.Config)
+    → (Addr → List (StationEvent h.Act)) → Place M A S → Place M A S → Type 0
+Breaks g h k station_events old new = (m : AppSpec) (own : Addr)
+    → PrefixWritten m g.served (h.spec k) own (station_events own)
     (IsHere g (h.did old.medium k) m own old.node) (IsHere g (h.did new.medium k) m own new.node) old.text new.text
 
--- a line at a pace has taken these bytes
+-- A line at a pace has consumed these bytes.
 pub record HasTaken (pace : ℕ) (before : List ℕ) (fed : List ℕ → Type 0) (pacer : Pacer) : Type 0 where
   pub taken : fed before
   pub paced : pacer.pace ≡ pace
   pub passed : HasPassed (length before) pacer
 
--- what a turn wrote for these deeds
-abbrev pub WritesOn : {C : Type 0} → Turn ServeEnd → Meaning → (ℕ → Bool) → Way C → Addr → List (Deed C)
+-- what a turn wrote for these events
+abbrev pub WritesOn : {C : Type 0} → Turn ServeEnd → AppSpec → (ℕ → Bool) → MediumSpec C → Addr → List (StationEvent C)
     → (Station C → Type 0) → (Station C → Type 0) → Option (List ℕ) → Option (List ℕ) → Type 0
-WritesOn (turns.Took n) m served w own deeds Before After old new = AllSaid m served w own deeds Before After old new
-WritesOn (turns.Ended end) m served w own deeds Before After old new = SaidBy end m served w own deeds Before After old new
+WritesOn (turns.Took n) m served w own station_events Before After old new = AllSaid m served w own station_events Before After old new
+WritesOn (turns.Ended end) m served w own station_events Before After old new = SaidBy end m served w own station_events Before After old new
 
--- this holds where the link ended a turn, by its end or by a failure
+-- The property holds if the link ended a turn, by its end or by a failure.
 abbrev pub IfLinkEnded : Turn ServeEnd → Type 0 → Type 0
 IfLinkEnded (turns.Ended ends.End) P = P
 IfLinkEnded (turns.Ended ends.LinkFault) P = P
 IfLinkEnded turn P = ⊤
 
 -- a turn, with the medium and the node before and after it
-pub record Turns {A S M : Type 0} (g : Ghosts A S) (h : MediumGhosts M) (k : h.Set) (pace : ℕ) (before : List ℕ) (medium medium' : M)
-    (node node' : Node A S) (old new : LineTold) (pacer : Pacer) (room : ℕ) (turn : Turn ServeEnd) : Type 0 where
+pub record Turns {A S M : Type 0} (g : Ghosts A S) (h : MediumGhosts M) (k : h.Config) (pace : ℕ) (before : List ℕ) (medium medium' : M)
+    (node node' : Node A S) (old new : LineView) (pacer : Pacer) (room : ℕ) (turn : Turn ServeEnd) : Type 0 where
   pub items : List Item
   pub are : All IsItem items
   pub consumed : Consumes old.link.coming new.link.coming items
   pub within : length items ≤ room
   pub cause : TurnsBy old new items turn
   pub on : IfTook turn (λ n. HasTaken pace (before ++ bytes_among items) (h.fed medium' k) pacer)
-  pub wrote : (m : Meaning) (own : Addr)
-      → WritesOn turn m g.served (h.way k) own (deeds_behind (h.way k) own pace before items)
+  pub wrote : (m : AppSpec) (own : Addr)
+      → WritesOn turn m g.served (h.spec k) own (station_events_after (h.spec k) own pace before items)
       (IsHere g (h.did medium k) m own node) (IsHere g (h.did medium' k) m own node') old.sink.written new.sink.written

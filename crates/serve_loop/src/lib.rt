@@ -1,6 +1,6 @@
-//! A node behind a line: what the line brings over a medium is handed to the node, datagram by datagram and tick by tick,
-//! and what the node and the medium say is written at once. What is written is told by the whole list of items that were
-//! taken, however the link cut them. A serial line is the first medium.
+//! A node on a line. What the line brings over a medium is input to the node, datagram by datagram and tick by tick. The output of the node
+//! and the medium is written at once. The clauses define the output over the whole list of items consumed, however the link cuts them. A
+//! serial line is the first medium.
 #![tactic(auto)]
 
 mod laws;
@@ -10,8 +10,8 @@ mod pacer;
 mod serving;
 mod slip;
 
-pub use laws::{serial_deeds_are_events, serial_lines_bring_bytes};
+pub use laws::{serial_lines_bring_bytes, serial_station_events_are_events};
 pub use line::take_turn;
 pub use pacer::Pacer;
-pub use serving::{budget_is_told, end_is_told, serve, serve_over};
+pub use serving::{budget_is_reported, end_is_reported, serve, serve_over};
 pub use slip::Slip;

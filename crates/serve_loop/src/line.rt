@@ -1,3 +1,5 @@
+//! One turn at a line: what the link returned is fed to the medium and the node, and the output is written.
+
 ghost use Rattle.std.specs.Prelude.{◌≡◌, ◌<◌, ◌≤◌, ◌++◌, [], List, ℕ, length, take, OnOk, OnErr, IfOk};
 ghost use Rattle.std.specs.Io.KnownBytes.{Appends};
 ghost use Rattle.std.specs.List.{All};
@@ -7,17 +9,18 @@ ghost use Rattle.uip_edge.specs.Turns.{TurnFits};
 ghost use Rattle.uip_edge.specs.Writing.{BreaksOff};
 ghost use Rattle.serve_loop.specs.TurnCalls.{BreaksBrought, BreaksBytes, PlaysBrought, PlaysBytes, TakesBytes};
 ghost use Rattle.serve_loop.specs.Turns.{HasTaken, IfLinkEnded, Turns, place};
-ghost use Rattle.uip_edge.specs.Telling.{line_told};
+ghost use Rattle.uip_edge.specs.ViewsOf.{line_view};
 
 use crate::node_calls::{take_datagram, tick};
 use crate::pacer::Pacer;
 use app_events::App;
-use line_medium::{Brought, Medium};
+use line_medium::{Decoded, Medium};
 use uip_edge::{Failed, Got, Link, ServeEnd, Sink, Turn};
 use uip_node::Node;
 
-/// One turn at a line: the link is asked for what comes next, that is handed to the node, and all that is due for it is written
-/// before this returns. A turn in which the link fails has taken nothing, so that it is not asked again behind what it gave.
+/// Takes one turn at a line: polls the link and inputs what it returned to the node. All output that is due for it is written when this
+/// returns. If the link fails, the turn has consumed nothing. The link is thus never polled between bytes that it returned and their
+/// output.
 pub fn take_turn<A: App, M: Medium, L: Link, K: Sink>(
     medium: &mut M,
     pacer: &mut Pacer,
@@ -27,12 +30,12 @@ pub fn take_turn<A: App, M: Medium, L: Link, K: Sink>(
     sink: &mut K,
 ) -> Turn<ServeEnd>
     requires room { 0 < length buf.old }
-    ensures same { A.kept node.new.shared ≡ A.kept node.old.shared }
+    ensures same { A.config node.new.shared ≡ A.config node.old.shared }
     ensures fits { TurnFits result (length buf.old) }
-    ensures turns { (k : M.Set) (pace : ℕ) (before : List ℕ) → HasTaken pace before (M.fed medium.old k) pacer.old
+    ensures turns { (k : M.Config) (pace : ℕ) (before : List ℕ) → HasTaken pace before (M.fed medium.old k) pacer.old
         → Turns A.App M.Medium k pace before medium.old medium.new node.old node.new
-        (line_told L.Link K.Sink link.old sink.old)
-        (line_told L.Link K.Sink link.new sink.new) pacer.new (length buf.old) result }
+        (line_view L.Link K.Sink link.old sink.old)
+        (line_view L.Link K.Sink link.new sink.new) pacer.new (length buf.old) result }
     ensures rests { IfLinkEnded result ((medium.new ≡ medium.old) × (node.new ≡ node.old) × (pacer.new ≡ pacer.old)) }
 {
     match link.next(buf) {
@@ -49,7 +52,7 @@ pub fn take_turn<A: App, M: Medium, L: Link, K: Sink>(
     }
 }
 
-/// Takes bytes.
+/// Feeds bytes.
 fn take_bytes<A: App, M: Medium, K: Sink>(
     medium: &mut M,
     pacer: &mut Pacer,
@@ -57,7 +60,7 @@ fn take_bytes<A: App, M: Medium, K: Sink>(
     bytes: &[u8],
     sink: &mut K,
 ) -> Result<(), Failed>
-    ensures same { A.kept node.new.shared ≡ A.kept node.old.shared }
+    ensures same { A.config node.new.shared ≡ A.config node.old.shared }
     ensures are { All IsByte bytes.now }
     ensures taken { OnOk result (TakesBytes M.Medium bytes.now medium.old medium.new pacer.old pacer.new) }
     ensures ok { OnOk result (PlaysBytes A.App M.Medium bytes.now pacer.old
@@ -68,14 +71,14 @@ fn take_bytes<A: App, M: Medium, K: Sink>(
 {
     let mut rest = bytes;
     while !rest.is_empty() {
-        let count = take_front(medium, pacer, node, rest, sink)?;
+        let count = take_prefix(medium, pacer, node, rest, sink)?;
         rest = &rest[count..];
     }
     Ok(())
 }
 
-/// Takes a front of the bytes, in which the last alone may bring something or make a tick.
-fn take_front<A: App, M: Medium, K: Sink>(
+/// Feeds a prefix of the bytes, of which only the last one may complete a frame or make a tick.
+fn take_prefix<A: App, M: Medium, K: Sink>(
     medium: &mut M,
     pacer: &mut Pacer,
     node: &mut Node<A>,
@@ -83,7 +86,7 @@ fn take_front<A: App, M: Medium, K: Sink>(
     sink: &mut K,
 ) -> Result<usize, Failed>
     requires some { 0 < length bytes.now }
-    ensures same { A.kept node.new.shared ≡ A.kept node.old.shared }
+    ensures same { A.config node.new.shared ≡ A.config node.old.shared }
     ensures count { IfOk result (λ n. (0 < n) × (n ≤ length bytes.now)) }
     ensures taken { IfOk result (λ n. TakesBytes M.Medium (take n bytes.now) medium.old medium.new pacer.old pacer.new) }
     ensures ok { IfOk result (λ n. PlaysBytes A.App M.Medium (take n bytes.now) pacer.old
@@ -100,7 +103,7 @@ fn take_front<A: App, M: Medium, K: Sink>(
     Ok(count)
 }
 
-/// Takes a front of the bytes, of which the last alone may bring something, whatever the pace.
+/// Feeds a prefix of the bytes, of which only the last one may complete a frame, whatever the pace.
 fn take_run<A: App, M: Medium, K: Sink>(
     medium: &mut M,
     node: &mut Node<A>,
@@ -108,9 +111,9 @@ fn take_run<A: App, M: Medium, K: Sink>(
     sink: &mut K,
 ) -> Result<usize, Failed>
     requires some { 0 < length bytes.now }
-    ensures same { A.kept node.new.shared ≡ A.kept node.old.shared }
+    ensures same { A.config node.new.shared ≡ A.config node.old.shared }
     ensures count { IfOk result (λ n. (0 < n) × (n ≤ length bytes.now)) }
-    ensures fed { IfOk result (λ n. (k : M.Set) (before : List ℕ) → M.fed medium.old k before
+    ensures fed { IfOk result (λ n. (k : M.Config) (before : List ℕ) → M.fed medium.old k before
         → M.fed medium.new k (before ++ take n bytes.now)) }
     ensures ok { IfOk result (λ n. PlaysBrought A.App M.Medium (take n bytes.now)
         (place medium.old node.old (K.written sink.old)) (place medium.new node.new (K.written sink.new))) }
@@ -120,26 +123,26 @@ fn take_run<A: App, M: Medium, K: Sink>(
 {
     let run = medium.feed_run(bytes);
     match run.brought {
-        Brought::Nothing => Ok(run.count),
-        Brought::Overlong => {
+        Decoded::Nothing => Ok(run.count),
+        Decoded::Overlong => {
             node.count_overlong();
             Ok(run.count)
         }
-        Brought::Datagram(count) => {
+        Decoded::Datagram(count) => {
             take_datagram(node, medium, count, sink)?;
             Ok(run.count)
         }
-        Brought::Own(count) => {
+        Decoded::Own(count) => {
             say(medium.shown(count), sink)?;
             Ok(run.count)
         }
     }
 }
 
-/// Writes a text, where there is one.
+/// Writes a text, if it is not empty.
 fn say<K: Sink>(text: &[u8], sink: &mut K) -> Result<(), Failed>
     ensures whole { OnOk result (Appends (K.written sink.old) (K.written sink.new) text.now) }
-    ensures front { OnErr result (BreaksOff [] text.now (K.written sink.old) (K.written sink.new)) }
+    ensures prefix { OnErr result (BreaksOff [] text.now (K.written sink.old) (K.written sink.new)) }
     ensures cause { HasCause (K.faults sink.old) (K.faults sink.new) result }
 {
     if text.is_empty() {

@@ -1,10 +1,12 @@
+//! Calls of the node, with their output written to the sink.
+
 ghost use Rattle.std.specs.Prelude.{◌≡◌, ◌<◌, ◌≤◌, [], ◌∷◌, List, length, Option, OnOk, OnErr};
 ghost use Rattle.uip_edge.specs.Causes.{HasCause};
 ghost use Rattle.uip_node.specs.Edge.{event_of};
 ghost use Rattle.uip_node.specs.Events.Event.{Periodic};
-ghost use Rattle.serve_loop.specs.DeedRuns.{Happens};
-ghost use Rattle.serve_loop.specs.LineDeeds.{tick_on};
-ghost use Rattle.serve_loop.specs.TurnCalls.{BreaksDeeds, BreaksSent, PlaysDeeds, StaysFed, WritesSent};
+ghost use Rattle.serve_loop.specs.StationRuns.{OfNode};
+ghost use Rattle.serve_loop.specs.LineStationEvents.{tick_on};
+ghost use Rattle.serve_loop.specs.TurnCalls.{BreaksStationEvents, BreaksSent, PlaysStationEvents, StaysFed, WritesSent};
 ghost use Rattle.serve_loop.specs.Turns.{place};
 
 use app_events::App;
@@ -13,7 +15,7 @@ use uip_edge::{Failed, Sink};
 use uip_node::Node;
 use uip_wire::LARGEST_DATAGRAM;
 
-/// Writes what a call of the node has sent, if it sent a datagram.
+/// Writes the datagram that a call of the node sent, if it sent one.
 fn write_sent<A: App, M: Medium, K: Sink>(
     node: &Node<A>,
     sent: Option<usize>,
@@ -21,7 +23,7 @@ fn write_sent<A: App, M: Medium, K: Sink>(
     sink: &mut K,
 ) -> Result<(), Failed>
     ensures fed { StaysFed M.Medium medium.old medium.new }
-    ensures did { (k : M.Set) (acts : List M.Act) → M.did medium.old k acts → M.did medium.new k acts }
+    ensures did { (k : M.Config) (acts : List M.Act) → M.did medium.old k acts → M.did medium.new k acts }
     ensures ok { OnOk result (WritesSent M.Medium medium.old sent node.now.packet (K.written sink.old) (K.written sink.new)) }
     ensures err { OnErr result (BreaksSent M.Medium medium.old sent node.now.packet (K.written sink.old) (K.written sink.new)) }
     ensures cause { HasCause (K.faults sink.old) (K.faults sink.new) result }
@@ -32,7 +34,7 @@ fn write_sent<A: App, M: Medium, K: Sink>(
     }
 }
 
-/// The datagram that was just brought comes to the node, and its answer is written.
+/// Inputs the datagram that was just decoded to the node, and writes the reply.
 pub(crate) fn take_datagram<A: App, M: Medium, K: Sink>(
     node: &mut Node<A>,
     medium: &mut M,
@@ -41,13 +43,13 @@ pub(crate) fn take_datagram<A: App, M: Medium, K: Sink>(
 ) -> Result<(), Failed>
     requires shows { M.shows medium.old count }
     requires most { length (M.shown medium.old) ≤ LARGEST_DATAGRAM }
-    ensures same { A.kept node.new.shared ≡ A.kept node.old.shared }
+    ensures same { A.config node.new.shared ≡ A.config node.old.shared }
     ensures fed { StaysFed M.Medium medium.old medium.new }
-    ensures ok { OnOk result (PlaysDeeds A.App M.Medium
-        (λ k own. Happens (event_of own (M.shown medium.old)) ∷ [])
+    ensures ok { OnOk result (PlaysStationEvents A.App M.Medium
+        (λ k own. OfNode (event_of own (M.shown medium.old)) ∷ [])
         (place medium.old node.old (K.written sink.old)) (place medium.new node.new (K.written sink.new))) }
-    ensures err { OnErr result (BreaksDeeds A.App M.Medium
-        (λ k own. Happens (event_of own (M.shown medium.old)) ∷ [])
+    ensures err { OnErr result (BreaksStationEvents A.App M.Medium
+        (λ k own. OfNode (event_of own (M.shown medium.old)) ∷ [])
         (place medium.old node.old (K.written sink.old)) (place medium.new node.new (K.written sink.new))) }
     ensures cause { HasCause (K.faults sink.old) (K.faults sink.new) result }
 {
@@ -55,7 +57,7 @@ pub(crate) fn take_datagram<A: App, M: Medium, K: Sink>(
     write_sent(node, sent, medium, sink)
 }
 
-/// The periodic call of a slot, and what it sends is written.
+/// Makes the periodic call of a slot, and writes what it sends.
 fn call_slot<A: App, M: Medium, K: Sink>(
     node: &mut Node<A>,
     medium: &mut M,
@@ -63,13 +65,13 @@ fn call_slot<A: App, M: Medium, K: Sink>(
     sink: &mut K,
 ) -> Result<(), Failed>
     requires within { slot < 10 }
-    ensures same { A.kept node.new.shared ≡ A.kept node.old.shared }
+    ensures same { A.config node.new.shared ≡ A.config node.old.shared }
     ensures fed { StaysFed M.Medium medium.old medium.new }
-    ensures ok { OnOk result (PlaysDeeds A.App M.Medium
-        (λ k own. Happens (Periodic slot) ∷ [])
+    ensures ok { OnOk result (PlaysStationEvents A.App M.Medium
+        (λ k own. OfNode (Periodic slot) ∷ [])
         (place medium.old node.old (K.written sink.old)) (place medium.new node.new (K.written sink.new))) }
-    ensures err { OnErr result (BreaksDeeds A.App M.Medium
-        (λ k own. Happens (Periodic slot) ∷ [])
+    ensures err { OnErr result (BreaksStationEvents A.App M.Medium
+        (λ k own. OfNode (Periodic slot) ∷ [])
         (place medium.old node.old (K.written sink.old)) (place medium.new node.new (K.written sink.new))) }
     ensures cause { HasCause (K.faults sink.old) (K.faults sink.new) result }
 {
@@ -77,19 +79,19 @@ fn call_slot<A: App, M: Medium, K: Sink>(
     write_sent(node, sent, medium, sink)
 }
 
-/// A tick: the medium's, and then the periodic calls of all slots in turn.
+/// Makes a tick: the medium's, then the periodic calls of all slots in order.
 pub(crate) fn tick<A: App, M: Medium, K: Sink>(
     node: &mut Node<A>,
     medium: &mut M,
     sink: &mut K,
 ) -> Result<(), Failed>
-    ensures same { A.kept node.new.shared ≡ A.kept node.old.shared }
+    ensures same { A.config node.new.shared ≡ A.config node.old.shared }
     ensures fed { StaysFed M.Medium medium.old medium.new }
-    ensures ok { OnOk result (PlaysDeeds A.App M.Medium
-        (λ k own. tick_on (M.way k))
+    ensures ok { OnOk result (PlaysStationEvents A.App M.Medium
+        (λ k own. tick_on (M.spec k))
         (place medium.old node.old (K.written sink.old)) (place medium.new node.new (K.written sink.new))) }
-    ensures err { OnErr result (BreaksDeeds A.App M.Medium
-        (λ k own. tick_on (M.way k))
+    ensures err { OnErr result (BreaksStationEvents A.App M.Medium
+        (λ k own. tick_on (M.spec k))
         (place medium.old node.old (K.written sink.old)) (place medium.new node.new (K.written sink.new))) }
     ensures cause { HasCause (K.faults sink.old) (K.faults sink.new) result }
 {

@@ -1,8 +1,10 @@
+//! The serial line as a medium (SLIP, RFC 1055).
+
 ghost use Rattle.std.specs.Prelude.{[]};
 ghost use Rattle.uip_slip.specs.Decoding.{WasFed};
-ghost use Rattle.serve_loop.specs.SlipWay.{NoAct, slip_way};
+ghost use Rattle.serve_loop.specs.SerialMedium.{NoAct, slip_medium};
 
-use line_medium::{Brought, BroughtRun, Medium};
+use line_medium::{Decoded, DecodedRun, Medium};
 use uip_edge::{Failed, Sink};
 use uip_slip::{Decoder, Encoder, Fed};
 
@@ -14,7 +16,7 @@ pub struct Slip {
 }
 
 impl Slip {
-    /// A line of which nothing was read.
+    /// Returns a line from which nothing was read.
     pub fn new() -> Slip
         ensures { WasFed [] result.decoder }
     {
@@ -30,9 +32,9 @@ impl Medium for Slip {
 
     ghost Act = { NoAct };
 
-    ghost Set = { ⊤ };
+    ghost Config = { ⊤ };
 
-    ghost way = { λ k. slip_way };
+    ghost spec = { λ k. slip_medium };
 
     ghost fed = { λ s k before. WasFed before s.decoder };
 
@@ -42,14 +44,14 @@ impl Medium for Slip {
 
     ghost shows = { λ s n. (s.decoder.told ≡ true) × (n ≡ length s.decoder.bytes) };
 
-    fn feed_run(&mut self, bytes: &[u8]) -> BroughtRun {
+    fn feed_run(&mut self, bytes: &[u8]) -> DecodedRun {
         let run = self.decoder.feed_run(bytes);
         let brought = match run.fed {
-            Fed::More => Brought::Nothing,
-            Fed::Overlong => Brought::Overlong,
-            Fed::Datagram(count) => Brought::Datagram(count),
+            Fed::More => Decoded::Nothing,
+            Fed::Overlong => Decoded::Overlong,
+            Fed::Datagram(count) => Decoded::Datagram(count),
         };
-        BroughtRun {
+        DecodedRun {
             count: run.count,
             brought,
         }

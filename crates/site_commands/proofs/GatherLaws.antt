@@ -22,7 +22,7 @@ ReadList = Result (List HeldFile) SiteError
 abbrev pub entry_of : NamedContent → List ℕ → HeldFile
 entry_of named content = record { name = named.name; content = content }
 
--- the list with entries in front
+-- the list with entries before it
 abbrev pub behind : List HeldFile → ReadList → ReadList
 behind before list = list >>= λ entries. Ok (before ++ entries)
 
@@ -71,7 +71,7 @@ held_content : (o : Option (List ℕ)) (P : List ℕ → Type 0) → IsSomeAnd o
 held_content None P holds = absurd holds
 held_content (Some content) P holds = (content, refl, holds)
 
--- what was read so far, with so much room left
+-- what was read so far, with this room left
 abbrev pub SoFar : Option Files → List NamedContent → ℕ → ℕ → List HeldFile → Type 0
 SoFar None named i room list = ⊤
 SoFar (Some files) named i room list = list_of named files ≡ option_map (behind list) (gathered files room (drop i named))

@@ -11,7 +11,7 @@ use Rattle.site_commands.specs.declared.site_end.SiteEnd.{SiteEnd}
 use Rattle.site_commands.specs.Due.{due_of, page_due}
 use Rattle.site_commands.specs.Ending.{Ends}
 use Rattle.file_tree.specs.Opening.{FindsInFiles, Opens, site_read}
-use Rattle.uip_edge.specs.Told.{WorkTold}
+use Rattle.uip_edge.specs.Views.{WorkView}
 use Rattle.site_commands.specs.declared.site_end.SiteEnd.TheVariants as ends
 use Rattle.uip_edge.specs.Writing.{WritesEnd}
 
@@ -19,7 +19,7 @@ page_is_due : (name target : List ℕ) (held : Option Files) (read : Result (Lis
 page_is_due name target None read is = tt
 page_is_due name target (Some files) read is = ap (option_map (λ (r : Result (List File) SiteError). due_of (r >>= λ site. Ok (zero_page site target)))) is
 
-pub page_ends : (name target : List ℕ) (old new : WorkTold) (site : SiteContent) (end : SiteEnd) → Opens name old.shelf.held old.shelf.faults new.shelf.faults (Ok site)
+pub page_ends : (name target : List ℕ) (old new : WorkView) (site : SiteContent) (end : SiteEnd) → Opens name old.shelf.held old.shelf.faults new.shelf.faults (Ok site)
     → WritesEnd ends.Done ends.WriteFault old.sink new.sink (zero_page (files_of site) target) end
     → Ends (page_due name target) old new end
 page_ends name target old new site end opened wrote =

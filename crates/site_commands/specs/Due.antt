@@ -1,4 +1,4 @@
--- What is to be written for a shelf's files, and whether something is wrong with the image.
+-- What is to be written for a shelf's files, and the fault of the image, if there is one.
 use Rattle.std.specs.Prelude.{◌≡◌, ⊤, ℕ, List, [], Option, None, Some, option_map, Result, Ok, Err}
 use Rattle.uip_edge.specs.Shelving.{Files}
 use Rattle.file_tree.specs.declared.load_fault.LoadFault.{LoadFault}
@@ -26,7 +26,7 @@ abbrev pub checked : Result (List File) SiteError → Due
 checked (Ok files) = record { text = image_report files; fault = None }
 checked (Err error) = record { text = bad_line error; fault = Some error }
 
--- what is due for the image under the name; none where the file is missing
+-- what is due for the image under the name; none if the file is missing
 abbrev pub check_due : List ℕ → Files → Option Due
 check_due name files = option_map (λ content. checked (read_image content)) (files name)
 
@@ -44,7 +44,7 @@ abbrev pub upgrade_due : List ℕ → List KindContent → Files → Option Due
 upgrade_due name words files =
     option_map (λ content. due_of (read_image content >>= λ old. second_image (upgraded words old))) (files name)
 
--- the image is what was made, unless memory was short
+-- the image is what was made, unless memory ran out
 abbrev pub MakesImage : Result (List ℕ) SiteError → Result Due Halt → Type 0
 MakesImage image (Ok made) = made ≡ due_of image
 MakesImage image (Err halt.NoMemory) = ⊤
@@ -56,6 +56,6 @@ MadeOfFault fault.Shelf made = made ≡ Err halt.Shelf
 MadeOfFault (fault.Bad error) made = made ≡ Ok (due_of (Err error))
 MadeOfFault fault.NoMemory made = made ≡ Err halt.NoMemory
 
--- what is due for a target of the site under the name: its page, as a node says it at which nothing has happened
+-- what is due for a target of the site under the name: its page, as a node sends it before anything has happened
 abbrev pub page_due : List ℕ → List ℕ → Files → Option Due
 page_due name target files = option_map (λ read. due_of (read >>= λ site. Ok (zero_page site target))) (site_read name files)

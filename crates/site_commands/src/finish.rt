@@ -1,6 +1,8 @@
+//! The end of a command.
+
 ghost use Rattle.std.specs.Prelude.{◌≡◌};
 ghost use Rattle.site_commands.specs.Ending.{end_of, WritesMade};
-ghost use Rattle.uip_edge.specs.Telling.{sink_told};
+ghost use Rattle.uip_edge.specs.ViewsOf.{sink_view};
 
 use crate::halt::Halt;
 use crate::outcome::Outcome;
@@ -8,9 +10,9 @@ use crate::site_end::SiteEnd;
 use file_tree::SiteError;
 use uip_edge::Sink;
 
-/// Writes what was made, and tells how the work ends.
+/// Writes what was made, and returns how the command ends.
 pub(crate) fn finish<K: Sink>(made: Result<Outcome, Halt>, out: &mut K) -> SiteEnd
-    ensures { WritesMade made (sink_told K.Sink out.old) (sink_told K.Sink out.new) result }
+    ensures { WritesMade made (sink_view K.Sink out.old) (sink_view K.Sink out.new) result }
 {
     match made {
         Ok(outcome) => match out.write_whole(&outcome.text) {
@@ -22,7 +24,7 @@ pub(crate) fn finish<K: Sink>(made: Result<Outcome, Halt>, out: &mut K) -> SiteE
     }
 }
 
-/// The end of work whose text was written.
+/// Returns the end of a command whose text was written.
 fn end_of_work(fault: Option<SiteError>) -> SiteEnd
     ensures { result ≡ end_of fault }
 {

@@ -1,3 +1,5 @@
+//! Reads the files of a list.
+
 ghost use Rattle.std.specs.Prelude.{◌≡◌, ◌≤◌, IfOk, IfErr};
 ghost use Rattle.site_image.specs.declared.TheConstants.{LONGEST_IMAGE};
 ghost use Rattle.file_tree.specs.Loading.{HasLoadCause, HoldsFile};
@@ -8,7 +10,7 @@ use file_tree::{Held, LONGEST_IMAGE, LoadFault, SiteError, SiteWhy, read_file};
 use std::alloc::Global;
 use uip_edge::Shelf;
 
-/// The list of the named files, read in turn up to the one for which there is no room.
+/// Reads the named files in turn, up to the one for which there is no room, and returns them as a list.
 pub(crate) fn gather<H: Shelf>(
     alloc: Global,
     files: &[NamedFile],
@@ -28,7 +30,7 @@ pub(crate) fn gather<H: Shelf>(
     Ok(list)
 }
 
-/// Reads a further file onto the list, and tells what room is left.
+/// Appends a further file to the list, and returns what room is left, in bytes.
 fn push_read<H: Shelf>(
     alloc: Global,
     list: &mut Vec<Held>,

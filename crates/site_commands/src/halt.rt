@@ -1,14 +1,16 @@
+//! Why a command has nothing to write.
+
 ghost use Rattle.std.specs.Prelude.{◌≡◌};
 ghost use Rattle.site_commands.specs.declared.halt.Halt.TheVariants.{NoMemory};
 
 use std::alloc::{AllocError, AllocFailed};
 
-/// Why nothing was made that could be written.
+/// Why there is nothing to write.
 #[derive(Clone, Copy, Debug, PartialEq, Eq)]
 pub(crate) enum Halt {
-    /// The shelf failed, or does not hold a file that is asked for.
+    /// The shelf failed, or does not hold a file that is needed.
     Shelf,
-    /// There was not enough memory.
+    /// Memory ran out.
     NoMemory,
 }
 

@@ -1,3 +1,5 @@
+//! Images to write.
+
 ghost use Rattle.std.specs.Prelude.{List, ℕ, Result};
 ghost use Rattle.site_image.specs.declared.site_error.SiteError.{SiteError as AnyError};
 ghost use Rattle.file_tree.specs.Answers.{Gives};
@@ -8,7 +10,7 @@ use crate::outcome::Outcome;
 use file_tree::LoadFault;
 use std::alloc::Global;
 
-/// An image to write, or its first fault with nothing to write.
+/// Returns an image to write, or its first fault with nothing to write.
 pub(crate) fn imaged(alloc: Global, made: Result<Vec<u8>, LoadFault>) -> Result<Outcome, Halt>
     ensures { (image : Result (List ℕ) AnyError) → Gives (λ bytes. bytes.items) made image → MakesImage image result }
 {
@@ -18,7 +20,7 @@ pub(crate) fn imaged(alloc: Global, made: Result<Vec<u8>, LoadFault>) -> Result<
     }
 }
 
-/// Nothing to write, for the fault.
+/// Returns nothing to write, for this fault.
 pub(crate) fn refused(alloc: Global, fault: LoadFault) -> Result<Outcome, Halt>
     ensures { MadeOfFault fault result }
 {

@@ -1,5 +1,6 @@
-//! What a maker does with the images of sites: look at one, pack files into one, and upgrade one. Files are read from a
-//! shelf, and the text is made whole before any of it is written to the sink, so that a fault leaves the sink as it was.
+//! The commands for images of sites: check one, pack files into one, upgrade one, and write a page of one. Files are read from
+//! a shelf. Each text except a page is complete before any of it is written to the sink, so after a fault the sink is
+//! unchanged.
 #![tactic(auto)]
 
 mod checking;

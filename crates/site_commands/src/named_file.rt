@@ -1,6 +1,6 @@
 use std::marker::Model;
 
-/// A file of the shelf, and the name that it gets in the image.
+/// A file of the shelf, and its name in the image.
 #[derive(Drop)]
 pub struct NamedFile {
     pub name: Vec<u8>,

@@ -1,7 +1,7 @@
 use file_tree::SiteError;
 use std::marker::Model;
 
-/// The text that is to be written, and what is wrong with the image, if anything.
+/// The text to write, and the fault of the image, if there is one.
 #[derive(Drop)]
 pub(crate) struct Outcome {
     pub text: Vec<u8>,

@@ -1,7 +1,9 @@
+//! `pack`: files to an image.
+
 ghost use Rattle.std.specs.Prelude.{◌≡◌};
 ghost use Rattle.site_commands.specs.Due.{pack_due};
 ghost use Rattle.site_commands.specs.Ending.{Ends, Makes};
-ghost use Rattle.uip_edge.specs.Telling.{work_told, shelf_told};
+ghost use Rattle.uip_edge.specs.ViewsOf.{work_view, shelf_view};
 
 use crate::finish::finish;
 use crate::gathering::gather;
@@ -13,23 +15,23 @@ use crate::site_end::SiteEnd;
 use std::alloc::Global;
 use uip_edge::{Shelf, Sink};
 
-/// Writes the image of the named files in version 1. A bad list writes nothing.
+/// Writes the image of the named files in version 1. If the list has a fault, writes nothing.
 pub fn pack<H: Shelf, K: Sink>(
     alloc: Global,
     files: &[NamedFile],
     shelf: &mut H,
     out: &mut K,
 ) -> SiteEnd
-    ensures ends { Ends (pack_due files.now) (work_told H.Shelf K.Sink shelf.old out.old)
-        (work_told H.Shelf K.Sink shelf.new out.new) result }
+    ensures ends { Ends (pack_due files.now) (work_view H.Shelf K.Sink shelf.old out.old)
+        (work_view H.Shelf K.Sink shelf.new out.new) result }
     ensures kept { H.held shelf.new ≡ H.held shelf.old }
 {
     finish(make(alloc, files, shelf), out)
 }
 
-/// The image, or the first fault of the list with nothing to write.
+/// Makes the image, or returns the first fault of the list with nothing to write.
 fn make<H: Shelf>(alloc: Global, files: &[NamedFile], shelf: &mut H) -> Result<Outcome, Halt>
-    ensures made { Makes (pack_due files.now) (shelf_told H.Shelf shelf.old) (shelf_told H.Shelf shelf.new) result }
+    ensures made { Makes (pack_due files.now) (shelf_view H.Shelf shelf.old) (shelf_view H.Shelf shelf.new) result }
     ensures kept { H.held shelf.new ≡ H.held shelf.old }
 {
     match gather(alloc, files, shelf) {

@@ -1,9 +1,11 @@
+//! `page`: one page of a site.
+
 ghost use Rattle.std.specs.Prelude.{◌≡◌, Ok};
 ghost use Rattle.file_tree.specs.Site.{files_of};
 ghost use Rattle.web_pages.specs.ZeroPages.{zero_page};
 ghost use Rattle.site_commands.specs.Due.{page_due};
 ghost use Rattle.site_commands.specs.Ending.{Ends};
-ghost use Rattle.uip_edge.specs.Telling.{sink_told, work_told};
+ghost use Rattle.uip_edge.specs.ViewsOf.{sink_view, work_view};
 ghost use Rattle.site_commands.specs.declared.site_end.SiteEnd.TheVariants as ends;
 ghost use Rattle.uip_edge.specs.Writing.{WritesEnd};
 
@@ -13,9 +15,9 @@ use httpd::page_zero;
 use std::alloc::Global;
 use uip_edge::{Shelf, Sink};
 
-/// Writes the page of a target, as a node says it at which nothing has happened, of the site whose image the shelf holds under
-/// the name, or of the site without files where the name is `-`. A page is written as it is made. Nothing is written of an
-/// image that has a fault.
+/// Writes the page of a target, as a node sends it before anything has happened. The site is the one whose image the shelf
+/// holds under the name; `-` is the site without files. The page is written as it is made. If the image has a fault, nothing is
+/// written.
 pub fn page<H: Shelf, K: Sink>(
     alloc: Global,
     name: &[u8],
@@ -23,8 +25,8 @@ pub fn page<H: Shelf, K: Sink>(
     shelf: &mut H,
     out: &mut K,
 ) -> SiteEnd
-    ensures ends { Ends (page_due name.now target.now) (work_told H.Shelf K.Sink shelf.old out.old)
-        (work_told H.Shelf K.Sink shelf.new out.new) result }
+    ensures ends { Ends (page_due name.now target.now) (work_view H.Shelf K.Sink shelf.old out.old)
+        (work_view H.Shelf K.Sink shelf.new out.new) result }
     ensures kept { H.held shelf.new ≡ H.held shelf.old }
 {
     match Site::open(alloc, shelf, name) {
@@ -37,7 +39,7 @@ pub fn page<H: Shelf, K: Sink>(
 
 /// Writes the page of a target.
 fn write_page<K: Sink>(site: &Site, target: &[u8], out: &mut K) -> SiteEnd
-    ensures { WritesEnd ends.Done ends.WriteFault (sink_told K.Sink out.old) (sink_told K.Sink out.new)
+    ensures { WritesEnd ends.Done ends.WriteFault (sink_view K.Sink out.old) (sink_view K.Sink out.new)
         (zero_page (files_of site.now) target.now) result }
 {
     match page_zero(site, target, out) {

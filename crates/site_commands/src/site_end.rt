@@ -1,16 +1,16 @@
 use file_tree::SiteError;
 
-/// How the work on an image ends.
+/// How a command for an image ends.
 #[derive(Clone, Copy, Debug, PartialEq, Eq)]
 pub enum SiteEnd {
     /// The whole text was written.
     Done,
-    /// The shelf failed, or does not hold a file that is asked for. Nothing was written.
+    /// The shelf failed, or does not hold a file that is needed. Nothing was written.
     ShelfFault,
-    /// The sink failed. A front of the text was written.
+    /// The sink failed. A prefix of the text was written.
     WriteFault,
-    /// The image, or the list that is to be made into one, has this first fault.
+    /// The image, or the list from which one is to be made, has this first fault.
     Bad(SiteError),
-    /// There was not enough memory. Nothing was written.
+    /// Memory ran out. Nothing was written.
     NoMemory,
 }

@@ -1,8 +1,10 @@
+//! `upgrade`: an image in version 2.
+
 ghost use Rattle.std.specs.Prelude.{◌≡◌, All, IsTrue};
 ghost use Rattle.site_image.specs.Names.{is_kind};
 ghost use Rattle.site_commands.specs.Due.{upgrade_due};
 ghost use Rattle.site_commands.specs.Ending.{Ends, Makes};
-ghost use Rattle.uip_edge.specs.Telling.{work_told, shelf_told};
+ghost use Rattle.uip_edge.specs.ViewsOf.{work_view, shelf_view};
 
 use crate::finish::finish;
 use crate::halt::Halt;
@@ -13,8 +15,8 @@ use file_tree::{KindWord, Site};
 use std::alloc::Global;
 use uip_edge::{Shelf, Sink};
 
-/// Writes the image in version 2 of the site that the shelf holds under the name, with the content types that the words give.
-/// A bad image, or a bad new list, writes nothing.
+/// Writes, in version 2, the image of the site that the shelf holds under the name, with the content types that the words give.
+/// If the image or the new list has a fault, writes nothing.
 pub fn upgrade<H: Shelf, K: Sink>(
     alloc: Global,
     name: &[u8],
@@ -23,14 +25,14 @@ pub fn upgrade<H: Shelf, K: Sink>(
     out: &mut K,
 ) -> SiteEnd
     requires { All (λ word. IsTrue (is_kind word.kind)) words.now }
-    ensures ends { Ends (upgrade_due name.now words.now) (work_told H.Shelf K.Sink shelf.old out.old)
-        (work_told H.Shelf K.Sink shelf.new out.new) result }
+    ensures ends { Ends (upgrade_due name.now words.now) (work_view H.Shelf K.Sink shelf.old out.old)
+        (work_view H.Shelf K.Sink shelf.new out.new) result }
     ensures kept { H.held shelf.new ≡ H.held shelf.old }
 {
     finish(make(alloc, name, words, shelf), out)
 }
 
-/// The new image, or the first fault of the old one or of the new list, with nothing to write.
+/// Makes the new image, or returns the first fault of the old one or of the new list, with nothing to write.
 fn make<H: Shelf>(
     alloc: Global,
     name: &[u8],
@@ -38,7 +40,7 @@ fn make<H: Shelf>(
     shelf: &mut H,
 ) -> Result<Outcome, Halt>
     requires { All (λ word. IsTrue (is_kind word.kind)) words.now }
-    ensures made { Makes (upgrade_due name.now words.now) (shelf_told H.Shelf shelf.old) (shelf_told H.Shelf shelf.new) result }
+    ensures made { Makes (upgrade_due name.now words.now) (shelf_view H.Shelf shelf.old) (shelf_view H.Shelf shelf.new) result }
     ensures kept { H.held shelf.new ≡ H.held shelf.old }
 {
     match Site::load(alloc, shelf, name) {

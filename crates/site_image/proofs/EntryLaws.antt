@@ -1,4 +1,4 @@
--- An entry without fault is the entry that was written, and what was written is read again; and so are entries in turn.
+-- An entry without fault is the entry that was written, and what was written is read back; and so for entries in turn.
 use Rattle.std.proofs.Common.{◌≡◌, ℕ, zero, suc, ◌+◌, ◌^◌, ◌<◌, Bool, true, false, cond, List, [], ◌∷◌, ◌++◌, length, Option, Some, None, Result, Ok, refl, sym, ap, subst, ◌∙◌, append_assoc}
 use Rattle.std.specs.List.{flat_map}
 use Rattle.std.specs.Option.{option_or}

@@ -33,7 +33,7 @@ refuse-ok false why x e = refl
 ok_is : {T : Type 0} (x y : T) → ◌≡◌ {A = Result T SiteError} (Ok x) (Ok y) → x ≡ y
 ok_is x y e = cc
 
--- ---- what stands before the entries
+-- ---- the head, before the entries
 
 version-by : (bytes : List ℕ) (one two : Bool) (v : Version) → starts_with nat_eq bytes (magic One) ≡ one → starts_with nat_eq bytes (magic Two) ≡ two
     → ◌≡◌ {A = Result Version SiteError} (cond one (Ok One) (cond two (Ok Two) (Err (fault Magic 0)))) (Ok v) → starts_with nat_eq bytes (magic v) ≡ true
@@ -41,11 +41,11 @@ version-by bytes true two v p q e = subst (λ w. starts_with nat_eq bytes (magic
 version-by bytes false true v p q e = subst (λ w. starts_with nat_eq bytes (magic w) ≡ true) (ok_is Two v e) q
 version-by bytes false false v p q e = absurd cc
 
-magic-front : (bytes : List ℕ) (v : Version) → starts_with nat_eq bytes (magic v) ≡ true → magic v ≡ take 8 bytes
-magic-front bytes One t = (bytes_eq-Decides (magic One) (take 8 bytes)).0 t
-magic-front bytes Two t = (bytes_eq-Decides (magic Two) (take 8 bytes)).0 t
+magic-prefix : (bytes : List ℕ) (v : Version) → starts_with nat_eq bytes (magic v) ≡ true → magic v ≡ take 8 bytes
+magic-prefix bytes One t = (bytes_eq-Decides (magic One) (take 8 bytes)).0 t
+magic-prefix bytes Two t = (bytes_eq-Decides (magic Two) (take 8 bytes)).0 t
 
--- what is read of the front
+-- what is read of the head
 pub record ReadsHead (bytes : List ℕ) (v : Version) (n : ℕ) : Type 0 where
   pub size : length bytes ≤ LONGEST_IMAGE
   pub count : n ≤ MOST_FILES
@@ -58,7 +58,7 @@ head-parts bytes v n fits long starts is =
     let two : length (take 2 rest) ≡ 2 = length-take-le 2 rest (omega (arith, length-drop 8 bytes)) in
     let number : to_be_bytes w16 n ≡ take 2 rest = be_bytes_2 (take 2 rest) n two (IsBytes-take 2 rest (IsBytes-drop 8 bytes fits)) is in
     sym (take-append-drop 8 bytes)
-    ∙ ap (λ x. x ++ rest) (sym (magic-front bytes v starts))
+    ∙ ap (λ x. x ++ rest) (sym (magic-prefix bytes v starts))
     ∙ ap (λ x. magic v ++ x) (sym (take-append-drop 2 rest) ∙ ap (λ x. x ++ drop 2 rest) (sym number) ∙ ap (λ x. to_be_bytes w16 n ++ x) (drop-drop 2 8 bytes))
 
 pub head-reads : (bytes : List ℕ) (v : Version) (n : ℕ) → IsBytes bytes → image_head bytes ≡ Ok (v, n) → ReadsHead bytes v n
@@ -141,7 +141,7 @@ scripts-again all i (f ∷ files) sound =
     unless-none (script_fault all f) (i + 1) (scripts all (i + 1) files) (sound 0 f refl)
     ∙ scripts-again all (i + 1) files (λ k file s. sound (suc k) file s)
 
--- ---- fresh names, told by places
+-- ---- fresh names, by indices
 
 name-of-has : (files : List File) (name : List ℕ) → has_name files name ≡ true → (k : ℕ) × (file : File) × (slice_get files k ≡ Some file) × (file.name ≡ name)
 name-of-has [] name t = absurd (true≢false (sym t))

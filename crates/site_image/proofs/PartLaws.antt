@@ -1,4 +1,4 @@
--- A part that has no fault is the part that was written, and what was written is read again.
+-- A part that has no fault is the part that was written, and what was written is read back.
 use Rattle.std.proofs.Common.{◌≡◌, ◌≢◌, ℕ, ◌+◌, ◌^◌, ◌<◌, ◌≤◌, not, ◌||◌, eqb, ltb, leb, ◌&&◌, List, [], ◌∷◌, ◌++◌, length, get_or, take, drop, None, refl, sym, ap, ◌∙◌, append_assoc, add-one, arith, inl, inr}
 use Rattle.std.specs.Prelude.{IsTrue}
 use Rattle.std.specs.List.{list_all}
@@ -27,7 +27,7 @@ IsBytes-take n bytes h i =
       | inr le ↦ rw (get_or_past (take n bytes) i 0 (omega (arith, length-take n bytes))) (omega arith)
     ]
 
--- a text behind its length
+-- a text after its length
 pub short-parts : (bytes : List ℕ) → length bytes ≢ 0 → byte_length bytes + 1 ≤ length bytes → bytes ≡ short_text (text bytes) ++ after_text bytes
 short-parts [] some within = absurd (some refl)
 short-parts (n ∷ bytes) some within =
@@ -46,37 +46,37 @@ short-after t rest = ap (λ k. drop k (length t ∷ (t ++ rest))) (add-one (leng
 pub short-length : (t rest : List ℕ) → length (short_text t ++ rest) ≡ length t + 1 + length rest
 short-length t rest = omega (arith, length-append t rest)
 
--- a content behind its length
+-- a content after its length
 long-parts-by : (bytes : List ℕ) (n : ℕ) → IsBytes bytes → n ≡ long_length bytes → n + 4 ≤ length bytes → bytes ≡ long_text (take n (drop 4 bytes)) ++ drop (n + 4) bytes
 long-parts-by bytes n fits is within =
     let rest = drop 4 bytes in
     let len : length (take n rest) ≡ n = length-take-le n rest (omega (arith, length-drop 4 bytes)) in
     let four : length (take 4 bytes) ≡ 4 = length-take-le 4 bytes (omega arith) in
-    let front : to_be_bytes w32 n ≡ take 4 bytes = be_bytes_4 (take 4 bytes) n four (IsBytes-take 4 bytes fits) is in
+    let prefix : to_be_bytes w32 n ≡ take 4 bytes = be_bytes_4 (take 4 bytes) n four (IsBytes-take 4 bytes fits) is in
     let after : drop (n + 4) bytes ≡ drop n rest = sym (drop-drop n 4 bytes ∙ ap (λ k. drop k bytes) (omega arith)) in
     sym (take-append-drop 4 bytes)
     ∙ ap (λ x. take 4 bytes ++ x) (sym (take-append-drop n rest))
     ∙ ap (λ x. take 4 bytes ++ (take n rest ++ x)) (sym after)
     ∙ sym (append_assoc (take 4 bytes) (take n rest) (drop (n + 4) bytes))
-    ∙ ap (λ x. (x ++ take n rest) ++ drop (n + 4) bytes) (sym front)
+    ∙ ap (λ x. (x ++ take n rest) ++ drop (n + 4) bytes) (sym prefix)
     ∙ ap (λ k. (to_be_bytes w32 k ++ take n rest) ++ drop (n + 4) bytes) (sym len)
 
 pub long-parts : (bytes : List ℕ) → IsBytes bytes → long_length bytes + 4 ≤ length bytes → bytes ≡ long_text (content bytes) ++ after_content bytes
 long-parts bytes fits within = long-parts-by bytes (long_length bytes) fits refl within
 
-long-front : (c rest : List ℕ) → long_text c ++ rest ≡ to_be_bytes w32 (length c) ++ (c ++ rest)
-long-front c rest = append_assoc (to_be_bytes w32 (length c)) c rest
+long-prefix : (c rest : List ℕ) → long_text c ++ rest ≡ to_be_bytes w32 (length c) ++ (c ++ rest)
+long-prefix c rest = append_assoc (to_be_bytes w32 (length c)) c rest
 
 pub long-length : (c rest : List ℕ) → length c < 2 ^ 32 → long_length (long_text c ++ rest) ≡ length c
 long-length c rest lt =
-    ap (λ x. from_be_bytes w32 (take 4 x)) (long-front c rest)
+    ap (λ x. from_be_bytes w32 (take 4 x)) (long-prefix c rest)
     ∙ ap (from_be_bytes w32) (take_at (to_be_bytes w32 (length c)) (c ++ rest) 4 refl)
     ∙ from_be_bytes-to_be_bytes_4 (length c) lt
 
 pub long-content : (c rest : List ℕ) → length c < 2 ^ 32 → content (long_text c ++ rest) ≡ c
 long-content c rest lt =
     ap (λ n. take n (drop 4 (long_text c ++ rest))) (long-length c rest lt)
-    ∙ ap (λ x. take (length c) (drop 4 x)) (long-front c rest)
+    ∙ ap (λ x. take (length c) (drop 4 x)) (long-prefix c rest)
     ∙ ap (take (length c)) (drop_at (to_be_bytes w32 (length c)) (c ++ rest) 4 refl)
     ∙ take_at c rest (length c) refl
 

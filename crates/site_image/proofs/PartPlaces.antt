@@ -1,4 +1,4 @@
--- A part of an image by its place, and by what is left of the image from a place before it.
+-- A part of an image by its place, and by what is left of the image from an earlier offset on.
 use Rattle.std.proofs.Common.{◌≡◌, ℕ, ◌+◌, ◌-◌, ◌≤◌, List, length, take, drop, sym, ap, ◌∙◌, arith}
 use Rattle.std.proofs.lemmas.List.{drop-drop}
 use Rattle.site_image.specs.Places.{IsPart}

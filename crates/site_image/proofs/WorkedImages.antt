@@ -1,4 +1,4 @@
--- Images worked by hand: what the definitions say of them.
+-- Images worked by hand: what the definitions give for them.
 use Rattle.std.specs.Prelude.{◌≡◌, ℕ, List, [], ◌∷◌, ◌++◌, codes, take, map, Option, None, Some, Result, Ok, Err, refl}
 use Rattle.site_image.specs.declared.site_error.SiteWhy.TheVariants as why
 use Rattle.site_image.specs.declared.site_error.SiteError.{SiteError}

@@ -1,4 +1,4 @@
--- The constants of the code that definitions cite, with their values: a definition that names one says this number.
+-- The constants of the code that definitions name, and their values.
 use Rattle.std.specs.Prelude.{◌≡◌, ℕ}
 use Rattle.site_image.specs.declared.TheConstants.{LONGEST_IMAGE, MOST_FILES, LONGEST_NAME, LONGEST_KIND, PAGE_LIMIT, HEAD_LEN, KIND_LINE_LEN}
 

@@ -1,5 +1,5 @@
--- The first fault of an image, and the files that an image without fault stands for. Both are told by reading the image
--- from its front: the whole, then entry after entry, then what follows the last one, then script after script.
+-- The first fault of an image, and the files that an image without fault represents. Reading the image from its start
+-- determines both: the whole, then entry after entry, then what follows the last one, then script after script.
 use Rattle.std.specs.Prelude.{ℕ, zero, suc, ◌+◌, Bool, ⊤, List, [], ◌∷◌, ◌++◌, length, take, drop, nat_eq, nat_lt, if◌then◌else◌, Option, None, Some, Result, Ok, Err}
 use Rattle.std.specs.Option.{option_or}
 use Rattle.std.specs.List.{starts_with}
@@ -15,11 +15,11 @@ use Rattle.site_image.specs.Pages.{script_fault}
 use Rattle.site_image.specs.Grammar.{magic}
 use Rattle.site_image.specs.Parts.{text, after_text, kind_given, after_kind, content, after_content, name_fault, kind_fault, content_fault}
 
--- a fault of entry i, counted from 1; 0 stands for the whole
+-- a fault of entry i, counted from 1; 0 is the whole image
 abbrev pub fault : SiteWhy → ℕ → SiteError
 fault why i = record { why = why; entry = i }
 
--- goes on with the first where there is no fault, else this is the result
+-- the given result, if there is no fault; else the fault of entry i
 abbrev pub unless : {T : Type 0} → Option SiteWhy → ℕ → Result T SiteError → Result T SiteError
 unless None i next = next
 unless (Some why) i next = Err (fault why i)
@@ -29,11 +29,11 @@ abbrev pub ◌>>=◌ : {A B : Type 0} → Result A SiteError → (A → Result B
 (Ok x) >>= f = f x
 (Err e) >>= f = Err e
 
--- the fault of the whole, where the test holds
+-- the fault of the whole, if the test holds
 abbrev pub refuse : Bool → SiteWhy → Result ⊤ SiteError
 refuse test why = if test then Err (fault why 0) else Ok tt
 
--- the version that the first eight bytes tell
+-- the version by the first eight bytes
 abbrev pub version_of : List ℕ → Result Version SiteError
 version_of bytes =
     if starts_with nat_eq bytes (magic One) then Ok One
@@ -53,13 +53,14 @@ image_head bytes = do
   _ ← refuse (nat_lt MOST_FILES (file_count bytes)) TooMany
   Ok (version, file_count bytes)
 
--- what is wrong with the entry in front: its name, else that an earlier file has it, else its content type, else its content
+-- What is wrong with the entry at the start: its name, else that an earlier file has it, else its content type, else its
+-- content.
 abbrev pub entry_fault : Version → List File → List ℕ → Option SiteWhy
 entry_fault version earlier bytes =
     option_or (name_fault bytes) (option_or (if has_name earlier (text bytes) then Some Twice else None)
     (option_or (kind_fault version (after_text bytes)) (content_fault (after_kind version (after_text bytes)))))
 
--- the file that it stands for
+-- the file that it represents
 abbrev pub entry_file : Version → List ℕ → File
 entry_file version bytes = record {
   name = text bytes;
@@ -71,7 +72,7 @@ entry_file version bytes = record {
 abbrev pub after_entry : Version → List ℕ → List ℕ
 after_entry version bytes = after_content (after_kind version (after_text bytes))
 
--- so many entries in turn, behind the earlier files: all files, and what follows the last entry
+-- this number of entries in turn, after the earlier files: all files, and what follows the last entry
 unfoldable pub entries : Version → ℕ → List File → List ℕ → Result (List File × List ℕ) SiteError
 entries version zero earlier bytes = Ok (earlier, bytes)
 entries version (suc left) earlier bytes =

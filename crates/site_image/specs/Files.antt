@@ -18,6 +18,6 @@ has_name files name = list_any (λ file. bytes_eq file.name name) files
 abbrev pub file_named : List File → List ℕ → Option File
 file_named files name = find (λ file. bytes_eq file.name name) files
 
--- the content type of a file's page: its own, or where that is empty the one by the name
+-- the content type of a file's page: its own, or by its name if its own is empty
 abbrev pub kind_of : File → List ℕ
 kind_of file = if length file.kind == 0 then kind_by_name file.name else file.kind

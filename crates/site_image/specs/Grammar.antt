@@ -1,4 +1,4 @@
--- The grammar of an image: what is written for a list of files.
+-- The grammar of an image: the bytes that represent a list of files.
 use Rattle.std.specs.Prelude.{◌≡◌, ◌≤◌, ℕ, List, [], ◌∷◌, ◌++◌, length, codes, IsTrue, None, slice_get, Some}
 use Rattle.std.specs.List.{flat_map}
 use Rattle.std.specs.Int.{w16, w32, to_be_bytes}
@@ -9,7 +9,7 @@ use Rattle.site_image.specs.Names.{is_name, is_kind}
 use Rattle.site_image.specs.Files.{File}
 use Rattle.site_image.specs.Pages.{script_fault}
 
--- the eight bytes in front, which tell the version
+-- the eight bytes at the start, which identify the version
 abbrev pub magic : Version → List ℕ
 magic One = codes "UIPSITE1"
 magic Two = codes "UIPSITE2"
@@ -41,8 +41,8 @@ pub record IsFile (version : Version) (file : File) : Type 0 where
   pub name : IsTrue (is_name file.name)
   pub kind : IsKindIn version file.kind
 
--- the files of a good image: few enough, of distinct names, not too long, each include of a script names one of them,
--- and no page can be too long
+-- The files of a good image: few enough, of distinct names, not too long; each include of a script names one of them, and no
+-- page can be too long.
 pub record IsSite (version : Version) (files : List File) : Type 0 where
   pub count : length files ≤ MOST_FILES
   pub each : (k : ℕ) (file : File) → slice_get files k ≡ Some file → IsFile version file

@@ -1,4 +1,5 @@
 -- The names and the content types of files.
+-- [add: content-type] The ending of a name, and its type.
 use Rattle.std.specs.Prelude.{ℕ, ◌==◌, Bool, ◌&&◌, not, List, length, nat_le, codes, slice_index, if◌then◌else◌}
 use Rattle.std.specs.List.{list_all, ends_with}
 use Rattle.std.specs.Prelude.{nat_eq}
@@ -24,7 +25,7 @@ is_kind kind = nat_le (length kind) LONGEST_KIND && list_all is_kind_byte kind
 abbrev pub is_script : List ℕ → Bool
 is_script name = ends_with nat_eq name (codes ".shtml")
 
--- the content type by the end of the name
+-- the content type by the ending of the name
 abbrev pub kind_by_name : List ℕ → List ℕ
 kind_by_name name =
     if ends_with nat_eq name (codes ".html") then codes "text/html"

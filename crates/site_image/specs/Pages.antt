@@ -14,15 +14,15 @@ use Rattle.site_image.specs.declared.site_error.SiteWhy.TheVariants as why
 use Rattle.site_image.specs.Names.{is_script}
 use Rattle.site_image.specs.Files.{File, has_name, file_named, kind_of}
 
--- the greatest length of what a piece of a script gives: a text run its bytes, an include the bytes of the file that it
--- names and none where there is no such file, a call the greatest length of its function
+-- The greatest length of the text of a script's piece. A text run has its bytes, an include the bytes of the file that it
+-- names (none if there is no such file), a call the greatest length of its function.
 abbrev pub piece_length_by : {F : Type 0} → Calling F → List File → List ℕ → PieceOf F → ℕ
 piece_length_by c files script (Text at len) = len
 piece_length_by c files script (Include at len) =
     option_map_or (λ file. length file.content) (file_named files (slice_range script at (at + len))) 0
 piece_length_by c files script (Call function at len) = c.length_at_most function
 
--- a file's bytes, or for a script what its pieces give at most
+-- a file's bytes, or for a script the greatest length of its text
 abbrev pub body_length_by : {F : Type 0} → Calling F → List File → File → ℕ
 body_length_by c files file =
     if is_script file.name then sum_by (λ found. piece_length_by c files file.content found.piece) (pieces_by c.named file.content 0)
@@ -46,7 +46,7 @@ script_fault_by c files file =
     else None)
     else None
 
--- Where the functions are those of uIP.
+-- For the functions of uIP.
 abbrev pub piece_length : List File → List ℕ → PieceOf Function → ℕ
 piece_length = piece_length_by uip_calls
 

@@ -1,4 +1,4 @@
--- The parts of an entry, from the front of what is left of an image, and what is wrong with each.
+-- The parts of an entry, from the start of what is left of an image, and what is wrong with each.
 use Rattle.std.specs.Prelude.{ℕ, ◌+◌, ◌==◌, Bool, ◌||◌, not, List, [], ◌∷◌, length, take, drop, nat_lt, slice_index, if◌then◌else◌, Option, None, Some}
 use Rattle.std.specs.Int.{w32, from_be_bytes}
 use Rattle.site_image.specs.declared.TheConstants.{LONGEST_NAME, LONGEST_KIND}
@@ -42,7 +42,7 @@ name_fault bytes = first_of (
     ∷ (not (is_name (text bytes)), Name)
     ∷ [])
 
--- what is wrong with a content type, which is there in version 2
+-- what is wrong with a content type, which only version 2 has
 abbrev pub kind_fault : Version → List ℕ → Option SiteWhy
 kind_fault One bytes = None
 kind_fault Two bytes = first_of (

@@ -1,17 +1,17 @@
--- Where the files of an image lie in it.
+-- The places of the files of an image.
 use Rattle.std.specs.Prelude.{ℕ, ◌≡◌, ◌+◌, ◌≤◌, List, drop, slice_range, length, map}
 use Rattle.site_image.specs.declared.place.Place.{Place}
 use Rattle.site_image.specs.declared.part.Part.{Part}
 use Rattle.site_image.specs.Files.{File}
 
--- a part of an image: it stands for the value, and the rest follows it
+-- a part of an image: it represents the value, and the rest follows it
 pub record IsPart (image : List ℕ) (part : Part) (value rest : List ℕ) : Type 0 where
   pub within : part.at + part.len ≤ part.next
   pub next : part.next ≤ length image
   pub value_is : slice_range image part.at (part.at + part.len) ≡ value
   pub rest_is : drop part.next image ≡ rest
 
--- the parts of a place lie within the image
+-- the parts of a place are within the image
 pub record IsWithin (image : List ℕ) (place : Place) : Type 0 where
   pub name : place.name_at + place.name_len ≤ length image
   pub kind : place.kind_at + place.kind_len ≤ length image

@@ -1,3 +1,5 @@
+//! The head of an image: its version and the number of its entries.
+
 ghost use Rattle.std.specs.Prelude.{◌≡◌, ◌≤◌, length, IfOk};
 ghost use Rattle.site_image.specs.Faults.{version_of, image_head};
 
@@ -5,14 +7,14 @@ use crate::site_error::{SiteError, SiteWhy};
 use crate::version::Version;
 use crate::{LONGEST_IMAGE, MOST_FILES};
 
-/// The fault of the whole.
+/// Returns the fault of the whole image.
 fn whole(why: SiteWhy) -> SiteError
     ensures { result ≡ record { why = why; entry = 0 } }
 {
     SiteError { why, entry: 0 }
 }
 
-/// The version that the first eight bytes tell.
+/// Returns the version by the first eight bytes.
 fn version_at(bytes: &[u8]) -> Result<Version, SiteError>
     ensures { result ≡ version_of bytes.now }
 {
@@ -27,7 +29,7 @@ fn version_at(bytes: &[u8]) -> Result<Version, SiteError>
     Err(whole(SiteWhy::Magic))
 }
 
-/// The version of an image and the count of its entries, or the first fault that is no entry's.
+/// Returns the version of an image and the number of its entries, or the first fault that is of no entry.
 #[tactic(auto, unfolding(crate::specs::Faults::image_head))]
 pub fn read_head(bytes: &[u8]) -> Result<(Version, usize), SiteError>
     ensures head { result ≡ image_head bytes.now }

@@ -1,7 +1,9 @@
+//! Scripts and content types, by the names of files.
+
 ghost use Rattle.std.specs.Prelude.{◌≡◌};
 ghost use Rattle.site_image.specs.Names as names;
 
-/// Whether the file is a script, by its name.
+/// Returns whether the file with this name is a script.
 pub fn is_script(name: &[u8]) -> bool
     ensures { result ≡ names.is_script name.now }
 {
@@ -9,7 +11,8 @@ pub fn is_script(name: &[u8]) -> bool
     name.ends_with(end)
 }
 
-/// The content type by the end of the name.
+/// Returns the content type by the ending of the name.
+/// [add: content-type] The ending of a name, and its type.
 pub fn content_kind(name: &[u8]) -> &'static [u8]
     ensures { result.now ≡ names.kind_by_name name.now }
 {

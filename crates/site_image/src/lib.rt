@@ -1,6 +1,6 @@
-//! The image of a site: one list of bytes that stands for a list of files, in two versions, of which the second gives
-//! each file a content type. Here are its grammar, the table of its faults, and the reading and writing of its parts;
-//! the site that is loaded from an image stands in `file_tree`.
+//! The image of a site: one list of bytes that represents a list of files, in two versions. Version 2 gives each file a content
+//! type. This crate has the grammar, the table of faults, and the reading and writing of parts; `file_tree` has the site that
+//! is loaded from an image.
 #![tactic(auto)]
 
 mod head;
@@ -25,23 +25,23 @@ pub use site_error::{SiteError, SiteWhy};
 pub use version::Version;
 pub use writing::{push_entry, push_head};
 
-/// The most bytes of an image.
+/// The greatest size of an image, in bytes.
 pub const LONGEST_IMAGE: usize = 16_777_216;
 
-/// The most files of a site.
+/// The greatest number of files of a site.
 pub const MOST_FILES: usize = 1024;
 
-/// The most bytes of a file's name.
+/// The greatest length of a file's name, in bytes.
 pub const LONGEST_NAME: usize = 64;
 
-/// The most bytes of a file's content type.
+/// The greatest length of a file's content type, in bytes.
 pub const LONGEST_KIND: usize = 64;
 
-/// A page whose greatest length is so many bytes, or more, is too long.
+/// A page is too long if its greatest length is this number of bytes or more.
 pub const PAGE_LIMIT: usize = 1_073_741_824;
 
-/// The length of a page's head, the status line and two header lines.
+/// The length of a page's head, the status line and two header lines, in bytes.
 pub const HEAD_LEN: usize = 53;
 
-/// The length of `Content-type: ` and of the line's end with the empty line after it.
+/// The length of `Content-type: ` and of the line end with the empty line after it, in bytes.
 pub const KIND_LINE_LEN: usize = 18;

@@ -1,10 +1,12 @@
+//! The names and content types that an image may have.
+
 ghost use Rattle.std.specs.Prelude.{◌≡◌};
 ghost use Rattle.std.specs.List.{list_all};
 ghost use Rattle.site_image.specs.Names as names;
 
 use crate::{LONGEST_KIND, LONGEST_NAME};
 
-/// Whether each byte may stand in a name.
+/// Returns whether each byte is allowed in a name.
 fn are_name_bytes(bytes: &[u8]) -> bool
     ensures { result ≡ list_all names.is_name_byte bytes.now }
 {
@@ -13,14 +15,14 @@ fn are_name_bytes(bytes: &[u8]) -> bool
         .all(|byte| *byte >= 0x21 && *byte <= 0x7E && *byte != b'?')
 }
 
-/// Whether each byte may stand in a content type.
+/// Returns whether each byte is allowed in a content type.
 fn are_kind_bytes(bytes: &[u8]) -> bool
     ensures { result ≡ list_all names.is_kind_byte bytes.now }
 {
     bytes.iter().all(|byte| *byte >= 0x20 && *byte <= 0x7E)
 }
 
-/// Whether the bytes are a file's name: 1 to 64 bytes from 0x21 to 0x7E without `?`, of which the first is `/`.
+/// Returns whether the bytes are a file's name: 1 to 64 bytes from 0x21 to 0x7E without `?`, the first of them `/`.
 pub fn is_name(name: &[u8]) -> bool
     ensures { result ≡ names.is_name name.now }
 {
@@ -33,7 +35,7 @@ pub fn is_name(name: &[u8]) -> bool
     are_name_bytes(name)
 }
 
-/// Whether the bytes are a content type: 0 to 64 bytes from 0x20 to 0x7E.
+/// Returns whether the bytes are a content type: 0 to 64 bytes from 0x20 to 0x7E.
 pub fn is_kind(kind: &[u8]) -> bool
     ensures { result ≡ names.is_kind kind.now }
 {

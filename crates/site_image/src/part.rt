@@ -1,4 +1,4 @@
-/// Where a part of an image lies, and where the next one begins, in bytes from the front.
+/// The range of a part of an image, and where the next part begins, in bytes from the start.
 #[derive(Clone, Copy, Debug, PartialEq, Eq)]
 pub struct Part {
     pub at: usize,

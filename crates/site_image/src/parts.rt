@@ -1,3 +1,5 @@
+//! The parts of an entry, each after its length.
+
 ghost use Rattle.std.specs.Prelude.{◌≡◌, ◌+◌, ◌≤◌, ◌<◌, drop, length, IfOk, IfErr, Some, None};
 ghost use Rattle.site_image.specs.Parts.{name_fault, kind_fault, content_fault, byte_length, long_length, text, after_text, kind_given, after_kind, content, after_content};
 ghost use Rattle.site_image.specs.Places.{IsPart};
@@ -9,7 +11,7 @@ use crate::site_error::SiteWhy;
 use crate::version::Version;
 use crate::{LONGEST_KIND, LONGEST_NAME};
 
-/// The length of the name in front, whose length byte comes first.
+/// Returns the length of the name at the start, after its length byte; or its fault.
 fn name_len(bytes: &[u8]) -> Result<usize, SiteWhy>
     ensures ok { IfOk result (λ n. (name_fault bytes.now ≡ None) × (n ≡ byte_length bytes.now)) }
     ensures within { IfOk result (λ n. (n ≤ LONGEST_NAME) × (n + 1 ≤ length bytes.now)) }
@@ -31,7 +33,7 @@ fn name_len(bytes: &[u8]) -> Result<usize, SiteWhy>
     Ok(len)
 }
 
-/// The length of the content type in front, whose length byte comes first.
+/// Returns the length of the content type at the start, after its length byte; or its fault.
 fn kind_len(bytes: &[u8]) -> Result<usize, SiteWhy>
     ensures ok { IfOk result (λ n. (kind_fault Two bytes.now ≡ None) × (n ≡ byte_length bytes.now)) }
     ensures within { IfOk result (λ n. (n ≤ LONGEST_KIND) × (n + 1 ≤ length bytes.now)) }
@@ -53,7 +55,7 @@ fn kind_len(bytes: &[u8]) -> Result<usize, SiteWhy>
     Ok(len)
 }
 
-/// The length of the content in front, whose length comes first in four bytes.
+/// Returns the length of the content at the start, after its length of four bytes; or its fault.
 fn content_len(bytes: &[u8]) -> Result<usize, SiteWhy>
     ensures ok { IfOk result (λ n. (content_fault bytes.now ≡ None) × (n ≡ long_length bytes.now)) }
     ensures within { IfOk result (λ n. n + 4 ≤ length bytes.now) }
@@ -69,7 +71,7 @@ fn content_len(bytes: &[u8]) -> Result<usize, SiteWhy>
     Ok(len)
 }
 
-/// The name of the entry at `at`.
+/// Returns the range of the name at `at`, or its fault.
 pub fn name_part(image: &[u8], at: usize) -> Result<Part, SiteWhy>
     requires { at ≤ length image.now }
     ensures ok { IfOk result (λ part. (name_fault (drop at image.now) ≡ None)
@@ -80,7 +82,7 @@ pub fn name_part(image: &[u8], at: usize) -> Result<Part, SiteWhy>
     Ok(short_part(image, at, len))
 }
 
-/// The content type at `at`, which version 1 does not have.
+/// Returns the range of the content type at `at`, or its fault. Version 1 has none.
 pub fn kind_part(image: &[u8], at: usize, version: Version) -> Result<Part, SiteWhy>
     requires { at ≤ length image.now }
     ensures ok { IfOk result (λ part. (kind_fault version (drop at image.now) ≡ None)
@@ -100,7 +102,7 @@ pub fn kind_part(image: &[u8], at: usize, version: Version) -> Result<Part, Site
     }
 }
 
-/// The content at `at`.
+/// Returns the range of the content at `at`, or its fault.
 pub fn content_part(image: &[u8], at: usize) -> Result<Part, SiteWhy>
     requires { at ≤ length image.now }
     ensures ok { IfOk result (λ part. (content_fault (drop at image.now) ≡ None)
@@ -111,7 +113,7 @@ pub fn content_part(image: &[u8], at: usize) -> Result<Part, SiteWhy>
     Ok(long_part(image, at, len))
 }
 
-/// The text at `at`, behind its length in one byte.
+/// Returns the range of the text at `at`, after its length byte.
 fn short_part(image: &[u8], at: usize, len: usize) -> Part
     requires within { at + len + 1 ≤ length image.now }
     requires is_len { len ≡ byte_length (drop at image.now) }
@@ -124,7 +126,7 @@ fn short_part(image: &[u8], at: usize, len: usize) -> Part
     }
 }
 
-/// The content at `at`, behind its length in four bytes.
+/// Returns the range of the content at `at`, after its length of four bytes.
 fn long_part(image: &[u8], at: usize, len: usize) -> Part
     requires within { at + len + 4 ≤ length image.now }
     requires is_len { len ≡ long_length (drop at image.now) }

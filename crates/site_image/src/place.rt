@@ -1,4 +1,4 @@
-/// Where a file lies in its image, in bytes from the front, and how long its page can be at most.
+/// Where a file is in its image, in bytes from the start, and the greatest length of its page.
 #[derive(Clone, Copy, Debug, PartialEq, Eq)]
 pub struct Place {
     pub name_at: u32,

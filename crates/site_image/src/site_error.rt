@@ -1,11 +1,13 @@
-/// What is wrong with an image, or with a list that is to be made into one.
+//! The faults of an image.
+
+/// What is wrong with an image, or with a list from which one is to be made.
 #[derive(Clone, Copy, Debug, PartialEq, Eq)]
 pub enum SiteWhy {
     /// It has more than 16,777,216 bytes.
     TooLong,
     /// It does not begin with the magic bytes of a version.
     Magic,
-    /// It ends before a part is whole.
+    /// It ends before a part is complete.
     Cut,
     /// It has more than 1024 files.
     TooMany,
@@ -23,7 +25,7 @@ pub enum SiteWhy {
     PageTooLong,
 }
 
-/// A fault, and the number of the entry that has it, counted from 1; 0 stands for the whole.
+/// A fault, and the number of its entry, counted from 1; 0 is the whole image.
 #[derive(Clone, Copy, Debug, PartialEq, Eq)]
 pub struct SiteError {
     pub why: SiteWhy,

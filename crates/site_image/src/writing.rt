@@ -1,3 +1,5 @@
+//! Writes the parts of an image.
+
 ghost use Rattle.std.specs.Prelude.{◌≡◌, ◌≤◌, ◌<◌, ◌++◌, ◌^◌, length, OnOk};
 ghost use Rattle.std.specs.Int.{w16, to_be_bytes};
 ghost use Rattle.site_image.specs.Grammar.{magic, short_text, long_text, entry};
@@ -6,7 +8,7 @@ use crate::version::Version;
 use crate::{LONGEST_KIND, LONGEST_NAME, MOST_FILES};
 use std::alloc::AllocError;
 
-/// Appends a text behind its length in one byte.
+/// Appends a text after its length byte.
 fn push_short(out: &mut Vec<u8>, text: &[u8]) -> Result<(), AllocError>
     requires { length text.now < 2 ^ 8 }
     ensures { OnOk result (out.new.items ≡ out.old.items ++ short_text text.now) }
@@ -16,7 +18,7 @@ fn push_short(out: &mut Vec<u8>, text: &[u8]) -> Result<(), AllocError>
     Ok(())
 }
 
-/// Appends a content behind its length in four bytes.
+/// Appends a content after its length of four bytes.
 fn push_long(out: &mut Vec<u8>, content: &[u8]) -> Result<(), AllocError>
     requires { length content.now < 2 ^ 32 }
     ensures { OnOk result (out.new.items ≡ out.old.items ++ long_text content.now) }
@@ -27,7 +29,7 @@ fn push_long(out: &mut Vec<u8>, content: &[u8]) -> Result<(), AllocError>
     Ok(())
 }
 
-/// Appends what stands before the entries.
+/// Appends the head, which is before the entries.
 pub fn push_head(out: &mut Vec<u8>, version: Version, count: usize) -> Result<(), AllocError>
     requires { count ≤ MOST_FILES }
     ensures { OnOk result (out.new.items ≡ out.old.items ++ (magic version ++ to_be_bytes w16 count)) }

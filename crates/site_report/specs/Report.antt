@@ -1,4 +1,4 @@
--- What is told of an image: its files, or its first fault.
+-- The report on an image: its files, or its first fault.
 use Rattle.std.specs.Prelude.{ℕ, List, ◌++◌, length, codes, decimal}
 use Rattle.std.specs.List.{flat_map}
 use Rattle.site_image.specs.declared.site_error.SiteError.{SiteError}
@@ -11,7 +11,7 @@ use Rattle.site_image.specs.Pages.{page_length}
 abbrev pub file_line : List File → File → List ℕ
 file_line files file = file.name ++ codes " " ++ decimal (page_length files file) ++ codes "\n"
 
--- a line for each file in the image's order, and one with their count
+-- a line for each file in image order, and one with their count
 abbrev pub image_report : List File → List ℕ
 image_report files = flat_map (file_line files) files ++ codes "files " ++ decimal (length files) ++ codes "\n"
 

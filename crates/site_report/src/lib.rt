@@ -1,4 +1,4 @@
-//! What is told of the image of a site: a line for each of its files, or the line of its first fault.
+//! The report on a site's image: a line for each of its files, or the line of its first fault.
 #![tactic(auto)]
 
 mod telling;

@@ -1,3 +1,5 @@
+//! The lines of the report.
+
 ghost use Rattle.std.specs.Prelude.{◌≡◌, ◌<◌, ◌++◌, decimal, length, slice_get, IfOk, OnOk, Some};
 ghost use Rattle.std.specs.List.{flat_map};
 ghost use Rattle.site_image.specs.Files.{File};
@@ -8,7 +10,8 @@ use file_tree::{FileId, Site, SiteError, SiteWhy};
 use itoa::Buffer;
 use std::alloc::{AllocError, Global};
 
-/// A line for each file with the greatest length of its page, and one with their count.
+/// Makes a line for each file, with the greatest length of its page in bytes, and a line with their count. Fails if memory runs
+/// out.
 pub fn report(alloc: Global, site: &Site) -> Result<Vec<u8>, AllocError>
     ensures { IfOk result (λ text. text.items ≡ report_of (files_of site.now)) }
 {
@@ -51,7 +54,7 @@ fn push_number(text: &mut Vec<u8>, number: usize) -> Result<(), AllocError>
     text.extend_from_slice(digits.format(number).as_bytes())
 }
 
-/// The line that tells what is wrong with an image.
+/// Makes the line that reports a fault of an image. Fails if memory runs out.
 pub fn bad_line(alloc: Global, error: SiteError) -> Result<Vec<u8>, AllocError>
     ensures { IfOk result (λ text. text.items ≡ bad_line_of error) }
 {
@@ -63,7 +66,7 @@ pub fn bad_line(alloc: Global, error: SiteError) -> Result<Vec<u8>, AllocError>
     Ok(text)
 }
 
-/// The word of a fault.
+/// Returns the word of a fault.
 pub fn why_word(why: SiteWhy) -> &'static [u8]
     ensures { result.now ≡ word_of why }
 {

@@ -1,4 +1,4 @@
--- A beat of the timer as a tick of the age.
+-- A tick of the timer as a tick of the age.
 use Rattle.std.proofs.Common.{◌≡◌, ◌≢◌, ℕ, ◌+◌, ◌*◌, ◌^◌, ◌<◌, ◌≤◌, ◌==◌, Bool, true, false, List, min, refl, sym, ap, ◌∙◌, subst, arith, nat_lt, if◌then◌else◌}
 use Rattle.std.proofs.lemmas.Bool.{agree_below_at, eq-eqb, ltb-true}
 use Rattle.std.specs.List.{list_any}
@@ -6,13 +6,13 @@ use Rattle.rexmit_timer.specs.Ages.{beat_at, give_up_age, IsAtAge, IsBeatOfAge}
 use Rattle.rexmit_timer.specs.declared.timer.Beat.{Beat}
 use Rattle.rexmit_timer.specs.declared.timer.Beat.TheVariants.{Wait, Again, GiveUp}
 use Rattle.rexmit_timer.specs.declared.timer.Timer.{Timer}
-use Rattle.app_events.specs.Part.{Meaning}
+use Rattle.app_events.specs.AppSpec.{AppSpec}
 use Rattle.app_events.specs.declared.app.App.{Ghosts}
 use Rattle.app_events.specs.declared.state.State.{State}
 use Rattle.tcp_table.specs.declared.conn.Conn.{Conn}
 use Rattle.tcp_machine.specs.Connection.{Connection, is_live}
 use Rattle.tcp_machine.specs.OnTick.{limit_of, outstanding, waits_for_ack, by_beat, grows_older}
-use Rattle.tcp_machine.specs.Stands.{ConnStands, Meets, TimerStands}
+use Rattle.tcp_machine.specs.Represents.{ConnRepresents, Meets, TimerRepresents}
 use Rattle.tcp_machine.specs.declared.step.Step.{Step}
 
 if_true : (b : Bool) (x y : Beat) → b ≡ true → (if b then x else y) ≡ x
@@ -25,7 +25,7 @@ before_the_end limit age beat e goes_on at_end =
     goes_on (e ∙ if_true (age == give_up_age limit) GiveUp (if list_any (λ n. n == age) (Rattle.std.proofs.Common.take limit Rattle.rexmit_timer.specs.Ages.ages) then Again else Wait) (eq-eqb age (give_up_age limit) at_end))
 
 -- what the timer is a tick later
-older_timer : (t : Timer) (a : Connection) (limit : ℕ) → limit ≡ limit_of a.state → 0 < a.len → IsAtAge t (a.age + 1) → a.age < give_up_age limit → a.age + 1 ≢ give_up_age limit → TimerStands t (grows_older a)
+older_timer : (t : Timer) (a : Connection) (limit : ℕ) → limit ≡ limit_of a.state → 0 < a.len → IsAtAge t (a.age + 1) → a.age < give_up_age limit → a.age + 1 ≢ give_up_age limit → TimerRepresents t (grows_older a)
 older_timer t a limit e out at early not_last = record {
   waits = λ _. at;
   before_the_end = λ _.
@@ -35,12 +35,12 @@ older_timer t a limit e out at early not_last = record {
   no_tries = λ z. absurd (omega (arith, z, out));
 }
 
-older : {A S : Type 0} (g : Ghosts A S) (k : g.Kept) (c : Conn A) (t : Timer) (a : Connection) (limit : ℕ) (beat : Beat) → ConnStands g k c a → is_live c.state ≡ true → 0 < c.len → limit ≡ limit_of c.state →
+older : {A S : Type 0} (g : Ghosts A S) (k : g.Config) (c : Conn A) (t : Timer) (a : Connection) (limit : ℕ) (beat : Beat) → ConnRepresents g k c a → is_live c.state ≡ true → 0 < c.len → limit ≡ limit_of c.state →
     ((age : ℕ) → age < give_up_age limit → IsAtAge c.timer age → IsBeatOfAge limit age beat t) → beat ≢ GiveUp → (IsBeatOfAge limit a.age beat t → IsAtAge t (a.age + 1)) →
-    ConnStands g k (record c { timer = t }) (grows_older a)
+    ConnRepresents g k (record c { timer = t }) (grows_older a)
 older g k c t a limit beat h live out e ages goes_on after =
-    let lives : is_live a.state ≡ true = subst (λ (s : State). is_live s ≡ true) h.numbers.state live in
-    let l = h.numbers.like lives in
+    let incarnations : is_live a.state ≡ true = subst (λ (s : State). is_live s ≡ true) h.numbers.state live in
+    let l = h.numbers.like incarnations in
     let some : 0 < a.len = subst (λ (n : ℕ). 0 < n) l.len out in
     let e' : limit ≡ limit_of a.state = e ∙ ap limit_of h.numbers.state in
     let early : a.age < give_up_age limit = subst (λ (n : ℕ). a.age < give_up_age n) (sym e') (l.timer.before_the_end some) in
@@ -63,23 +63,23 @@ older g k c t a limit beat h live out e ages goes_on after =
       part = h.part;
     }
 
-beat_of : {A S : Type 0} (g : Ghosts A S) (k : g.Kept) (c : Conn A) (t : Timer) (a : Connection) (limit : ℕ) (beat : Beat) → ConnStands g k c a → is_live c.state ≡ true → 0 < c.len → limit ≡ limit_of c.state →
+beat_of : {A S : Type 0} (g : Ghosts A S) (k : g.Config) (c : Conn A) (t : Timer) (a : Connection) (limit : ℕ) (beat : Beat) → ConnRepresents g k c a → is_live c.state ≡ true → 0 < c.len → limit ≡ limit_of c.state →
     ((age : ℕ) → age < give_up_age limit → IsAtAge c.timer age → IsBeatOfAge limit age beat t) → beat ≡ beat_at (limit_of a.state) (a.age + 1)
 beat_of g k c t a limit beat h live out e ages =
-    let lives : is_live a.state ≡ true = subst (λ (s : State). is_live s ≡ true) h.numbers.state live in
-    let l = h.numbers.like lives in
+    let incarnations : is_live a.state ≡ true = subst (λ (s : State). is_live s ≡ true) h.numbers.state live in
+    let l = h.numbers.like incarnations in
     let some : 0 < a.len = subst (λ (n : ℕ). 0 < n) l.len out in
     let e' : limit ≡ limit_of a.state = e ∙ ap limit_of h.numbers.state in
     let early : a.age < give_up_age limit = subst (λ (n : ℕ). a.age < give_up_age n) (sym e') (l.timer.before_the_end some) in
     (ages a.age early (l.timer.waits some)).beat ∙ ap (λ (n : ℕ). beat_at n (a.age + 1)) e'
 
-pub wait_meets : {A S : Type 0} (g : Ghosts A S) (k : g.Kept) (m : Meaning) (c : Conn A) (t : Timer) (a : Connection) (ns : List ℕ) (limit : ℕ) → ConnStands g k c a → is_live c.state ≡ true → 0 < c.len → limit ≡ limit_of c.state →
+pub wait_meets : {A S : Type 0} (g : Ghosts A S) (k : g.Config) (m : AppSpec) (c : Conn A) (t : Timer) (a : Connection) (ns : List ℕ) (limit : ℕ) → ConnRepresents g k c a → is_live c.state ≡ true → 0 < c.len → limit ≡ limit_of c.state →
     ((age : ℕ) → age < give_up_age limit → IsAtAge c.timer age → IsBeatOfAge limit age Wait t) → Meets g k (record c { timer = t }) ns Step.Drop (waits_for_ack m a ns)
 wait_meets g k m c t a ns limit h live out e ages =
     subst (λ (b : Beat). Meets g k (record c { timer = t }) ns Step.Drop (by_beat m b a ns)) (beat_of g k c t a limit Wait h live out e ages)
     (record { connection = older g k c t a limit Wait h live out e ages (λ x. cc) (λ b. b.goes_on); counted = refl; asked = refl })
 
-pub again_meets : {A S : Type 0} (g : Ghosts A S) (k : g.Kept) (m : Meaning) (c : Conn A) (t : Timer) (a : Connection) (ns : List ℕ) (limit : ℕ) (step : Step) → ConnStands g k c a → is_live c.state ≡ true → 0 < c.len → limit ≡ limit_of c.state → step ≡ outstanding true c.state →
+pub again_meets : {A S : Type 0} (g : Ghosts A S) (k : g.Config) (m : AppSpec) (c : Conn A) (t : Timer) (a : Connection) (ns : List ℕ) (limit : ℕ) (step : Step) → ConnRepresents g k c a → is_live c.state ≡ true → 0 < c.len → limit ≡ limit_of c.state → step ≡ outstanding true c.state →
     ((age : ℕ) → age < give_up_age limit → IsAtAge c.timer age → IsBeatOfAge limit age Again t) → Meets g k (record c { timer = t }) ns step (waits_for_ack m a ns)
 again_meets g k m c t a ns limit step h live out e asked ages =
     subst (λ (b : Beat). Meets g k (record c { timer = t }) ns step (by_beat m b a ns)) (beat_of g k c t a limit Again h live out e ages)

@@ -1,7 +1,8 @@
--- What a sound connection's application can still say.
+-- The text that a sound connection's application can still send.
+-- [add: state] What the application can still send in it.
 use Rattle.std.specs.Prelude.{ℕ, ◌≡◌, ◌≤◌, true, List, [], ◌∷◌, length}
 use Rattle.std.proofs.Common.{refl, subst, sym}
-use Rattle.app_events.specs.Part.{Part, Meaning, HasPart, CanSay, text_left}
+use Rattle.app_events.specs.AppSpec.{AppState, AppSpec, IsRepresented, CanSay, text_left}
 use Rattle.std.proofs.Math.Logic.{∥∥₁_elim}
 use Rattle.std.specs.Coded.{le_prop}
 use Rattle.app_events.specs.Laws.{IsLawful, Grows, CanSend}
@@ -16,39 +17,39 @@ use Rattle.tcp_table.specs.declared.conn.Conn.{Conn}
 use Rattle.tcp_machine.specs.Connection.{is_live}
 use Rattle.tcp_machine.specs.OnSegment.{hears}
 use Rattle.tcp_machine.specs.Sound.{IsSound}
-use Rattle.tcp_machine.specs.Stands.{is_open}
+use Rattle.tcp_machine.specs.Represents.{is_open}
 
-pub has_part_of : {A S : Type 0} (g : Ghosts A S) (k : g.Kept) (c : Conn A) → IsSound g k c → is_open c.state ≡ true → HasPart g.stands_for c.app k
-has_part_of g k c sound open_to_it = has_part g.meaning g.stands_for c.app k c.len (sound.says open_to_it)
+pub has_part_of : {A S : Type 0} (g : Ghosts A S) (k : g.Config) (c : Conn A) → IsSound g k c → is_open c.state ≡ true → IsRepresented g.represents c.app k
+has_part_of g k c sound open_to_it = has_part g.app_spec g.represents c.app k c.len (sound.says open_to_it)
 
-hears_grows : (m : Meaning) (stands : Part → Type 0) → IsLawful m stands → (ns : List ℕ) (p : Part) (piece : List ℕ) → stands p → Grows m p (hears m ns p piece).part
+hears_grows : (m : AppSpec) (stands : AppState → Type 0) → IsLawful m stands → (ns : List ℕ) (p : AppState) (piece : List ℕ) → stands p → Grows m p (hears m ns p piece).part
 hears_grows m stands lawful ns p [] s = grows_by_nothing m p p refl refl
 hears_grows m stands lawful ns p (x ∷ xs) s = lawful.newdata_grows ns p (x ∷ xs) s
 
--- hearing takes nothing away
-pub can_say_heard : {A K : Type 0} (m : K → Meaning) (stands : A → K → Part → Type 0) (k : K) (a b : A) → IsLawful (m k) (stands a k) → (ns piece : List ℕ) (n : ℕ) →
-    ((p : Part) → stands a k p → stands b k (hears (m k) ns p piece).part) → CanSay m stands a k n → CanSay m stands b k n
+-- a delivery retracts no text
+pub can_say_heard : {A K : Type 0} (m : K → AppSpec) (stands : A → K → AppState → Type 0) (k : K) (a b : A) → IsLawful (m k) (stands a k) → (ns piece : List ℕ) (n : ℕ) →
+    ((p : AppState) → stands a k p → stands b k (hears (m k) ns p piece).part) → CanSay m stands a k n → CanSay m stands b k n
 can_say_heard m stands k a b lawful ns piece n moves can =
     can_say_after m stands k a b (λ p. (hears (m k) ns p piece).part) n moves (λ p s. hears_grows (m k) (stands a k) lawful ns p piece s) can
 
--- a value that stands for some part says at least nothing more
-pub can_nothing_after : {A K : Type 0} (m : K → Meaning) (stands : A → K → Part → Type 0) (k : K) (a b : A) (f : Part → Part) → ((p : Part) → stands a k p → stands b k (f p)) → HasPart stands a k → CanSay m stands b k 0
+-- a value that represents some state has at least an empty text left
+pub can_nothing_after : {A K : Type 0} (m : K → AppSpec) (stands : A → K → AppState → Type 0) (k : K) (a b : A) (f : AppState → AppState) → ((p : AppState) → stands a k p → stands b k (f p)) → IsRepresented stands a k → CanSay m stands b k 0
 can_nothing_after m stands k a b f moves has = can_nothing m stands b k (has_part_after stands k a b f moves has)
 
-pub can_say_prepared : {A K : Type 0} (m : K → Meaning) (stands : A → K → Part → Type 0) (k : K) (a b : A) → IsLawful (m k) (stands a k) → (ns : List ℕ) (now : Now) (n : ℕ) →
-    ((p : Part) → stands a k p → stands b k ((m k).prepare ns p now)) → CanSay m stands a k n → CanSay m stands b k n
+pub can_say_prepared : {A K : Type 0} (m : K → AppSpec) (stands : A → K → AppState → Type 0) (k : K) (a b : A) → IsLawful (m k) (stands a k) → (ns : List ℕ) (now : Now) (n : ℕ) →
+    ((p : AppState) → stands a k p → stands b k ((m k).prepare ns p now)) → CanSay m stands a k n → CanSay m stands b k n
 can_say_prepared m stands k a b lawful ns now n moves can =
     can_say_after m stands k a b (λ p. (m k).prepare ns p now) n moves (λ p s. lawful.prepare_grows ns p now s) can
 
-pub can_say_polled : {A K : Type 0} (m : K → Meaning) (stands : A → K → Part → Type 0) (k : K) (a b : A) → IsLawful (m k) (stands a k) → (ns : List ℕ) (n : ℕ) →
-    ((p : Part) → stands a k p → stands b k ((m k).polled ns p).part) → CanSay m stands a k n → CanSay m stands b k n
+pub can_say_polled : {A K : Type 0} (m : K → AppSpec) (stands : A → K → AppState → Type 0) (k : K) (a b : A) → IsLawful (m k) (stands a k) → (ns : List ℕ) (n : ℕ) →
+    ((p : AppState) → stands a k p → stands b k ((m k).polled ns p).part) → CanSay m stands a k n → CanSay m stands b k n
 can_say_polled m stands k a b lawful ns n moves can =
     can_say_after m stands k a b (λ p. ((m k).polled ns p).part) n moves
     (λ p s. grows_by_nothing (m k) p ((m k).polled ns p).part (lawful.polled_keeps ns p s).0 (lawful.polled_keeps ns p s).1) can
 
 -- what is asked to be sent is at least one byte
-pub sends_some : {A K : Type 0} (m : K → Meaning) (stands : A → K → Part → Type 0) (k : K) (a : A) → IsLawful (m k) (stands a k) → (ns : List ℕ) (n : ℕ) → HasPart stands a k →
-    ((p : Part) → stands a k p → Send n ≡ (m k).want ns p) → 1 ≤ n
+pub sends_some : {A K : Type 0} (m : K → AppSpec) (stands : A → K → AppState → Type 0) (k : K) (a : A) → IsLawful (m k) (stands a k) → (ns : List ℕ) (n : ℕ) → IsRepresented stands a k →
+    ((p : AppState) → stands a k p → Send n ≡ (m k).want ns p) → 1 ≤ n
 sends_some m stands k a lawful ns n has asked =
     ∥∥₁_elim has le_prop (λ c. (subst (λ (w : Want). CanSend w (length (text_left (m k) c.0))) (sym (asked c.0 c.1)) (lawful.sends ns c.0 c.1)).0)
 

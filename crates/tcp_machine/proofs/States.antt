@@ -1,4 +1,4 @@
--- What is shown of each of the nine states is shown of any.
+-- What is proved for each of the nine states is proved for any.
 use Rattle.app_events.specs.declared.state.State.{State}
 use Rattle.app_events.specs.declared.state.State.TheVariants.{Closed, SynRcvd, Established, CloseWait, FinWait1, FinWait2, Closing, TimeWait, LastAck}
 

@@ -1,6 +1,6 @@
--- A step that does not concern the application, in its place among all steps.
+-- A step that does not concern the application, as one of all steps.
 use Rattle.std.proofs.Common.{◌≡◌, ℕ, Bool, true, false, List, refl, sym, ◌∙◌, subst}
-use Rattle.app_events.specs.Part.{Meaning}
+use Rattle.app_events.specs.AppSpec.{AppSpec}
 use Rattle.app_events.specs.declared.app.App.{Ghosts}
 use Rattle.app_events.specs.declared.state.State.{State}
 use Rattle.tcp_segment.specs.Segments.{PlainSegment}
@@ -10,22 +10,22 @@ use Rattle.tcp_machine.specs.Connection.{Connection, is_live}
 use Rattle.tcp_machine.specs.OnSegment.{by_state}
 use Rattle.tcp_machine.specs.OnTick.{tick_by}
 use Rattle.tcp_machine.specs.Sound.{HasSoundNumbers, IsSound}
-use Rattle.tcp_machine.specs.Stands.{ConnStands, Meets, MeetsAlone, NumbersStand, is_open}
-use Rattle.tcp_machine.specs.Takes.{Takes, TakesAlone}
+use Rattle.tcp_machine.specs.Represents.{ConnRepresents, Meets, MeetsAlone, NumbersRepresent, is_open}
+use Rattle.tcp_machine.specs.Refines.{Refines, RefinesAlone}
 use Rattle.tcp_machine.specs.declared.step.Step.{Step}
 
 neither : (b : Bool) → b ≡ true → b ≡ false → ⊥
 neither true e f = cc
 neither false e f = cc
 
-pub meets_alone : {A S : Type 0} (g : Ghosts A S) (k : g.Kept) (d : Conn A) (ns : List ℕ) (step : Step) (o : Outcome) → MeetsAlone d ns step o → Meets g k d ns step o
+pub meets_alone : {A S : Type 0} (g : Ghosts A S) (k : g.Config) (d : Conn A) (ns : List ℕ) (step : Step) (o : Outcome) → MeetsAlone d ns step o → Meets g k d ns step o
 meets_alone g k d ns step o m = record {
   connection = record { numbers = m.connection; part = λ open_to_it. absurd (neither (is_open o.connection.state) open_to_it m.closed_to_it) };
   counted = m.counted;
   asked = m.asked;
 }
 
-pub sound_alone : {A S : Type 0} (g : Ghosts A S) (k : g.Kept) (d : Conn A) → (is_live d.state ≡ true → HasSoundNumbers d) → is_open d.state ≡ false → IsSound g k d
+pub sound_alone : {A S : Type 0} (g : Ghosts A S) (k : g.Config) (d : Conn A) → (is_live d.state ≡ true → HasSoundNumbers d) → is_open d.state ≡ false → IsSound g k d
 sound_alone g k d numbers closed_to_it = record {
   numbers = numbers;
   says = λ open_to_it. absurd (neither (is_open d.state) open_to_it closed_to_it);
@@ -33,9 +33,9 @@ sound_alone g k d numbers closed_to_it = record {
 
 -- the row of a known state, where the application speaks
 pub row_spoken : {A S : Type 0} (g : Ghosts A S) (before after : S) (c d : Conn A) (step : Step) (acked : Bool) (seg : PlainSegment) (s : State) → c.state ≡ s →
-    Takes g (λ m a ns. by_state m s acked a ns seg) c before d after step → Takes g (λ m a ns. by_state m a.state acked a ns seg) c before d after step
+    Refines g (λ m a ns. by_state m s acked a ns seg) c before d after step → Refines g (λ m a ns. by_state m a.state acked a ns seg) c before d after step
 row_spoken g before after c d step acked seg s e t =
-    let k = g.kept before in
+    let k = g.config before in
     let ns = g.numbers before in
     record {
       same = t.same;
@@ -43,26 +43,26 @@ row_spoken g before after c d step acked seg s e t =
       place = t.place;
       fits = t.fits;
       meets = λ a h.
-          subst (λ (x : State). Meets g k d (g.numbers after) step (by_state (g.meaning k) x acked a ns seg)) (sym e ∙ h.numbers.state) (t.meets a h);
+          subst (λ (x : State). Meets g k d (g.numbers after) step (by_state (g.app_spec k) x acked a ns seg)) (sym e ∙ h.numbers.state) (t.meets a h);
     }
 
--- the same where it has no more to say
+-- the same if it has nothing more to send
 pub row_alone : {A S : Type 0} (g : Ghosts A S) (shared : S) (c d : Conn A) (step : Step) (acked : Bool) (seg : PlainSegment) (s : State) →
-    c.state ≡ s → (is_live d.state ≡ true → HasSoundNumbers d) → ((m : Meaning) → TakesAlone (λ a ns. by_state m s acked a ns seg) c d step) →
-    Takes g (λ m a ns. by_state m a.state acked a ns seg) c shared d shared step
+    c.state ≡ s → (is_live d.state ≡ true → HasSoundNumbers d) → ((m : AppSpec) → RefinesAlone (λ a ns. by_state m s acked a ns seg) c d step) →
+    Refines g (λ m a ns. by_state m a.state acked a ns seg) c shared d shared step
 row_alone g shared c d step acked seg s e sound takes =
-    let k = g.kept shared in
+    let k = g.config shared in
     let ns = g.numbers shared in
-    let t = takes (g.meaning k) in
+    let t = takes (g.app_spec k) in
     row_spoken g shared shared c d step acked seg s e (record {
       same = refl;
       sound = sound_alone g k d sound t.closed_to_it;
       place = t.place;
       fits = λ _. t.fits;
-      meets = λ a h. meets_alone g k d ns step (by_state (g.meaning k) s acked a ns seg) (t.meets a ns h.numbers);
+      meets = λ a h. meets_alone g k d ns step (by_state (g.app_spec k) s acked a ns seg) (t.meets a ns h.numbers);
     })
 
-pub tick_alone : {A S : Type 0} (g : Ghosts A S) (k : g.Kept) (m : Meaning) (c d : Conn A) (a : Connection) (ns : List ℕ) (step : Step) (s : State) →
-    c.state ≡ s → ConnStands g k c a → (NumbersStand c a → MeetsAlone d ns step (tick_by m s a ns)) → Meets g k d ns step (tick_by m a.state a ns)
+pub tick_alone : {A S : Type 0} (g : Ghosts A S) (k : g.Config) (m : AppSpec) (c d : Conn A) (a : Connection) (ns : List ℕ) (step : Step) (s : State) →
+    c.state ≡ s → ConnRepresents g k c a → (NumbersRepresent c a → MeetsAlone d ns step (tick_by m s a ns)) → Meets g k d ns step (tick_by m a.state a ns)
 tick_alone g k m c d a ns step s e h meets =
     subst (λ (t : State). Meets g k d ns step (tick_by m t a ns)) (sym e ∙ h.numbers.state) (meets_alone g k d ns step (tick_by m s a ns) (meets h.numbers))

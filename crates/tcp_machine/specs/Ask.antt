@@ -1,6 +1,7 @@
--- Asking the application what it wants, in ESTABLISHED and CLOSE-WAIT with nothing outstanding.
+-- The request of the application, in ESTABLISHED and CLOSE-WAIT with nothing outstanding.
+-- [add: state] Whether the application is asked in it.
 use Rattle.std.specs.Prelude.{ℕ, min, Bool, true, false, List, if◌then◌else◌}
-use Rattle.app_events.specs.Part.{Meaning}
+use Rattle.app_events.specs.AppSpec.{AppSpec}
 use Rattle.app_events.specs.declared.now.Now.{Now}
 use Rattle.app_events.specs.declared.state.State.{State}
 use Rattle.app_events.specs.declared.state.State.TheVariants.{Closed, CloseWait, FinWait1, LastAck}
@@ -9,7 +10,7 @@ use Rattle.app_events.specs.declared.want.Want.TheVariants.{Nothing, Send, Close
 use Rattle.tcp_machine.specs.Connection.{Connection}
 use Rattle.tcp_machine.specs.declared.step.Step.{Step}
 
--- what a step leaves and asks
+-- The result of a step: the connection, the counters, and what the step requests.
 pub record Outcome : Type 0 where
   pub connection : Connection
   pub numbers : List ℕ
@@ -21,7 +22,7 @@ leaves c numbers step = record { connection = c; numbers = numbers; step = step 
 abbrev pub closes : Connection → Connection
 closes c = record c { state = Closed }
 
--- the state after an own FIN
+-- the state after the FIN of the node was sent
 abbrev pub after_own_fin : State → State
 after_own_fin CloseWait = LastAck
 after_own_fin _ = FinWait1
@@ -30,7 +31,7 @@ abbrev pub peer_has_closed : State → Bool
 peer_has_closed CloseWait = true
 peer_has_closed _ = false
 
--- Nothing is wanted: after the peer's FIN nothing more can come, so the connection is given up.
+-- The application requests nothing. In CLOSE-WAIT nothing more can be received, so the connection is reset.
 unfoldable pub idles : Bool → Connection → List ℕ → Outcome
 idles fresh c numbers =
     if peer_has_closed c.state then leaves (closes c) numbers Step.Reset
@@ -43,17 +44,24 @@ does_as_wanted Close fresh c numbers = leaves (record c { state = after_own_fin 
 does_as_wanted (Send n) fresh c numbers = leaves (record c { len = min n c.mss; age = 0 }) numbers (Step.Text false)
 does_as_wanted Nothing fresh c numbers = idles fresh c numbers
 
-abbrev pub prepared : Meaning → Now → Connection → List ℕ → Connection
+-- the connection after the application may have captured a snapshot
+abbrev pub prepared : AppSpec → Now → Connection → List ℕ → Connection
 prepared m now c numbers = record c { part = m.prepare numbers c.part now }
 
-abbrev pub ask : Meaning → Now → Bool → Connection → List ℕ → Outcome
+-- The application requests something, after it captured the snapshot that it may need.
+abbrev pub ask_prepared : AppSpec → Bool → Connection → List ℕ → Outcome
+ask_prepared m fresh c numbers = does_as_wanted (m.want numbers c.part) fresh c numbers
+
+-- The application may capture a snapshot, and then requests something.
+abbrev pub ask : AppSpec → Now → Bool → Connection → List ℕ → Outcome
 ask m now fresh c numbers =
     does_as_wanted (m.want numbers (m.prepare numbers c.part now)) fresh (prepared m now c numbers) numbers
 
--- The application is asked where a step says so. The moment is that of the connection as the step left it.
-abbrev pub asked_for : Meaning → (Connection → Now) → Outcome → Step → Outcome
-asked_for m moment o (Step.Ask fresh) = ask m (moment o.connection) fresh o.connection o.numbers
-asked_for m moment o _ = o
+-- The application is asked if a step requires it. The snapshot shows the connection as the step left it.
+abbrev pub asked_for : AppSpec → (Connection → Now) → Outcome → Step → Outcome
+asked_for m snapshot o (Step.Ask fresh) = ask m (snapshot o.connection) fresh o.connection o.numbers
+asked_for m snapshot o _ = o
 
-abbrev pub asked : Meaning → (Connection → Now) → Outcome → Outcome
-asked m moment o = asked_for m moment o o.step
+-- the outcome of a step, with that of the application if the step asks it
+abbrev pub asked : AppSpec → (Connection → Now) → Outcome → Outcome
+asked m snapshot o = asked_for m snapshot o o.step

@@ -1,4 +1,4 @@
--- The constants of the code that definitions cite, with their values: a definition that names one says this number.
+-- The constants of the code that definitions name, and their values.
 use Rattle.std.specs.Prelude.{◌≡◌}
 use Rattle.tcp_machine.specs.declared.opening.TheConstants.{DEFAULT_MSS}
 use Rattle.tcp_machine.specs.declared.ticking.TheConstants.{REST_TIME}

@@ -1,9 +1,9 @@
--- What a move of a connection's numbers keeps.
+-- What the parts of a step leave unchanged.
 use Rattle.std.specs.Prelude.{◌≡◌}
 use Rattle.tcp_table.specs.declared.conn.Conn.{Conn}
 use Rattle.tcp_machine.specs.Fits.{SameSockets}
 
--- all but the state and the peer's numbers
+-- everything except the state and the peer's sequence numbers
 pub record KeepsAll {A : Type 0} (old new : Conn A) : Type 0 where
   pub sockets : SameSockets old new
   pub snd_nxt : new.snd_nxt ≡ old.snd_nxt
@@ -13,7 +13,7 @@ pub record KeepsAll {A : Type 0} (old new : Conn A) : Type 0 where
   pub timer : new.timer ≡ old.timer
   pub app : new.app ≡ old.app
 
--- nothing is outstanding any more
+-- Nothing is outstanding any more; the rest is unchanged.
 pub record IsRested {A : Type 0} (old new : Conn A) : Type 0 where
   pub sockets : SameSockets old new
   pub state : new.state ≡ old.state
@@ -24,7 +24,7 @@ pub record IsRested {A : Type 0} (old new : Conn A) : Type 0 where
   pub tries : new.timer.tries ≡ 0
   pub app : new.app ≡ old.app
 
--- all but the longest text that may be sent
+-- everything except the longest text that may be sent
 pub record KeepsAllButMss {A : Type 0} (old new : Conn A) : Type 0 where
   pub sockets : SameSockets old new
   pub state : new.state ≡ old.state
@@ -35,7 +35,7 @@ pub record KeepsAllButMss {A : Type 0} (old new : Conn A) : Type 0 where
   pub timer : new.timer ≡ old.timer
   pub app : new.app ≡ old.app
 
--- all but the state and the timer
+-- everything except the state and the timer
 pub record KeepsAllButTimer {A : Type 0} (old new : Conn A) : Type 0 where
   pub sockets : SameSockets old new
   pub len : new.len ≡ old.len

@@ -3,9 +3,9 @@ pub mod Segments
 pub mod Ask
 pub mod OnSegment
 pub mod OnTick
-pub mod Stands
+pub mod Represents
 pub mod Sound
 pub mod Fits
-pub mod Takes
+pub mod Refines
 pub mod Kept
 pub mod ConstantValues

@@ -1,31 +1,33 @@
--- A segment at a connection (RFC 793, section 3.9, SEGMENT ARRIVES): four checks, and then the row of the state.
+-- A segment arrives at a connection (RFC 793, section 3.9, SEGMENT ARRIVES): four checks, then the row of the state.
+-- [add: state] Its row, in `by_state`, and how the application is informed of an end.
 use Rattle.std.specs.Prelude.{ℕ, ◌+◌, min, Bool, true, false, not, List, [], ◌∷◌, length, nat_lt, ◌==◌, ◌&&◌, if◌then◌else◌, Option}
 use Rattle.std.specs.Option.{option_map_or}
 use Rattle.uip_wire.specs.Numbers.{wrap}
 use Rattle.uip_wire.specs.declared.sizes.TheConstants.{OWN_MSS}
 use Rattle.tcp_segment.specs.Segments.{PlainSegment, has_fin, has_rst, has_ack}
-use Rattle.app_events.specs.Part.{Part, After, Meaning}
+use Rattle.app_events.specs.AppSpec.{AppState, After, AppSpec}
 use Rattle.app_events.specs.declared.ending.Ending.{Ending}
 use Rattle.app_events.specs.declared.ending.Ending.TheVariants.{Reset}
 use Rattle.app_events.specs.declared.state.State.{State}
 use Rattle.app_events.specs.declared.state.State.TheVariants.{SynRcvd, Established, CloseWait, FinWait1, FinWait2, Closing, TimeWait, LastAck}
-use Rattle.tcp_machine.specs.Connection.{Sockets, Connection, closed, snd_nxt, rcv_nxt}
-use Rattle.tcp_machine.specs.Segments.{has_place}
+use Rattle.tcp_machine.specs.Connection.{Sockets, Connection, closed, snd_una, rcv_nxt}
+use Rattle.tcp_machine.specs.Segments.{occupies_sequence_space}
 use Rattle.tcp_machine.specs.Ask.{Outcome, leaves, closes}
 use Rattle.tcp_machine.specs.declared.opening.TheConstants.{DEFAULT_MSS}
 use Rattle.tcp_machine.specs.declared.step.Step.{Step}
 
--- The largest text that the peer takes: 536 where its SYN does not say (RFC 1122, section 4.2.2.6).
+-- The longest text that the peer accepts, by the MSS option of its SYN, and at most `OWN_MSS` (1,460). It is 536 if there is no option
+-- (RFC 1122, section 4.2.2.6).
 abbrev pub first_mss : Option ℕ → ℕ
 first_mss mss = option_map_or (λ n. if n == 0 then DEFAULT_MSS else min OWN_MSS n) mss DEFAULT_MSS
 
--- A plain SYN opens a connection in SYN-RECEIVED; its text is not taken.
+-- A plain SYN opens a connection in SYN-RECEIVED. Its text is not accepted.
 abbrev pub accepted : ℕ → Sockets → PlainSegment → Connection
-accepted first sockets s = record closed {
+accepted iss sockets s = record closed {
   state = SynRcvd;
   sockets = sockets;
-  peer_first = s.seq;
-  first = first;
+  irs = s.seq;
+  iss = iss;
   len = 1;
   initial_mss = first_mss s.mss;
   mss = first_mss s.mss;
@@ -33,90 +35,90 @@ accepted first sockets s = record closed {
 }
 
 abbrev pub accept : ℕ → Sockets → PlainSegment → List ℕ → Outcome
-accept first sockets s numbers = leaves (accepted first sockets s) numbers (Step.SynAck false)
+accept iss sockets s numbers = leaves (accepted iss sockets s) numbers (Step.SynAck false)
 
--- the application is told of an end where it might still have spoken
-abbrev pub told_end : Meaning → Ending → State → Part → List ℕ → List ℕ
+-- The application is notified of the end while it might still have sent.
+abbrev pub told_end : AppSpec → Ending → State → AppState → List ℕ → List ℕ
 told_end m how Established p numbers = m.ended numbers p how
 told_end m how CloseWait p numbers = m.ended numbers p how
 told_end m how _ p numbers = numbers
 
--- Check 2: what stands in its order stands at another number than the expected one.
+-- Check 2: a segment that occupies sequence space must start at RCV.NXT.
 abbrev pub is_out_of_order : Connection → PlainSegment → Bool
-is_out_of_order c s = has_place s && not (s.seq == rcv_nxt c)
+is_out_of_order c s = occupies_sequence_space s && not (s.seq == rcv_nxt c)
 
--- Check 3: the segment acknowledges all that is outstanding.
+-- Check 3: the segment acknowledges everything outstanding.
 abbrev pub is_acked : Connection → PlainSegment → Bool
-is_acked c s = has_ack s.flags && (nat_lt 0 c.len && (s.ack == wrap (snd_nxt c + c.len)))
+is_acked c s = has_ack s.flags && (nat_lt 0 c.len && (s.ack == wrap (snd_una c + c.len)))
 
--- nothing is outstanding any more, and the timer rests
+-- Nothing is outstanding any more, and the timer stops.
 abbrev pub rests : Connection → Connection
 rests c = record c { acked = c.acked + c.len; len = 0; age = 0 }
 
 abbrev pub has_text : PlainSegment → Bool
 has_text s = nat_lt 0 (length s.text)
 
--- the application hears text, where there is any
-abbrev pub hears : Meaning → List ℕ → Part → List ℕ → After
+-- The text, if any, is delivered to the application.
+abbrev pub hears : AppSpec → List ℕ → AppState → List ℕ → After
 hears m numbers p [] = record { part = p; numbers = numbers }
 hears m numbers p (x ∷ xs) = m.newdata numbers p (x ∷ xs)
 
--- so many more of the peer's numbers are taken
+-- RCV.NXT advances by n.
 abbrev pub takes : ℕ → Connection → Connection
 takes n c = record c { taken = c.taken + n }
 
-abbrev pub with_part : Part → Connection → Connection
+abbrev pub with_part : AppState → Connection → Connection
 with_part p c = record c { part = p }
 
 abbrev pub in_state : State → Connection → Connection
 in_state state c = record c { state = state }
 
--- the peer's window bounds the next text; a window of 0 is taken for an open one
+-- The window of the peer bounds the next text. A window of 0 counts as an open one.
 abbrev pub with_window : ℕ → Connection → Connection
 with_window window c = record c { mss = (if window == 0 then c.initial_mss else min c.initial_mss window) }
 
--- SYN-RECEIVED, acknowledged: the application is connected, and hears what the segment brings. A FIN is not taken.
-abbrev pub connects : Meaning → Connection → List ℕ → PlainSegment → Outcome
+-- SYN-RECEIVED, acknowledged: the application is connected, and receives the text of the segment. A FIN is not accepted.
+abbrev pub connects : AppSpec → Connection → List ℕ → PlainSegment → Outcome
 connects m c numbers s =
     let start : After = m.connected numbers c.sockets.own_port.0 in
-    let heard : After = hears m start.numbers start.part s.text in
-    leaves (with_part heard.part (takes (length s.text) (in_state Established (rests c)))) heard.numbers (Step.Ask (has_text s))
+    let delivered : After = hears m start.numbers start.part s.text in
+    leaves (with_part delivered.part (takes (length s.text) (in_state Established (rests c)))) delivered.numbers (Step.Ask (has_text s))
 
--- ESTABLISHED, where the segment has a FIN
-unfoldable pub peer_closes : Meaning → Connection → List ℕ → PlainSegment → Outcome
+-- ESTABLISHED, a segment with FIN
+unfoldable pub peer_closes : AppSpec → Connection → List ℕ → PlainSegment → Outcome
 peer_closes m c numbers s =
-    let heard : After = hears m numbers c.part s.text in
-    let d : Connection = in_state CloseWait (with_window s.window (with_part heard.part (takes (length s.text + 1) c))) in
-    if nat_lt 0 c.len then leaves d heard.numbers Step.Ack else leaves d heard.numbers (Step.Ask true)
+    let delivered : After = hears m numbers c.part s.text in
+    let d : Connection = in_state CloseWait (with_window s.window (with_part delivered.part (takes (length s.text + 1) c))) in
+    if nat_lt 0 c.len then leaves d delivered.numbers Step.Ack else leaves d delivered.numbers (Step.Ask true)
 
--- ESTABLISHED, where it has none
-unfoldable pub goes_on : Meaning → Bool → Connection → List ℕ → PlainSegment → Outcome
-goes_on m acked c numbers s =
-    let heard : After = hears m numbers c.part s.text in
-    let d : Connection = with_window s.window (with_part heard.part (takes (length s.text) c)) in
-    if not acked && not (has_text s) then leaves d heard.numbers Step.Drop
-    else if nat_lt 0 c.len then leaves d heard.numbers Step.Ack
-    else leaves d heard.numbers (Step.Ask (has_text s))
+-- ESTABLISHED, a segment without FIN
+unfoldable pub stays_established : AppSpec → Bool → Connection → List ℕ → PlainSegment → Outcome
+stays_established m acked c numbers s =
+    let delivered : After = hears m numbers c.part s.text in
+    let d : Connection = with_window s.window (with_part delivered.part (takes (length s.text) c)) in
+    if not acked && not (has_text s) then leaves d delivered.numbers Step.Drop
+    else if nat_lt 0 c.len then leaves d delivered.numbers Step.Ack
+    else leaves d delivered.numbers (Step.Ask (has_text s))
 
-unfoldable pub in_established : Meaning → Bool → Connection → List ℕ → PlainSegment → Outcome
-in_established m acked c numbers s = if has_fin s.flags then peer_closes m c numbers s else goes_on m acked c numbers s
+unfoldable pub in_established : AppSpec → Bool → Connection → List ℕ → PlainSegment → Outcome
+in_established m acked c numbers s = if has_fin s.flags then peer_closes m c numbers s else stays_established m acked c numbers s
 
--- FIN-WAIT-1, acknowledged: text and FIN are taken, and the text is let go
+-- FIN-WAIT-1, acknowledged: text and FIN are accepted. The text is acknowledged but discarded.
 unfoldable pub fin_acked : Connection → List ℕ → PlainSegment → Outcome
 fin_acked c numbers s =
     if has_fin s.flags then leaves (in_state TimeWait (takes (length s.text + 1) (rests c))) numbers Step.Ack
     else leaves (in_state FinWait2 (takes (length s.text) (rests c))) numbers Step.Drop
 
--- after the own FIN: text is let go, and a FIN makes a connection that is given
+-- After the own FIN: text is acknowledged but discarded. A FIN leads to the given connection.
 unfoldable pub fin_waits : Connection → Connection → List ℕ → PlainSegment → Outcome
 fin_waits closed_by_peer c numbers s =
     if has_fin s.flags then leaves closed_by_peer numbers Step.Ack
     else if has_text s then leaves (takes (length s.text) c) numbers Step.Ack
     else leaves c numbers Step.Drop
 
--- The row of the state, where `acked` tells what check 3 found. In ESTABLISHED and CLOSE-WAIT the application hears of an
--- acknowledgement first.
-abbrev pub by_state : Meaning → State → Bool → Connection → List ℕ → PlainSegment → Outcome
+-- The row of the state; `acked` is the result of check 3. In ESTABLISHED and CLOSE-WAIT the application is first notified of an
+-- acknowledgement.
+abbrev pub by_state : AppSpec → State → Bool → Connection → List ℕ → PlainSegment → Outcome
 by_state m SynRcvd true c numbers s = connects m c numbers s
 by_state m Established true c numbers s =
     let told : After = m.acked numbers c.part c.len in
@@ -134,8 +136,8 @@ by_state m LastAck true c numbers s = leaves (closes (rests c)) numbers Step.Dro
 by_state m TimeWait acked c numbers s = leaves c numbers Step.Ack
 by_state m _ acked c numbers s = leaves c numbers Step.Drop
 
--- Check 1 is the RST: it closes without a look at numbers.
-unfoldable pub on_segment : Meaning → Connection → List ℕ → PlainSegment → Outcome
+-- Check 1: a RST closes the connection, whatever its sequence number.
+unfoldable pub on_segment : AppSpec → Connection → List ℕ → PlainSegment → Outcome
 on_segment m c numbers s =
     if has_rst s.flags then leaves (closes c) (told_end m Reset c.state c.part numbers) Step.Drop
     else if is_out_of_order c s then leaves c numbers Step.Ack

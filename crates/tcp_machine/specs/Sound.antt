@@ -1,17 +1,18 @@
--- What every connection of a node keeps.
+-- Invariants of every connection of a node.
+-- [add: state] What holds of a connection in it.
 use Rattle.std.specs.Prelude.{ℕ, ◌≡◌, ◌<◌, ◌≤◌, true}
 use Rattle.uip_wire.specs.declared.sizes.TheConstants.{OWN_MSS}
-use Rattle.app_events.specs.Part.{CanSay}
+use Rattle.app_events.specs.AppSpec.{CanSay}
 use Rattle.app_events.specs.declared.app.App.{Ghosts}
 use Rattle.app_events.specs.declared.state.State.{State}
 use Rattle.app_events.specs.declared.state.State.TheVariants.{Closed, SynRcvd, Established, CloseWait, FinWait1, FinWait2, Closing, TimeWait, LastAck}
 use Rattle.tcp_table.specs.declared.conn.Conn.{Conn}
 use Rattle.tcp_machine.specs.Connection.{is_live}
 use Rattle.tcp_machine.specs.OnTick.{limit_of}
-use Rattle.tcp_machine.specs.Stands.{is_open}
+use Rattle.tcp_machine.specs.Represents.{is_open}
 use Rattle.tcp_machine.specs.declared.ticking.TheConstants.{REST_TIME}
 
--- how much is outstanding in a state: a SYN or a FIN is one number, and after both nothing is
+-- How much is outstanding in a state: a SYN or a FIN is one number; after the FIN is acknowledged nothing is.
 abbrev pub LenFits : State → ℕ → Type 0
 LenFits Closed len = Unit {0}
 LenFits SynRcvd len = len ≡ 1
@@ -33,7 +34,7 @@ pub record HasSoundNumbers {A : Type 0} (c : Conn A) : Type 0 where
   pub count : c.timer.count < REST_TIME
   pub len : LenFits c.state c.len
 
--- while the application may speak it has said what is outstanding
-pub record IsSound {A S : Type 0} (g : Ghosts A S) (k : g.Kept) (c : Conn A) : Type 0 where
+-- While the application may send, what is outstanding is part of its output.
+pub record IsSound {A S : Type 0} (g : Ghosts A S) (k : g.Config) (c : Conn A) : Type 0 where
   pub numbers : is_live c.state ≡ true → HasSoundNumbers c
-  pub says : is_open c.state ≡ true → CanSay g.meaning g.stands_for c.app k c.len
+  pub says : is_open c.state ≡ true → CanSay g.app_spec g.represents c.app k c.len

@@ -1,95 +1,96 @@
-//! The states in which the application has no more to say: after an own FIN.
+//! The states after an own FIN, in which the application has nothing more to send (RFC 793, section 3.9).
+//! [add: state] A function for a state after an own FIN.
 
 ghost use Rattle.std.specs.Prelude.{◌≡◌, ◌≤◌, Bool, true, false, length};
 ghost use Rattle.tcp_segment.specs.Segments.{PlainSegment};
-ghost use Rattle.app_events.specs.Part.{Meaning};
+ghost use Rattle.app_events.specs.AppSpec.{AppSpec};
 ghost use Rattle.tcp_machine.specs.Connection.{is_live};
 ghost use Rattle.tcp_machine.specs.OnSegment.{fin_acked, by_state};
 ghost use Rattle.tcp_machine.specs.Sound.{HasSoundNumbers};
-ghost use Rattle.tcp_machine.specs.Stands.{plain};
-ghost use Rattle.tcp_machine.specs.Takes.{TakesAlone};
+ghost use Rattle.tcp_machine.specs.Represents.{plain};
+ghost use Rattle.tcp_machine.specs.Refines.{RefinesAlone};
 
-use crate::moves::{begin_time_wait, enter, rest, take};
+use crate::moves::{advance_rcv_nxt, begin_time_wait, clear_outstanding, enter};
 use crate::step::Step;
 use app_events::State;
 use tcp_segment::Segment;
 use tcp_table::Conn;
 
-/// FIN_WAIT_1, with the own FIN acknowledged: text and FIN are taken.
+/// FIN-WAIT-1, if the segment acknowledges the own FIN: accepts text and FIN.
 #[tactic(auto, unfolding(crate::specs::OnSegment::fin_acked))]
 fn fin_acked<A>(conn: &mut Conn<A>, seg: &Segment, piece: &[u8]) -> Step
     requires state { conn.old.state ≡ State.FinWait1 }
     requires sound { HasSoundNumbers conn.old }
     requires short { length piece.now ≤ 1500 }
     ensures sound { HasSoundNumbers conn.new }
-    ensures takes { TakesAlone (λ a ns. fin_acked a ns (plain seg.now piece.now)) conn.old conn.new result }
+    ensures takes { RefinesAlone (λ a ns. fin_acked a ns (plain seg.now piece.now)) conn.old conn.new result }
 {
-    rest(conn);
+    clear_outstanding(conn);
     let count = piece.len() as u32;
     if seg.has_fin() {
-        take(conn, count + 1);
+        advance_rcv_nxt(conn, count + 1);
         enter(conn, State::TimeWait);
         return Step::Ack;
     }
-    take(conn, count);
+    advance_rcv_nxt(conn, count);
     enter(conn, State::FinWait2);
     Step::Drop
 }
 
-/// FIN_WAIT_1, with the own FIN still outstanding.
+/// FIN-WAIT-1, if the own FIN is still outstanding: accepts text and FIN.
 #[tactic(auto, unfolding(crate::specs::OnSegment::fin_waits))]
 fn fin_waits<A>(conn: &mut Conn<A>, seg: &Segment, piece: &[u8]) -> Step
     requires state { conn.old.state ≡ State.FinWait1 }
     requires sound { HasSoundNumbers conn.old }
     requires short { length piece.now ≤ 1500 }
     ensures sound { HasSoundNumbers conn.new }
-    ensures takes { (m : Meaning)
-        → TakesAlone (λ a ns. by_state m State.FinWait1 false a ns (plain seg.now piece.now)) conn.old conn.new result }
+    ensures takes { (m : AppSpec)
+        → RefinesAlone (λ a ns. by_state m State.FinWait1 false a ns (plain seg.now piece.now)) conn.old conn.new result }
 {
     let count = piece.len() as u32;
     if seg.has_fin() {
-        take(conn, count + 1);
+        advance_rcv_nxt(conn, count + 1);
         enter(conn, State::Closing);
         return Step::Ack;
     }
     if count > 0 {
-        take(conn, count);
+        advance_rcv_nxt(conn, count);
         return Step::Ack;
     }
     Step::Drop
 }
 
-/// FIN_WAIT_2: text is let go, and a FIN begins TIME_WAIT.
+/// FIN-WAIT-2: accepts and discards text; a FIN begins TIME-WAIT.
 #[tactic(auto, unfolding(crate::specs::OnSegment::fin_waits))]
 pub(crate) fn in_fin_wait_2<A>(conn: &mut Conn<A>, seg: &Segment, piece: &[u8]) -> Step
     requires state { conn.old.state ≡ State.FinWait2 }
     requires sound { HasSoundNumbers conn.old }
     requires short { length piece.now ≤ 1500 }
     ensures sound { HasSoundNumbers conn.new }
-    ensures takes { (m : Meaning) (acked : Bool)
-        → TakesAlone (λ a ns. by_state m State.FinWait2 acked a ns (plain seg.now piece.now)) conn.old conn.new result }
+    ensures takes { (m : AppSpec) (acked : Bool)
+        → RefinesAlone (λ a ns. by_state m State.FinWait2 acked a ns (plain seg.now piece.now)) conn.old conn.new result }
 {
     let count = piece.len() as u32;
     if seg.has_fin() {
-        take(conn, count + 1);
+        advance_rcv_nxt(conn, count + 1);
         begin_time_wait(conn);
         return Step::Ack;
     }
     if count > 0 {
-        take(conn, count);
+        advance_rcv_nxt(conn, count);
         return Step::Ack;
     }
     Step::Drop
 }
 
-/// FIN_WAIT_1.
+/// The row of FIN-WAIT-1.
 pub(crate) fn in_fin_wait_1<A>(conn: &mut Conn<A>, seg: &Segment, piece: &[u8], acked: bool) -> Step
     requires state { conn.old.state ≡ State.FinWait1 }
     requires sound { HasSoundNumbers conn.old }
     requires short { length piece.now ≤ 1500 }
     ensures sound { HasSoundNumbers conn.new }
-    ensures takes { (m : Meaning)
-        → TakesAlone (λ a ns. by_state m State.FinWait1 acked a ns (plain seg.now piece.now)) conn.old conn.new result }
+    ensures takes { (m : AppSpec)
+        → RefinesAlone (λ a ns. by_state m State.FinWait1 acked a ns (plain seg.now piece.now)) conn.old conn.new result }
 {
     if acked {
         fin_acked(conn, seg, piece)
@@ -98,29 +99,29 @@ pub(crate) fn in_fin_wait_1<A>(conn: &mut Conn<A>, seg: &Segment, piece: &[u8], 
     }
 }
 
-/// CLOSING: with the own FIN acknowledged, TIME_WAIT begins.
+/// The row of CLOSING: if the own FIN is acknowledged, TIME-WAIT begins.
 pub(crate) fn in_closing<A>(conn: &mut Conn<A>, acked: bool) -> Step
     requires state { conn.old.state ≡ State.Closing }
     requires sound { HasSoundNumbers conn.old }
     ensures sound { HasSoundNumbers conn.new }
-    ensures takes { (m : Meaning) (s : PlainSegment) → TakesAlone (λ a ns. by_state m State.Closing acked a ns s) conn.old conn.new result }
+    ensures takes { (m : AppSpec) (s : PlainSegment) → RefinesAlone (λ a ns. by_state m State.Closing acked a ns s) conn.old conn.new result }
 {
     if acked {
-        rest(conn);
+        clear_outstanding(conn);
         enter(conn, State::TimeWait);
     }
     Step::Drop
 }
 
-/// LAST_ACK: with the own FIN acknowledged, the connection is CLOSED.
+/// The row of LAST-ACK: if the own FIN is acknowledged, the connection is CLOSED.
 pub(crate) fn in_last_ack<A>(conn: &mut Conn<A>, acked: bool) -> Step
     requires state { conn.old.state ≡ State.LastAck }
     requires sound { HasSoundNumbers conn.old }
     ensures sound { is_live conn.new.state ≡ true → HasSoundNumbers conn.new }
-    ensures takes { (m : Meaning) (s : PlainSegment) → TakesAlone (λ a ns. by_state m State.LastAck acked a ns s) conn.old conn.new result }
+    ensures takes { (m : AppSpec) (s : PlainSegment) → RefinesAlone (λ a ns. by_state m State.LastAck acked a ns s) conn.old conn.new result }
 {
     if acked {
-        rest(conn);
+        clear_outstanding(conn);
         conn.state = State::Closed;
     }
     Step::Drop

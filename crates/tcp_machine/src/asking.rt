@@ -1,20 +1,22 @@
-//! Asking the application what it wants, in ESTABLISHED and CLOSE_WAIT with nothing outstanding.
+//! Asks the application what to send, in ESTABLISHED and CLOSE-WAIT with nothing outstanding.
 
-ghost use Rattle.std.specs.Prelude.{◌≡◌};
-ghost use Rattle.app_events.specs.Part.{Part};
-ghost use Rattle.tcp_machine.specs.Ask.{ask, does_as_wanted, idles, prepared, after_own_fin};
+ghost use Rattle.std.specs.Prelude.{◌≡◌, false};
+ghost use Rattle.app_events.specs.AppSpec.{AppState};
+ghost use Rattle.app_events.specs.declared.now.Now.{Now};
+ghost use Rattle.tcp_machine.specs.Ask.{ask, ask_prepared, does_as_wanted, idles, prepared, after_own_fin};
 ghost use Rattle.tcp_machine.specs.Connection.{Connection};
 ghost use Rattle.tcp_machine.specs.Fits.{CanBeAsked, IsAnswer, SameNumbers, SameSockets, StepFits};
 ghost use Rattle.tcp_machine.specs.Sound.{IsSound};
-ghost use Rattle.tcp_machine.specs.Takes.{Takes};
-ghost use Rattle.tcp_machine.specs.Stands.{ConnStands};
+ghost use Rattle.tcp_machine.specs.Refines.{Refines};
+ghost use Rattle.tcp_machine.specs.Represents.{ConnRepresents};
 
 use crate::moves::send;
 use crate::step::Step;
 use app_events::{App, Now, State, Want};
 use tcp_table::Conn;
 
-/// The state after an own FIN.
+/// Returns the state that follows the sending of an own FIN.
+/// [add: state] The state that an own FIN leads to.
 fn after_own_fin(state: State) -> State
     ensures { result ≡ after_own_fin state }
 {
@@ -24,28 +26,28 @@ fn after_own_fin(state: State) -> State
     }
 }
 
-/// The application takes a capture, where the text that comes next needs one.
-fn prepare<A: App>(conn: &mut Conn<A>, shared: &A::Shared, now: &Now)
+/// Lets the application take a capture, if the text that comes next needs one.
+pub fn prepare<A: App>(conn: &mut Conn<A>, shared: &A::Shared, now: &Now)
     requires asked { CanBeAsked conn.old }
-    requires sound { IsSound A.App (A.kept shared.now) conn.old }
+    requires sound { IsSound A.App (A.config shared.now) conn.old }
     ensures asked { CanBeAsked conn.new }
-    ensures sound { IsSound A.App (A.kept shared.now) conn.new }
+    ensures sound { IsSound A.App (A.config shared.now) conn.new }
     ensures place { SameSockets conn.old conn.new }
     ensures same_numbers { SameNumbers conn.old conn.new }
-    ensures conn { (a : Connection) → ConnStands A.App (A.kept shared.now) conn.old a
-        → ConnStands A.App (A.kept shared.now) conn.new (prepared (A.meaning (A.kept shared.now)) now.now a (A.numbers shared.now)) }
+    ensures conn { (a : Connection) → ConnRepresents A.App (A.config shared.now) conn.old a
+        → ConnRepresents A.App (A.config shared.now) conn.new (prepared (A.app_spec (A.config shared.now)) now.now a (A.numbers shared.now)) }
 {
     conn.app.prepare(shared, now);
 }
 
-/// Nothing is wanted: after the peer's FIN nothing more can come, so the connection is given up.
+/// The application has nothing to send. If the peer has sent its FIN, nothing more can be received either, so the connection is reset.
 #[tactic(auto, unfolding(crate::specs::Ask::idles))]
 fn idle<A: App>(conn: &mut Conn<A>, shared: &A::Shared, fresh: bool) -> Step
     requires asked { CanBeAsked conn.old }
-    requires sound { IsSound A.App (A.kept shared.now) conn.old }
+    requires sound { IsSound A.App (A.config shared.now) conn.old }
     ensures same_numbers { SameNumbers conn.old conn.new }
     ensures answer { IsAnswer result }
-    ensures takes { Takes A.App (λ m a ns. idles fresh a ns) conn.old shared.now conn.new shared.now result }
+    ensures takes { Refines A.App (λ m a ns. idles fresh a ns) conn.old shared.now conn.new shared.now result }
     ensures fits { StepFits conn.new result }
 {
     if conn.state == State::CloseWait {
@@ -55,15 +57,15 @@ fn idle<A: App>(conn: &mut Conn<A>, shared: &A::Shared, fresh: bool) -> Step
     if fresh { Step::Ack } else { Step::Drop }
 }
 
-/// What the application wants is done.
+/// Does what the application requested.
 fn do_as_wanted<A: App>(conn: &mut Conn<A>, shared: &A::Shared, want: Want, fresh: bool) -> Step
     requires asked { CanBeAsked conn.old }
-    requires sound { IsSound A.App (A.kept shared.now) conn.old }
-    requires want { (p : Part) → A.stands_for conn.old.app (A.kept shared.now) p
-        → want ≡ (A.meaning (A.kept shared.now)).want (A.numbers shared.now) p }
+    requires sound { IsSound A.App (A.config shared.now) conn.old }
+    requires want { (p : AppState) → A.represents conn.old.app (A.config shared.now) p
+        → want ≡ (A.app_spec (A.config shared.now)).want (A.numbers shared.now) p }
     ensures same_numbers { SameNumbers conn.old conn.new }
     ensures answer { IsAnswer result }
-    ensures takes { Takes A.App (λ m a ns. does_as_wanted want fresh a ns) conn.old shared.now conn.new shared.now result }
+    ensures takes { Refines A.App (λ m a ns. does_as_wanted want fresh a ns) conn.old shared.now conn.new shared.now result }
     ensures fits { StepFits conn.new result }
 {
     match want {
@@ -86,16 +88,40 @@ fn do_as_wanted<A: App>(conn: &mut Conn<A>, shared: &A::Shared, want: Want, fres
     }
 }
 
-/// Asks the application what it wants, and does it. `fresh` says that new text was taken, which needs an ACK.
-pub fn ask<A: App>(conn: &mut Conn<A>, shared: &A::Shared, now: &Now, fresh: bool) -> Step
+/// Returns whether the application may need a capture before it is asked. If not, `prepare` changes nothing for any `Now`.
+pub fn is_due<A: App>(conn: &Conn<A>, shared: &A::Shared) -> bool
+    requires asked { CanBeAsked conn.now }
+    requires sound { IsSound A.App (A.config shared.now) conn.now }
+    ensures not_due { result ≡ false → (a : Connection) (now : Now) → ConnRepresents A.App (A.config shared.now) conn.now a
+        → prepared (A.app_spec (A.config shared.now)) now a (A.numbers shared.now) ≡ a }
+{
+    conn.app.is_due(shared)
+}
+
+/// Asks the application, which has taken the capture that it needs, what it requests, and does it. `fresh`: new text was accepted,
+/// which must be acknowledged.
+pub fn ask_prepared<A: App>(conn: &mut Conn<A>, shared: &A::Shared, fresh: bool) -> Step
     requires asked { CanBeAsked conn.old }
-    requires sound { IsSound A.App (A.kept shared.now) conn.old }
+    requires sound { IsSound A.App (A.config shared.now) conn.old }
     ensures same_numbers { SameNumbers conn.old conn.new }
     ensures answer { IsAnswer result }
-    ensures takes { Takes A.App (λ m a ns. ask m now.now fresh a ns) conn.old shared.now conn.new shared.now result }
+    ensures takes { Refines A.App (λ m a ns. ask_prepared m fresh a ns) conn.old shared.now conn.new shared.now result }
+    ensures fits { StepFits conn.new result }
+{
+    let want = conn.app.want(shared);
+    do_as_wanted(conn, shared, want, fresh)
+}
+
+/// Lets the application take a capture, if it needs one, then asks what it requests, and does it. `fresh`: new text was accepted, which
+/// must be acknowledged.
+pub fn ask<A: App>(conn: &mut Conn<A>, shared: &A::Shared, now: &Now, fresh: bool) -> Step
+    requires asked { CanBeAsked conn.old }
+    requires sound { IsSound A.App (A.config shared.now) conn.old }
+    ensures same_numbers { SameNumbers conn.old conn.new }
+    ensures answer { IsAnswer result }
+    ensures takes { Refines A.App (λ m a ns. ask m now.now fresh a ns) conn.old shared.now conn.new shared.now result }
     ensures fits { StepFits conn.new result }
 {
     prepare(conn, shared, now);
-    let want = conn.app.want(shared);
-    do_as_wanted(conn, shared, want, fresh)
+    ask_prepared(conn, shared, fresh)
 }

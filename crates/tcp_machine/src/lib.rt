@@ -1,6 +1,5 @@
-//! One connection of TCP, event by event (RFC 793, section 3.9): each event is a step of the table in
-//! `specs/OnSegment.antt`, and what it asks of the node is a `Step`. The definitions of the abstract connection stand
-//! in `specs/`; every layer above speaks of them.
+//! One connection of TCP, event by event (RFC 793, section 3.9). Each event is a step of the table in `specs/OnSegment.antt`, and returns
+//! as a `Step` what the node is to send. The layers above are proved against the definitions in `specs/`.
 #![tactic(auto)]
 
 mod alone;
@@ -13,7 +12,7 @@ mod speaking;
 mod step;
 mod ticking;
 
-pub use asking::ask;
+pub use asking::{ask, ask_prepared, is_due, prepare};
 pub use laws::constant_values;
 pub use opening::{DEFAULT_MSS, accept};
 pub use segment::on_segment;

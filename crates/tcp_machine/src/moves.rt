@@ -1,19 +1,19 @@
-//! How the numbers of a connection move.
+//! Transitions: how the sequence numbers, the window, the timer and the state change.
 
 ghost use Rattle.std.specs.Prelude.{◌≡◌, ◌<◌, ◌≤◌, true, false};
 ghost use Rattle.tcp_machine.specs.Connection.{Connection, is_resting};
 ghost use Rattle.tcp_machine.specs.Fits.{SameNumbers};
 ghost use Rattle.tcp_machine.specs.OnSegment.{rests, takes, in_state, with_window};
 ghost use Rattle.tcp_machine.specs.OnTick.{limit_of};
-ghost use Rattle.tcp_machine.specs.Stands.{IsLike};
+ghost use Rattle.tcp_machine.specs.Represents.{IsLike};
 ghost use Rattle.tcp_machine.specs.Kept.{IsRested, KeepsAll, KeepsAllButMss, KeepsAllButTimer};
 
 use app_events::State;
 use rexmit_timer::Timer;
 use tcp_table::Conn;
 
-/// All that was outstanding is acknowledged, and the timer rests.
-pub(crate) fn rest<A>(conn: &mut Conn<A>)
+/// Removes what was outstanding, which is acknowledged: advances SND.UNA over it and stops the timer.
+pub(crate) fn clear_outstanding<A>(conn: &mut Conn<A>)
     ensures rested { IsRested conn.old conn.new }
     ensures like { (a : Connection) → IsLike conn.old a → IsLike conn.new (rests a) }
 {
@@ -22,8 +22,8 @@ pub(crate) fn rest<A>(conn: &mut Conn<A>)
     conn.timer = Timer::rest();
 }
 
-/// So many more of the peer's numbers are taken.
-pub(crate) fn take<A>(conn: &mut Conn<A>, count: u32)
+/// Advances RCV.NXT by `count`.
+pub(crate) fn advance_rcv_nxt<A>(conn: &mut Conn<A>, count: u32)
     ensures kept { KeepsAll conn.old conn.new }
     ensures state { conn.new.state ≡ conn.old.state }
     ensures like { (a : Connection) → IsLike conn.old a → IsLike conn.new (takes count a) }
@@ -31,7 +31,8 @@ pub(crate) fn take<A>(conn: &mut Conn<A>, count: u32)
     conn.rcv_nxt = conn.rcv_nxt.add(count);
 }
 
-/// The connection enters a state. What is outstanding goes on to be sent again as before.
+/// Enters a state. The timer of what is outstanding is unchanged.
+/// [add: state] How the state is entered.
 pub(crate) fn enter<A>(conn: &mut Conn<A>, state: State)
     requires limit { 0 < conn.old.len → limit_of state ≡ limit_of conn.old.state }
     requires busy { is_resting conn.old.state ≡ false }
@@ -43,7 +44,7 @@ pub(crate) fn enter<A>(conn: &mut Conn<A>, state: State)
     conn.state = state;
 }
 
-/// TIME_WAIT is entered, and the count of its ticks begins.
+/// Enters TIME-WAIT, and starts the count of its ticks.
 pub(crate) fn begin_time_wait<A>(conn: &mut Conn<A>)
     requires { conn.old.len ≡ 0 }
     ensures kept { KeepsAllButTimer conn.old conn.new }
@@ -56,7 +57,7 @@ pub(crate) fn begin_time_wait<A>(conn: &mut Conn<A>)
     conn.state = State::TimeWait;
 }
 
-/// The peer's window bounds the next text; a window of 0 is taken for an open one.
+/// Bounds the next text by the peer's window. A window of 0 counts as an open one, as in uIP.
 pub(crate) fn set_window<A>(conn: &mut Conn<A>, window: u16)
     ensures kept { KeepsAllButMss conn.old conn.new }
     ensures low { 1 ≤ conn.old.initial_mss → 1 ≤ conn.new.mss }
@@ -70,7 +71,7 @@ pub(crate) fn set_window<A>(conn: &mut Conn<A>, window: u16)
     };
 }
 
-/// Something is sent for the first time: so many numbers are outstanding, and the timer starts.
+/// Makes `len` sequence numbers outstanding for the first time, and starts the timer.
 pub(crate) fn send<A>(conn: &mut Conn<A>, state: State, len: u16)
     requires some { 0 < len }
     requires limit { limit_of state ≡ 8 }

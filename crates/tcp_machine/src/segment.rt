@@ -1,33 +1,33 @@
-//! A segment of a connection (RFC 793, section 3.9, SEGMENT ARRIVES).
+//! A segment arrives (RFC 793, section 3.9, SEGMENT ARRIVES): the checks in order, then one function for each state.
 
 ghost use Rattle.std.specs.Prelude.{◌≡◌, ◌+◌, ◌<◌, ◌≤◌, ◌&&◌, ◌==◌, if◌then◌else◌, not, nat_lt, true, length};
 ghost use Rattle.uip_wire.specs.Numbers.{wrap};
 ghost use Rattle.tcp_segment.specs.Segments.{PlainSegment, has_ack};
 ghost use Rattle.tcp_machine.specs.Connection.{Connection, is_live};
 ghost use Rattle.tcp_machine.specs.Fits.{SameNumbers, SameSockets};
-ghost use Rattle.tcp_machine.specs.OnSegment.{connects, peer_closes, goes_on, in_established, by_state, on_segment, told_end};
-ghost use Rattle.tcp_machine.specs.Segments.{has_place};
+ghost use Rattle.tcp_machine.specs.OnSegment.{connects, peer_closes, stays_established, in_established, by_state, on_segment, told_end};
+ghost use Rattle.tcp_machine.specs.Segments.{occupies_sequence_space};
 ghost use Rattle.tcp_machine.specs.Sound.{IsSound};
-ghost use Rattle.tcp_machine.specs.Takes.{Takes};
-ghost use Rattle.tcp_machine.specs.Stands.{ConnStands, is_open, plain};
+ghost use Rattle.tcp_machine.specs.Refines.{Refines};
+ghost use Rattle.tcp_machine.specs.Represents.{ConnRepresents, is_open, plain};
 
 use crate::alone::{in_closing, in_fin_wait_1, in_fin_wait_2, in_last_ack};
-use crate::moves::{enter, rest, set_window, take};
-use crate::speaking::{absorb, hear, is_open, take_ack};
+use crate::moves::{advance_rcv_nxt, clear_outstanding, enter, set_window};
+use crate::speaking::{ack_received, deliver, is_open, receive_text};
 use crate::step::Step;
 use app_events::{App, Ending, State};
 use tcp_segment::Segment;
 use tcp_table::Conn;
 
-/// The connection is given up. The application is told where it might still have spoken.
-pub(crate) fn leave<A: App>(conn: &mut Conn<A>, shared: &mut A::Shared, how: Ending)
-    requires { IsSound A.App (A.kept shared.old) conn.old }
-    ensures same { A.kept shared.new ≡ A.kept shared.old }
+/// Closes the connection, and notifies the application if it could still send.
+pub(crate) fn drop_connection<A: App>(conn: &mut Conn<A>, shared: &mut A::Shared, how: Ending)
+    requires { IsSound A.App (A.config shared.old) conn.old }
+    ensures same { A.config shared.new ≡ A.config shared.old }
     ensures closed { conn.new.state ≡ State.Closed }
     ensures place { SameSockets conn.old conn.new }
     ensures same_numbers { SameNumbers conn.old conn.new }
-    ensures numbers { (a : Connection) → ConnStands A.App (A.kept shared.old) conn.old a
-        → A.numbers shared.new ≡ told_end (A.meaning (A.kept shared.old)) how a.state a.part (A.numbers shared.old) }
+    ensures numbers { (a : Connection) → ConnRepresents A.App (A.config shared.old) conn.old a
+        → A.numbers shared.new ≡ told_end (A.app_spec (A.config shared.old)) how a.state a.part (A.numbers shared.old) }
 {
     if is_open(conn.state) {
         conn.app.ended(shared, how);
@@ -35,25 +35,25 @@ pub(crate) fn leave<A: App>(conn: &mut Conn<A>, shared: &mut A::Shared, how: End
     conn.state = State::Closed;
 }
 
-/// SYN_RECEIVED, with the SYN-ACK acknowledged. A FIN is not taken.
+/// SYN-RECEIVED, if the SYN-ACK is acknowledged: delivers the text, and ignores a FIN.
 fn connects<A: App>(conn: &mut Conn<A>, shared: &mut A::Shared, piece: &[u8]) -> Step
     requires state { conn.old.state ≡ State.SynRcvd }
-    requires sound { IsSound A.App (A.kept shared.old) conn.old }
+    requires sound { IsSound A.App (A.config shared.old) conn.old }
     requires short { length piece.now ≤ 1500 }
-    ensures { (s : PlainSegment) → Takes A.App (λ m a ns. connects m a ns (record s { text = piece.now }))
+    ensures { (s : PlainSegment) → Refines A.App (λ m a ns. connects m a ns (record s { text = piece.now }))
         conn.old shared.old conn.new shared.new result }
 {
     conn.app.connected(shared, conn.own_port);
-    hear(&mut conn.app, shared, piece);
-    rest(conn);
+    deliver(&mut conn.app, shared, piece);
+    clear_outstanding(conn);
     enter(conn, State::Established);
-    take(conn, piece.len() as u32);
+    advance_rcv_nxt(conn, piece.len() as u32);
     Step::Ask {
         fresh: !piece.is_empty(),
     }
 }
 
-/// ESTABLISHED, where the segment has a FIN.
+/// ESTABLISHED, if the segment has a FIN.
 #[tactic(auto, unfolding(crate::specs::OnSegment::peer_closes))]
 fn peer_closes<A: App>(
     conn: &mut Conn<A>,
@@ -62,16 +62,16 @@ fn peer_closes<A: App>(
     piece: &[u8],
 ) -> Step
     requires state { conn.old.state ≡ State.Established }
-    requires sound { IsSound A.App (A.kept shared.old) conn.old }
+    requires sound { IsSound A.App (A.config shared.old) conn.old }
     requires short { length piece.now ≤ 1500 }
-    ensures { Takes A.App (λ m a ns. peer_closes m a ns (plain seg.now piece.now)) conn.old shared.old conn.new shared.new result }
+    ensures { Refines A.App (λ m a ns. peer_closes m a ns (plain seg.now piece.now)) conn.old shared.old conn.new shared.new result }
 {
-    absorb(conn, shared, seg.window, piece, piece.len() as u32 + 1);
+    receive_text(conn, shared, seg.window, piece, piece.len() as u32 + 1);
     enter(conn, State::CloseWait);
     ask_if_idle(conn)
 }
 
-/// The application is asked of something new, where nothing is outstanding.
+/// Asks the application for something new, if nothing is outstanding; else acknowledges.
 fn ask_if_idle<A>(conn: &Conn<A>) -> Step
     ensures { result ≡ (if nat_lt 0 conn.now.len then Step.Ack else Step.Ask true) }
 {
@@ -82,9 +82,9 @@ fn ask_if_idle<A>(conn: &Conn<A>) -> Step
     }
 }
 
-/// ESTABLISHED, where it has none.
-#[tactic(auto, unfolding(crate::specs::OnSegment::goes_on))]
-fn goes_on<A: App>(
+/// ESTABLISHED, if the segment has no FIN.
+#[tactic(auto, unfolding(crate::specs::OnSegment::stays_established))]
+fn stays_established<A: App>(
     conn: &mut Conn<A>,
     shared: &mut A::Shared,
     seg: &Segment,
@@ -92,12 +92,12 @@ fn goes_on<A: App>(
     acked: bool,
 ) -> Step
     requires state { conn.old.state ≡ State.Established }
-    requires sound { IsSound A.App (A.kept shared.old) conn.old }
+    requires sound { IsSound A.App (A.config shared.old) conn.old }
     requires short { length piece.now ≤ 1500 }
-    ensures { Takes A.App (λ m a ns. goes_on m acked a ns (plain seg.now piece.now)) conn.old shared.old conn.new shared.new result }
+    ensures { Refines A.App (λ m a ns. stays_established m acked a ns (plain seg.now piece.now)) conn.old shared.old conn.new shared.new result }
 {
     let count = piece.len() as u32;
-    absorb(conn, shared, seg.window, piece, count);
+    receive_text(conn, shared, seg.window, piece, count);
     let fresh = count > 0;
     if !acked && !fresh {
         return Step::Drop;
@@ -108,7 +108,7 @@ fn goes_on<A: App>(
     Step::Ask { fresh }
 }
 
-/// ESTABLISHED.
+/// ESTABLISHED, after the acknowledgement was reported.
 #[tactic(auto, unfolding(crate::specs::OnSegment::in_established))]
 fn in_established<A: App>(
     conn: &mut Conn<A>,
@@ -118,18 +118,18 @@ fn in_established<A: App>(
     acked: bool,
 ) -> Step
     requires state { conn.old.state ≡ State.Established }
-    requires sound { IsSound A.App (A.kept shared.old) conn.old }
+    requires sound { IsSound A.App (A.config shared.old) conn.old }
     requires short { length piece.now ≤ 1500 }
-    ensures { Takes A.App (λ m a ns. in_established m acked a ns (plain seg.now piece.now)) conn.old shared.old conn.new shared.new result }
+    ensures { Refines A.App (λ m a ns. in_established m acked a ns (plain seg.now piece.now)) conn.old shared.old conn.new shared.new result }
 {
     if seg.has_fin() {
         peer_closes(conn, shared, seg, piece)
     } else {
-        goes_on(conn, shared, seg, piece, acked)
+        stays_established(conn, shared, seg, piece, acked)
     }
 }
 
-/// ESTABLISHED, where the application may hear of an acknowledgement first.
+/// The row of ESTABLISHED: reports an acknowledgement to the application, then delivers.
 fn established<A: App>(
     conn: &mut Conn<A>,
     shared: &mut A::Shared,
@@ -138,19 +138,19 @@ fn established<A: App>(
     acked: bool,
 ) -> Step
     requires state { conn.old.state ≡ State.Established }
-    requires sound { IsSound A.App (A.kept shared.old) conn.old }
+    requires sound { IsSound A.App (A.config shared.old) conn.old }
     requires short { length piece.now ≤ 1500 }
-    ensures { Takes A.App (λ m a ns. by_state m State.Established acked a ns (plain seg.now piece.now))
+    ensures { Refines A.App (λ m a ns. by_state m State.Established acked a ns (plain seg.now piece.now))
         conn.old shared.old conn.new shared.new result }
 {
     if acked {
-        take_ack(conn, shared);
+        ack_received(conn, shared);
         return in_established(conn, shared, seg, piece, true);
     }
     in_established(conn, shared, seg, piece, false)
 }
 
-/// CLOSE_WAIT: text and FIN are not taken.
+/// The row of CLOSE-WAIT: text and FIN are ignored.
 fn in_close_wait<A: App>(
     conn: &mut Conn<A>,
     shared: &mut A::Shared,
@@ -158,12 +158,12 @@ fn in_close_wait<A: App>(
     acked: bool,
 ) -> Step
     requires state { conn.old.state ≡ State.CloseWait }
-    requires sound { IsSound A.App (A.kept shared.old) conn.old }
-    ensures { (s : PlainSegment) → Takes A.App (λ m a ns. by_state m State.CloseWait acked a ns (record s { window = seg.now.window }))
+    requires sound { IsSound A.App (A.config shared.old) conn.old }
+    ensures { (s : PlainSegment) → Refines A.App (λ m a ns. by_state m State.CloseWait acked a ns (record s { window = seg.now.window }))
         conn.old shared.old conn.new shared.new result }
 {
     if acked {
-        take_ack(conn, shared);
+        ack_received(conn, shared);
         set_window(conn, seg.window);
         return Step::Ask { fresh: false };
     }
@@ -171,21 +171,22 @@ fn in_close_wait<A: App>(
     Step::Drop
 }
 
-/// What stands in its order stands at another number than the expected one.
+/// Returns whether the segment occupies sequence space and does not start at RCV.NXT.
 fn is_out_of_order<A>(conn: &Conn<A>, seg: &Segment, piece: &[u8]) -> bool
-    ensures { result ≡ (has_place (plain seg.now piece.now) && not (seg.now.seq.0 == conn.now.rcv_nxt.0)) }
+    ensures { result ≡ (occupies_sequence_space (plain seg.now piece.now) && not (seg.now.seq.0 == conn.now.rcv_nxt.0)) }
 {
     (!piece.is_empty() || seg.has_syn() || seg.has_fin()) && seg.seq.0 != conn.rcv_nxt.0
 }
 
-/// The segment acknowledges all that is outstanding.
+/// Returns whether the segment acknowledges all that is outstanding.
 fn is_acked<A>(conn: &Conn<A>, seg: &Segment) -> bool
     ensures { result ≡ (has_ack seg.now.flags && (nat_lt 0 conn.now.len && (seg.now.ack.0 == wrap (conn.now.snd_nxt.0 + conn.now.len)))) }
 {
     seg.has_ack() && conn.len > 0 && seg.ack.0 == conn.snd_nxt.add(conn.len as u32).0
 }
 
-/// The row of the connection's state; `acked` says whether the segment acknowledges all that is outstanding.
+/// Takes the row of the connection's state. `acked`: the segment acknowledges all that is outstanding.
+/// [add: state] A row: a function of its own, here or in `alone.rt` if the application has no more to send.
 fn by_state<A: App>(
     conn: &mut Conn<A>,
     shared: &mut A::Shared,
@@ -194,9 +195,9 @@ fn by_state<A: App>(
     acked: bool,
 ) -> Step
     requires live { is_live conn.old.state ≡ true }
-    requires sound { IsSound A.App (A.kept shared.old) conn.old }
+    requires sound { IsSound A.App (A.config shared.old) conn.old }
     requires short { length piece.now ≤ 1500 }
-    ensures { Takes A.App (λ m a ns. by_state m a.state acked a ns (plain seg.now piece.now))
+    ensures { Refines A.App (λ m a ns. by_state m a.state acked a ns (plain seg.now piece.now))
         conn.old shared.old conn.new shared.new result }
 {
     match conn.state {
@@ -217,7 +218,7 @@ fn by_state<A: App>(
     }
 }
 
-/// A segment of a connection that is not CLOSED. `piece` is the segment's text.
+/// Handles a segment of a connection that is not CLOSED. `piece` is the segment's text.
 #[tactic(auto, unfolding(crate::specs::OnSegment::on_segment))]
 pub fn on_segment<A: App>(
     conn: &mut Conn<A>,
@@ -226,12 +227,12 @@ pub fn on_segment<A: App>(
     piece: &[u8],
 ) -> Step
     requires live { is_live conn.old.state ≡ true }
-    requires sound { IsSound A.App (A.kept shared.old) conn.old }
+    requires sound { IsSound A.App (A.config shared.old) conn.old }
     requires short { length piece.now ≤ 1500 }
-    ensures { Takes A.App (λ m a ns. on_segment m a ns (plain seg.now piece.now)) conn.old shared.old conn.new shared.new result }
+    ensures { Refines A.App (λ m a ns. on_segment m a ns (plain seg.now piece.now)) conn.old shared.old conn.new shared.new result }
 {
     if seg.has_rst() {
-        leave(conn, shared, Ending::Reset);
+        drop_connection(conn, shared, Ending::Reset);
         return Step::Drop;
     }
     if is_out_of_order(conn, seg, piece) {

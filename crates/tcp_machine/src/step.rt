@@ -1,15 +1,15 @@
-/// What a connection asks of its node after an event.
+/// What a connection returns to its node after an event: what to send.
 #[derive(Clone, Copy, Debug, PartialEq, Eq)]
 pub enum Step {
-    /// Nothing is sent.
+    /// Send nothing.
     Drop,
-    /// A bare ACK is sent.
+    /// Send an ACK without text.
     Ack,
     SynAck { again: bool },
     Text { again: bool },
     Fin { again: bool },
-    /// A RST with ACK is sent.
+    /// Send a RST with ACK.
     Reset,
-    /// The application is to be asked; `fresh` says that new text was taken, which needs an ACK.
+    /// Ask the application what to send. `fresh`: new text was accepted, which must be acknowledged.
     Ask { fresh: bool },
 }

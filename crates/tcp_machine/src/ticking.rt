@@ -1,23 +1,23 @@
-//! The periodic call of a connection.
+//! The periodic call of a connection: timeouts and polls (RFC 793, section 3.9, TIMEOUTS).
 
 ghost use Rattle.std.specs.Prelude.{◌≡◌, ℕ, ◌<◌, true, false, List};
 ghost use Rattle.tcp_machine.specs.Connection.{Connection, is_live, is_resting};
 ghost use Rattle.tcp_machine.specs.Fits.{Rests, SameNumbers, SameSockets, StepFits};
 ghost use Rattle.tcp_machine.specs.OnTick.{limit_of, outstanding, waits_for_ack, rests_on, polls, ticks_established, on_tick};
 ghost use Rattle.tcp_machine.specs.Sound.{HasSoundNumbers, IsSound};
-ghost use Rattle.tcp_machine.specs.Takes.{Takes};
-ghost use Rattle.tcp_machine.specs.Stands.{MeetsAlone, NumbersStand, is_open};
+ghost use Rattle.tcp_machine.specs.Refines.{Refines};
+ghost use Rattle.tcp_machine.specs.Represents.{MeetsAlone, NumbersRepresent, is_open};
 
-use crate::segment::leave;
+use crate::segment::drop_connection;
 use crate::step::Step;
 use app_events::{App, Ending, State};
 use rexmit_timer::{Beat, SYN_ACK_LIMIT, TEXT_LIMIT};
 use tcp_table::Conn;
 
-/// How many ticks FIN_WAIT_2 and TIME_WAIT last.
+/// The length of FIN-WAIT-2 and TIME-WAIT, in ticks.
 pub const REST_TIME: u8 = 120;
 
-/// How often what is outstanding is sent again.
+/// Returns how many times what is outstanding is retransmitted.
 fn limit_of(state: State) -> u8
     ensures { result ≡ limit_of state }
 {
@@ -27,7 +27,7 @@ fn limit_of(state: State) -> u8
     }
 }
 
-/// What is outstanding, to be sent again.
+/// Returns what is outstanding, as a retransmission.
 fn outstanding(state: State) -> Step
     ensures { result ≡ outstanding true state }
 {
@@ -39,7 +39,7 @@ fn outstanding(state: State) -> Step
     }
 }
 
-/// A tick of FIN_WAIT_2 or TIME_WAIT.
+/// A tick of FIN-WAIT-2 or TIME-WAIT: the connection is CLOSED after `REST_TIME` ticks.
 #[tactic(auto, unfolding(crate::specs::OnTick::rests_on))]
 fn rests_on<A>(conn: &mut Conn<A>) -> Step
     requires resting { is_resting conn.old.state ≡ true }
@@ -50,7 +50,7 @@ fn rests_on<A>(conn: &mut Conn<A>) -> Step
     ensures place { SameSockets conn.old conn.new }
     ensures same_numbers { SameNumbers conn.old conn.new }
     ensures fits { StepFits conn.new result }
-    ensures meets { (a : Connection) (ns : List ℕ) → NumbersStand conn.old a → MeetsAlone conn.new ns result (rests_on a ns) }
+    ensures meets { (a : Connection) (ns : List ℕ) → NumbersRepresent conn.old a → MeetsAlone conn.new ns result (rests_on a ns) }
 {
     if conn.timer.count == REST_TIME - 1 {
         conn.state = State::Closed;
@@ -60,43 +60,43 @@ fn rests_on<A>(conn: &mut Conn<A>) -> Step
     Step::Drop
 }
 
-/// ESTABLISHED with nothing outstanding: the application hears of the tick and is asked.
+/// ESTABLISHED with nothing outstanding: polls the application, which is then asked.
 fn polls<A: App>(conn: &mut Conn<A>, shared: &mut A::Shared) -> Step
     requires state { conn.old.state ≡ State.Established }
     requires idle { conn.old.len ≡ 0 }
-    requires sound { IsSound A.App (A.kept shared.old) conn.old }
+    requires sound { IsSound A.App (A.config shared.old) conn.old }
     ensures same_numbers { SameNumbers conn.old conn.new }
-    ensures takes { Takes A.App polls conn.old shared.old conn.new shared.new result }
+    ensures takes { Refines A.App polls conn.old shared.old conn.new shared.new result }
 {
     conn.app.polled(shared);
     Step::Ask { fresh: false }
 }
 
-/// What is outstanding grows older by a tick: it waits, is sent again, or is given up.
+/// Counts a tick for what is outstanding: waits, retransmits, or resets the connection.
 fn waits_for_ack<A: App>(conn: &mut Conn<A>, shared: &mut A::Shared) -> Step
     requires live { is_live conn.old.state ≡ true }
     requires out { 0 < conn.old.len }
-    requires sound { IsSound A.App (A.kept shared.old) conn.old }
+    requires sound { IsSound A.App (A.config shared.old) conn.old }
     ensures same_numbers { SameNumbers conn.old conn.new }
-    ensures takes { Takes A.App waits_for_ack conn.old shared.old conn.new shared.new result }
+    ensures takes { Refines A.App waits_for_ack conn.old shared.old conn.new shared.new result }
 {
     match conn.timer.tick(limit_of(conn.state)) {
         Beat::Wait => Step::Drop,
         Beat::Again => outstanding(conn.state),
         Beat::GiveUp => {
-            leave(conn, shared, Ending::TimedOut);
+            drop_connection(conn, shared, Ending::TimedOut);
             Step::Reset
         }
     }
 }
 
-/// ESTABLISHED.
+/// A tick of ESTABLISHED.
 #[tactic(auto, unfolding(crate::specs::OnTick::ticks_established))]
 fn ticks_established<A: App>(conn: &mut Conn<A>, shared: &mut A::Shared) -> Step
     requires state { conn.old.state ≡ State.Established }
-    requires sound { IsSound A.App (A.kept shared.old) conn.old }
+    requires sound { IsSound A.App (A.config shared.old) conn.old }
     ensures same_numbers { SameNumbers conn.old conn.new }
-    ensures takes { Takes A.App ticks_established conn.old shared.old conn.new shared.new result }
+    ensures takes { Refines A.App ticks_established conn.old shared.old conn.new shared.new result }
 {
     if conn.len > 0 {
         waits_for_ack(conn, shared)
@@ -105,12 +105,13 @@ fn ticks_established<A: App>(conn: &mut Conn<A>, shared: &mut A::Shared) -> Step
     }
 }
 
-/// The periodic call of a connection. One in CLOSE_WAIT has something outstanding.
+/// Makes the periodic call of a connection. In CLOSE-WAIT something must be outstanding.
+/// [add: state] An arm for the periodic call.
 pub fn on_tick<A: App>(conn: &mut Conn<A>, shared: &mut A::Shared) -> Step
-    requires sound { IsSound A.App (A.kept shared.old) conn.old }
+    requires sound { IsSound A.App (A.config shared.old) conn.old }
     requires busy { Rests conn.old }
     ensures same_numbers { SameNumbers conn.old conn.new }
-    ensures takes { Takes A.App on_tick conn.old shared.old conn.new shared.new result }
+    ensures takes { Refines A.App on_tick conn.old shared.old conn.new shared.new result }
 {
     match conn.state {
         State::Closed => Step::Drop,

@@ -1,4 +1,4 @@
--- What was sent is received.
+-- What is sent is received.
 use Rattle.std.proofs.Common.{◌≡◌, ℕ, ◌+◌, ◌-◌, ◌*◌, ◌/◌, ◌%◌, ◌<◌, ◌≤◌, List, [], ◌∷◌, ◌++◌, length, take, drop, slice_range, refl, sym, ap, ◌∙◌, arith, Ok, Result, Option, Some, None, length-append}
 use Rattle.std.proofs.lemmas.Grind.{common_steps}
 use Rattle.std.proofs.lemmas.List.{drop-drop, drop_at}
@@ -40,29 +40,29 @@ sum_added offset options k d =
     (offset * 4096 + d.segment.flags) d.segment.window k (total options) (word_sum d.segment.text)
     ∙ ap (λ n. n + k) (sym (sum_of_words (words offset options 0 d) d.segment.text))
 
-even_front : (source target : List ℕ) (len : ℕ) → length source ≡ 4 → length target ≡ 4 → length (pseudo_header source target len) % 2 ≡ 0
-even_front source target len s t =
+even_prefix : (source target : List ℕ) (len : ℕ) → length source ≡ 4 → length target ≡ 4 → length (pseudo_header source target len) % 2 ≡ 0
+even_prefix source target len s t =
     omega (arith, length-append (source ++ target) (bytes_of (6 ∷ len ∷ [])), length-append source target)
 
-closes : (front a b k : ℕ) → a ≡ b + (65535 - folded (front + b)) → k ≡ front + a → 65535 - folded k ≡ 0
-closes front a b k e f =
-    let whole : k ≡ front + b + (65535 - folded (front + b)) = omega arith in
-    ap (λ n. 65535 - folded n) whole ∙ ap (λ n. 65535 - n) (folded_closes (front + b))
+closes : (prefix a b k : ℕ) → a ≡ b + (65535 - folded (prefix + b)) → k ≡ prefix + a → 65535 - folded k ≡ 0
+closes prefix a b k e f =
+    let whole : k ≡ prefix + b + (65535 - folded (prefix + b)) = omega arith in
+    ap (λ n. 65535 - folded n) whole ∙ ap (λ n. 65535 - n) (folded_closes (prefix + b))
 
 sum_right : (offset : ℕ) (options : List ℕ) (len : ℕ) (d : Datagram) → length d.source ≡ 4 → length d.target ≡ 4
     → checksum_of (pseudo_header d.source d.target len
     ++ with_words offset options (checksum_of (pseudo_header d.source d.target len ++ with_words offset options 0 d)) d) ≡ 0
 sum_right offset options len d s t =
-    let front : List ℕ = pseudo_header d.source d.target len in
-    let even = even_front d.source d.target len s t in
-    let before : word_sum (front ++ with_words offset options 0 d) ≡ word_sum front + word_sum (with_words offset options 0 d) =
-    join_even front (with_words offset options 0 d) even in
-    let k : ℕ = checksum_of (front ++ with_words offset options 0 d) in
+    let prefix : List ℕ = pseudo_header d.source d.target len in
+    let even = even_prefix d.source d.target len s t in
+    let before : word_sum (prefix ++ with_words offset options 0 d) ≡ word_sum prefix + word_sum (with_words offset options 0 d) =
+    join_even prefix (with_words offset options 0 d) even in
+    let k : ℕ = checksum_of (prefix ++ with_words offset options 0 d) in
     let added : word_sum (with_words offset options k d)
-    ≡ word_sum (with_words offset options 0 d) + (65535 - folded (word_sum front + word_sum (with_words offset options 0 d))) =
+    ≡ word_sum (with_words offset options 0 d) + (65535 - folded (word_sum prefix + word_sum (with_words offset options 0 d))) =
     sum_added offset options k d
     ∙ ap (λ n. word_sum (with_words offset options 0 d) + (65535 - folded n)) before in
-    closes (word_sum front) _ _ _ added (join_even front (with_words offset options k d) even)
+    closes (word_sum prefix) _ _ _ added (join_even prefix (with_words offset options k d) even)
 
 -- ---- its fields
 
@@ -79,7 +79,7 @@ told_offset offset flags h = omega arith
 told_flags : (offset flags : ℕ) → flags < 64 → (offset * 4096 + flags) % 256 % 64 ≡ flags
 told_flags offset flags h = omega arith
 
--- the segment passes its checks, whatever its options say
+-- the segment passes its checks, whatever its options are
 received : (offset : ℕ) (options : List ℕ) (d : Datagram) (mss : Option ℕ) → length d.source ≡ 4 → length d.target ≡ 4
     → d.segment.flags < 64 → 5 ≤ offset → 4 * offset ≡ 20 + 2 * length options
     → mss_in (slice_range (with_words offset options (checksum_of (pseudo_header d.source d.target (length (with_words offset options 0 d)) ++ with_words offset options 0 d)) d) 20 (4 * offset)) ≡ mss
@@ -106,9 +106,9 @@ received offset options d mss s t small least size told =
 
 -- ---- the whole datagram
 
-behind_head : (d : Datagram) → length d.source ≡ 4 → length d.target ≡ 4 → drop 20 (datagram_bytes d) ≡ segment_bytes d
+after_header : (d : Datagram) → length d.source ≡ 4 → length d.target ≡ 4 → drop 20 (datagram_bytes d) ≡ segment_bytes d
 unfolding datagram_bytes
-behind_head d s t =
+after_header d s t =
     drop_at (head_bytes (20 + length (segment_bytes d)) d.id Tcp d.source d.target) (segment_bytes d) 20
     (length-head_bytes (20 + length (segment_bytes d)) d.id Tcp d.source d.target s t)
 
@@ -116,7 +116,7 @@ payload_is : (d : Datagram) → length d.source ≡ 4 → length d.target ≡ 4 
 payload_is d s t =
     let len : ℕ = length (segment_bytes d) in
     let n : 20 + len - 20 ≡ len = omega arith in
-    ap (λ l. take (20 + len - 20) l) (behind_head d s t) ∙ ap (λ m. take m (segment_bytes d)) n ∙ take-length (segment_bytes d)
+    ap (λ l. take (20 + len - 20) l) (after_header d s t) ∙ ap (λ m. take m (segment_bytes d)) n ∙ take-length (segment_bytes d)
 
 text_is : (d : Datagram) (at : ℕ) → length d.source ≡ 4 → length d.target ≡ 4 → drop at (segment_bytes d) ≡ d.segment.text
     → slice_range (datagram_bytes d) (20 + at) (20 + at + length d.segment.text) ≡ d.segment.text
@@ -124,7 +124,7 @@ text_is d at s t e =
     let len : ℕ = length d.segment.text in
     let n : 20 + at + len - (20 + at) ≡ len = omega arith in
     ap (λ m. take m (drop (20 + at) (datagram_bytes d))) n
-    ∙ ap (λ l. take len l) (sym (drop-drop at 20 (datagram_bytes d)) ∙ ap (λ l. drop at l) (behind_head d s t) ∙ e)
+    ∙ ap (λ l. take len l) (sym (drop-drop at 20 (datagram_bytes d)) ∙ ap (λ l. drop at l) (after_header d s t) ∙ e)
     ∙ take-length d.segment.text
 
 head_back : (d : Datagram) → IsSoundDatagram d → head_or_fate (datagram_bytes d) d.target ≡ Ok (head_of d)

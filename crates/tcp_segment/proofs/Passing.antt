@@ -1,7 +1,7 @@
--- Options that are passed over.
+-- Options that are skipped.
 use Rattle.std.proofs.Common.{◌≡◌, ℕ, zero, suc, ◌<◌, Bool, true, false, List, [], ◌∷◌, length, drop, slice_index, Some, refl, sym, ap, ◌∙◌, arith, if◌then◌else◌}
 use Rattle.std.specs.Prelude.{option_and_then}
-use Rattle.tcp_segment.specs.Options.{bytes_behind, is_mss, mss_after, mss_in}
+use Rattle.tcp_segment.specs.Options.{trailing_bytes, is_mss, mss_after, mss_in}
 
 skip_drop : (n : ℕ) (options : List ℕ) → mss_after n options ≡ mss_in (drop n options)
 skip_drop zero options = refl
@@ -13,7 +13,7 @@ otherwise true x y e = absurd (cc)
 otherwise false x y e = refl
 
 pub next_option : (options : List ℕ) (count : ℕ) → 0 < length options → is_mss (slice_index options 0) (drop 1 options) ≡ false
-    → bytes_behind (slice_index options 0) (drop 1 options) ≡ Some count
+    → trailing_bytes (slice_index options 0) (drop 1 options) ≡ Some count
     → mss_in (drop count (drop 1 options)) ≡ mss_in options
 next_option [] count some other behind = absurd (omega arith)
 next_option (kind ∷ rest) count some other behind =

@@ -23,23 +23,23 @@ no_option = refl
 alone : mss_in (2 ∷ 4 ∷ 5 ∷ 0xb4 ∷ []) ≡ Some 1460
 alone = refl
 
-behind_fillers : mss_in (1 ∷ 1 ∷ 2 ∷ 4 ∷ 5 ∷ 0xb4 ∷ []) ≡ Some 1460
-behind_fillers = refl
+after_fillers : mss_in (1 ∷ 1 ∷ 2 ∷ 4 ∷ 5 ∷ 0xb4 ∷ []) ≡ Some 1460
+after_fillers = refl
 
-behind_another : mss_in (4 ∷ 2 ∷ 2 ∷ 4 ∷ 5 ∷ 0xb4 ∷ []) ≡ Some 1460
-behind_another = refl
+after_another : mss_in (4 ∷ 2 ∷ 2 ∷ 4 ∷ 5 ∷ 0xb4 ∷ []) ≡ Some 1460
+after_another = refl
 
 before_another : mss_in (2 ∷ 4 ∷ 5 ∷ 0xb4 ∷ 4 ∷ 2 ∷ []) ≡ Some 1460
 before_another = refl
 
-behind_a_long_one : mss_in (8 ∷ 0x0a ∷ 0 ∷ 0 ∷ 0 ∷ 1 ∷ 0 ∷ 0 ∷ 0 ∷ 0 ∷ 2 ∷ 4 ∷ 5 ∷ 0xb4 ∷ []) ≡ Some 1460
-behind_a_long_one = refl
+after_a_long_one : mss_in (8 ∷ 0x0a ∷ 0 ∷ 0 ∷ 0 ∷ 1 ∷ 0 ∷ 0 ∷ 0 ∷ 0 ∷ 2 ∷ 4 ∷ 5 ∷ 0xb4 ∷ []) ≡ Some 1460
+after_a_long_one = refl
 
 first_of_two : mss_in (2 ∷ 4 ∷ 5 ∷ 0xb4 ∷ 2 ∷ 4 ∷ 0 ∷ 1 ∷ []) ≡ Some 1460
 first_of_two = refl
 
-behind_the_end : mss_in (0 ∷ 2 ∷ 4 ∷ 5 ∷ 0xb4 ∷ []) ≡ None
-behind_the_end = refl
+after_the_end : mss_in (0 ∷ 2 ∷ 4 ∷ 5 ∷ 0xb4 ∷ []) ≡ None
+after_the_end = refl
 
 kind_alone : mss_in (2 ∷ []) ≡ None
 kind_alone = refl

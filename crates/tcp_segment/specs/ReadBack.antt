@@ -1,4 +1,4 @@
--- What was sent is received: a sound datagram passes every check and is read back as it was.
+-- What is sent is received: a sound datagram passes every check and is read back as it was.
 use Rattle.std.specs.Prelude.{◌≡◌, ◌<◌, ◌+◌, ◌*◌, IfSome, length, Ok}
 use Rattle.uip_ipv4.specs.Head.{head_or_fate}
 use Rattle.uip_ipv4.specs.declared.head.IpHead.{IpHead}
@@ -14,7 +14,7 @@ pub record IsSoundDatagram (d : Datagram) : Type 0 where
   pub flags : d.segment.flags < 64
   pub mss : IfSome d.segment.mss (λ mss. 0 < mss)
 
--- what its header says
+-- The fields of its header.
 abbrev pub head_of : Datagram → IpHead
 head_of d = record {
   total = 20 + length (segment_bytes d);
@@ -23,7 +23,7 @@ head_of d = record {
   target = record { 0 = d.target };
 }
 
--- the fields of its segment
+-- The fields of its segment.
 abbrev pub fields_sent : Datagram → Segment
 fields_sent d = record {
   from = record { 0 = d.from };
@@ -37,7 +37,7 @@ fields_sent d = record {
   text_len = length d.segment.text;
 }
 
--- The datagram passes the checks of its header and of its segment, and they say what was sent.
+-- The datagram passes the checks of its header and of its segment, and is read back as sent.
 pub record IsReadBack (d : Datagram) : Type 0 where
   pub head : head_or_fate (datagram_bytes d) d.target ≡ Ok (head_of d)
   pub fields : segment_or_fate (head_of d) (datagram_bytes d) ≡ Ok (fields_sent d)

@@ -13,11 +13,11 @@ pub record PlainSegment : Type 0 where
   pub mss : Option ℕ
   pub text : List ℕ
 
--- the segment that has these
+-- The segment with these fields.
 abbrev pub plain_segment : ℕ → ℕ → ℕ → ℕ → Option ℕ → List ℕ → PlainSegment
 plain_segment seq ack flags window mss text = record { seq = seq; ack = ack; flags = flags; window = window; mss = mss; text = text }
 
--- the flags of a segment as one number: FIN 1, SYN 2, RST 4, PSH 8, ACK 16, URG 32
+-- The flags of a segment as one number: FIN 1, SYN 2, RST 4, PSH 8, ACK 16, URG 32.
 abbrev pub has_fin : ℕ → Bool
 has_fin flags = flags % 2 == 1
 
@@ -33,13 +33,13 @@ has_psh flags = flags / 8 % 2 == 1
 abbrev pub has_ack : ℕ → Bool
 has_ack flags = flags / 16 % 2 == 1
 
--- the letters of the flags that are set, URG left out
+-- The letters of the flags that are set, without URG.
 abbrev pub flag_letters : ℕ → List ℕ
 flag_letters flags =
     (if has_syn flags then codes "S" else []) ++ (if has_ack flags then codes "A" else []) ++ (if has_psh flags then codes "P" else [])
     ++ (if has_fin flags then codes "F" else []) ++ (if has_rst flags then codes "R" else [])
 
--- a segment between two nodes: their addresses of four bytes, their ports, and the datagram's identification
+-- A segment between two nodes: their addresses of four bytes, their ports, and the datagram's identification.
 pub record Datagram : Type 0 where
   pub source : List ℕ
   pub target : List ℕ
@@ -48,26 +48,26 @@ pub record Datagram : Type 0 where
   pub id : ℕ
   pub segment : PlainSegment
 
--- the option for the maximum segment size, as words
+-- The option for the maximum segment size, as words.
 abbrev pub option_words : Option ℕ → List ℕ
 option_words None = []
 option_words (Some mss) = 516 ∷ mss ∷ []
 
--- the length of the header in words of 32 bits
+-- The length of the header in words of 32 bits.
 abbrev pub offset_of : Option ℕ → ℕ
 offset_of None = 5
 offset_of (Some mss) = 6
 
--- the ten words that each header has, with this checksum
+-- The ten words that each header has, with this checksum.
 abbrev pub fixed_words : ℕ → ℕ → ℕ → PlainSegment → List ℕ
 fixed_words sum from to s =
     from ∷ to ∷ s.seq / 65536 ∷ s.seq % 65536 ∷ s.ack / 65536 ∷ s.ack % 65536 ∷ (offset_of s.mss * 4096 + s.flags) ∷ s.window ∷ sum ∷ 0 ∷ []
 
--- the header with this checksum, and the text
+-- The header with this checksum, and the text.
 abbrev pub segment_with : ℕ → Datagram → List ℕ
 segment_with sum d = bytes_of (fixed_words sum d.from d.to d.segment ++ option_words d.segment.mss) ++ d.segment.text
 
--- what is summed before a segment of this length: the addresses, the protocol's number and the length
+-- The pseudo header, which is summed before a segment of this length: the addresses, the protocol's number and the length.
 abbrev pub pseudo_header : List ℕ → List ℕ → ℕ → List ℕ
 pseudo_header source target len = source ++ target ++ bytes_of (6 ∷ len ∷ [])
 
@@ -77,6 +77,6 @@ segment_sum d = checksum_of (pseudo_header d.source d.target (length (segment_wi
 abbrev pub segment_bytes : Datagram → List ℕ
 segment_bytes d = segment_with (segment_sum d) d
 
--- the whole datagram
+-- The whole datagram.
 unfoldable pub datagram_bytes : Datagram → List ℕ
 datagram_bytes d = head_bytes (20 + length (segment_bytes d)) d.id Tcp d.source d.target ++ segment_bytes d

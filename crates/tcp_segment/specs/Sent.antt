@@ -1,4 +1,4 @@
--- The datagram that the fields of a segment to be sent stand for.
+-- The datagram that the fields of a segment to be sent represent.
 use Rattle.std.specs.Prelude.{ℕ, ◌+◌, ◌*◌, List, [], ◌++◌, length, drop, slice_range}
 use Rattle.uip_ipv4.specs.Head.{head_bytes}
 use Rattle.uip_ipv4.specs.declared.proto.Proto.TheVariants.{Tcp}
@@ -7,7 +7,7 @@ use Rattle.uip_wire.specs.Fields.{bytes_of}
 use Rattle.tcp_segment.specs.Segments.{Datagram, PlainSegment, datagram_bytes, fixed_words, offset_of, plain_segment, pseudo_header}
 use Rattle.tcp_segment.specs.declared.out.Out.{Out}
 
--- with this text
+-- With this text.
 abbrev pub plain_out : Out → List ℕ → PlainSegment
 plain_out out text = plain_segment out.seq.0 out.ack.0 out.flags out.window out.mss text
 
@@ -21,15 +21,15 @@ datagram_of out text = record {
   segment = plain_out out text;
 }
 
--- its length with both headers
+-- Its length with both headers.
 abbrev pub datagram_len : Out → ℕ
 datagram_len out = 20 + 4 * offset_of out.mss + out.len
 
--- the area with the datagram at its front, around the text that stands at place 40
+-- The area with the datagram at its start, around the text at offset 40.
 abbrev pub sent_in : Out → List ℕ → List ℕ
 sent_in out area = datagram_bytes (datagram_of out (slice_range area 40 (40 + out.len))) ++ drop (datagram_len out) area
 
--- the first 20 bytes of the header with this checksum; `rest` is the option and the text behind them
+-- The first 20 bytes of the header with this checksum; `rest` is the option and the text after them.
 unfoldable pub fixed_bytes : ℕ → Out → List ℕ
 fixed_bytes sum out = bytes_of (fixed_words sum out.from.0 out.to.0 (plain_out out []))
 
@@ -40,6 +40,6 @@ sum_around out rest =
 unfoldable pub header_around : Out → List ℕ → List ℕ
 header_around out rest = fixed_bytes (sum_around out rest) out
 
--- the datagram whose option and text are these bytes
+-- The datagram whose option and text are these bytes.
 unfoldable pub around : Out → List ℕ → List ℕ
 around out rest = head_bytes (40 + length rest) out.id Tcp out.source.0 out.target.0 ++ (header_around out rest ++ rest)

@@ -1,9 +1,10 @@
-/// Why a segment is not taken, in the order of the checks.
+/// Why a segment is dropped, in the order of the checks.
+/// [add: fate] TCP: a variant, in the order of the checks.
 #[derive(Clone, Copy, Debug, PartialEq, Eq)]
 pub enum TcpFate {
-    /// Fewer than 20 bytes behind the IP header.
+    /// It has fewer than 20 bytes after the IP header.
     Short,
-    /// A data offset below 5, or one that reaches past the segment.
+    /// Its data offset is below 5, or reaches beyond the segment.
     Offset,
     /// The checksum over the pseudo header and the segment is wrong.
     Checksum,

@@ -1,21 +1,25 @@
+//! Writes the headers of a segment (RFC 793, section 3.1).
+
 ghost use Rattle.std.specs.Prelude.{◌≡◌, ◌+◌, ◌≤◌, ◌++◌, drop, length, slice_range};
-ghost use Rattle.tcp_segment.specs.Segments.{offset_of};
-ghost use Rattle.tcp_segment.specs.Sent.{around, fixed_bytes, header_around};
+ghost use Rattle.tcp_segment.specs.Segments.{offset_of, pseudo_header};
+ghost use Rattle.tcp_segment.specs.Sent.{around, fixed_bytes};
+ghost use Rattle.uip_wire.specs.Checksum.{checksum_of};
 
 use crate::out::Out;
 use crate::sums::pseudo_sum;
 use uip_ipv4::{Proto, put_head};
 use uip_wire::{LARGEST_DATAGRAM, put16, put32};
 
-/// Writes both headers before the option and the text that stand from place 40 on.
+/// Writes both headers before the option and the text, which are at offset 40.
 pub(crate) fn put_headers(area: &mut [u8], out: &Out, total: usize)
     requires least { 40 ≤ total }
     requires largest { total ≤ LARGEST_DATAGRAM }
     requires fits { total ≤ length area.old }
     ensures { area.new ≡ around out.now (slice_range area.old 40 total) ++ drop total area.old }
 {
-    let header = header(out, &area[40..total]);
-    area[20..40].copy_from_slice(&header);
+    put_fields(&mut area[20..40], out);
+    let sum = segment_sum(out, &area[20..total]);
+    put16(area, 36, sum);
     put_head(
         area,
         total as u16,
@@ -26,38 +30,31 @@ pub(crate) fn put_headers(area: &mut [u8], out: &Out, total: usize)
     );
 }
 
-/// The first 20 bytes of the header, with the checksum over them and what stands behind them.
-fn header(out: &Out, rest: &[u8]) -> [u8; 20]
-    requires { 40 + length rest.now ≤ LARGEST_DATAGRAM }
-    ensures { result ≡ header_around out.now rest.now }
+/// The checksum of a segment whose checksum field is 0 (RFC 793, section 3.1).
+fn segment_sum(out: &Out, segment: &[u8]) -> u16
+    requires { 20 + length segment.now ≤ LARGEST_DATAGRAM }
+    ensures { result ≡ checksum_of (pseudo_header out.now.source.0 out.now.target.0 (length segment.now) ++ segment.now) }
 {
-    let mut header = header_without_sum(out);
-    let mut sum = pseudo_sum(out.source, out.target, (20 + rest.len()) as u16);
-    sum.add(&header);
-    sum.add(rest);
-    put16(&mut header, 16, sum.finish());
-    header
+    let mut sum = pseudo_sum(out.source, out.target, segment.len() as u16);
+    sum.add(segment);
+    sum.finish()
 }
 
-/// The same with 0 in place of the checksum.
-fn header_without_sum(out: &Out) -> [u8; 20]
-    ensures { result ≡ fixed_bytes 0 out.now }
+/// Writes the first 20 bytes of the header, with 0 in place of the checksum.
+fn put_fields(header: &mut [u8], out: &Out)
+    requires { length header.old ≡ 20 }
+    ensures { header.new ≡ fixed_bytes 0 out.now }
 {
-    let mut header = [0u8; 20];
-    put16(&mut header, 0, out.from.0);
-    put16(&mut header, 2, out.to.0);
-    put32(&mut header, 4, out.seq.0);
-    put32(&mut header, 8, out.ack.0);
-    put16(
-        &mut header,
-        12,
-        offset_of(out.mss) * 4096 + u16::from(out.flags),
-    );
-    put16(&mut header, 14, out.window);
-    header
+    put16(header, 0, out.from.0);
+    put16(header, 2, out.to.0);
+    put32(header, 4, out.seq.0);
+    put32(header, 8, out.ack.0);
+    put16(header, 12, offset_of(out.mss) * 4096 + u16::from(out.flags));
+    put16(header, 14, out.window);
+    put32(header, 16, 0);
 }
 
-/// The length of the header in words of 32 bits.
+/// Returns the length of the header in words of 32 bits.
 fn offset_of(mss: Option<u16>) -> u16
     ensures { result ≡ offset_of mss }
 {

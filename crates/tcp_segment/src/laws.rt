@@ -1,4 +1,4 @@
-//! What holds of the definitions.
+//! What holds of the constants of this crate.
 
 ghost use Rattle.tcp_segment.specs.ConstantValues.{ConstantValues};
 

@@ -1,6 +1,6 @@
-//! TCP segments: what the bytes behind an IP header say, with the first check that fails as the segment's fate, and the
-//! datagram of a segment that is sent. In `specs/` a segment is also a plain record, on which the machines above step; a law
-//! says that the datagram of such a record is read back as that record.
+//! TCP segments (RFC 793, section 3.1): the fields of a received one, and the datagram of one that is sent. The first check that fails is
+//! the segment's fate. In `specs/` a segment is also a plain record, on which the machines above step. By a law its datagram is read back
+//! as that record.
 #![tactic(auto)]
 
 mod fate;

@@ -1,9 +1,11 @@
+//! The options of a received segment (RFC 793, section 3.1).
+
 ghost use Rattle.std.specs.Prelude.{◌≡◌};
-ghost use Rattle.tcp_segment.specs.Options.{bytes_behind, is_mss, mss_in, value_of};
+ghost use Rattle.tcp_segment.specs.Options.{trailing_bytes, is_mss, mss_in, value_of};
 
 use uip_wire::get16;
 
-/// The value of the option for the maximum segment size, if it is there and not 0.
+/// Returns the value of the option for the maximum segment size, if it is there and not 0.
 pub(crate) fn read_mss(options: &[u8]) -> Option<u16>
     ensures { result ≡ mss_in options.now }
 {
@@ -12,22 +14,22 @@ pub(crate) fn read_mss(options: &[u8]) -> Option<u16>
         if is_mss(*kind, after) {
             return unless_zero(get16(after, 1));
         }
-        let count = bytes_behind(*kind, after)?;
+        let count = trailing_bytes(*kind, after)?;
         rest = &after[count..];
     }
     None
 }
 
-/// Whether an option of this kind is the one that is sought, by the bytes behind its kind.
+/// Returns whether an option of this kind is the one for the maximum segment size, by the bytes after its kind.
 fn is_mss(kind: u8, after: &[u8]) -> bool
     ensures { result ≡ is_mss kind after.now }
 {
     kind == 2 && after.len() >= 3 && after[0] == 4
 }
 
-/// How many bytes another option has behind its kind, unless the options end there.
-fn bytes_behind(kind: u8, after: &[u8]) -> Option<usize>
-    ensures { result ≡ bytes_behind kind after.now }
+/// Returns the number of bytes of another option after its kind, unless the options end there.
+fn trailing_bytes(kind: u8, after: &[u8]) -> Option<usize>
+    ensures { result ≡ trailing_bytes kind after.now }
 {
     if kind == 0 {
         return None;
@@ -41,7 +43,7 @@ fn bytes_behind(kind: u8, after: &[u8]) -> Option<usize>
     Some(usize::from(after[0]) - 1)
 }
 
-/// The value, where 0 counts as none.
+/// Returns the value; 0 counts as none.
 fn unless_zero(mss: u16) -> Option<u16>
     ensures { result ≡ value_of mss }
 {

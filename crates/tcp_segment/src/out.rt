@@ -1,6 +1,6 @@
 use uip_wire::{Addr, Port, Seq};
 
-/// A segment to be sent, whose text stands at its place in the datagram already.
+/// A segment to be sent, whose text is already at its offset in the datagram.
 #[derive(Clone, Copy, Debug, PartialEq, Eq)]
 pub struct Out {
     pub source: Addr,

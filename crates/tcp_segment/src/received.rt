@@ -1,3 +1,5 @@
+//! The checks of a received segment (RFC 793, section 3.1).
+
 ghost use Rattle.std.specs.Prelude.{◌≡◌, ◌+◌, ◌^◌, ◌<◌, IfOk, length};
 ghost use Rattle.tcp_segment.specs.Received.{segment_in, segment_or_fate};
 ghost use Rattle.uip_ipv4.specs.Head.{IsHeadOf};
@@ -9,7 +11,7 @@ use crate::sums::pseudo_sum;
 use uip_ipv4::IpHead;
 use uip_wire::{Addr, Port, Seq, get16, get32};
 
-/// The segment of a datagram whose header was checked, or the first check that fails.
+/// Returns the segment of a datagram whose header was checked, or the first check that fails.
 pub fn check(bytes: &[u8], head: &IpHead) -> Result<Segment, TcpFate>
     requires { IsHeadOf head.now bytes.now }
     ensures exact { result ≡ segment_or_fate head.now bytes.now }
@@ -19,7 +21,8 @@ pub fn check(bytes: &[u8], head: &IpHead) -> Result<Segment, TcpFate>
     read(payload, head.source, head.target)
 }
 
-/// The segment that these bytes are between two addresses, or the first check that fails.
+/// Returns the segment between two addresses that these bytes represent, or the first check that fails.
+/// [add: fate] TCP: its check.
 #[tactic(auto, unfolding(crate::specs::Received::segment_in))]
 fn read(payload: &[u8], source: Addr, target: Addr) -> Result<Segment, TcpFate>
     requires { length payload.now < 2 ^ 16 }
@@ -53,7 +56,7 @@ ghost use Rattle.std.specs.Prelude.{◌++◌};
 ghost use Rattle.tcp_segment.specs.Segments.{pseudo_header};
 ghost use Rattle.uip_wire.specs.Checksum.{checksum_of};
 
-/// The checksum over the pseudo header and a segment.
+/// Returns the checksum over the pseudo header and a segment.
 fn checksum(payload: &[u8], source: Addr, target: Addr) -> u16
     requires { length payload.now < 2 ^ 16 }
     ensures { result ≡ checksum_of (pseudo_header source.0 target.0 (length payload.now) ++ payload.now) }

@@ -5,7 +5,7 @@ ghost use Rattle.tcp_segment.specs.Segments.{has_ack, has_fin, has_psh, has_rst,
 use crate::flags::{ACK, PSH, RST, SYN};
 use uip_wire::{Port, Seq};
 
-/// What a checked segment says, and where its text stands.
+/// The fields of a checked segment, and where its text is.
 #[derive(Clone, Copy, Debug, PartialEq, Eq)]
 pub struct Segment {
     pub from: Port,
@@ -17,49 +17,49 @@ pub struct Segment {
     pub window: u16,
     /// The value of the option for the maximum segment size, if it is there and not 0.
     pub mss: Option<u16>,
-    /// The place of the text in the datagram.
+    /// The offset of the text in the datagram.
     pub text_at: usize,
     /// The length of the text in bytes.
     pub text_len: usize,
 }
 
 impl Segment {
-    /// No more text comes from the sender.
+    /// Returns whether FIN is set: the sender has no more text.
     pub fn has_fin(&self) -> bool
         ensures { result ≡ has_fin self.now.flags }
     {
         self.flags % 2 == 1
     }
 
-    /// The sequence number is the sender's first.
+    /// Returns whether SYN is set: the sequence number is the sender's initial one.
     pub fn has_syn(&self) -> bool
         ensures { result ≡ has_syn self.now.flags }
     {
         self.flags / SYN % 2 == 1
     }
 
-    /// The connection is reset.
+    /// Returns whether RST is set: the connection is reset.
     pub fn has_rst(&self) -> bool
         ensures { result ≡ has_rst self.now.flags }
     {
         self.flags / RST % 2 == 1
     }
 
-    /// The text is to be handed on at once.
+    /// Returns whether PSH is set: the text is to be delivered at once.
     pub fn has_psh(&self) -> bool
         ensures { result ≡ has_psh self.now.flags }
     {
         self.flags / PSH % 2 == 1
     }
 
-    /// The acknowledgement number counts.
+    /// Returns whether ACK is set: the acknowledgement number is valid.
     pub fn has_ack(&self) -> bool
         ensures { result ≡ has_ack self.now.flags }
     {
         self.flags / ACK % 2 == 1
     }
 
-    /// The text, in the datagram that the segment was read from.
+    /// Returns the text, in the datagram from which the segment was read.
     pub fn text<'a>(&self, bytes: &'a [u8]) -> &'a [u8]
         requires { self.now.text_at + self.now.text_len ≤ length bytes.now }
         ensures { result.now ≡ (plain_of self.now bytes.now).text }

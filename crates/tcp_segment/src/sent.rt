@@ -1,3 +1,5 @@
+//! The datagram of a segment that is sent (RFC 793, section 3.1).
+
 ghost use Rattle.std.specs.Prelude.{◌≡◌, ◌+◌, ◌≤◌, [], ◌∷◌, ◌++◌, IsSome, drop, length, take};
 ghost use Rattle.tcp_segment.specs.ReadBack.{ReadsBack};
 ghost use Rattle.tcp_segment.specs.Sent.{datagram_len, sent_in};
@@ -8,7 +10,7 @@ use crate::out::Out;
 use packet_buffer::Packet;
 use uip_wire::{LARGEST_DATAGRAM, put32};
 
-/// Writes the headers of a segment around the text that stands at place 40 of the packet, and sets the packet's length.
+/// Writes the headers of a segment around the text at offset 40 of the packet, and sets the packet's length.
 pub fn put(packet: &mut Packet, out: &Out)
     requires fits { datagram_len out.now ≤ length packet.old.area }
     requires no_text { IsSome out.now.mss → out.now.len ≡ 0 }
@@ -19,8 +21,8 @@ pub fn put(packet: &mut Packet, out: &Out)
     packet.set_len(len);
 }
 
-/// Writes the same datagram at the front of a slice, around the text that stands at place 40, and answers its length. Bytes
-/// past that length stay.
+/// Writes the same datagram to the start of a slice, around the text at offset 40, and returns its length in bytes. Bytes beyond that
+/// length are unchanged.
 pub fn put_in(area: &mut [u8], out: &Out) -> usize
     requires fits { datagram_len out.now ≤ length area.old }
     requires largest { datagram_len out.now ≤ LARGEST_DATAGRAM }
@@ -42,7 +44,7 @@ pub fn reads_back()
     ensures { ReadsBack }
 {}
 
-/// Writes the option for the maximum segment size behind the header.
+/// Writes the option for the maximum segment size after the header.
 fn put_option(area: &mut [u8], mss: u16)
     requires { 44 ≤ length area.old }
     ensures { area.new ≡ take 40 area.old ++ bytes_of (516 ∷ mss ∷ []) ++ drop 44 area.old }

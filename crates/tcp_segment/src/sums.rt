@@ -4,7 +4,7 @@ ghost use Rattle.uip_wire.specs.Sums.{sum_of};
 
 use uip_wire::{Addr, Summer};
 
-/// The sum with which a segment's checksum begins: that of the pseudo header for a segment of `len` bytes.
+/// Returns the sum with which a segment's checksum begins: that of the pseudo header for a segment of `len` bytes.
 pub(crate) fn pseudo_sum(source: Addr, target: Addr, len: u16) -> Summer
     ensures { result ≡ sum_of (pseudo_header source.0 target.0 len) }
 {
@@ -13,7 +13,7 @@ pub(crate) fn pseudo_sum(source: Addr, target: Addr, len: u16) -> Summer
     sum
 }
 
-/// What is summed before a segment: the addresses, the protocol's number and the length (RFC 793, section 3.1).
+/// Returns the pseudo header: the addresses, the protocol's number and the length (RFC 793, section 3.1).
 fn pseudo_header(source: Addr, target: Addr, len: u16) -> [u8; 12]
     ensures { result ≡ pseudo_header source.0 target.0 len }
 {

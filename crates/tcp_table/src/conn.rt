@@ -7,29 +7,29 @@ use app_events::{App, State};
 use rexmit_timer::Timer;
 use uip_wire::{Addr, Port, Seq};
 
-/// One connection (RFC 793, section 3.2). What was sent is not kept: the application makes it again.
+/// One connection (RFC 793, section 3.2). What was sent is not stored: the application generates it again.
 #[derive(Drop)]
 pub struct Conn<A> {
     pub state: State,
     pub peer: Addr,
     pub peer_port: Port,
     pub own_port: Port,
-    /// RCV.NXT: the number that is expected next.
+    /// RCV.NXT: the next sequence number expected.
     pub rcv_nxt: Seq,
-    /// SND.UNA: the lowest number that is not acknowledged.
+    /// SND.UNA: the lowest sequence number that is not acknowledged.
     pub snd_nxt: Seq,
-    /// How many numbers are outstanding, 0 where nothing is.
+    /// The number of outstanding sequence numbers, 0 if nothing is outstanding.
     pub len: u16,
-    /// The longest text that may be sent.
+    /// The longest text that may be sent, in bytes.
     pub mss: u16,
-    /// The longest text that the peer takes, by its SYN.
+    /// The longest text that the peer accepts, in bytes, by its SYN.
     pub initial_mss: u16,
     pub timer: Timer,
     pub app: A,
 }
 
 impl<A: App> Conn<A> {
-    /// A CLOSED connection.
+    /// Returns a CLOSED connection.
     pub fn closed() -> Conn<A>
         ensures { result.state ≡ State.Closed }
     {
@@ -50,7 +50,7 @@ impl<A: App> Conn<A> {
 }
 
 impl<A> Conn<A> {
-    /// Whether it is not CLOSED and has this peer and these ports.
+    /// Returns whether it is not CLOSED and has this peer and these ports.
     pub fn is_at(&self, peer: Addr, peer_port: Port, own_port: Port) -> bool
         ensures { result ≡ is_at peer peer_port own_port self.now }
     {
@@ -60,21 +60,21 @@ impl<A> Conn<A> {
             && self.own_port == own_port
     }
 
-    /// Whether it is in any state but CLOSED.
+    /// Returns whether it is in any state other than CLOSED.
     pub fn is_live(&self) -> bool
         ensures { result ≡ is_live self.now.state }
     {
         self.state != State::Closed
     }
 
-    /// Whether it has been in TIME-WAIT for so many ticks.
+    /// Returns whether it has been in TIME-WAIT for `ticks` ticks.
     pub fn has_waited(&self, ticks: u8) -> bool
         ensures { result ≡ has_waited ticks self.now }
     {
         self.state == State::TimeWait && self.timer.count == ticks
     }
 
-    /// How many ticks it has been in TIME-WAIT.
+    /// Returns the number of ticks in TIME-WAIT.
     pub fn waited(&self) -> u8
         ensures { result ≡ waited self.now }
     {

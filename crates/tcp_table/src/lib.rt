@@ -1,6 +1,5 @@
-//! The table of connections: ten slots, of which no two that are not CLOSED have the same peer and ports. It finds the
-//! connection that a segment belongs to and the slot that a SYN may take, and it keeps the initial sequence number of the
-//! next connection. No field of a connection holds bytes that were sent.
+//! The table of connections: ten slots, of which no two that are not CLOSED have the same peer and ports. It finds the connection of a
+//! segment and the slot that a SYN may take, and has the ISS of the next connection. No field of a connection holds bytes that were sent.
 #![tactic(auto)]
 
 mod conn;

@@ -8,7 +8,7 @@ ghost use Rattle.tcp_table.specs.Slots.{longest_rest, has_waited, slot_to_take};
 use crate::conn::Conn;
 use uip_wire::{Addr, Port};
 
-/// The first slot with this peer and these ports.
+/// Returns the first slot with this peer and these ports.
 pub(crate) fn find_in<A>(
     conns: &[Conn<A>],
     peer: Addr,
@@ -22,14 +22,14 @@ pub(crate) fn find_in<A>(
         .position(|conn| conn.is_at(peer, peer_port, own_port))
 }
 
-/// The first CLOSED slot.
+/// Returns the first CLOSED slot.
 fn closed_in<A>(conns: &[Conn<A>]) -> Option<usize>
     ensures { result ≡ position (λ c. not (is_live c.state)) conns.now }
 {
     conns.iter().position(|conn| !conn.is_live())
 }
 
-/// How many ticks the TIME-WAIT connection has waited that waited longest, 0 where there is none.
+/// Returns the longest time in TIME-WAIT, in ticks; 0 if no connection is in it.
 fn longest_in<A>(conns: &[Conn<A>]) -> u8
     ensures { result ≡ longest_rest conns.now }
 {
@@ -39,14 +39,14 @@ fn longest_in<A>(conns: &[Conn<A>]) -> u8
     }
 }
 
-/// The first slot whose connection has been in TIME-WAIT for so many ticks.
+/// Returns the first slot whose connection has been in TIME-WAIT for `ticks` ticks.
 fn waited_in<A>(conns: &[Conn<A>], ticks: u8) -> Option<usize>
     ensures { result ≡ position (has_waited ticks) conns.now }
 {
     conns.iter().position(|conn| conn.has_waited(ticks))
 }
 
-/// The slot that a plain SYN takes.
+/// Returns the slot that a plain SYN takes.
 pub(crate) fn slot_in<A>(conns: &[Conn<A>]) -> Option<usize>
     ensures { result ≡ slot_to_take conns.now }
 {

@@ -12,14 +12,14 @@ use std::marker::Model;
 use uip_edge::NoMemory;
 use uip_wire::{Addr, Port, Seq};
 
-/// How many connections a table has.
+/// The number of connections of a table.
 pub const CONNECTIONS: usize = 10;
 
 /// The connections of a node.
 #[derive(Drop)]
 pub struct Table<A: App> {
     pub conns: Vec<Conn<A>>,
-    /// The initial sequence number of the next connection.
+    /// The ISS of the next connection.
     pub iss: Seq,
 }
 
@@ -35,7 +35,7 @@ impl<A: App> Model for Table<A> {
 }
 
 impl<A: App> Table<A> {
-    /// Ten CLOSED connections and the initial number 0.
+    /// Returns ten CLOSED connections and the ISS 0, or `NoMemory`.
     pub fn new(alloc: Global) -> Result<Table<A>, NoMemory>
         ensures closed { IfOk result (λ t. All (λ c. c.state ≡ State.Closed) t.conns) }
         ensures iss { IfOk result (λ t. t.iss ≡ 0) }
@@ -44,21 +44,21 @@ impl<A: App> Table<A> {
         Ok(Table { conns, iss: Seq(0) })
     }
 
-    /// The slot of the connection that is not CLOSED and has this peer and these ports.
+    /// Returns the slot of the connection that is not CLOSED and has this peer and these ports.
     pub fn find(&self, peer: Addr, peer_port: Port, own_port: Port) -> Option<usize>
         ensures { result ≡ position (is_at peer peer_port own_port) self.now.conns }
     {
         find_in(&self.conns, peer, peer_port, own_port)
     }
 
-    /// The slot that a plain SYN takes.
+    /// Returns the slot that a plain SYN takes, if there is one.
     pub fn slot_for_syn(&self) -> Option<usize>
         ensures { result ≡ slot_to_take self.now.conns }
     {
         slot_in(&self.conns)
     }
 
-    /// The initial number rises by one.
+    /// Adds 1 to the ISS of the next connection.
     pub fn next_iss(&mut self)
         ensures conns { self.new.conns ≡ self.old.conns }
         ensures iss { self.new.iss ≡ (self.old.iss + 1) % 2 ^ 32 }
@@ -67,7 +67,7 @@ impl<A: App> Table<A> {
     }
 }
 
-/// Ten CLOSED connections.
+/// Returns ten CLOSED connections.
 fn ten_closed<A: App>(alloc: Global) -> Result<Vec<Conn<A>>, AllocError>
     ensures ten { IfOk result (λ v. length v.items ≡ 10) }
     ensures closed { IfOk result (λ v. All (λ c. c.state ≡ State.Closed) v.items) }

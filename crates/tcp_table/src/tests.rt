@@ -1,4 +1,4 @@
-//! A table on its happy path.
+//! A table, if memory suffices.
 
 use crate::Table;
 use app_events::Fixed;

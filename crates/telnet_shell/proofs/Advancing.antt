@@ -1,34 +1,34 @@
--- The queue as commands are wholly acknowledged, and as commands come.
+-- The queue as commands are wholly acknowledged, and as commands arrive.
 use Rattle.std.proofs.Common.{◌≡◌, ℕ, ◌+◌, ◌-◌, ◌≤◌, ◌<◌, Bool, true, false, ◌&&◌, not, nat_le, List, [], ◌∷◌, ◌++◌, length, if◌then◌else◌, refl, sym, ap, subst, ◌∙◌, arith, append_assoc, append-nil, length-append, true≢false, slice_index_or, remove}
 use Rattle.std.proofs.lemmas.Bool.{leb-true, leb-false, and_parts}
 use Rattle.generators.specs.declared.capture.Capture.{Capture}
 use Rattle.generators.specs.declared.capture.Capture.TheVariants.{Empty}
-use Rattle.app_events.specs.Part.{Part, Moment}
+use Rattle.app_events.specs.AppSpec.{AppState, Snapshot}
 use Rattle.telnet_shell.specs.declared.command.Command.{Command}
 use Rattle.telnet_shell.specs.Reading.{commands_in}
 use Rattle.telnet_shell.specs.Transcript.{needs_capture, said_with, transcript}
-use Rattle.telnet_shell.specs.Saying.{stops_at, left_said, IsInFront, Shows, needed, IsBehind, is_past, Passes}
+use Rattle.telnet_shell.specs.Saying.{stops_at, left_said, IsLeading, Shows, needed, IsTrailing, is_past, Passes}
 use Rattle.telnet_shell.specs.ShellMeaning.{with_byte}
-use Rattle.telnet_shell.specs.Lemmas.Speaking.{split, front_left, empty_stops, said_some}
+use Rattle.telnet_shell.specs.Lemmas.Speaking.{split, prefix_left, empty_stops, said_some}
 
-pub passes : (q new : List Command) (front : Command) (capture : Capture) (at len place : ℕ) → is_past q capture at ≡ true → front ≡ slice_index_or q 0 front → new ≡ remove q 0
-    → len ≡ length (said_with front capture) → place ≡ at - len → Passes q capture at new Empty place
-passes [] new front capture at len place past f g h i = elim (true≢false (sym past)) [ ]
-passes (c ∷ cs) new front capture at len place past f g h i =
-    let both = and_parts (not (stops_at c capture)) (nat_le (length (said_with c capture)) at) past in
+pub passes : (q new : List Command) (prefix : Command) (capture : Capture) (at len place : ℕ) → is_past q capture at ≡ true → prefix ≡ slice_index_or q 0 prefix → new ≡ remove q 0
+    → len ≡ length (said_with prefix capture) → place ≡ at - len → Passes q capture at new Empty place
+passes [] new prefix capture at len place history f g h i = elim (true≢false (sym history)) [ ]
+passes (c ∷ cs) new prefix capture at len place history f g h i =
+    let both = and_parts (not (stops_at c capture)) (nat_le (length (said_with c capture)) at) history in
     let fits = leb-true (length (said_with c capture)) at both.1 in
     let size : len ≡ length (said_with c capture) = h ∙ ap (λ (d : Command). length (said_with d capture)) f in
     (g, refl, omega (arith, fits, size, i))
 
-pub front_fits : (q : List Command) (front : Command) (capture : Capture) (at : ℕ) → is_past q capture at ≡ true → front ≡ slice_index_or q 0 front → length (said_with front capture) ≤ at
-front_fits [] front capture at past f = elim (true≢false (sym past)) [ ]
-front_fits (c ∷ cs) front capture at past f =
-    let both = and_parts (not (stops_at c capture)) (nat_le (length (said_with c capture)) at) past in
+pub prefix_fits : (q : List Command) (prefix : Command) (capture : Capture) (at : ℕ) → is_past q capture at ≡ true → prefix ≡ slice_index_or q 0 prefix → length (said_with prefix capture) ≤ at
+prefix_fits [] prefix capture at history f = elim (true≢false (sym history)) [ ]
+prefix_fits (c ∷ cs) prefix capture at history f =
+    let both = and_parts (not (stops_at c capture)) (nat_le (length (said_with c capture)) at) history in
     subst (λ (d : Command). length (said_with d capture) ≤ at) (sym f) (leb-true (length (said_with c capture)) at both.1)
 
-pub some_front : (q : List Command) (capture : Capture) (at : ℕ) → is_past q capture at ≡ true → 0 < length q
-some_front [] capture at past = elim (true≢false (sym past)) [ ]
-some_front (c ∷ cs) capture at past = omega arith
+pub some_prefix : (q : List Command) (capture : Capture) (at : ℕ) → is_past q capture at ≡ true → 0 < length q
+some_prefix [] capture at history = elim (true≢false (sym history)) [ ]
+some_prefix (c ∷ cs) capture at history = omega arith
 
 needed_joined : (xs ys : List Command) → needed (xs ++ ys) ≡ needed xs + needed ys
 needed_joined [] ys = omega arith
@@ -42,34 +42,34 @@ not_true : (b : Bool) → not b ≡ true → b ≡ false
 not_true true e = sym e
 not_true false e = refl
 
--- a front that does not stop holds what it needs
-front_took : (c : Command) (cs : List Command) (capture : Capture) (front : List Moment) → Shows (c ∷ cs) capture front → stops_at c capture ≡ false → length front ≡ needed (c ∷ [])
-front_took c cs capture [] s e = ap (λ (b : Bool). if b then 1 else 0) (sym (sym (empty_stops c capture s) ∙ e))
-front_took c cs capture (k ∷ ks) s e =
-    ap (λ (ls : List Moment). length (k ∷ ls)) s.0 ∙ ap (λ (b : Bool). if b then 1 else 0) (sym s.1)
+-- a first command that does not stop holds what it needs
+prefix_took : (c : Command) (cs : List Command) (capture : Capture) (prefix : List Snapshot) → Shows (c ∷ cs) capture prefix → stops_at c capture ≡ false → length prefix ≡ needed (c ∷ [])
+prefix_took c cs capture [] s e = ap (λ (b : Bool). if b then 1 else 0) (sym (sym (empty_stops c capture s) ∙ e))
+prefix_took c cs capture (k ∷ ks) s e =
+    ap (λ (ls : List Snapshot). length (k ∷ ls)) s.0 ∙ ap (λ (b : Bool). if b then 1 else 0) (sym s.1)
 
-same_front : (c : Command) (cs : List Command) (capture : Capture) (front : List Moment) → Shows (c ∷ cs) capture front → Shows (c ∷ []) capture front
-same_front c cs capture [] s = s
-same_front c cs capture (k ∷ ks) s = s
+equal_prefix : (c : Command) (cs : List Command) (capture : Capture) (prefix : List Snapshot) → Shows (c ∷ cs) capture prefix → Shows (c ∷ []) capture prefix
+equal_prefix c cs capture [] s = s
+equal_prefix c cs capture (k ∷ ks) s = s
 
-pub passed_on : (q new : List Command) (capture held : Capture) (at place : ℕ) (p : Part) → is_past q capture at ≡ true → Passes q capture at new held place → IsBehind q capture at p → IsBehind new held place p
-passed_on [] new capture held at place p past w b = elim (true≢false (sym past)) [ ]
-passed_on (c ∷ cs) new capture held at place p past w b =
-    let goes : stops_at c capture ≡ false = not_true (stops_at c capture) (and_parts (not (stops_at c capture)) (nat_le (length (said_with c capture)) at) past).0 in
-    let took : length b.front ≡ needed (c ∷ []) = front_took c cs capture b.front b.shows goes in
-    let text : transcript (b.before ++ c ∷ []) (b.spoken ++ b.front) ≡ transcript b.before b.spoken ++ said_with c capture =
-    split b.before (c ∷ []) b.spoken b.front b.took
-    ∙ ap (λ (xs : List ℕ). transcript b.before b.spoken ++ xs) (front_left (c ∷ []) capture b.front (same_front c cs capture b.front b.shows)
+pub passed_on : (q new : List Command) (capture held : Capture) (at place : ℕ) (p : AppState) → is_past q capture at ≡ true → Passes q capture at new held place → IsTrailing q capture at p → IsTrailing new held place p
+passed_on [] new capture held at place p history w b = elim (true≢false (sym history)) [ ]
+passed_on (c ∷ cs) new capture held at place p history w b =
+    let goes : stops_at c capture ≡ false = not_true (stops_at c capture) (and_parts (not (stops_at c capture)) (nat_le (length (said_with c capture)) at) history).0 in
+    let took : length b.prefix ≡ needed (c ∷ []) = prefix_took c cs capture b.prefix b.shows goes in
+    let text : transcript (b.before ++ c ∷ []) (b.spoken ++ b.prefix) ≡ transcript b.before b.spoken ++ said_with c capture =
+    split b.before (c ∷ []) b.spoken b.prefix b.took
+    ∙ ap (λ (xs : List ℕ). transcript b.before b.spoken ++ xs) (prefix_left (c ∷ []) capture b.prefix (equal_prefix c cs capture b.prefix b.shows)
     ∙ ap (λ (s : Bool). if s then [] else said_with c capture ++ []) goes ∙ append-nil (said_with c capture)) in
-    let size : length (transcript (b.before ++ c ∷ []) (b.spoken ++ b.front)) ≡ length (transcript b.before b.spoken) + length (said_with c capture) =
+    let size : length (transcript (b.before ++ c ∷ []) (b.spoken ++ b.prefix)) ≡ length (transcript b.before b.spoken) + length (said_with c capture) =
     ap (λ (xs : List ℕ). length xs) text ∙ length-append (transcript b.before b.spoken) (said_with c capture) in
     record {
       before = b.before ++ c ∷ [];
-      spoken = b.spoken ++ b.front;
-      front = [];
+      spoken = b.spoken ++ b.prefix;
+      prefix = [];
       commands = b.commands ∙ sym (append_assoc b.before (c ∷ []) cs) ∙ ap (λ (ds : List Command). (b.before ++ c ∷ []) ++ ds) (sym w.0);
-      captures = b.captures ∙ sym (append-nil (b.spoken ++ b.front));
-      took = length-append b.spoken b.front ∙ ap (λ (n : ℕ). n + length b.front) b.took ∙ ap (λ (n : ℕ). needed b.before + n) took ∙ sym (needed_joined b.before (c ∷ []));
+      captures = b.captures ∙ sym (append-nil (b.spoken ++ b.prefix));
+      took = length-append b.spoken b.prefix ∙ ap (λ (n : ℕ). n + length b.prefix) b.took ∙ ap (λ (n : ℕ). needed b.before + n) took ∙ sym (needed_joined b.before (c ∷ []));
       acked = (let e = b.acked in let f = w.2 in omega (arith, e, f, size));
       shows = w.1;
     }
@@ -77,13 +77,13 @@ passed_on (c ∷ cs) new capture held at place p past w b =
 -- what is left stays enough
 pub enough_left : (q new : List Command) (capture held : Capture) (at place : ℕ) → is_past q capture at ≡ true → Passes q capture at new held place
     → at ≤ length (left_said q capture) → place ≤ length (left_said new held)
-enough_left [] new capture held at place past w h = elim (true≢false (sym past)) [ ]
-enough_left (c ∷ cs) new capture held at place past w h =
-    let goes : stops_at c capture ≡ false = not_true (stops_at c capture) (and_parts (not (stops_at c capture)) (nat_le (length (said_with c capture)) at) past).0 in
+enough_left [] new capture held at place history w h = elim (true≢false (sym history)) [ ]
+enough_left (c ∷ cs) new capture held at place history w h =
+    let goes : stops_at c capture ≡ false = not_true (stops_at c capture) (and_parts (not (stops_at c capture)) (nat_le (length (said_with c capture)) at) history).0 in
     let left : length (left_said (c ∷ cs) capture) ≡ length (said_with c capture) + length (transcript cs []) =
     ap (λ (s : Bool). length (if s then [] else said_with c capture ++ transcript cs [])) goes ∙ length-append (said_with c capture) (transcript cs []) in
     let next : length (transcript cs []) ≡ length (left_said new held) =
-    ap (λ (xs : List ℕ). length xs) (front_left cs Empty [] refl) ∙ ap (λ (ds : List Command). length (left_said ds Empty)) (sym w.0) ∙ ap (λ (d : Capture). length (left_said new d)) (sym w.1) in
+    ap (λ (xs : List ℕ). length xs) (prefix_left cs Empty [] refl) ∙ ap (λ (ds : List Command). length (left_said ds Empty)) (sym w.0) ∙ ap (λ (d : Capture). length (left_said new d)) (sym w.1) in
     omega (arith, h, left, next, w.2)
 
 pub shorter : (q new : List Command) (capture held : Capture) (at place : ℕ) → Passes q capture at new held place → length new < length q
@@ -94,39 +94,39 @@ pub nearer : (q new : List Command) (capture held : Capture) (at place : ℕ) �
 nearer [] new capture held at place w = absurd w
 nearer (c ∷ cs) new capture held at place w = omega (arith, w.2)
 
--- where the front is not passed, the place is in it
-pub in_front : (q : List Command) (capture : Capture) (at : ℕ) → is_past q capture at ≡ false → at ≤ length (left_said q capture) → IsInFront q capture at
-in_front [] capture at e h = omega (arith, h)
-in_front (c ∷ cs) capture at e h = (
+-- if the first command is not passed, the offset is in it
+pub with_newest : (q : List Command) (capture : Capture) (at : ℕ) → is_past q capture at ≡ false → at ≤ length (left_said q capture) → IsLeading q capture at
+with_newest [] capture at e h = omega (arith, h)
+with_newest (c ∷ cs) capture at e h = (
   (λ s. let z : length (left_said (c ∷ cs) capture) ≡ 0 = ap (λ (b : Bool). length (if b then [] else said_with c capture ++ transcript cs [])) s in omega (arith, h, z)),
   (λ g. leb-false (length (said_with c capture)) at (sym (ap (λ (b : Bool). not b && nat_le (length (said_with c capture)) at) g) ∙ e)),
 )
 
 -- ---- commands come
 
-shows_more : (q extra : List Command) (capture : Capture) (front : List Moment) → Shows q capture front → Shows (q ++ extra) capture front
+shows_more : (q extra : List Command) (capture : Capture) (prefix : List Snapshot) → Shows q capture prefix → Shows (q ++ extra) capture prefix
 shows_more [] extra capture [] s = s
 shows_more [] extra capture (k ∷ ks) s = absurd s
 shows_more (c ∷ cs) extra capture [] s = s
 shows_more (c ∷ cs) extra capture (k ∷ ks) s = s
 
-front_more : (q extra : List Command) (capture : Capture) (at : ℕ) → IsInFront q capture at → IsInFront (q ++ extra) capture at
-front_more [] [] capture at i = i
-front_more [] (c ∷ cs) capture at i = ((λ s. i), (λ g. omega (arith, i, said_some c capture)))
-front_more (c ∷ cs) extra capture at i = i
+prefix_grown : (q extra : List Command) (capture : Capture) (at : ℕ) → IsLeading q capture at → IsLeading (q ++ extra) capture at
+prefix_grown [] [] capture at i = i
+prefix_grown [] (c ∷ cs) capture at i = ((λ s. i), (λ g. omega (arith, i, said_some c capture)))
+prefix_grown (c ∷ cs) extra capture at i = i
 
-pub come : (q extra : List Command) (capture : Capture) (at : ℕ) (p : Part) (byte : ℕ) → commands_in (p.heard ++ byte ∷ []) ≡ commands_in p.heard ++ extra
-    → IsBehind q capture at p → IsInFront q capture at → IsBehind (q ++ extra) capture at (with_byte p byte) × IsInFront (q ++ extra) capture at
+pub come : (q extra : List Command) (capture : Capture) (at : ℕ) (p : AppState) (byte : ℕ) → commands_in (p.delivered ++ byte ∷ []) ≡ commands_in p.delivered ++ extra
+    → IsTrailing q capture at p → IsLeading q capture at → IsTrailing (q ++ extra) capture at (with_byte p byte) × IsLeading (q ++ extra) capture at
 come q extra capture at p byte more b i = (
   record {
     before = b.before;
     spoken = b.spoken;
-    front = b.front;
+    prefix = b.prefix;
     commands = more ∙ ap (λ (cs : List Command). cs ++ extra) b.commands ∙ append_assoc b.before q extra;
     captures = b.captures;
     took = b.took;
     acked = b.acked;
-    shows = shows_more q extra capture b.front b.shows;
+    shows = shows_more q extra capture b.prefix b.shows;
   },
-  front_more q extra capture at i,
+  prefix_grown q extra capture at i,
 )

@@ -1,8 +1,9 @@
--- When a capture is taken, and what is wanted.
-use Rattle.std.proofs.Common.{◌≡◌, ℕ, suc, ◌+◌, ◌-◌, ◌==◌, ◌<◌, Bool, true, false, ◌&&◌, ◌||◌, not, min, nat_lt, List, [], ◌∷◌, ◌++◌, length, take, get_or, if◌then◌else◌, refl, sym, ap, subst, ◌∙◌, arith, append-nil, length-append, true≢false, None, Some}
+-- When a capture is taken, and what the shell requests.
+use Rattle.std.proofs.Common.{◌≡◌, ℕ, suc, ◌+◌, ◌-◌, ◌==◌, ◌<◌, Bool, true, false, ◌&&◌, ◌||◌, not, min, nat_lt, List, [], ◌∷◌, ◌++◌, length, take, get_or, if◌then◌else◌, refl, sym, ap, subst, ◌∙◌, arith, append-nil, length-append, true≢false, Option, None, Some}
+use Rattle.std.specs.Prelude.{is_some}
 use Rattle.std.proofs.lemmas.Bool.{eqb-true, eqb-false, and_parts}
 use Rattle.std.proofs.Math.Seq.{take-suc}
-use Rattle.app_events.specs.Part.{Part, Moment}
+use Rattle.app_events.specs.AppSpec.{AppState, Snapshot}
 use Rattle.app_events.specs.declared.now.Now.{Now}
 use Rattle.app_events.specs.declared.want.Want.{Want}
 use Rattle.app_events.specs.declared.want.Want.TheVariants.{Nothing, Send, Close, Abort}
@@ -12,10 +13,10 @@ use Rattle.script_lang.specs.declared.function.Function.{Function}
 use Rattle.telnet_shell.specs.declared.command.Command.{Command}
 use Rattle.telnet_shell.specs.State.{Shell}
 use Rattle.telnet_shell.specs.Transcript.{function_of, needs_capture, said_with, transcript}
-use Rattle.telnet_shell.specs.Saying.{IsBehind, IsInFront, Shows, stops_at, is_taken, left_said, due}
-use Rattle.telnet_shell.specs.Lemmas.Speaking.{talk_is, waiting_is, said_some, held_goes}
-use Rattle.telnet_shell.specs.ShellMeaning.{talk, is_settled, is_stopped, talk_has_ended, left_of_talk, shell_want, take_capture, hear_byte, hear_all}
-use Rattle.telnet_shell.specs.ShellStands.{ShellStands}
+use Rattle.telnet_shell.specs.Saying.{IsTrailing, IsLeading, Shows, stops_at, is_taken, left_said, due}
+use Rattle.telnet_shell.specs.Lemmas.Speaking.{session_is, waiting_is, said_some, held_goes}
+use Rattle.telnet_shell.specs.ShellMeaning.{session, is_settled, is_stopped, session_has_ended, left_of_session, shell_want, take_capture, hear_byte, hear_all}
+use Rattle.telnet_shell.specs.ShellRepresents.{ShellRepresents}
 use Rattle.telnet_shell.proofs.Standing.{own_is}
 
 eq_yes : (a b : ℕ) → a ≡ b → (a == b) ≡ true
@@ -30,20 +31,20 @@ eq_no a b h = elim (a == b) as (λ t. (a == b) ≡ t → t ≡ false) [
   | false ↦ λ e. refl
 ] refl
 
-talk_size : (q : List Command) (capture : Capture) (at : ℕ) (p : Part) (b : IsBehind q capture at p) → length (talk p) ≡ length (transcript b.before b.spoken) + length (left_said q capture)
-talk_size q capture at p b = ap (λ (xs : List ℕ). length xs) (talk_is q capture at p b) ∙ length-append (transcript b.before b.spoken) (left_said q capture)
+session_size : (q : List Command) (capture : Capture) (at : ℕ) (p : AppState) (b : IsTrailing q capture at p) → length (session p) ≡ length (transcript b.before b.spoken) + length (left_said q capture)
+session_size q capture at p b = ap (λ (xs : List ℕ). length xs) (session_is q capture at p b) ∙ length-append (transcript b.before b.spoken) (left_said q capture)
 
-acknowledged : (q : List Command) (capture : Capture) (at : ℕ) (p : Part) → IsBehind q capture at p → at ≡ length (left_said q capture) → (p.acked == length (talk p)) ≡ true
+acknowledged : (q : List Command) (capture : Capture) (at : ℕ) (p : AppState) → IsTrailing q capture at p → at ≡ length (left_said q capture) → (p.acked == length (session p)) ≡ true
 acknowledged q capture at p b e =
-    let size = talk_size q capture at p b in let at_is = b.acked in
-    eq_yes p.acked (length (talk p)) (omega (arith, e, size, at_is))
+    let size = session_size q capture at p b in let at_is = b.acked in
+    eq_yes p.acked (length (session p)) (omega (arith, e, size, at_is))
 
-unacknowledged : (q : List Command) (capture : Capture) (at : ℕ) (p : Part) → IsBehind q capture at p → at < length (left_said q capture) → (p.acked == length (talk p)) ≡ false
+unacknowledged : (q : List Command) (capture : Capture) (at : ℕ) (p : AppState) → IsTrailing q capture at p → at < length (left_said q capture) → (p.acked == length (session p)) ≡ false
 unacknowledged q capture at p b l =
-    let size = talk_size q capture at p b in let at_is = b.acked in
-    eq_no p.acked (length (talk p)) (λ f. omega (arith, l, size, at_is, f))
+    let size = session_size q capture at p b in let at_is = b.acked in
+    eq_no p.acked (length (session p)) (λ f. omega (arith, l, size, at_is, f))
 
-stopped_yes : (c : Command) (cs : List Command) (capture : Capture) (at : ℕ) (p : Part) → IsBehind (c ∷ cs) capture at p → IsInFront (c ∷ cs) capture at → stops_at c capture ≡ true → is_stopped p ≡ true
+stopped_yes : (c : Command) (cs : List Command) (capture : Capture) (at : ℕ) (p : AppState) → IsTrailing (c ∷ cs) capture at p → IsLeading (c ∷ cs) capture at → stops_at c capture ≡ true → is_stopped p ≡ true
 stopped_yes c cs capture at p b i stops =
     let none : length (left_said (c ∷ cs) capture) ≡ 0 = ap (λ (s : Bool). length (if s then [] else said_with c capture ++ transcript cs [])) stops in
     let start : at ≡ 0 = i.0 stops in
@@ -54,7 +55,7 @@ no_and : (b : Bool) → (b && false) ≡ false
 no_and true = refl
 no_and false = refl
 
-goes_on_not : (c : Command) (cs : List Command) (capture : Capture) (at : ℕ) (p : Part) → IsBehind (c ∷ cs) capture at p → IsInFront (c ∷ cs) capture at → stops_at c capture ≡ false → is_stopped p ≡ false
+goes_on_not : (c : Command) (cs : List Command) (capture : Capture) (at : ℕ) (p : AppState) → IsTrailing (c ∷ cs) capture at p → IsLeading (c ∷ cs) capture at → stops_at c capture ≡ false → is_stopped p ≡ false
 goes_on_not c cs capture at p b i goes =
     let left : length (left_said (c ∷ cs) capture) ≡ length (said_with c capture) + length (transcript cs []) =
     ap (λ (s : Bool). length (if s then [] else said_with c capture ++ transcript cs [])) goes ∙ length-append (said_with c capture) (transcript cs []) in
@@ -69,30 +70,30 @@ due_none : (b : Bool) (g : Function) → (if b then Some g else None) ≡ None �
 due_none true g e = absurd cc
 due_none false g e = refl
 
-shows_none : (c : Command) (cs : List Command) (capture : Capture) (front : List Moment) → Shows (c ∷ cs) capture front → stops_at c capture ≡ true → front ≡ []
+shows_none : (c : Command) (cs : List Command) (capture : Capture) (prefix : List Snapshot) → Shows (c ∷ cs) capture prefix → stops_at c capture ≡ true → prefix ≡ []
 shows_none c cs capture [] s stops = refl
 shows_none c cs capture (k ∷ ks) s stops = elim (true≢false (sym stops ∙ held_goes c k capture s.1 s.2)) [ ]
 
-pub record IsPrepared (q : List Command) (capture : Capture) (at : ℕ) (before after : Part) : Type 0 where
+pub record IsPrepared (q : List Command) (capture : Capture) (at : ℕ) (before after : AppState) : Type 0 where
   pub stopped : is_stopped before ≡ true
-  pub behind : IsBehind q capture at after
-  pub place : IsInFront q capture at
+  pub behind : IsTrailing q capture at after
+  pub place : IsLeading q capture at
 
-pub taken : (q : List Command) (capture held : Capture) (at : ℕ) (p : Part) (numbers : List ℕ) (function : Function) (now : Now) → due q capture ≡ Some function → held ≡ capture_of function 0 now
-    → IsBehind q capture at p → IsInFront q capture at → IsPrepared q held at p (take_capture numbers p now)
+pub taken : (q : List Command) (capture held : Capture) (at : ℕ) (p : AppState) (numbers : List ℕ) (function : Function) (now : Now) → due q capture ≡ Some function → held ≡ capture_of function 0 now
+    → IsTrailing q capture at p → IsLeading q capture at → IsPrepared q held at p (take_capture numbers p now)
 taken [] capture held at p numbers function now d e b i = absurd cc
 taken (c ∷ cs) capture held at p numbers function now d e b i =
     let both = due_some (stops_at c capture) (function_of c) function d in
-    let none : b.front ≡ [] = shows_none c cs capture b.front b.shows both.0 in
+    let none : b.prefix ≡ [] = shows_none c cs capture b.prefix b.shows both.0 in
     let start : at ≡ 0 = i.0 both.0 in
     record {
       stopped = stopped_yes c cs capture at p b i both.0;
       behind = record {
         before = b.before;
         spoken = b.spoken;
-        front = record { numbers = numbers; now = now } ∷ [];
+        prefix = record { numbers = numbers; now = now } ∷ [];
         commands = b.commands;
-        captures = ap (λ (ks : List Moment). ks ++ record { numbers = numbers; now = now } ∷ []) (b.captures ∙ ap (λ (ks : List Moment). b.spoken ++ ks) none ∙ append-nil b.spoken);
+        captures = ap (λ (ks : List Snapshot). ks ++ record { numbers = numbers; now = now } ∷ []) (b.captures ∙ ap (λ (ks : List Snapshot). b.spoken ++ ks) none ∙ append-nil b.spoken);
         took = b.took;
         acked = b.acked;
         shows = (refl, (and_parts (needs_capture c) (not (is_taken capture)) both.0).0, e ∙ ap (λ (f : Function). capture_of f 0 now) (sym both.1));
@@ -100,47 +101,53 @@ taken (c ∷ cs) capture held at p numbers function now d e b i =
       place = ((λ s. start), (λ g. omega (arith, start, said_some c held)));
     }
 
-pub not_taken : (q : List Command) (capture : Capture) (at : ℕ) (p : Part) → due q capture ≡ None → IsBehind q capture at p → IsInFront q capture at → is_stopped p ≡ false
+pub not_taken : (q : List Command) (capture : Capture) (at : ℕ) (p : AppState) → due q capture ≡ None → IsTrailing q capture at p → IsLeading q capture at → is_stopped p ≡ false
 not_taken [] capture at p d b i =
-    ap (λ (ds : List Command). (p.acked == length (talk p)) && not (length ds == 0)) (waiting_is [] capture at p b i) ∙ no_and (p.acked == length (talk p))
+    ap (λ (ds : List Command). (p.acked == length (session p)) && not (length ds == 0)) (waiting_is [] capture at p b i) ∙ no_and (p.acked == length (session p))
 not_taken (c ∷ cs) capture at p d b i = goes_on_not c cs capture at p b i (due_none (stops_at c capture) (function_of c) d)
 
-pub prepared : (a : Shell) (p : Part) (held : Capture) (numbers : List ℕ) (function : Function) (now : Now) → due a.queue a.capture ≡ Some function → held ≡ capture_of function 0 now
-    → ShellStands a p → ShellStands (record a { capture = held }) (if is_stopped p then take_capture numbers p now else p)
+pub prepared : (a : Shell) (p : AppState) (held : Capture) (numbers : List ℕ) (function : Function) (now : Now) → due a.queue a.capture ≡ Some function → held ≡ capture_of function 0 now
+    → ShellRepresents a p → ShellRepresents (record a { capture = held }) (if is_stopped p then take_capture numbers p now else p)
 prepared a p held numbers function now d e s =
     let t : IsPrepared a.queue held a.at p (take_capture numbers p now) = taken a.queue a.capture held a.at p numbers function now d e s.behind s.place in
-    subst (λ (q : Part). ShellStands (record a { capture = held }) q) (sym (ap (λ (b : Bool). if b then take_capture numbers p now else p) t.stopped))
+    subst (λ (q : AppState). ShellRepresents (record a { capture = held }) q) (sym (ap (λ (b : Bool). if b then take_capture numbers p now else p) t.stopped))
     (record { polls = s.polls; lost = s.lost; done = s.done; hears = s.hears; behind = t.behind; place = t.place })
 
-pub unprepared : (a : Shell) (p : Part) (numbers : List ℕ) (now : Now) → due a.queue a.capture ≡ None → ShellStands a p → ShellStands a (if is_stopped p then take_capture numbers p now else p)
-unprepared a p numbers now d s =
-    subst (λ (q : Part). ShellStands a q) (sym (ap (λ (b : Bool). if b then take_capture numbers p now else p) (not_taken a.queue a.capture a.at p d s.behind s.place))) s
+pub none_of : {X : Type 0} (o : Option X) → is_some o ≡ false → o ≡ None
+none_of (Some x) e = absurd cc
+none_of None e = refl
 
--- ---- what is wanted
+pub stays : (a : Shell) (p : AppState) (numbers : List ℕ) (now : Now) → due a.queue a.capture ≡ None → ShellRepresents a p → (if is_stopped p then take_capture numbers p now else p) ≡ p
+stays a p numbers now d s = ap (λ (b : Bool). if b then take_capture numbers p now else p) (not_taken a.queue a.capture a.at p d s.behind s.place)
+
+pub unprepared : (a : Shell) (p : AppState) (numbers : List ℕ) (now : Now) → due a.queue a.capture ≡ None → ShellRepresents a p → ShellRepresents a (if is_stopped p then take_capture numbers p now else p)
+unprepared a p numbers now d s = subst (λ (q : AppState). ShellRepresents a q) (sym (stays a p numbers now d s)) s
+
+-- ---- what the shell requests
 
 abbrev pub want_from : Bool → ℕ → Want
 want_from ended left = if ended then Close else if nat_lt 0 left then Send (min 1460 left) else Nothing
 
-pub wanted : (a : Shell) (p : Part) → a.lost ≡ false → (a.polls ≡ 1200 → ⊥) → ShellStands a p
+pub wanted : (a : Shell) (p : AppState) → a.lost ≡ false → (a.polls ≡ 1200 → ⊥) → ShellRepresents a p
     → want_from (a.done && (length a.queue == 0)) (length (left_said a.queue a.capture) - a.at) ≡ shell_want p
 wanted a p lost polls s =
     let stays : ((p.own == 1) || (p.polls == 1200)) ≡ false =
     ap (λ (b : Bool). b || (p.polls == 1200)) (own_is a p s ∙ lost) ∙ ap (λ (n : ℕ). n == 1200) (sym s.polls) ∙ eq_no a.polls 1200 polls in
-    let ended : talk_has_ended p ≡ (a.done && (length a.queue == 0)) =
+    let ended : session_has_ended p ≡ (a.done && (length a.queue == 0)) =
     ap (λ (b : Bool). b && is_settled p) (sym s.done) ∙ ap (λ (ds : List Command). a.done && (length ds == 0)) (waiting_is a.queue a.capture a.at p s.behind s.place) in
-    let left : left_of_talk p ≡ length (left_said a.queue a.capture) - a.at =
-    (let size = talk_size a.queue a.capture a.at p s.behind in let at_is = s.behind.acked in omega (arith, size, at_is)) in
-    sym (ap (λ (b : Bool). if b then Abort else want_from (talk_has_ended p) (left_of_talk p)) stays
-    ∙ ap (λ (b : Bool). want_from b (left_of_talk p)) ended
+    let left : left_of_session p ≡ length (left_said a.queue a.capture) - a.at =
+    (let size = session_size a.queue a.capture a.at p s.behind in let at_is = s.behind.acked in omega (arith, size, at_is)) in
+    sym (ap (λ (b : Bool). if b then Abort else want_from (session_has_ended p) (left_of_session p)) stays
+    ∙ ap (λ (b : Bool). want_from b (left_of_session p)) ended
     ∙ ap (λ (n : ℕ). want_from (a.done && (length a.queue == 0)) n) left)
 
 -- ---- a piece
 
-hear_all_joined : (p : Part) (xs ys : List ℕ) → hear_all p (xs ++ ys) ≡ hear_all (hear_all p xs) ys
+hear_all_joined : (p : AppState) (xs ys : List ℕ) → hear_all p (xs ++ ys) ≡ hear_all (hear_all p xs) ys
 hear_all_joined p [] ys = refl
 hear_all_joined p (x ∷ xs) ys = hear_all_joined (hear_byte p x) xs ys
 
-pub next_byte : (p : Part) (piece : List ℕ) (i : ℕ) → i < length piece → hear_all p (take (i + 1) piece) ≡ hear_byte (hear_all p (take i piece)) (get_or piece i 0)
+pub next_byte : (p : AppState) (piece : List ℕ) (i : ℕ) → i < length piece → hear_all p (take (i + 1) piece) ≡ hear_byte (hear_all p (take i piece)) (get_or piece i 0)
 next_byte p piece i h =
     ap (λ (xs : List ℕ). hear_all p xs) (ap (λ (n : ℕ). take n piece) (let e : i + 1 ≡ suc i = omega arith in e) ∙ take-suc piece i 0 h)
     ∙ hear_all_joined p (take i piece) (get_or piece i 0 ∷ [])

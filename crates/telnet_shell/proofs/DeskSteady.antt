@@ -1,32 +1,32 @@
--- The desk is steady: it takes back no text, and captures one moment at a time.
+-- The desk is steady: it takes back no text, and captures one snapshot at a time.
 use Rattle.std.proofs.Common.{◌≡◌, ℕ, ◌==◌, Bool, true, false, ◌⊎◌, inl, inr, List, [], ◌∷◌, ◌++◌, refl, if◌then◌else◌}
-use Rattle.app_events.specs.Part.{Part, Moment}
+use Rattle.app_events.specs.AppSpec.{AppState, Snapshot}
 use Rattle.site_image.specs.Files.{File}
 use Rattle.file_tree.specs.Site.{SiteContent, IsLoaded, files_of}
 use Rattle.web_pages.specs.Pages.{pages_of}
-use Rattle.web_pages.specs.WebMeaning.{web_meaning}
+use Rattle.web_pages.specs.WebMeaning.{web_spec}
 use Rattle.web_pages.proofs.PageLaws.{keeps_page_laws}
 use Rattle.uip_node.specs.Steady.{IsSteady}
 use Rattle.uip_node.proofs.Steadiness.{steady_of}
 use Rattle.telnet_shell.specs.declared.shell.TheConstants.{TELNET_PORT}
-use Rattle.telnet_shell.specs.ShellMeaning.{shell_meaning, is_stopped}
+use Rattle.telnet_shell.specs.ShellMeaning.{shell_spec, is_stopped}
 use Rattle.telnet_shell.specs.Lemmas.ShellLaws.{shell_lawful}
-use Rattle.telnet_shell.specs.DeskMeaning.{meaning_at, desk_meaning}
+use Rattle.telnet_shell.specs.DeskMeaning.{app_spec_at, desk_spec}
 use Rattle.telnet_shell.specs.Lemmas.DeskLaws.{desk_lawful}
-use Rattle.telnet_shell.proofs.TalkLaws.{keeps_talk}
+use Rattle.telnet_shell.proofs.SessionLaws.{keeps_session}
 
-either_capture : (p : Part) (k : Moment) (takes : Bool)
+either_capture : (p : AppState) (k : Snapshot) (takes : Bool)
     → ((if takes then record p { captures = p.captures ++ k ∷ [] } else p).captures ≡ p.captures)
     ⊎ ((if takes then record p { captures = p.captures ++ k ∷ [] } else p).captures ≡ p.captures ++ k ∷ [])
 either_capture p k true = inr refl
 either_capture p k false = inl refl
 
-shell_steady : IsSteady shell_meaning
+shell_steady : IsSteady shell_spec
 shell_steady = record {
   lawful = shell_lawful (λ p. Unit {0});
   connected_acked = λ numbers port. refl;
   connected_captures = λ numbers port. refl;
-  newdata_captures = λ numbers p piece. (keeps_talk.hears numbers p piece).captures;
+  newdata_captures = λ numbers p piece. (keeps_session.hears numbers p piece).captures;
   prepare_captures = λ numbers p now. either_capture p (record { numbers = numbers; now = now }) (is_stopped p);
   acked_captures = λ numbers p n. refl;
   polled_captures = λ numbers p. refl;
@@ -37,16 +37,16 @@ shell_steady = record {
   ended_numbers = λ numbers p how h. h;
 }
 
-by_port : (files : List File) (shell : Bool) → IsSteady (web_meaning files) → IsSteady (if shell then shell_meaning else web_meaning files)
+by_port : (files : List File) (shell : Bool) → IsSteady (web_spec files) → IsSteady (if shell then shell_spec else web_spec files)
 by_port files true w = shell_steady
 by_port files false w = w
 
 module _ (site : SiteContent) (loaded : IsLoaded site) where
-  steady_at : (port : ℕ) → IsSteady (meaning_at (files_of site) port)
+  steady_at : (port : ℕ) → IsSteady (app_spec_at (files_of site) port)
   steady_at port =
-      by_port (files_of site) (port == TELNET_PORT) (steady_of (web_meaning (files_of site)) (pages_of (files_of site)) (keeps_page_laws site loaded))
+      by_port (files_of site) (port == TELNET_PORT) (steady_of (web_spec (files_of site)) (pages_of (files_of site)) (keeps_page_laws site loaded))
 
-  pub desk_steady : IsSteady (desk_meaning (files_of site))
+  pub desk_steady : IsSteady (desk_spec (files_of site))
   desk_steady = record {
     lawful = desk_lawful (files_of site) (λ p. Unit {0});
     connected_acked = λ numbers port. (steady_at port).connected_acked numbers port;

@@ -1,9 +1,9 @@
--- What a shell wants, when it takes a capture and when it is given up, as its talk tells it.
+-- What a shell requests, when it takes a capture and when it is given up, by its session alone.
 use Rattle.std.proofs.Common.{◌≡◌, ℕ, ◌+◌, ◌-◌, ◌≤◌, ◌<◌, ◌==◌, min, Bool, true, false, ◌&&◌, not, nat_le, nat_lt, List, [], ◌∷◌, ◌++◌, codes, length, refl, sym, ap, ◌∙◌, arith, append-nil, length-append, if◌then◌else◌}
 use Rattle.std.specs.Str.{bytes_eq}
 use Rattle.std.proofs.lemmas.Bool.{leb-true, le-leb, lt-leb, lt-ltb, ltb-true, eqb-true, eq-eqb, and_parts, and_from, false_from_ne_true}
 use Rattle.std.proofs.lemmas.Slice.Eq.{bytes_eq-Decides}
-use Rattle.app_events.specs.Part.{Part, Moment}
+use Rattle.app_events.specs.AppSpec.{AppState, Snapshot}
 use Rattle.app_events.specs.declared.now.Now.{Now}
 use Rattle.app_events.specs.declared.want.Want.TheVariants.{Nothing, Send, Close, Abort}
 use Rattle.telnet_shell.specs.declared.command.Command.{Command}
@@ -11,16 +11,16 @@ use Rattle.telnet_shell.specs.declared.command.Command.TheVariants.{Help, Stats,
 use Rattle.telnet_shell.specs.Reading.{Awaits, Token, tokens, told, awaits_after, commands, command_of, line_after, all_commands, commands_in, has_quit, is_quit, until_quit}
 use Rattle.telnet_shell.specs.Reading.Awaits.{Text, Second, Choice}
 use Rattle.telnet_shell.specs.Reading.Token.{Byte, Answer}
-use Rattle.telnet_shell.specs.Transcript.{behind, needs_capture, said_plainly, said_at, transcript, unfinished}
+use Rattle.telnet_shell.specs.Transcript.{behind, needs_capture, said_plainly, sent_at, transcript, unfinished}
 use Rattle.telnet_shell.specs.Saying.{needed}
 use Rattle.telnet_shell.specs.Lemmas.Growing.{commands_grow, further}
 use Rattle.telnet_shell.specs.Lemmas.Speaking.{past_said, said_some}
-use Rattle.telnet_shell.specs.ShellMeaning.{shell_meaning, talk, waiting, with_byte, hear_byte, is_settled, is_stopped, talk_has_ended, left_of_talk, take_capture}
-use Rattle.telnet_shell.specs.Talks.{talks}
+use Rattle.telnet_shell.specs.ShellMeaning.{shell_spec, session, waiting, with_byte, hear_byte, is_settled, is_stopped, session_has_ended, left_of_session, take_capture}
+use Rattle.telnet_shell.specs.Traces.{sessions}
 use Rattle.telnet_shell.specs.Exactly.{IsExact, exact_want, all_acknowledged, is_given_up, capture_comes_next, completes}
-use Rattle.telnet_shell.proofs.TalkLaws.{IsSaid, settled, none_waits}
+use Rattle.telnet_shell.proofs.SessionLaws.{IsSaid, settled, none_waits}
 
--- two tests that tell the same
+-- two tests with the same result
 pub same_tests : (a b : Bool) → (a ≡ true → b ≡ true) → (b ≡ true → a ≡ true) → a ≡ b
 same_tests true b f g = sym (f refl)
 same_tests false true f g = g refl
@@ -41,64 +41,64 @@ each_over : (b : Bool) (t x s z : List ℕ) (at l n : ℕ) (gone go : ℕ → Li
 each_over true t x s z at l n gone go stay h f g = past_said t x at gone stay ∙ f (omega (arith, h))
 each_over false t x s z at l n gone go stay h f g = past_said s z at go stay ∙ g h
 
-over : (cs : List Command) (ks : List Moment) (at : ℕ) → needed cs ≤ length ks → unfinished cs ks (length (transcript cs ks) + at) ≡ []
+over : (cs : List Command) (ks : List Snapshot) (at : ℕ) → needed cs ≤ length ks → unfinished cs ks (length (transcript cs ks) + at) ≡ []
 over [] ks at h = refl
 over (c ∷ cs) [] at h =
     plain_over (needs_capture c) (said_plainly c) (transcript cs []) at (needed cs) (λ n. unfinished cs [] n) (c ∷ cs) (c ∷ cs) h
     (λ g. over cs [] at g)
 over (c ∷ cs) (k ∷ ks) at h =
-    each_over (needs_capture c) (said_at c k) (transcript cs ks) (said_plainly c) (transcript cs (k ∷ ks)) at (length ks) (needed cs)
+    each_over (needs_capture c) (sent_at c k) (transcript cs ks) (said_plainly c) (transcript cs (k ∷ ks)) at (length ks) (needed cs)
     (λ n. unfinished cs ks n) (λ n. unfinished cs (k ∷ ks) n) (c ∷ cs) (omega (arith, h))
     (λ g. over cs ks at g) (λ g. over cs (k ∷ ks) at (omega (arith, g)))
 
--- all is said that is to be said
-abbrev has_said : Part → Bool
-has_said p = nat_le (needed (commands_in p.heard)) (length p.captures)
+-- all output is sent
+abbrev has_said : AppState → Bool
+has_said p = nat_le (needed (commands_in p.delivered)) (length p.captures)
 
-settles : (p : Part) → p.acked ≡ length (talk p) → has_said p ≡ true → is_settled p ≡ true
+settles : (p : AppState) → p.acked ≡ length (session p) → has_said p ≡ true → is_settled p ≡ true
 settles p e h =
     ap (λ (cs : List Command). length cs == 0)
-    (ap (λ (n : ℕ). unfinished (commands_in p.heard) p.captures n) (let z : p.acked ≡ length (talk p) + 0 = omega (arith, e) in z)
-    ∙ over (commands_in p.heard) p.captures 0 (leb-true (needed (commands_in p.heard)) (length p.captures) h))
+    (ap (λ (n : ℕ). unfinished (commands_in p.delivered) p.captures n) (let z : p.acked ≡ length (session p) + 0 = omega (arith, e) in z)
+    ∙ over (commands_in p.delivered) p.captures 0 (leb-true (needed (commands_in p.delivered)) (length p.captures) h))
 
-said_of : (p : Part) → is_settled p ≡ true → IsSaid (commands_in p.heard) p.captures p.acked
-said_of p e = settled (commands_in p.heard) p.captures p.acked (none_waits (waiting p) e)
+said_of : (p : AppState) → is_settled p ≡ true → IsSaid (commands_in p.delivered) p.captures p.acked
+said_of p e = settled (commands_in p.delivered) p.captures p.acked (none_waits (waiting p) e)
 
-has_said_of : (p : Part) → is_settled p ≡ true → has_said p ≡ true
-has_said_of p e = le-leb (needed (commands_in p.heard)) (length p.captures) (said_of p e).told
+has_said_of : (p : AppState) → is_settled p ≡ true → has_said p ≡ true
+has_said_of p e = le-leb (needed (commands_in p.delivered)) (length p.captures) (said_of p e).told
 
--- ---- what is wanted
+-- ---- what the shell requests
 
-ends_exactly : (p : Part) → p.acked ≤ length (talk p) → talk_has_ended p ≡ (talks.whole p.heard p.captures && all_acknowledged p)
-ends_exactly p h = same_tests (talk_has_ended p) (talks.whole p.heard p.captures && all_acknowledged p)
-    (λ e. let both = and_parts (has_quit (all_commands p.heard)) (is_settled p) e in
-    and_from (talks.whole p.heard p.captures) (all_acknowledged p)
-    (and_from (has_quit (all_commands p.heard)) (has_said p) both.0 (has_said_of p both.1))
-    (let within = (said_of p both.1).within in eq-eqb p.acked (length (talk p)) (omega (arith, h, within))))
-    (λ e. let both = and_parts (talks.whole p.heard p.captures) (all_acknowledged p) e in
-    let whole = and_parts (has_quit (all_commands p.heard)) (has_said p) both.0 in
-    and_from (has_quit (all_commands p.heard)) (is_settled p) whole.0 (settles p (eqb-true p.acked (length (talk p)) both.1) whole.1))
+ends_exactly : (p : AppState) → p.acked ≤ length (session p) → session_has_ended p ≡ (sessions.whole p.delivered p.captures && all_acknowledged p)
+ends_exactly p h = same_tests (session_has_ended p) (sessions.whole p.delivered p.captures && all_acknowledged p)
+    (λ e. let both = and_parts (has_quit (all_commands p.delivered)) (is_settled p) e in
+    and_from (sessions.whole p.delivered p.captures) (all_acknowledged p)
+    (and_from (has_quit (all_commands p.delivered)) (has_said p) both.0 (has_said_of p both.1))
+    (let within = (said_of p both.1).within in eq-eqb p.acked (length (session p)) (omega (arith, h, within))))
+    (λ e. let both = and_parts (sessions.whole p.delivered p.captures) (all_acknowledged p) e in
+    let whole = and_parts (has_quit (all_commands p.delivered)) (has_said p) both.0 in
+    and_from (has_quit (all_commands p.delivered)) (is_settled p) whole.0 (settles p (eqb-true p.acked (length (session p)) both.1) whole.1))
 
 left_exactly : (acked size : ℕ) → nat_lt 0 (size - acked) ≡ nat_lt acked size
 left_exactly acked size = same_tests (nat_lt 0 (size - acked)) (nat_lt acked size)
     (λ e. let some = ltb-true 0 (size - acked) e in lt-ltb acked size (omega (arith, some)))
     (λ e. let some = ltb-true acked size e in lt-ltb 0 (size - acked) (omega (arith, some)))
 
-wants_exactly : (numbers : List ℕ) (p : Part) → p.acked ≤ length (talk p) → shell_meaning.want numbers p ≡ exact_want p
+wants_exactly : (numbers : List ℕ) (p : AppState) → p.acked ≤ length (session p) → shell_spec.want numbers p ≡ exact_want p
 wants_exactly numbers p h =
-    ap (λ (b : Bool). if is_given_up p then Abort else if b then Close else if nat_lt 0 (left_of_talk p) then Send (min 1460 (left_of_talk p)) else Nothing)
+    ap (λ (b : Bool). if is_given_up p then Abort else if b then Close else if nat_lt 0 (left_of_session p) then Send (min 1460 (left_of_session p)) else Nothing)
     (ends_exactly p h)
-    ∙ ap (λ (b : Bool). if is_given_up p then Abort else if talks.whole p.heard p.captures && all_acknowledged p then Close
-    else if b then Send (min 1460 (left_of_talk p)) else Nothing) (left_exactly p.acked (length (talk p)))
+    ∙ ap (λ (b : Bool). if is_given_up p then Abort else if sessions.whole p.delivered p.captures && all_acknowledged p then Close
+    else if b then Send (min 1460 (left_of_session p)) else Nothing) (left_exactly p.acked (length (session p)))
 
 -- ---- when a capture is taken
 
-stops_exactly : (p : Part) → is_stopped p ≡ capture_comes_next p
+stops_exactly : (p : AppState) → is_stopped p ≡ capture_comes_next p
 stops_exactly p = same_tests (is_stopped p) (capture_comes_next p)
     (λ e. let both = and_parts (all_acknowledged p) (not (is_settled p)) e in
-    and_from (all_acknowledged p) (nat_lt (length p.captures) (needed (commands_in p.heard))) both.0
+    and_from (all_acknowledged p) (nat_lt (length p.captures) (needed (commands_in p.delivered))) both.0
     (missing p both.0 both.1))
-    (λ e. let both = and_parts (all_acknowledged p) (nat_lt (length p.captures) (needed (commands_in p.heard))) e in
+    (λ e. let both = and_parts (all_acknowledged p) (nat_lt (length p.captures) (needed (commands_in p.delivered))) e in
     and_from (all_acknowledged p) (not (is_settled p)) both.0 (waits_yet p both.1))
   where
     by_less : (n m : ℕ) → (nat_le n m ≡ true → ⊥) → nat_lt m n ≡ true
@@ -111,21 +111,21 @@ stops_exactly p = same_tests (is_stopped p) (capture_comes_next p)
     not_true true e f = cc
     not_true false e f = cc
 
-    missing : (p : Part) → all_acknowledged p ≡ true → not (is_settled p) ≡ true → nat_lt (length p.captures) (needed (commands_in p.heard)) ≡ true
+    missing : (p : AppState) → all_acknowledged p ≡ true → not (is_settled p) ≡ true → nat_lt (length p.captures) (needed (commands_in p.delivered)) ≡ true
     missing p a s =
-        by_less (needed (commands_in p.heard)) (length p.captures)
-        (λ h. not_true (is_settled p) s (settles p (eqb-true p.acked (length (talk p)) a) h))
+        by_less (needed (commands_in p.delivered)) (length p.captures)
+        (λ h. not_true (is_settled p) s (settles p (eqb-true p.acked (length (session p)) a) h))
 
     from_not : (b : Bool) → (b ≡ true → ⊥) → not b ≡ true
     from_not true f = absurd (f refl)
     from_not false f = refl
 
-    waits_yet : (p : Part) → nat_lt (length p.captures) (needed (commands_in p.heard)) ≡ true → not (is_settled p) ≡ true
+    waits_yet : (p : AppState) → nat_lt (length p.captures) (needed (commands_in p.delivered)) ≡ true → not (is_settled p) ≡ true
     waits_yet p l =
-        from_not (is_settled p) (λ s. let told = (said_of p s).told in let less = ltb-true (length p.captures) (needed (commands_in p.heard)) l in omega (arith, told, less))
+        from_not (is_settled p) (λ s. let told = (said_of p s).told in let less = ltb-true (length p.captures) (needed (commands_in p.delivered)) l in omega (arith, told, less))
 
-prepares_exactly : (numbers : List ℕ) (p : Part) (now : Now)
-    → shell_meaning.prepare numbers p now ≡ (if capture_comes_next p then take_capture numbers p now else p)
+prepares_exactly : (numbers : List ℕ) (p : AppState) (now : Now)
+    → shell_spec.prepare numbers p now ≡ (if capture_comes_next p then take_capture numbers p now else p)
 prepares_exactly numbers p now = ap (λ (b : Bool). if b then take_capture numbers p now else p) (stops_exactly p)
 
 -- ---- commands that come wait
@@ -137,15 +137,15 @@ either_waits : (b : Bool) (x y z : List Command) → x ≡ z → y ≡ z → (if
 either_waits true x y z e f = e
 either_waits false x y z e f = f
 
-all_wait : (ds : List Command) (ks : List Moment) → unfinished ds ks 0 ≡ ds
+all_wait : (ds : List Command) (ks : List Snapshot) → unfinished ds ks 0 ≡ ds
 all_wait [] ks = refl
 all_wait (d ∷ ds) [] =
     either_waits (needs_capture d) (d ∷ ds) (behind (said_plainly d) 0 (λ n. unfinished ds [] n) (d ∷ ds)) (d ∷ ds) refl
     (none_past (said_plainly d) (λ n. unfinished ds [] n) (d ∷ ds) (said_some d _))
 all_wait (d ∷ ds) (k ∷ ks) =
-    either_waits (needs_capture d) (behind (said_at d k) 0 (λ n. unfinished ds ks n) (d ∷ ds))
+    either_waits (needs_capture d) (behind (sent_at d k) 0 (λ n. unfinished ds ks n) (d ∷ ds))
     (behind (said_plainly d) 0 (λ n. unfinished ds (k ∷ ks) n) (d ∷ ds)) (d ∷ ds)
-    (none_past (said_at d k) (λ n. unfinished ds ks n) (d ∷ ds) (said_some d _))
+    (none_past (sent_at d k) (λ n. unfinished ds ks n) (d ∷ ds) (said_some d _))
     (none_past (said_plainly d) (λ n. unfinished ds (k ∷ ks) n) (d ∷ ds) (said_some d _))
 
 past_or_not : (s : List ℕ) (bytes : ℕ) (more less : ℕ → List Command) (c : Command) (cs ds : List Command)
@@ -177,16 +177,16 @@ each_join true t w s x bytes more less more' less' c cs ds h f g =
 each_join false t w s x bytes more less more' less' c cs ds h f g =
     let size = length-append s x in past_or_not s bytes more' less' c cs ds (λ k. g k (omega (arith, size, h, k)))
 
-unfinished_joins : (cs ds : List Command) (ks : List Moment) (bytes : ℕ) → bytes ≤ length (transcript cs ks)
+unfinished_joins : (cs ds : List Command) (ks : List Snapshot) (bytes : ℕ) → bytes ≤ length (transcript cs ks)
     → unfinished (cs ++ ds) ks bytes ≡ unfinished cs ks bytes ++ ds
 unfinished_joins [] ds ks bytes h = ap (λ (n : ℕ). unfinished ds ks n) (let z : bytes ≡ 0 = omega (arith, h) in z) ∙ all_wait ds ks
 unfinished_joins (c ∷ cs) ds [] bytes h =
     plain_join (needs_capture c) (said_plainly c) (transcript cs []) bytes (λ n. unfinished (cs ++ ds) [] n) (λ n. unfinished cs [] n) c cs ds h
     (λ f g. unfinished_joins cs ds [] (bytes - length (said_plainly c)) g)
 unfinished_joins (c ∷ cs) ds (k ∷ ks) bytes h =
-    each_join (needs_capture c) (said_at c k) (transcript cs ks) (said_plainly c) (transcript cs (k ∷ ks)) bytes
+    each_join (needs_capture c) (sent_at c k) (transcript cs ks) (said_plainly c) (transcript cs (k ∷ ks)) bytes
     (λ n. unfinished (cs ++ ds) ks n) (λ n. unfinished cs ks n) (λ n. unfinished (cs ++ ds) (k ∷ ks) n) (λ n. unfinished cs (k ∷ ks) n) c cs ds h
-    (λ f g. unfinished_joins cs ds ks (bytes - length (said_at c k)) g)
+    (λ f g. unfinished_joins cs ds ks (bytes - length (sent_at c k)) g)
     (λ f g. unfinished_joins cs ds (k ∷ ks) (bytes - length (said_plainly c)) g)
 
 -- ---- a byte brings one command at most
@@ -226,53 +226,53 @@ none_or : (b : Bool) (cs : List Command) → length cs ≤ 1 → length (if b th
 none_or true cs h = omega arith
 none_or false cs h = h
 
-one_comes : (heard : List ℕ) (byte : ℕ) → length (further heard (byte ∷ [])) ≤ 1
-one_comes heard byte =
-    let ts : List Token = tokens (awaits_after Text heard) (byte ∷ []) in
-    let short : length (tokens (awaits_after Text heard) (byte ∷ [])) ≤ 1 =
-    (let e : length (tokens (awaits_after Text heard) (byte ∷ [])) ≡ length (told (awaits_after Text heard) byte) =
-    ap (λ (us : List Token). length us) (append-nil (told (awaits_after Text heard) byte)) in
-    let f = one_told (awaits_after Text heard) byte in omega (arith, e, f)) in
-    let few = few_commands (line_after [] (tokens Text heard)) (tokens (awaits_after Text heard) (byte ∷ [])) in
-    let counts = few_count (commands (line_after [] (tokens Text heard)) (tokens (awaits_after Text heard) (byte ∷ []))) in
-    none_or (has_quit (commands [] (tokens Text heard))) (until_quit (commands (line_after [] (tokens Text heard)) (tokens (awaits_after Text heard) (byte ∷ []))))
+one_comes : (delivered : List ℕ) (byte : ℕ) → length (further delivered (byte ∷ [])) ≤ 1
+one_comes delivered byte =
+    let ts : List Token = tokens (awaits_after Text delivered) (byte ∷ []) in
+    let short : length (tokens (awaits_after Text delivered) (byte ∷ [])) ≤ 1 =
+    (let e : length (tokens (awaits_after Text delivered) (byte ∷ [])) ≡ length (told (awaits_after Text delivered) byte) =
+    ap (λ (us : List Token). length us) (append-nil (told (awaits_after Text delivered) byte)) in
+    let f = one_told (awaits_after Text delivered) byte in omega (arith, e, f)) in
+    let few = few_commands (line_after [] (tokens Text delivered)) (tokens (awaits_after Text delivered) (byte ∷ [])) in
+    let counts = few_count (commands (line_after [] (tokens Text delivered)) (tokens (awaits_after Text delivered) (byte ∷ []))) in
+    none_or (has_quit (commands [] (tokens Text delivered))) (until_quit (commands (line_after [] (tokens Text delivered)) (tokens (awaits_after Text delivered) (byte ∷ []))))
     (omega (arith, short, few, counts))
 
 -- ---- when it is given up
 
-waits_more : (p : Part) (byte : ℕ) → p.acked ≤ length (talk p) → length (waiting (with_byte p byte)) ≡ length (waiting p) + length (further p.heard (byte ∷ []))
+waits_more : (p : AppState) (byte : ℕ) → p.acked ≤ length (session p) → length (waiting (with_byte p byte)) ≡ length (waiting p) + length (further p.delivered (byte ∷ []))
 waits_more p byte h =
-    ap (λ (cs : List Command). length (unfinished cs p.captures p.acked)) (commands_grow p.heard (byte ∷ []))
-    ∙ ap (λ (cs : List Command). length cs) (unfinished_joins (commands_in p.heard) (further p.heard (byte ∷ [])) p.captures p.acked h)
-    ∙ length-append (waiting p) (further p.heard (byte ∷ []))
+    ap (λ (cs : List Command). length (unfinished cs p.captures p.acked)) (commands_grow p.delivered (byte ∷ []))
+    ∙ ap (λ (cs : List Command). length cs) (unfinished_joins (commands_in p.delivered) (further p.delivered (byte ∷ [])) p.captures p.acked h)
+    ∙ length-append (waiting p) (further p.delivered (byte ∷ []))
 
-counts_more : (p : Part) (byte : ℕ) → length (commands_in (p.heard ++ byte ∷ [])) ≡ length (commands_in p.heard) + length (further p.heard (byte ∷ []))
+counts_more : (p : AppState) (byte : ℕ) → length (commands_in (p.delivered ++ byte ∷ [])) ≡ length (commands_in p.delivered) + length (further p.delivered (byte ∷ []))
 counts_more p byte =
-    ap (λ (cs : List Command). length cs) (commands_grow p.heard (byte ∷ [])) ∙ length-append (commands_in p.heard) (further p.heard (byte ∷ []))
+    ap (λ (cs : List Command). length cs) (commands_grow p.delivered (byte ∷ [])) ∙ length-append (commands_in p.delivered) (further p.delivered (byte ∷ []))
 
-too_many : (p : Part) (byte : ℕ) → p.acked ≤ length (talk p) → length (waiting p) ≤ 32
+too_many : (p : AppState) (byte : ℕ) → p.acked ≤ length (session p) → length (waiting p) ≤ 32
     → nat_lt 32 (length (waiting (with_byte p byte))) ≡ (completes p byte && (length (waiting p) == 32))
 too_many p byte h room =
     let more = waits_more p byte h in
     let count = counts_more p byte in
-    let one = one_comes p.heard byte in
+    let one = one_comes p.delivered byte in
     same_tests (nat_lt 32 (length (waiting (with_byte p byte)))) (completes p byte && (length (waiting p) == 32))
     (λ e. let many = ltb-true 32 (length (waiting (with_byte p byte))) e in
     and_from (completes p byte) (length (waiting p) == 32)
-    (lt-ltb (length (commands_in p.heard)) (length (commands_in (p.heard ++ byte ∷ []))) (omega (arith, more, count, room, many)))
+    (lt-ltb (length (commands_in p.delivered)) (length (commands_in (p.delivered ++ byte ∷ []))) (omega (arith, more, count, room, many)))
     (eq-eqb (length (waiting p)) 32 (omega (arith, more, one, room, many))))
     (λ e. let both = and_parts (completes p byte) (length (waiting p) == 32) e in
-    let comes = ltb-true (length (commands_in p.heard)) (length (commands_in (p.heard ++ byte ∷ []))) both.0 in
+    let comes = ltb-true (length (commands_in p.delivered)) (length (commands_in (p.delivered ++ byte ∷ []))) both.0 in
     let full = eqb-true (length (waiting p)) 32 both.1 in
     lt-ltb 32 (length (waiting (with_byte p byte))) (omega (arith, more, count, comes, full)))
 
-loses_exactly : (p : Part) (byte : ℕ) → p.acked ≤ length (talk p) → length (waiting p) ≤ 32
+loses_exactly : (p : AppState) (byte : ℕ) → p.acked ≤ length (session p) → length (waiting p) ≤ 32
     → hear_byte p byte
     ≡ (if p.own == 1 then p else if completes p byte && (length (waiting p) == 32) then record p { own = 1 } else with_byte p byte)
 loses_exactly p byte h room =
     ap (λ (b : Bool). if p.own == 1 then p else if b then record p { own = 1 } else with_byte p byte) (too_many p byte h room)
 
-room_by : (p : Part) (byte : ℕ) (lost full : Bool) → length (waiting p) ≤ 32 → nat_lt 32 (length (waiting (with_byte p byte))) ≡ full
+room_by : (p : AppState) (byte : ℕ) (lost full : Bool) → length (waiting p) ≤ 32 → nat_lt 32 (length (waiting (with_byte p byte))) ≡ full
     → length (waiting (if lost then p else if full then record p { own = 1 } else with_byte p byte)) ≤ 32
 room_by p byte true full h e = h
 room_by p byte false true h e = h

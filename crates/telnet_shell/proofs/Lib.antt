@@ -1,4 +1,4 @@
-pub mod WorkedTalks
+pub mod WorkedSessions
 pub mod Opening
 pub mod Advancing
 pub mod Standing
@@ -7,9 +7,9 @@ pub mod Asking
 pub mod DeskParts
 pub mod TwoApplications
 pub mod DeskSteady
-pub mod TalkBytes
+pub mod SessionBytes
 pub mod DeskLines
-pub mod TalkLaws
+pub mod SessionLaws
 pub mod ExactLaws
 pub mod SequenceLaws
 pub mod TwoBytes

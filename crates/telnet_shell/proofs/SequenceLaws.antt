@@ -6,7 +6,7 @@ use Rattle.telnet_shell.specs.Reading.Awaits.{Text, Second, Choice}
 use Rattle.telnet_shell.specs.Reading.Token.{Byte}
 use Rattle.telnet_shell.specs.Sequences.{ReadsSequences}
 
--- behind 255, a byte that is neither 255 nor a verb
+-- after 255, a byte that is neither 255 nor a verb
 plain_second : (x : ℕ) (rest : List ℕ) → x < 251 → tokens Second (x ∷ rest) ≡ tokens Text rest
 plain_second x rest h =
     ap (λ (b : Bool). (if b then Byte 255 ∷ [] else []) ++ tokens (if nat_le 251 x && nat_le x 254 then Choice x else Text) rest)

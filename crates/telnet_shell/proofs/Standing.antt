@@ -1,17 +1,17 @@
--- A shell hears a byte.
+-- A shell receives a byte.
 use Rattle.std.proofs.Common.{◌≡◌, ℕ, ◌+◌, ◌==◌, ◌≤◌, ◌<◌, Bool, true, false, ◌||◌, List, [], ◌∷◌, ◌++◌, length, nat_lt, if◌then◌else◌, refl, sym, ap, subst, ◌∙◌, arith, append-nil, length-append, true≢false}
 use Rattle.std.proofs.lemmas.Bool.{le-ltb, lt-ltb, eqb-true, eqb-false}
-use Rattle.app_events.specs.Part.{Part}
+use Rattle.app_events.specs.AppSpec.{AppState}
 use Rattle.telnet_shell.specs.declared.command.Command.{Command}
 use Rattle.telnet_shell.specs.State.{Shell}
 use Rattle.telnet_shell.specs.Reading.{all_commands, commands_in, commands, tokens, told, awaits_after, line_after, has_quit, is_quit, until_quit}
 use Rattle.telnet_shell.specs.Reading.Awaits.{Text}
 use Rattle.telnet_shell.specs.Hearing.{IsOpen}
-use Rattle.telnet_shell.specs.Saying.{IsBehind, IsInFront}
+use Rattle.telnet_shell.specs.Saying.{IsTrailing, IsLeading}
 use Rattle.telnet_shell.specs.Lemmas.Growing.{until_quit_joined}
 use Rattle.telnet_shell.specs.Lemmas.Speaking.{waiting_is}
 use Rattle.telnet_shell.specs.ShellMeaning.{waiting, with_byte, hear_byte}
-use Rattle.telnet_shell.specs.ShellStands.{ShellStands}
+use Rattle.telnet_shell.specs.ShellRepresents.{ShellRepresents}
 use Rattle.telnet_shell.proofs.Opening.{commands_one}
 use Rattle.telnet_shell.proofs.Advancing.{come}
 
@@ -19,21 +19,21 @@ one_or_none : (b : Bool) → ((if b then 1 else 0) == 1) ≡ b
 one_or_none true = refl
 one_or_none false = refl
 
-pub own_is : (a : Shell) (p : Part) → ShellStands a p → (p.own == 1) ≡ a.lost
+pub own_is : (a : Shell) (p : AppState) → ShellRepresents a p → (p.own == 1) ≡ a.lost
 own_is a p s = ap (λ (n : ℕ). n == 1) s.lost ∙ one_or_none a.lost
 
 -- what a byte does that is not looked at
-pub hear_lost : (a : Shell) (p : Part) (byte : ℕ) → a.lost ≡ true → ShellStands a p → ShellStands a (hear_byte p byte)
+pub hear_lost : (a : Shell) (p : AppState) (byte : ℕ) → a.lost ≡ true → ShellRepresents a p → ShellRepresents a (hear_byte p byte)
 hear_lost a p byte lost s =
-    subst (λ (q : Part). ShellStands a q) (sym (ap (λ (b : Bool). if b then p else if nat_lt 32 (length (waiting (with_byte p byte))) then record p { own = 1 } else with_byte p byte) (own_is a p s ∙ lost))) s
+    subst (λ (q : AppState). ShellRepresents a q) (sym (ap (λ (b : Bool). if b then p else if nat_lt 32 (length (waiting (with_byte p byte))) then record p { own = 1 } else with_byte p byte) (own_is a p s ∙ lost))) s
 
-hears_it : (a : Shell) (p : Part) (byte : ℕ) (queue : List Command) → a.lost ≡ false → ShellStands a p → waiting (with_byte p byte) ≡ queue → length queue ≤ 32 → hear_byte p byte ≡ with_byte p byte
+hears_it : (a : Shell) (p : AppState) (byte : ℕ) (queue : List Command) → a.lost ≡ false → ShellRepresents a p → waiting (with_byte p byte) ≡ queue → length queue ≤ 32 → hear_byte p byte ≡ with_byte p byte
 hears_it a p byte queue lost s w h =
     ap (λ (b : Bool). if b then p else if nat_lt 32 (length (waiting (with_byte p byte))) then record p { own = 1 } else with_byte p byte) (own_is a p s ∙ lost)
     ∙ ap (λ (cs : List Command). if nat_lt 32 (length cs) then record p { own = 1 } else with_byte p byte) w
     ∙ ap (λ (b : Bool). if b then record p { own = 1 } else with_byte p byte) (le-ltb 32 (length queue) h)
 
-gives_up : (a : Shell) (p : Part) (byte : ℕ) (queue : List Command) → a.lost ≡ false → ShellStands a p → waiting (with_byte p byte) ≡ queue → 32 < length queue → hear_byte p byte ≡ record p { own = 1 }
+gives_up : (a : Shell) (p : AppState) (byte : ℕ) (queue : List Command) → a.lost ≡ false → ShellRepresents a p → waiting (with_byte p byte) ≡ queue → 32 < length queue → hear_byte p byte ≡ record p { own = 1 }
 gives_up a p byte queue lost s w h =
     ap (λ (b : Bool). if b then p else if nat_lt 32 (length (waiting (with_byte p byte))) then record p { own = 1 } else with_byte p byte) (own_is a p s ∙ lost)
     ∙ ap (λ (cs : List Command). if nat_lt 32 (length cs) then record p { own = 1 } else with_byte p byte) w
@@ -48,33 +48,33 @@ quit_joins (x ∷ xs) ys = by_quit (is_quit x) (quit_joins xs ys)
     by_quit false e = e
 
 -- the commands that count, by those that a byte brings
-counted : (heard : List ℕ) (byte : ℕ) (cs : List Command) → cs ≡ commands (line_after [] (tokens Text heard)) (told (awaits_after Text heard) byte)
-    → commands_in (heard ++ byte ∷ []) ≡ commands_in heard ++ (if has_quit (all_commands heard) then [] else until_quit cs)
-counted heard byte cs e =
-    ap (λ (ds : List Command). until_quit ds) (commands_one heard byte ∙ ap (λ (ds : List Command). all_commands heard ++ ds) (sym e))
-    ∙ until_quit_joined (all_commands heard) cs
+counted : (delivered : List ℕ) (byte : ℕ) (cs : List Command) → cs ≡ commands (line_after [] (tokens Text delivered)) (told (awaits_after Text delivered) byte)
+    → commands_in (delivered ++ byte ∷ []) ≡ commands_in delivered ++ (if has_quit (all_commands delivered) then [] else until_quit cs)
+counted delivered byte cs e =
+    ap (λ (ds : List Command). until_quit ds) (commands_one delivered byte ∙ ap (λ (ds : List Command). all_commands delivered ++ ds) (sym e))
+    ∙ until_quit_joined (all_commands delivered) cs
 
-quits : (heard : List ℕ) (byte : ℕ) (cs : List Command) → cs ≡ commands (line_after [] (tokens Text heard)) (told (awaits_after Text heard) byte)
-    → has_quit (all_commands (heard ++ byte ∷ [])) ≡ (has_quit (all_commands heard) || has_quit cs)
-quits heard byte cs e =
-    ap (λ (ds : List Command). has_quit ds) (commands_one heard byte ∙ ap (λ (ds : List Command). all_commands heard ++ ds) (sym e))
-    ∙ quit_joins (all_commands heard) cs
+quits : (delivered : List ℕ) (byte : ℕ) (cs : List Command) → cs ≡ commands (line_after [] (tokens Text delivered)) (told (awaits_after Text delivered) byte)
+    → has_quit (all_commands (delivered ++ byte ∷ [])) ≡ (has_quit (all_commands delivered) || has_quit cs)
+quits delivered byte cs e =
+    ap (λ (ds : List Command). has_quit ds) (commands_one delivered byte ∙ ap (λ (ds : List Command). all_commands delivered ++ ds) (sym e))
+    ∙ quit_joins (all_commands delivered) cs
 
--- behind `quit` nothing counts
-pub hear_done : (a : Shell) (p : Part) (byte : ℕ) → a.lost ≡ false → a.done ≡ true → length a.queue ≤ 32 → ShellStands a p → ShellStands a (hear_byte p byte)
+-- after `quit` nothing counts
+pub hear_done : (a : Shell) (p : AppState) (byte : ℕ) → a.lost ≡ false → a.done ≡ true → length a.queue ≤ 32 → ShellRepresents a p → ShellRepresents a (hear_byte p byte)
 hear_done a p byte lost done room s =
-    let over : has_quit (all_commands p.heard) ≡ true = sym s.done ∙ done in
-    let cs : List Command = commands (line_after [] (tokens Text p.heard)) (told (awaits_after Text p.heard) byte) in
-    let none : commands_in (p.heard ++ byte ∷ []) ≡ commands_in p.heard ++ [] =
-    counted p.heard byte (commands (line_after [] (tokens Text p.heard)) (told (awaits_after Text p.heard) byte)) refl
-    ∙ ap (λ (b : Bool). commands_in p.heard ++ (if b then [] else until_quit (commands (line_after [] (tokens Text p.heard)) (told (awaits_after Text p.heard) byte)))) over in
+    let over : has_quit (all_commands p.delivered) ≡ true = sym s.done ∙ done in
+    let cs : List Command = commands (line_after [] (tokens Text p.delivered)) (told (awaits_after Text p.delivered) byte) in
+    let none : commands_in (p.delivered ++ byte ∷ []) ≡ commands_in p.delivered ++ [] =
+    counted p.delivered byte (commands (line_after [] (tokens Text p.delivered)) (told (awaits_after Text p.delivered) byte)) refl
+    ∙ ap (λ (b : Bool). commands_in p.delivered ++ (if b then [] else until_quit (commands (line_after [] (tokens Text p.delivered)) (told (awaits_after Text p.delivered) byte)))) over in
     let both = come a.queue [] a.capture a.at p byte none s.behind s.place in
-    let behind : IsBehind a.queue a.capture a.at (with_byte p byte) = subst (λ (q : List Command). IsBehind q a.capture a.at (with_byte p byte)) (append-nil a.queue) both.0 in
-    subst (λ (q : Part). ShellStands a q) (sym (hears_it a p byte a.queue lost s (waiting_is a.queue a.capture a.at (with_byte p byte) behind s.place) room)) (record {
+    let behind : IsTrailing a.queue a.capture a.at (with_byte p byte) = subst (λ (q : List Command). IsTrailing q a.capture a.at (with_byte p byte)) (append-nil a.queue) both.0 in
+    subst (λ (q : AppState). ShellRepresents a q) (sym (hears_it a p byte a.queue lost s (waiting_is a.queue a.capture a.at (with_byte p byte) behind s.place) room)) (record {
       polls = s.polls;
       lost = s.lost;
-      done = done ∙ sym (quits p.heard byte (commands (line_after [] (tokens Text p.heard)) (told (awaits_after Text p.heard) byte)) refl
-          ∙ ap (λ (b : Bool). b || has_quit (commands (line_after [] (tokens Text p.heard)) (told (awaits_after Text p.heard) byte))) over);
+      done = done ∙ sym (quits p.delivered byte (commands (line_after [] (tokens Text p.delivered)) (told (awaits_after Text p.delivered) byte)) refl
+          ∙ ap (λ (b : Bool). b || has_quit (commands (line_after [] (tokens Text p.delivered)) (told (awaits_after Text p.delivered) byte))) over);
       hears = λ e. elim (true≢false (sym (either a.lost a.done done) ∙ e)) [ ];
       behind = behind;
       place = s.place;
@@ -88,74 +88,74 @@ is_open : (a : Shell) → a.lost ≡ false → a.done ≡ false → (a.lost || a
 is_open a lost done = ap (λ (b : Bool). b || a.done) lost ∙ done
 
 -- no command comes
-pub hear_none : (a : Shell) (p : Part) (byte : ℕ) (kept : List ℕ) (over : Bool) (iac : List ℕ) → a.lost ≡ false → a.done ≡ false → length a.queue ≤ 32
-    → ((heard : List ℕ) → IsOpen a.line a.over a.iac heard → IsOpen kept over iac (heard ++ byte ∷ []))
-    → ((heard : List ℕ) → IsOpen a.line a.over a.iac heard → [] ≡ commands (line_after [] (tokens Text heard)) (told (awaits_after Text heard) byte))
-    → ShellStands a p → ShellStands (record a { line = kept; over = over; iac = iac }) (hear_byte p byte)
-hear_none a p byte kept over iac lost done room goes brings s =
-    let heard = s.hears (is_open a lost done) in
-    let going : has_quit (all_commands p.heard) ≡ false = sym s.done ∙ done in
-    let none : commands_in (p.heard ++ byte ∷ []) ≡ commands_in p.heard ++ [] =
-    counted p.heard byte [] (brings p.heard heard) ∙ ap (λ (b : Bool). commands_in p.heard ++ (if b then [] else [])) going in
+pub hear_none : (a : Shell) (p : AppState) (byte : ℕ) (kept : List ℕ) (over : Bool) (iac : List ℕ) → a.lost ≡ false → a.done ≡ false → length a.queue ≤ 32
+    → ((delivered : List ℕ) → IsOpen a.line a.over a.iac delivered → IsOpen kept over iac (delivered ++ byte ∷ []))
+    → ((delivered : List ℕ) → IsOpen a.line a.over a.iac delivered → [] ≡ commands (line_after [] (tokens Text delivered)) (told (awaits_after Text delivered) byte))
+    → ShellRepresents a p → ShellRepresents (record a { line = kept; over = over; iac = iac }) (hear_byte p byte)
+hear_none a p byte kept over iac lost done room goes decodes s =
+    let delivered = s.hears (is_open a lost done) in
+    let going : has_quit (all_commands p.delivered) ≡ false = sym s.done ∙ done in
+    let none : commands_in (p.delivered ++ byte ∷ []) ≡ commands_in p.delivered ++ [] =
+    counted p.delivered byte [] (decodes p.delivered delivered) ∙ ap (λ (b : Bool). commands_in p.delivered ++ (if b then [] else [])) going in
     let both = come a.queue [] a.capture a.at p byte none s.behind s.place in
-    let behind : IsBehind a.queue a.capture a.at (with_byte p byte) = subst (λ (q : List Command). IsBehind q a.capture a.at (with_byte p byte)) (append-nil a.queue) both.0 in
-    subst (λ (q : Part). ShellStands (record a { line = kept; over = over; iac = iac }) q) (sym (hears_it a p byte a.queue lost s (waiting_is a.queue a.capture a.at (with_byte p byte) behind s.place) room)) (record {
+    let behind : IsTrailing a.queue a.capture a.at (with_byte p byte) = subst (λ (q : List Command). IsTrailing q a.capture a.at (with_byte p byte)) (append-nil a.queue) both.0 in
+    subst (λ (q : AppState). ShellRepresents (record a { line = kept; over = over; iac = iac }) q) (sym (hears_it a p byte a.queue lost s (waiting_is a.queue a.capture a.at (with_byte p byte) behind s.place) room)) (record {
       polls = s.polls;
       lost = s.lost;
-      done = done ∙ sym (quits p.heard byte [] (brings p.heard heard) ∙ ap (λ (b : Bool). b || false) going);
-      hears = λ e. goes p.heard heard;
+      done = done ∙ sym (quits p.delivered byte [] (decodes p.delivered delivered) ∙ ap (λ (b : Bool). b || false) going);
+      hears = λ e. goes p.delivered delivered;
       behind = behind;
       place = s.place;
     })
 
 -- a command comes, and the queue is full
-pub hear_full : (a : Shell) (p : Part) (byte : ℕ) (c : Command) (kept : List ℕ) (over : Bool) (iac : List ℕ) → a.lost ≡ false → a.done ≡ false
+pub hear_full : (a : Shell) (p : AppState) (byte : ℕ) (c : Command) (kept : List ℕ) (over : Bool) (iac : List ℕ) → a.lost ≡ false → a.done ≡ false
     → (full : Bool) → full ≡ true → full ≡ (length a.queue == 32)
-    → ((heard : List ℕ) → IsOpen a.line a.over a.iac heard → c ∷ [] ≡ commands (line_after [] (tokens Text heard)) (told (awaits_after Text heard) byte))
-    → ShellStands a p → ShellStands (record a { line = kept; over = over; iac = iac; lost = true }) (hear_byte p byte)
-hear_full a p byte c kept over iac lost done full is count brings s =
-    let heard = s.hears (is_open a lost done) in
-    let going : has_quit (all_commands p.heard) ≡ false = sym s.done ∙ done in
-    let one : commands_in (p.heard ++ byte ∷ []) ≡ commands_in p.heard ++ until_quit (c ∷ []) =
-    counted p.heard byte (c ∷ []) (brings p.heard heard) ∙ ap (λ (b : Bool). commands_in p.heard ++ (if b then [] else until_quit (c ∷ []))) going in
+    → ((delivered : List ℕ) → IsOpen a.line a.over a.iac delivered → c ∷ [] ≡ commands (line_after [] (tokens Text delivered)) (told (awaits_after Text delivered) byte))
+    → ShellRepresents a p → ShellRepresents (record a { line = kept; over = over; iac = iac; lost = true }) (hear_byte p byte)
+hear_full a p byte c kept over iac lost done full is count decodes s =
+    let delivered = s.hears (is_open a lost done) in
+    let going : has_quit (all_commands p.delivered) ≡ false = sym s.done ∙ done in
+    let one : commands_in (p.delivered ++ byte ∷ []) ≡ commands_in p.delivered ++ until_quit (c ∷ []) =
+    counted p.delivered byte (c ∷ []) (decodes p.delivered delivered) ∙ ap (λ (b : Bool). commands_in p.delivered ++ (if b then [] else until_quit (c ∷ []))) going in
     let both = come a.queue (until_quit (c ∷ [])) a.capture a.at p byte one s.behind s.place in
     let size : length a.queue ≡ 32 = eqb-true (length a.queue) 32 (sym count ∙ is) in
-    subst (λ (q : Part). ShellStands (record a { line = kept; over = over; iac = iac; lost = true }) q)
+    subst (λ (q : AppState). ShellRepresents (record a { line = kept; over = over; iac = iac; lost = true }) q)
     (sym (gives_up a p byte (a.queue ++ until_quit (c ∷ [])) lost s (waiting_is (a.queue ++ until_quit (c ∷ [])) a.capture a.at (with_byte p byte) both.0 both.1)
     (omega (arith, size, length-append a.queue (until_quit (c ∷ [])))))) (record {
       polls = s.polls;
       lost = refl;
       done = s.done;
       hears = λ e. elim (true≢false e) [ ];
-      behind = record { before = s.behind.before; spoken = s.behind.spoken; front = s.behind.front; commands = s.behind.commands; captures = s.behind.captures; took = s.behind.took; acked = s.behind.acked; shows = s.behind.shows };
+      behind = record { before = s.behind.before; spoken = s.behind.spoken; prefix = s.behind.prefix; commands = s.behind.commands; captures = s.behind.captures; took = s.behind.took; acked = s.behind.acked; shows = s.behind.shows };
       place = s.place;
     })
 
 -- a command comes, and there is room
-pub hear_command : (a : Shell) (p : Part) (byte : ℕ) (c : Command) (kept : List ℕ) (over : Bool) (iac : List ℕ) (queue : List Command) (quit : Bool) → a.lost ≡ false → a.done ≡ false
+pub hear_command : (a : Shell) (p : AppState) (byte : ℕ) (c : Command) (kept : List ℕ) (over : Bool) (iac : List ℕ) (queue : List Command) (quit : Bool) → a.lost ≡ false → a.done ≡ false
     → (full : Bool) → full ≡ false → full ≡ (length a.queue == 32) → length a.queue ≤ 32
-    → ((heard : List ℕ) → IsOpen a.line a.over a.iac heard → IsOpen kept over iac (heard ++ byte ∷ []))
-    → ((heard : List ℕ) → IsOpen a.line a.over a.iac heard → c ∷ [] ≡ commands (line_after [] (tokens Text heard)) (told (awaits_after Text heard) byte))
+    → ((delivered : List ℕ) → IsOpen a.line a.over a.iac delivered → IsOpen kept over iac (delivered ++ byte ∷ []))
+    → ((delivered : List ℕ) → IsOpen a.line a.over a.iac delivered → c ∷ [] ≡ commands (line_after [] (tokens Text delivered)) (told (awaits_after Text delivered) byte))
     → queue ≡ a.queue ++ c ∷ [] → quit ≡ is_quit c
-    → ShellStands a p → ShellStands (record a { line = kept; over = over; iac = iac; queue = queue; done = quit }) (hear_byte p byte)
-hear_command a p byte c kept over iac queue quit lost done full is count room goes brings pushed quits_is s =
-    let heard = s.hears (is_open a lost done) in
-    let going : has_quit (all_commands p.heard) ≡ false = sym s.done ∙ done in
-    let one : commands_in (p.heard ++ byte ∷ []) ≡ commands_in p.heard ++ c ∷ [] =
-    counted p.heard byte (c ∷ []) (brings p.heard heard) ∙ ap (λ (b : Bool). commands_in p.heard ++ (if b then [] else until_quit (c ∷ []))) going
-    ∙ ap (λ (cs : List Command). commands_in p.heard ++ c ∷ cs) (nothing_more (is_quit c)) in
+    → ShellRepresents a p → ShellRepresents (record a { line = kept; over = over; iac = iac; queue = queue; done = quit }) (hear_byte p byte)
+hear_command a p byte c kept over iac queue quit lost done full is count room goes decodes pushed quits_is s =
+    let delivered = s.hears (is_open a lost done) in
+    let going : has_quit (all_commands p.delivered) ≡ false = sym s.done ∙ done in
+    let one : commands_in (p.delivered ++ byte ∷ []) ≡ commands_in p.delivered ++ c ∷ [] =
+    counted p.delivered byte (c ∷ []) (decodes p.delivered delivered) ∙ ap (λ (b : Bool). commands_in p.delivered ++ (if b then [] else until_quit (c ∷ []))) going
+    ∙ ap (λ (cs : List Command). commands_in p.delivered ++ c ∷ cs) (nothing_more (is_quit c)) in
     let both = come a.queue (c ∷ []) a.capture a.at p byte one s.behind s.place in
-    let behind : IsBehind queue a.capture a.at (with_byte p byte) = subst (λ (q : List Command). IsBehind q a.capture a.at (with_byte p byte)) (sym pushed) both.0 in
-    let place : IsInFront queue a.capture a.at = subst (λ (q : List Command). IsInFront q a.capture a.at) (sym pushed) both.1 in
+    let behind : IsTrailing queue a.capture a.at (with_byte p byte) = subst (λ (q : List Command). IsTrailing q a.capture a.at (with_byte p byte)) (sym pushed) both.0 in
+    let place : IsLeading queue a.capture a.at = subst (λ (q : List Command). IsLeading q a.capture a.at) (sym pushed) both.1 in
     let size : length queue ≤ 32 =
     (let e : length queue ≡ length a.queue + 1 = ap (λ (q : List Command). length q) pushed ∙ length-append a.queue (c ∷ []) in
     let d = eqb-false (length a.queue) 32 (sym count ∙ is) in omega (arith, e, d, room)) in
-    subst (λ (q : Part). ShellStands (record a { line = kept; over = over; iac = iac; queue = queue; done = quit }) q)
+    subst (λ (q : AppState). ShellRepresents (record a { line = kept; over = over; iac = iac; queue = queue; done = quit }) q)
     (sym (hears_it a p byte queue lost s (waiting_is queue a.capture a.at (with_byte p byte) behind place) size)) (record {
       polls = s.polls;
       lost = s.lost;
-      done = quits_is ∙ sym (quits p.heard byte (c ∷ []) (brings p.heard heard) ∙ ap (λ (b : Bool). b || has_quit (c ∷ [])) going ∙ only (is_quit c));
-      hears = λ e. goes p.heard heard;
+      done = quits_is ∙ sym (quits p.delivered byte (c ∷ []) (decodes p.delivered delivered) ∙ ap (λ (b : Bool). b || has_quit (c ∷ [])) going ∙ only (is_quit c));
+      hears = λ e. goes p.delivered delivered;
       behind = behind;
       place = place;
     })

@@ -1,16 +1,16 @@
 -- What the desk is at each of its ports.
 use Rattle.std.proofs.Common.{◌≡◌, ℕ, ◌==◌, true, false, List, refl, sym, ap, ◌∙◌, true≢false}
 use Rattle.uip_wire.specs.declared.port.TheConstants.{WEB_PORT}
-use Rattle.app_events.specs.Part.{Part, Meaning}
+use Rattle.app_events.specs.AppSpec.{AppState, AppSpec}
 use Rattle.site_image.specs.Files.{File}
 use Rattle.file_tree.specs.Site.{SiteContent}
-use Rattle.web_pages.specs.WebMeaning.{web_meaning}
+use Rattle.web_pages.specs.WebMeaning.{web_spec}
 use Rattle.telnet_shell.specs.declared.shell.TheConstants.{TELNET_PORT}
 use Rattle.telnet_shell.specs.declared.desk.Desk.{Desk}
 use Rattle.telnet_shell.specs.declared.desk.Desk.TheVariants as desk
-use Rattle.telnet_shell.specs.ShellMeaning.{shell_meaning}
-use Rattle.telnet_shell.specs.DeskMeaning.{meaning_at, desk_meaning}
-use Rattle.telnet_shell.specs.DeskStands.{DeskStands, at_web, at_shell}
+use Rattle.telnet_shell.specs.ShellMeaning.{shell_spec}
+use Rattle.telnet_shell.specs.DeskMeaning.{app_spec_at, desk_spec}
+use Rattle.telnet_shell.specs.DeskRepresents.{DeskRepresents, at_web, at_shell}
 use Rattle.telnet_shell.specs.Lemmas.DeskLaws.{KeepsPort, port_at}
 use Rattle.telnet_shell.specs.DeskPorts.{DoesAs, IsAtWeb, IsAtShell, IsTwoApplications}
 
@@ -20,27 +20,27 @@ is_web_port port e = ap (λ (n : ℕ). n == TELNET_PORT) e
 is_telnet_port : (port : ℕ) → port ≡ TELNET_PORT → (port == TELNET_PORT) ≡ true
 is_telnet_port port e = ap (λ (n : ℕ). n == TELNET_PORT) e
 
-does_as : (files : List File) (part : Part) (n : Meaning) → meaning_at files part.port ≡ n → DoesAs (desk_meaning files) n part
+does_as : (files : List File) (part : AppState) (n : AppSpec) → app_spec_at files part.port ≡ n → DoesAs (desk_spec files) n part
 does_as files part n e = record {
-  said = ap (λ (m : Meaning). m.said part) e;
-  connected = λ numbers. ap (λ (m : Meaning). m.connected numbers part.port) e;
-  newdata = λ numbers piece. ap (λ (m : Meaning). m.newdata numbers part piece) e;
-  prepare = λ numbers now. ap (λ (m : Meaning). m.prepare numbers part now) e;
-  want = λ numbers. ap (λ (m : Meaning). m.want numbers part) e;
-  acked = λ numbers count. ap (λ (m : Meaning). m.acked numbers part count) e;
-  polled = λ numbers. ap (λ (m : Meaning). m.polled numbers part) e;
-  ended = λ numbers how. ap (λ (m : Meaning). m.ended numbers part how) e;
+  output = ap (λ (m : AppSpec). m.output part) e;
+  connected = λ numbers. ap (λ (m : AppSpec). m.connected numbers part.port) e;
+  newdata = λ numbers piece. ap (λ (m : AppSpec). m.newdata numbers part piece) e;
+  prepare = λ numbers now. ap (λ (m : AppSpec). m.prepare numbers part now) e;
+  want = λ numbers. ap (λ (m : AppSpec). m.want numbers part) e;
+  acked = λ numbers count. ap (λ (m : AppSpec). m.acked numbers part count) e;
+  polled = λ numbers. ap (λ (m : AppSpec). m.polled numbers part) e;
+  ended = λ numbers how. ap (λ (m : AppSpec). m.ended numbers part how) e;
 }
 
-web_value : (a : Desk) (site : SiteContent) (part : Part) → (part.port == TELNET_PORT) ≡ false → DeskStands a site part → IsAtWeb a site part
+web_value : (a : Desk) (site : SiteContent) (part : AppState) → (part.port == TELNET_PORT) ≡ false → DeskRepresents a site part → IsAtWeb a site part
 web_value (desk.Web web) site part e s = record { web = web; is = refl; stands = s.stands }
 web_value (desk.Shell shell) site part e s = elim (true≢false (sym s.port ∙ e)) [ ]
 
-shell_value : (a : Desk) (site : SiteContent) (part : Part) → (part.port == TELNET_PORT) ≡ true → DeskStands a site part → IsAtShell a part
+shell_value : (a : Desk) (site : SiteContent) (part : AppState) → (part.port == TELNET_PORT) ≡ true → DeskRepresents a site part → IsAtShell a part
 shell_value (desk.Web web) site part e s = elim (true≢false (sym e ∙ s.port)) [ ]
 shell_value (desk.Shell shell) site part e s = record { shell = shell; is = refl; stands = s.stands }
 
-desk_port : (files : List File) → KeepsPort (desk_meaning files)
+desk_port : (files : List File) → KeepsPort (desk_spec files)
 desk_port files = record {
   connected = λ numbers port. (port_at files port).connected numbers port;
   newdata = λ numbers p piece. (port_at files p.port).newdata numbers p piece;
@@ -51,8 +51,8 @@ desk_port files = record {
 
 pub two_applications : IsTwoApplications
 two_applications = record {
-  web = λ files part e. does_as files part (web_meaning files) (at_web files part.port (is_web_port part.port e));
-  shell = λ files part e. does_as files part shell_meaning (at_shell files part.port (is_telnet_port part.port e));
+  web = λ files part e. does_as files part (web_spec files) (at_web files part.port (is_web_port part.port e));
+  shell = λ files part e. does_as files part shell_spec (at_shell files part.port (is_telnet_port part.port e));
   web_value = λ a site part e s. web_value a site part (is_web_port part.port e) s;
   shell_value = λ a site part e s. shell_value a site part (is_telnet_port part.port e) s;
   port = desk_port;

@@ -1,24 +1,24 @@
--- What the desk says is bytes, where its pages are and where it hears bytes.
+-- The desk sends bytes, if its pages are bytes and it receives bytes.
 use Rattle.std.proofs.Common.{ℕ, ◌==◌, Bool, true, false, List, if◌then◌else◌}
 use Rattle.site_image.specs.Files.{File}
-use Rattle.web_pages.specs.WebMeaning.{web_meaning}
-use Rattle.node_laws.specs.Speakers.{SaysBytes}
+use Rattle.web_pages.specs.WebMeaning.{web_spec}
+use Rattle.node_laws.specs.Speakers.{SendsBytes}
 use Rattle.telnet_shell.specs.declared.shell.TheConstants.{TELNET_PORT}
-use Rattle.telnet_shell.specs.DeskMeaning.{desk_meaning, meaning_at}
-use Rattle.telnet_shell.specs.ShellMeaning.{shell_meaning}
-use Rattle.telnet_shell.proofs.TalkBytes.{shell_bytes}
+use Rattle.telnet_shell.specs.DeskMeaning.{desk_spec, app_spec_at}
+use Rattle.telnet_shell.specs.ShellMeaning.{shell_spec}
+use Rattle.telnet_shell.proofs.SessionBytes.{shell_bytes}
 
-module _ (files : List File) (pages : SaysBytes (web_meaning files)) where
-  either_bytes : (shell : Bool) → SaysBytes (if shell then shell_meaning else web_meaning files)
+module _ (files : List File) (pages : SendsBytes (web_spec files)) where
+  either_bytes : (shell : Bool) → SendsBytes (if shell then shell_spec else web_spec files)
   either_bytes true = shell_bytes
   either_bytes false = pages
 
-  bytes_at : (port : ℕ) → SaysBytes (meaning_at files port)
+  bytes_at : (port : ℕ) → SendsBytes (app_spec_at files port)
   bytes_at port = either_bytes (port == TELNET_PORT)
 
-  pub desk_bytes : SaysBytes (desk_meaning files)
+  pub desk_bytes : SendsBytes (desk_spec files)
   desk_bytes = record {
-    said = λ p h k. (bytes_at p.port).said p h k;
+    output = λ p h k. (bytes_at p.port).output p h k;
     connected = λ numbers port. (bytes_at port).connected numbers port;
     newdata = λ numbers p piece h are. (bytes_at p.port).newdata numbers p piece h are;
     prepare = λ numbers p now h. (bytes_at p.port).prepare numbers p now h;

@@ -1,4 +1,4 @@
--- How far the shell has heard: what its fields tell of the bytes so far.
+-- How much the shell has received: its fields as functions of the bytes so far.
 use Rattle.std.specs.Prelude.{◌≡◌, ℕ, ◌==◌, Bool, List, [], ◌∷◌, length, take, nat_lt, slice_index, if◌then◌else◌, Option, None, Some}
 use Rattle.telnet_shell.specs.declared.TheConstants.{LONGEST_LINE}
 use Rattle.telnet_shell.specs.declared.command.Command.{Command}
@@ -24,12 +24,12 @@ abbrev pub command_in : Option Command → List Command
 command_in None = []
 command_in (Some command) = command ∷ []
 
--- the front of a line is kept, and whether there was more
+-- A prefix of a line is kept, and whether there was more.
 pub record IsLine (kept : List ℕ) (over : Bool) (line : List ℕ) : Type 0 where
-  pub front : kept ≡ take LONGEST_LINE line
+  pub prefix : kept ≡ take LONGEST_LINE line
   pub more : over ≡ nat_lt LONGEST_LINE (length line)
 
--- the sequence and the line that are open behind the bytes
-pub record IsOpen (kept : List ℕ) (over : Bool) (iac : List ℕ) (heard : List ℕ) : Type 0 where
-  pub awaits : awaited iac ≡ awaits_after Text heard
-  pub line : IsLine kept over (line_after [] (tokens Text heard))
+-- The sequence and the line that are open after the bytes.
+pub record IsOpen (kept : List ℕ) (over : Bool) (iac : List ℕ) (delivered : List ℕ) : Type 0 where
+  pub awaits : awaited iac ≡ awaits_after Text delivered
+  pub line : IsLine kept over (line_after [] (tokens Text delivered))

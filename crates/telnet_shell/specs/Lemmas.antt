@@ -1,4 +1,4 @@
--- What is proved of the definitions beside: it need not be believed.
+-- Proofs about the definitions of this crate. They need not be read.
 pub mod DeskLaws
 pub mod Growing
 pub mod SameLeft

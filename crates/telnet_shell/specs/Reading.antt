@@ -1,12 +1,12 @@
--- What a list of bytes says to the shell: the sequences of the telnet protocol (RFC 854) are taken out, the rest are lines, and
--- each line and each offer of an option is a command.
+-- The commands in a list of bytes. The sequences of the Telnet protocol (RFC 854) are removed, and the rest are lines. Each line and each
+-- offer of an option is a command.
 use Rattle.std.specs.Prelude.{ℕ, ◌==◌, ◌&&◌, Bool, true, false, List, [], ◌∷◌, ◌++◌, codes, nat_le, if◌then◌else◌}
 use Rattle.std.specs.Str.{bytes_eq}
 use Rattle.telnet_shell.specs.declared.hearing.TheConstants.{IAC, WILL, WONT, DO, DONT}
 use Rattle.telnet_shell.specs.declared.command.Command.{Command}
 use Rattle.telnet_shell.specs.declared.command.Command.TheVariants.{Refuse, Help, Stats, Conns, Ticks, Quit, Blank, Other}
 
--- what the next byte is: of the text, the second of a sequence, or the option that a verb speaks of
+-- The role of the next byte: text, the second byte of a sequence, or the option of a verb.
 pub data Awaits : Type 0 where
   Text : Awaits
   Second : Awaits
@@ -29,7 +29,7 @@ refusal verb option =
     else if verb == DO then Answer (Refuse WONT option) ∷ []
     else []
 
--- what a byte tells where it is awaited so
+-- the tokens of a byte in its role
 abbrev pub told : Awaits → ℕ → List Token
 told Text byte = if byte == IAC then [] else Byte byte ∷ []
 told Second byte = if byte == IAC then Byte IAC ∷ [] else []
@@ -39,7 +39,7 @@ abbrev pub tokens : Awaits → List ℕ → List Token
 tokens awaits [] = []
 tokens awaits (byte ∷ more) = told awaits byte ++ tokens (next_awaits awaits byte) more
 
--- what awaits the byte after these
+-- the role of the byte after these
 abbrev pub awaits_after : Awaits → List ℕ → Awaits
 awaits_after awaits [] = awaits
 awaits_after awaits (byte ∷ more) = awaits_after (next_awaits awaits byte) more
@@ -54,7 +54,7 @@ command_of line =
     else if bytes_eq line (codes "quit") then Quit
     else Other
 
--- the commands of tokens behind the front of a line; a line ends at LF, and a CR is dropped
+-- the commands of tokens after the start of a line; a line ends at LF, and a CR is dropped
 abbrev pub commands : List ℕ → List Token → List Command
 commands line [] = []
 commands line (Answer command ∷ more) = command ∷ commands line more
@@ -63,7 +63,7 @@ commands line (Byte byte ∷ more) =
     else if byte == 13 then commands line more
     else commands (line ++ byte ∷ []) more
 
--- the line that is open behind tokens
+-- the line that is open after tokens
 abbrev pub line_after : List ℕ → List Token → List ℕ
 line_after line [] = line
 line_after line (Answer command ∷ more) = line_after line more
@@ -76,7 +76,7 @@ abbrev pub is_quit : Command → Bool
 is_quit Quit = true
 is_quit _ = false
 
--- nothing behind `quit` counts
+-- nothing after `quit` counts
 abbrev pub until_quit : List Command → List Command
 until_quit [] = []
 until_quit (command ∷ more) = command ∷ (if is_quit command then [] else until_quit more)
@@ -85,10 +85,10 @@ abbrev pub has_quit : List Command → Bool
 has_quit [] = false
 has_quit (command ∷ more) = if is_quit command then true else has_quit more
 
--- all commands of what was heard
+-- all commands in the bytes
 abbrev pub all_commands : List ℕ → List Command
-all_commands heard = commands [] (tokens Text heard)
+all_commands delivered = commands [] (tokens Text delivered)
 
 -- those that count
 abbrev pub commands_in : List ℕ → List Command
-commands_in heard = until_quit (all_commands heard)
+commands_in delivered = until_quit (all_commands delivered)

@@ -1,10 +1,10 @@
--- What a queue of commands has still to say, where the capture of its front is held.
+-- The rest of the output of a queue of commands; a capture is held for the first, or is still to come.
 use Rattle.std.specs.Prelude.{◌≡◌, ℕ, ◌+◌, ◌<◌, ◌&&◌, Bool, true, false, not, List, [], ◌∷◌, ◌++◌, length, nat_le, if◌then◌else◌, Option, None, Some}
 use Rattle.script_lang.specs.declared.function.Function.{Function}
 use Rattle.generators.specs.Captures.{capture_of}
 use Rattle.generators.specs.declared.capture.Capture.{Capture}
 use Rattle.generators.specs.declared.capture.Capture.TheVariants.{Empty, Hits, Ticks, Net, Rows}
-use Rattle.app_events.specs.Part.{Part, Moment}
+use Rattle.app_events.specs.AppSpec.{AppState, Snapshot}
 use Rattle.telnet_shell.specs.declared.command.Command.{Command}
 use Rattle.telnet_shell.specs.Reading.{commands_in}
 use Rattle.telnet_shell.specs.Transcript.{function_of, needs_capture, said_with, transcript}
@@ -16,7 +16,7 @@ is_taken (Ticks ticks) = true
 is_taken (Net counters) = true
 is_taken (Rows rows) = true
 
--- the front waits for its capture
+-- The first command waits for its snapshot.
 abbrev pub stops_at : Command → Capture → Bool
 stops_at command capture = needs_capture command && not (is_taken capture)
 
@@ -24,51 +24,51 @@ abbrev pub left_said : List Command → Capture → List ℕ
 left_said [] capture = []
 left_said (command ∷ more) capture = if stops_at command capture then [] else said_with command capture ++ transcript more []
 
--- the function whose capture the front waits for
+-- the function whose snapshot the first command waits for
 abbrev pub due : List Command → Capture → Option Function
 due [] capture = None
 due (command ∷ more) capture = if stops_at command capture then Some (function_of command) else None
 
--- the length of the front's text
-abbrev pub front_size : List Command → Capture → ℕ
-front_size [] capture = 0
-front_size (command ∷ more) capture = if stops_at command capture then 0 else length (said_with command capture)
+-- the length of the text of the first command
+abbrev pub prefix_size : List Command → Capture → ℕ
+prefix_size [] capture = 0
+prefix_size (command ∷ more) capture = if stops_at command capture then 0 else length (said_with command capture)
 
--- so many bytes of the front are acknowledged, and not all
-abbrev pub IsInFront : List Command → Capture → ℕ → Type 0
-IsInFront [] capture at = at ≡ 0
-IsInFront (command ∷ more) capture at =
+-- This number of bytes of the first command is acknowledged, and not all.
+abbrev pub IsLeading : List Command → Capture → ℕ → Type 0
+IsLeading [] capture at = at ≡ 0
+IsLeading (command ∷ more) capture at =
     (stops_at command capture ≡ true → at ≡ 0) × (stops_at command capture ≡ false → at < length (said_with command capture))
 
--- the capture that is held is that of the front
-abbrev pub Shows : List Command → Capture → List Moment → Type 0
+-- The snapshot is that of the first command.
+abbrev pub Shows : List Command → Capture → List Snapshot → Type 0
 Shows queue capture [] = capture ≡ Empty
-Shows [] capture (moment ∷ more) = ⊥
-Shows (command ∷ rest) capture (moment ∷ more) =
-    (more ≡ []) × (needs_capture command ≡ true) × (capture ≡ capture_of (function_of command) 0 moment.now)
+Shows [] capture (snapshot ∷ more) = ⊥
+Shows (command ∷ rest) capture (snapshot ∷ more) =
+    (more ≡ []) × (needs_capture command ≡ true) × (capture ≡ capture_of (function_of command) 0 snapshot.now)
 
--- how many captures commands take
+-- the number of snapshots that commands take
 abbrev pub needed : List Command → ℕ
 needed [] = 0
 needed (command ∷ more) = if needs_capture command then needed more + 1 else needed more
 
--- What was said before the queue is acknowledged, and so many bytes of what the queue says.
-pub record IsBehind (queue : List Command) (capture : Capture) (at : ℕ) (part : Part) : Type 0 where
+-- Everything before the queue is acknowledged, and this number of bytes of the queue's output.
+pub record IsTrailing (queue : List Command) (capture : Capture) (at : ℕ) (part : AppState) : Type 0 where
   pub before : List Command
-  pub spoken : List Moment
-  pub front : List Moment
-  pub commands : commands_in part.heard ≡ before ++ queue
-  pub captures : part.captures ≡ spoken ++ front
+  pub spoken : List Snapshot
+  pub prefix : List Snapshot
+  pub commands : commands_in part.delivered ≡ before ++ queue
+  pub captures : part.captures ≡ spoken ++ prefix
   pub took : length spoken ≡ needed before
   pub acked : part.acked ≡ length (transcript before spoken) + at
-  pub shows : Shows queue capture front
+  pub shows : Shows queue capture prefix
 
--- the front's text is wholly among the first bytes
+-- The text of the first command is within the first bytes.
 abbrev pub is_past : List Command → Capture → ℕ → Bool
 is_past [] capture at = false
 is_past (command ∷ more) capture at = not (stops_at command capture) && nat_le (length (said_with command capture)) at
 
--- the front is dropped
+-- The first command is dropped.
 abbrev pub Passes : List Command → Capture → ℕ → List Command → Capture → ℕ → Type 0
 Passes [] capture at queue held place = ⊥
 Passes (command ∷ more) capture at queue held place =

@@ -1,5 +1,5 @@
--- What the shell says: the joined texts of its commands, each that needs a capture made from the next one. It stops before the
--- first such command that has none left.
+-- The output of the shell: the concatenated texts of its commands. Each command that needs a snapshot takes the next one. The output stops
+-- before the first such command without one.
 use Rattle.std.specs.Prelude.{ℕ, ◌-◌, Bool, List, [], ◌∷◌, ◌++◌, codes, length, nat_le, if◌then◌else◌}
 use Rattle.script_lang.specs.declared.function.Function.{Function}
 use Rattle.script_lang.specs.declared.function.Function.TheVariants as function
@@ -7,13 +7,13 @@ use Rattle.generators.specs.Captures.{capture_of}
 use Rattle.generators.specs.Text.{capture_text}
 use Rattle.generators.specs.declared.capture.Capture.{Capture}
 use Rattle.generators.specs.declared.capture.Capture.TheVariants.{Empty}
-use Rattle.app_events.specs.Part.{Moment}
+use Rattle.app_events.specs.AppSpec.{Snapshot}
 use Rattle.script_lang.specs.Functions.{takes_capture}
 use Rattle.telnet_shell.specs.declared.hearing.TheConstants.{IAC}
 use Rattle.telnet_shell.specs.declared.command.Command.{Command}
 use Rattle.telnet_shell.specs.declared.command.Command.TheVariants.{Refuse, Help, Stats, Conns, Ticks, Quit, Blank, Other}
 
--- the function whose capture a command shows; the others show none
+-- the function whose snapshot a command shows; the others show none
 abbrev pub function_of : Command → Function
 function_of Stats = function.NetStats
 function_of Conns = function.TcpConnections
@@ -23,7 +23,7 @@ function_of _ = function.Unknown
 abbrev pub needs_capture : Command → Bool
 needs_capture command = takes_capture (function_of command)
 
--- what a command says with its capture
+-- the text of a command with its record
 abbrev pub said_with : Command → Capture → List ℕ
 said_with (Refuse verb option) capture = IAC ∷ verb ∷ option ∷ []
 said_with Help capture = codes "help stats conns ticks quit\r\n> "
@@ -34,31 +34,31 @@ said_with Quit capture = codes "bye\r\n"
 said_with Blank capture = codes "> "
 said_with Other capture = codes "?\r\n> "
 
--- what a command that needs no capture says
+-- the text of a command that needs no snapshot
 abbrev pub said_plainly : Command → List ℕ
 said_plainly command = said_with command Empty
 
--- what a command says at a moment
-abbrev pub said_at : Command → Moment → List ℕ
-said_at command moment = said_with command (capture_of (function_of command) 0 moment.now)
+-- the text of a command with a snapshot
+abbrev pub sent_at : Command → Snapshot → List ℕ
+sent_at command snapshot = said_with command (capture_of (function_of command) 0 snapshot.now)
 
-abbrev pub transcript : List Command → List Moment → List ℕ
+abbrev pub transcript : List Command → List Snapshot → List ℕ
 transcript [] captures = []
 transcript (command ∷ more) [] = if needs_capture command then [] else said_plainly command ++ transcript more []
 transcript (command ∷ more) (capture ∷ later) =
-    if needs_capture command then said_at command capture ++ transcript more later
+    if needs_capture command then sent_at command capture ++ transcript more later
     else said_plainly command ++ transcript more (capture ∷ later)
 
--- what goes on with the bytes behind a text, where the text is wholly among them
+-- continues with the bytes after a text, if the text is within them
 abbrev pub behind : List ℕ → ℕ → (ℕ → List Command) → List Command → List Command
 behind text bytes goes_on stays = if nat_le (length text) bytes then goes_on (bytes - length text) else stays
 
--- the commands whose texts are not wholly among the first bytes
-abbrev pub unfinished : List Command → List Moment → ℕ → List Command
+-- the commands whose texts are not within the first bytes
+abbrev pub unfinished : List Command → List Snapshot → ℕ → List Command
 unfinished [] captures bytes = []
 unfinished (command ∷ more) [] bytes =
     if needs_capture command then command ∷ more
     else behind (said_plainly command) bytes (λ n. unfinished more [] n) (command ∷ more)
 unfinished (command ∷ more) (capture ∷ later) bytes =
-    if needs_capture command then behind (said_at command capture) bytes (λ n. unfinished more later n) (command ∷ more)
+    if needs_capture command then behind (sent_at command capture) bytes (λ n. unfinished more later n) (command ∷ more)
     else behind (said_plainly command) bytes (λ n. unfinished more (capture ∷ later) n) (command ∷ more)

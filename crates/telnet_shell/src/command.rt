@@ -1,7 +1,7 @@
-/// A command of a talk. An empty place of a queue holds the empty line.
+/// A command of a session. An unused slot of a queue holds the empty line.
 #[derive(Clone, Copy, Debug, Drop, PartialEq, Eq)]
 pub enum Command {
-    /// The answer to an offer of an option: the verb that refuses, and the option (RFC 854).
+    /// The reply to an offer of an option: the verb that refuses, and the option (RFC 854).
     Refuse(u8, u8),
     Help,
     Stats,

@@ -1,11 +1,11 @@
-//! The web server and the shell on one node: which of them speaks on a connection is told by the port at which it was opened.
+//! The web server and the shell on one node. The port at which a connection was opened determines its application.
 
 use crate::shell::Shell;
 use app_events::{App, Ending, Now, Want};
 use httpd::{Httpd, Web};
 use uip_wire::Port;
 
-/// The application on one connection: the shell where it was opened at port 23, and else the web server.
+/// The application on one connection: the shell if it was opened at port 23, else the web server.
 #[derive(Drop)]
 pub enum Desk {
     Web(Httpd),
@@ -14,21 +14,21 @@ pub enum Desk {
 
 impl App for Desk {
     ghost use Rattle.file_tree.specs.Site.{SiteContent, files_of};
-    ghost use Rattle.telnet_shell.specs.DeskMeaning.{desk_meaning, is_served_at};
+    ghost use Rattle.telnet_shell.specs.DeskMeaning.{desk_spec, is_served_at};
     ghost use Rattle.telnet_shell.specs.Lemmas.DeskLaws.{desk_lawful, desk_starts};
-    ghost use Rattle.telnet_shell.specs.DeskStands.{DeskStands, desk_same_left};
+    ghost use Rattle.telnet_shell.specs.DeskRepresents.{DeskRepresents, desk_same_left};
 
     type Shared = Web;
 
-    ghost Kept = { SiteContent };
+    ghost Config = { SiteContent };
 
-    ghost kept = { λ web. web.site };
+    ghost config = { λ web. web.site };
 
     ghost numbers = { λ web. web.hits };
 
-    ghost meaning = { λ site. desk_meaning (files_of site) };
+    ghost app_spec = { λ site. desk_spec (files_of site) };
 
-    ghost stands_for = { DeskStands };
+    ghost represents = { DeskRepresents };
 
     ghost served = { is_served_at };
 
@@ -56,6 +56,13 @@ impl App for Desk {
         match self {
             Desk::Web(web) => web.newdata(shared, piece),
             Desk::Shell(shell) => shell.newdata(shared, piece),
+        }
+    }
+
+    fn is_due(&self, shared: &Web) -> bool {
+        match self {
+            Desk::Web(web) => web.is_due(shared),
+            Desk::Shell(shell) => shell.is_due(shared),
         }
     }
 
@@ -101,7 +108,7 @@ impl App for Desk {
         }
     }
 
-    ghost lawful = { λ a site. desk_lawful (files_of site) (DeskStands a site) };
+    ghost lawful = { λ a site. desk_lawful (files_of site) (DeskRepresents a site) };
 
     ghost starts = { λ site. desk_starts (files_of site) };
 

@@ -1,4 +1,4 @@
-//! What is heard, byte by byte.
+//! Reads what is received, byte by byte.
 
 ghost use Rattle.std.specs.Prelude.{◌≡◌, ◌++◌, ◌∷◌, [], ℕ, List};
 ghost use Rattle.telnet_shell.specs.Reading.{command_of, commands, line_after, next_awaits, refusal, told, tokens, awaits_after};
@@ -13,19 +13,19 @@ use arrayvec::ArrayVec;
 /// The byte that begins a sequence of the protocol (RFC 854).
 pub(crate) const IAC: u8 = 255;
 
-/// A peer offers an option.
+/// The peer offers an option.
 pub(crate) const WILL: u8 = 251;
 
-/// A peer asks for an option.
+/// The peer requests an option.
 pub(crate) const DO: u8 = 253;
 
-/// An option is refused, of those that a peer asks for.
+/// Refuses an option that the peer requests.
 pub(crate) const WONT: u8 = 252;
 
-/// An option is refused, of those that a peer offers.
+/// Refuses an option that the peer offers.
 pub(crate) const DONT: u8 = 254;
 
-/// What a byte tells.
+/// What a byte means.
 pub(crate) enum Told {
     Nothing,
     /// A byte of the text.
@@ -34,7 +34,7 @@ pub(crate) enum Told {
     Answer(Command),
 }
 
-/// What a byte tells behind an open sequence.
+/// Returns what a byte means after an open sequence.
 fn heard_as(iac: [u8; 2], byte: u8) -> Told
     ensures { tokens_of result ≡ told (awaited iac) byte }
 {
@@ -55,7 +55,7 @@ fn heard_as(iac: [u8; 2], byte: u8) -> Told
     }
 }
 
-/// The answer to an option.
+/// Returns the reply to an option.
 fn refuse(verb: u8, choice: u8) -> Told
     ensures { tokens_of result ≡ refusal verb choice }
 {
@@ -68,7 +68,7 @@ fn refuse(verb: u8, choice: u8) -> Told
     }
 }
 
-/// The sequence that is open behind a byte.
+/// Returns the sequence that is open after a byte.
 fn sequence_after(iac: [u8; 2], byte: u8) -> [u8; 2]
     ensures { awaited result ≡ next_awaits (awaited iac) byte }
 {
@@ -85,7 +85,7 @@ fn sequence_after(iac: [u8; 2], byte: u8) -> [u8; 2]
     }
 }
 
-/// The command of a whole line.
+/// Returns the command of a whole line.
 fn command_named(line: &[u8]) -> Command
     ensures { result ≡ command_of line.now }
 {
@@ -112,7 +112,7 @@ fn command_named(line: &[u8]) -> Command
     }
 }
 
-/// The command of the line whose front is kept.
+/// Returns the command of the line whose prefix is stored.
 fn line_ended(kept: &[u8], over: bool) -> Command
     ensures { (line : List ℕ) → IsLine kept.now over line → result ≡ command_of line }
 {
@@ -123,7 +123,7 @@ fn line_ended(kept: &[u8], over: bool) -> Command
     }
 }
 
-/// The line goes on with a byte.
+/// Appends a byte to the line.
 fn keep(kept: &mut ArrayVec<u8, LONGEST_LINE>, over: &mut bool, byte: u8)
     ensures { (line : List ℕ) → IsLine kept.old.items over.old line → IsLine kept.new.items over.new (line ++ byte ∷ []) }
 {
@@ -134,7 +134,7 @@ fn keep(kept: &mut ArrayVec<u8, LONGEST_LINE>, over: &mut bool, byte: u8)
     }
 }
 
-/// A byte of the text, which ends the line or goes on with it.
+/// Receives a byte of the text, which ends the line or extends it.
 fn hear_text(kept: &mut ArrayVec<u8, LONGEST_LINE>, over: &mut bool, byte: u8) -> Option<Command>
     ensures open { (line : List ℕ) → IsLine kept.old.items over.old line
         → IsLine kept.new.items over.new (line_after line (Byte byte ∷ [])) }
@@ -153,17 +153,17 @@ fn hear_text(kept: &mut ArrayVec<u8, LONGEST_LINE>, over: &mut bool, byte: u8) -
     }
 }
 
-/// The bytes go on with one, which may complete a command.
+/// Receives a byte, which may complete a command.
 pub(crate) fn hear(
     kept: &mut ArrayVec<u8, LONGEST_LINE>,
     over: &mut bool,
     iac: &mut [u8; 2],
     byte: u8,
 ) -> Option<Command>
-    ensures open { (heard : List ℕ) → IsOpen kept.old.items over.old iac.old heard
-        → IsOpen kept.new.items over.new iac.new (heard ++ byte ∷ []) }
-    ensures command { (heard : List ℕ) → IsOpen kept.old.items over.old iac.old heard
-        → command_in result ≡ commands (line_after [] (tokens Text heard)) (told (awaits_after Text heard) byte) }
+    ensures open { (delivered : List ℕ) → IsOpen kept.old.items over.old iac.old delivered
+        → IsOpen kept.new.items over.new iac.new (delivered ++ byte ∷ []) }
+    ensures command { (delivered : List ℕ) → IsOpen kept.old.items over.old iac.old delivered
+        → command_in result ≡ commands (line_after [] (tokens Text delivered)) (told (awaits_after Text delivered) byte) }
 {
     let told = heard_as(*iac, byte);
     *iac = sequence_after(*iac, byte);

@@ -4,8 +4,8 @@ ghost use Rattle.std.specs.Prelude.{◌≡◌, true, ◌+◌, ◌*◌, ◌≤◌
 ghost use Rattle.generators.specs.Text.{capture_text};
 ghost use Rattle.generators.specs.declared.capture.Capture.TheVariants.{Empty};
 ghost use Rattle.telnet_shell.specs.Transcript.{function_of, said_with, transcript};
-ghost use Rattle.telnet_shell.specs.Saying.{IsBehind, IsInFront, Passes, due, front_size, is_past, left_said, stops_at};
-ghost use Rattle.app_events.specs.Part.{Part};
+ghost use Rattle.telnet_shell.specs.Saying.{IsTrailing, IsLeading, Passes, due, prefix_size, is_past, left_said, stops_at};
+ghost use Rattle.app_events.specs.AppSpec.{AppState};
 ghost use Rattle.telnet_shell.specs.declared.TheConstants.{MOST_COMMANDS};
 ghost use Rattle.telnet_shell.specs.declared.saying.TheConstants.{LONGEST_SAID};
 
@@ -16,7 +16,7 @@ use arrayvec::ArrayVec;
 use generators::{Capture, fill_at, text_len};
 use script_lang::Function;
 
-/// No command says more bytes.
+/// No text of a command has more bytes.
 const LONGEST_SAID: usize = 4300;
 
 const HELP: &[u8] = b"help stats conns ticks quit\r\n> ";
@@ -29,7 +29,7 @@ const BYE: &[u8] = b"bye\r\n";
 
 const UNKNOWN: &[u8] = b"?\r\n> ";
 
-/// The function whose capture a command shows.
+/// Returns the function whose capture a command shows.
 pub(crate) fn shown_by(command: Command) -> Function
     ensures { result ≡ function_of command }
 {
@@ -41,7 +41,7 @@ pub(crate) fn shown_by(command: Command) -> Function
     }
 }
 
-/// Whether a command waits for its capture.
+/// Returns whether a command waits for its capture.
 pub(crate) fn is_stopped(command: Command, capture: &Capture) -> bool
     ensures { result ≡ stops_at command capture.now }
 {
@@ -54,7 +54,7 @@ pub(crate) fn is_stopped(command: Command, capture: &Capture) -> bool
     }
 }
 
-/// The length of a command's text, in bytes.
+/// Returns the length of a command's text, in bytes.
 pub(crate) fn said_len(command: Command, capture: &Capture) -> usize
     ensures length { result ≡ length (said_with command capture.now) }
     ensures some { 1 ≤ result }
@@ -72,7 +72,7 @@ pub(crate) fn said_len(command: Command, capture: &Capture) -> usize
     }
 }
 
-/// Copies a text from a place on.
+/// Copies a text from an offset on.
 fn copy_from(text: &[u8], at: usize, out: &mut [u8])
     requires { at + length out.old ≤ length text.now }
     ensures { out.new ≡ take (length out.old) (drop at text.now) }
@@ -81,7 +81,7 @@ fn copy_from(text: &[u8], at: usize, out: &mut [u8])
     out.copy_from_slice(&text[at..end]);
 }
 
-/// Writes a capture's text and what follows it from a place on.
+/// Writes a capture's text and what follows it, from an offset on.
 fn fill_made(capture: &Capture, tail: &[u8], at: usize, out: &mut [u8])
     requires { at + length out.old ≤ length (capture_text capture.now ++ tail.now) }
     ensures { out.new ≡ take (length out.old) (drop at (capture_text capture.now ++ tail.now)) }
@@ -96,7 +96,7 @@ fn fill_made(capture: &Capture, tail: &[u8], at: usize, out: &mut [u8])
     }
 }
 
-/// Writes a command's text from a place on.
+/// Writes a command's text from an offset on.
 fn fill_said(command: Command, capture: &Capture, at: usize, out: &mut [u8])
     requires { at + length out.old ≤ length (said_with command capture.now) }
     ensures { out.new ≡ take (length out.old) (drop at (said_with command capture.now)) }
@@ -113,7 +113,7 @@ fn fill_said(command: Command, capture: &Capture, at: usize, out: &mut [u8])
     }
 }
 
-/// The length of the texts of commands up to the first that needs a capture.
+/// Returns the length of the texts of commands up to the first one that needs a capture.
 fn rest_len(queue: &[Command]) -> usize
     requires { length queue.now ≤ MOST_COMMANDS }
     ensures length { result ≡ length (transcript queue.now []) }
@@ -131,7 +131,7 @@ fn rest_len(queue: &[Command]) -> usize
     }
 }
 
-/// Writes the front of the texts of commands that need no capture.
+/// Writes the first part of the texts of commands that need no capture.
 fn fill_rest(queue: &[Command], out: &mut [u8])
     requires { length out.old ≤ length (transcript queue.now []) }
     ensures { out.new ≡ take (length out.old) (transcript queue.now []) }
@@ -146,7 +146,7 @@ fn fill_rest(queue: &[Command], out: &mut [u8])
     }
 }
 
-/// The length of what a queue says.
+/// Returns the length of a queue's text.
 pub(crate) fn left_len(queue: &[Command], capture: &Capture) -> usize
     requires { length queue.now ≤ MOST_COMMANDS }
     ensures length { result ≡ length (left_said queue.now capture.now) }
@@ -164,22 +164,22 @@ pub(crate) fn left_len(queue: &[Command], capture: &Capture) -> usize
     }
 }
 
-/// Writes the front's text from a place on, and then the texts of commands that need no capture.
-fn fill_front(front: Command, capture: &Capture, rest: &[Command], at: usize, out: &mut [u8])
-    requires place { at ≤ length (said_with front capture.now) }
-    requires enough { length out.old ≤ length (drop at (said_with front capture.now) ++ transcript rest.now []) }
-    ensures { out.new ≡ take (length out.old) (drop at (said_with front capture.now) ++ transcript rest.now []) }
+/// Writes the first command's text from an offset on, and then the texts of commands that need no capture.
+fn fill_prefix(prefix: Command, capture: &Capture, rest: &[Command], at: usize, out: &mut [u8])
+    requires place { at ≤ length (said_with prefix capture.now) }
+    requires enough { length out.old ≤ length (drop at (said_with prefix capture.now) ++ transcript rest.now []) }
+    ensures { out.new ≡ take (length out.old) (drop at (said_with prefix capture.now) ++ transcript rest.now []) }
 {
-    let middle = (said_len(front, capture) - at).min(out.len());
+    let middle = (said_len(prefix, capture) - at).min(out.len());
     let (begun, further) = out.split_at_mut(middle);
-    fill_said(front, capture, at, begun);
+    fill_said(prefix, capture, at, begun);
     fill_rest(rest, further);
 }
 
-/// Writes what a queue says from a place in its front on.
-#[tactic(auto, using(crate::specs::Lemmas::Speaking::from_front))]
+/// Writes a queue's text from an offset in its first command's on.
+#[tactic(auto, using(crate::specs::Lemmas::Speaking::from_prefix))]
 pub(crate) fn fill_left(queue: &[Command], capture: &Capture, at: usize, out: &mut [u8])
-    requires place { at ≤ front_size queue.now capture.now }
+    requires place { at ≤ prefix_size queue.now capture.now }
     requires enough { at + length out.old ≤ length (left_said queue.now capture.now) }
     ensures { out.new ≡ take (length out.old) (drop at (left_said queue.now capture.now)) }
 {
@@ -187,13 +187,13 @@ pub(crate) fn fill_left(queue: &[Command], capture: &Capture, at: usize, out: &m
         [] => {}
         [command, rest @ ..] => {
             if !is_stopped(*command, capture) {
-                fill_front(*command, capture, rest, at, out);
+                fill_prefix(*command, capture, rest, at, out);
             }
         }
     }
 }
 
-/// Whether the front is wholly among the first bytes.
+/// Returns whether the first command's text is wholly among the first bytes.
 fn is_past(queue: &[Command], capture: &Capture, at: usize) -> bool
     ensures { result ≡ is_past queue.now capture.now at }
 {
@@ -203,8 +203,8 @@ fn is_past(queue: &[Command], capture: &Capture, at: usize) -> bool
     }
 }
 
-/// Drops the front, and answers the place in the next one.
-fn pass_front(
+/// Removes the first command, and returns the offset in the next one.
+fn pass_prefix(
     queue: &mut ArrayVec<Command, MOST_COMMANDS>,
     capture: &mut Capture,
     at: usize,
@@ -212,13 +212,13 @@ fn pass_front(
     requires { is_past queue.old.items capture.old at ≡ true }
     ensures { Passes queue.old.items capture.old at queue.new.items capture.new result }
 {
-    let front = queue.remove(0);
-    let count = said_len(front, capture);
+    let prefix = queue.remove(0);
+    let count = said_len(prefix, capture);
     *capture = Capture::Empty;
     at - count
 }
 
-/// Drops the commands whose texts are wholly among the first bytes, and answers the place in the front that is left.
+/// Removes the commands whose texts are wholly among the first bytes, and returns the offset in the first one that is left.
 pub(crate) fn advance(
     queue: &mut ArrayVec<Command, MOST_COMMANDS>,
     capture: &mut Capture,
@@ -226,18 +226,18 @@ pub(crate) fn advance(
     count: usize,
 ) -> u32
     requires { at + count ≤ length (left_said queue.old.items capture.old) }
-    ensures behind { (p : Part) → IsBehind queue.old.items capture.old (at + count) p
-        → IsBehind queue.new.items capture.new result p }
-    ensures place { IsInFront queue.new.items capture.new result }
+    ensures behind { (p : AppState) → IsTrailing queue.old.items capture.old (at + count) p
+        → IsTrailing queue.new.items capture.new result p }
+    ensures place { IsLeading queue.new.items capture.new result }
 {
     let mut place = at as usize + count.min(left_len(queue.as_slice(), capture));
     'passing: while is_past(queue.as_slice(), capture, place) {
-        place = pass_front(queue, capture, place);
+        place = pass_prefix(queue, capture, place);
     }
     place as u32
 }
 
-/// The function whose capture the front waits for.
+/// Returns the function whose capture the first command waits for.
 pub(crate) fn due(queue: &[Command], capture: &Capture) -> Option<Function>
     ensures { result ≡ due queue.now capture.now }
 {

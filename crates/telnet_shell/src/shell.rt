@@ -1,7 +1,7 @@
 //! The shell on one connection.
 
 ghost use Rattle.std.specs.Prelude.{◌≡◌, ◌==◌, ◌&&◌, ℕ, length};
-ghost use Rattle.app_events.specs.Part.{Part};
+ghost use Rattle.app_events.specs.AppSpec.{AppState};
 ghost use Rattle.telnet_shell.specs.Reading.{is_quit};
 ghost use Rattle.telnet_shell.specs.ShellMeaning.{hear_all, hear_byte};
 
@@ -20,27 +20,27 @@ use web_pages::LARGEST_SEGMENT;
 /// The port of Telnet.
 pub const TELNET_PORT: u16 = 23;
 
-/// The shell on one connection: the line that is open, the commands whose texts are not wholly acknowledged, and the capture
-/// of the one that is being said.
+/// The shell on one connection: the open line, the commands whose texts are not wholly acknowledged, and the capture of the
+/// first one.
 #[derive(Drop)]
 pub struct Shell {
     /// The first bytes of the open line.
     pub line: ArrayVec<u8, LONGEST_LINE>,
-    /// The line has more bytes than are kept.
+    /// The line has more bytes than are stored.
     pub over: bool,
     /// The open sequence of the protocol: nothing, its first byte, or its first two.
     pub iac: [u8; 2],
-    /// The front is the command whose text is being said.
+    /// The first command is the one whose text is being sent.
     pub queue: ArrayVec<Command, MOST_COMMANDS>,
-    /// A command came for which there was no room.
+    /// A command arrived for which there was no room.
     pub lost: bool,
-    /// `quit` came.
+    /// `quit` was received.
     pub done: bool,
-    /// The capture of the front.
+    /// The capture of the first command.
     pub capture: Capture,
-    /// The acknowledged bytes of the front's text.
+    /// The acknowledged bytes of the first command's text.
     pub at: u32,
-    /// The ticks with nothing outstanding since the connection last heard or was heard.
+    /// The ticks with nothing outstanding since the last segment was received or sent.
     pub polls: u16,
 }
 
@@ -62,7 +62,7 @@ impl Model for Shell {
     } };
 }
 
-/// Whether a command is `quit`.
+/// Returns whether a command is `quit`.
 fn is_quit(command: Command) -> bool
     ensures { result ≡ is_quit command }
 {
@@ -73,11 +73,11 @@ fn is_quit(command: Command) -> bool
 }
 
 impl Shell {
-    ghost use Rattle.telnet_shell.specs.ShellStands.{ShellStands, fresh_part};
+    ghost use Rattle.telnet_shell.specs.ShellRepresents.{ShellRepresents, fresh_part};
 
-    /// A shell that has heard nothing.
+    /// Returns a shell that has received nothing.
     fn new() -> Shell
-        ensures { (port : ℕ) → ShellStands result (fresh_part port) }
+        ensures { (port : ℕ) → ShellRepresents result (fresh_part port) }
     {
         Shell {
             line: ArrayVec::new(),
@@ -92,9 +92,9 @@ impl Shell {
         }
     }
 
-    /// Hears a byte.
+    /// Receives a byte.
     fn hear(&mut self, byte: u8)
-        ensures { (p : Part) → ShellStands self.old p → ShellStands self.new (hear_byte p byte) }
+        ensures { (p : AppState) → ShellRepresents self.old p → ShellRepresents self.new (hear_byte p byte) }
     {
         let full = self.queue.is_full();
         if self.lost || self.done {
@@ -113,16 +113,16 @@ impl Shell {
         }
     }
 
-    /// Whether all was said and acknowledged, to the end of `quit`.
+    /// Returns whether all was sent and acknowledged, to the end of `quit`.
     fn has_ended(&self) -> bool
         ensures { result ≡ (self.now.done && (length self.now.queue == 0)) }
     {
         self.done && self.queue.is_empty()
     }
 
-    /// Hears each byte of a piece.
+    /// Receives each byte of a piece.
     pub(crate) fn hear_piece(&mut self, piece: &[u8])
-        ensures { (p : Part) → ShellStands self.old p → ShellStands self.new (hear_all p piece.now) }
+        ensures { (p : AppState) → ShellRepresents self.old p → ShellRepresents self.new (hear_all p piece.now) }
     {
         for byte in piece {
             self.hear(*byte);
@@ -130,26 +130,26 @@ impl Shell {
     }
 }
 
-// A call of the shell is a call also where it is built into a desk, so that a page's calls there stay as small as the web server's.
+// The calls of the shell are not inlined into a desk, so that a page's calls there stay as small as those of the web server.
 impl App for Shell {
     ghost use Rattle.file_tree.specs.Site.{SiteContent};
     ghost use Rattle.telnet_shell.specs.declared.shell.TheConstants.{TELNET_PORT};
-    ghost use Rattle.telnet_shell.specs.ShellMeaning.{shell_meaning};
+    ghost use Rattle.telnet_shell.specs.ShellMeaning.{shell_spec};
     ghost use Rattle.telnet_shell.specs.Lemmas.ShellLaws.{shell_lawful, shell_starts};
-    ghost use Rattle.telnet_shell.specs.ShellStands.{ShellStands};
-    ghost use Rattle.telnet_shell.specs.Lemmas.SameLeft.{same_talk_left};
+    ghost use Rattle.telnet_shell.specs.ShellRepresents.{ShellRepresents};
+    ghost use Rattle.telnet_shell.specs.Lemmas.SameLeft.{same_session_left};
 
     type Shared = Web;
 
-    ghost Kept = { SiteContent };
+    ghost Config = { SiteContent };
 
-    ghost kept = { λ web. web.site };
+    ghost config = { λ web. web.site };
 
     ghost numbers = { λ web. web.hits };
 
-    ghost meaning = { λ _. shell_meaning };
+    ghost app_spec = { λ _. shell_spec };
 
-    ghost stands_for = { λ a _ p. ShellStands a p };
+    ghost represents = { λ a _ p. ShellRepresents a p };
 
     ghost served = { λ port. port == TELNET_PORT };
 
@@ -169,6 +169,11 @@ impl App for Shell {
     fn newdata(&mut self, _shared: &mut Web, piece: &[u8]) {
         self.polls = 0;
         self.hear_piece(piece);
+    }
+
+    #[inline(never)]
+    fn is_due(&self, _shared: &Web) -> bool {
+        due(self.queue.as_slice(), &self.capture).is_some()
     }
 
     #[inline(never)]
@@ -212,9 +217,9 @@ impl App for Shell {
 
     fn ended(&mut self, _shared: &mut Web, _how: Ending) {}
 
-    ghost lawful = { λ a _. shell_lawful (ShellStands a) };
+    ghost lawful = { λ a _. shell_lawful (ShellRepresents a) };
 
     ghost starts = { λ _. shell_starts };
 
-    ghost same_left = { λ a _ p q. same_talk_left a p q };
+    ghost same_left = { λ a _ p q. same_session_left a p q };
 }

@@ -1,4 +1,4 @@
-//! Talks through the shell's own fields, against texts worked out by hand.
+//! Sessions through the shell's own fields, against texts worked by hand.
 
 use crate::saying::left_len;
 use crate::{Desk, Shell, TELNET_PORT};
@@ -10,7 +10,7 @@ fn idle_of<A: App>() -> A {
     A::idle()
 }
 
-/// The length of what a shell says of a piece.
+/// Returns the length of a shell's reply to a piece.
 fn answered(piece: &[u8]) -> usize {
     let mut shell = idle_of::<Shell>();
     shell.hear_piece(piece);

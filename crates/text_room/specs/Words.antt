@@ -1,6 +1,6 @@
--- Words that are told at times.
+-- Words that are written on a condition.
 use Rattle.std.specs.Prelude.{ℕ, Bool, List, [], if◌then◌else◌}
 
--- a word where it is told
+-- a word, if the flag is true
 abbrev pub word_if : Bool → List ℕ → List ℕ
 word_if told word = if told then word else []

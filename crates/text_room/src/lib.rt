@@ -1,4 +1,4 @@
-//! Text that is put together in room of its own, so that it goes out in one write.
+//! Text that is built in a buffer of its own, so that one write sends it.
 #![tactic(auto)]
 
 mod text;

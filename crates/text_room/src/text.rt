@@ -1,4 +1,4 @@
-//! The text and what is put behind it.
+//! The text and what is appended to it.
 
 use arrayvec::ArrayVec;
 use itoa::Buffer;
@@ -6,7 +6,7 @@ use std::marker::Model;
 use tcp_segment::{ACK, FIN, PSH, RST, SYN};
 use uip_wire::Addr;
 
-/// Text in room for `ROOM` bytes of its own, made whole before it is written.
+/// Text in a buffer of `ROOM` bytes, complete before it is written.
 #[derive(Drop)]
 pub struct Text<const ROOM: usize> {
     bytes: ArrayVec<u8, ROOM>,
@@ -26,7 +26,7 @@ impl<const ROOM: usize> Text<ROOM> {
     ghost use Rattle.tcp_segment.specs.Segments.{flag_letters};
     ghost use Rattle.text_room.specs.Words.{word_if};
 
-    /// A text without a byte.
+    /// Returns the empty text.
     pub fn new() -> Text<ROOM>
         ensures { result ≡ [] }
     {
@@ -35,28 +35,28 @@ impl<const ROOM: usize> Text<ROOM> {
         }
     }
 
-    /// The bytes so far.
+    /// Returns the bytes so far.
     pub fn bytes(&self) -> &[u8]
         ensures { result.now ≡ self.now }
     {
         self.bytes.as_slice()
     }
 
-    /// How many bytes there are.
+    /// Returns the number of bytes.
     pub fn len(&self) -> usize
         ensures { result ≡ length self.now }
     {
         self.bytes.len()
     }
 
-    /// Forgets all bytes.
+    /// Removes all bytes.
     pub fn clear(&mut self)
         ensures { self.new ≡ [] }
     {
         self.bytes.clear();
     }
 
-    /// The text goes on with a piece, for which there must be room.
+    /// Appends a piece, for which there must be room.
     pub fn put(&mut self, piece: &[u8])
         requires room { length self.old + length piece.now ≤ ROOM }
         ensures text { self.new ≡ self.old ++ piece.now }
@@ -65,7 +65,7 @@ impl<const ROOM: usize> Text<ROOM> {
         let _fits = self.bytes.try_extend_from_slice(piece);
     }
 
-    /// The text goes on with a piece where it is told.
+    /// Appends a piece if the flag is true.
     pub fn put_if(&mut self, told: bool, piece: &[u8])
         requires room { length self.old + length piece.now ≤ ROOM }
         ensures text { self.new ≡ self.old ++ word_if told piece.now }
@@ -76,7 +76,7 @@ impl<const ROOM: usize> Text<ROOM> {
         }
     }
 
-    /// The text goes on with a number in decimal digits, without leading zeros.
+    /// Appends a number in decimal digits, without leading zeros.
     pub fn put_number(&mut self, number: u64)
         requires room { length self.old + 20 ≤ ROOM }
         ensures text { self.new ≡ self.old ++ decimal number }
@@ -86,7 +86,7 @@ impl<const ROOM: usize> Text<ROOM> {
         self.put(digits.format(number).as_bytes());
     }
 
-    /// The text goes on with a number of up to 128 bits in decimal digits, without leading zeros.
+    /// Appends a number of up to 128 bits in decimal digits, without leading zeros.
     pub fn put_total(&mut self, total: u128)
         requires room { length self.old + 40 ≤ ROOM }
         ensures text { self.new ≡ self.old ++ decimal total }
@@ -96,7 +96,7 @@ impl<const ROOM: usize> Text<ROOM> {
         self.put(digits.format(total).as_bytes());
     }
 
-    /// The text goes on with a number from 0 to 255 in decimal digits, without leading zeros.
+    /// Appends a number from 0 to 255 in decimal digits, without leading zeros.
     pub fn put_byte(&mut self, number: u8)
         requires room { length self.old + 3 ≤ ROOM }
         ensures text { self.new ≡ self.old ++ decimal number }
@@ -106,7 +106,7 @@ impl<const ROOM: usize> Text<ROOM> {
         self.put(digits.format(number).as_bytes());
     }
 
-    /// The text goes on with an address as a dotted quad.
+    /// Appends an address as a dotted quad.
     pub fn put_quad(&mut self, address: Addr)
         requires room { length self.old + 15 ≤ ROOM }
         ensures text { self.new ≡ self.old ++ quad_text address.0 }
@@ -122,7 +122,7 @@ impl<const ROOM: usize> Text<ROOM> {
         self.put_byte(fourth);
     }
 
-    /// The text goes on with the letters of the flags that are set, as S, A, P, F and R.
+    /// Appends the letters of the flags that are set: S, A, P, F and R.
     pub fn put_flags(&mut self, flags: u8)
         requires room { length self.old + 5 ≤ ROOM }
         ensures text { self.new ≡ self.old ++ flag_letters flags }

@@ -1,4 +1,4 @@
--- A capture file goes on: with further bytes, and with a further record.
+-- A capture file that continues: with further bytes, and with a further record.
 use Rattle.std.proofs.Common.{◌≡◌, ℕ, zero, suc, ◌+◌, ◌<◌, ◌≤◌, List, [], ◌∷◌, ◌++◌, length, take, drop, refl, sym, ap, ◌∙◌, append-nil, append_assoc, arith, length-drop, inl, inr}
 use Rattle.std.proofs.lemmas.List.{get_or_append_left, length-take-le, take-append-drop, take-append-le}
 use Rattle.std.proofs.lemmas.List.Concat.{flat_map-append}
@@ -15,13 +15,13 @@ use Rattle.trace.specs.declared.byte_order.ByteOrder.TheVariants.{Big, Little}
 abbrev pub captured_line : Captured → List ℕ
 captured_line captured = line_text captured.body
 
--- the bytes in front of others
-pub front_of : {X : Type 0} (n : ℕ) (xs ys : List X) → length xs ≡ n → take n (xs ++ ys) ≡ xs
-front_of n xs ys size =
+-- the bytes before others
+pub prefix_of : {X : Type 0} (n : ℕ) (xs ys : List X) → length xs ≡ n → take n (xs ++ ys) ≡ xs
+prefix_of n xs ys size =
     let within : n ≤ length xs = omega (arith, size) in
     take-append-le n xs ys within ∙ ap (λ k. take k xs) (sym size) ∙ take-length xs
 
--- a length stands in the first sixteen bytes
+-- a length is in the first sixteen bytes
 pub length_in-append : (order : ByteOrder) (xs ys : List ℕ) → 16 ≤ length xs → length_in order (xs ++ ys) ≡ length_in order xs
 length_in-append order xs ys h =
     let a = get_or_append_left xs ys 0 8 (omega arith) in
@@ -83,14 +83,14 @@ first_spelled size rest =
     sym (take-append-drop 16 rest) ∙ ap (λ l. take 16 rest ++ l) (sym (take-append-drop size (drop 16 rest)))
     ∙ sym (append_assoc (take 16 rest) (take size (drop 16 rest)) (drop size (drop 16 rest)))
 
--- bytes are read so, and these records stand first
+-- bytes have this reading, and these records are first
 pub record ReadsOn (records : List Captured) (bytes : List ℕ) : Type 0 where
   pub reading : Reading
   pub read : IsReadAs bytes reading
   pub more : List Captured
   pub first : captured_in reading ≡ records ++ more
 
--- all bytes behind records are read in some way
+-- all bytes after records have some reading
 pub reads_on : (fuel : ℕ) (order : ByteOrder) (records : List Captured) (rest bytes : List ℕ) → length rest < fuel → BeginsWith order records rest bytes → ReadsOn records bytes
 reads_on zero order records rest bytes h b = absurd (omega arith)
 reads_on (suc fuel) order records [] bytes h b =

@@ -7,9 +7,9 @@ use Rattle.uip_edge.specs.declared.item.Item.{Item}
 use Rattle.uip_edge.specs.declared.item.Item.TheVariants.{Byte, Quiet}
 use Rattle.uip_edge.specs.declared.serve_end.ServeEnd.{ServeEnd}
 use Rattle.uip_edge.specs.declared.serve_end.ServeEnd.TheVariants as line
-use Rattle.uip_edge.proofs.Breaking.{breaks_front}
+use Rattle.uip_edge.proofs.Breaking.{breaks_prefix}
 use Rattle.uip_edge.proofs.Told.{bytes_among-append, bytes_among-map}
-use Rattle.uip_edge.specs.Told.{LineTold, IsCalm, SinkTold}
+use Rattle.uip_edge.specs.Views.{LineView, IsCalm, SinkView}
 use Rattle.trace.specs.CaptureReading.{Captured, IsReadAs, Reading, cut_in, captured_in, fault_in, lines_of}
 use Rattle.trace.specs.CaptureReading.Reading.{BadHeader, BadLength, InRecord, InHeader, Whole}
 use Rattle.trace.specs.Converting.{Converts, HasNewFault, IsFoundSoon, SlipEndsBy, WroteLine}
@@ -25,7 +25,7 @@ use Rattle.trace.specs.declared.slip_end.SlipEnd.{SlipEnd}
 use Rattle.trace.specs.declared.slip_end.SlipEnd.TheVariants as ends
 use Rattle.trace.specs.declared.stage.Stage.{Stage}
 use Rattle.trace.specs.declared.stage.Stage.TheVariants as stages
-use Rattle.trace.proofs.ReadLaws.{part_grows, stops_front}
+use Rattle.trace.proofs.ReadLaws.{part_grows, stops_prefix}
 
 -- the answer to the end of the link, where the bytes are read so
 abbrev pub EndIs : Reading → SlipEnd → Type 0
@@ -78,7 +78,7 @@ sound_at start now bytes (stages.Body order) number part want at is =
       cut = ap (λ n. Some n) (sym at.read.0);
     }
 
--- a silence says nothing
+-- a silence has no effect
 pub silence_read : (start now : Option (List ℕ)) (before : List Item) (stage : Stage) (number : ℕ) (part : List ℕ) → IsReadTo start now (bytes_among before) stage number part
     → IsReadTo start now (bytes_among (before ++ Quiet ∷ [])) stage number part
 silence_read start now before stage number part at =
@@ -96,15 +96,15 @@ grown start now before bytes stage number part part' e at =
     (subst (λ (l : List ℕ). IsReadTo start now (bytes_among before ++ bytes) stage number l) (sym e) (part_grows start now (bytes_among before) bytes stage number part at))
 
 -- and the reading stopped at it
-pub stopped_front : (stop : Stop) (old : Option (List ℕ)) (faults : ℕ) (new : SinkTold) (n : ℕ) (bytes : List ℕ) (stage : Stage) (number number' : ℕ) (part part' : List ℕ) (want : ℕ)
+pub stopped_prefix : (stop : Stop) (old : Option (List ℕ)) (faults : ℕ) (new : SinkView) (n : ℕ) (bytes : List ℕ) (stage : Stage) (number number' : ℕ) (part part' : List ℕ) (want : ℕ)
     → IsOpen stage part want → part' ≡ part ++ take n bytes → StopBy stop faults new.faults
     → ((start : Option (List ℕ)) (fed more : List ℕ) → IsReadTo start old fed stage number part' → StopsAt stop start new.written (fed ++ more) number')
     → (start : Option (List ℕ)) (before : List Item) → IsReadTo start old (bytes_among before) stage number part → Stopped stop start before bytes faults new number'
-stopped_front stop old faults new n bytes stage number number' part part' want is e by f = λ start before at.
+stopped_prefix stop old faults new n bytes stage number number' part part' want is e by f = λ start before at.
     let s = sound_at start old (bytes_among before) stage number part want at is in
     record {
-      front = record { reading = s.reading; read = s.read; sound = s.sound };
-      stops = stops_front stop old new.written n bytes stage number number' part part' e f start (bytes_among before) at;
+      prefix = record { reading = s.reading; read = s.read; sound = s.sound };
+      stops = stops_prefix stop old new.written n bytes stage number number' part part' e f start (bytes_among before) at;
       by = by;
     }
 
@@ -120,8 +120,8 @@ never_cut (Whole records) number e = absurd cc
 never_cut (InRecord records) number e = absurd cc
 never_cut (BadLength records) number e = let w : whys.Length ≡ whys.Cut = ap why_of e in absurd cc
 
--- the line ended, or the budget did, behind these items
-module _ (n : ℕ) (taken : List Item) (old new : LineTold) (stage : Stage) (number : ℕ) (part : List ℕ) (want : ℕ)
+-- the line ended, or the budget did, after these items
+module _ (n : ℕ) (taken : List Item) (old new : LineView) (stage : Stage) (number : ℕ) (part : List ℕ) (want : ℕ)
     (c : Consumes old.link.coming new.link.coming taken)
     (at : IsReadTo old.sink.written new.sink.written (bytes_among taken) stage number part) (is : IsOpen stage part want) where
   -- the reading goes with an end at which no write failed
@@ -160,7 +160,7 @@ module _ (n : ℕ) (taken : List Item) (old new : LineTold) (stage : Stage) (num
   spent e = converted ends.Budget (end_at stage part number) sound (e, sound.sound) (λ is. cc is) sound.written
 
 -- the reader stopped among bytes that came in one answer
-module _ (n : ℕ) (before : List Item) (bytes : List ℕ) (old new : LineTold) (number : ℕ)
+module _ (n : ℕ) (before : List Item) (bytes : List ℕ) (old new : LineView) (number : ℕ)
     (c : Consumes old.link.coming new.link.coming (before ++ map Byte bytes)) (within : length (before ++ map Byte bytes) ≤ n)
     (calm : new.link.faults ≡ old.link.faults) where
   write_failed : Stopped stops.WriteFault old.sink.written before bytes old.sink.faults new.sink number → Converts n old new ends.WriteFault
@@ -171,11 +171,11 @@ module _ (n : ℕ) (before : List Item) (bytes : List ℕ) (old new : LineTold) 
     read = subst (λ (l : List ℕ). IsReadAs l s.stops.reading) (bytes_on before bytes) s.stops.read;
     some = λ is. s.stops.broke.some;
     ends = (within, calm, s.by);
-    wrote = breaks_front [] _ old.sink.written new.sink.written s.stops.broke;
+    wrote = breaks_prefix [] _ old.sink.written new.sink.written s.stops.broke;
   }
 
   abbrev new_fault : IsReadSound (bytes_among before) → HasNewFault (before ++ map Byte bytes)
-  new_fault s = record { front = before; last = bytes; pieces = refl; reading = s.reading; read = s.read; sound = s.sound }
+  new_fault s = record { prefix = before; last = bytes; pieces = refl; reading = s.reading; read = s.read; sound = s.sound }
 
   found_so : (why : CaptureWhy) (reading : Reading) → fault_in reading ≡ Some (number, why) → IsCalm old new → HasNewFault (before ++ map Byte bytes)
       → SlipEndsBy n old new (before ++ map Byte bytes) reading (ends.Bad number why)
@@ -191,7 +191,7 @@ module _ (n : ℕ) (before : List Item) (bytes : List ℕ) (old new : LineTold) 
     reading = s.stops.reading;
     read = subst (λ (l : List ℕ). IsReadAs l s.stops.reading) (bytes_on before bytes) s.stops.read;
     some = λ is. absurd (cc is);
-    ends = found_so why s.stops.reading s.stops.fault (record { link = calm; sink = s.by }) (new_fault s.front);
+    ends = found_so why s.stops.reading s.stops.fault (record { link = calm; sink = s.by }) (new_fault s.prefix);
     wrote = s.stops.written;
   }
 
@@ -200,8 +200,8 @@ module _ (n : ℕ) (before : List Item) (bytes : List ℕ) (old new : LineTold) 
   found_soon whys.Head few s = (before ++ map Byte bytes, c, new_fault s, few)
   found_soon whys.Length few s = (before ++ map Byte bytes, c, new_fault s, few)
 
--- the same, from what is told of a line that the reader read
-module _ (n : ℕ) (old new : LineTold) (reader : Reader) where
+-- the same, from what is known of a line that the reader read
+module _ (n : ℕ) (old new : LineView) (reader : Reader) where
   abbrev Ends : ServeEnd → Type 0
   Ends end = EndsRead ghosts old.sink.written n old new reader end
 
@@ -227,4 +227,4 @@ module _ (n : ℕ) (old new : LineTold) (reader : Reader) where
   stop_bad why r = file_fault n r.before r.bytes old new reader.number r.consumed r.within r.calm why r.stopped
 
   pub stop_soon : (why : CaptureWhy) → Stops (stops.Bad why) → IsFoundSoon old new (ends.Bad reader.number why)
-  stop_soon why r = found_soon n r.before r.bytes old new reader.number r.consumed r.within r.calm why r.soon r.stopped.front
+  stop_soon why r = found_soon n r.before r.bytes old new reader.number r.consumed r.within r.calm why r.soon r.stopped.prefix

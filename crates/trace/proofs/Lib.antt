@@ -1,6 +1,6 @@
 mod CaptureLaws
 mod ConvertLaws
-mod FrontLaws
+mod PrefixLaws
 mod LineLaws
 mod OneReading
 mod ReadLaws

@@ -1,4 +1,4 @@
--- The bytes of a capture file are read in one way alone.
+-- The bytes of a capture file have one reading.
 use Rattle.std.proofs.Common.{◌≡◌, ℕ, ◌+◌, ◌<◌, ◌≤◌, Bool, true, false, ◌&&◌, leb, ltb, if◌then◌else◌, List, [], ◌∷◌, ◌++◌, Some, None, length, take, drop, refl, sym, ap, ◌∙◌, append_assoc, arith, length-append, subst}
 use Rattle.std.proofs.lemmas.Bool.{le-leb, leb-true, lt-ltb, ltb-true}
 use Rattle.std.proofs.Math.Seq.{drop-append_seam}
@@ -7,12 +7,12 @@ use Rattle.uip_wire.specs.declared.sizes.TheConstants.{LARGEST_DATAGRAM}
 use Rattle.trace.specs.CaptureReading.{BeginsWith, Captured, IsCaptured, IsCutRecord, IsReadAs, HasLongRecord, Reading, captured_bytes, length_in, order_of}
 use Rattle.trace.specs.CaptureReading.Reading.{BadHeader, BadLength, InRecord, InHeader, Whole}
 use Rattle.trace.specs.declared.byte_order.ByteOrder.{ByteOrder}
-use Rattle.trace.proofs.CaptureLaws.{front_of, length_in-append}
+use Rattle.trace.proofs.CaptureLaws.{prefix_of, length_in-append}
 
--- two fronts of one length
-same_front : {X : Type 0} (xs xs' ys ys' : List X) → length xs ≡ length xs' → xs ++ ys ≡ xs' ++ ys' → (xs ≡ xs') × (ys ≡ ys')
-same_front xs xs' ys ys' size e = (
-  sym (front_of (length xs) xs ys refl) ∙ ap (λ l. take (length xs) l) e ∙ front_of (length xs) xs' ys' (sym size),
+-- two prefixes of one length
+equal_prefix : {X : Type 0} (xs xs' ys ys' : List X) → length xs ≡ length xs' → xs ++ ys ≡ xs' ++ ys' → (xs ≡ xs') × (ys ≡ ys')
+equal_prefix xs xs' ys ys' size e = (
+  sym (prefix_of (length xs) xs ys refl) ∙ ap (λ l. take (length xs) l) e ∙ prefix_of (length xs) xs' ys' (sym size),
   sym (drop-append_seam xs ys) ∙ ap (λ l. drop (length xs) l) e ∙ ap (λ n. drop n (xs' ++ ys')) size ∙ drop-append_seam xs' ys',
 )
 
@@ -20,34 +20,34 @@ same_front xs xs' ys ys' size e = (
 abbrev pub HasNone : ByteOrder → List ℕ → Type 0
 HasNone order rest = (captured : Captured) (more : List ℕ) → IsCaptured order captured → rest ≡ captured_bytes captured ++ more → ⊥
 
--- a record at the front of bytes
-front_size : (order : ByteOrder) (rest : List ℕ) (captured : Captured) (more : List ℕ) → IsCaptured order captured → rest ≡ captured_bytes captured ++ more
+-- a record at the start of bytes
+prefix_size : (order : ByteOrder) (rest : List ℕ) (captured : Captured) (more : List ℕ) → IsCaptured order captured → rest ≡ captured_bytes captured ++ more
     → length rest ≡ 16 + length captured.body + length more
-front_size order rest captured more is e =
+prefix_size order rest captured more is e =
     let h = is.head in
     let size = ap (λ l. length l) e in
     omega (arith, size, length-append (captured_bytes captured) more, length-append captured.head captured.body)
 
-front_length : (order : ByteOrder) (rest : List ℕ) (captured : Captured) (more : List ℕ) → IsCaptured order captured → rest ≡ captured_bytes captured ++ more
+prefix_long : (order : ByteOrder) (rest : List ℕ) (captured : Captured) (more : List ℕ) → IsCaptured order captured → rest ≡ captured_bytes captured ++ more
     → length_in order rest ≡ length captured.body
-front_length order rest captured more is e =
+prefix_long order rest captured more is e =
     let h = is.head in
     ap (λ l. length_in order l) (e ∙ append_assoc captured.head captured.body more)
     ∙ length_in-append order captured.head (captured.body ++ more) (omega arith) ∙ sym is.body
 
 none_in_nothing : (order : ByteOrder) → HasNone order []
-none_in_nothing order captured more is e = let size = front_size order [] captured more is e in absurd (omega arith)
+none_in_nothing order captured more is e = let size = prefix_size order [] captured more is e in absurd (omega arith)
 
 none_in_part : (order : ByteOrder) (rest : List ℕ) → IsCutRecord order rest → HasNone order rest
 none_in_part order rest part captured more is e =
-    let size = front_size order rest captured more is e in
-    let tells = front_length order rest captured more is e in
+    let size = prefix_size order rest captured more is e in
+    let tells = prefix_long order rest captured more is e in
     let short = part.short (omega arith) in
     absurd (omega arith)
 
 none_in_long : (order : ByteOrder) (rest : List ℕ) → HasLongRecord order rest → HasNone order rest
 none_in_long order rest long captured more is e =
-    let tells = front_length order rest captured more is e in
+    let tells = prefix_long order rest captured more is e in
     let fits = is.fits in
     let more_than = long.long in
     absurd (omega arith)
@@ -55,7 +55,7 @@ none_in_long order rest long captured more is e =
 same_captured : (e f : Captured) → e.head ≡ f.head → e.body ≡ f.body → e ≡ f
 same_captured e f h b = ap (λ l. record { head = l; body = e.body }) h ∙ ap (λ l. record { head = f.head; body = l }) b
 
--- the records are the same, and so is what stands behind them
+-- the records are the same, and so is what follows them
 pub same_records : (order : ByteOrder) (es fs : List Captured) (rest rest' : List ℕ) → AllByRecursion (IsCaptured order) es → AllByRecursion (IsCaptured order) fs
     → HasNone order rest → HasNone order rest' → flat_map captured_bytes es ++ rest ≡ flat_map captured_bytes fs ++ rest' → (es ≡ fs) × (rest ≡ rest')
 same_records order [] [] rest rest' a b n m e = (refl, e)
@@ -68,13 +68,13 @@ same_records order (x ∷ es) (f ∷ fs) rest rest' a b n m e =
     let ys = flat_map captured_bytes fs ++ rest' in
     let whole : captured_bytes x ++ xs ≡ captured_bytes f ++ ys =
     sym (append_assoc (captured_bytes x) (flat_map captured_bytes es) rest) ∙ e ∙ append_assoc (captured_bytes f) (flat_map captured_bytes fs) rest' in
-    let heads = same_front x.head f.head (x.body ++ xs) (f.body ++ ys) (a.0.head ∙ sym b.0.head)
+    let heads = equal_prefix x.head f.head (x.body ++ xs) (f.body ++ ys) (a.0.head ∙ sym b.0.head)
     (sym (append_assoc x.head x.body xs) ∙ whole ∙ append_assoc f.head f.body ys) in
-    let bodies = same_front x.body f.body xs ys (a.0.body ∙ ap (λ l. length_in order l) heads.0 ∙ sym b.0.body) heads.1 in
+    let bodies = equal_prefix x.body f.body xs ys (a.0.body ∙ ap (λ l. length_in order l) heads.0 ∙ sym b.0.body) heads.1 in
     let on = same_records order es fs rest rest' a.1 b.1 n m bodies.1 in
     (ap (λ l. l ∷ es) (same_captured x f heads.0 bodies.0) ∙ ap (λ l. f ∷ l) on.0, on.1)
 
--- how the bytes behind whole records are read
+-- the reading of the bytes after whole records
 abbrev pub kind_of : ByteOrder → List Captured → List ℕ → Reading
 kind_of order records [] = Whole records
 kind_of order records (b ∷ rest) =
@@ -97,7 +97,7 @@ module _ (bytes : List ℕ) where
       let size = ap (λ l. length l) same in
       let h = b.size in (
         omega (arith, length-append b.header all),
-        ap (λ l. order_of (take 24 l)) same ∙ ap (λ l. order_of l) (front_of 24 b.header all b.size) ∙ b.good,
+        ap (λ l. order_of (take 24 l)) same ∙ ap (λ l. order_of l) (prefix_of 24 b.header all b.size) ∙ b.good,
       )
 
   one_standing : (one other : Reading) → Standing bytes one → Standing bytes other → one ≡ other
@@ -107,7 +107,7 @@ module _ (bytes : List ℕ) where
       let orders : s.order ≡ t.order = (let p = (header_in s.order s.records s.rest a).1 in let q = (header_in t.order t.records t.rest b).1 in cc) in
       let all = flat_map captured_bytes s.records ++ s.rest in
       let all' = flat_map captured_bytes t.records ++ t.rest in
-      let rests = same_front a.header b.header all all' (a.size ∙ sym b.size)
+      let rests = equal_prefix a.header b.header all all' (a.size ∙ sym b.size)
       (sym (append_assoc a.header (flat_map captured_bytes s.records) s.rest) ∙ sym a.spelled ∙ b.spelled ∙ append_assoc b.header (flat_map captured_bytes t.records) t.rest) in
       let same = same_records t.order s.records t.records s.rest t.rest
       (subst (λ (o : ByteOrder). AllByRecursion (IsCaptured o) s.records) orders a.sound) b.sound

@@ -15,14 +15,14 @@ use Rattle.trace.specs.declared.reader.Stop.{Stop}
 use Rattle.trace.specs.declared.slip_end.CaptureWhy.TheVariants as whys
 use Rattle.trace.specs.declared.stage.Stage.{Stage}
 use Rattle.trace.specs.declared.stage.Stage.TheVariants as stages
-use Rattle.trace.proofs.CaptureLaws.{captured_line, front_of, length_in-append, lines-more, more_rest, one_more, reads_on}
+use Rattle.trace.proofs.CaptureLaws.{captured_line, prefix_of, length_in-append, lines-more, more_rest, one_more, reads_on}
 
 module _ (start now : Option (List ℕ)) (bytes : List ℕ) (number : ℕ) (part : List ℕ) where
   -- the header is none that is read
   pub header_fault : (more : List ℕ) → length part ≡ 24 → order_of part ≡ None → IsReadTo start now bytes stages.Header number part
       → IsAtFault whys.Head start now (bytes ++ more) number
   header_fault more size none at =
-      let same : take 24 (bytes ++ more) ≡ part = ap (λ l. take 24 (l ++ more)) (sym at.read.2) ∙ front_of 24 part more size in
+      let same : take 24 (bytes ++ more) ≡ part = ap (λ l. take 24 (l ++ more)) (sym at.read.2) ∙ prefix_of 24 part more size in
       let count = ap (λ l. length l) at.read.2 in
       record {
         reading = BadHeader;
@@ -32,7 +32,7 @@ module _ (start now : Option (List ℕ)) (bytes : List ℕ) (number : ℕ) (part
       }
 
   module _ (order : ByteOrder) where
-    -- a record tells too long a length
+    -- a record has too great a length
     pub length_fault : (more : List ℕ) → length part ≡ 16 → LARGEST_DATAGRAM < length_in order part → IsReadTo start now bytes (stages.Head order) number part
         → IsAtFault whys.Length start now (bytes ++ more) number
     length_fault more size long at = record {
@@ -118,7 +118,7 @@ module _ (start old new : Option (List ℕ)) (bytes : List ℕ) (number : ℕ) (
       let on = reads_on (length more + 1) order (at.records ++ captured ∷ []) more (bytes ++ more) (omega arith)
       (more_rest order (at.records ++ captured ∷ []) [] bytes more whole) in
       let lines = ap (λ l. lines_of l) on.first ∙ flat_map-append captured_line (at.records ++ captured ∷ []) on.more in
-      let front = prefix_more start new (lines_of (at.records ++ captured ∷ [])) (lines_of on.more) (lines_of (captured_in on.reading))
+      let prefix = prefix_more start new (lines_of (at.records ++ captured ∷ [])) (lines_of on.more) (lines_of (captured_in on.reading))
       (sym lines)
       (prefix_by start new _ _ text (prefix_then start old new _ _ at.written w)) in
       record {
@@ -126,10 +126,10 @@ module _ (start old new : Option (List ℕ)) (bytes : List ℕ) (number : ℕ) (
         read = on.read;
         broke = record {
           some = omega (arith, text_some, ap (λ l. length l) lines, length-append (lines_of (at.records ++ captured ∷ [])) (lines_of on.more));
-          front = front.0;
-          rest = front.1;
-          cut = front.2;
-          written = front.3;
+          prefix = prefix.0;
+          rest = prefix.1;
+          cut = prefix.2;
+          written = prefix.3;
         };
       }
 
@@ -152,11 +152,11 @@ part_grows start now bytes more (stages.Body order) number part at =
     record { records = at.records; read = (at.read.0, more_rest order at.records part bytes more at.read.1); written = at.written }
 
 -- what a whole part stopped at is what the bytes stopped at that it was read from
-pub stops_front : (stop : Stop) (old new : Option (List ℕ)) (n : ℕ) (bytes : List ℕ) (stage : Stage) (number number' : ℕ) (part part' : List ℕ)
+pub stops_prefix : (stop : Stop) (old new : Option (List ℕ)) (n : ℕ) (bytes : List ℕ) (stage : Stage) (number number' : ℕ) (part part' : List ℕ)
     → part' ≡ part ++ take n bytes
     → ((start : Option (List ℕ)) (fed more : List ℕ) → IsReadTo start old fed stage number part' → StopsAt stop start new (fed ++ more) number')
     → (start : Option (List ℕ)) (before : List ℕ) → IsReadTo start old before stage number part → StopsAt stop start new (before ++ bytes) number'
-stops_front stop old new n bytes stage number number' part part' e f = λ start before at.
+stops_prefix stop old new n bytes stage number number' part part' e f = λ start before at.
     subst (λ (l : List ℕ). StopsAt stop start new l number')
     (append_assoc before (take n bytes) (drop n bytes) ∙ ap (λ l. before ++ l) (take-append-drop n bytes))
     (f start (before ++ take n bytes) (drop n bytes)

@@ -28,7 +28,7 @@ use Rattle.trace.specs.declared.byte_order.ByteOrder.TheVariants.{Big}
 use Rattle.trace.specs.declared.slip_end.CaptureWhy.{CaptureWhy}
 use Rattle.trace.specs.declared.slip_end.CaptureWhy.TheVariants as whys
 use Rattle.trace.specs.declared.slip_end.SlipEnd.{SlipEnd}
-use Rattle.uip_edge.specs.Told.{LineTold, LineUnfailed}
+use Rattle.uip_edge.specs.Views.{LineView, LineUnfailed}
 use Rattle.trace.specs.declared.slip_end.SlipEnd.TheVariants as ends
 
 none_is_not : {fault : ℕ × CaptureWhy} (o : Option (ℕ × CaptureWhy)) → o ≡ None → o ≡ Some fault → ⊥
@@ -53,7 +53,7 @@ unfolding bad_end
 same_bad o one other p q = ap bad_end (same_fault o one other p q)
 
 -- the answer that must come where nothing failed
-module _ (n : ℕ) (old new : LineTold) (taken : List Item) (reading : Reading) (calm : LineUnfailed old new) where
+module _ (n : ℕ) (old new : LineView) (taken : List Item) (reading : Reading) (calm : LineUnfailed old new) where
   told_bad : (end : SlipEnd) → SlipEndsBy n old new taken reading end → (number : ℕ) (why : CaptureWhy) → fault_in reading ≡ Some (number, why) → end ≡ ends.Bad number why
   told_bad ends.End by number why f = absurd (none_is_not _ by.1 f)
   told_bad ends.Budget by number why f = absurd (none_is_not _ by.1 f)
@@ -82,7 +82,7 @@ module _ (n : ℕ) (old new : LineTold) (taken : List Item) (reading : Reading) 
   told_over (ends.Bad m whys.Head) by all none told short c = absurd (none_is_not _ none by.2)
   told_over (ends.Bad m whys.Length) by all none told short c = absurd (none_is_not _ none by.2)
 
-pub surely : (n : ℕ) (old new : LineTold) (taken : List Item) (reading : Reading) (end : SlipEnd) → SlipEndsBy n old new taken reading end
+pub surely : (n : ℕ) (old new : LineView) (taken : List Item) (reading : Reading) (end : SlipEnd) → SlipEndsBy n old new taken reading end
     → LineUnfailed old new → IsSurely n old new taken reading end
 surely n old new taken reading end by calm = record {
   bad = told_bad n old new taken reading calm end by;
@@ -229,7 +229,7 @@ fault_stays bytes more (BadLength records) fault read e =
       },
     )
 
--- what a line told that holds just these bytes
+-- the content of a line that holds just these bytes
 told_rest : (old new : Option (List Item)) (text : List ℕ) (taken : List Item) → old ≡ Some (map Byte text) → Consumes old new taken
     → (left : List Item) × (text ≡ bytes_among taken ++ bytes_among left)
 told_rest None new text taken e c = absurd cc
@@ -244,7 +244,7 @@ told_all (Some all) text taken e t =
     let same : all ≡ map Byte text = cc in
     ap (λ l. bytes_among l) (sym t ∙ same) ∙ bytes_among-map text
 
-module _ (items : List Item) (n : ℕ) (old new : LineTold) (told : old.link.coming ≡ Some (map Byte (capture_file items))) (short : length (capture_file items) < n)
+module _ (items : List Item) (n : ℕ) (old new : LineView) (told : old.link.coming ≡ Some (map Byte (capture_file items))) (short : length (capture_file items) < n)
     (calm : LineUnfailed old new) where
   abbrev Back : SlipEnd → Type 0
   Back end = (end ≡ ends.End) × Appends old.sink.written new.sink.written (flat_map slip_text (datagrams_on items))
@@ -279,7 +279,7 @@ module _ (items : List Item) (n : ℕ) (old new : LineTold) (told : old.link.com
   back (ends.Bad m whys.Head) c = absurd (no_fault c.reading c.taken (m, whys.Head) c.read c.consumed c.ends.2)
   back (ends.Bad m whys.Length) c = absurd (no_fault c.reading c.taken (m, whys.Length) c.read c.consumed c.ends.2)
 
-pub comes_back : (items : List Item) (n : ℕ) (old new : LineTold) (end : SlipEnd) → old.link.coming ≡ Some (map Byte (capture_file items))
+pub comes_back : (items : List Item) (n : ℕ) (old new : LineView) (end : SlipEnd) → old.link.coming ≡ Some (map Byte (capture_file items))
     → length (capture_file items) < n → Converts n old new end → LineUnfailed old new
     → (end ≡ ends.End) × Appends old.sink.written new.sink.written (flat_map slip_text (datagrams_on items))
 comes_back items n old new end told short c calm = back items n old new told short calm end c

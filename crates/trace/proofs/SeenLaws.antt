@@ -1,4 +1,4 @@
--- The frames that items bring behind others, and what is written of them.
+-- The frames that items complete after others, and what is written of them.
 use Rattle.std.proofs.Common.{◌≡◌, ℕ, ◌+◌, List, [], ◌∷◌, ◌++◌, length, map, refl, sym, ap, ◌∙◌, append-nil, append_assoc, arith, length-append}
 use Rattle.std.specs.List.{enumerate_from, flat_map}
 use Rattle.std.proofs.lemmas.List.{map-append}
@@ -7,22 +7,22 @@ use Rattle.uip_edge.specs.declared.item.Item.{Item}
 use Rattle.uip_edge.specs.declared.item.Item.TheVariants.{Byte, Quiet}
 use Rattle.uip_slip.specs.Frames.{Frame, completed, frames}
 use Rattle.uip_slip.proofs.FrameLaws.{completed_by, completed_told, frames-then}
-use Rattle.trace.specs.Seen.{Seen, seen_at, seen_behind, seen_on, silences_of}
+use Rattle.trace.specs.Seen.{Seen, seen_at, seen_after, seen_on, silences_of}
 use Rattle.trace.specs.Watching.{frame_text, text_after, texts_from}
 use Rattle.trace.specs.declared.form.Form.{Form}
 use Rattle.uip_edge.specs.Coming.{bytes_among}
 use Rattle.uip_edge.proofs.Told.{bytes_among-append}
 
 -- bytes bring the frames that they complete
-seen-bytes : (before : List ℕ) (silences : ℕ) (bytes : List ℕ) → seen_behind before silences (map Byte bytes) ≡ map (seen_at silences) (completed_by before bytes)
+seen-bytes : (before : List ℕ) (silences : ℕ) (bytes : List ℕ) → seen_after before silences (map Byte bytes) ≡ map (seen_at silences) (completed_by before bytes)
 seen-bytes before silences [] = refl
 seen-bytes before silences (b ∷ bytes) =
     ap (λ l. map (seen_at silences) (completed before b) ++ l) (seen-bytes (before ++ b ∷ []) silences bytes)
     ∙ sym (map-append (seen_at silences) (completed before b) (completed_by (before ++ b ∷ []) bytes))
 
--- and these are what a decoder tells
+-- and these are what a decoder reports
 pub seen-told : (before : List ℕ) (silences : ℕ) (bytes : List ℕ) (told : List Frame) → frames (before ++ bytes) ≡ frames before ++ told
-    → seen_behind before silences (map Byte bytes) ≡ map (seen_at silences) told
+    → seen_after before silences (map Byte bytes) ≡ map (seen_at silences) told
 seen-told before silences bytes told e =
     seen-bytes before silences bytes
     ∙ ap (λ l. map (seen_at silences) l) (completed_told before bytes told e)
@@ -34,11 +34,11 @@ frames_seen_at silences (frame ∷ told) = ap (λ l. frame ∷ l) (frames_seen_a
 abbrev pub frame_in : Seen → Frame
 frame_in seen = seen.frame
 
-seen-frames : (before : List ℕ) (silences : ℕ) (items : List Item) → map frame_in (seen_behind before silences items) ≡ completed_by before (bytes_among items)
+seen-frames : (before : List ℕ) (silences : ℕ) (items : List Item) → map frame_in (seen_after before silences items) ≡ completed_by before (bytes_among items)
 seen-frames before silences [] = refl
 seen-frames before silences (Byte b ∷ items) =
-    map-append frame_in (map (seen_at silences) (completed before b)) (seen_behind (before ++ b ∷ []) silences items)
-    ∙ ap (λ l. l ++ map frame_in (seen_behind (before ++ b ∷ []) silences items)) (frames_seen_at silences (completed before b))
+    map-append frame_in (map (seen_at silences) (completed before b)) (seen_after (before ++ b ∷ []) silences items)
+    ∙ ap (λ l. l ++ map frame_in (seen_after (before ++ b ∷ []) silences items)) (frames_seen_at silences (completed before b))
     ∙ ap (λ l. completed before b ++ l) (seen-frames (before ++ b ∷ []) silences items)
 seen-frames before silences (Quiet ∷ items) = seen-frames before (silences + 1) items
 
@@ -48,17 +48,17 @@ frames_seen items = seen-frames [] 0 items ∙ sym (frames-then [] (bytes_among 
 
 -- further items follow
 pub seen-then : (before : List ℕ) (silences : ℕ) (xs ys : List Item)
-    → seen_behind before silences (xs ++ ys) ≡ seen_behind before silences xs ++ seen_behind (before ++ bytes_among xs) (silences + silences_of xs) ys
-seen-then before silences [] ys = ap (λ l. seen_behind l silences ys) (sym (append-nil before)) ∙ ap (λ n. seen_behind (before ++ []) n ys) (omega arith)
+    → seen_after before silences (xs ++ ys) ≡ seen_after before silences xs ++ seen_after (before ++ bytes_among xs) (silences + silences_of xs) ys
+seen-then before silences [] ys = ap (λ l. seen_after l silences ys) (sym (append-nil before)) ∙ ap (λ n. seen_after (before ++ []) n ys) (omega arith)
 seen-then before silences (Byte b ∷ xs) ys =
     let here = map (seen_at silences) (completed before b) in
     let behind = before ++ b ∷ [] in
     ap (λ l. here ++ l) (seen-then behind silences xs ys)
-    ∙ ap (λ l. here ++ (seen_behind behind silences xs ++ seen_behind l (silences + silences_of xs) ys)) (append_assoc before (b ∷ []) (bytes_among xs))
-    ∙ sym (append_assoc here (seen_behind behind silences xs) (seen_behind (before ++ b ∷ bytes_among xs) (silences + silences_of xs) ys))
+    ∙ ap (λ l. here ++ (seen_after behind silences xs ++ seen_after l (silences + silences_of xs) ys)) (append_assoc before (b ∷ []) (bytes_among xs))
+    ∙ sym (append_assoc here (seen_after behind silences xs) (seen_after (before ++ b ∷ bytes_among xs) (silences + silences_of xs) ys))
 seen-then before silences (Quiet ∷ xs) ys =
     seen-then before (silences + 1) xs ys
-    ∙ ap (λ n. seen_behind before (silences + 1) xs ++ seen_behind (before ++ bytes_among xs) n ys) (omega arith)
+    ∙ ap (λ n. seen_after before (silences + 1) xs ++ seen_after (before ++ bytes_among xs) n ys) (omega arith)
 
 pub silences-append : (xs ys : List Item) → silences_of (xs ++ ys) ≡ silences_of xs + silences_of ys
 silences-append [] ys = omega arith
@@ -79,21 +79,21 @@ texts-append form n xs ys =
     ap (λ l. flat_map (frame_text form) l) (enumerate-append n xs ys)
     ∙ flat_map-append (frame_text form) (enumerate_from n xs) (enumerate_from (n + length xs) ys)
 
--- what was seen of items behind others
-pub seen_on-append : (xs ys : List Item) → seen_on (xs ++ ys) ≡ seen_on xs ++ seen_behind (bytes_among xs) (silences_of xs) ys
-seen_on-append xs ys = seen-then [] 0 xs ys ∙ ap (λ n. seen_on xs ++ seen_behind (bytes_among xs) n ys) (omega arith)
+-- what was seen of items after others
+pub seen_on-append : (xs ys : List Item) → seen_on (xs ++ ys) ≡ seen_on xs ++ seen_after (bytes_among xs) (silences_of xs) ys
+seen_on-append xs ys = seen-then [] 0 xs ys ∙ ap (λ n. seen_on xs ++ seen_after (bytes_among xs) n ys) (omega arith)
 
 -- the text of items, and then that of further ones
 pub text-then : (form : Form) (before xs ys : List Item) → text_after form before (xs ++ ys) ≡ text_after form before xs ++ text_after form (before ++ xs) ys
 text-then form before xs ys =
     let bytes = bytes_among before in
     let silences = silences_of before in
-    let first = seen_behind bytes silences xs in
-    let more = seen_behind (bytes ++ bytes_among xs) (silences + silences_of xs) ys in
+    let first = seen_after bytes silences xs in
+    let more = seen_after (bytes ++ bytes_among xs) (silences + silences_of xs) ys in
     let number = length (seen_on before) + 1 in
     ap (λ l. texts_from form number l) (seen-then bytes silences xs ys)
     ∙ texts-append form number first more
-    ∙ ap (λ l. texts_from form number first ++ texts_from form (number + length first) (seen_behind l (silences + silences_of xs) ys)) (sym (bytes_among-append before xs))
-    ∙ ap (λ n. texts_from form number first ++ texts_from form (number + length first) (seen_behind (bytes_among (before ++ xs)) n ys)) (sym (silences-append before xs))
-    ∙ ap (λ n. texts_from form number first ++ texts_from form n (seen_behind (bytes_among (before ++ xs)) (silences_of (before ++ xs)) ys))
+    ∙ ap (λ l. texts_from form number first ++ texts_from form (number + length first) (seen_after l (silences + silences_of xs) ys)) (sym (bytes_among-append before xs))
+    ∙ ap (λ n. texts_from form number first ++ texts_from form (number + length first) (seen_after (bytes_among (before ++ xs)) n ys)) (sym (silences-append before xs))
+    ∙ ap (λ n. texts_from form number first ++ texts_from form n (seen_after (bytes_among (before ++ xs)) (silences_of (before ++ xs)) ys))
     (let size = ap (λ l. length l) (seen_on-append before xs) in omega (arith, size, length-append (seen_on before) first))

@@ -1,4 +1,4 @@
--- What was told of a line, under another name and behind a head.
+-- What was reported of a line, under another name and after a header.
 use Rattle.std.proofs.Common.{◌≡◌, ℕ, ◌<◌, List, [], ◌++◌, Option, length, length-append, append-nil, sym, ap, ◌∙◌, arith, subst}
 use Rattle.std.specs.Io.KnownBytes.{Appends}
 use Rattle.uip_edge.specs.Coming.{Consumes, TookAll}
@@ -7,7 +7,7 @@ use Rattle.uip_edge.specs.declared.item.Item.{Item}
 use Rattle.uip_edge.specs.declared.serve_end.ServeEnd.{ServeEnd}
 use Rattle.uip_edge.specs.declared.serve_end.ServeEnd.TheVariants as ends
 use Rattle.trace.specs.Telling.{TellsLine}
-use Rattle.uip_edge.specs.Told.{LineTold}
+use Rattle.uip_edge.specs.Views.{LineView}
 use Rattle.uip_edge.specs.Ending.{EndsBy, WrittenBy}
 
 -- the text was written whole, whatever the end
@@ -18,7 +18,7 @@ written_by a b text ends.LinkFault w = w
 written_by a b text ends.WriteFault w = (text, [], sym (append-nil text), w)
 
 -- the same text under another name
-pub told_by_name : (text text' : List Item → List ℕ) (n : ℕ) (old new : LineTold) (end : ServeEnd) → ((items : List Item) → text' items ≡ text items)
+pub told_by_name : (text text' : List Item → List ℕ) (n : ℕ) (old new : LineView) (end : ServeEnd) → ((items : List Item) → text' items ≡ text items)
     → TellsLine text n old new end → TellsLine text' n old new end
 told_by_name text text' n old new end same t =
     record {
@@ -35,7 +35,7 @@ headed head text whole a b c ends.Budget e v w = appends_by a c _ _ e (Appends-t
 headed head text whole a b c ends.LinkFault e v w = appends_by a c _ _ e (Appends-then a b c head text v w)
 headed head text whole a b c ends.WriteFault e v w = prefix_by a c _ _ e (prefix_then a b c head text v w)
 
-ends_as : (n : ℕ) (taken : List Item) (old mid new : LineTold) (end : ServeEnd) → mid.link.coming ≡ old.link.coming → mid.link.faults ≡ old.link.faults
+ends_as : (n : ℕ) (taken : List Item) (old mid new : LineView) (end : ServeEnd) → mid.link.coming ≡ old.link.coming → mid.link.faults ≡ old.link.faults
     → mid.sink.faults ≡ old.sink.faults → EndsBy n mid new taken end → EndsBy n old new taken end
 ends_as n taken old mid new ends.End i l k t = (subst (λ (o : Option (List Item)). TookAll o taken) i t.0, t.1, t.2 ∙ l, t.3 ∙ k)
 ends_as n taken old mid new ends.Budget i l k t = (t.0, t.1 ∙ l, t.2 ∙ k)
@@ -43,10 +43,10 @@ ends_as n taken old mid new ends.LinkFault i l k t = (t.0, rw l at t.1, t.2 ∙ 
 ends_as n taken old mid new ends.WriteFault i l k t = (t.0, t.1 ∙ l, rw k at t.2)
 
 -- a head was written before
-pub told_behind : (head : List ℕ) (text text' : List Item → List ℕ) (n : ℕ) (old mid new : LineTold) (end : ServeEnd) → ((items : List Item) → text' items ≡ head ++ text items)
+pub reported_after : (head : List ℕ) (text text' : List Item → List ℕ) (n : ℕ) (old mid new : LineView) (end : ServeEnd) → ((items : List Item) → text' items ≡ head ++ text items)
     → mid.link.coming ≡ old.link.coming → mid.link.faults ≡ old.link.faults → mid.sink.faults ≡ old.sink.faults → Appends old.sink.written mid.sink.written head
     → TellsLine text n mid new end → TellsLine text' n old new end
-told_behind head text text' n old mid new end same i l k w t = record {
+reported_after head text text' n old mid new end same i l k w t = record {
   taken = t.taken;
   consumed = subst (λ (o : Option (List Item)). Consumes o new.link.coming t.taken) i t.consumed;
   ends = ends_as n t.taken old mid new end i l k t.ends;

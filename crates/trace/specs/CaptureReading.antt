@@ -1,4 +1,4 @@
--- What a capture file holds: its grammar in either byte order, and where its bytes end.
+-- The content of a capture file: its grammar in either byte order, and where its bytes end.
 use Rattle.std.specs.Prelude.{◌≡◌, ◌<◌, ◌≤◌, ◌+◌, ◌*◌, ◌&&◌, ℕ, Bool, List, [], ◌∷◌, ◌++◌, length, map, take, drop, slice_index, Option, Some, None, if◌then◌else◌}
 use Rattle.std.specs.List.{AllByRecursion, flat_map}
 use Rattle.std.specs.Str.{bytes_eq}
@@ -11,13 +11,13 @@ use Rattle.trace.specs.declared.byte_order.ByteOrder.TheVariants.{Big, Little}
 use Rattle.trace.specs.declared.slip_end.CaptureWhy.{CaptureWhy}
 use Rattle.trace.specs.declared.slip_end.CaptureWhy.TheVariants.{Head, Length}
 
--- the field of four bytes at a place, in a byte order
+-- the field of four bytes at an offset, in a byte order
 abbrev pub field_at : ByteOrder → List ℕ → ℕ → ℕ
 field_at Big bytes at = long_at bytes at
 field_at Little bytes at =
     slice_index bytes at + 256 * slice_index bytes (at + 1) + 65536 * slice_index bytes (at + 2) + 16777216 * slice_index bytes (at + 3)
 
--- a header has the signature and the link type; what stands between them is free
+-- a header has the signature and the link type; what is between them is free
 abbrev pub is_header : ByteOrder → List ℕ → Bool
 is_header order header = bytes_eq (take 8 header) (signature order) && bytes_eq (drop 20 header) (link_type order)
 
@@ -33,7 +33,7 @@ pub record Captured : Type 0 where
 abbrev pub captured_bytes : Captured → List ℕ
 captured_bytes captured = captured.head ++ captured.body
 
--- the length of a record's data stands third among its four numbers; the times and the second length are free
+-- the length of a record's data is the third of its four numbers; the times and the second length are free
 abbrev pub length_in : ByteOrder → List ℕ → ℕ
 length_in order head = field_at order head 8
 
@@ -42,7 +42,7 @@ pub record IsCaptured (order : ByteOrder) (captured : Captured) : Type 0 where
   pub body : length captured.body ≡ length_in order captured.head
   pub fits : length captured.body ≤ LARGEST_DATAGRAM
 
--- a header and whole records, and the bytes behind them
+-- a header and whole records, and the bytes after them
 pub record BeginsWith (order : ByteOrder) (records : List Captured) (rest bytes : List ℕ) : Type 0 where
   pub header : List ℕ
   pub size : length header ≡ 24
@@ -50,12 +50,12 @@ pub record BeginsWith (order : ByteOrder) (records : List Captured) (rest bytes 
   pub sound : AllByRecursion (IsCaptured order) records
   pub spelled : bytes ≡ header ++ flat_map captured_bytes records ++ rest
 
--- these bytes are less than a record, and none of its four numbers is at fault yet
+-- these bytes are less than a record, and none of its four numbers has a fault yet
 pub record IsCutRecord (order : ByteOrder) (rest : List ℕ) : Type 0 where
   pub fits : 16 ≤ length rest → length_in order rest ≤ LARGEST_DATAGRAM
   pub short : 16 ≤ length rest → length rest < 16 + length_in order rest
 
--- the record that these bytes begin tells a length that no datagram has
+-- the record that these bytes begin has a length that no datagram has
 pub record HasLongRecord (order : ByteOrder) (rest : List ℕ) : Type 0 where
   pub head : 16 ≤ length rest
   pub long : LARGEST_DATAGRAM < length_in order rest
@@ -68,7 +68,7 @@ pub data Reading : Type 0 where
   InRecord : List Captured → Reading
   BadLength : List Captured → Reading
 
--- the bytes are read so
+-- the bytes have this reading
 abbrev pub IsReadAs : List ℕ → Reading → Type 0
 IsReadAs bytes InHeader = length bytes < 24
 IsReadAs bytes BadHeader = (24 ≤ length bytes) × (order_of (take 24 bytes) ≡ None)

@@ -1,4 +1,4 @@
--- The constants of the code that definitions cite, with their values: a definition that names one says this number.
+-- The constants of the code that definitions name, and their values.
 use Rattle.std.specs.Prelude.{◌≡◌}
 use Rattle.trace.specs.declared.area.TheConstants.{LONGEST_RECORD}
 

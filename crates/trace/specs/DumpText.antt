@@ -1,4 +1,5 @@
 -- The text of a dump: one line for each frame of a serial line.
+-- [add: fate] The word of a fate.
 use Rattle.std.specs.Prelude.{ℕ, List, [], ◌∷◌, ◌++◌, length, slice_index, Option, Some, Result, Ok, Err, codes, decimal}
 use Rattle.std.specs.List.{enumerate_from, flat_map}
 use Rattle.uip_wire.specs.Addr.{address_at, quad_text}
@@ -20,12 +21,13 @@ use Rattle.uip_edge.specs.declared.item.Item.{Item}
 use Rattle.uip_slip.specs.Frames.{Frame, Datagram, Overlong, frames}
 use Rattle.uip_edge.specs.Coming.{bytes_among}
 
--- a dash stands for none
+-- a dash, if there are none
 abbrev pub letters_or_dash : List ℕ → List ℕ
 letters_or_dash [] = codes "-"
 letters_or_dash (letter ∷ letters) = letter ∷ letters
 
--- why a datagram is dropped; that it is for another node is never told, since its own destination is taken for the node
+-- Why a datagram is dropped. A datagram for another node is never reported, since its own destination is used as the node's
+-- address.
 abbrev pub ip_word : IpFate → List ℕ
 ip_word ip.Short = codes "short"
 ip_word ip.Version = codes "version"
@@ -46,7 +48,7 @@ message_words head message =
     quad_text head.source.0 ++ codes " " ++ quad_text head.target.0 ++ codes " "
     ++ decimal (slice_index message 0) ++ codes " " ++ decimal (slice_index message 1)
 
--- what is told of a message: it need be no echo request
+-- what is reported of a message, which may be another than an echo request
 abbrev pub icmp_words : IpHead → List ℕ → Option IcmpFate → List ℕ
 icmp_words head message (Some icmp.Short) = codes "short"
 icmp_words head message (Some icmp.Checksum) = codes "checksum"
@@ -70,7 +72,7 @@ abbrev pub tcp_words : IpHead → Result Segment TcpFate → List ℕ
 tcp_words head (Err fate) = tcp_word fate
 tcp_words head (Ok s) = segment_words head s
 
--- what is told of a datagram whose header is sound
+-- what is reported of a datagram whose header is sound
 abbrev pub payload_words : Proto → IpHead → List ℕ → List ℕ
 payload_words Icmp head bytes = codes " icmp " ++ icmp_words head (payload_of head bytes) (echo_fate (payload_of head bytes))
 payload_words Tcp head bytes = codes " tcp " ++ tcp_words head (segment_or_fate head bytes)
@@ -79,8 +81,8 @@ abbrev pub datagram_words : Result IpHead IpFate → List ℕ → List ℕ
 datagram_words (Err fate) bytes = codes " ip " ++ ip_word fate
 datagram_words (Ok head) bytes = payload_words head.proto head bytes
 
--- the line of a frame with its number: a datagram's has its length, and the first check that it fails or what it says, with
--- its own destination taken for the node's address
+-- The line of a frame with its number. That of a datagram has its length, and the first check that it fails or what it is,
+-- with its own destination as the node's address.
 abbrev pub dump_line : ℕ → Frame → List ℕ
 dump_line number Overlong = decimal number ++ codes " overlong\n"
 dump_line number (Datagram bytes) =

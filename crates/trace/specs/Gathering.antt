@@ -1,4 +1,4 @@
--- What the reader of a capture file knows of the bytes that it took, and what stops it.
+-- What the reader of a capture file knows of the bytes that it consumed, and what stops it.
 use Rattle.std.specs.Prelude.{◌≡◌, ◌<◌, ◌≤◌, ◌+◌, ℕ, List, [], ◌∷◌, ◌++◌, Option, Some, None, length}
 use Rattle.std.specs.Io.KnownBytes.{Appends}
 use Rattle.uip_edge.specs.Causes.{Rose}
@@ -15,33 +15,32 @@ use Rattle.trace.specs.declared.slip_end.CaptureWhy.TheVariants as whys
 use Rattle.trace.specs.declared.slip_end.SlipEnd.{SlipEnd}
 use Rattle.trace.specs.declared.slip_end.SlipEnd.TheVariants as ends
 use Rattle.trace.specs.declared.stage.Stage.{Stage}
-use Rattle.uip_edge.specs.Told.{SinkTold}
+use Rattle.uip_edge.specs.Views.{SinkView}
 use Rattle.trace.specs.declared.stage.Stage.TheVariants as stages
 
--- how long the part has to be
+-- the length of a complete part
 abbrev pub Wants : Stage → List ℕ → ℕ → Type 0
 Wants stages.Header part want = want ≡ 24
 Wants (stages.Head order) part want = want ≡ 16
 Wants (stages.Body order) part want = (16 < want) × (want ≤ LONGEST_RECORD) × (16 ≤ length part) × (want ≡ 16 + length_in order part)
 
--- the part is not whole yet
+-- the part is not complete yet
 pub record IsOpen (stage : Stage) (part : List ℕ) (want : ℕ) : Type 0 where
   pub wants : Wants stage part want
   pub short : length part < want
 
--- the part is whole
+-- the part is complete
 pub record IsFull (stage : Stage) (part : List ℕ) (want : ℕ) : Type 0 where
   pub wants : Wants stage part want
   pub full : length part ≡ want
 
--- The bytes are a header and these records, and the part behind them. The record that is read next has this number; the
--- header has number 0.
+-- The bytes are a header and these records, and the part after them. The next record has this number; the header has number 0.
 abbrev pub HasRead : List ℕ → List Captured → Stage → ℕ → List ℕ → Type 0
 HasRead bytes records stages.Header number part = (number ≡ 0) × (records ≡ []) × (part ≡ bytes)
 HasRead bytes records (stages.Head order) number part = (number ≡ length records + 1) × BeginsWith order records part bytes
 HasRead bytes records (stages.Body order) number part = (number ≡ length records + 1) × BeginsWith order records part bytes
 
--- and the line of the records was written, from where the sink stood at the start
+-- and the line of the records was written, from the start on
 pub record IsReadTo (start now : Option (List ℕ)) (bytes : List ℕ) (stage : Stage) (number : ℕ) (part : List ℕ) : Type 0 where
   pub records : List Captured
   pub read : HasRead bytes records stage number part
@@ -57,13 +56,13 @@ IsFullIn reader = IsFull reader.stage reader.part reader.want
 abbrev pub HasReadTo : Option (List ℕ) → Option (List ℕ) → List ℕ → Reader → Type 0
 HasReadTo start now bytes reader = IsReadTo start now bytes reader.stage reader.number reader.part
 
--- these bytes are read so, and the writing of their records' line broke off
+-- these bytes have this reading, and the writing of their records' line broke off
 pub record BrokeOff (start now : Option (List ℕ)) (bytes : List ℕ) : Type 0 where
   pub reading : Reading
   pub read : IsReadAs bytes reading
   pub broke : BreaksOff [] (lines_of (captured_in reading)) start now
 
--- the file is at fault: these bytes are read so, and the line of the records before the fault was written
+-- the file has a fault: these bytes have this reading, and the line of the records before the fault was written
 pub record IsAtFault (why : CaptureWhy) (start now : Option (List ℕ)) (bytes : List ℕ) (number : ℕ) : Type 0 where
   pub reading : Reading
   pub read : IsReadAs bytes reading
@@ -74,7 +73,7 @@ pub record IsAtFault (why : CaptureWhy) (start now : Option (List ℕ)) (bytes :
 abbrev pub KeepsRead : Reader → Reader → Type 0
 KeepsRead old new = (start now : Option (List ℕ)) (bytes : List ℕ) → HasReadTo start now bytes old → HasReadTo start now bytes new
 
--- what was read so far has this fault, whatever more comes
+-- what was read so far has this fault, whatever follows
 abbrev pub HasFault : Reader → ℕ → CaptureWhy → Type 0
 HasFault old number why =
     (start now : Option (List ℕ)) (bytes more : List ℕ) → HasReadTo start now bytes old → IsAtFault why start now (bytes ++ more) number
@@ -84,27 +83,27 @@ abbrev pub StopsAt : Stop → Option (List ℕ) → Option (List ℕ) → List �
 StopsAt stops.WriteFault start now bytes number = BrokeOff start now bytes
 StopsAt (stops.Bad why) start now bytes number = IsAtFault why start now bytes number
 
--- a write failed only where the sink's count rose; else the count stays
+-- a write failed only if the sink's count rose; else the count stays the same
 abbrev pub StopBy : Stop → ℕ → ℕ → Type 0
 StopBy stops.WriteFault before now = Rose before now
 StopBy (stops.Bad why) before now = now ≡ before
 
--- the answer to the end of the link
+-- the end of a call at the end of the link
 abbrev pub end_at : Stage → List ℕ → ℕ → SlipEnd
 end_at (stages.Head order) [] number = ends.End
 end_at (stages.Head order) (b ∷ part) number = ends.Bad number whys.Cut
 end_at (stages.Body order) part number = ends.Bad number whys.Cut
 end_at stages.Header part number = ends.Bad number whys.Cut
 
--- the bytes are read so, and are not at fault
+-- the bytes have this reading, and no fault
 pub record IsReadSound (bytes : List ℕ) : Type 0 where
   pub reading : Reading
   pub read : IsReadAs bytes reading
   pub sound : fault_in reading ≡ None
 
--- the reading stopped among these bytes, behind sound ones
-pub record Stopped (stop : Stop) (start : Option (List ℕ)) (before : List Item) (bytes : List ℕ) (faults : ℕ) (new : SinkTold)
+-- the reading stopped among these bytes, after sound ones
+pub record Stopped (stop : Stop) (start : Option (List ℕ)) (before : List Item) (bytes : List ℕ) (faults : ℕ) (new : SinkView)
     (number : ℕ) : Type 0 where
-  pub front : IsReadSound (bytes_among before)
+  pub prefix : IsReadSound (bytes_among before)
   pub stops : StopsAt stop start new.written (bytes_among before ++ bytes) number
   pub by : StopBy stop faults new.faults

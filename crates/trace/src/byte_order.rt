@@ -1,8 +1,8 @@
 /// The order of the bytes in the numbers of a capture file.
 #[derive(Clone, Copy, Debug, PartialEq, Eq)]
 pub(crate) enum ByteOrder {
-    /// The high byte stands first.
+    /// The high byte is first.
     Big,
-    /// The low byte stands first.
+    /// The low byte is first.
     Little,
 }

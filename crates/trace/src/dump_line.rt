@@ -13,7 +13,7 @@ use tcp_segment::{Segment, TcpFate, check as check_segment};
 use uip_ipv4::{IpFate, IpHead, Proto, check as check_head};
 use uip_wire::{Addr, LARGEST_DATAGRAM, Port, checksum};
 
-/// The line of an overlong frame.
+/// Makes the line of an overlong frame.
 pub(crate) fn put_overlong_line(area: &mut Area, number: u64)
     requires { area.old ≡ [] }
     ensures { area.new ≡ dump_line number Overlong }
@@ -22,7 +22,7 @@ pub(crate) fn put_overlong_line(area: &mut Area, number: u64)
     area.put(b" overlong\n");
 }
 
-/// The line of a datagram.
+/// Makes the line of a datagram.
 pub(crate) fn put_datagram_line(area: &mut Area, number: u64, datagram: &[u8])
     requires empty { area.old ≡ [] }
     requires most { length datagram.now ≤ LARGEST_DATAGRAM }
@@ -35,7 +35,7 @@ pub(crate) fn put_datagram_line(area: &mut Area, number: u64, datagram: &[u8])
     area.put(b"\n");
 }
 
-/// The line goes on with the first check that a datagram fails, or with what it says.
+/// Appends the first check that a datagram fails, or what the datagram is.
 fn put_datagram_words(area: &mut Area, datagram: &[u8])
     requires room { length area.old ≤ 900 }
     requires most { length datagram.now ≤ LARGEST_DATAGRAM }
@@ -51,7 +51,7 @@ fn put_datagram_words(area: &mut Area, datagram: &[u8])
     }
 }
 
-/// The header of a datagram at its own destination, or the first check that fails.
+/// Returns the header of a datagram, evaluated at its own destination, or the first check that fails.
 #[tactic(auto, unfolding(uip_ipv4::specs::Head::head_or_fate))]
 fn head_of(datagram: &[u8]) -> Result<IpHead, IpFate>
     ensures exact { result ≡ head_or_fate datagram.now (address_at datagram.now 16) }
@@ -65,7 +65,8 @@ fn head_of(datagram: &[u8]) -> Result<IpHead, IpFate>
     check_head(datagram, Addr::get(datagram, 16))
 }
 
-/// The word of a fate.
+/// Returns the word of a fate.
+/// [add: fate] The word of an IP fate; those of ICMP and TCP are in `put_message` and `put_segment`.
 fn ip_text(fate: IpFate) -> &'static [u8]
     ensures text { result.now ≡ ip_word fate }
     ensures short { length result.now ≤ 8 }
@@ -81,7 +82,7 @@ fn ip_text(fate: IpFate) -> &'static [u8]
     }
 }
 
-/// The line goes on with what a datagram carries.
+/// Appends what a datagram carries.
 fn put_payload(area: &mut Area, head: &IpHead, datagram: &[u8])
     requires room { length area.old ≤ 900 }
     requires head { IsHeadOf head.now datagram.now }
@@ -102,7 +103,7 @@ fn put_payload(area: &mut Area, head: &IpHead, datagram: &[u8])
     }
 }
 
-/// The line goes on with the first check that a message fails, or with what it says. It need be no echo request.
+/// Appends the first check that a message fails, or what it is. It may be another message than an echo request.
 fn put_message(area: &mut Area, head: &IpHead, message: &[u8])
     requires room { length area.old ≤ 1000 }
     ensures text { area.new ≡ area.old ++ icmp_words head.now message.now (echo_fate message.now) }
@@ -123,7 +124,7 @@ fn put_message(area: &mut Area, head: &IpHead, message: &[u8])
     area.put_number(u64::from(message[1]));
 }
 
-/// The line goes on with the first check that a segment fails, or with what it says.
+/// Appends the first check that a segment fails, or what it is.
 fn put_segment(area: &mut Area, head: &IpHead, read: Result<Segment, TcpFate>)
     requires room { length area.old ≤ 1000 }
     ensures text { area.new ≡ area.old ++ tcp_words head.now read }
@@ -137,7 +138,7 @@ fn put_segment(area: &mut Area, head: &IpHead, read: Result<Segment, TcpFate>)
     }
 }
 
-/// The line goes on with what a segment says.
+/// Appends what a segment is.
 fn put_segment_words(area: &mut Area, head: &IpHead, segment: &Segment)
     requires room { length area.old ≤ 1000 }
     ensures text { area.new ≡ area.old ++ segment_words head.now segment.now }
@@ -152,7 +153,7 @@ fn put_segment_words(area: &mut Area, head: &IpHead, segment: &Segment)
     put_numbers(area, segment);
 }
 
-/// The line goes on with a segment's numbers and the length of its text.
+/// Appends a segment's numbers and the length of its text.
 fn put_numbers(area: &mut Area, segment: &Segment)
     requires room { length area.old ≤ 1300 }
     ensures text { area.new ≡ area.old ++ numbers_text segment.now }
@@ -165,7 +166,7 @@ fn put_numbers(area: &mut Area, segment: &Segment)
     area.put_number(segment.text_len as u64);
 }
 
-/// The line goes on with an address and a port.
+/// Appends an address and a port.
 fn put_socket(area: &mut Area, address: Addr, port: Port)
     requires room { length area.old ≤ 1300 }
     ensures text { area.new ≡ area.old ++ socket_text address.0 port.0 }
@@ -176,7 +177,7 @@ fn put_socket(area: &mut Area, address: Addr, port: Port)
     area.put_number(u64::from(port.0));
 }
 
-/// The line goes on with the letters of a segment's flags, or with a dash where there are none.
+/// Appends the letters of a segment's flags, or a dash if there are none.
 fn put_flags(area: &mut Area, segment: &Segment)
     requires room { length area.old ≤ 1300 }
     ensures text { area.new ≡ area.old ++ letters_or_dash (flag_letters segment.now.flags) }

@@ -7,7 +7,7 @@ ghost use Rattle.trace.specs.CaptureReading.{field_at, order_of as order_meant};
 use crate::byte_order::ByteOrder;
 use uip_wire::get32;
 
-/// The byte order of the file with this header, if it is a good one.
+/// Returns the byte order of the file with this header, if the header is a good one.
 pub(crate) fn order_of(header: &[u8]) -> Option<ByteOrder>
     requires { length header.now ≡ 24 }
     ensures { result ≡ order_meant header.now }
@@ -29,7 +29,7 @@ pub(crate) fn order_of(header: &[u8]) -> Option<ByteOrder>
     None
 }
 
-/// A header has this signature and this link type.
+/// Returns whether a header has this signature and this link type.
 fn is_header(header: &[u8], signature: &[u8], link_type: &[u8]) -> bool
     requires { length header.now ≡ 24 }
     ensures { result ≡ (bytes_eq (take 8 header.now) signature.now && bytes_eq (drop 20 header.now) link_type.now) }
@@ -37,7 +37,7 @@ fn is_header(header: &[u8], signature: &[u8], link_type: &[u8]) -> bool
     &header[..8] == signature && &header[20..] == link_type
 }
 
-/// The field of four bytes at a place.
+/// Returns the field of four bytes at an offset.
 pub(crate) fn field(order: ByteOrder, bytes: &[u8], at: usize) -> u32
     requires { at + 4 ≤ length bytes.now }
     ensures { result ≡ field_at order bytes.now at }

@@ -1,4 +1,4 @@
-//! What the definitions of a capture file say, and what must be answered.
+//! What the definitions of a capture file give, and what must be reported.
 
 ghost use Rattle.std.specs.Prelude.{◌≡◌, ◌<◌, List, ℕ, Some, length, map};
 ghost use Rattle.std.specs.Io.KnownBytes.{Appends};
@@ -11,10 +11,10 @@ ghost use Rattle.trace.specs.CaptureText.{capture_file, datagrams_on};
 ghost use Rattle.trace.specs.Converting.{Converts, IsSurely, SlipEndsBy};
 ghost use Rattle.trace.specs.declared.slip_end.SlipEnd.{SlipEnd as AnyEnd};
 ghost use Rattle.trace.specs.declared.slip_end.SlipEnd.TheVariants.{End};
-ghost use Rattle.uip_edge.specs.Told.{LineTold, LineUnfailed};
+ghost use Rattle.uip_edge.specs.Views.{LineView, LineUnfailed};
 ghost use Rattle.trace.specs.ConstantValues.{ConstantValues};
 
-/// The bytes of a capture file are read in one way alone.
+/// The bytes of a capture file have one reading.
 pub fn read_in_one_way()
     ensures { (bytes : List ℕ) (one other : Reading) → IsReadAs bytes one → IsReadAs bytes other → one ≡ other }
 {}
@@ -24,23 +24,22 @@ pub fn records_are_datagrams()
     ensures { (items : List Item) → HoldsJust (datagrams_on items) (capture_file items) }
 {}
 
-/// What `pcap` wrote of a line, `slip` writes as the SLIP texts of the line's datagrams, and answers the end.
+/// What `pcap` wrote of a line, `slip` converts to the SLIP texts of the line's datagrams, and reports the end.
 pub fn lines_come_back()
-    ensures { (items : List Item) (n : ℕ) (old new : LineTold) (end : AnyEnd)
+    ensures { (items : List Item) (n : ℕ) (old new : LineView) (end : AnyEnd)
         → old.link.coming ≡ Some (map Byte (capture_file items))
         → length (capture_file items) < n → Converts n old new end → LineUnfailed old new
         → (end ≡ End) × Appends old.sink.written new.sink.written (flat_map slip_text (datagrams_on items)) }
 {}
 
-/// Where nothing failed, `slip` answers a fault of the file wherever there is one, else the budget, and else the end or a
-/// cut.
-pub fn slip_end_is_told()
-    ensures { (n : ℕ) (old new : LineTold) (taken : List Item) (reading : Reading) (end : AnyEnd)
+/// If nothing failed, `slip` reports a fault of the file if there is one, else the budget, and else the end or a cut.
+pub fn slip_end_is_reported()
+    ensures { (n : ℕ) (old new : LineView) (taken : List Item) (reading : Reading) (end : AnyEnd)
         → SlipEndsBy n old new taken reading end
         → LineUnfailed old new → IsSurely n old new taken reading end }
 {}
 
-/// The numbers that the definitions name by the code's constants.
+/// The constants have the values that the definitions name.
 pub fn constant_values()
     ensures { ConstantValues }
 {}

@@ -1,6 +1,6 @@
-//! Serial lines that can be read: `dump` writes a line of text for each frame, `pcap` a capture file of the datagrams, and
-//! `slip` makes a capture file a serial line again. What is written is told of the whole list of items that were taken,
-//! however the link cut them. No call is given an allocator.
+//! Dumps and captures of serial lines: `dump` writes a line of text for each frame, `pcap` a capture file of the datagrams, and
+//! `slip` converts a capture file back to a serial line. The output is defined over the whole list of items that were consumed,
+//! however the link cuts them. No call is passed an allocator.
 #![tactic(auto)]
 
 mod area;
@@ -21,7 +21,7 @@ mod watch;
 
 pub use converting::slip;
 pub use laws::{
-    constant_values, lines_come_back, read_in_one_way, records_are_datagrams, slip_end_is_told,
+    constant_values, lines_come_back, read_in_one_way, records_are_datagrams, slip_end_is_reported,
 };
 pub use slip_end::{CaptureWhy, SlipEnd};
 pub use telling::{dump, pcap};

@@ -1,3 +1,5 @@
+//! Reads a capture file, part by part.
+
 ghost use Rattle.std.specs.Prelude.{◌≡◌, ◌<◌, ◌≤◌, ◌+◌, ◌^◌, ◌++◌, [], List, ℕ, Option, IfErr, OnErr, OnOk};
 ghost use Rattle.uip_edge.specs.Causes.{HasCause};
 ghost use Rattle.trace.specs.Gathering.{BrokeOff, HasFault, HasReadTo, IsFullIn, IsOpenIn, KeepsRead, StopBy, StopsAt, end_at};
@@ -15,13 +17,13 @@ use uip_edge::{Failed, Sink};
 use uip_slip::Encoder;
 use uip_wire::LARGEST_DATAGRAM;
 
-/// The bytes of a capture file's header.
+/// The length of a capture file's header, in bytes.
 const HEADER_LEN: usize = 24;
 
-/// The bytes of a record's times and lengths.
+/// The length of a record's times and lengths, in bytes.
 const HEAD_LEN: usize = 16;
 
-/// Why the reading goes no further.
+/// Why the reading stops.
 #[derive(Clone, Copy, Debug, PartialEq, Eq)]
 pub(crate) enum Stop {
     WriteFault,
@@ -48,17 +50,17 @@ impl From<Failed> for Stop {
 #[derive(Drop)]
 pub(crate) struct Reader {
     pub stage: Stage,
-    /// The number of the record that is read next, counted from 1; the header has number 0.
+    /// The number of the next record, counted from 1; the header has number 0.
     pub number: u64,
     /// What was read of the header or of a record.
     pub part: Area,
-    /// How long the part has to be before it is looked at.
+    /// The length at which the part is complete, in bytes.
     pub want: usize,
     encoder: Encoder,
 }
 
 impl Reader {
-    /// A file of which nothing was read.
+    /// Returns a reader that has read nothing.
     pub fn new() -> Reader
         ensures open { IsOpenIn result }
         ensures number { result.number ≡ 0 }
@@ -73,7 +75,7 @@ impl Reader {
         }
     }
 
-    /// The answer where the link answers its end.
+    /// Returns the end of the call if the link is at its end.
     pub fn end(&self) -> SlipEnd
         ensures { result ≡ end_at self.now.stage self.now.part self.now.number }
     {
@@ -83,7 +85,7 @@ impl Reader {
         }
     }
 
-    /// The answer where the header or the record that is being read is at fault.
+    /// Returns the end of the call if the header or the record being read has a fault.
     pub fn bad(&self, why: CaptureWhy) -> SlipEnd
         ensures { result ≡ BadEnd self.now.number why }
     {
@@ -93,7 +95,7 @@ impl Reader {
         }
     }
 
-    /// The part is as long as was wanted.
+    /// Handles a part that is complete.
     fn look<K: Sink>(&mut self, sink: &mut K) -> Result<(), Stop>
         requires full { IsFullIn self.old }
         requires number { self.old.number + 1 < 2 ^ 64 }
@@ -115,7 +117,7 @@ impl Reader {
         }
     }
 
-    /// The header is whole.
+    /// Handles the whole header.
     fn look_at_header(&mut self) -> Result<(), CaptureWhy>
         requires full { IsFullIn self.old }
         requires number { self.old.number + 1 < 2 ^ 64 }
@@ -134,7 +136,7 @@ impl Reader {
         }
     }
 
-    /// The times and lengths of a record are whole.
+    /// Handles the times and lengths of a record.
     fn look_at_head(&mut self, order: ByteOrder) -> Result<(), CaptureWhy>
         requires full { IsFullIn self.old }
         requires number { self.old.number + 1 < 2 ^ 64 }
@@ -157,7 +159,7 @@ impl Reader {
         Ok(())
     }
 
-    /// The datagram of a record is whole.
+    /// Handles the whole datagram of a record.
     fn look_at_body<K: Sink>(&mut self, order: ByteOrder, sink: &mut K) -> Result<(), Failed>
         requires full { IsFullIn self.old }
         requires number { self.old.number + 1 < 2 ^ 64 }
@@ -177,7 +179,7 @@ impl Reader {
         Ok(())
     }
 
-    /// A record follows.
+    /// Begins the next record.
     fn start_record(&mut self, order: ByteOrder)
         requires { self.old.number + 1 < 2 ^ 64 }
         ensures { self.new ≡ record self.old { stage = stages.Head order; number = self.old.number + 1; part = []; want = 16 } }
@@ -196,7 +198,7 @@ impl LineReader for Reader {
 
     type Stop = Stop;
 
-    ghost Set = { Option (List ℕ) };
+    ghost Config = { Option (List ℕ) };
 
     ghost ready = { λ reader. IsOpenIn reader };
 
@@ -206,11 +208,11 @@ impl LineReader for Reader {
 
     ghost stopped = { λ reader start stop before bytes faults now. Stopped stop start before bytes faults now reader.number };
 
-    /// A silence says nothing.
+    /// Ignores a silence.
     fn silence(&mut self) {}
 
-    /// Takes as many bytes as the part still wants.
-    fn take_front<K: Sink>(&mut self, bytes: &[u8], sink: &mut K) -> Result<usize, Stop> {
+    /// Consumes as many bytes as the part still needs.
+    fn take_prefix<K: Sink>(&mut self, bytes: &[u8], sink: &mut K) -> Result<usize, Stop> {
         let count = bytes.len().min(self.want - self.part.len());
         self.part.put(&bytes[..count]);
         if self.part.len() == self.want {

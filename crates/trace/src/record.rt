@@ -14,7 +14,7 @@ pub(crate) const HEADER: [u8; 24] = [
     0xA1, 0xB2, 0xC3, 0xD4, 0, 2, 0, 4, 0, 0, 0, 0, 0, 0, 0, 0, 0, 0, 0xFF, 0xFF, 0, 0, 0, 101,
 ];
 
-/// The record of a datagram.
+/// Makes the record of a datagram.
 pub(crate) fn put_record(area: &mut Area, silences: u64, datagram: &[u8])
     requires empty { area.old ≡ [] }
     requires most { length datagram.now ≤ LARGEST_DATAGRAM }
@@ -29,7 +29,7 @@ pub(crate) fn put_record(area: &mut Area, silences: u64, datagram: &[u8])
     area.put(datagram);
 }
 
-/// Adds a number as four bytes, the high byte first.
+/// Appends a number as four bytes, the high byte first.
 fn put_long(area: &mut Area, number: u32)
     requires { length area.old ≤ 16 }
     ensures text { area.new ≡ area.old ++ long_bytes number }

@@ -1,7 +1,9 @@
+//! The ends of `slip`.
+
 /// What is wrong with a capture file.
 #[derive(Clone, Copy, Debug, PartialEq, Eq)]
 pub enum CaptureWhy {
-    /// Its header is none that is read: another magic number, another version or another link type.
+    /// Its header is not supported: another magic number, version or link type.
     Head,
     /// It ends inside its header or inside a record.
     Cut,
@@ -12,14 +14,14 @@ pub enum CaptureWhy {
 /// How the reading of a capture file ended.
 #[derive(Clone, Copy, Debug, PartialEq, Eq)]
 pub enum SlipEnd {
-    /// The link answered its end behind the header or behind a whole record.
+    /// The link ended after the header or after a whole record.
     End,
     /// A call of the link failed.
     LinkFault,
     /// A call of the sink failed.
     WriteFault,
-    /// As many items as were allowed were taken.
+    /// The permitted number of items was consumed.
     Budget,
-    /// The file is at fault in the record with this number, counted from 1; the header has number 0.
+    /// The file has a fault in the record with this number, counted from 1; the header has number 0.
     Bad { number: u64, why: CaptureWhy },
 }

@@ -1,9 +1,11 @@
+//! `dump` and `pcap`: what is written of a serial line.
+
 ghost use Rattle.std.specs.Prelude.{◌<◌, []};
 ghost use Rattle.trace.specs.CaptureText.{capture_file};
 ghost use Rattle.trace.specs.DumpText.{dump_text};
 ghost use Rattle.trace.specs.Telling.{TellsLine};
 ghost use Rattle.trace.specs.Watching.{text_after};
-ghost use Rattle.uip_edge.specs.Telling.{line_told};
+ghost use Rattle.uip_edge.specs.ViewsOf.{line_view};
 
 use crate::form::Form;
 use crate::line_reading::read_line;
@@ -11,22 +13,22 @@ use crate::record::HEADER;
 use crate::watch::Watch;
 use uip_edge::{Failed, Link, ServeEnd, Sink};
 
-/// Writes a line of text for each frame of a serial line, up to so many items.
+/// Writes a line of text for each frame of a serial line. Consumes at most `items` items.
 #[inline(never)]
 pub fn dump<L: Link, K: Sink>(link: &mut L, sink: &mut K, items: u64) -> ServeEnd
     ensures { TellsLine dump_text items
-        (line_told L.Link K.Sink link.old sink.old)
-        (line_told L.Link K.Sink link.new sink.new) result }
+        (line_view L.Link K.Sink link.old sink.old)
+        (line_view L.Link K.Sink link.new sink.new) result }
 {
     watch_line(Form::Dump, link, sink, items)
 }
 
-/// Writes a capture file of the datagrams of a serial line, up to so many items.
+/// Writes a capture file of the datagrams of a serial line. Consumes at most `items` items.
 #[inline(never)]
 pub fn pcap<L: Link, K: Sink>(link: &mut L, sink: &mut K, items: u64) -> ServeEnd
     ensures { TellsLine capture_file items
-        (line_told L.Link K.Sink link.old sink.old)
-        (line_told L.Link K.Sink link.new sink.new) result }
+        (line_view L.Link K.Sink link.old sink.old)
+        (line_view L.Link K.Sink link.new sink.new) result }
 {
     match sink.write_whole(&HEADER) {
         Ok(()) => watch_line(Form::Capture, link, sink, items),
@@ -34,11 +36,11 @@ pub fn pcap<L: Link, K: Sink>(link: &mut L, sink: &mut K, items: u64) -> ServeEn
     }
 }
 
-/// Takes items of a line, until so many were taken.
+/// Consumes items of a line, at most `items`.
 fn watch_line<L: Link, K: Sink>(form: Form, link: &mut L, sink: &mut K, items: u64) -> ServeEnd
     ensures { TellsLine (text_after form []) items
-        (line_told L.Link K.Sink link.old sink.old)
-        (line_told L.Link K.Sink link.new sink.new) result }
+        (line_view L.Link K.Sink link.old sink.old)
+        (line_view L.Link K.Sink link.new sink.new) result }
 {
     let mut watch = Watch::new(form);
     match read_line(&mut watch, link, sink, items) {

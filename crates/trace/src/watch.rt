@@ -1,8 +1,10 @@
+//! The reader of a serial line.
+
 ghost use Rattle.std.specs.Prelude.{◌≡◌, ◌<◌, ◌≤◌, ◌+◌, ◌^◌, [], List, ℕ, Option, length, map, true, OnOk, OnErr};
 ghost use Rattle.std.specs.Io.KnownBytes.{Appends};
 ghost use Rattle.uip_edge.specs.Causes.{HasCause};
 ghost use Rattle.uip_edge.specs.Writing.{BreaksOff};
-ghost use Rattle.uip_slip.specs.Decoding.{Leaves, told_by};
+ghost use Rattle.uip_slip.specs.Decoding.{Leaves, reported_by};
 ghost use Rattle.uip_slip.specs.Frames.{Datagram, Overlong};
 ghost use Rattle.trace.specs.Seen.{seen_at};
 ghost use Rattle.trace.specs.Watching.{IsWatched, frame_text, texts_from};
@@ -21,15 +23,15 @@ use uip_wire::LARGEST_DATAGRAM;
 pub(crate) struct Watch {
     pub form: Form,
     pub decoder: Decoder,
-    /// How many frames there were.
+    /// The number of frames.
     pub frames: u64,
-    /// How many silences there were.
+    /// The number of silences.
     pub silences: u64,
     area: Area,
 }
 
 impl Watch {
-    /// A line of which nothing was read.
+    /// Returns a reader that has read nothing.
     pub fn new(form: Form) -> Watch
         ensures counted { result.frames + result.silences ≡ 0 }
         ensures watched { (start : Option (List ℕ)) → IsWatched (form, start) [] start result }
@@ -43,7 +45,7 @@ impl Watch {
         }
     }
 
-    /// Writes what the area has, where it has something.
+    /// Writes the buffer, if it is not empty.
     fn write_area<K: Sink>(&self, sink: &mut K) -> Result<(), Failed>
         ensures whole { OnOk result (Appends (K.written sink.old) (K.written sink.new) self.now.area) }
         ensures broke { OnErr result (BreaksOff [] self.now.area (K.written sink.old) (K.written sink.new)) }
@@ -56,14 +58,14 @@ impl Watch {
         sink.write_whole(text)
     }
 
-    /// The area gets what is written of the frame that was told, if one was.
+    /// Makes what is written of the decoded frame, if there is one.
     fn put_frame(&mut self, fed: Fed)
         requires frames { self.old.frames + 1 < 2 ^ 64 }
         requires empty { self.old.area ≡ [] }
         requires leaves { Leaves fed self.old.decoder }
         ensures { self.new ≡ record self.old {
-          frames = self.old.frames + length (told_by fed self.old.decoder);
-          area = texts_from self.old.form (self.old.frames + 1) (map (seen_at self.old.silences) (told_by fed self.old.decoder));
+          frames = self.old.frames + length (reported_by fed self.old.decoder);
+          area = texts_from self.old.form (self.old.frames + 1) (map (seen_at self.old.silences) (reported_by fed self.old.decoder));
         } }
     {
         match fed {
@@ -73,7 +75,7 @@ impl Watch {
         }
     }
 
-    /// An overlong frame was told: the area gets what is written of it.
+    /// Makes what is written of an overlong frame.
     fn put_overlong(&mut self)
         requires frames { self.old.frames + 1 < 2 ^ 64 }
         requires empty { self.old.area ≡ [] }
@@ -89,7 +91,7 @@ impl Watch {
         }
     }
 
-    /// A datagram was told: the area gets what is written of it.
+    /// Makes what is written of a datagram.
     fn put_datagram(&mut self, count: usize)
         requires frames { self.old.frames + 1 < 2 ^ 64 }
         requires empty { self.old.area ≡ [] }
@@ -117,7 +119,7 @@ impl LineReader for Watch {
 
     type Stop = Failed;
 
-    ghost Set = { AnyForm × Option (List ℕ) };
+    ghost Config = { AnyForm × Option (List ℕ) };
 
     ghost ready = { λ watch. ⊤ };
 
@@ -131,7 +133,7 @@ impl LineReader for Watch {
         self.silences += 1;
     }
 
-    fn take_front<K: Sink>(&mut self, bytes: &[u8], sink: &mut K) -> Result<usize, Failed> {
+    fn take_prefix<K: Sink>(&mut self, bytes: &[u8], sink: &mut K) -> Result<usize, Failed> {
         let run = self.decoder.feed_run(bytes);
         self.area.clear();
         self.put_frame(run.fed);

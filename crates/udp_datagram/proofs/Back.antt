@@ -1,4 +1,4 @@
--- Data that was sent on a way is received on it.
+-- Data that was sent in a flow is received in it.
 use Rattle.std.proofs.Common.{◌≡◌, ℕ, ◌+◌, ◌-◌, inl, inr, Bool, true, false, not, ◌&&◌, eqb, if◌then◌else◌, List, [], ◌∷◌, ◌++◌, length, take, slice_index, slice_range, Some, refl, sym, ap, ◌∙◌, arith, subst}
 use Rattle.std.proofs.Math.Seq.{take-length}
 use Rattle.std.proofs.lemmas.List.{take_all}
@@ -10,8 +10,8 @@ use Rattle.uip_wire.specs.Checksum.{checksum_of, folded, word_sum}
 use Rattle.uip_wire.specs.Fields.{word_at}
 use Rattle.uip_ipv4.proofs.Back.{equal, four, neither, not_less, numbered_passes, passes}
 use Rattle.uip_ipv4.specs.Head.{numbered_head}
-use Rattle.udp_datagram.specs.Udp.{ReadsBack, behind_head, carries_udp, is_of_other_protocol, sent_sum, udp_data, udp_datagram, udp_in, udp_pseudo_header, udp_sum, udp_with}
-use Rattle.udp_datagram.specs.declared.way.Way.{Way}
+use Rattle.udp_datagram.specs.Udp.{ReadsBack, after_header, carries_udp, is_of_other_protocol, sent_sum, udp_data, udp_datagram, udp_in, udp_pseudo_header, udp_sum, udp_with}
+use Rattle.udp_datagram.specs.declared.way.UdpFlow.{UdpFlow}
 
 same : (n : ℕ) → eqb n n ≡ true
 same n = grind arith
@@ -41,7 +41,7 @@ closes_by s c is =
     ] refl
 
 module _ (from to : ℕ) (a b c d e f g h : ℕ) (payload : List ℕ) where
-  abbrev way : Way
+  abbrev way : UdpFlow
   way = record {
     source = record { 0 = a ∷ b ∷ c ∷ d ∷ [] };
     target = record { 0 = e ∷ f ∷ g ∷ h ∷ [] };
@@ -87,9 +87,9 @@ module _ (from to : ℕ) (a b c d e f g h : ℕ) (payload : List ℕ) where
   unfolding numbered_head
   source_back id = same_address a b c d
 
-  behind_back : (id : ℕ) → behind_head (sent id) ≡ udp_with (udp_sum way payload) way payload
+  after_back : (id : ℕ) → after_header (sent id) ≡ udp_with (udp_sum way payload) way payload
   unfolding numbered_head
-  behind_back id =
+  after_back id =
       let u : List ℕ = udp_with (udp_sum way payload) way payload in
       let size : length u ≡ 8 + length payload = omega arith in
       let total = 28 + length payload in
@@ -100,10 +100,10 @@ module _ (from to : ℕ) (a b c d e f g h : ℕ) (payload : List ℕ) where
   back id =
       passes _ _ _ _ (ap not (carried_back id))
       (passes _ _ _ _ (ap not (source_back id))
-      (ap (λ l. udp_in way l) (behind_back id) ∙ udp_back))
+      (ap (λ l. udp_in way l) (after_back id) ∙ udp_back))
 
 -- a way whose addresses are lists of four bytes
-abbrev way_at : Way → List ℕ → List ℕ → Way
+abbrev way_at : UdpFlow → List ℕ → List ℕ → UdpFlow
 way_at w source target = record { source = record { 0 = source }; target = record { 0 = target }; from = w.from; to = w.to }
 
 pub reads_back : ReadsBack
@@ -112,4 +112,4 @@ reads_back w id payload s t =
     let target = w.target.0 in
     let is : w ≡ way_at w (slice_index source 0 ∷ slice_index source 1 ∷ slice_index source 2 ∷ slice_index source 3 ∷ []) (slice_index target 0 ∷ slice_index target 1 ∷ slice_index target 2 ∷ slice_index target 3 ∷ []) =
     ap (λ (l : List ℕ). way_at w l target) (four source s) ∙ ap (λ (l : List ℕ). way_at w (slice_index source 0 ∷ slice_index source 1 ∷ slice_index source 2 ∷ slice_index source 3 ∷ []) l) (four target t) in
-    subst (λ (v : Way). udp_data v (udp_datagram v id payload) ≡ Some payload) (sym is) (back w.from.0 w.to.0 _ _ _ _ _ _ _ _ payload id)
+    subst (λ (v : UdpFlow). udp_data v (udp_datagram v id payload) ≡ Some payload) (sym is) (back w.from.0 w.to.0 _ _ _ _ _ _ _ _ payload id)

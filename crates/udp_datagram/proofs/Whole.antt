@@ -1,4 +1,5 @@
--- What a header has that passes every check but that of its protocol.
+-- The fields of a header that passes every check but that of its protocol.
+-- [add: fate] IP: what a header has that passes the further check.
 use Rattle.std.proofs.Common.{◌≡◌, ℕ, ◌%◌, ◌≤◌, Bool, true, false, not, ◌||◌, List, length, take, slice_index, refl, arith, ltb, eqb, if◌then◌else◌, Err, Result}
 use Rattle.std.proofs.lemmas.Grind.{common_steps}
 use Rattle.std.specs.Str.{bytes_eq}

@@ -1,4 +1,4 @@
--- UDP over IPv4 (RFC 768): the datagram that carries payload on a way, and the payload that a received datagram carries on it.
+-- UDP over IPv4 (RFC 768): the datagram that carries a payload of a flow, and the payload of a received datagram.
 use Rattle.std.specs.Prelude.{◌≡◌, ◌≤◌, ℕ, ◌+◌, ◌==◌, ◌||◌, ◌&&◌, nat_lt, not, if◌then◌else◌, Bool, true, false, List, [], ◌∷◌, ◌++◌, length, take, slice_index, slice_range, Option, Some, None, Result, Ok, Err}
 use Rattle.std.specs.Str.{bytes_eq}
 use Rattle.uip_wire.specs.Addr.{address_at}
@@ -8,48 +8,48 @@ use Rattle.uip_ipv4.specs.Head.{head_or_fate, numbered_head}
 use Rattle.uip_ipv4.specs.declared.fate.IpFate.{IpFate}
 use Rattle.uip_ipv4.specs.declared.fate.IpFate.TheVariants.{Protocol}
 use Rattle.uip_ipv4.specs.declared.head.IpHead.{IpHead}
-use Rattle.udp_datagram.specs.declared.way.Way.{Way}
+use Rattle.udp_datagram.specs.declared.way.UdpFlow.{UdpFlow}
 
--- what is summed before a datagram of this length: the addresses, the protocol's number 17 and the length
-abbrev pub udp_pseudo_header : Way → ℕ → List ℕ
+-- The pseudo header, which is summed before a datagram of this length: the addresses, the protocol's number 17 and the length.
+abbrev pub udp_pseudo_header : UdpFlow → ℕ → List ℕ
 udp_pseudo_header way len = way.source.0 ++ way.target.0 ++ bytes_of (17 ∷ len ∷ [])
 
--- the header with this checksum, and the payload
-abbrev pub udp_with : ℕ → Way → List ℕ → List ℕ
+-- The header with this checksum, and the payload.
+abbrev pub udp_with : ℕ → UdpFlow → List ℕ → List ℕ
 udp_with sum way payload = bytes_of (way.from.0 ∷ way.to.0 ∷ (8 + length payload) ∷ sum ∷ []) ++ payload
 
--- a checksum of 0 is sent as 65535, since 0 says that none was made
+-- A checksum of 0 is sent as 65535, since 0 means that there is none.
 abbrev pub sent_sum : ℕ → ℕ
 sent_sum sum = if sum == 0 then 65535 else sum
 
-abbrev pub udp_sum : Way → List ℕ → ℕ
+abbrev pub udp_sum : UdpFlow → List ℕ → ℕ
 udp_sum way payload = sent_sum (checksum_of (udp_pseudo_header way (8 + length payload) ++ udp_with 0 way payload))
 
--- the whole datagram, under an identification of the Internet header
-unfoldable pub udp_datagram : Way → ℕ → List ℕ → List ℕ
+-- The whole datagram, with an identification of the IP header.
+unfoldable pub udp_datagram : UdpFlow → ℕ → List ℕ → List ℕ
 udp_datagram way id payload =
     numbered_head (28 + length payload) id 17 way.source.0 way.target.0 ++ udp_with (udp_sum way payload) way payload
 
--- the header passes every check but that of its protocol
+-- The header passes every check but that of its protocol.
 abbrev pub is_of_other_protocol : Result IpHead IpFate → Bool
 is_of_other_protocol (Err Protocol) = true
 is_of_other_protocol (Err fate) = false
 is_of_other_protocol (Ok head) = false
 
--- a whole datagram to this address carries UDP (RFC 790)
+-- A whole datagram to this address carries UDP (RFC 790).
 abbrev pub carries_udp : List ℕ → List ℕ → Bool
 carries_udp own datagram = is_of_other_protocol (head_or_fate datagram own) && slice_index datagram 9 == 17
 
--- the total length in the header is within what was received
+-- The total length in the header is within what was received.
 abbrev pub IsWholeUdp : List ℕ → Type 0
 IsWholeUdp datagram = (20 ≤ word_at datagram 2) × (word_at datagram 2 ≤ length datagram)
 
--- what stands behind the Internet header, up to the total length
-abbrev pub behind_head : List ℕ → List ℕ
-behind_head datagram = slice_range datagram 20 (word_at datagram 2)
+-- The bytes after the IP header, up to the total length.
+abbrev pub after_header : List ℕ → List ℕ
+after_header datagram = slice_range datagram 20 (word_at datagram 2)
 
--- the payload, where ports, length and checksum are right; a checksum of 0 says that none was made
-abbrev pub udp_in : Way → List ℕ → Option (List ℕ)
+-- The payload, if ports, length and checksum are right; a checksum of 0 means that there is none.
+abbrev pub udp_in : UdpFlow → List ℕ → Option (List ℕ)
 udp_in way udp =
     if nat_lt (length udp) 8 then None
     else if not (word_at udp 0 == way.from.0) || not (word_at udp 2 == way.to.0) then None
@@ -57,14 +57,14 @@ udp_in way udp =
     else if not (word_at udp 6 == 0) && not (checksum_of (udp_pseudo_header way (word_at udp 4) ++ take (word_at udp 4) udp) == 0) then None
     else Some (slice_range udp 8 (word_at udp 4))
 
--- the payload that a received datagram carries on this way
-unfoldable pub udp_data : Way → List ℕ → Option (List ℕ)
+-- The payload of this flow that a received datagram carries.
+unfoldable pub udp_data : UdpFlow → List ℕ → Option (List ℕ)
 udp_data way datagram =
     if not (carries_udp way.target.0 datagram) then None
     else if not (bytes_eq (address_at datagram 12) way.source.0) then None
-    else udp_in way (behind_head datagram)
+    else udp_in way (after_header datagram)
 
--- Data that was sent on a way is received on it.
+-- A payload that was sent in a flow is received in it.
 abbrev pub ReadsBack : Type 0
-ReadsBack = (way : Way) (id : ℕ) (payload : List ℕ) → length way.source.0 ≡ 4 → length way.target.0 ≡ 4
+ReadsBack = (way : UdpFlow) (id : ℕ) (payload : List ℕ) → length way.source.0 ≡ 4 → length way.target.0 ≡ 4
     → udp_data way (udp_datagram way id payload) ≡ Some payload

@@ -1,5 +1,5 @@
-//! UDP over IPv4 (RFC 768): the datagram that carries data from one port to another, and the data of a received one. No
-//! call is given an allocator; that none takes memory is no clause.
+//! UDP over IPv4 (RFC 768): the datagram that carries a payload from one port to another, and the payload of a received one. No call is
+//! passed an allocator.
 #![tactic(auto)]
 
 mod received;
@@ -9,4 +9,4 @@ mod way;
 
 pub use received::udp_data;
 pub use sent::{reads_back, udp_datagram};
-pub use way::Way;
+pub use way::UdpFlow;

@@ -1,17 +1,19 @@
+//! The payload of a received datagram (RFC 768).
+
 ghost use Rattle.std.specs.Prelude.{◌≡◌, ◌<◌, ◌++◌, length, option_map, true};
-ghost use Rattle.udp_datagram.specs.Udp.{IsWholeUdp, behind_head, carries_udp, udp_data, udp_in, udp_pseudo_header};
+ghost use Rattle.udp_datagram.specs.Udp.{IsWholeUdp, after_header, carries_udp, udp_data, udp_in, udp_pseudo_header};
 ghost use Rattle.uip_wire.specs.Addr.{address_at};
 ghost use Rattle.uip_wire.specs.Checksum.{checksum_of};
 
 use crate::sums::{UDP, pseudo_sum};
-use crate::way::Way;
+use crate::way::UdpFlow;
 use uip_ipv4::{IpFate, check};
 use uip_wire::{Addr, get16};
 
-/// The payload that a datagram carries on this way, if it carries any: where its Internet header passes every check of `check`
-/// but the last, its protocol is UDP, and its addresses, ports, length and checksum are right.
+/// Returns the payload of this flow that a datagram carries, if it carries one. Its IP header passes every check of `check` but the last,
+/// its protocol is UDP, and its addresses, ports, length and checksum are right.
 #[tactic(auto, unfolding(crate::specs::Udp::udp_data))]
-pub fn udp_data(way: Way, datagram: &[u8]) -> Option<&[u8]>
+pub fn udp_data(way: UdpFlow, datagram: &[u8]) -> Option<&[u8]>
     ensures { option_map (λ payload. payload.now) result ≡ udp_data way datagram.now }
 {
     if !carries_udp(way.target, datagram) {
@@ -20,10 +22,10 @@ pub fn udp_data(way: Way, datagram: &[u8]) -> Option<&[u8]>
     if source_of(datagram) != way.source {
         return None;
     }
-    udp_in(way, behind_head(datagram))
+    udp_in(way, after_header(datagram))
 }
 
-/// The address that a whole datagram comes from.
+/// Returns the source address of a whole datagram.
 fn source_of(datagram: &[u8]) -> Addr
     requires { IsWholeUdp datagram.now }
     ensures { result.0 ≡ address_at datagram.now 12 }
@@ -31,15 +33,15 @@ fn source_of(datagram: &[u8]) -> Addr
     Addr::get(datagram, 12)
 }
 
-/// What stands behind the Internet header of a whole datagram, up to its total length.
-fn behind_head(datagram: &[u8]) -> &[u8]
+/// Returns the bytes after the IP header of a whole datagram, up to its total length.
+fn after_header(datagram: &[u8]) -> &[u8]
     requires { IsWholeUdp datagram.now }
-    ensures { result.now ≡ behind_head datagram.now }
+    ensures { result.now ≡ after_header datagram.now }
 {
     &datagram[20..usize::from(get16(datagram, 2))]
 }
 
-/// Whether a whole datagram to this address carries UDP.
+/// Returns whether a whole datagram to this address carries UDP.
 fn carries_udp(own: Addr, datagram: &[u8]) -> bool
     ensures exact { result ≡ carries_udp own.0 datagram.now }
     ensures whole { result ≡ true → IsWholeUdp datagram.now }
@@ -50,8 +52,8 @@ fn carries_udp(own: Addr, datagram: &[u8]) -> bool
     }
 }
 
-/// The payload of a UDP datagram on this way.
-fn udp_in(way: Way, udp: &[u8]) -> Option<&[u8]>
+/// Returns the payload of a UDP datagram of this flow.
+fn udp_in(way: UdpFlow, udp: &[u8]) -> Option<&[u8]>
     ensures { option_map (λ payload. payload.now) result ≡ udp_in way udp.now }
 {
     if udp.len() < 8 {
@@ -71,8 +73,8 @@ fn udp_in(way: Way, udp: &[u8]) -> Option<&[u8]>
     Some(&udp[8..end])
 }
 
-/// The checksum over a received UDP datagram: 0 where the one in it is right.
-fn checksum(way: Way, udp: &[u8], len: u16) -> u16
+/// Returns the checksum over a received UDP datagram: 0 if the one in it is right.
+fn checksum(way: UdpFlow, udp: &[u8], len: u16) -> u16
     ensures { result ≡ checksum_of (udp_pseudo_header way len ++ udp.now) }
 {
     let mut sum = pseudo_sum(way, len);

@@ -1,19 +1,21 @@
+//! The datagram that is sent (RFC 768).
+
 ghost use Rattle.std.specs.Prelude.{◌≡◌, ◌+◌, ◌≤◌, ◌∷◌, ◌++◌, [], length};
 ghost use Rattle.udp_datagram.specs.Udp.{ReadsBack, sent_sum, udp_datagram, udp_sum, udp_with};
 ghost use Rattle.uip_wire.specs.Fields.{bytes_of};
 
 use crate::sums::{UDP, pseudo_sum};
-use crate::way::Way;
+use crate::way::UdpFlow;
 use arrayvec::ArrayVec;
 use uip_ipv4::put_numbered_head;
 use uip_wire::{LARGEST_DATAGRAM, put16};
 
-/// The bytes of the Internet header and of the UDP header.
+/// The bytes of the IP header and of the UDP header.
 const HEADERS: usize = 28;
 
-/// The datagram that carries the payload, under an identification of the Internet header.
+/// Returns the datagram that carries the payload, at most 1472 bytes, with an identification of the IP header.
 #[tactic(auto, unfolding(crate::specs::Udp::udp_datagram))]
-pub fn udp_datagram(way: Way, id: u16, payload: &[u8]) -> ArrayVec<u8, LARGEST_DATAGRAM>
+pub fn udp_datagram(way: UdpFlow, id: u16, payload: &[u8]) -> ArrayVec<u8, LARGEST_DATAGRAM>
     requires { HEADERS + length payload.now ≤ LARGEST_DATAGRAM }
     ensures { result.items ≡ udp_datagram way id payload.now }
 {
@@ -28,13 +30,13 @@ pub fn udp_datagram(way: Way, id: u16, payload: &[u8]) -> ArrayVec<u8, LARGEST_D
     datagram
 }
 
-/// Data that was sent on a way is received on it.
+/// A payload that was sent in a flow is received in it.
 pub fn reads_back()
     ensures { ReadsBack }
 {}
 
-/// The UDP header before this payload.
-fn header(way: Way, payload: &[u8]) -> [u8; 8]
+/// Returns the UDP header of this payload.
+fn header(way: UdpFlow, payload: &[u8]) -> [u8; 8]
     requires { HEADERS + length payload.now ≤ LARGEST_DATAGRAM }
     ensures { result ++ payload.now ≡ udp_with (udp_sum way payload.now) way payload.now }
 {
@@ -46,8 +48,8 @@ fn header(way: Way, payload: &[u8]) -> [u8; 8]
     header
 }
 
-/// The same with 0 in place of the checksum.
-fn header_without_sum(way: Way, len: usize) -> [u8; 8]
+/// Returns the same with 0 in place of the checksum.
+fn header_without_sum(way: UdpFlow, len: usize) -> [u8; 8]
     requires { HEADERS + len ≤ LARGEST_DATAGRAM }
     ensures { result ≡ bytes_of (way.from.0 ∷ way.to.0 ∷ (8 + len) ∷ 0 ∷ []) }
 {
@@ -59,7 +61,7 @@ fn header_without_sum(way: Way, len: usize) -> [u8; 8]
     ]
 }
 
-/// A checksum of 0 is sent as 65535, since 0 says that none was made.
+/// Returns the checksum as it is sent: 0 is sent as 65535, since 0 means that there is none.
 fn sent_sum(sum: u16) -> u16
     ensures { result ≡ sent_sum sum }
 {

@@ -2,14 +2,14 @@ ghost use Rattle.std.specs.Prelude.{◌≡◌};
 ghost use Rattle.udp_datagram.specs.Udp.{udp_pseudo_header};
 ghost use Rattle.uip_wire.specs.Sums.{sum_of};
 
-use crate::way::Way;
+use crate::way::UdpFlow;
 use uip_wire::{Summer, put16};
 
-/// The number of UDP among the protocols (RFC 790).
+/// The protocol number of UDP (RFC 790).
 pub(crate) const UDP: u8 = 17;
 
-/// The sum with which a checksum begins: that of the pseudo header for a UDP datagram of `len` bytes.
-pub(crate) fn pseudo_sum(way: Way, len: u16) -> Summer
+/// Returns the sum with which a checksum begins: that of the pseudo header for a UDP datagram of `len` bytes.
+pub(crate) fn pseudo_sum(way: UdpFlow, len: u16) -> Summer
     ensures { result ≡ sum_of (udp_pseudo_header way len) }
 {
     let mut protocol_and_len = [0, UDP, 0, 0];

@@ -1,8 +1,8 @@
 use uip_wire::{Addr, Port};
 
-/// Where a datagram comes from and where it goes.
+/// A flow: the source and the target of a datagram.
 #[derive(Clone, Copy, Debug, PartialEq, Eq)]
-pub struct Way {
+pub struct UdpFlow {
     pub source: Addr,
     pub target: Addr,
     /// The port at the source.

@@ -14,9 +14,9 @@ use Rattle.udp_resolver.specs.Standing.{Asks, Adds, AsksOn}
 use Rattle.udp_resolver.specs.declared.run.Run.{Run}
 use Rattle.uip_edge.specs.declared.turn.Turn.TheVariants.{Ended}
 use Rattle.uip_edge.specs.Turns.{TurnsBy}
-use Rattle.uip_edge.proofs.Breaking.{breaks_front}
+use Rattle.uip_edge.proofs.Breaking.{breaks_prefix}
 use Rattle.uip_edge.proofs.Turns.{calm_then}
-use Rattle.uip_edge.specs.Told.{IsCalm, LineTold}
+use Rattle.uip_edge.specs.Views.{IsCalm, LineView}
 
 pub open_by_test : (b t : Bool) → t ≡ not b → t ≡ true → b ≡ false
 open_by_test true t e h = absurd (cc (e, h))
@@ -39,7 +39,7 @@ kept_out : (a b c : Option (List ℕ)) (text : List ℕ) → c ≡ b → Appends
 kept_out a b c text same p = subst (λ (o : Option (List ℕ)). Appends a o text) (sym same) p
 
 -- a run that ends in a turn
-pub stopped : (asked : List Question) (n : ℕ) (taken more : List Item) (run : Run) (old mid new : LineTold) (room : ℕ) (end : ServeEnd)
+pub stopped : (asked : List Question) (n : ℕ) (taken more : List Item) (run : Run) (old mid new : LineView) (room : ℕ) (end : ServeEnd)
     → IsOpen asked taken → Consumes old.link.coming mid.link.coming taken → Consumes mid.link.coming new.link.coming more → length taken < n → length more ≤ room → room + length taken ≤ n
     → IsCalm old mid → (taken ≡ []) ⊎ LastAsked asked taken → Appends old.sink.written mid.sink.written (line_text asked (events taken))
     → TurnsBy mid new more (Ended end) → AsksOn asked taken more run mid new (Ended end) → Asks asked n run old new end
@@ -71,7 +71,7 @@ stopped asked n taken more run old mid new room ends.WriteFault is_open c more_c
     why.0 ∙ calm.link,
     rw calm.sink at why.1,
     prefix_by old.sink.written new.sink.written (line_text asked (events taken) ++ t.text) (line_text asked (events (taken ++ more))) t.adds
-        (prefix_then old.sink.written mid.sink.written new.sink.written (line_text asked (events taken)) t.text wrote (breaks_front [] t.text mid.sink.written new.sink.written t.broke)),
+        (prefix_then old.sink.written mid.sink.written new.sink.written (line_text asked (events taken)) t.text wrote (breaks_prefix [] t.text mid.sink.written new.sink.written t.broke)),
     (let some = t.broke.some in omega (arith, some, length-append (line_text asked (events taken)) t.text, ap (λ l. length l) t.adds)),
   );
 }

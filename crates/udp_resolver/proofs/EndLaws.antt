@@ -1,4 +1,4 @@
--- Each end comes wherever its cause holds and nothing failed.
+-- Each end is reported if its cause holds and nothing failed.
 use Rattle.std.proofs.Common.{◌≡◌, ℕ, ◌<◌, ◌⊎◌, inl, inr, true, false, List, Option, Some, length, refl, sym, ◌∙◌, arith}
 use Rattle.uip_edge.specs.Coming.{Consumes}
 use Rattle.uip_edge.specs.declared.item.Item.{Item}

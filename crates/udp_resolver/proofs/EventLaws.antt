@@ -1,17 +1,17 @@
--- What further events make of the events before them.
+-- Events followed by further events.
 use Rattle.std.proofs.Common.{◌≡◌, ℕ, ◌+◌, ◌<◌, Bool, true, false, eqb, leb, if◌then◌else◌, List, [], ◌∷◌, ◌++◌, refl, sym, ap, ◌∙◌, arith, subst}
 use Rattle.rexmit_timer.specs.Ages.{IsAtAge, IsBeatOfAge}
 use Rattle.rexmit_timer.specs.declared.timer.Beat.{Beat}
 use Rattle.rexmit_timer.specs.declared.timer.Beat.TheVariants.{Again, GiveUp, Wait}
 use Rattle.rexmit_timer.specs.declared.timer.Timer.{Timer}
 use Rattle.udp_resolver.specs.Fates.{is_given_up, silences}
-use Rattle.udp_resolver.specs.LineEvents.{LineEvent, Came, Silence}
+use Rattle.udp_resolver.specs.LineEvents.{LineEvent, MediumInput, Silence}
 use Rattle.udp_resolver.specs.Steps.{IsClockAt}
 use Rattle.udp_resolver.specs.declared.clock.Clock.{Clock}
 
 pub silences-append : (xs ys : List LineEvent) → silences (xs ++ ys) ≡ silences xs + silences ys
 silences-append [] ys = omega arith
-silences-append (Came datagram ∷ xs) ys = silences-append xs ys
+silences-append (MediumInput datagram ∷ xs) ys = silences-append xs ys
 silences-append (Silence ∷ xs) ys = omega (arith, silences-append xs ys)
 
 pub one_more : (xs : List LineEvent) → silences (xs ++ Silence ∷ []) ≡ silences xs + 1
@@ -42,7 +42,7 @@ still n h e = grind arith
 reached : (n : ℕ) → eqb n 249 ≡ true → leb 249 n ≡ true
 reached n e = grind arith
 
--- the clock goes on with the next age
+-- the clock continues with the next age
 goes : (happened : List LineEvent) (old : Clock) (timer : Timer) → is_given_up happened ≡ false → IsClockAt happened old
     → eqb (silences happened + 1) 249 ≡ false → IsAtAge timer (silences happened + 1)
     → IsClockAt (happened ++ Silence ∷ []) (record { timer = timer; given_up = old.given_up })

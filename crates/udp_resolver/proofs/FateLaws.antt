@@ -5,8 +5,8 @@ use Rattle.std.specs.Option.{is_none, option_or}
 use Rattle.dns_message.specs.Replies.{answer_to}
 use Rattle.dns_message.specs.declared.answer.Answer.{Answer}
 use Rattle.udp_resolver.specs.Asked.{open_ones}
-use Rattle.udp_resolver.specs.Fates.{Question, all_settled, answer_among, fate_by, first_answer, in_front_of, is_given_up, is_settled, silences}
-use Rattle.udp_resolver.specs.LineEvents.{LineEvent, Came, Silence}
+use Rattle.udp_resolver.specs.Fates.{Question, all_settled, answer_among, fate_by, first_answer, before_silence, is_given_up, is_settled, silences}
+use Rattle.udp_resolver.specs.LineEvents.{LineEvent, MediumInput, Silence}
 use Rattle.udp_resolver.specs.Steps.{heard_now, unanswered, unless_answered}
 use Rattle.udp_resolver.specs.declared.fate.Fate.TheVariants.{Open, Timeout}
 use Rattle.udp_resolver.proofs.EventLaws.{not_over, one_more, silences-append}
@@ -30,48 +30,48 @@ option_or-assoc (Some a) b c = refl
 
 pub first_answer-append : (q : Question) (xs ys : List LineEvent) → first_answer q (xs ++ ys) ≡ option_or (first_answer q xs) (first_answer q ys)
 first_answer-append q [] ys = refl
-first_answer-append q (Came datagram ∷ xs) ys =
+first_answer-append q (MediumInput datagram ∷ xs) ys =
     let a = answer_to q.asking q.text datagram in
     ap (λ o. option_or a o) (first_answer-append q xs ys) ∙ sym (option_or-assoc a (first_answer q xs) (first_answer q ys))
 first_answer-append q (Silence ∷ xs) ys = first_answer-append q xs ys
 
--- all events stand in front of a silence that did not come
-pub front_all : (n : ℕ) (xs : List LineEvent) → silences xs < n → in_front_of n xs ≡ xs
-front_all n [] h = refl
-front_all n (Came datagram ∷ xs) h = ap (λ l. Came datagram ∷ l) (front_all n xs h)
-front_all zero (Silence ∷ xs) h = absurd (omega arith)
-front_all (suc zero) (Silence ∷ xs) h = absurd (omega arith)
-front_all (suc (suc n)) (Silence ∷ xs) h = ap (λ l. Silence ∷ l) (front_all (suc n) xs (omega arith))
+-- all events are before a silence that did not occur
+pub prefix_all : (n : ℕ) (xs : List LineEvent) → silences xs < n → before_silence n xs ≡ xs
+prefix_all n [] h = refl
+prefix_all n (MediumInput datagram ∷ xs) h = ap (λ l. MediumInput datagram ∷ l) (prefix_all n xs h)
+prefix_all zero (Silence ∷ xs) h = absurd (omega arith)
+prefix_all (suc zero) (Silence ∷ xs) h = absurd (omega arith)
+prefix_all (suc (suc n)) (Silence ∷ xs) h = ap (λ l. Silence ∷ l) (prefix_all (suc n) xs (omega arith))
 
--- what comes behind a silence does not stand in front of it
-pub front_kept : (n : ℕ) (xs ys : List LineEvent) → 1 ≤ n → n ≤ silences xs → in_front_of n (xs ++ ys) ≡ in_front_of n xs
-front_kept n [] ys some h = absurd (omega arith)
-front_kept n (Came datagram ∷ xs) ys some h = ap (λ l. Came datagram ∷ l) (front_kept n xs ys some h)
-front_kept zero (Silence ∷ xs) ys some h = absurd (omega arith)
-front_kept (suc zero) (Silence ∷ xs) ys some h = refl
-front_kept (suc (suc n)) (Silence ∷ xs) ys some h = ap (λ l. Silence ∷ l) (front_kept (suc n) xs ys (omega arith) (omega arith))
+-- what comes after a silence is not before it
+pub prefix_kept : (n : ℕ) (xs ys : List LineEvent) → 1 ≤ n → n ≤ silences xs → before_silence n (xs ++ ys) ≡ before_silence n xs
+prefix_kept n [] ys some h = absurd (omega arith)
+prefix_kept n (MediumInput datagram ∷ xs) ys some h = ap (λ l. MediumInput datagram ∷ l) (prefix_kept n xs ys some h)
+prefix_kept zero (Silence ∷ xs) ys some h = absurd (omega arith)
+prefix_kept (suc zero) (Silence ∷ xs) ys some h = refl
+prefix_kept (suc (suc n)) (Silence ∷ xs) ys some h = ap (λ l. Silence ∷ l) (prefix_kept (suc n) xs ys (omega arith) (omega arith))
 
--- all others stand in front of the silence that came last
-pub front_last : (n : ℕ) (xs ys : List LineEvent) → silences xs + 1 ≡ n → in_front_of n (xs ++ Silence ∷ ys) ≡ xs
-front_last zero [] ys h = absurd (omega arith)
-front_last (suc zero) [] ys h = refl
-front_last (suc (suc n)) [] ys h = absurd (omega arith)
-front_last n (Came datagram ∷ xs) ys h = ap (λ l. Came datagram ∷ l) (front_last n xs ys h)
-front_last zero (Silence ∷ xs) ys h = absurd (omega arith)
-front_last (suc zero) (Silence ∷ xs) ys h = absurd (omega arith)
-front_last (suc (suc n)) (Silence ∷ xs) ys h = ap (λ l. Silence ∷ l) (front_last (suc n) xs ys (omega arith))
+-- all others are before the last silence
+pub prefix_last : (n : ℕ) (xs ys : List LineEvent) → silences xs + 1 ≡ n → before_silence n (xs ++ Silence ∷ ys) ≡ xs
+prefix_last zero [] ys h = absurd (omega arith)
+prefix_last (suc zero) [] ys h = refl
+prefix_last (suc (suc n)) [] ys h = absurd (omega arith)
+prefix_last n (MediumInput datagram ∷ xs) ys h = ap (λ l. MediumInput datagram ∷ l) (prefix_last n xs ys h)
+prefix_last zero (Silence ∷ xs) ys h = absurd (omega arith)
+prefix_last (suc zero) (Silence ∷ xs) ys h = absurd (omega arith)
+prefix_last (suc (suc n)) (Silence ∷ xs) ys h = ap (λ l. Silence ∷ l) (prefix_last (suc n) xs ys (omega arith))
 
 answer_now : (happened : List LineEvent) (q : Question) → is_given_up happened ≡ false → answer_among happened q ≡ first_answer q happened
-answer_now happened q e = ap (λ l. first_answer q l) (front_all 249 happened (not_over happened e))
+answer_now happened q e = ap (λ l. first_answer q l) (prefix_all 249 happened (not_over happened e))
 
 -- a datagram may answer a question that has no answer
 pub answer_came : (happened : List LineEvent) (datagram : List ℕ) (q : Question) → is_given_up happened ≡ false
-    → answer_among (happened ++ Came datagram ∷ []) q ≡ option_or (answer_among happened q) (answer_to q.asking q.text datagram)
+    → answer_among (happened ++ MediumInput datagram ∷ []) q ≡ option_or (answer_among happened q) (answer_to q.asking q.text datagram)
 answer_came happened datagram q e =
     let a = answer_to q.asking q.text datagram in
-    let short : silences (happened ++ Came datagram ∷ []) < 249 = omega (arith, silences-append happened (Came datagram ∷ []), not_over happened e) in
-    ap (λ l. first_answer q l) (front_all 249 (happened ++ Came datagram ∷ []) short)
-    ∙ first_answer-append q happened (Came datagram ∷ [])
+    let short : silences (happened ++ MediumInput datagram ∷ []) < 249 = omega (arith, silences-append happened (MediumInput datagram ∷ []), not_over happened e) in
+    ap (λ l. first_answer q l) (prefix_all 249 (happened ++ MediumInput datagram ∷ []) short)
+    ∙ first_answer-append q happened (MediumInput datagram ∷ [])
     ∙ ap (λ o. option_or (first_answer q happened) o) (option_or-none a)
     ∙ ap (λ o. option_or o a) (sym (answer_now happened q e))
 
@@ -83,18 +83,18 @@ answer_silence happened q e =
     let next = happened ++ Silence ∷ [] in
     sym (answer_now happened q e ∙ sym (
     elim (eqb (silences happened + 1) 249) as (λ v. eqb (silences happened + 1) 249 ≡ v → answer_among next q ≡ first_answer q happened) [
-      | true ↦ λ last. ap (λ l. first_answer q l) (front_last 249 happened [] (same_of (silences happened + 1) 249 last))
+      | true ↦ λ last. ap (λ l. first_answer q l) (prefix_last 249 happened [] (same_of (silences happened + 1) 249 last))
       | false ↦ λ other.
-          ap (λ l. first_answer q l) (front_all 249 next (omega (arith, one_more happened, low, other_of (silences happened + 1) 249 other)))
+          ap (λ l. first_answer q l) (prefix_all 249 next (omega (arith, one_more happened, low, other_of (silences happened + 1) 249 other)))
           ∙ first_answer-append q happened (Silence ∷ []) ∙ option_or-none (first_answer q happened)
     ] refl))
 
 pub heard_map : (datagram : List ℕ) (happened : List LineEvent) (asked : List Question) → is_given_up happened ≡ false
-    → heard_now datagram asked (map (answer_among happened) asked) ≡ map (answer_among (happened ++ Came datagram ∷ [])) asked
+    → heard_now datagram asked (map (answer_among happened) asked) ≡ map (answer_among (happened ++ MediumInput datagram ∷ [])) asked
 heard_map datagram happened [] e = refl
 heard_map datagram happened (q ∷ asked) e =
     ap (λ a. a ∷ heard_now datagram asked (map (answer_among happened) asked)) (sym (answer_came happened datagram q e))
-    ∙ ap (λ l. answer_among (happened ++ Came datagram ∷ []) q ∷ l) (heard_map datagram happened asked e)
+    ∙ ap (λ l. answer_among (happened ++ MediumInput datagram ∷ []) q ∷ l) (heard_map datagram happened asked e)
 
 pub map_silence : (happened : List LineEvent) (asked : List Question) → is_given_up happened ≡ false
     → map (answer_among happened) asked ≡ map (answer_among (happened ++ Silence ∷ [])) asked

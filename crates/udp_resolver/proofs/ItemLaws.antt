@@ -1,4 +1,4 @@
--- What further items bring.
+-- The events of further items.
 use Rattle.std.proofs.Common.{◌≡◌, ℕ, true, false, eqb, leb, if◌then◌else◌, List, [], ◌∷◌, ◌++◌, length, map, refl, sym, ap, ◌∙◌, arith, append-nil, append_assoc}
 use Rattle.std.specs.List.{flat_map}
 use Rattle.uip_edge.specs.declared.item.Item.{Item}
@@ -6,24 +6,24 @@ use Rattle.uip_edge.specs.declared.item.Item.TheVariants.{Byte, Quiet}
 use Rattle.uip_slip.specs.Frames.{Frame, Datagram, Overlong, completed, frame_of, frames, open_part, unescaped}
 use Rattle.uip_slip.proofs.FrameLaws.{completed_told}
 use Rattle.udp_resolver.specs.Fates.{silences}
-use Rattle.udp_resolver.specs.LineEvents.{Silence, by_frame, events, came_behind}
+use Rattle.udp_resolver.specs.LineEvents.{Silence, by_frame, events, received_after}
 use Rattle.udp_resolver.proofs.EventLaws.{silences-append}
 use Rattle.uip_edge.specs.Coming.{bytes_among}
 
 pub events-append : (before : List ℕ) (xs ys : List Item)
-    → came_behind before (xs ++ ys) ≡ came_behind before xs ++ came_behind (before ++ bytes_among xs) ys
-events-append before [] ys = ap (λ l. came_behind l ys) (sym (append-nil before))
+    → received_after before (xs ++ ys) ≡ received_after before xs ++ received_after (before ++ bytes_among xs) ys
+events-append before [] ys = ap (λ l. received_after l ys) (sym (append-nil before))
 events-append before (Byte b ∷ xs) ys =
     let behind = before ++ b ∷ [] in
     ap (λ l. flat_map by_frame (completed before b) ++ l) (events-append behind xs ys)
-    ∙ ap (λ l. flat_map by_frame (completed before b) ++ (came_behind behind xs ++ came_behind l ys)) (append_assoc before (b ∷ []) (bytes_among xs))
-    ∙ sym (append_assoc (flat_map by_frame (completed before b)) (came_behind behind xs) (came_behind (before ++ b ∷ bytes_among xs) ys))
+    ∙ ap (λ l. flat_map by_frame (completed before b) ++ (received_after behind xs ++ received_after l ys)) (append_assoc before (b ∷ []) (bytes_among xs))
+    ∙ sym (append_assoc (flat_map by_frame (completed before b)) (received_after behind xs) (received_after (before ++ b ∷ bytes_among xs) ys))
 events-append before (Quiet ∷ xs) ys = ap (λ l. Silence ∷ l) (events-append before xs ys)
 
 pub events_byte : (items : List Item) (b : ℕ) → events (items ++ Byte b ∷ []) ≡ events items ++ flat_map by_frame (completed (bytes_among items) b)
 events_byte items b = events-append [] items (Byte b ∷ []) ∙ ap (λ l. events items ++ l) (append-nil (flat_map by_frame (completed (bytes_among items) b)))
 
--- what a decoder tells of a byte is what the byte brings
+-- what a decoder reports of a byte is what the byte brings
 pub by_told : (before : List ℕ) (b : ℕ) (told : List Frame) → frames (before ++ b ∷ []) ≡ frames before ++ told → flat_map by_frame told ≡ flat_map by_frame (completed before b)
 by_told before b told e = ap (λ l. flat_map by_frame l) (sym (completed_told before (b ∷ []) told e) ∙ append-nil (completed before b))
 
@@ -38,7 +38,7 @@ calm_byte before b =
     [ true ↦ calm_frames (unescaped (open_part before)) | false ↦ refl ]
 
 -- bytes are no silences
-pub calm_bytes : (before bytes : List ℕ) → silences (came_behind before (map Byte bytes)) ≡ 0
+pub calm_bytes : (before bytes : List ℕ) → silences (received_after before (map Byte bytes)) ≡ 0
 calm_bytes before [] = refl
 calm_bytes before (b ∷ bytes) =
-    omega (arith, silences-append (flat_map by_frame (completed before b)) (came_behind (before ++ b ∷ []) (map Byte bytes)), calm_byte before b, calm_bytes (before ++ b ∷ []) bytes)
+    omega (arith, silences-append (flat_map by_frame (completed before b)) (received_after (before ++ b ∷ []) (map Byte bytes)), calm_byte before b, calm_bytes (before ++ b ∷ []) bytes)

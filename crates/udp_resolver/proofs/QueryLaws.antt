@@ -3,11 +3,11 @@ use Rattle.std.proofs.Common.{◌≡◌, ℕ, ◌+◌, ◌<◌, ◌≤◌, Bool,
 use Rattle.std.specs.List.{flat_map, list_any}
 use Rattle.rexmit_timer.specs.Ages.{ages}
 use Rattle.udp_resolver.specs.Asked.{asked_at, open_ones, queries}
-use Rattle.udp_resolver.specs.Fates.{Question, in_front_of, silences}
+use Rattle.udp_resolver.specs.Fates.{Question, before_silence, silences}
 use Rattle.udp_resolver.specs.LineEvents.{LineEvent, Silence}
 use Rattle.udp_resolver.specs.Steps.{asked_next}
 use Rattle.udp_resolver.proofs.EventLaws.{one_more, silences-append}
-use Rattle.udp_resolver.proofs.FateLaws.{front_kept, front_last}
+use Rattle.udp_resolver.proofs.FateLaws.{prefix_kept, prefix_last}
 
 same_of : (a b : ℕ) → eqb a b ≡ true → a ≡ b
 same_of a b e = grind arith
@@ -43,13 +43,13 @@ module _ (asked : List Question) where
   -- at an age that was reached before, the same ones are asked
   at_reached : (happened more : List LineEvent) (a : ℕ) → 1 ≤ a → a ≤ silences happened → asked_at asked (happened ++ more) a ≡ asked_at asked happened a
   at_reached happened more a some h =
-      ap (λ b. if b then open_ones asked (in_front_of a (happened ++ more)) else []) (within a (silences (happened ++ more)) (silences (happened ++ more)) (omega (arith, silences-append happened more)) refl)
-      ∙ ap (λ l. open_ones asked l) (front_kept a happened more some h)
-      ∙ sym (ap (λ b. if b then open_ones asked (in_front_of a happened) else []) (within a (silences happened) (silences happened) h refl))
+      ap (λ b. if b then open_ones asked (before_silence a (happened ++ more)) else []) (within a (silences (happened ++ more)) (silences (happened ++ more)) (omega (arith, silences-append happened more)) refl)
+      ∙ ap (λ l. open_ones asked l) (prefix_kept a happened more some h)
+      ∙ sym (ap (λ b. if b then open_ones asked (before_silence a happened) else []) (within a (silences happened) (silences happened) h refl))
 
   -- and at one that is not reached none
   at_ahead : (happened : List LineEvent) (a : ℕ) → silences happened < a → asked_at asked happened a ≡ []
-  at_ahead happened a h = ap (λ b. if b then open_ones asked (in_front_of a happened) else []) (beyond a (silences happened) (silences happened) h refl)
+  at_ahead happened a h = ap (λ b. if b then open_ones asked (before_silence a happened) else []) (beyond a (silences happened) (silences happened) h refl)
 
   ahead_none : (happened : List LineEvent) (low : ℕ) (list : List ℕ) → rising low list ≡ true → silences happened ≤ low → flat_map (asked_at asked happened) list ≡ []
   ahead_none happened low [] r h = refl
@@ -94,8 +94,8 @@ module _ (asked : List Question) where
         | true ↦ λ e.
             let same = same_of a now e in
             ap (λ l. l ++ flat_map (asked_at asked next) rest)
-            (ap (λ b. if b then open_ones asked (in_front_of a next) else []) (within a now (silences next) (omega arith) count)
-            ∙ ap (λ l. open_ones asked l) (front_last a happened [] (sym same)))
+            (ap (λ b. if b then open_ones asked (before_silence a next) else []) (within a now (silences next) (omega arith) count)
+            ∙ ap (λ l. open_ones asked l) (prefix_last a happened [] (sym same)))
             ∙ ap (λ l. open_ones asked happened ++ l) (ahead_none next a rest p.1 (omega (arith, count, same)))
             ∙ append-nil (open_ones asked happened)
             ∙ sym (ap (λ l. (l ++ before) ++ open_ones asked happened) (at_ahead happened a (omega arith)) ∙ ap (λ l. l ++ open_ones asked happened) (ahead_none happened a rest p.1 (omega arith)))

@@ -1,4 +1,4 @@
--- How the asking and the telling make a whole.
+-- The queries and the report, put together.
 use Rattle.std.proofs.Common.{◌≡◌, ◌<◌, ℕ, length, List, Option, map, refl, sym, ap, ◌∙◌, inr, subst}
 use Rattle.std.specs.Io.KnownBytes.{Appends}
 use Rattle.dns_message.specs.declared.answer.Answer.{Answer}
@@ -28,11 +28,11 @@ lines_known asking names items run answers same k =
     ∙ lines_told (events items) asking names
 
 module _ (asked : List Question) (n : ℕ) (run : Run) (old new : Streams) where
-  -- what the asking came to, with what the telling then did
+  -- the result of the queries, with that of the report
   resolves : (end result : ServeEnd) (a : Asks asked n run old.line new.line end) → ResolvesBy asked n old new a.taken result → Resolves asked n old new result
   resolves end result a by = record { taken = a.taken; within = a.within; consumed = a.consumed; needed = a.needed; ends = by }
 
-  -- all was told
+  -- all was reported
   whole : (end : ServeEnd) (taken : List Item) → Done asked n taken run old.line new.line end → new.tell.faults ≡ old.tell.faults
       → ((taken : List Item) → Knows asked taken run → Appends old.tell.written new.tell.written (lines asked (events taken)))
       → WroteAll asked n old new taken end
@@ -51,7 +51,7 @@ module _ (asked : List Question) (n : ℕ) (run : Run) (old new : Streams) where
   told_all ends.LinkFault l w a same told = absurd (l refl)
   told_all ends.WriteFault l w a same told = absurd (w refl)
 
-  -- the telling failed
+  -- the report failed
   part : (end : ServeEnd) (taken : List Item) → Done asked n taken run old.line new.line end → Rose old.tell.faults new.tell.faults
       → ((taken : List Item) → Knows asked taken run → AppendsPrefix old.tell.written new.tell.written (lines asked (events taken)))
       → ((taken : List Item) → Knows asked taken run → 0 < length (lines asked (events taken))) → TellFailed asked n old new taken
@@ -61,7 +61,7 @@ module _ (asked : List Question) (n : ℕ) (run : Run) (old new : Streams) where
     link_same = d.calm.link;
     out = record { whole = d.out; same = d.calm.sink };
     some = some taken d.knows;
-    told = record { front = told taken d.knows; rose = rose };
+    told = record { prefix = told taken d.knows; rose = rose };
   }
 
   pub told_part : (end : ServeEnd) → (end ≡ ends.LinkFault → ⊥) → (end ≡ ends.WriteFault → ⊥) → Asks asked n run old.line new.line end
@@ -72,7 +72,7 @@ module _ (asked : List Question) (n : ℕ) (run : Run) (old new : Streams) where
   told_part ends.LinkFault l w a rose told some = absurd (l refl)
   told_part ends.WriteFault l w a rose told some = absurd (w refl)
 
--- of the names that were asked for all was told, or a front of it where the telling failed
+-- all names were reported, or a prefix of the report was written if it failed
 module _ (asking : Asking) (names : List (List ℕ)) (n : ℕ) (run : Run) (old new : Streams) (answers : List (Option Answer)) (same : answers ≡ run.answers.items)
     (end : ServeEnd) (l : end ≡ ends.LinkFault → ⊥) (w : end ≡ ends.WriteFault → ⊥) (a : Asks (questions asking names) n run old.line new.line end) where
   told_text : (taken : List Item) → Knows (questions asking names) taken run → lines_by names answers run.clock.given_up ≡ lines (questions asking names) (events taken)
@@ -84,6 +84,6 @@ module _ (asking : Asking) (names : List (List ℕ)) (n : ℕ) (run : Run) (old 
 
   pub names_part : Rose old.tell.faults new.tell.faults → AppendsPrefix old.tell.written new.tell.written (lines_by names answers run.clock.given_up)
       → 0 < length (lines_by names answers run.clock.given_up) → Resolves (questions asking names) n old new ends.WriteFault
-  names_part rose front some =
-      told_part (questions asking names) n run old new end l w a rose (λ taken k. prefix_by _ _ _ _ (sym (told_text taken k)) front)
+  names_part rose prefix some =
+      told_part (questions asking names) n run old new end l w a rose (λ taken k. prefix_by _ _ _ _ (sym (told_text taken k)) prefix)
       (λ taken k. subst (λ (text : List ℕ). 0 < length text) (told_text taken k) some)

@@ -1,4 +1,4 @@
--- What a run knows after one more item.
+-- A run after one more item.
 use Rattle.std.proofs.Common.{◌≡◌, ℕ, zero, suc, ◌+◌, ◌<◌, Bool, true, false, not, ◌&&◌, leb, if◌then◌else◌, List, [], ◌∷◌, ◌++◌, length, map, take, replicate, get_or, refl, sym, ap, ◌∙◌, arith, append-nil, append_assoc, subst, None, Option, Result}
 use Rattle.std.proofs.lemmas.List.{drop_all, map-append, take_more}
 use Rattle.std.proofs.Math.Seq.{take-length}
@@ -9,13 +9,13 @@ use Rattle.dns_message.specs.declared.answer.Answer.{Answer}
 use Rattle.dns_message.specs.declared.asking.Asking.{Asking}
 use Rattle.uip_edge.specs.declared.item.Item.{Item}
 use Rattle.uip_edge.specs.declared.item.Item.TheVariants.{Byte, Quiet}
-use Rattle.uip_slip.specs.Decoding.{State, WasFed, told_by}
+use Rattle.uip_slip.specs.Decoding.{State, WasFed, reported_by}
 use Rattle.uip_slip.specs.Frames.{completed}
 use Rattle.uip_slip.specs.declared.fed.Fed.{Fed}
 use Rattle.uip_slip.specs.declared.fed.Fed.TheVariants as fed
 use Rattle.udp_resolver.specs.Asked.{last_ident, line_text, open_ones, queries, query_texts}
 use Rattle.udp_resolver.specs.Fates.{Question, all_settled, answer_among, fate_of, is_given_up, next_asking, questions, silences}
-use Rattle.udp_resolver.specs.LineEvents.{LineEvent, Came, Silence, by_frame, events, came_behind}
+use Rattle.udp_resolver.specs.LineEvents.{LineEvent, MediumInput, Silence, by_frame, events, received_after}
 use Rattle.udp_resolver.specs.Lines.{line_of, lines}
 use Rattle.udp_resolver.specs.Standing.{Adds, Knows, WritesSome}
 use Rattle.udp_resolver.specs.Steps.{IsClockAt, asked_next, heard_now, is_due, lines_by, unanswered}
@@ -27,10 +27,10 @@ use Rattle.udp_resolver.proofs.ItemLaws.{calm_bytes, events-append, events_byte}
 use Rattle.udp_resolver.proofs.QueryLaws.{queries_calm, queries_first, queries_silence}
 use Rattle.udp_resolver.proofs.StepLaws.{last_ident-append, query_texts-append}
 use Rattle.uip_edge.specs.Coming.{bytes_among}
-use Rattle.uip_edge.specs.Told.{SinkTold}
+use Rattle.uip_edge.specs.Views.{SinkView}
 use Rattle.uip_edge.proofs.Told.{bytes_among-append}
 
-pub writes_some_by : {T E : Type 0} (r : Result T E) (a b : SinkTold) (xs ys : List ℕ) → ys ≡ xs → WritesSome a b r xs → WritesSome a b r ys
+pub writes_some_by : {T E : Type 0} (r : Result T E) (a b : SinkView) (xs ys : List ℕ) → ys ≡ xs → WritesSome a b r xs → WritesSome a b r ys
 writes_some_by r a b xs ys e w = subst (λ (l : List ℕ). WritesSome a b r l) (sym e) w
 
 pub questions-length : (asking : Asking) (names : List (List ℕ)) → length (questions asking names) ≡ length names
@@ -80,15 +80,15 @@ knows_byte asked items b old new k fed brings clock sender answers =
 
 -- a byte that brings a datagram
 pub knows_came : (asked : List Question) (items : List Item) (b : ℕ) (datagram : List ℕ) (old new : Run) → is_given_up (events items) ≡ false → Knows asked items old
-    → WasFed (bytes_among items ++ b ∷ []) new.decoder → flat_map by_frame (completed (bytes_among items) b) ≡ Came datagram ∷ []
+    → WasFed (bytes_among items ++ b ∷ []) new.decoder → flat_map by_frame (completed (bytes_among items) b) ≡ MediumInput datagram ∷ []
     → new.clock ≡ old.clock → new.sender ≡ old.sender → new.answers.items ≡ heard_now datagram asked old.answers.items → Knows asked (items ++ Byte b ∷ []) new
 knows_came asked items b datagram old new e k fed brings clock sender answers =
     let es = events items in
-    knows_events asked (items ++ Byte b ∷ []) (es ++ Came datagram ∷ []) (bytes_among items ++ b ∷ []) new
+    knows_events asked (items ++ Byte b ∷ []) (es ++ MediumInput datagram ∷ []) (bytes_among items ++ b ∷ []) new
     (events_byte items b ∙ ap (λ l. es ++ l) brings) (bytes_among-append items (Byte b ∷ []))
-    fed (subst (λ (c : Clock). IsClockAt (es ++ Came datagram ∷ []) c) (sym clock) (at_calm es (Came datagram ∷ []) old.clock refl k.at))
+    fed (subst (λ (c : Clock). IsClockAt (es ++ MediumInput datagram ∷ []) c) (sym clock) (at_calm es (MediumInput datagram ∷ []) old.clock refl k.at))
     (answers ∙ ap (λ l. heard_now datagram asked l) k.heard ∙ heard_map datagram es asked e)
-    (ap (λ s. s.ident) sender ∙ k.sent ∙ ap (λ l. last_ident 0 l) (sym (queries_calm asked es (Came datagram ∷ []) refl)))
+    (ap (λ s. s.ident) sender ∙ k.sent ∙ ap (λ l. last_ident 0 l) (sym (queries_calm asked es (MediumInput datagram ∷ []) refl)))
 
 -- a silence
 pub events_quiet : (items : List Item) → events (items ++ Quiet ∷ []) ≡ events items ++ Silence ∷ []
@@ -106,7 +106,7 @@ knows_silence asked items old new e k at decoder answers sent =
     (sent ∙ ap (λ n. last_ident n (asked_next asked es)) k.sent ∙ sym (last_ident-append 0 (queries asked es) (asked_next asked es))
     ∙ ap (λ l. last_ident 0 l) (sym (queries_silence asked es)))
 
--- what the open questions are, told of the answers
+-- the open questions, by the answers
 pub next_by : (asked : List Question) (items : List Item) (run : Run) (answers : List (Option Answer)) → is_given_up (events items) ≡ false → Knows asked items run
     → answers ≡ run.answers.items → is_due (silences (events items) + 1) ≡ true → asked_next asked (events items) ≡ unanswered asked answers
 next_by asked items run answers e k same due =
@@ -120,7 +120,7 @@ next_none asked items due = ap (λ b. if b then open_ones asked (events items) e
 pub adds_bytes : (asked : List Question) (items : List Item) (bytes : List ℕ) → Adds asked items (map Byte bytes) []
 adds_bytes asked items bytes =
     ap (λ l. line_text asked l) (events-append [] items (map Byte bytes))
-    ∙ ap (λ l. query_texts 0 l) (queries_calm asked (events items) (came_behind (bytes_among items) (map Byte bytes)) (calm_bytes (bytes_among items) bytes))
+    ∙ ap (λ l. query_texts 0 l) (queries_calm asked (events items) (received_after (bytes_among items) (map Byte bytes)) (calm_bytes (bytes_among items) bytes))
     ∙ sym (append-nil (line_text asked (events items)))
 
 pub adds_quiet : (asked : List Question) (items : List Item) (run : Run) → Knows asked items run
@@ -139,9 +139,9 @@ count_same xs ys e = omega (arith, silences-append xs ys, e)
 pub calm_over : (items : List Item) (bytes : List ℕ) → is_given_up (events items) ≡ false → is_given_up (events (items ++ map Byte bytes)) ≡ false
 calm_over items bytes e =
     ap (λ l. is_given_up l) (events-append [] items (map Byte bytes))
-    ∙ ap (λ n. leb 249 n) (count_same (events items) (came_behind (bytes_among items) (map Byte bytes)) (calm_bytes (bytes_among items) bytes)) ∙ e
+    ∙ ap (λ n. leb 249 n) (count_same (events items) (received_after (bytes_among items) (map Byte bytes)) (calm_bytes (bytes_among items) bytes)) ∙ e
 
--- whether a question is open, told of the answers
+-- whether a question is open, by the answers
 pub open_then : (is_over : Bool) (any : Bool) → is_over ≡ false → any ≡ (not is_over && any)
 open_then true any e = absurd (cc e)
 open_then false any e = refl
@@ -164,8 +164,8 @@ none_yet [] (suc count) e = absurd (omega arith)
 none_yet (q ∷ asked) zero e = absurd (omega arith)
 none_yet (q ∷ asked) (suc count) e = ap (λ (l : List (Option Answer)). None ∷ l) (none_yet asked count (omega arith))
 
--- what is told of a byte brings nothing, unless it is a datagram
-pub told_none : (r : Fed) (s : State) → ((n : ℕ) → r ≡ fed.Datagram n → ⊥) → flat_map by_frame (told_by r s) ≡ []
+-- what is reported of a byte brings nothing, unless it is a datagram
+pub told_none : (r : Fed) (s : State) → ((n : ℕ) → r ≡ fed.Datagram n → ⊥) → flat_map by_frame (reported_by r s) ≡ []
 told_none fed.More s h = refl
 told_none fed.Overlong s h = refl
 told_none (fed.Datagram n) s h = absurd (h n refl)

@@ -1,4 +1,4 @@
--- An address that is told comes from a matching reply.
+-- An address that is reported is from a matching reply.
 use Rattle.std.proofs.Common.{◌≡◌, ℕ, zero, suc, Bool, true, false, cond, eqb, ltb, if◌then◌else◌, List, [], ◌∷◌, ◌++◌, length, drop, Option, None, Some, option_and_then, refl, sym, ap, ◌∙◌, append_assoc, arith}
 use Rattle.std.specs.List.{find}
 use Rattle.uip_wire.specs.Fields.{word_at}
@@ -9,8 +9,8 @@ use Rattle.dns_message.specs.Records.{Record, answer_by, answer_of_records, is_a
 use Rattle.dns_message.specs.Replies.{answer_to, way_back}
 use Rattle.dns_message.specs.declared.answer.Answer.{Answer}
 use Rattle.dns_message.specs.declared.answer.Answer.TheVariants.{Address, Code}
-use Rattle.udp_resolver.specs.Fates.{Question, answer_among, fate_by, first_answer, in_front_of, is_given_up, last_silence}
-use Rattle.udp_resolver.specs.LineEvents.{LineEvent, Came, Silence}
+use Rattle.udp_resolver.specs.Fates.{Question, answer_among, fate_by, first_answer, before_silence, is_given_up, last_silence}
+use Rattle.udp_resolver.specs.LineEvents.{LineEvent, MediumInput, Silence}
 use Rattle.udp_resolver.specs.Told.{AddressesAreFromReplies}
 use Rattle.udp_resolver.specs.declared.fate.Fate.TheVariants.{Answered}
 use Rattle.std.specs.Option.{option_or}
@@ -22,32 +22,32 @@ answer_of_fate None false answer e = absurd (cc e)
 
 record Came_with (q : Question) (answer : Answer) (happened : List LineEvent) : Type 0 where
   datagram : List ℕ
-  front : List LineEvent
+  prefix : List LineEvent
   later : List LineEvent
-  came : happened ≡ front ++ Came datagram ∷ later
-  said : answer_to q.asking q.text datagram ≡ Some answer
+  received : happened ≡ prefix ++ MediumInput datagram ∷ later
+  output : answer_to q.asking q.text datagram ≡ Some answer
 
-came_behind : (q : Question) (answer : Answer) (first : LineEvent) (happened : List LineEvent) → Came_with q answer happened → Came_with q answer (first ∷ happened)
-came_behind q answer first happened c = record { datagram = c.datagram; front = first ∷ c.front; later = c.later; came = ap (λ l. first ∷ l) c.came; said = c.said }
+received_after : (q : Question) (answer : Answer) (first : LineEvent) (happened : List LineEvent) → Came_with q answer happened → Came_with q answer (first ∷ happened)
+received_after q answer first happened c = record { datagram = c.datagram; prefix = first ∷ c.prefix; later = c.later; received = ap (λ l. first ∷ l) c.received; output = c.output }
 
 first_or : (q : Question) (answer : Answer) (datagram : List ℕ) (later : List LineEvent) (o : Option Answer) → answer_to q.asking q.text datagram ≡ o
-    → (first_answer q later ≡ Some answer → Came_with q answer later) → option_or o (first_answer q later) ≡ Some answer → Came_with q answer (Came datagram ∷ later)
-first_or q answer datagram later (Some a) is more e = record { datagram = datagram; front = []; later = later; came = refl; said = is ∙ e }
-first_or q answer datagram later None is more e = came_behind q answer (Came datagram) later (more e)
+    → (first_answer q later ≡ Some answer → Came_with q answer later) → option_or o (first_answer q later) ≡ Some answer → Came_with q answer (MediumInput datagram ∷ later)
+first_or q answer datagram later (Some a) is more e = record { datagram = datagram; prefix = []; later = later; received = refl; output = is ∙ e }
+first_or q answer datagram later None is more e = received_after q answer (MediumInput datagram) later (more e)
 
 first_came : (q : Question) (answer : Answer) (happened : List LineEvent) → first_answer q happened ≡ Some answer → Came_with q answer happened
 first_came q answer [] e = absurd (cc e)
-first_came q answer (Came datagram ∷ later) e =
+first_came q answer (MediumInput datagram ∷ later) e =
     first_or q answer datagram later (answer_to q.asking q.text datagram) refl (first_came q answer later) e
-first_came q answer (Silence ∷ later) e = came_behind q answer Silence later (first_came q answer later e)
+first_came q answer (Silence ∷ later) e = received_after q answer Silence later (first_came q answer later e)
 
--- what stands in front of a silence is a front
-is_front : (n : ℕ) (happened : List LineEvent) → (rest : List LineEvent) × (happened ≡ in_front_of n happened ++ rest)
-is_front n [] = ([], refl)
-is_front n (Came datagram ∷ later) = let p = is_front n later in (p.0, ap (λ l. Came datagram ∷ l) p.1)
-is_front zero (Silence ∷ later) = (Silence ∷ later, refl)
-is_front (suc zero) (Silence ∷ later) = (Silence ∷ later, refl)
-is_front (suc (suc n)) (Silence ∷ later) = let p = is_front (suc n) later in (p.0, ap (λ l. Silence ∷ l) p.1)
+-- what comes before a silence is a prefix
+is_leading : (n : ℕ) (happened : List LineEvent) → (rest : List LineEvent) × (happened ≡ before_silence n happened ++ rest)
+is_leading n [] = ([], refl)
+is_leading n (MediumInput datagram ∷ later) = let p = is_leading n later in (p.0, ap (λ l. MediumInput datagram ∷ l) p.1)
+is_leading zero (Silence ∷ later) = (Silence ∷ later, refl)
+is_leading (suc zero) (Silence ∷ later) = (Silence ∷ later, refl)
+is_leading (suc (suc n)) (Silence ∷ later) = let p = is_leading (suc n) later in (p.0, ap (λ l. Silence ∷ l) p.1)
 
 record Found (list : List Record) (r : Record) : Type 0 where
   before : List Record
@@ -105,7 +105,7 @@ said_by id text message address false true true is ok e =
 record Carried (q : Question) (datagram : List ℕ) (address : Addr) : Type 0 where
   message : List ℕ
   carried : udp_data (way_back q.asking) datagram ≡ Some message
-  said : Said q.asking.id q.text message address
+  output : Said q.asking.id q.text message address
 
 carried_by : (q : Question) (datagram : List ℕ) (address : Addr) (o : Option (List ℕ)) → udp_data (way_back q.asking) datagram ≡ o
     → option_and_then (answer_by_message q.asking.id q.text) o ≡ Some (Address address) → Carried q datagram address
@@ -113,7 +113,7 @@ carried_by q datagram address None is e = absurd (cc e)
 carried_by q datagram address (Some message) is e = record {
   message = message;
   carried = is;
-  said = said_by q.asking.id q.text message address (ltb (length message) 12) (is_reply q.asking.id q.text message) (eqb (code_of message) 0) refl refl e;
+  output = said_by q.asking.id q.text message address (ltb (length message) 12) (is_reply q.asking.id q.text message) (eqb (code_of message) 0) refl refl e;
 }
 
 carried : (q : Question) (datagram : List ℕ) (address : Addr) → answer_to q.asking q.text datagram ≡ Some (Address address) → Carried q datagram address
@@ -123,23 +123,23 @@ carried q datagram address e = carried_by q datagram address (udp_data (way_back
 pub from_replies : AddressesAreFromReplies
 from_replies q address happened e =
     let answer = answer_of_fate (answer_among happened q) (is_given_up happened) (Address address) e in
-    let c = first_came q (Address address) (in_front_of last_silence happened) answer in
-    let f = is_front last_silence happened in
-    let k = carried q c.datagram address c.said in
-    let r = found k.said.r (records (word_at k.message 6) (drop (question_end q.text) k.message)) k.said.is in
+    let c = first_came q (Address address) (before_silence last_silence happened) answer in
+    let f = is_leading last_silence happened in
+    let k = carried q c.datagram address c.output in
+    let r = found k.output.r (records (word_at k.message 6) (drop (question_end q.text) k.message)) k.output.is in
     record {
       datagram = c.datagram;
       message = k.message;
-      record_ = k.said.r;
-      front = c.front;
+      record_ = k.output.r;
+      prefix = c.prefix;
       later = c.later ++ f.0;
-      came = f.1 ∙ ap (λ l. l ++ f.0) c.came ∙ append_assoc c.front (Came c.datagram ∷ c.later) f.0;
+      received = f.1 ∙ ap (λ l. l ++ f.0) c.received ∙ append_assoc c.prefix (MediumInput c.datagram ∷ c.later) f.0;
       carried = k.carried;
-      matching = k.said.matching;
-      sound = k.said.sound;
+      matching = k.output.matching;
+      sound = k.output.sound;
       before = r.before;
       after = r.after;
       spelled = r.spelled;
       of_address = r.of_address;
-      told = k.said.told;
+      told = k.output.told;
     }

@@ -1,4 +1,4 @@
--- The constants of the code that definitions cite, with their values: a definition that names one says this number.
+-- The constants of the code that definitions cite, with their values.
 use Rattle.std.specs.Prelude.{◌≡◌}
 use Rattle.udp_resolver.specs.declared.TheConstants.{MOST_NAMES}
 

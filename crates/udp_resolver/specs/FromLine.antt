@@ -1,4 +1,4 @@
--- What the events of a line are: its datagrams and its silences.
+-- The events of a line: its datagrams and its silences.
 use Rattle.std.specs.Prelude.{◌≡◌, ℕ, ◌+◌, List, [], ◌∷◌}
 use Rattle.std.specs.List.{flat_map}
 use Rattle.uip_edge.specs.Coming.{bytes_among}
@@ -6,26 +6,26 @@ use Rattle.uip_edge.specs.declared.item.Item.{Item}
 use Rattle.uip_edge.specs.declared.item.Item.TheVariants.{Byte, Quiet}
 use Rattle.uip_slip.specs.Frames.{Frame, Datagram, Overlong, frames}
 use Rattle.udp_resolver.specs.Fates.{silences}
-use Rattle.udp_resolver.specs.LineEvents.{LineEvent, Came, Silence, events}
+use Rattle.udp_resolver.specs.LineEvents.{LineEvent, MediumInput, Silence, events}
 
--- the datagrams that came, in order
+-- The datagrams received, in order.
 abbrev pub came_in : List LineEvent → List (List ℕ)
 came_in [] = []
-came_in (Came datagram ∷ later) = datagram ∷ came_in later
+came_in (MediumInput datagram ∷ later) = datagram ∷ came_in later
 came_in (Silence ∷ later) = came_in later
 
--- the datagram of a frame; an overlong one has none
+-- The datagram of a frame; an overlong one has none.
 abbrev pub carried_by : Frame → List (List ℕ)
 carried_by (Datagram bytes) = bytes ∷ []
 carried_by Overlong = []
 
--- how many silences the items have
+-- The number of silences among the items.
 abbrev pub silent_items : List Item → ℕ
 silent_items [] = 0
 silent_items (Byte b ∷ items) = silent_items items
 silent_items (Quiet ∷ items) = silent_items items + 1
 
--- The datagrams that come are those among the frames of the line's bytes, in order, and the silences are the line's.
+-- The datagrams received are those among the frames of the line's bytes, in order, and the silences are the line's.
 pub record EventsAreOfLine : Type 0 where
   pub datagrams : (items : List Item) → came_in (events items) ≡ flat_map carried_by (frames (bytes_among items))
   pub silent : (items : List Item) → silences (events items) ≡ silent_items items

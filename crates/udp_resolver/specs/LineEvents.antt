@@ -1,4 +1,4 @@
--- What the items of a serial line bring: datagrams and silences.
+-- The events that the items of a serial line bring: datagrams and silences.
 use Rattle.std.specs.Prelude.{ℕ, List, [], ◌∷◌, ◌++◌}
 use Rattle.std.specs.List.{flat_map}
 use Rattle.uip_edge.specs.declared.item.Item.{Item}
@@ -6,20 +6,20 @@ use Rattle.uip_edge.specs.declared.item.Item.TheVariants.{Byte, Quiet}
 use Rattle.uip_slip.specs.Frames.{Frame, Datagram, Overlong, completed}
 
 pub data LineEvent : Type 0 where
-  Came : List ℕ → LineEvent
+  MediumInput : List ℕ → LineEvent
   Silence : LineEvent
 
--- an overlong frame brings nothing
+-- An overlong frame brings nothing.
 abbrev pub by_frame : Frame → List LineEvent
-by_frame (Datagram bytes) = Came bytes ∷ []
+by_frame (Datagram bytes) = MediumInput bytes ∷ []
 by_frame Overlong = []
 
--- the items behind the bytes before them: a byte brings the frame that it completes
-abbrev pub came_behind : List ℕ → List Item → List LineEvent
-came_behind before [] = []
-came_behind before (Byte b ∷ items) = flat_map by_frame (completed before b) ++ came_behind (before ++ b ∷ []) items
-came_behind before (Quiet ∷ items) = Silence ∷ came_behind before items
+-- The events of items after the bytes before them: a byte brings the frame that it completes.
+abbrev pub received_after : List ℕ → List Item → List LineEvent
+received_after before [] = []
+received_after before (Byte b ∷ items) = flat_map by_frame (completed before b) ++ received_after (before ++ b ∷ []) items
+received_after before (Quiet ∷ items) = Silence ∷ received_after before items
 
--- what all items of a line bring, in order
+-- The events of all items of a line, in order.
 abbrev pub events : List Item → List LineEvent
-events items = came_behind [] items
+events items = received_after [] items

@@ -1,4 +1,4 @@
--- What is told of the names: a line for each, with what became of it.
+-- What is reported of the names: a line for each, with its fate.
 use Rattle.std.specs.Prelude.{ℕ, List, ◌++◌, codes, decimal}
 use Rattle.std.specs.List.{flat_map}
 use Rattle.uip_wire.specs.Addr.{quad_text}
@@ -15,10 +15,10 @@ fate_text (Answered (Code code)) = codes "code " ++ decimal code
 fate_text Timeout = codes "timeout"
 fate_text Open = codes "open"
 
--- the name, a space, what became of it, and a line feed
+-- The name, a space, its fate, and a line feed.
 abbrev pub line_of : List ℕ → Fate → List ℕ
 line_of text fate = text ++ codes " " ++ fate_text fate ++ codes "\n"
 
--- the lines of questions, in order
+-- The lines of questions, in order.
 abbrev pub lines : List Question → List LineEvent → List ℕ
 lines asked happened = flat_map (λ q. line_of q.text (fate_of happened q)) asked

@@ -3,7 +3,7 @@ use Rattle.std.specs.Prelude.{◌≡◌, ◌<◌, ◌≤◌, ◌⊎◌, ℕ, Lis
 use Rattle.std.specs.Io.KnownBytes.{Appends}
 use Rattle.uip_edge.specs.Causes.{Rose}
 use Rattle.uip_edge.specs.Coming.{Consumes, bytes_among}
-use Rattle.uip_edge.specs.Told.{LineTold, IsCalm, SinkTold}
+use Rattle.uip_edge.specs.Views.{LineView, IsCalm, SinkView}
 use Rattle.uip_edge.specs.Turns.{TurnsBy}
 use Rattle.uip_edge.specs.Writing.{AppendsPrefix, BreaksOff, Writes}
 use Rattle.uip_edge.specs.declared.item.Item.{Item}
@@ -19,66 +19,66 @@ use Rattle.udp_resolver.specs.Resolving.{IsDone, IsOneAnswer, IsOpen, LastAsked}
 use Rattle.udp_resolver.specs.Steps.{IsClockAt}
 use Rattle.udp_resolver.specs.declared.run.Run.{Run}
 
--- the text was written whole, or a front of it where the sink failed, and it has bytes then
-pub record WritesSome {T E : Type 0} (old new : SinkTold) (result : Result T E) (text : List ℕ) : Type 0 where
+-- The text was written whole, or a prefix of it if the sink failed, and then it is not empty.
+pub record WritesSome {T E : Type 0} (old new : SinkView) (result : Result T E) (text : List ℕ) : Type 0 where
   pub writes : Writes old new result text
   pub some : OnErr result (0 < length text)
 
--- the run after these items
+-- The run after these items.
 pub record Knows (asked : List Question) (items : List Item) (run : Run) : Type 0 where
   pub fed : WasFed (bytes_among items) run.decoder
   pub at : IsClockAt (events items) run.clock
   pub heard : run.answers.items ≡ map (answer_among (events items)) asked
   pub sent : run.sender.ident ≡ last_ident 0 (queries asked (events items))
 
--- what further items add to the line out
+-- What further items add to the output line.
 abbrev pub Adds : List Question → List Item → List Item → List ℕ → Type 0
 Adds asked items more text = line_text asked (events (items ++ more)) ≡ line_text asked (events items) ++ text
 
--- a turn that took items
-pub record Went (asked : List Question) (items more : List Item) (run : Run) (old new : LineTold) : Type 0 where
+-- A turn that took items.
+pub record Went (asked : List Question) (items more : List Item) (run : Run) (old new : LineView) : Type 0 where
   pub knows : Knows asked (items ++ more) run
   pub once : IsOneAnswer more
   pub text : List ℕ
   pub adds : Adds asked items more text
   pub out : Appends old.sink.written new.sink.written text
 
--- a turn at which the link ended or failed
-pub record Kept (asked : List Question) (items : List Item) (run : Run) (old new : LineTold) : Type 0 where
+-- A turn in which the link ended or failed.
+pub record Kept (asked : List Question) (items : List Item) (run : Run) (old new : LineView) : Type 0 where
   pub knows : Knows asked items run
   pub out : new.sink.written ≡ old.sink.written
 
--- a turn at which the line out failed
-pub record OutBroke (asked : List Question) (items more : List Item) (old new : LineTold) : Type 0 where
+-- A turn in which the output line failed.
+pub record OutBroke (asked : List Question) (items more : List Item) (old new : LineView) : Type 0 where
   pub once : IsOneAnswer more
   pub text : List ℕ
   pub adds : Adds asked items more text
   pub broke : BreaksOff [] text old.sink.written new.sink.written
 
--- what a turn did
-abbrev pub AsksOn : List Question → List Item → List Item → Run → LineTold → LineTold → Turn ServeEnd → Type 0
+-- What a turn did.
+abbrev pub AsksOn : List Question → List Item → List Item → Run → LineView → LineView → Turn ServeEnd → Type 0
 AsksOn asked items more run old new (turns.Took n) = Went asked items more run old new
 AsksOn asked items more run old new (turns.Ended ends.End) = Kept asked items run old new
 AsksOn asked items more run old new (turns.Ended ends.LinkFault) = Kept asked items run old new
 AsksOn asked items more run old new (turns.Ended ends.WriteFault) = OutBroke asked items more old new
 AsksOn asked items more run old new (turns.Ended ends.Budget) = ⊥
 
--- a turn behind these items
-pub record Turns (asked : List Question) (items : List Item) (run : Run) (old new : LineTold) (room : ℕ) (turn : Turn ServeEnd) : Type 0 where
+-- A turn after these items.
+pub record Turns (asked : List Question) (items : List Item) (run : Run) (old new : LineView) (room : ℕ) (turn : Turn ServeEnd) : Type 0 where
   pub more : List Item
   pub consumed : Consumes old.link.coming new.link.coming more
   pub within : length more ≤ room
   pub cause : TurnsBy old new more turn
   pub by : AsksOn asked items more run old new turn
 
--- why no more is asked, and what was written, where the line did not fail
-pub record Done (asked : List Question) (n : ℕ) (taken : List Item) (run : Run) (old new : LineTold) (end : ServeEnd) : Type 0 where
+-- Why no more is taken, and what was written, if the line did not fail.
+pub record Done (asked : List Question) (n : ℕ) (taken : List Item) (run : Run) (old new : LineView) (end : ServeEnd) : Type 0 where
   pub done : IsDone asked n old.link.coming taken end
   pub calm : IsCalm old new
   pub knows : Knows asked taken run
   pub out : Appends old.sink.written new.sink.written (line_text asked (events taken))
 
-abbrev pub AsksBy : List Question → ℕ → List Item → Run → LineTold → LineTold → ServeEnd → Type 0
+abbrev pub AsksBy : List Question → ℕ → List Item → Run → LineView → LineView → ServeEnd → Type 0
 AsksBy asked n taken run old new ends.End = Done asked n taken run old new ends.End
 AsksBy asked n taken run old new ends.Budget = Done asked n taken run old new ends.Budget
 AsksBy asked n taken run old new ends.LinkFault =
@@ -88,8 +88,8 @@ AsksBy asked n taken run old new ends.WriteFault =
     (new.link.faults ≡ old.link.faults) × Rose old.sink.faults new.sink.faults
     × AppendsPrefix old.sink.written new.sink.written (line_text asked (events taken)) × (0 < length (line_text asked (events taken)))
 
--- the names were asked for, up to n items
-pub record Asks (asked : List Question) (n : ℕ) (run : Run) (old new : LineTold) (end : ServeEnd) : Type 0 where
+-- The names were queried, up to n items.
+pub record Asks (asked : List Question) (n : ℕ) (run : Run) (old new : LineView) (end : ServeEnd) : Type 0 where
   pub taken : List Item
   pub within : length taken ≤ n
   pub consumed : Consumes old.link.coming new.link.coming taken

@@ -1,4 +1,4 @@
--- What the parts of a run make of an event.
+-- What the parts of a run do at an event.
 use Rattle.std.specs.Prelude.{◌≡◌, ◌<◌, ◌+◌, ◌==◌, if◌then◌else◌, ℕ, Bool, List, [], ◌∷◌, ◌++◌, Option, Some, None, take}
 use Rattle.std.specs.List.{list_any}
 use Rattle.rexmit_timer.specs.Ages.{IsAtAge, ages}
@@ -12,7 +12,7 @@ use Rattle.udp_resolver.specs.Lines.{line_of}
 use Rattle.udp_resolver.specs.declared.clock.Clock.{Clock}
 use Rattle.std.specs.Option.{option_or}
 
--- the answers after a datagram came: those that there were, and what it answers to the other questions
+-- The answers after a datagram was received: those known before, and its answers to the other questions.
 abbrev pub heard_now : List ℕ → List Question → List (Option Answer) → List (Option Answer)
 heard_now datagram [] answers = []
 heard_now datagram (q ∷ asked) [] = []
@@ -22,27 +22,27 @@ abbrev pub unless_answered : Question → Option Answer → List Question
 unless_answered q None = q ∷ []
 unless_answered q (Some answer) = []
 
--- the questions that have no answer
+-- The questions that have no answer.
 abbrev pub unanswered : List Question → List (Option Answer) → List Question
 unanswered [] answers = []
 unanswered (q ∷ asked) [] = []
 unanswered (q ∷ asked) (answer ∷ answers) = unless_answered q answer ++ unanswered asked answers
 
--- the lines of names with these answers
+-- The lines of names with these answers.
 abbrev pub lines_by : List (List ℕ) → List (Option Answer) → Bool → List ℕ
 lines_by [] answers is_over = []
 lines_by (text ∷ names) [] is_over = []
 lines_by (text ∷ names) (answer ∷ answers) is_over = line_of text (fate_by answer is_over) ++ lines_by names answers is_over
 
--- the clock after these events
+-- The clock after these events.
 pub record IsClockAt (happened : List LineEvent) (clock : Clock) : Type 0 where
   pub given_up : clock.given_up ≡ is_given_up happened
   pub age : silences happened < last_silence → IsAtAge clock.timer (silences happened)
 
--- the age of a retransmission
+-- The age of a retransmission.
 abbrev pub is_due : ℕ → Bool
 is_due age = list_any (λ a. a == age) (take TEXT_LIMIT ages)
 
--- the questions that a silence behind these events asks again
+-- The questions that a silence after these events sends again.
 abbrev pub asked_next : List Question → List LineEvent → List Question
 asked_next asked happened = if is_due (silences happened + 1) then open_ones asked happened else []

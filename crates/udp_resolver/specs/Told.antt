@@ -1,4 +1,4 @@
--- An address is told only from a matching reply.
+-- An address is reported only from a matching reply.
 use Rattle.std.specs.Prelude.{◌≡◌, ℕ, List, ◌∷◌, ◌++◌, Some, true, drop}
 use Rattle.uip_wire.specs.Fields.{word_at}
 use Rattle.udp_datagram.specs.Udp.{udp_data}
@@ -8,18 +8,18 @@ use Rattle.dns_message.specs.Replies.{way_back}
 use Rattle.dns_message.specs.declared.answer.Answer.TheVariants.{Address}
 use Rattle.uip_wire.specs.declared.addr.Addr.{Addr}
 use Rattle.udp_resolver.specs.Fates.{Question, fate_of}
-use Rattle.udp_resolver.specs.LineEvents.{LineEvent, Came}
+use Rattle.udp_resolver.specs.LineEvents.{LineEvent, MediumInput}
 use Rattle.udp_resolver.specs.declared.fate.Fate.TheVariants.{Answered}
 
--- A datagram came that carries a message from the server's port to the asking port; the message is the reply to this question,
--- without an error; and among the records that its answer section spells is one of an Internet address, which is the one told.
+-- A datagram was received that carries a message from the server's port to the querying port. The message is the reply to this question,
+-- without an error. Among the records that its answer section represents is one of an Internet address, which is the one reported.
 pub record IsFromReply (q : Question) (address : Addr) (happened : List LineEvent) : Type 0 where
   pub datagram : List ℕ
   pub message : List ℕ
   pub record_ : Record
-  pub front : List LineEvent
+  pub prefix : List LineEvent
   pub later : List LineEvent
-  pub came : happened ≡ front ++ Came datagram ∷ later
+  pub received : happened ≡ prefix ++ MediumInput datagram ∷ later
   pub carried : udp_data (way_back q.asking) datagram ≡ Some message
   pub matching : is_reply q.asking.id q.text message ≡ true
   pub sound : code_of message ≡ 0

@@ -1,4 +1,4 @@
--- Which end is told where nothing failed.
+-- Which end is reported if nothing failed.
 use Rattle.std.specs.Prelude.{◌≡◌, ◌<◌, ℕ, List, Some, length}
 use Rattle.uip_edge.specs.Coming.{Consumes}
 use Rattle.uip_edge.specs.declared.item.Item.{Item}
@@ -8,20 +8,20 @@ use Rattle.udp_resolver.specs.Fates.{Question}
 use Rattle.udp_resolver.specs.Resolving.{IsOpen, IsSettled, ResolvesBy}
 use Rattle.udp_resolver.specs.Streams.{Streams, StreamsUnfailed}
 
--- the end, where all questions are settled
+-- The end, if all questions are settled.
 abbrev pub SettledIsTold : Type 0
 SettledIsTold =
     (asked : List Question) (n : ℕ) (old new : Streams) (taken : List Item) (end : ServeEnd) → ResolvesBy asked n old new taken end
     → StreamsUnfailed old new → IsSettled asked taken → end ≡ End
 
--- the end, where the link tells fewer items than are allowed
+-- The end, if the link has fewer items than are allowed.
 abbrev pub DryIsTold : Type 0
 DryIsTold =
     (asked : List Question) (n : ℕ) (old new : Streams) (all taken : List Item) (end : ServeEnd) → ResolvesBy asked n old new taken end
     → StreamsUnfailed old new → old.line.link.coming ≡ Some all → length all < n
     → Consumes old.line.link.coming new.line.link.coming taken → end ≡ End
 
--- the budget, where as many items were taken as were allowed and a question is open
+-- The budget, if as many items were taken as were allowed and a question is open.
 abbrev pub BudgetIsTold : Type 0
 BudgetIsTold =
     (asked : List Question) (n : ℕ) (old new : Streams) (taken : List Item) (end : ServeEnd) → ResolvesBy asked n old new taken end

@@ -1,3 +1,5 @@
+//! The answers known so far.
+
 ghost use Rattle.std.specs.Prelude.{◌≡◌, length};
 ghost use Rattle.std.specs.List.{list_any};
 ghost use Rattle.std.specs.Option.{is_none, option_or};
@@ -7,7 +9,7 @@ ghost use Rattle.udp_resolver.specs.Steps.{heard_now};
 
 use dns_message::{Answer, Asking, Name};
 
-/// The same asking under the next id.
+/// Returns the same with the next id.
 pub(crate) fn next_asking(asking: Asking) -> Asking
     ensures { result ≡ next_asking asking }
 {
@@ -18,7 +20,7 @@ pub(crate) fn next_asking(asking: Asking) -> Asking
     }
 }
 
-/// The answer that is known, or else what a datagram answers.
+/// Returns the known answer, or else that of a datagram.
 fn known_or(known: Option<Answer>, asking: Asking, name: &Name, datagram: &[u8]) -> Option<Answer>
     ensures { result ≡ option_or known (answer_to asking name.now datagram.now) }
 {
@@ -28,7 +30,7 @@ fn known_or(known: Option<Answer>, asking: Asking, name: &Name, datagram: &[u8])
     asking.answer(name, datagram)
 }
 
-/// A datagram comes: it may answer questions that have no answer yet.
+/// Takes the answers of a received datagram to questions that have none yet.
 pub(crate) fn hear(answers: &mut [Option<Answer>], asking: Asking, names: &[Name], datagram: &[u8])
     requires { length answers.old ≡ length names.now }
     ensures { answers.new ≡ heard_now datagram.now (questions asking names.now) answers.old }
@@ -40,7 +42,7 @@ pub(crate) fn hear(answers: &mut [Option<Answer>], asking: Asking, names: &[Name
     }
 }
 
-/// Whether a question has no answer yet.
+/// Returns whether a question has no answer yet.
 pub(crate) fn any_open(answers: &[Option<Answer>]) -> bool
     ensures { result ≡ list_any is_none answers.now }
 {

@@ -6,7 +6,7 @@ ghost use Rattle.udp_resolver.specs.Steps.{IsClockAt, is_due};
 
 use rexmit_timer::{Beat, TEXT_LIMIT, Timer};
 
-/// When questions are asked again, and when they are given up. All are asked at once, so one clock serves them all.
+/// Counts when questions are sent again and when they are given up. All are sent at once, so one clock serves them all.
 #[derive(Drop)]
 pub(crate) struct Clock {
     pub timer: Timer,
@@ -14,7 +14,7 @@ pub(crate) struct Clock {
 }
 
 impl Clock {
-    /// The clock when the questions are asked first.
+    /// Returns the clock at the first queries.
     pub fn new() -> Clock
         ensures at { IsClockAt [] result }
         ensures tries { result.timer.tries ≤ TEXT_LIMIT }
@@ -25,7 +25,7 @@ impl Clock {
         }
     }
 
-    /// A silence. Whether the questions that are open are to be asked again.
+    /// Counts a silence. Returns whether the open questions are to be sent again.
     pub fn tick(&mut self) -> bool
         requires tries { self.old.timer.tries ≤ TEXT_LIMIT }
         ensures tries { self.new.timer.tries ≤ TEXT_LIMIT }

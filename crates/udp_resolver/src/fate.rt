@@ -1,12 +1,12 @@
 use dns_message::Answer;
 
-/// What became of a name that was asked for.
+/// What became of a name that was queried.
 #[derive(Clone, Copy, Debug, PartialEq, Eq)]
 pub enum Fate {
     /// Nothing yet.
     Open,
-    /// A matching reply said this.
+    /// A matching reply had this answer.
     Answered(Answer),
-    /// The server stayed silent until the question was given up.
+    /// The server sent no answer until the question was given up.
     Timeout,
 }

@@ -1,28 +1,28 @@
-//! What holds of every run of the resolver.
+//! The laws of every run of the resolver.
 
 ghost use Rattle.udp_resolver.specs.ConstantValues.{ConstantValues};
 ghost use Rattle.udp_resolver.specs.FromLine.{EventsAreOfLine};
 ghost use Rattle.udp_resolver.specs.Told.{AddressesAreFromReplies};
 ghost use Rattle.udp_resolver.specs.ToldEnds.{BudgetIsTold, DryIsTold, SettledIsTold};
 
-/// An address is told of a name only where a datagram came that is the reply to the question for this name, and an answer
-/// record of it gives this address.
+/// An address is reported for a name only from a received datagram: the reply to the question for this name, with an answer record of this
+/// address.
 pub fn addresses_are_from_replies()
     ensures { AddressesAreFromReplies }
 {}
 
-/// The end is told wherever nothing failed and all questions are settled, or the link tells fewer items than are allowed.
-pub fn end_is_told()
+/// The end is reported if nothing failed and all questions are settled, or the link had fewer items than are allowed.
+pub fn end_is_reported()
     ensures settled { SettledIsTold }
     ensures dry { DryIsTold }
 {}
 
-/// The budget is told wherever nothing failed, as many items were taken as were allowed, and a question is open.
-pub fn budget_is_told()
+/// The budget is reported if nothing failed, as many items were taken as were allowed, and a question is open.
+pub fn budget_is_reported()
     ensures { BudgetIsTold }
 {}
 
-/// The datagrams that come are those among the frames of the line's bytes, in order, and the silences are the line's.
+/// The datagrams received are those among the frames of the line's bytes, in order, and the silences are the line's.
 #[tactic(auto, using(crate::proofs::FromLineLaws::events_are_of_line))]
 pub fn events_are_of_the_line()
     ensures { EventsAreOfLine }

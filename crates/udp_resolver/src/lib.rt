@@ -1,6 +1,6 @@
-//! A resolver over a serial line: it asks a server for the addresses of names (RFC 1035), asks again while the server is
-//! silent, and tells what became of each name. What it writes is told by the whole list of items that it took, however the
-//! link cut them. No call is given an allocator; that none takes memory is no clause.
+//! A DNS resolver over a serial line (RFC 1035). It queries a server for the addresses of names, sends the queries again while the server
+//! is silent, and reports the fate of each name. Its output is defined over the whole list of items that it took, however the link cuts
+//! them. No call is passed an allocator.
 #![tactic(auto)]
 
 mod answers;
@@ -17,10 +17,10 @@ mod tests;
 pub use dns_message::{LONGEST_NAME, Name};
 pub use fate::Fate;
 pub use laws::{
-    addresses_are_from_replies, budget_is_told, constant_values, end_is_told,
+    addresses_are_from_replies, budget_is_reported, constant_values, end_is_reported,
     events_are_of_the_line,
 };
 pub use resolving::resolve;
 
-/// The most names that are asked for at once.
+/// The most names that are queried at once.
 pub const MOST_NAMES: usize = 4;

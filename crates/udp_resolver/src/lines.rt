@@ -1,6 +1,8 @@
+//! The lines of the report.
+
 ghost use Rattle.std.specs.Prelude.{◌≡◌, ◌≤◌, ◌+◌, ◌++◌, length};
 ghost use Rattle.udp_resolver.specs.declared.lines.TheConstants.{LONGEST_FATE, LONGEST_LINE};
-ghost use Rattle.uip_edge.specs.Telling.{sink_told};
+ghost use Rattle.uip_edge.specs.ViewsOf.{sink_view};
 ghost use Rattle.udp_resolver.specs.Fates.{fate_by};
 ghost use Rattle.udp_resolver.specs.Lines.{fate_text, line_of};
 ghost use Rattle.udp_resolver.specs.Standing.{WritesSome};
@@ -11,16 +13,16 @@ use dns_message::{Answer, LONGEST_NAME, Name};
 use text_room::Text;
 use uip_edge::{Failed, Sink};
 
-/// The most bytes of what is told of a name: an address.
+/// The most bytes of a fate: those of an address.
 const LONGEST_FATE: usize = 15;
 
-/// The most bytes of a line: the name, a space, what became of it, and a line feed.
+/// The most bytes of a line: the name, a space, its fate, and a line feed.
 const LONGEST_LINE: usize = LONGEST_NAME + 1 + LONGEST_FATE + 1;
 
-/// A line that tells of a name.
+/// A line of the report.
 type Line = Text<LONGEST_LINE>;
 
-/// The line goes on with what became of a name.
+/// Appends a fate to the line.
 fn put_fate(line: &mut Line, fate: Fate)
     requires { length line.old + LONGEST_FATE ≤ LONGEST_LINE }
     ensures text { line.new ≡ line.old ++ fate_text fate }
@@ -38,7 +40,7 @@ fn put_fate(line: &mut Line, fate: Fate)
     }
 }
 
-/// What became of a name with this answer.
+/// Returns the fate of a name with this answer.
 fn fate_by(answer: Option<Answer>, is_over: bool) -> Fate
     ensures { result ≡ fate_by answer is_over }
 {
@@ -49,7 +51,7 @@ fn fate_by(answer: Option<Answer>, is_over: bool) -> Fate
     }
 }
 
-/// The line of a name.
+/// Returns the line of a name.
 fn line_of(name: &Name, fate: Fate) -> Line
     ensures { result ≡ line_of name.now fate }
 {
@@ -61,7 +63,7 @@ fn line_of(name: &Name, fate: Fate) -> Line
     line
 }
 
-/// Tells what became of each name, in order.
+/// Writes the line of each name, in order.
 pub(crate) fn tell_all<T: Sink>(
     names: &[Name],
     answers: &[Option<Answer>],
@@ -69,7 +71,7 @@ pub(crate) fn tell_all<T: Sink>(
     tell: &mut T,
 ) -> Result<(), Failed>
     requires { length answers.now ≡ length names.now }
-    ensures { WritesSome (sink_told T.Sink tell.old) (sink_told T.Sink tell.new) result (lines_by names.now answers.now is_over) }
+    ensures { WritesSome (sink_view T.Sink tell.old) (sink_view T.Sink tell.new) result (lines_by names.now answers.now is_over) }
 {
     for at in 0..names.len() {
         tell.write_whole(line_of(&names[at], fate_by(answers[at], is_over)).bytes())?;

@@ -1,3 +1,5 @@
+//! Resolves names over a line.
+
 ghost use Rattle.std.specs.Prelude.{◌≡◌, length};
 ghost use Rattle.udp_resolver.specs.Fates.{questions};
 ghost use Rattle.udp_resolver.specs.Resolving.{Resolves};
@@ -12,9 +14,9 @@ use packet_buffer::Packet;
 use uip_edge::{Failed, Link, ServeEnd, Sink};
 use uip_wire::{Addr, LARGEST_DATAGRAM};
 
-/// Asks a server for the addresses of names over a line, and tells what became of each name: its address, that it has none, the
-/// response code, that the server stayed silent, or that the name was open when the link ended or so many items were taken. The
-/// first name is asked under this id, and each further one under the next. No call in it is given an allocator.
+/// Queries a server for the addresses of names over a line, and reports the fate of each name. The fate is its address, that it has none,
+/// the response code, `timeout`, or `open` if the link ended or `items` items were taken first. The first name is queried with this id,
+/// each further one with the next. It is not passed an allocator.
 #[inline(never)]
 pub fn resolve<L: Link, K: Sink, T: Sink>(
     packet: &mut Packet,

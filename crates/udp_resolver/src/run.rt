@@ -1,3 +1,5 @@
+//! A run of the resolver, turn by turn.
+
 ghost use Rattle.std.specs.Prelude.{◌≡◌, ◌≤◌, ◌<◌, ◌∷◌, ◌++◌, [], List, None, false, length, map, not, replicate, OnOk};
 ghost use Rattle.rexmit_timer.specs.declared.timer.TheConstants.{TEXT_LIMIT};
 ghost use Rattle.uip_edge.specs.Causes.{HasCause};
@@ -11,7 +13,7 @@ ghost use Rattle.udp_resolver.specs.LineEvents.{events};
 ghost use Rattle.udp_resolver.specs.Resolving.{IsOpen};
 ghost use Rattle.udp_resolver.specs.Standing.{Asks, Knows, Turns, WritesSome};
 ghost use Rattle.udp_resolver.specs.Steps.{IsClockAt, asked_next};
-ghost use Rattle.uip_edge.specs.Telling.{line_told, sink_told};
+ghost use Rattle.uip_edge.specs.ViewsOf.{line_view, sink_view};
 
 use crate::MOST_NAMES;
 use crate::answers::{any_open, hear};
@@ -24,7 +26,7 @@ use uip_edge::{Failed, Got, Link, ServeEnd, Sink, Turn};
 use uip_slip::{Decoder, Fed};
 use uip_wire::LARGEST_DATAGRAM;
 
-/// A run of the resolver, as far as it came.
+/// A run of the resolver: its decoder, its clock and the answers so far.
 #[derive(Drop)]
 pub(crate) struct Run {
     decoder: Decoder,
@@ -34,7 +36,7 @@ pub(crate) struct Run {
 }
 
 impl Run {
-    /// A run for so many names, before the first query.
+    /// Returns a run for `count` names, before the first query.
     pub fn new(count: usize) -> Run
         requires { count ≤ MOST_NAMES }
         ensures fed { WasFed [] result.decoder }
@@ -51,7 +53,7 @@ impl Run {
         }
     }
 
-    /// Asks all questions, in order.
+    /// Sends all queries, in order.
     pub fn send_first<K: Sink>(
         &mut self,
         packet: &mut Packet,
@@ -69,14 +71,14 @@ impl Run {
         ensures area { length packet.new.area ≡ LARGEST_DATAGRAM }
         ensures each { length self.new.answers.items ≡ length names.now }
         ensures knows { OnOk result (Knows (questions asking names.now) [] self.new) }
-        ensures writes { WritesSome (sink_told K.Sink out.old) (sink_told K.Sink out.new) result
+        ensures writes { WritesSome (sink_view K.Sink out.old) (sink_view K.Sink out.new) result
             (line_text (questions asking names.now) []) }
     {
         self.sender
             .send_open(packet, asking, names, self.answers.as_slice(), out)
     }
 
-    /// Whether a question is open.
+    /// Returns whether a question is open.
     pub fn is_open(&self, asking: Asking, names: &[Name]) -> bool
         ensures { (items : List Item) → Knows (questions asking names.now) items self.now
             → result ≡ not (all_settled (questions asking names.now) (events items)) }
@@ -84,7 +86,7 @@ impl Run {
         !self.clock.given_up && any_open(self.answers.as_slice())
     }
 
-    /// Takes a byte.
+    /// Feeds a byte.
     fn take_byte(&mut self, asking: Asking, names: &[Name], byte: u8)
         requires { length self.old.answers.items ≡ length names.now }
         ensures each { length self.new.answers.items ≡ length names.now }
@@ -102,7 +104,7 @@ impl Run {
         }
     }
 
-    /// Takes bytes.
+    /// Feeds bytes.
     fn take(&mut self, asking: Asking, names: &[Name], bytes: &[u8])
         requires { length self.old.answers.items ≡ length names.now }
         ensures each { length self.new.answers.items ≡ length names.now }
@@ -116,7 +118,7 @@ impl Run {
         }
     }
 
-    /// Takes a silence: after some, the open questions are asked again.
+    /// Counts a silence: at some of them the open questions are sent again.
     fn tick<K: Sink>(
         &mut self,
         packet: &mut Packet,
@@ -134,7 +136,7 @@ impl Run {
             → Knows (questions asking names.now) items self.old → Knows (questions asking names.now) (items ++ Quiet ∷ []) self.new) }
         ensures writes { (items : List Item) → is_given_up (events items) ≡ false
             → Knows (questions asking names.now) items self.old
-            → WritesSome (sink_told K.Sink out.old) (sink_told K.Sink out.new) result
+            → WritesSome (sink_view K.Sink out.old) (sink_view K.Sink out.new) result
             (query_texts self.old.sender.ident (asked_next (questions asking names.now) (events items))) }
         ensures cause { HasCause (K.faults out.old) (K.faults out.new) result }
     {
@@ -145,7 +147,7 @@ impl Run {
             .send_open(packet, asking, names, self.answers.as_slice(), out)
     }
 
-    /// Takes what the link gives next.
+    /// Takes one turn: what the link returns next.
     pub fn turn<L: Link, K: Sink>(
         &mut self,
         packet: &mut Packet,
@@ -165,8 +167,8 @@ impl Run {
         ensures fits { TurnFits result (length buf.old) }
         ensures turns { (items : List Item) → IsOpen (questions asking names.now) items → Knows (questions asking names.now) items self.old
             → Turns (questions asking names.now) items self.new
-            (line_told L.Link K.Sink link.old out.old)
-            (line_told L.Link K.Sink link.new out.new) (length buf.old) result }
+            (line_view L.Link K.Sink link.old out.old)
+            (line_view L.Link K.Sink link.new out.new) (length buf.old) result }
     {
         match link.next(buf) {
             Err(Failed) => Turn::Ended(ServeEnd::LinkFault),
@@ -183,10 +185,10 @@ impl Run {
     }
 }
 
-/// The most bytes that are asked of a link at once.
+/// The most bytes that are read from a link at once.
 const BLOCK: usize = 4096;
 
-/// Asks for the names in a run that has not begun, until all questions are settled, the link ends or so many items were taken.
+/// Resolves the names in a run that has not begun, until all questions are settled, the link ends or `items` items were taken.
 pub(crate) fn ask<L: Link, K: Sink>(
     run: &mut Run,
     packet: &mut Packet,
@@ -205,8 +207,8 @@ pub(crate) fn ask<L: Link, K: Sink>(
     ensures area { length packet.new.area ≡ LARGEST_DATAGRAM }
     ensures each { length run.new.answers.items ≡ length names.now }
     ensures asks { Asks (questions asking names.now) items run.new
-        (line_told L.Link K.Sink link.old out.old)
-        (line_told L.Link K.Sink link.new out.new) result }
+        (line_view L.Link K.Sink link.old out.old)
+        (line_view L.Link K.Sink link.new out.new) result }
 {
     if run.send_first(packet, asking, names, out).is_err() {
         return ServeEnd::WriteFault;
@@ -226,7 +228,7 @@ pub(crate) fn ask<L: Link, K: Sink>(
     ServeEnd::End
 }
 
-/// No answer yet for each of so many names.
+/// Returns no answer for each of `count` names.
 fn no_answers(count: usize) -> ArrayVec<Option<Answer>, MOST_NAMES>
     requires { count ≤ MOST_NAMES }
     ensures { result.items ≡ replicate count None }

@@ -1,5 +1,5 @@
 ghost use Rattle.std.specs.Prelude.{◌≡◌, length, OnOk};
-ghost use Rattle.uip_edge.specs.Telling.{sink_told};
+ghost use Rattle.uip_edge.specs.ViewsOf.{sink_view};
 ghost use Rattle.uip_edge.specs.Writing.{Writes};
 ghost use Rattle.uip_slip.specs.Text.{slip_text};
 ghost use Rattle.dns_message.specs.Replies.{query_datagram};
@@ -15,7 +15,7 @@ use uip_edge::{Failed, Sink};
 use uip_slip::Encoder;
 use uip_wire::LARGEST_DATAGRAM;
 
-/// Sends queries, each under the next identification of the Internet header.
+/// Sends queries, each with the next identification of the IP header.
 #[derive(Drop)]
 pub(crate) struct Sender {
     encoder: Encoder,
@@ -23,7 +23,7 @@ pub(crate) struct Sender {
 }
 
 impl Sender {
-    /// A sender that has sent nothing.
+    /// Returns a sender that has sent nothing.
     pub fn new() -> Sender
         ensures { result.ident ≡ 0 }
     {
@@ -44,7 +44,7 @@ impl Sender {
         requires { length packet.old.area ≡ LARGEST_DATAGRAM }
         ensures area { length packet.new.area ≡ LARGEST_DATAGRAM }
         ensures ident { self.new.ident ≡ next_ident self.old.ident }
-        ensures writes { Writes (sink_told K.Sink out.old) (sink_told K.Sink out.new) result
+        ensures writes { Writes (sink_view K.Sink out.old) (sink_view K.Sink out.new) result
             (slip_text (query_datagram asking name.now self.new.ident)) }
     {
         self.ident = self.ident.wrapping_add(1);
@@ -65,7 +65,7 @@ impl Sender {
         ensures area { length packet.new.area ≡ LARGEST_DATAGRAM }
         ensures ident { self.new.ident
             ≡ last_ident self.old.ident (unless_answered (record { asking = asking; text = name.now }) answer) }
-        ensures writes { WritesSome (sink_told K.Sink out.old) (sink_told K.Sink out.new) result
+        ensures writes { WritesSome (sink_view K.Sink out.old) (sink_view K.Sink out.new) result
             (query_texts self.old.ident (unless_answered (record { asking = asking; text = name.now }) answer)) }
     {
         if answer.is_some() {
@@ -88,7 +88,7 @@ impl Sender {
         ensures area { length packet.new.area ≡ LARGEST_DATAGRAM }
         ensures ident { OnOk result (self.new.ident
             ≡ last_ident self.old.ident (unanswered (questions asking names.now) answers.now)) }
-        ensures writes { WritesSome (sink_told K.Sink out.old) (sink_told K.Sink out.new) result
+        ensures writes { WritesSome (sink_view K.Sink out.old) (sink_view K.Sink out.new) result
             (query_texts self.old.ident (unanswered (questions asking names.now) answers.now)) }
     {
         let mut asking = asking;

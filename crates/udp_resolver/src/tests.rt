@@ -1,16 +1,16 @@
-// The worked exchanges, over a link and sinks in memory, with the items cut in every way, and replies of random bytes.
+// Worked exchanges over a link and sinks in memory, with the items cut in every way, and replies of random bytes.
 use crate::{MOST_NAMES, Name, resolve};
 use arrayvec::ArrayVec;
 use packet_buffer::Packet;
 use std::alloc::{AllocError, Global};
 use std::process::Abort;
 use std::test::Fail;
-use udp_datagram::{Way, udp_datagram};
+use udp_datagram::{UdpFlow, udp_datagram};
 use uip_edge::{Item, MemLink, MemSink, ServeEnd};
 use uip_slip::encode;
 use uip_wire::{Addr, Port};
 
-// The query for a.b from 10.0.0.1 to 10.0.0.2 under the id 1, and a reply to it with the address 192.0.2.7.
+// The query for a.b from 10.0.0.1 to 10.0.0.2 with the id 1, and a reply to it with the address 192.0.2.7.
 const QUERY: [u8; 49] = [
     0x45, 0x00, 0x00, 0x31, 0x00, 0x01, 0x00, 0x00, 0x40, 0x11, 0x66, 0xB9, 0x0A, 0x00, 0x00, 0x01,
     0x0A, 0x00, 0x00, 0x02, 0x10, 0x00, 0x00, 0x35, 0x00, 0x1D, 0xD5, 0xB7, 0x00, 0x01, 0x01, 0x00,
@@ -26,7 +26,7 @@ const REPLY: [u8; 65] = [
     0x07,
 ];
 
-/// What a run is given, and what must come of it.
+/// The input of a run, and its expected output.
 #[derive(Clone, Copy, Drop)]
 struct Row<'a> {
     names: &'a [&'a [u8]],
@@ -63,7 +63,7 @@ fn sink(alloc: Global, fails: &[u64]) -> Result<MemSink, Fail> {
     }
 }
 
-/// The texts of the query, sent so many times.
+/// The texts of the query, sent `count` times.
 fn query_texts(alloc: Global, count: usize) -> Result<MemSink, Fail> {
     let mut texts = sink(alloc, &[])?;
     for at in 0..count {
@@ -78,8 +78,8 @@ fn query_texts(alloc: Global, count: usize) -> Result<MemSink, Fail> {
     Ok(texts)
 }
 
-/// Does a row, and answers what was told and what was written to the line.
-fn told_by(alloc: Global, row: &Row) -> Result<(ServeEnd, MemSink, MemSink), Fail> {
+/// Runs a row, and returns the report and what was written to the line.
+fn reported_by(alloc: Global, row: &Row) -> Result<(ServeEnd, MemSink, MemSink), Fail> {
     let mut names: ArrayVec<Name, MOST_NAMES> = ArrayVec::new();
     for text in row.names {
         let Some(name) = Name::parse(text) else {
@@ -114,7 +114,7 @@ fn told_by(alloc: Global, row: &Row) -> Result<(ServeEnd, MemSink, MemSink), Fai
 }
 
 fn check(rt: &impl Abort, alloc: Global, row: &Row) -> Result<(), Fail> {
-    let (end, out, tell) = told_by(alloc, row)?;
+    let (end, out, tell) = reported_by(alloc, row)?;
     assert_eq!(rt; end, row.end);
     assert_eq!(rt; tell.written(), row.told);
     let queries = query_texts(alloc, row.queries)?;
@@ -255,13 +255,13 @@ fn ignores_each_part_of_a_reply(rt: HostRuntime) -> Result<(), Fail> {
     Ok(())
 }
 
-/// The next of a sequence of numbers that looks random.
+/// The next of a sequence of pseudo-random numbers.
 fn next_number(state: &mut u32) -> u8 {
     *state = state.wrapping_mul(1103515245).wrapping_add(12345);
     (*state >> 24) as u8
 }
 
-/// The head of the reply and its question, and then so many answer records of random bytes.
+/// The head of the reply and its question, followed by answer records of random bytes.
 fn random_reply(alloc: Global, state: &mut u32) -> Result<Vec<u8>, AllocError> {
     let mut message = REPLY[28..49].to_vec(alloc)?;
     message[7] = next_number(state) % 4;
@@ -276,31 +276,31 @@ fn random_reply(alloc: Global, state: &mut u32) -> Result<Vec<u8>, AllocError> {
 #[test]
 fn takes_random_records(rt: HostRuntime) -> Result<(), Fail> {
     let alloc = rt.alloc();
-    let way = Way {
+    let way = UdpFlow {
         source: Addr([10, 0, 0, 2]),
         target: Addr([10, 0, 0, 1]),
         from: Port(53),
         to: Port(4096),
     };
     let mut state = 1;
-    let mut said = 0u32;
+    let mut output = 0u32;
     for _ in 0..500 {
         let message = random_reply(alloc, &mut state)?;
         let items = framed(
             alloc,
             &udp_datagram(way, 1, &message[..message.len().min(1400)]),
         )?;
-        let (end, out, tell) = told_by(alloc, &row_of(&items, ServeEnd::End, 1, b""))?;
+        let (end, out, tell) = reported_by(alloc, &row_of(&items, ServeEnd::End, 1, b""))?;
         assert_eq!(&rt; end, ServeEnd::End);
         let told = tell.written();
         assert!(&rt; told.starts_with(b"a.b "));
         if told != b"a.b open\n".as_slice() {
-            said = u32::saturating_add(said, 1);
+            output = u32::saturating_add(output, 1);
         }
         let queries = query_texts(alloc, 1)?;
         assert_eq!(&rt; out.written(), queries.written());
     }
     // Some are malformed, and some are not.
-    assert!(&rt; said > 50 && said < 450);
+    assert!(&rt; output > 50 && output < 450);
     Ok(())
 }

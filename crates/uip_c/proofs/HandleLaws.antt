@@ -1,4 +1,4 @@
--- Moves in turn on a handle are moves in turn of its device.
+-- Moves on a handle, one after the other, are moves of its device.
 use Rattle.std.specs.List.{All}
 use Rattle.std.proofs.Common.{◌≡◌, ℕ, List, [], ◌∷◌, ◌++◌, None as NothingLeft, refl, sym, ap, ◌∙◌, subst}
 use Rattle.std.proofs.lemmas.Option.{same_Some}
@@ -15,12 +15,12 @@ use Rattle.device_values.specs.Lemmas.Laws.{words_bytes, words_short}
 use Rattle.uip_device.specs.contracts.value_pages.ValuePagesApp.TheImpl.{ghosts}
 use Rattle.uip_edge.specs.declared.item.Item.{Item}
 use Rattle.uip_wire.specs.declared.addr.Addr.{Addr}
-use Rattle.uip_device.specs.Calls.{Call, Calls, CallsByDatagram, DoesNothing, HandsOn, Hears, HearsDatagram}
+use Rattle.uip_device.specs.Calls.{Call, Calls, CallsForDatagram, DoesNothing, Drains, Feeds, Inputs}
 use Rattle.uip_device.specs.Devices.{Answered, Answers, AnswersAll, AnswersMove, Changes, datagrams_handed, left_text_of, lefts_of, line_handed, moves_of}
-use Rattle.uip_device.specs.Keeping.{IsOfBytes, KeepsCalls}
+use Rattle.uip_device.specs.Keeping.{IsOfBytes, CallsConform}
 use Rattle.uip_device.specs.Moves.{Bring, Gives, Makes, Move}
-use Rattle.uip_device.specs.WebDevices.{StandsFor, WebDevice, first_numbers, value_meaning, value_pages, web_datagrams_sent, web_line_sent, web_node_behind, web_output, write_value}
-use Rattle.uip_device.proofs.AnswerLaws.{answers_nothing, datagrams_told, line_served, line_told, node_stands, same_kept}
+use Rattle.uip_device.specs.WebDevices.{DeviceRepresents, WebDevice, first_numbers, value_spec, value_pages, web_datagrams_sent, web_line_sent, web_node_after, web_output, write_value}
+use Rattle.uip_device.proofs.AnswerLaws.{answers_nothing, datagrams_told, line_served, line_view, node_stands, same_kept}
 use Rattle.uip_device.proofs.KeepLaws.{keeps_calls}
 use Rattle.uip_device.proofs.WebLaws.{first_words, written_words}
 use Rattle.uip_c.specs.Handles.{Did, DidAll, HandleAnswers, HandleGives, IsOf, OpensAs, left_text_in, lefts_in}
@@ -39,11 +39,11 @@ on_device call d a b handed is it = record {
 }
 
 did_device : (move : Move) (d : WebDevice) (a b : Option WebDevice) (handed : List ℕ) → a ≡ Some d → Did move a b handed → OnDevice move d b handed
-did_device (Makes (Hears bytes)) d a b handed is it = on_device (Hears bytes) d a b handed is it
+did_device (Makes (Feeds bytes)) d a b handed is it = on_device (Feeds bytes) d a b handed is it
 did_device (Makes (Calls slot)) d a b handed is it = on_device (Calls slot) d a b handed is it
-did_device (Makes HandsOn) d a b handed is it = on_device HandsOn d a b handed is it
-did_device (Makes (HearsDatagram datagram)) d a b handed is it = on_device (HearsDatagram datagram) d a b handed is it
-did_device (Makes (CallsByDatagram slot)) d a b handed is it = on_device (CallsByDatagram slot) d a b handed is it
+did_device (Makes Drains) d a b handed is it = on_device Drains d a b handed is it
+did_device (Makes (Inputs datagram)) d a b handed is it = on_device (Inputs datagram) d a b handed is it
+did_device (Makes (CallsForDatagram slot)) d a b handed is it = on_device (CallsForDatagram slot) d a b handed is it
 did_device (Makes DoesNothing) d a b handed is it = record {
   after = d;
   is = it.0 ∙ is;
@@ -58,7 +58,7 @@ did_device (Gives number text) d a b handed is it =
       answers = (subst (λ (x : WebDevice). Changes ghosts (write_value number text) x gives.after) same gives.gives, it.1);
     }
 
--- and so for moves in turn, behind each of which the same is left
+-- and so for moves one after the other, after each of which the same output is pending
 record OnDevices (all : List Answered) (d : WebDevice) (a c : Option WebDevice) (did : DidAll all a c) : Type 0 where
   last : WebDevice
   is : c ≡ Some last
@@ -86,37 +86,37 @@ module _ (files : List File) (own : Addr) (all : List Answered) (closed old new 
   devices = on_devices all opened old new opens.1.1 answered
 
   pub c_line : IsOf (λ d. line_handed all ++ left_text_of d ≡ web_line_sent files own (moves_of all)) new
-  c_line = (devices.last, devices.is, line_told ghosts (value_meaning files) write_value (first_numbers files) own all opened devices.last opens.1.2.fresh devices.answers)
+  c_line = (devices.last, devices.is, line_view ghosts (value_spec files) write_value (first_numbers files) own all opened devices.last opens.1.2.fresh devices.answers)
 
   pub c_datagrams : datagrams_handed all ≡ web_datagrams_sent files own (moves_of all)
-  c_datagrams = datagrams_told ghosts (value_meaning files) write_value (first_numbers files) own all opened devices.last opens.1.2.fresh devices.answers
+  c_datagrams = datagrams_told ghosts (value_spec files) write_value (first_numbers files) own all opened devices.last opens.1.2.fresh devices.answers
 
-  pub c_stands : IsOf (λ d. StandsFor files own d (web_node_behind files own (moves_of all))) new
+  pub c_stands : IsOf (λ d. DeviceRepresents files own d (web_node_after files own (moves_of all))) new
   c_stands =
       let last : WebDevice = devices.last in
       let fresh = opens.1.2 in
-      let kept = same_kept ghosts (value_meaning files) write_value (first_numbers files) own all opened last fresh.fresh devices.answers in (
+      let kept = same_kept ghosts (value_spec files) write_value (first_numbers files) own all opened last fresh.fresh devices.answers in (
         last,
         devices.is,
         record {
           files_are = ap (λ (site : SiteContent). files_of site) kept ∙ fresh.files_are;
-          node = node_stands ghosts (value_meaning files) write_value (first_numbers files) own all opened last fresh.fresh devices.answers;
+          node = node_stands ghosts (value_spec files) write_value (first_numbers files) own all opened last fresh.fresh devices.answers;
         },
       )
 
   pub c_served : (pace : ℕ) (items : List Item) → Bring pace items (moves_of all) → IsOf (λ d. d.left ≡ NothingLeft) new → line_handed all ≡ web_output files own pace items
   c_served pace items bring handed =
       let last : handed.0 ≡ devices.last = same_Some handed.0 devices.last (sym handed.1 ∙ devices.is) in
-      line_served ghosts (value_meaning files) write_value (first_numbers files) own all opened devices.last opens.1.2.fresh devices.answers pace items bring
+      line_served ghosts (value_spec files) write_value (first_numbers files) own all opened devices.last opens.1.2.fresh devices.answers pace items bring
       (subst (λ (d : WebDevice). d.left ≡ NothingLeft) last handed.2)
 
 module _ (site : SiteContent) (loaded : IsLoaded site) (image : All IsByte site.image) (sound : HasSoundScripts word_calls (files_of site)) (own : Addr) (is : IsAddr own) where
   pub c_keeps : (all : List Answered) → All IsOfBytes (moves_of all) → (closed old new : Option WebDevice) → OpensAs (files_of site) own closed old
-      → (did : DidAll all old new) → KeepsCalls (value_pages (files_of site)) is_served own all (lefts_in all old new did)
+      → (did : DidAll all old new) → CallsConform (value_pages (files_of site)) is_served own all (lefts_in all old new did)
   c_keeps all bytes closed old new opens did =
       let files : List File = files_of site in
       let on : OnDevices all opens.1.0 old new did = on_devices all opens.1.0 old new opens.1.1 did in
-      subst (λ (l : List (List ℕ)). KeepsCalls (value_pages files) is_served own all l) on.lefts
-      (keeps_calls ghosts (value_meaning files) (value_pages files) (keeps_page_laws_by words words_short site loaded sound)
+      subst (λ (l : List (List ℕ)). CallsConform (value_pages files) is_served own all l) on.lefts
+      (keeps_calls ghosts (value_spec files) (value_pages files) (keeps_page_laws_by words words_short site loaded sound)
       (λ heard captures are. made_of_bytes_by words words_bytes site image heard captures are)
       write_value written_words (first_numbers files) (first_words files) own is all bytes opens.1.0 on.last opens.1.2.fresh on.answers)

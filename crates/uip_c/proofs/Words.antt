@@ -1,4 +1,4 @@
--- The machine words of `Held`: a pointer, and what the allocator is stored as. Assumes `Logic`.
+-- The machine words of `Held`: a pointer, and the stored form of the allocator. Assumes `Logic`.
 use Rattle.std.proofs.Common.{◌≡◌, List, [], ◌∷◌, ◌++◌, refl, subst, lit<}
 use seplogic.Ra.Ura.{Ura}
 use lib.Dec.{T}

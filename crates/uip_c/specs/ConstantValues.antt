@@ -1,14 +1,14 @@
--- The constants of the code that definitions and contracts cite, with their values: one that names a constant says this number.
+-- The constants of the code that definitions and contracts cite, with their values, which are those of include/uip.h.
 use Rattle.std.specs.Prelude.{◌≡◌}
-use Rattle.uip_c.specs.declared.calls.TheConstants.{LEAST_ROOM}
-use Rattle.uip_c.specs.declared.status.TheConstants.{FINE, NO_DEVICE, BAD_CALL, HAS_DEVICE, BAD_SITE, NO_MEMORY, TEXT_LEFT}
+use Rattle.uip_c.specs.declared.calls.TheConstants.{MIN_OUT}
+use Rattle.uip_c.specs.declared.status.TheConstants.{OK, NO_DEVICE, BAD_ARGUMENT, HAS_DEVICE, BAD_IMAGE, NO_MEMORY, OUTPUT_PENDING}
 
 pub record ConstantValues : Type 0 where
-  pub fine : FINE ≡ 0
+  pub fine : OK ≡ 0
   pub no_device : NO_DEVICE ≡ 1
-  pub bad_call : BAD_CALL ≡ 2
+  pub bad_call : BAD_ARGUMENT ≡ 2
   pub has_device : HAS_DEVICE ≡ 3
-  pub bad_site : BAD_SITE ≡ 4
+  pub bad_site : BAD_IMAGE ≡ 4
   pub no_memory : NO_MEMORY ≡ 5
-  pub text_left : TEXT_LEFT ≡ 6
-  pub least_room : LEAST_ROOM ≡ 2
+  pub text_left : OUTPUT_PENDING ≡ 6
+  pub least_room : MIN_OUT ≡ 2

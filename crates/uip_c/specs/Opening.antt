@@ -1,4 +1,4 @@
--- What opening a handle comes to.
+-- The results of opening a handle.
 use Rattle.std.specs.List.{All}
 use Rattle.std.specs.Prelude.{◌≡◌, ◌⊎◌, ℕ, List, ◌++◌, replicate, take, Ok, Err}
 use Rattle.std.specs.declared.option.Option.{Option}
@@ -13,8 +13,8 @@ use Rattle.device_values.specs.Words.{word_calls}
 use Rattle.uip_device.specs.WebDevices.{IsLongWithValues, WebDevice}
 use Rattle.uip_c.specs.Handles.{OpensAs}
 
--- the image stands for the files of a site by the grammar and is read as them, the site is of this very image, was loaded, is bytes and has
--- no page that can be too long, whatever its scripts call, and a device was opened with the files at this address
+-- By the grammar the image represents the files of a site, and it is read as these files. The site has this very image, was loaded,
+-- consists of bytes, and has no page that can be too long, whatever its scripts call. A device was opened with the files at this address.
 pub record OpensFine (image own : List ℕ) (old new : Option WebDevice) : Type 0 where
   pub site : SiteContent
   pub image_is : site.image ≡ image
@@ -25,11 +25,11 @@ pub record OpensFine (image own : List ℕ) (old new : Option WebDevice) : Type 
   pub spelled : IsImage image (files_of site)
   pub opened : OpensAs (files_of site) (record { 0 = own }) old new
 
--- eight bytes: the word of a fault, and zeros behind it
+-- Eight bytes: the word of a fault, padded with zeros.
 abbrev pub IsWordOf : SiteWhy → List ℕ → Type 0
 IsWordOf why word = word ≡ take 8 (why_word why ++ replicate 8 0)
 
--- the entry and the word are those of the image's first fault, or of a page that can be too long once scripts show values
+-- The entry and the word are those of the image's first fault, or of a page that can be too long once scripts show values.
 abbrev pub TellsFault : List ℕ → ℕ → List ℕ → Type 0
 TellsFault image entry word =
     (error : SiteError) × ((read_image image ≡ Err error) ⊎ IsLongWithValues image error) × (entry ≡ error.entry) × IsWordOf error.why word

@@ -1,4 +1,5 @@
--- How C is told the row of a connection.
+-- How a connection is reported to C.
+-- [add: state] Its number for C, in `state_number`.
 use Rattle.std.specs.Prelude.{◌≡◌, ℕ, Bool, Option, None, Some, if◌then◌else◌, replicate}
 use Rattle.app_events.specs.declared.row.Row.{Row}
 use Rattle.app_events.specs.declared.state.State.{State}
@@ -6,7 +7,7 @@ use Rattle.app_events.specs.declared.state.State.TheVariants.{Closed, SynRcvd, E
 use Rattle.app_events.specs.declared.state.State.TheVariants.{Closing, TimeWait, LastAck}
 use Rattle.uip_c.specs.declared.rows.UipRow.{UipRow}
 
--- the states by their numbers in the header
+-- The states by their numbers in include/uip.h.
 abbrev pub state_number : State → ℕ
 state_number Closed = 0
 state_number SynRcvd = 1
@@ -18,7 +19,7 @@ state_number Closing = 6
 state_number TimeWait = 7
 state_number LastAck = 8
 
--- what C is told is what stands in the row
+-- The C structure has the fields of the row.
 pub record IsToldRow (row : Row) (told : UipRow) : Type 0 where
   pub state : told.state ≡ state_number row.state
   pub peer : told.peer ≡ row.peer.0
@@ -27,12 +28,12 @@ pub record IsToldRow (row : Row) (told : UipRow) : Type 0 where
   pub count : told.count ≡ row.count
   pub waiting : told.waiting ≡ (if row.waiting then 1 else 0)
 
--- no row is told: beside the status all is 0
+-- All fields except the status are 0.
 abbrev pub IsNoRow : UipRow → Type 0
 IsNoRow told =
     told ≡ record { status = told.status; state = 0; peer = replicate 4 0; port = 0; tries = 0; count = 0; waiting = 0 }
 
--- where the slot is CLOSED, only that is told
+-- For a CLOSED slot only the state is reported, which is 0.
 abbrev pub TellsRow : Option Row → UipRow → Type 0
 TellsRow None told = IsNoRow told
 TellsRow (Some row) told = IsToldRow row told

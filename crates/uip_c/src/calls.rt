@@ -1,131 +1,131 @@
-//! The calls over a serial line.
+//! The calls over a serial line (SLIP, RFC 1055).
 
 ghost use Rattle.std.specs.Prelude.{◌≡◌, ◌==◌, ◌||◌, ◌<◌, ◌≤◌, ◌⊎◌, length, nat_le, nat_lt, take, true};
 ghost use Rattle.std.specs.Option.{is_some};
 ghost use Rattle.std.specs.declared.option.Option.TheVariants.{None};
-ghost use Rattle.uip_device.specs.Calls.{Calls, HandsOn, Hears, StopsAtEnd};
+ghost use Rattle.uip_device.specs.Calls.{Calls, Drains, Feeds, StopsAtEnd};
 ghost use Rattle.uip_device.specs.Devices.{CompleteOne, HasFilled};
 ghost use Rattle.uip_c.specs.Handles.{HandleAnswers, HasText, IsOf, IsTextStatus, Refused, left_flag};
 
 use crate::handle::{UipDevice, put_in, take_idle, take_out};
-use crate::status::{BAD_CALL, FINE, NO_DEVICE, TEXT_LEFT, UipDone, is_left};
+use crate::status::{BAD_ARGUMENT, NO_DEVICE, OK, OUTPUT_PENDING, UipResult, is_left};
 use std::alloc::Global;
 use uip_device::LARGEST_TEXT;
 
-/// The least room for a text: with less, a byte that is escaped would never fit.
-pub const LEAST_ROOM: usize = 2;
+/// The smallest `out`, in bytes: an escaped byte of a SLIP frame takes two.
+pub const MIN_OUT: usize = 2;
 
-/// Takes the bytes that came over the line, all of them or those up to an END, of which one frame at most is complete, and hands out
-/// the text of what is sent for it, as far as there is room. The bytes that are left are for the next call.
+/// Feeds received serial bytes, up to the end of the first complete frame, and handles that frame. Writes the SLIP-framed reply, or the
+/// part of it that fits in `out`. Call it again with the bytes that were not consumed.
 #[unsafe(no_mangle)]
-pub extern "C" fn uip_hear(
+pub extern "C" fn uip_feed(
     alloc: Global,
     device: &mut UipDevice,
     bytes: &[u8],
     out: &mut [u8],
-) -> UipDone
+) -> UipResult
     ensures known { IsTextStatus result.status }
-    ensures fine { result.status ≡ FINE
-        → HandleAnswers (Hears (take result.taken bytes.now)) device.old.held.device device.new.held.device (take result.wrote out.new) }
-    ensures some { result.status ≡ FINE → 0 < result.taken }
-    ensures stops { result.status ≡ FINE → StopsAtEnd bytes.now result.taken }
-    ensures one { result.status ≡ FINE → IsOf (λ d. CompleteOne (take result.taken bytes.now) d) device.old.held.device }
-    ensures within { (result.taken ≤ length bytes.now) × (result.wrote ≤ length out.new) }
-    ensures left { result.status ≡ FINE → IsOf (λ d. result.left ≡ left_flag d.left) device.new.held.device }
-    ensures all { result.status ≡ FINE → LARGEST_TEXT ≤ length out.old → result.left ≡ 0 }
-    ensures full { result.status ≡ FINE → IsOf (λ d. HasFilled d result.wrote (length out.new)) device.new.held.device }
+    ensures fine { result.status ≡ OK
+        → HandleAnswers (Feeds (take result.consumed bytes.now)) device.old.held.device device.new.held.device (take result.written out.new) }
+    ensures some { result.status ≡ OK → 0 < result.consumed }
+    ensures stops { result.status ≡ OK → StopsAtEnd bytes.now result.consumed }
+    ensures one { result.status ≡ OK → IsOf (λ d. CompleteOne (take result.consumed bytes.now) d) device.old.held.device }
+    ensures within { (result.consumed ≤ length bytes.now) × (result.written ≤ length out.new) }
+    ensures pending { result.status ≡ OK → IsOf (λ d. result.pending ≡ left_flag d.left) device.new.held.device }
+    ensures all { result.status ≡ OK → LARGEST_TEXT ≤ length out.old → result.pending ≡ 0 }
+    ensures full { result.status ≡ OK → IsOf (λ d. HasFilled d result.written (length out.new)) device.new.held.device }
     ensures no_device { result.status ≡ NO_DEVICE → device.old.held.device ≡ None }
-    ensures bad_call { (result.status == BAD_CALL) ≡ ((length bytes.now == 0) || nat_lt (length out.old) LEAST_ROOM) }
-    ensures text_left { result.status ≡ TEXT_LEFT → HasText device.old.held.device }
-    ensures refused { (result.status ≡ FINE → ⊥)
+    ensures bad_call { (result.status == BAD_ARGUMENT) ≡ ((length bytes.now == 0) || nat_lt (length out.old) MIN_OUT) }
+    ensures text_left { result.status ≡ OUTPUT_PENDING → HasText device.old.held.device }
+    ensures refused { (result.status ≡ OK → ⊥)
         → Refused result out.old out.new device.old.held.device device.new.held.device }
 {
-    if bytes.is_empty() || out.len() < LEAST_ROOM {
-        return UipDone::refused(BAD_CALL);
+    if bytes.is_empty() || out.len() < MIN_OUT {
+        return UipResult::refused(BAD_ARGUMENT);
     }
     let mut opened = match take_idle(alloc, device) {
         Ok(opened) => opened,
-        Err(status) => return UipDone::refused(status),
+        Err(status) => return UipResult::refused(status),
     };
-    let heard = opened.hear(bytes, out);
-    let left = is_left(opened.left);
+    let fed = opened.feed(bytes, out);
+    let pending = is_left(opened.left);
     put_in(device, opened);
-    UipDone {
-        status: FINE,
-        left,
-        taken: heard.taken,
-        wrote: heard.wrote,
+    UipResult {
+        status: OK,
+        pending,
+        consumed: fed.consumed,
+        written: fed.written,
     }
 }
 
-/// The periodic call of a slot, due for each of the ten in turn twice a second. Hands out the text of what is sent, at most one
-/// datagram, as far as there is room.
+/// Makes the periodic call of a slot from 0 to 9; all ten are due twice a second. Writes the SLIP-framed datagram that the connection
+/// sends, or the part of it that fits in `out`.
 #[unsafe(no_mangle)]
-pub extern "C" fn uip_call(
+pub extern "C" fn uip_periodic(
     alloc: Global,
     device: &mut UipDevice,
     slot: usize,
     out: &mut [u8],
-) -> UipDone
+) -> UipResult
     ensures known { IsTextStatus result.status }
-    ensures fine { result.status ≡ FINE
-        → HandleAnswers (Calls slot) device.old.held.device device.new.held.device (take result.wrote out.new) }
-    ensures within { (result.taken ≡ 0) × (result.wrote ≤ length out.new) }
-    ensures left { result.status ≡ FINE → IsOf (λ d. result.left ≡ left_flag d.left) device.new.held.device }
-    ensures all { result.status ≡ FINE → LARGEST_TEXT ≤ length out.old → result.left ≡ 0 }
-    ensures full { result.status ≡ FINE → IsOf (λ d. HasFilled d result.wrote (length out.new)) device.new.held.device }
+    ensures fine { result.status ≡ OK
+        → HandleAnswers (Calls slot) device.old.held.device device.new.held.device (take result.written out.new) }
+    ensures within { (result.consumed ≡ 0) × (result.written ≤ length out.new) }
+    ensures pending { result.status ≡ OK → IsOf (λ d. result.pending ≡ left_flag d.left) device.new.held.device }
+    ensures all { result.status ≡ OK → LARGEST_TEXT ≤ length out.old → result.pending ≡ 0 }
+    ensures full { result.status ≡ OK → IsOf (λ d. HasFilled d result.written (length out.new)) device.new.held.device }
     ensures no_device { result.status ≡ NO_DEVICE → device.old.held.device ≡ None }
-    ensures bad_call { (result.status == BAD_CALL) ≡ (nat_le 10 slot || nat_lt (length out.old) LEAST_ROOM) }
-    ensures text_left { result.status ≡ TEXT_LEFT → HasText device.old.held.device }
-    ensures refused { (result.status ≡ FINE → ⊥)
+    ensures bad_call { (result.status == BAD_ARGUMENT) ≡ (nat_le 10 slot || nat_lt (length out.old) MIN_OUT) }
+    ensures text_left { result.status ≡ OUTPUT_PENDING → HasText device.old.held.device }
+    ensures refused { (result.status ≡ OK → ⊥)
         → Refused result out.old out.new device.old.held.device device.new.held.device }
 {
-    if slot >= 10 || out.len() < LEAST_ROOM {
-        return UipDone::refused(BAD_CALL);
+    if slot >= 10 || out.len() < MIN_OUT {
+        return UipResult::refused(BAD_ARGUMENT);
     }
     let mut opened = match take_idle(alloc, device) {
         Ok(opened) => opened,
-        Err(status) => return UipDone::refused(status),
+        Err(status) => return UipResult::refused(status),
     };
-    let wrote = opened.call(slot, out);
-    let left = is_left(opened.left);
+    let written = opened.periodic(slot, out);
+    let pending = is_left(opened.left);
     put_in(device, opened);
-    UipDone {
-        status: FINE,
-        left,
-        taken: 0,
-        wrote,
+    UipResult {
+        status: OK,
+        pending,
+        consumed: 0,
+        written,
     }
 }
 
-/// Hands on what is left of a text, as far as there is room; no bytes where nothing is left.
+/// Writes pending output, as much as fits in `out`; no bytes if nothing is pending.
 #[unsafe(no_mangle)]
-pub extern "C" fn uip_more(alloc: Global, device: &mut UipDevice, out: &mut [u8]) -> UipDone
-    ensures known { (result.status ≡ FINE) ⊎ (result.status ≡ NO_DEVICE) ⊎ (result.status ≡ BAD_CALL) }
-    ensures fine { result.status ≡ FINE
-        → HandleAnswers HandsOn device.old.held.device device.new.held.device (take result.wrote out.new) }
-    ensures some { result.status ≡ FINE → IsOf (λ d. is_some d.left ≡ true → 0 < result.wrote) device.old.held.device }
-    ensures within { (result.taken ≡ 0) × (result.wrote ≤ length out.new) }
-    ensures left { result.status ≡ FINE → IsOf (λ d. result.left ≡ left_flag d.left) device.new.held.device }
-    ensures full { result.status ≡ FINE → IsOf (λ d. HasFilled d result.wrote (length out.new)) device.new.held.device }
+pub extern "C" fn uip_drain(alloc: Global, device: &mut UipDevice, out: &mut [u8]) -> UipResult
+    ensures known { (result.status ≡ OK) ⊎ (result.status ≡ NO_DEVICE) ⊎ (result.status ≡ BAD_ARGUMENT) }
+    ensures fine { result.status ≡ OK
+        → HandleAnswers Drains device.old.held.device device.new.held.device (take result.written out.new) }
+    ensures some { result.status ≡ OK → IsOf (λ d. is_some d.left ≡ true → 0 < result.written) device.old.held.device }
+    ensures within { (result.consumed ≡ 0) × (result.written ≤ length out.new) }
+    ensures pending { result.status ≡ OK → IsOf (λ d. result.pending ≡ left_flag d.left) device.new.held.device }
+    ensures full { result.status ≡ OK → IsOf (λ d. HasFilled d result.written (length out.new)) device.new.held.device }
     ensures no_device { result.status ≡ NO_DEVICE → device.old.held.device ≡ None }
-    ensures bad_call { (result.status == BAD_CALL) ≡ nat_lt (length out.old) LEAST_ROOM }
-    ensures refused { (result.status ≡ FINE → ⊥)
+    ensures bad_call { (result.status == BAD_ARGUMENT) ≡ nat_lt (length out.old) MIN_OUT }
+    ensures refused { (result.status ≡ OK → ⊥)
         → Refused result out.old out.new device.old.held.device device.new.held.device }
 {
-    if out.len() < LEAST_ROOM {
-        return UipDone::refused(BAD_CALL);
+    if out.len() < MIN_OUT {
+        return UipResult::refused(BAD_ARGUMENT);
     }
     let Some(mut opened) = take_out(alloc, device) else {
-        return UipDone::refused(NO_DEVICE);
+        return UipResult::refused(NO_DEVICE);
     };
-    let wrote = opened.hand_on(out);
-    let left = is_left(opened.left);
+    let written = opened.drain(out);
+    let pending = is_left(opened.left);
     put_in(device, opened);
-    UipDone {
-        status: FINE,
-        left,
-        taken: 0,
-        wrote,
+    UipResult {
+        status: OK,
+        pending,
+        consumed: 0,
+        written,
     }
 }

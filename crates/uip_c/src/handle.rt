@@ -1,3 +1,5 @@
+//! The handle of a device, and how a call takes the device out of it and puts it back.
+
 ghost use Rattle.std.specs.Prelude.{◌≡◌, ◌==◌, option_map, IfErr, IfOk, IfSome};
 ghost use Rattle.std.specs.Option.{is_some};
 ghost use Rattle.std.specs.declared.option.Option.TheVariants.{None, Some};
@@ -5,13 +7,13 @@ ghost use Rattle.uip_device.specs.WebDevices.{IsSoundWebDevice};
 ghost use Rattle.uip_c.specs.Taking.{TakesNone, TakesIdle};
 
 use crate::held::Held;
-use crate::status::{NO_DEVICE, TEXT_LEFT};
+use crate::status::{NO_DEVICE, OUTPUT_PENDING};
 use loose_box::BoxParts;
 use std::alloc::Global;
 use std::mem::replace;
 use uip_device::WebDevice;
 
-/// A device, as C keeps it. All bytes 0 are a handle without a device.
+/// A handle. All bytes 0 represent a handle without a device.
 #[repr(C)]
 pub struct UipDevice {
     pub is_open: u32,
@@ -19,7 +21,7 @@ pub struct UipDevice {
     pub ghost tied: { (is_open == 1) ≡ is_some held.device },
 }
 
-/// The handle's device, if it has one. It has none after.
+/// Takes the device out of the handle, if there is one. The handle has none after.
 pub(crate) fn take_out(alloc: Global, device: &mut UipDevice) -> Option<Box<WebDevice>>
     ensures taken { option_map (λ b. b.value) result ≡ device.old.held.device }
     ensures sound { IfSome result (λ b. IsSoundWebDevice b.value) }
@@ -41,8 +43,8 @@ pub(crate) fn take_out(alloc: Global, device: &mut UipDevice) -> Option<Box<WebD
     }
 }
 
-/// The handle's device, for a call that hands out a text or a datagram of its own; it has none after. Where it has none, or where a
-/// text is left, the call is refused, and the handle stays as it is.
+/// Takes the device out of the handle for a call that writes output of its own; the handle has none after. If there is no device, or output
+/// is pending, the call is refused and the handle is unchanged.
 pub(crate) fn take_idle(alloc: Global, device: &mut UipDevice) -> Result<Box<WebDevice>, u32>
     ensures taken { IfOk result (λ b. TakesIdle b.value device.old.held.device device.new.held.device) }
     ensures refused { IfErr result (λ status. TakesNone status device.old.held.device device.new.held.device) }
@@ -51,13 +53,13 @@ pub(crate) fn take_idle(alloc: Global, device: &mut UipDevice) -> Result<Box<Web
         None => Err(NO_DEVICE),
         Some(opened) if opened.left.is_some() => {
             put_in(device, opened);
-            Err(TEXT_LEFT)
+            Err(OUTPUT_PENDING)
         }
         Some(opened) => Ok(opened),
     }
 }
 
-/// A handle without a device has this one from now on.
+/// Puts a device into a handle that has none.
 pub(crate) fn put_in(device: &mut UipDevice, opened: Box<WebDevice>)
     requires none { device.old.held.device ≡ None }
     requires sound { IsSoundWebDevice opened.value }

@@ -9,8 +9,9 @@ use std::marker::Model;
 use std::ptr::null_mut;
 use uip_device::WebDevice;
 
-/// A device that is kept by its address alone, so that it can stand in a struct of C, or none. It is no `Drop`: what has a device is
-/// never let go.
+/// A device that is kept by its address alone, as a structure of C needs it, or none. It has no `Drop`: one that has a device is never
+/// dropped.
+/// [add: c-application] A handle as this one, which holds its device.
 #[repr(C)]
 pub struct Held {
     at: *mut u8,
@@ -27,7 +28,7 @@ impl Model for Held {
 impl Held {
     ghost use Rattle.uip_device.specs.WebDevices.{IsSoundWebDevice};
 
-    /// No device.
+    /// Returns one without a device.
     pub fn none(alloc: Global) -> Held
         ensures { result.device ≡ None }
     {
@@ -37,7 +38,7 @@ impl Held {
         }
     }
 
-    /// The device of a box that was taken apart.
+    /// Keeps the device of a box that was taken apart.
     pub fn of(parts: BoxParts<WebDevice, Global>) -> Held
         requires { IsSoundWebDevice parts.value }
         ensures { result.device ≡ Some parts.value }
@@ -49,7 +50,7 @@ impl Held {
         }
     }
 
-    /// The parts of the box of the device that is there.
+    /// Returns the parts of the box of the device.
     pub fn into_parts(self) -> BoxParts<WebDevice, Global>
         requires { is_some self.device ≡ true }
         ensures { (self.device ≡ Some result.value) × IsSoundWebDevice result.value }
@@ -61,7 +62,7 @@ impl Held {
         }
     }
 
-    /// What is left of one that has no device: its allocator.
+    /// Returns the allocator of one that has no device.
     pub fn into_alloc(self) -> Global
         requires { self.device ≡ None }
         ensures { result ≡ self.alloc }

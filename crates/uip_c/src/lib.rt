@@ -1,4 +1,5 @@
-//! The stack for programs in C: a device behind a handle that C keeps. `include/uip.h` says what each call wants and gives.
+//! The stack as a C library: a device that C keeps by a handle. `include/uip.h` is the contract for C.
+//! [add: c-call] The file of its export, which takes the device out of the handle and puts it back.
 #![tactic(auto)]
 
 mod calls;
@@ -14,9 +15,9 @@ mod status;
 #[cfg(test)]
 mod tests;
 
-pub use calls::{LEAST_ROOM, uip_call, uip_hear, uip_more};
-pub use datagram_calls::{uip_call_datagram, uip_hear_datagram};
-pub use giving::uip_value;
+pub use calls::{MIN_OUT, uip_drain, uip_feed, uip_periodic};
+pub use datagram_calls::{uip_input, uip_periodic_datagram};
+pub use giving::uip_set_value;
 pub use handle::UipDevice;
 pub use held::Held;
 pub use laws::{
@@ -25,4 +26,6 @@ pub use laws::{
 pub use opening::{UipOpened, uip_close, uip_open};
 pub use reading::{UipNumber, uip_counter, uip_hits, uip_is_idle, uip_ticks};
 pub use rows::{UipRow, uip_connection};
-pub use status::{BAD_CALL, BAD_SITE, FINE, HAS_DEVICE, NO_DEVICE, NO_MEMORY, TEXT_LEFT, UipDone};
+pub use status::{
+    BAD_ARGUMENT, BAD_IMAGE, HAS_DEVICE, NO_DEVICE, NO_MEMORY, OK, OUTPUT_PENDING, UipResult,
+};

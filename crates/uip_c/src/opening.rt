@@ -1,4 +1,4 @@
-//! A device is opened and closed.
+//! Opening and closing a device.
 
 ghost use Rattle.std.specs.Prelude.{◌≡◌, ◌==◌, ◌⊎◌, replicate, true};
 ghost use Rattle.std.specs.Option.{is_some};
@@ -6,15 +6,15 @@ ghost use Rattle.std.specs.declared.option.Option.TheVariants.{None};
 ghost use Rattle.uip_c.specs.Opening.{IsWordOf, OpensFine, TellsFault};
 
 use crate::handle::{UipDevice, put_in, take_out};
-use crate::status::{BAD_SITE, FINE, HAS_DEVICE, NO_DEVICE, NO_MEMORY};
+use crate::status::{BAD_IMAGE, HAS_DEVICE, NO_DEVICE, NO_MEMORY, OK};
 use site_image::{SiteError, SiteWhy};
 use site_report::why_word;
 use std::alloc::Global;
 use uip_device::{OpenFault, open_web};
 use uip_wire::Addr;
 
-/// What opening came to. Of a bad image it tells the first fault: its word, with a 0 behind it, and the number of the entry
-/// that has it, counted from 1; 0 stands for the whole.
+/// The result of opening. For a bad image `word` names the first fault, padded with zeros. `entry` is the number of the faulty entry,
+/// counted from 1, or 0 for the whole image.
 #[repr(C)]
 #[derive(Clone, Copy, Debug, PartialEq, Eq)]
 pub struct UipOpened {
@@ -23,7 +23,7 @@ pub struct UipOpened {
     pub word: [u8; 8],
 }
 
-/// The word of a fault, with zeros behind it.
+/// Returns the word of a fault, padded with zeros.
 fn word_of(why: SiteWhy) -> [u8; 8]
     ensures { IsWordOf why result }
 {
@@ -33,7 +33,7 @@ fn word_of(why: SiteWhy) -> [u8; 8]
     word
 }
 
-/// An answer that tells no fault.
+/// Returns a result without a fault.
 fn plain(status: u32) -> UipOpened
     ensures { result ≡ record { status = status; entry = 0; word = replicate 8 0 } }
 {
@@ -44,18 +44,20 @@ fn plain(status: u32) -> UipOpened
     }
 }
 
-/// The image has this fault.
+/// Reports a fault of the image.
 fn bad_site(error: SiteError) -> UipOpened
-    ensures { (result.status ≡ BAD_SITE) × (result.entry ≡ error.entry) × IsWordOf error.why result.word }
+    ensures { (result.status ≡ BAD_IMAGE) × (result.entry ≡ error.entry) × IsWordOf error.why result.word }
 {
     UipOpened {
-        status: BAD_SITE,
+        status: BAD_IMAGE,
         entry: error.entry,
         word: word_of(error.why),
     }
 }
 
-/// Opens a device at an address with the site of an image, which is read where it lies. After this no call takes memory.
+/// Opens a device at an address with the site of an image, which is read in place and not copied. No later call allocates memory
+/// (measured).
+/// [add: c-application] An export as this one, which opens a `Device` of the application.
 #[unsafe(no_mangle)]
 pub extern "C" fn uip_open(
     alloc: Global,
@@ -63,12 +65,12 @@ pub extern "C" fn uip_open(
     image: &'static [u8],
     own: &[u8; 4],
 ) -> UipOpened
-    ensures known { (result.status ≡ FINE) ⊎ (result.status ≡ HAS_DEVICE) ⊎ (result.status ≡ BAD_SITE) ⊎ (result.status ≡ NO_MEMORY) }
-    ensures fine { result.status ≡ FINE → OpensFine image.now own.now device.old.held.device device.new.held.device }
+    ensures known { (result.status ≡ OK) ⊎ (result.status ≡ HAS_DEVICE) ⊎ (result.status ≡ BAD_IMAGE) ⊎ (result.status ≡ NO_MEMORY) }
+    ensures fine { result.status ≡ OK → OpensFine image.now own.now device.old.held.device device.new.held.device }
     ensures has_device { (result.status == HAS_DEVICE) ≡ is_some device.old.held.device }
-    ensures bad_site { result.status ≡ BAD_SITE → TellsFault image.now result.entry result.word }
-    ensures no_fault { (result.status ≡ BAD_SITE → ⊥) → (result.entry ≡ 0) × (result.word ≡ replicate 8 0) }
-    ensures refused { (result.status ≡ FINE → ⊥) → device.new ≡ device.old }
+    ensures bad_site { result.status ≡ BAD_IMAGE → TellsFault image.now result.entry result.word }
+    ensures no_fault { (result.status ≡ BAD_IMAGE → ⊥) → (result.entry ≡ 0) × (result.word ≡ replicate 8 0) }
+    ensures refused { (result.status ≡ OK → ⊥) → device.new ≡ device.old }
 {
     if device.is_open == 1 {
         return plain(HAS_DEVICE);
@@ -82,14 +84,14 @@ pub extern "C" fn uip_open(
         return plain(NO_MEMORY);
     };
     put_in(device, opened);
-    plain(FINE)
+    plain(OK)
 }
 
-/// Closes the handle's device, which gives back its memory.
+/// Closes the handle's device and frees its memory.
 #[unsafe(no_mangle)]
 pub extern "C" fn uip_close(alloc: Global, device: &mut UipDevice) -> u32
-    ensures known { (result ≡ FINE) ⊎ (result ≡ NO_DEVICE) }
-    ensures fine { result ≡ FINE → is_some device.old.held.device ≡ true }
+    ensures known { (result ≡ OK) ⊎ (result ≡ NO_DEVICE) }
+    ensures fine { result ≡ OK → is_some device.old.held.device ≡ true }
     ensures no_device { result ≡ NO_DEVICE → device.old.held.device ≡ None }
     ensures closed { device.new.held.device ≡ None }
     ensures shut { device.new.is_open ≡ 0 }
@@ -98,7 +100,7 @@ pub extern "C" fn uip_close(alloc: Global, device: &mut UipDevice) -> u32
         None => NO_DEVICE,
         Some(opened) => {
             drop(opened);
-            FINE
+            OK
         }
     }
 }

@@ -1,4 +1,4 @@
-//! What a device counts is read.
+//! The calls that read a number of a device.
 
 ghost use Rattle.std.specs.Prelude.{◌≡◌, ◌==◌, ◌||◌, ◌-◌, ◌⊎◌, List, Some as IsThere, if◌then◌else◌, nat_lt, slice_get};
 ghost use Rattle.std.specs.declared.option.Option.TheVariants.{None};
@@ -7,15 +7,15 @@ ghost use Rattle.uip_wire.specs.declared.addr.Addr.{Addr as Address};
 ghost use Rattle.uip_node.specs.Counters.{counters, ticks_of};
 ghost use Rattle.uip_node.specs.Node.{AbstractNode};
 ghost use Rattle.uip_device.specs.Devices.{is_node_idle};
-ghost use Rattle.uip_device.specs.WebDevices.{StandsFor};
+ghost use Rattle.uip_device.specs.WebDevices.{DeviceRepresents};
 ghost use Rattle.web_pages.specs.Pages.{hits_of};
 ghost use Rattle.uip_c.specs.Handles.{IsOf};
 
 use crate::handle::{UipDevice, put_in, take_out};
-use crate::status::{BAD_CALL, FINE, NO_DEVICE};
+use crate::status::{BAD_ARGUMENT, NO_DEVICE, OK};
 use std::alloc::Global;
 
-/// A number that was read.
+/// A number that was read, with the status.
 #[repr(C)]
 #[derive(Clone, Copy, Debug, PartialEq, Eq)]
 pub struct UipNumber {
@@ -23,21 +23,21 @@ pub struct UipNumber {
     pub number: u32,
 }
 
-/// No number, for this reason.
+/// Reports a status without a number.
 fn unread(status: u32) -> UipNumber
     ensures { result ≡ record { status = status; number = 0 } }
 {
     UipNumber { status, number: 0 }
 }
 
-/// How many ticks there were, modulo 2^32: a tick begins with the call of slot 0.
+/// Returns the number of ticks, modulo 2^32. A tick begins with the periodic call of slot 0.
 #[unsafe(no_mangle)]
 pub extern "C" fn uip_ticks(alloc: Global, device: &mut UipDevice) -> UipNumber
-    ensures known { (result.status ≡ FINE) ⊎ (result.status ≡ NO_DEVICE) }
-    ensures fine { result.status ≡ FINE → IsOf (λ d. (files : List File) (own : Address) (n : AbstractNode) → StandsFor files own d n
-        → result.number ≡ ticks_of n.past) device.old.held.device }
+    ensures known { (result.status ≡ OK) ⊎ (result.status ≡ NO_DEVICE) }
+    ensures fine { result.status ≡ OK → IsOf (λ d. (files : List File) (own : Address) (n : AbstractNode) → DeviceRepresents files own d n
+        → result.number ≡ ticks_of n.history) device.old.held.device }
     ensures no_device { result.status ≡ NO_DEVICE → device.old.held.device ≡ None }
-    ensures unread { (result.status ≡ FINE → ⊥) → result.number ≡ 0 }
+    ensures unread { (result.status ≡ OK → ⊥) → result.number ≡ 0 }
     ensures same { device.new.held.device ≡ device.old.held.device }
 {
     let Some(opened) = take_out(alloc, device) else {
@@ -45,25 +45,23 @@ pub extern "C" fn uip_ticks(alloc: Global, device: &mut UipDevice) -> UipNumber
     };
     let number = opened.ticks();
     put_in(device, opened);
-    UipNumber {
-        status: FINE,
-        number,
-    }
+    UipNumber { status: OK, number }
 }
 
-/// The counter of a number from 1 to 20, modulo 2^32, by the table in docs.
+/// Returns counter `number`, from 1 to 20, modulo 2^32 (docs/FORMATS.md has the list).
+/// [add: counter] The bound of the number.
 #[unsafe(no_mangle)]
 pub extern "C" fn uip_counter(alloc: Global, device: &mut UipDevice, number: usize) -> UipNumber
-    ensures known { (result.status ≡ FINE) ⊎ (result.status ≡ NO_DEVICE) ⊎ (result.status ≡ BAD_CALL) }
-    ensures fine { result.status ≡ FINE → IsOf (λ d. (files : List File) (own : Address) (n : AbstractNode) → StandsFor files own d n
-        → slice_get (counters n.past) (number - 1) ≡ IsThere result.number) device.old.held.device }
+    ensures known { (result.status ≡ OK) ⊎ (result.status ≡ NO_DEVICE) ⊎ (result.status ≡ BAD_ARGUMENT) }
+    ensures fine { result.status ≡ OK → IsOf (λ d. (files : List File) (own : Address) (n : AbstractNode) → DeviceRepresents files own d n
+        → slice_get (counters n.history) (number - 1) ≡ IsThere result.number) device.old.held.device }
     ensures no_device { result.status ≡ NO_DEVICE → device.old.held.device ≡ None }
-    ensures unread { (result.status ≡ FINE → ⊥) → result.number ≡ 0 }
-    ensures bad_call { (result.status == BAD_CALL) ≡ ((number == 0) || nat_lt 20 number) }
+    ensures unread { (result.status ≡ OK → ⊥) → result.number ≡ 0 }
+    ensures bad_call { (result.status == BAD_ARGUMENT) ≡ ((number == 0) || nat_lt 20 number) }
     ensures same { device.new.held.device ≡ device.old.held.device }
 {
     if number == 0 || number > 20 {
-        return unread(BAD_CALL);
+        return unread(BAD_ARGUMENT);
     }
     let Some(opened) = take_out(alloc, device) else {
         return unread(NO_DEVICE);
@@ -71,19 +69,19 @@ pub extern "C" fn uip_counter(alloc: Global, device: &mut UipDevice, number: usi
     let counter = opened.counter(number - 1);
     put_in(device, opened);
     UipNumber {
-        status: FINE,
+        status: OK,
         number: counter,
     }
 }
 
-/// 1 where no connection is open, so that a tick does nothing but count; else 0.
+/// Returns 1 if no connection is open, else 0. A tick of an idle node only counts.
 #[unsafe(no_mangle)]
 pub extern "C" fn uip_is_idle(alloc: Global, device: &mut UipDevice) -> UipNumber
-    ensures known { (result.status ≡ FINE) ⊎ (result.status ≡ NO_DEVICE) }
-    ensures fine { result.status ≡ FINE → IsOf (λ d. (files : List File) (own : Address) (n : AbstractNode) → StandsFor files own d n
+    ensures known { (result.status ≡ OK) ⊎ (result.status ≡ NO_DEVICE) }
+    ensures fine { result.status ≡ OK → IsOf (λ d. (files : List File) (own : Address) (n : AbstractNode) → DeviceRepresents files own d n
         → result.number ≡ (if is_node_idle n then 1 else 0)) device.old.held.device }
     ensures no_device { result.status ≡ NO_DEVICE → device.old.held.device ≡ None }
-    ensures unread { (result.status ≡ FINE → ⊥) → result.number ≡ 0 }
+    ensures unread { (result.status ≡ OK → ⊥) → result.number ≡ 0 }
     ensures same { device.new.held.device ≡ device.old.held.device }
 {
     let Some(opened) = take_out(alloc, device) else {
@@ -91,20 +89,17 @@ pub extern "C" fn uip_is_idle(alloc: Global, device: &mut UipDevice) -> UipNumbe
     };
     let number = opened.is_idle() as u32;
     put_in(device, opened);
-    UipNumber {
-        status: FINE,
-        number,
-    }
+    UipNumber { status: OK, number }
 }
 
-/// How often the file of that name was asked for, modulo 2^32; 0 where no file has the name.
+/// Returns how often the file of that name was requested, modulo 2^32; 0 if no file has the name.
 #[unsafe(no_mangle)]
 pub extern "C" fn uip_hits(alloc: Global, device: &mut UipDevice, name: &[u8]) -> UipNumber
-    ensures known { (result.status ≡ FINE) ⊎ (result.status ≡ NO_DEVICE) }
-    ensures fine { result.status ≡ FINE → IsOf (λ d. (files : List File) (own : Address) (n : AbstractNode) → StandsFor files own d n
+    ensures known { (result.status ≡ OK) ⊎ (result.status ≡ NO_DEVICE) }
+    ensures fine { result.status ≡ OK → IsOf (λ d. (files : List File) (own : Address) (n : AbstractNode) → DeviceRepresents files own d n
         → result.number ≡ hits_of files n.numbers name.now) device.old.held.device }
     ensures no_device { result.status ≡ NO_DEVICE → device.old.held.device ≡ None }
-    ensures unread { (result.status ≡ FINE → ⊥) → result.number ≡ 0 }
+    ensures unread { (result.status ≡ OK → ⊥) → result.number ≡ 0 }
     ensures same { device.new.held.device ≡ device.old.held.device }
 {
     let Some(opened) = take_out(alloc, device) else {
@@ -112,8 +107,5 @@ pub extern "C" fn uip_hits(alloc: Global, device: &mut UipDevice, name: &[u8]) -
     };
     let number = opened.hits(name);
     put_in(device, opened);
-    UipNumber {
-        status: FINE,
-        number,
-    }
+    UipNumber { status: OK, number }
 }

@@ -1,4 +1,4 @@
-//! The row of a connection is read.
+//! The call that reads a connection.
 
 ghost use Rattle.std.specs.Prelude.{◌≡◌, ◌==◌, ◌⊎◌, List, nat_le};
 ghost use Rattle.std.specs.declared.option.Option.TheVariants.{None};
@@ -6,17 +6,17 @@ ghost use Rattle.site_image.specs.Files.{File};
 ghost use Rattle.uip_wire.specs.declared.addr.Addr.{Addr as Address};
 ghost use Rattle.uip_node.specs.Node.{AbstractNode};
 ghost use Rattle.uip_device.specs.Devices.{connection_row};
-ghost use Rattle.uip_device.specs.WebDevices.{StandsFor};
+ghost use Rattle.uip_device.specs.WebDevices.{DeviceRepresents};
 ghost use Rattle.uip_c.specs.Handles.{IsOf};
 ghost use Rattle.uip_c.specs.Rows.{IsNoRow, IsToldRow, TellsRow, state_number};
 
 use crate::handle::{UipDevice, put_in, take_out};
-use crate::status::{BAD_CALL, FINE, NO_DEVICE};
+use crate::status::{BAD_ARGUMENT, NO_DEVICE, OK};
 use app_events::{Row, State};
 use std::alloc::Global;
 
-/// The row of a connection: its state, its peer, how often what is outstanding was sent again, the ticks left until the timer acts, and
-/// whether (1) something is outstanding.
+/// A connection: its state and its peer; the retransmissions of what is outstanding, and the ticks until the timer acts; 1 if something is
+/// outstanding, else 0.
 #[repr(C)]
 #[derive(Clone, Copy, Debug, PartialEq, Eq)]
 pub struct UipRow {
@@ -29,7 +29,7 @@ pub struct UipRow {
     pub waiting: u32,
 }
 
-/// No row, for this reason, or that of a slot that is CLOSED.
+/// Reports no connection: for this reason, or because the slot is CLOSED.
 fn no_row(status: u32) -> UipRow
     ensures { (result.status ≡ status) × IsNoRow result }
 {
@@ -44,7 +44,8 @@ fn no_row(status: u32) -> UipRow
     }
 }
 
-/// The number of a state.
+/// Returns the number of a state in include/uip.h.
+/// [add: state] Its number for C.
 fn number_of(state: State) -> u32
     ensures { result ≡ state_number state }
 {
@@ -61,14 +62,14 @@ fn number_of(state: State) -> u32
     }
 }
 
-/// A row as C is told it.
+/// Reports a row to C.
 fn told_row(row: Row) -> UipRow
-    ensures status { result.status ≡ FINE }
+    ensures status { result.status ≡ OK }
     ensures row { IsToldRow row result }
 {
     let peer = row.peer.0;
     UipRow {
-        status: FINE,
+        status: OK,
         state: number_of(row.state),
         peer,
         port: row.port.0 as u32,
@@ -78,30 +79,30 @@ fn told_row(row: Row) -> UipRow
     }
 }
 
-/// A row as C is told it, or that there is none.
+/// Reports a row to C, or that there is none.
 fn told(row: Option<Row>) -> UipRow
-    ensures status { result.status ≡ FINE }
+    ensures status { result.status ≡ OK }
     ensures row { TellsRow row result }
 {
     match row {
         Some(row) => told_row(row),
-        None => no_row(FINE),
+        None => no_row(OK),
     }
 }
 
-/// The row of the connection in a slot from 0 to 9, as pages show it; state 0 alone where it is CLOSED.
+/// Returns the connection in a slot from 0 to 9, as `tcp-connections` shows it. For a CLOSED slot all fields except the status are 0.
 #[unsafe(no_mangle)]
 pub extern "C" fn uip_connection(alloc: Global, device: &mut UipDevice, slot: usize) -> UipRow
-    ensures known { (result.status ≡ FINE) ⊎ (result.status ≡ NO_DEVICE) ⊎ (result.status ≡ BAD_CALL) }
-    ensures fine { result.status ≡ FINE → IsOf (λ d. (files : List File) (own : Address) (n : AbstractNode) → StandsFor files own d n
+    ensures known { (result.status ≡ OK) ⊎ (result.status ≡ NO_DEVICE) ⊎ (result.status ≡ BAD_ARGUMENT) }
+    ensures fine { result.status ≡ OK → IsOf (λ d. (files : List File) (own : Address) (n : AbstractNode) → DeviceRepresents files own d n
         → TellsRow (connection_row slot n) result) device.old.held.device }
     ensures no_device { result.status ≡ NO_DEVICE → device.old.held.device ≡ None }
-    ensures bad_call { (result.status == BAD_CALL) ≡ nat_le 10 slot }
-    ensures unread { (result.status ≡ FINE → ⊥) → IsNoRow result }
+    ensures bad_call { (result.status == BAD_ARGUMENT) ≡ nat_le 10 slot }
+    ensures unread { (result.status ≡ OK → ⊥) → IsNoRow result }
     ensures same { device.new.held.device ≡ device.old.held.device }
 {
     if slot >= 10 {
-        return no_row(BAD_CALL);
+        return no_row(BAD_ARGUMENT);
     }
     let Some(opened) = take_out(alloc, device) else {
         return no_row(NO_DEVICE);

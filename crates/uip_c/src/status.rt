@@ -1,40 +1,41 @@
+//! The statuses of the calls, by the numbers of include/uip.h.
+
 ghost use Rattle.std.specs.Prelude.{◌≡◌};
 ghost use Rattle.uip_c.specs.Handles.{left_flag};
 
-/// All was done.
-pub const FINE: u32 = 0;
+/// Success.
+pub const OK: u32 = 0;
 
 /// The handle has no device.
 pub const NO_DEVICE: u32 = 1;
 
-/// An argument is none that the call allows: an area with less room than it asks for, no bytes or too many, or no such slot
-/// or counter.
-pub const BAD_CALL: u32 = 2;
+/// An argument is out of its range: an area too small, no bytes or too many, or no such slot, counter or value.
+pub const BAD_ARGUMENT: u32 = 2;
 
-/// The handle that is to be opened has a device already.
+/// The handle to be opened has a device already.
 pub const HAS_DEVICE: u32 = 3;
 
 /// The site's image is bad.
-pub const BAD_SITE: u32 = 4;
+pub const BAD_IMAGE: u32 = 4;
 
-/// There was not enough memory.
+/// Out of memory.
 pub const NO_MEMORY: u32 = 5;
 
-/// A text is left to be handed out first.
-pub const TEXT_LEFT: u32 = 6;
+/// Output is pending: `uip_drain` comes first.
+pub const OUTPUT_PENDING: u32 = 6;
 
-/// What a call did: how many bytes it took, and how many it wrote to the front of the area; and whether a text is left to be
-/// handed out, which `uip_more` does.
+/// The result of a call: the bytes consumed, the bytes written at the start of `out`, and whether output is pending (1), which `uip_drain`
+/// writes.
 #[repr(C)]
 #[derive(Clone, Copy, Debug, PartialEq, Eq)]
-pub struct UipDone {
+pub struct UipResult {
     pub status: u32,
-    pub left: u32,
-    pub taken: usize,
-    pub wrote: usize,
+    pub pending: u32,
+    pub consumed: usize,
+    pub written: usize,
 }
 
-/// 1 where a text is left, else 0.
+/// Returns 1 if output is pending, else 0.
 pub(crate) fn is_left(left: Option<usize>) -> u32
     ensures { result ≡ left_flag left }
 {
@@ -44,16 +45,16 @@ pub(crate) fn is_left(left: Option<usize>) -> u32
     }
 }
 
-impl UipDone {
-    /// Nothing was done, for this reason.
-    pub(crate) fn refused(status: u32) -> UipDone
-        ensures { result ≡ record { status = status; left = 0; taken = 0; wrote = 0 } }
+impl UipResult {
+    /// Reports a status of a call that did nothing.
+    pub(crate) fn refused(status: u32) -> UipResult
+        ensures { result ≡ record { status = status; pending = 0; consumed = 0; written = 0 } }
     {
-        UipDone {
+        UipResult {
             status,
-            left: 0,
-            taken: 0,
-            wrote: 0,
+            pending: 0,
+            consumed: 0,
+            written: 0,
         }
     }
 }

@@ -1,15 +1,17 @@
 ghost use Rattle.std.specs.Prelude.{◌≡◌};
 ghost use Rattle.std.specs.declared.option.Option.TheVariants.{None};
 
-use crate::calls::{uip_call, uip_hear, uip_more};
-use crate::datagram_calls::{uip_call_datagram, uip_hear_datagram};
-use crate::giving::uip_value;
+use crate::calls::{uip_drain, uip_feed, uip_periodic};
+use crate::datagram_calls::{uip_input, uip_periodic_datagram};
+use crate::giving::uip_set_value;
 use crate::handle::UipDevice;
 use crate::held::Held;
 use crate::opening::{UipOpened, uip_close, uip_open};
 use crate::reading::{uip_counter, uip_hits, uip_is_idle, uip_ticks};
 use crate::rows::{UipRow, uip_connection};
-use crate::status::{BAD_CALL, BAD_SITE, FINE, HAS_DEVICE, NO_DEVICE, TEXT_LEFT, UipDone};
+use crate::status::{
+    BAD_ARGUMENT, BAD_IMAGE, HAS_DEVICE, NO_DEVICE, OK, OUTPUT_PENDING, UipResult,
+};
 use std::alloc::Global;
 use std::process::Abort;
 use uip_device::LARGEST_TEXT;
@@ -25,13 +27,13 @@ const REQUEST: &[u8; 30] = &[
     192, 219,
 ];
 
-/// The reply to it.
+/// Its reply.
 const REPLY: &[u8; 30] = &[
     69, 0, 0, 30, 0, 0, 0, 0, 64, 1, 102, 221, 10, 0, 0, 1, 10, 0, 0, 2, 0, 0, 63, 28, 0, 7, 0, 1,
     192, 219,
 ];
 
-/// The request on the line, and the reply (RFC 1055).
+/// The request and the reply with their SLIP framing (RFC 1055).
 const REQUEST_TEXT: &[u8; 34] = &[
     192, 69, 0, 0, 30, 0, 0, 0, 0, 64, 1, 102, 221, 10, 0, 0, 2, 10, 0, 0, 1, 8, 0, 55, 28, 0, 7,
     0, 1, 219, 220, 219, 221, 192,
@@ -42,7 +44,7 @@ const REPLY_TEXT: &[u8; 34] = &[
     0, 1, 219, 220, 219, 221, 192,
 ];
 
-/// The same text as it goes out where there is room for 30 bytes, then for 3, and then for all.
+/// The same text in pieces, written with room for 30 bytes, then for 3, and then for all.
 const FIRST_PIECE: &[u8; 29] = &[
     192, 69, 0, 0, 30, 0, 0, 0, 0, 64, 1, 102, 221, 10, 0, 0, 1, 10, 0, 0, 2, 0, 0, 63, 28, 0, 7,
     0, 1,
@@ -61,14 +63,14 @@ const SYN: &[u8; 40] = &[
     0, 0, 0, 0, 80, 2, 32, 0, 115, 167, 0, 0,
 ];
 
-/// Its request for the page, which acknowledges the SYN of the node.
+/// The peer's request for the page, which acknowledges the SYN of the node.
 const GET: &[u8; 65] = &[
     69, 0, 0, 65, 0, 1, 0, 0, 64, 6, 102, 180, 10, 0, 0, 2, 10, 0, 0, 1, 4, 1, 0, 80, 0, 0, 3, 233,
     0, 0, 0, 1, 80, 24, 32, 0, 106, 50, 0, 0, 71, 69, 84, 32, 47, 118, 46, 115, 104, 116, 109, 108,
     32, 72, 84, 84, 80, 47, 49, 46, 48, 13, 10, 13, 10,
 ];
 
-/// It acknowledges the front of the page, up to the value.
+/// The peer's acknowledgement of the page's start, up to the value.
 const HEAD_ACK: &[u8; 40] = &[
     69, 0, 0, 40, 0, 1, 0, 0, 64, 6, 102, 205, 10, 0, 0, 2, 10, 0, 0, 1, 4, 1, 0, 80, 0, 0, 4, 2,
     0, 0, 0, 83, 80, 16, 32, 0, 115, 44, 0, 0,
@@ -81,19 +83,19 @@ fn no_device(alloc: Global) -> UipDevice {
     }
 }
 
-/// A device of an image.
+/// Opens a device with an image.
 fn opened_with(rt: &impl Abort, alloc: Global, image: &'static [u8]) -> UipDevice {
     let mut device = no_device(alloc);
-    assert_eq!(rt; uip_open(alloc, &mut device, image, OWN).status, FINE);
+    assert_eq!(rt; uip_open(alloc, &mut device, image, OWN).status, OK);
     device
 }
 
-/// A device of the image without files.
+/// Opens a device with the image without files.
 fn opened(rt: &impl Abort, alloc: Global) -> UipDevice {
     opened_with(rt, alloc, IMAGE)
 }
 
-/// A handle without a device is let go.
+/// Drops a handle without a device.
 fn let_go(device: UipDevice)
     requires { device.held.device ≡ None }
 {
@@ -101,38 +103,37 @@ fn let_go(device: UipDevice)
     let _alloc = held.into_alloc();
 }
 
-/// A status alone.
-fn answer(status: u32) -> UipDone {
-    UipDone {
+/// The result of a refused call.
+fn answer(status: u32) -> UipResult {
+    UipResult {
         status,
-        left: 0,
-        taken: 0,
-        wrote: 0,
+        pending: 0,
+        consumed: 0,
+        written: 0,
     }
 }
 
-/// What a call that was made took and wrote, with nothing left.
-fn made(taken: usize, wrote: usize) -> UipDone {
-    UipDone {
-        taken,
-        wrote,
-        ..answer(FINE)
+/// The result of a successful call, with nothing pending.
+fn made(consumed: usize, written: usize) -> UipResult {
+    UipResult {
+        consumed,
+        written,
+        ..answer(OK)
     }
 }
 
-/// Each call that would make the device go on answers this status alone.
+/// Each call that would change the device is refused with this status.
 fn check_refused(rt: &impl Abort, alloc: Global, device: &mut UipDevice, status: u32) {
     let mut out = [0; LARGEST_TEXT];
     let refused = answer(status);
-    assert_eq!(rt; uip_hear(alloc, device, REQUEST_TEXT, &mut out), refused);
-    assert_eq!(rt; uip_call(alloc, device, 0, &mut out), refused);
-    assert_eq!(rt;
-        uip_hear_datagram(alloc, device, REQUEST, &mut out),
-        refused
-    );
-    assert_eq!(rt; uip_call_datagram(alloc, device, 0, &mut out), refused);
+    assert_eq!(rt; uip_feed(alloc, device, REQUEST_TEXT, &mut out), refused);
+    assert_eq!(rt; uip_periodic(alloc, device, 0, &mut out), refused);
+    assert_eq!(rt; uip_input(alloc, device, REQUEST, &mut out), refused);
+    assert_eq!(rt; uip_periodic_datagram(alloc, device, 0, &mut out), refused);
 }
 
+/// [add: c-call] Its call, and its answer without a device.
+/// [add: counter] The last number that is read.
 #[test]
 fn each_call_is_made_once(rt: HostRuntime) {
     let alloc = rt.alloc();
@@ -140,23 +141,23 @@ fn each_call_is_made_once(rt: HostRuntime) {
     let mut out = [0; LARGEST_TEXT];
     assert_eq!(rt; uip_open(alloc, &mut device, IMAGE, OWN).status, HAS_DEVICE);
 
-    let heard = uip_hear(alloc, &mut device, REQUEST_TEXT, &mut out);
+    let heard = uip_feed(alloc, &mut device, REQUEST_TEXT, &mut out);
     assert_eq!(rt; heard, made(34, 34));
     assert!(rt; out.starts_with(REPLY_TEXT));
-    assert_eq!(rt; uip_call(alloc, &mut device, 0, &mut out), answer(FINE));
+    assert_eq!(rt; uip_periodic(alloc, &mut device, 0, &mut out), answer(OK));
 
-    let heard = uip_hear_datagram(alloc, &mut device, REQUEST, &mut out);
+    let heard = uip_input(alloc, &mut device, REQUEST, &mut out);
     assert_eq!(rt; heard, made(30, 30));
     assert!(rt; out.starts_with(REPLY));
-    let called = uip_call_datagram(alloc, &mut device, 9, &mut out);
-    assert_eq!(rt; called, answer(FINE));
+    let called = uip_periodic_datagram(alloc, &mut device, 9, &mut out);
+    assert_eq!(rt; called, answer(OK));
 
-    // Datagrams taken in and sent, echo replies, ticks.
+    // Datagrams received and sent, echo replies, ticks.
     for counter in [1, 2, 12] {
         assert_eq!(rt; uip_counter(alloc, &mut device, counter).number, 2);
     }
     assert_eq!(rt; uip_ticks(alloc, &mut device).number, 1);
-    assert_eq!(rt; uip_close(alloc, &mut device), FINE);
+    assert_eq!(rt; uip_close(alloc, &mut device), OK);
     assert_eq!(rt; uip_close(alloc, &mut device), NO_DEVICE);
     let_go(device);
 }
@@ -167,19 +168,22 @@ fn a_call_without_a_device_says_so(rt: HostRuntime) {
     let mut device = no_device(alloc);
     let mut out = [0; LARGEST_TEXT];
     check_refused(&rt, alloc, &mut device, NO_DEVICE);
-    assert_eq!(rt; uip_more(alloc, &mut device, &mut out), answer(NO_DEVICE));
+    assert_eq!(rt; uip_drain(alloc, &mut device, &mut out), answer(NO_DEVICE));
     assert_eq!(rt; uip_counter(alloc, &mut device, 20).status, NO_DEVICE);
     assert_eq!(rt; uip_ticks(alloc, &mut device).status, NO_DEVICE);
-    let called = uip_call(alloc, &mut device, 10, &mut out);
-    assert_eq!(rt; called, answer(BAD_CALL));
-    assert_eq!(rt; uip_counter(alloc, &mut device, 0).status, BAD_CALL);
+    let called = uip_periodic(alloc, &mut device, 10, &mut out);
+    assert_eq!(rt; called, answer(BAD_ARGUMENT));
+    assert_eq!(rt; uip_counter(alloc, &mut device, 0).status, BAD_ARGUMENT);
     assert_eq!(rt; uip_hits(alloc, &mut device, b"/v.shtml").status, NO_DEVICE);
     assert_eq!(rt; uip_is_idle(alloc, &mut device).status, NO_DEVICE);
     assert_eq!(rt; uip_connection(alloc, &mut device, 9).status, NO_DEVICE);
-    assert_eq!(rt; uip_connection(alloc, &mut device, 10).status, BAD_CALL);
-    assert_eq!(rt; uip_value(alloc, &mut device, 15, b"7"), NO_DEVICE);
-    assert_eq!(rt; uip_value(alloc, &mut device, 16, b"7"), BAD_CALL);
-    assert_eq!(rt; uip_value(alloc, &mut device, 0, &[b'7'; 33]), BAD_CALL);
+    assert_eq!(rt; uip_connection(alloc, &mut device, 10).status, BAD_ARGUMENT);
+    assert_eq!(rt; uip_set_value(alloc, &mut device, 15, b"7"), NO_DEVICE);
+    assert_eq!(rt; uip_set_value(alloc, &mut device, 16, b"7"), BAD_ARGUMENT);
+    assert_eq!(rt;
+        uip_set_value(alloc, &mut device, 0, &[b'7'; 33]),
+        BAD_ARGUMENT
+    );
     assert_eq!(rt; uip_close(alloc, &mut device), NO_DEVICE);
     let_go(device);
 }
@@ -195,7 +199,7 @@ fn a_bad_image_is_told(rt: HostRuntime) {
     ];
     for (image, entry, word) in rows {
         let bad = UipOpened {
-            status: BAD_SITE,
+            status: BAD_IMAGE,
             entry,
             word,
         };
@@ -205,7 +209,7 @@ fn a_bad_image_is_told(rt: HostRuntime) {
     let_go(device);
 }
 
-/// A text is handed out in pieces, and nothing else is done meanwhile. The piece behind 31 bytes is an END of the datagram.
+/// Output goes out in pieces, and every other call is refused meanwhile. The piece after 31 bytes is an END of the datagram.
 #[test]
 fn a_text_is_handed_on(rt: HostRuntime) {
     let alloc = rt.alloc();
@@ -214,58 +218,61 @@ fn a_text_is_handed_on(rt: HostRuntime) {
     let mut most = [0; 30];
     let mut few = [0; 3];
     let mut one = [0; 1];
-    let heard = uip_hear(alloc, &mut device, REQUEST_TEXT, &mut most);
-    let first = UipDone {
-        left: 1,
+    let heard = uip_feed(alloc, &mut device, REQUEST_TEXT, &mut most);
+    let first = UipResult {
+        pending: 1,
         ..made(34, 29)
     };
     assert_eq!(rt; heard, first);
     assert!(rt; most.starts_with(FIRST_PIECE));
-    check_refused(&rt, alloc, &mut device, TEXT_LEFT);
-    assert_eq!(rt; uip_more(alloc, &mut device, &mut one), answer(BAD_CALL));
-    let more = uip_more(alloc, &mut device, &mut few);
-    let second = UipDone {
-        left: 1,
+    check_refused(&rt, alloc, &mut device, OUTPUT_PENDING);
+    assert_eq!(rt;
+        uip_drain(alloc, &mut device, &mut one),
+        answer(BAD_ARGUMENT)
+    );
+    let more = uip_drain(alloc, &mut device, &mut few);
+    let second = UipResult {
+        pending: 1,
         ..made(0, 2)
     };
     assert_eq!(rt; more, second);
     assert!(rt; few.starts_with(SECOND_PIECE));
-    let more = uip_more(alloc, &mut device, &mut out);
+    let more = uip_drain(alloc, &mut device, &mut out);
     assert_eq!(rt; more, made(0, 3));
     assert!(rt; out.starts_with(LAST_PIECE));
-    assert_eq!(rt; uip_more(alloc, &mut device, &mut out), answer(FINE));
-    assert_eq!(rt; uip_close(alloc, &mut device), FINE);
+    assert_eq!(rt; uip_drain(alloc, &mut device, &mut out), answer(OK));
+    assert_eq!(rt; uip_close(alloc, &mut device), OK);
     let_go(device);
 }
 
-/// A value changes between the first sending of its segment and the second, which has the first bytes.
+/// A value changes between the first transmission of its segment and the retransmission, which has the first bytes.
 #[test]
 fn a_value_is_sent_again_as_it_was(rt: HostRuntime) {
     let alloc = rt.alloc();
     let mut device = opened_with(&rt, alloc, VALUE_IMAGE);
     let mut first = [0; LARGEST_TEXT];
     let mut again = [0; LARGEST_TEXT];
-    assert_eq!(rt; uip_value(alloc, &mut device, 3, b"4 & 5"), FINE);
+    assert_eq!(rt; uip_set_value(alloc, &mut device, 3, b"4 & 5"), OK);
     assert_eq!(rt; uip_is_idle(alloc, &mut device).number, 1);
     let rows: [(&[u8], usize); 3] = [(SYN, 44), (GET, 122), (HEAD_ACK, 46)];
-    for (datagram, wrote) in rows {
-        let heard = uip_hear_datagram(alloc, &mut device, datagram, &mut first);
-        assert_eq!(rt; heard, made(datagram.len(), wrote));
+    for (datagram, written) in rows {
+        let heard = uip_input(alloc, &mut device, datagram, &mut first);
+        assert_eq!(rt; heard, made(datagram.len(), written));
     }
     assert!(rt; first[40..].starts_with(b"4 & 5!"));
 
-    assert_eq!(rt; uip_value(alloc, &mut device, 3, b"changed"), FINE);
+    assert_eq!(rt; uip_set_value(alloc, &mut device, 3, b"changed"), OK);
     for _ in 0..3 {
-        let called = uip_call_datagram(alloc, &mut device, 0, &mut again);
-        assert_eq!(rt; called, answer(FINE));
+        let called = uip_periodic_datagram(alloc, &mut device, 0, &mut again);
+        assert_eq!(rt; called, answer(OK));
     }
-    let called = uip_call_datagram(alloc, &mut device, 0, &mut again);
+    let called = uip_periodic_datagram(alloc, &mut device, 0, &mut again);
     assert_eq!(rt; called, made(0, 46));
     assert!(rt; again[20..46] == first[20..46]);
 
     assert_eq!(rt; uip_is_idle(alloc, &mut device).number, 0);
     let row = UipRow {
-        status: FINE,
+        status: OK,
         state: 2,
         peer: [10, 0, 0, 2],
         port: 1025,
@@ -277,6 +284,6 @@ fn a_value_is_sent_again_as_it_was(rt: HostRuntime) {
     assert_eq!(rt; uip_connection(alloc, &mut device, 1).state, 0);
     assert_eq!(rt; uip_hits(alloc, &mut device, b"/v.shtml").number, 1);
     assert_eq!(rt; uip_hits(alloc, &mut device, b"/w.shtml").number, 0);
-    assert_eq!(rt; uip_close(alloc, &mut device), FINE);
+    assert_eq!(rt; uip_close(alloc, &mut device), OK);
     let_go(device);
 }

@@ -1,30 +1,30 @@
--- What moves in turn hand out.
+-- The output of moves, one after the other.
 use Rattle.std.proofs.Common.{◌≡◌, ℕ, Bool, true, false, List, [], ◌∷◌, ◌++◌, Option, None, if◌then◌else◌, refl, sym, ap, ◌∙◌, append-nil, append_assoc, subst}
-use Rattle.app_events.specs.Part.{Meaning}
+use Rattle.app_events.specs.AppSpec.{AppSpec}
 use Rattle.app_events.specs.declared.app.App.{Ghosts}
 use Rattle.packet_buffer.specs.Buffer.{datagram_in}
 use Rattle.uip_edge.specs.declared.item.Item.{Item}
 use Rattle.uip_slip.specs.Decoding.{WasFed}
 use Rattle.uip_node.specs.Events.{Reply}
-use Rattle.uip_node.specs.Node.{AbstractNode, opening}
+use Rattle.uip_node.specs.Node.{AbstractNode, initial_node}
 use Rattle.uip_node.specs.declared.node.Node.{Node}
 use Rattle.uip_wire.specs.declared.addr.Addr.{Addr}
-use Rattle.serve_loop.specs.LineOutput.{opening_at, output_by}
-use Rattle.serve_loop.specs.SlipWay.{slip_way}
+use Rattle.serve_loop.specs.LineOutput.{initial_station, output_by}
+use Rattle.serve_loop.specs.SerialMedium.{slip_medium}
 use Rattle.serve_loop.specs.Texts.{text_of}
 use Rattle.serve_loop.specs.Turns.{IsNode}
 use Rattle.serve_loop.proofs.SlipServeLaws.{said_on_line}
-use Rattle.uip_device.specs.Calls.{Call, DoesNothing, HandsOn, bytes_of_call, events_by, is_by_datagram}
+use Rattle.uip_device.specs.Calls.{Call, DoesNothing, Drains, bytes_of_call, events_by, is_by_datagram}
 use Rattle.uip_device.specs.Devices.{Answered, Answers, AnswersAll, AnswersMove, HasHeard, IsFreshDevice, datagrams_handed, left_text_of, line_handed, moves_of}
 use Rattle.uip_device.specs.Handing.{text_to_come}
 use Rattle.uip_device.specs.Moves.{Bring, Gives, Makes, Move, Writing, bytes_of_move, goes_by_datagram, run_move}
-use Rattle.uip_device.specs.Output.{datagrams_sent, line_sent, node_behind}
+use Rattle.uip_device.specs.Output.{datagrams_sent, line_sent, node_reached}
 use Rattle.uip_device.specs.Sending.{HandsOut, SendsOver, datagram_sent}
 use Rattle.uip_device.specs.declared.device.Device.{Device}
 use Rattle.uip_device.proofs.CallLaws.{line_text}
 use Rattle.uip_device.proofs.SendLaws.{by_datagram, sends_none}
 
--- what one call hands out over the line, and then the others
+-- the output of one call over the line, and then of the others
 line_step : (v : Bool) (own : Addr) (replies : List Reply) (before handed left rest more last : List ℕ) → HandsOut v own before handed left replies → left ++ rest ≡ more ++ last
     → before ++ ((if v then [] else text_of own replies) ++ rest) ≡ ((if v then [] else handed) ++ more) ++ last
 line_step true own replies before handed left rest more last h e = ap (λ l. l ++ rest) (sym h.1) ∙ e
@@ -45,49 +45,49 @@ module _ {A S : Type 0} (g : Ghosts A S) where
   -- a call that does nothing
   pub answers_nothing : (d : Device A S) → Answers g DoesNothing d d []
   answers_nothing d = record {
-    heard = λ before h. subst (λ (l : List ℕ). HasHeard l d) (sym (append-nil before)) h;
+    delivered = λ before h. subst (λ (l : List ℕ). HasHeard l d) (sym (append-nil before)) h;
     sends = λ before h. sends_none g (λ own. []) d.node (λ own replies. HandsOut false own (left_text_of d) [] (left_text_of d) replies) (λ own. refl) (λ own. append-nil (left_text_of d));
   }
 
-  -- what was left of a text is handed on
+  -- pending output is written
   pub answers_on : (d : Device A S) (left : Option ℕ) (handed : List ℕ) → left_text_of d ≡ handed ++ text_to_come (datagram_in d.node.packet) left
-      → Answers g HandsOn d (record d { left = left }) handed
+      → Answers g Drains d (record d { left = left }) handed
   answers_on d left handed e = record {
-    heard = λ before h. subst (λ (l : List ℕ). WasFed l d.decoder) (sym (append-nil before)) h;
+    delivered = λ before h. subst (λ (l : List ℕ). WasFed l d.decoder) (sym (append-nil before)) h;
     sends = λ before h.
         sends_none g (λ own. []) d.node (λ own replies. HandsOut false own (left_text_of d) handed (text_to_come (datagram_in d.node.packet) left) replies)
         (λ own. refl) (λ own. append-nil (left_text_of d) ∙ e);
   }
 
-  -- a call with a datagram, where nothing is left of a text: what its node sends is handed out whole
+  -- a call with a datagram, with no output pending: what its node sends is written whole
   pub answers_whole : (call : Call) (old : Device A S) (new : Node A S) (handed : List ℕ) → old.left ≡ None → is_by_datagram call ≡ true → bytes_of_call call ≡ []
       → ((before : List ℕ) → SendsOver g (events_by before call) old.node new (λ own replies. handed ≡ datagram_sent own replies))
       → Answers g call old (record old { node = new }) handed
   answers_whole call old new handed none whole nothing sends = record {
-    heard = λ before h. subst (λ (l : List ℕ). WasFed l old.decoder) (sym (ap (λ (l : List ℕ). before ++ l) nothing ∙ append-nil before)) h;
+    delivered = λ before h. subst (λ (l : List ℕ). WasFed l old.decoder) (sym (ap (λ (l : List ℕ). before ++ l) nothing ∙ append-nil before)) h;
     sends = λ before h.
         subst (λ (b : Bool). SendsOver g (events_by before call) old.node new (λ own replies. HandsOut b own (left_text_of old) handed (left_text_of (record old { node = new })) replies)) (sym whole)
         (by_datagram g (events_by before call) old.node new (left_text_of old) handed (left_text_of (record old { node = new }))
         (none_left (record old { node = new }) none ∙ sym (none_left old none)) (sends before));
   }
 
-  module _ (m : Meaning) (own : Addr) (gives : Writing) where
-    -- one move: the device heard its bytes, its node stands behind it, and of what is sent this is handed out
+  module _ (m : AppSpec) (own : Addr) (gives : Writing) where
+    -- one move: the device was fed its bytes, its node takes the steps, and this part of what is sent is written
     pub record MovesOn (before : List ℕ) (move : Move) (a b : Device A S) (handed : List ℕ) (n : AbstractNode) : Type 0 where
-      pub kept : g.kept b.node.shared ≡ g.kept a.node.shared
-      pub heard : HasHeard (before ++ bytes_of_move move) b
+      pub kept : g.config b.node.shared ≡ g.config a.node.shared
+      pub delivered : HasHeard (before ++ bytes_of_move move) b
       pub stands : IsNode g m own b.node (run_move m g.served gives own before move n).node
       pub hands : HandsOut (goes_by_datagram move) own (left_text_of a) handed (left_text_of b) (run_move m g.served gives own before move n).sent
 
     pub moves_on : (before : List ℕ) (move : Move) (a b : Device A S) (handed : List ℕ) (n : AbstractNode) → IsNode g m own a.node n → HasHeard before a
         → AnswersMove g gives move a b handed → MovesOn before move a b handed n
-    moves_on before (Makes call) a b handed n stands heard answers =
-        let sends = answers.sends before heard in
+    moves_on before (Makes call) a b handed n stands delivered answers =
+        let sends = answers.sends before delivered in
         let first = sends.each m own n stands in
-        record { kept = sends.kept; heard = answers.heard before heard; stands = first.0; hands = first.1 }
-    moves_on before (Gives number text) a b handed n stands heard changes = record {
+        record { kept = sends.kept; delivered = answers.delivered before delivered; stands = first.0; hands = first.1 }
+    moves_on before (Gives number text) a b handed n stands delivered changes = record {
       kept = changes.0.kept;
-      heard = subst (λ (l : List ℕ). HasHeard l b) (sym (append-nil before)) (changes.0.heard before heard);
+      delivered = subst (λ (l : List ℕ). HasHeard l b) (sym (append-nil before)) (changes.0.delivered before delivered);
       stands = changes.0.stands m own n stands;
       hands = append-nil (left_text_of a) ∙ sym changes.0.left ∙ ap (λ l. l ++ left_text_of b) (sym changes.1);
     }
@@ -95,24 +95,24 @@ module _ {A S : Type 0} (g : Ghosts A S) where
     record Goes (before : List ℕ) (all : List Answered) (a c : Device A S) (n : AbstractNode) : Type 0 where
       line : left_text_of a ++ line_sent m g.served gives own before (moves_of all) n ≡ line_handed all ++ left_text_of c
       datagrams : datagrams_handed all ≡ datagrams_sent m g.served gives own before (moves_of all) n
-      stands : IsNode g m own c.node (node_behind m g.served gives own before (moves_of all) n)
-      kept : g.kept c.node.shared ≡ g.kept a.node.shared
+      stands : IsNode g m own c.node (node_reached m g.served gives own before (moves_of all) n)
+      kept : g.config c.node.shared ≡ g.config a.node.shared
 
     goes : (before : List ℕ) (all : List Answered) (a c : Device A S) (n : AbstractNode) → IsNode g m own a.node n → HasHeard before a → AnswersAll g gives all a c → Goes before all a c n
-    goes before [] a c n stands heard same = record {
+    goes before [] a c n stands delivered same = record {
       line = append-nil (left_text_of a) ∙ ap (λ (d : Device A S). left_text_of d) same;
       datagrams = refl;
       stands = subst (λ (d : Device A S). IsNode g m own d.node n) same stands;
-      kept = ap (λ (d : Device A S). g.kept d.node.shared) (sym same);
+      kept = ap (λ (d : Device A S). g.config d.node.shared) (sym same);
     }
-    goes before (it ∷ all) a c n stands heard more =
+    goes before (it ∷ all) a c n stands delivered more =
         let b = more.0 in
         let v = goes_by_datagram it.move in
-        let first : MovesOn before it.move a b it.handed n = moves_on before it.move a b it.handed n stands heard more.1 in
+        let first : MovesOn before it.move a b it.handed n = moves_on before it.move a b it.handed n stands delivered more.1 in
         let behind = before ++ bytes_of_move it.move in
         let here : AbstractNode = (run_move m g.served gives own before it.move n).node in
         let replies = (run_move m g.served gives own before it.move n).sent in
-        let rest = goes behind all b c here first.stands first.heard more.2 in
+        let rest = goes behind all b c here first.stands first.delivered more.2 in
         record {
           line = line_step v own replies (left_text_of a) it.handed (left_text_of b) (line_sent m g.served gives own behind (moves_of all) here) (line_handed all) (left_text_of c) first.hands rest.line;
           datagrams = datagram_step v own replies (left_text_of a) it.handed (left_text_of b) (datagrams_handed all) (datagrams_sent m g.served gives own behind (moves_of all) here) first.hands rest.datagrams;
@@ -120,25 +120,25 @@ module _ {A S : Type 0} (g : Ghosts A S) where
           kept = rest.kept ∙ first.kept;
         }
 
-  module _ (m : Meaning) (gives : Writing) (numbers : List ℕ) (own : Addr) (all : List Answered) (old new : Device A S) (fresh : IsFreshDevice g m numbers own old) (answered : AnswersAll g gives all old new) where
-    whole : Goes m own gives [] all old new (opening own numbers)
-    whole = goes m own gives [] all old new (opening own numbers) fresh.stands fresh.heard answered
+  module _ (m : AppSpec) (gives : Writing) (numbers : List ℕ) (own : Addr) (all : List Answered) (old new : Device A S) (fresh : IsFreshDevice g m numbers own old) (answered : AnswersAll g gives all old new) where
+    whole : Goes m own gives [] all old new (initial_node own numbers)
+    whole = goes m own gives [] all old new (initial_node own numbers) fresh.stands fresh.delivered answered
 
-    pub line_told : line_handed all ++ left_text_of new ≡ line_sent m g.served gives own [] (moves_of all) (opening own numbers)
-    line_told = sym whole.line ∙ ap (λ l. l ++ line_sent m g.served gives own [] (moves_of all) (opening own numbers)) (none_left old fresh.none)
+    pub line_view : line_handed all ++ left_text_of new ≡ line_sent m g.served gives own [] (moves_of all) (initial_node own numbers)
+    line_view = sym whole.line ∙ ap (λ l. l ++ line_sent m g.served gives own [] (moves_of all) (initial_node own numbers)) (none_left old fresh.none)
 
-    pub datagrams_told : datagrams_handed all ≡ datagrams_sent m g.served gives own [] (moves_of all) (opening own numbers)
+    pub datagrams_told : datagrams_handed all ≡ datagrams_sent m g.served gives own [] (moves_of all) (initial_node own numbers)
     datagrams_told = whole.datagrams
 
-    pub node_stands : IsNode g m own new.node (node_behind m g.served gives own [] (moves_of all) (opening own numbers))
+    pub node_stands : IsNode g m own new.node (node_reached m g.served gives own [] (moves_of all) (initial_node own numbers))
     node_stands = whole.stands
 
-    pub same_kept : g.kept new.node.shared ≡ g.kept old.node.shared
+    pub same_kept : g.config new.node.shared ≡ g.config old.node.shared
     same_kept = whole.kept
 
-    pub line_served : (pace : ℕ) (items : List Item) → Bring pace items (moves_of all) → new.left ≡ None → line_handed all ≡ output_by slip_way m g.served numbers own pace items
+    pub line_served : (pace : ℕ) (items : List Item) → Bring pace items (moves_of all) → new.left ≡ None → line_handed all ≡ output_by slip_medium m g.served numbers own pace items
     line_served pace items bring none =
         sym (append-nil (line_handed all)) ∙ ap (λ l. line_handed all ++ l) (sym (none_left new none))
-        ∙ line_told
-        ∙ line_text m g.served gives own pace items (moves_of all) (opening own numbers) bring
-        ∙ sym (said_on_line m g.served own pace items (opening_at own numbers))
+        ∙ line_view
+        ∙ line_text m g.served gives own pace items (moves_of all) (initial_node own numbers) bring
+        ∙ sym (said_on_line m g.served own pace items (initial_station own numbers))

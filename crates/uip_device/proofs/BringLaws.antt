@@ -1,4 +1,4 @@
--- What moves of bytes bring is of a line: datagrams of bytes, frames that are too long and calls of slots.
+-- The events of moves with bytes are those of a line: datagrams of bytes, frames that are too long and calls of slots.
 use Rattle.std.specs.List.{All}
 use Rattle.std.proofs.Common.{ℕ, ◌+◌, List, [], ◌∷◌, ◌++◌, length, map, refl}
 use Rattle.std.proofs.lemmas.List.Elements.{All-append, All-cons, All-head, All-nil, All-tail}
@@ -10,24 +10,24 @@ use Rattle.uip_node.specs.Events.{Event}
 use Rattle.uip_node.specs.Events.Event.{Periodic}
 use Rattle.uip_node.specs.Edge.{event_of}
 use Rattle.uip_node.proofs.Basics.{choose}
-use Rattle.serve_loop.specs.LineEvents.{beat, event_by, events_behind}
+use Rattle.serve_loop.specs.LineEvents.{beat, event_by, events_after}
 use Rattle.serve_loop.specs.Items.{CarriesBytes}
 use Rattle.serve_loop.specs.Pace.{is_beat}
-use Rattle.serve_loop.specs.SlipWay.{came_by}
+use Rattle.serve_loop.specs.SerialMedium.{came_by}
 use Rattle.serve_loop.proofs.ByteLaws.{slip_brings_bytes}
 use Rattle.node_laws.specs.Wire.{IsOfLine}
 use Rattle.node_laws.specs.Wire.IsOfLine.{of_bytes, of_overlong, of_call}
-use Rattle.node_laws.proofs.Steps.{LineStep, Happens, Changes as ChangesNumbers, IsStep, all_happen}
-use Rattle.uip_device.specs.Calls.{Call, Calls, CallsByDatagram, DoesNothing, HandsOn, Hears, HearsDatagram, events_by}
-use Rattle.uip_device.specs.Keeping.{IsOfBytes, KeepsWords}
+use Rattle.node_laws.proofs.Steps.{LineStep, OfNode, Changes as ChangesNumbers, IsStep, all_happen}
+use Rattle.uip_device.specs.Calls.{Call, Calls, CallsForDatagram, DoesNothing, Drains, Feeds, Inputs, events_by}
+use Rattle.uip_device.specs.Keeping.{IsOfBytes, KeepsU32}
 use Rattle.uip_device.specs.Moves.{Gives, Makes, Move, Writing, bytes_of_move}
 
 bytes_low : (move : Move) → IsOfBytes move → All IsByte (bytes_of_move move)
-bytes_low (Makes (Hears bytes)) is = is
+bytes_low (Makes (Feeds bytes)) is = is
 bytes_low (Makes (Calls slot)) is = All-nil IsByte
-bytes_low (Makes HandsOn) is = All-nil IsByte
-bytes_low (Makes (HearsDatagram datagram)) is = All-nil IsByte
-bytes_low (Makes (CallsByDatagram slot)) is = All-nil IsByte
+bytes_low (Makes Drains) is = All-nil IsByte
+bytes_low (Makes (Inputs datagram)) is = All-nil IsByte
+bytes_low (Makes (CallsForDatagram slot)) is = All-nil IsByte
 bytes_low (Makes DoesNothing) is = All-nil IsByte
 bytes_low (Gives number text) is = All-nil IsByte
 
@@ -52,13 +52,13 @@ module _ (own : Addr) where
   beat_brings pace number =
       choose (λ (l : List Event). AllOf l) (is_beat pace number) _ _ (λ e. slots_bring (0 ∷ 1 ∷ 2 ∷ 3 ∷ 4 ∷ 5 ∷ 6 ∷ 7 ∷ 8 ∷ 9 ∷ [])) (λ e. All-nil (IsOfLine own))
 
-  bytes_bring : (pace : ℕ) (before bytes : List ℕ) → All IsByte before → All IsByte bytes → AllOf (events_behind own pace before (map Byte bytes))
+  bytes_bring : (pace : ℕ) (before bytes : List ℕ) → All IsByte before → All IsByte bytes → AllOf (events_after own pace before (map Byte bytes))
   bytes_bring pace before [] h are = All-nil (IsOfLine own)
   bytes_bring pace before (b ∷ bytes) h are =
       let behind : List ℕ = before ++ b ∷ [] in
       let frame : List Event = map (event_by own) (completed before b) in
       let due : List Event = beat pace (length before + 1) in
-      All-append (IsOfLine own) (frame ++ due) (events_behind own pace behind (map Byte bytes))
+      All-append (IsOfLine own) (frame ++ due) (events_after own pace behind (map Byte bytes))
       (All-append (IsOfLine own) frame due (frames_bring (completed before b) (slip_brings_bytes before b h (All-head IsByte b bytes are))) (beat_brings pace (length before + 1)))
       (bytes_bring pace behind bytes (All-append IsByte before (b ∷ []) h (All-cons IsByte b [] (All-head IsByte b bytes are) (All-nil IsByte))) (All-tail IsByte b bytes are))
 
@@ -67,7 +67,7 @@ module _ (own : Addr) where
 
   -- a move is these steps: the events that it brings, or a change of the numbers
   abbrev pub steps_of_move : Writing → List ℕ → Move → List LineStep
-  steps_of_move gives before (Makes call) = map Happens (events_by before call own)
+  steps_of_move gives before (Makes call) = map OfNode (events_by before call own)
   steps_of_move gives before (Gives number text) = ChangesNumbers (gives number text) ∷ []
 
   abbrev pub steps_of : Writing → List ℕ → List Move → List LineStep
@@ -75,25 +75,25 @@ module _ (own : Addr) where
   steps_of gives before (move ∷ moves) = steps_of_move gives before move ++ steps_of gives (before ++ bytes_of_move move) moves
 
   call_brings : (before : List ℕ) (call : Call) → IsOfBytes (Makes call) → All IsByte before → AllOf (events_by before call own)
-  call_brings before (Hears bytes) is h = bytes_bring 0 before bytes h is
+  call_brings before (Feeds bytes) is h = bytes_bring 0 before bytes h is
   call_brings before (Calls slot) is h = one_brings (Periodic slot) (of_call slot refl)
-  call_brings before HandsOn is h = All-nil (IsOfLine own)
-  call_brings before (HearsDatagram datagram) is h = one_brings (event_of own datagram) (of_bytes datagram is refl)
-  call_brings before (CallsByDatagram slot) is h = one_brings (Periodic slot) (of_call slot refl)
+  call_brings before Drains is h = All-nil (IsOfLine own)
+  call_brings before (Inputs datagram) is h = one_brings (event_of own datagram) (of_bytes datagram is refl)
+  call_brings before (CallsForDatagram slot) is h = one_brings (Periodic slot) (of_call slot refl)
   call_brings before DoesNothing is h = All-nil (IsOfLine own)
 
-  move_steps : (gives : Writing) → KeepsWords gives → (before : List ℕ) (move : Move) → IsOfBytes move → All IsByte before → All (IsStep own) (steps_of_move gives before move)
+  move_steps : (gives : Writing) → KeepsU32 gives → (before : List ℕ) (move : Move) → IsOfBytes move → All IsByte before → All (IsStep own) (steps_of_move gives before move)
   move_steps gives words before (Makes call) is h = all_happen own (events_by before call own) (call_brings before call is h)
   move_steps gives words before (Gives number text) is h = All-cons (IsStep own) (ChangesNumbers (gives number text)) [] (λ numbers are. words number text numbers is are) (All-nil (IsStep own))
 
-  steps_behind : (gives : Writing) → KeepsWords gives → (before : List ℕ) (moves : List Move) → All IsByte before → All IsOfBytes moves → All (IsStep own) (steps_of gives before moves)
-  steps_behind gives words before [] h are = All-nil (IsStep own)
-  steps_behind gives words before (move ∷ moves) h are =
+  steps_after : (gives : Writing) → KeepsU32 gives → (before : List ℕ) (moves : List Move) → All IsByte before → All IsOfBytes moves → All (IsStep own) (steps_of gives before moves)
+  steps_after gives words before [] h are = All-nil (IsStep own)
+  steps_after gives words before (move ∷ moves) h are =
       let is : IsOfBytes move = All-head IsOfBytes move moves are in
       let behind : List ℕ = before ++ bytes_of_move move in
       All-append (IsStep own) (steps_of_move gives before move) (steps_of gives behind moves)
       (move_steps gives words before move is h)
-      (steps_behind gives words behind moves (All-append IsByte before (bytes_of_move move) h (bytes_low move is)) (All-tail IsOfBytes move moves are))
+      (steps_after gives words behind moves (All-append IsByte before (bytes_of_move move) h (bytes_low move is)) (All-tail IsOfBytes move moves are))
 
-  pub steps_are : (gives : Writing) → KeepsWords gives → (moves : List Move) → All IsOfBytes moves → All (IsStep own) (steps_of gives [] moves)
-  steps_are gives words moves are = steps_behind gives words [] moves (All-nil IsByte) are
+  pub steps_are : (gives : Writing) → KeepsU32 gives → (moves : List Move) → All IsOfBytes moves → All (IsStep own) (steps_of gives [] moves)
+  steps_are gives words moves are = steps_after gives words [] moves (All-nil IsByte) are

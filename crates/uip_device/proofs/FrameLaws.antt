@@ -1,22 +1,22 @@
--- The events of bytes that come without a pace.
+-- The events of bytes without a pace.
 use Rattle.std.proofs.Common.{◌≡◌, ℕ, List, [], ◌∷◌, ◌++◌, map, refl, sym, ap, ◌∙◌, append-nil}
 use Rattle.std.proofs.lemmas.List.{map-append}
 use Rattle.uip_wire.specs.declared.addr.Addr.{Addr}
 use Rattle.uip_edge.specs.declared.item.Item.TheVariants.{Byte}
 use Rattle.uip_slip.specs.Frames.{Frame, completed, frames}
 use Rattle.uip_slip.proofs.FrameLaws.{completed_by, completed_told}
-use Rattle.serve_loop.specs.LineEvents.{event_by, events_behind}
+use Rattle.serve_loop.specs.LineEvents.{event_by, events_after}
 
 -- bytes bring the frames that they complete
-completed_events : (own : Addr) (before bytes : List ℕ) → events_behind own 0 before (map Byte bytes) ≡ map (event_by own) (completed_by before bytes)
+completed_events : (own : Addr) (before bytes : List ℕ) → events_after own 0 before (map Byte bytes) ≡ map (event_by own) (completed_by before bytes)
 completed_events own before [] = refl
 completed_events own before (b ∷ bytes) =
     let behind = before ++ b ∷ [] in
-    ap (λ l. l ++ events_behind own 0 behind (map Byte bytes)) (append-nil (map (event_by own) (completed before b)))
+    ap (λ l. l ++ events_after own 0 behind (map Byte bytes)) (append-nil (map (event_by own) (completed before b)))
     ∙ ap (λ l. map (event_by own) (completed before b) ++ l) (completed_events own behind bytes)
     ∙ sym (map-append (event_by own) (completed before b) (completed_by behind bytes))
 
--- what a decoder tells of more bytes is what they bring to the node
+-- what a decoder reports of more bytes is what they bring to the node
 pub told_events : (own : Addr) (before bytes : List ℕ) (told : List Frame) → frames (before ++ bytes) ≡ frames before ++ told
-    → events_behind own 0 before (map Byte bytes) ≡ map (event_by own) told
+    → events_after own 0 before (map Byte bytes) ≡ map (event_by own) told
 told_events own before bytes told e = completed_events own before bytes ∙ ap (λ l. map (event_by own) l) (completed_told before bytes told e)

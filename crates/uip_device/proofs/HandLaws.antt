@@ -12,16 +12,16 @@ use Rattle.uip_node.specs.Spoken.{IsSent}
 use Rattle.serve_loop.specs.Texts.{text_for}
 use Rattle.uip_device.specs.Handing.{rest_text}
 
--- a front is put, and its text is no longer behind
-pub front_put : (before made rest front after : List ℕ) → made ≡ before ++ escaped front → rest ≡ front ++ after → made ++ rest_text after ≡ before ++ rest_text rest
-front_put before made rest front after put parts =
+-- a prefix is put, and its text is no longer pending
+pub prefix_put : (before made rest prefix after : List ℕ) → made ≡ before ++ escaped prefix → rest ≡ prefix ++ after → made ++ rest_text after ≡ before ++ rest_text rest
+prefix_put before made rest prefix after put parts =
     let marks = 192 ∷ [] in
     ap (λ l. l ++ rest_text after) put
-    ∙ append_assoc before (escaped front) (rest_text after)
-    ∙ ap (λ l. before ++ l) (sym (append_assoc (escaped front) (escaped after) marks) ∙ ap (λ l. l ++ marks) (sym (flat_map-append escaped_byte front after)))
+    ∙ append_assoc before (escaped prefix) (rest_text after)
+    ∙ ap (λ l. before ++ l) (sym (append_assoc (escaped prefix) (escaped after) marks) ∙ ap (λ l. l ++ marks) (sym (flat_map-append escaped_byte prefix after)))
     ∙ ap (λ l. before ++ rest_text l) (sym parts)
 
--- a front that is another one and more is no shorter
+-- a prefix that contains another is no shorter
 pub longer : (xs ys more : List ℕ) (n k : ℕ) → n ≤ length xs → k ≤ length ys → take k ys ≡ take n xs ++ more → n ≤ k
 longer xs ys more n k here there e =
     omega (arith, length-take-le n xs here, length-take-le k ys there, ap (λ l. length l) e, length-append (take n xs) more)

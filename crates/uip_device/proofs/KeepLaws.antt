@@ -1,25 +1,25 @@
--- What a device keeps of the promise of its node, move by move.
+-- A device satisfies the guarantee of its node, move by move.
 use Rattle.std.specs.List.{All, flat_map}
 use Rattle.std.proofs.Common.{◌≡◌, ℕ, List, [], ◌∷◌, ◌++◌, map, refl, sym, ap, ◌∙◌, subst}
-use Rattle.app_events.specs.Pages.{IsAddr, IsPaged, IsWord, Pages}
-use Rattle.app_events.specs.Part.{Meaning}
+use Rattle.app_events.specs.Pages.{IsAddr, IsPaged, IsU32, Pages}
+use Rattle.app_events.specs.AppSpec.{AppSpec}
 use Rattle.app_events.specs.declared.app.App.{Ghosts}
 use Rattle.uip_wire.specs.declared.addr.Addr.{Addr}
 use Rattle.uip_node.specs.Events.{Event, Reply}
 use Rattle.uip_node.specs.Laws.{HasBytes}
-use Rattle.uip_node.specs.Node.{AbstractNode, opening}
+use Rattle.uip_node.specs.Node.{AbstractNode, initial_node}
 use Rattle.serve_loop.specs.Turns.{IsNode}
-use Rattle.node_laws.specs.KeepsTurns.{KeepsTurns}
+use Rattle.node_laws.specs.TraceConforms.{TraceConforms}
 use Rattle.node_laws.specs.Speakers.{at_every_port}
-use Rattle.node_laws.specs.Talks.{Turn}
-use Rattle.node_laws.specs.Turns.{turns_of}
+use Rattle.node_laws.specs.Traces.{TraceEntry}
+use Rattle.node_laws.specs.Turns.{trace_of}
 use Rattle.node_laws.specs.Wire.{IsReadByPeer}
-use Rattle.node_laws.proofs.EveryTurn.{every_step_of_pages}
-use Rattle.node_laws.proofs.Steps.{LineStep, turns_over, turns_then}
+use Rattle.node_laws.proofs.EveryTraceConforms.{every_step_of_pages}
+use Rattle.node_laws.proofs.Steps.{LineStep, trace_over, turns_then}
 use Rattle.node_laws.proofs.TurnRuns.{sends, turn_events}
 use Rattle.uip_device.specs.Calls.{events_by}
 use Rattle.uip_device.specs.Devices.{Answered, AnswersAll, HasHeard, IsFreshDevice, left_text_of, lefts_of, moves_of}
-use Rattle.uip_device.specs.Keeping.{AllHandOutSent, IsOfBytes, HandsOutSent, KeepsCalls, KeepsWords, MoveTurns}
+use Rattle.uip_device.specs.Keeping.{AllHandOutSent, IsOfBytes, OutputIsSent, CallsConform, KeepsU32, MoveTrace}
 use Rattle.uip_device.specs.Moves.{Gives, Makes, Move, Writing, bytes_of_move, events_of_move, goes_by_datagram, run_move, with_value}
 use Rattle.uip_device.specs.Sending.{HandsOut}
 use Rattle.uip_device.specs.declared.device.Device.{Device}
@@ -27,21 +27,21 @@ use Rattle.uip_device.proofs.AnswerLaws.{MovesOn, moves_on, none_left}
 use Rattle.uip_device.proofs.BringLaws.{steps_are, steps_of, steps_of_move}
 
 module _ {A S : Type 0} (g : Ghosts A S) where
-  module _ (m : Meaning) (own : Addr) (gives : Writing) where
+  module _ (m : AppSpec) (own : Addr) (gives : Writing) where
     -- the turns of what a move brings
-    abbrev turns_by : List ℕ → Move → AbstractNode → List Turn
-    turns_by before move n = turns_of m g.served (events_of_move before move own) (with_value gives move n)
+    abbrev turns_by : List ℕ → Move → AbstractNode → List TraceEntry
+    turns_by before move n = trace_of m g.served (events_of_move before move own) (with_value gives move n)
 
     -- moves hand out what is sent in the turns of the node
     record InTurns (before : List ℕ) (all : List Answered) (a c : Device A S) (n : AbstractNode) (more : AnswersAll g gives all a c) : Type 0 where
-      moves : List MoveTurns
+      moves : List MoveTrace
       answered : map (λ it. it.answered) moves ≡ all
       left : map (λ it. it.left) moves ≡ lefts_of g gives all a c more
       each : AllHandOutSent own before (left_text_of a) moves
-      turns : flat_map (λ it. it.turns) moves ≡ turns_over m g.served (steps_of own gives before (moves_of all)) n
+      turns : flat_map (λ it. it.turns) moves ≡ trace_over m g.served (steps_of own gives before (moves_of all)) n
 
     hands_out_sent : (before : List ℕ) (it : Answered) (a b : Device A S) (n : AbstractNode) → MovesOn g m own gives before it.move a b it.handed n
-        → HandsOutSent own before (left_text_of a) (record { answered = it; left = left_text_of b; turns = turns_by before it.move n })
+        → OutputIsSent own before (left_text_of a) (record { answered = it; left = left_text_of b; turns = turns_by before it.move n })
     hands_out_sent before it a b n first =
         let events : List Event = events_of_move before it.move own in
         let here : AbstractNode = with_value gives it.move n in
@@ -50,20 +50,20 @@ module _ {A S : Type 0} (g : Ghosts A S) where
           hands = subst (λ (replies : List Reply). HandsOut (goes_by_datagram it.move) own (left_text_of a) it.handed (left_text_of b) replies) (sym (sends m g.served events here)) first.hands;
         }
 
-    -- the turns of a move, and of the steps behind it
+    -- the trace of a move, and of the steps after it
     move_turns : (before : List ℕ) (move : Move) (steps : List LineStep) (n : AbstractNode)
-        → turns_by before move n ++ turns_over m g.served steps (run_move m g.served gives own before move n).node ≡ turns_over m g.served (steps_of_move own gives before move ++ steps) n
+        → turns_by before move n ++ trace_over m g.served steps (run_move m g.served gives own before move n).node ≡ trace_over m g.served (steps_of_move own gives before move ++ steps) n
     move_turns before (Makes call) steps n = sym (turns_then m g.served (events_by before call own) steps n)
     move_turns before (Gives number text) steps n = refl
 
     in_turns : (before : List ℕ) (all : List Answered) (a c : Device A S) (n : AbstractNode) → IsNode g m own a.node n → HasHeard before a → (more : AnswersAll g gives all a c) → InTurns before all a c n more
-    in_turns before [] a c n stands heard more = record { moves = []; answered = refl; left = refl; each = tt; turns = refl }
-    in_turns before (it ∷ all) a c n stands heard more =
+    in_turns before [] a c n stands delivered more = record { moves = []; answered = refl; left = refl; each = tt; turns = refl }
+    in_turns before (it ∷ all) a c n stands delivered more =
         let b : Device A S = more.0 in
-        let first : MovesOn g m own gives before it.move a b it.handed n = moves_on g m own gives before it.move a b it.handed n stands heard more.1 in
-        let these : List Turn = turns_by before it.move n in
+        let first : MovesOn g m own gives before it.move a b it.handed n = moves_on g m own gives before it.move a b it.handed n stands delivered more.1 in
+        let these : List TraceEntry = turns_by before it.move n in
         let behind : List ℕ = before ++ bytes_of_move it.move in
-        let rest = in_turns behind all b c (run_move m g.served gives own before it.move n).node first.stands first.heard more.2 in
+        let rest = in_turns behind all b c (run_move m g.served gives own before it.move n).node first.stands first.delivered more.2 in
         record {
           moves = record { answered = it; left = left_text_of b; turns = these } ∷ rest.moves;
           answered = ap (λ l. it ∷ l) rest.answered;
@@ -72,19 +72,19 @@ module _ {A S : Type 0} (g : Ghosts A S) where
           turns = ap (λ l. these ++ l) rest.turns ∙ move_turns before it.move (steps_of own gives behind (moves_of all)) n;
         }
 
-  module _ (m : Meaning) (pages : Pages) (lawful : IsPaged m pages) (page : HasBytes pages) (gives : Writing) (low : KeepsWords gives) (numbers : List ℕ) (words : All IsWord numbers) (own : Addr) (is : IsAddr own) where
+  module _ (m : AppSpec) (pages : Pages) (lawful : IsPaged m pages) (page : HasBytes pages) (gives : Writing) (low : KeepsU32 gives) (numbers : List ℕ) (words : All IsU32 numbers) (own : Addr) (is : IsAddr own) where
     pub keeps_calls : (all : List Answered) → All IsOfBytes (moves_of all) → (old new : Device A S) → IsFreshDevice g m numbers own old
-        → (answered : AnswersAll g gives all old new) → KeepsCalls pages g.served own all (lefts_of g gives all old new answered)
+        → (answered : AnswersAll g gives all old new) → CallsConform pages g.served own all (lefts_of g gives all old new answered)
     keeps_calls all bytes old new fresh answered =
         let steps : List LineStep = steps_of own gives [] (moves_of all) in
-        let node : AbstractNode = opening own numbers in
-        let t = in_turns m own gives [] all old new node fresh.stands fresh.heard answered in
+        let node : AbstractNode = initial_node own numbers in
+        let t = in_turns m own gives [] all old new node fresh.stands fresh.delivered answered in
         let kept = every_step_of_pages m pages lawful page g.served own is numbers words steps (steps_are own gives low (moves_of all) bytes) in
         record {
           moves = t.moves;
           answered = t.answered;
           left = t.left;
           each = subst (λ (l : List ℕ). AllHandOutSent own [] l t.moves) (none_left old fresh.none) t.each;
-          keeps = subst (λ (l : List Turn). KeepsTurns (at_every_port pages) g.served l) (sym t.turns) kept.0;
-          read = subst (λ (l : List Turn). All (IsReadByPeer own) l) (sym t.turns) kept.1;
+          keeps = subst (λ (l : List TraceEntry). TraceConforms (at_every_port pages) g.served l) (sym t.turns) kept.0;
+          read = subst (λ (l : List TraceEntry). All (IsReadByPeer own) l) (sym t.turns) kept.1;
         }

@@ -9,7 +9,7 @@ use Rattle.uip_node.specs.Events.{Event, Reply}
 use Rattle.uip_node.specs.Events.Event.{Overlong}
 use Rattle.uip_node.specs.Node.{AbstractNode, joined, run, step}
 use Rattle.uip_node.specs.Spoken.{IsSent}
-use Rattle.uip_node.specs.StandsFor.{Stands, Steps}
+use Rattle.uip_node.specs.Represents.{Represents, Steps}
 use Rattle.serve_loop.specs.Texts.{text_for, text_of}
 use Rattle.serve_loop.specs.Turns.{IsNode}
 use Rattle.serve_loop.proofs.NodeLaws.{node_on, node_step}
@@ -46,14 +46,14 @@ module _ {A S : Type 0} (g : Ghosts A S) where
   }
 
   -- a frame that was too long
-  pub sends_overlong : (a b : Node A S) (P : Addr → List Reply → Type 0) → g.kept b.shared ≡ g.kept a.shared
-      → ((n : AbstractNode) → Stands g a n n.past → Stands g b (step (g.meaning (g.kept a.shared)) g.served n Overlong).node (seen Overlong n.past))
+  pub sends_overlong : (a b : Node A S) (P : Addr → List Reply → Type 0) → g.config b.shared ≡ g.config a.shared
+      → ((n : AbstractNode) → Represents g a n n.history → Represents g b (step (g.app_spec (g.config a.shared)) g.served n Overlong).node (seen Overlong n.history))
       → ((own : Addr) → P own []) → SendsOver g (λ own. Overlong ∷ []) a b P
   sends_overlong a b P same steps q = record { kept = same; each = λ m own n p. (node_on g m own a b Overlong n same (steps n p.stands) p, q own) }
 
   -- one event
-  sends_one : (event : Addr → Event) (a b : Node A S) (result : Option ℕ) (P : Addr → List Reply → Type 0) → g.kept b.shared ≡ g.kept a.shared
-      → ((own : Addr) (n : AbstractNode) → n.addr ≡ own → Stands g a n n.past → Steps g b result (step (g.meaning (g.kept a.shared)) g.served n (event own)))
+  sends_one : (event : Addr → Event) (a b : Node A S) (result : Option ℕ) (P : Addr → List Reply → Type 0) → g.config b.shared ≡ g.config a.shared
+      → ((own : Addr) (n : AbstractNode) → n.addr ≡ own → Represents g a n n.history → Steps g b result (step (g.app_spec (g.config a.shared)) g.served n (event own)))
       → ((own : Addr) (reply : Option Reply) → IsSent own reply result b.packet → P own (joined reply []))
       → SendsOver g (λ own. event own ∷ []) a b P
   sends_one event a b result P same steps sent = record {
@@ -63,34 +63,34 @@ module _ {A S : Type 0} (g : Ghosts A S) where
         (both.0, sent own (step m g.served n (event own)).sent both.1);
   }
 
-  -- a periodic call, or another event that the address does not tell
-  pub sends_at : (event : Event) (a b : Node A S) (result : Option ℕ) (P : Addr → List Reply → Type 0) → g.kept b.shared ≡ g.kept a.shared
-      → ((n : AbstractNode) → Stands g a n n.past → Steps g b result (step (g.meaning (g.kept a.shared)) g.served n event))
+  -- a periodic call, or another event that does not depend on the address
+  pub sends_at : (event : Event) (a b : Node A S) (result : Option ℕ) (P : Addr → List Reply → Type 0) → g.config b.shared ≡ g.config a.shared
+      → ((n : AbstractNode) → Represents g a n n.history → Steps g b result (step (g.app_spec (g.config a.shared)) g.served n event))
       → ((own : Addr) (reply : Option Reply) → IsSent own reply result b.packet → P own (joined reply []))
       → SendsOver g (λ own. event ∷ []) a b P
   sends_at event a b result P same steps sent = sends_one (λ own. event) a b result P same (λ own n at stands. steps n stands) sent
 
   -- a datagram
-  pub sends_input : (datagram : List ℕ) (a b : Node A S) (result : Option ℕ) (P : Addr → List Reply → Type 0) → g.kept b.shared ≡ g.kept a.shared
-      → ((n : AbstractNode) → Stands g a n n.past → Steps g b result (step (g.meaning (g.kept a.shared)) g.served n (event_of n.addr datagram)))
+  pub sends_input : (datagram : List ℕ) (a b : Node A S) (result : Option ℕ) (P : Addr → List Reply → Type 0) → g.config b.shared ≡ g.config a.shared
+      → ((n : AbstractNode) → Represents g a n n.history → Steps g b result (step (g.app_spec (g.config a.shared)) g.served n (event_of n.addr datagram)))
       → ((own : Addr) (reply : Option Reply) → IsSent own reply result b.packet → P own (joined reply []))
       → SendsOver g (λ own. event_of own datagram ∷ []) a b P
   sends_input datagram a b result P same steps sent =
       sends_one (λ own. event_of own datagram) a b result P same
-      (λ own n at stands. subst (λ (x : Addr). Steps g b result (step (g.meaning (g.kept a.shared)) g.served n (event_of x datagram))) at (steps n stands)) sent
+      (λ own n at stands. subst (λ (x : Addr). Steps g b result (step (g.app_spec (g.config a.shared)) g.served n (event_of x datagram))) at (steps n stands)) sent
 
   -- the text of one reply
   pub as_text : (own : Addr) (reply : Option Reply) (text : List ℕ) → text ≡ text_for own reply → text_of own (joined reply []) ≡ text
   as_text own reply text e = text_of-joined own reply [] ∙ append-nil (text_for own reply) ∙ sym e
 
-  -- where nothing was left, the text of what is sent is handed out, and the rest is left
+  -- if nothing was pending, the text of what is sent is written, and the rest is pending
   pub on_line : (events : Addr → List Event) (a b : Node A S) (before handed left : List ℕ) → before ≡ []
       → SendsOver g events a b (λ own replies. text_of own replies ≡ handed ++ left)
       → SendsOver g events a b (λ own replies. HandsOut false own before handed left replies)
   on_line events a b before handed left none v =
       sends_so events a b _ (λ own replies. HandsOut false own before handed left replies) (λ own replies e. ap (λ l. l ++ text_of own replies) none ∙ e) v
 
-  -- and a datagram is handed out whole
+  -- and a datagram is written whole
   pub by_datagram : (events : Addr → List Event) (a b : Node A S) (before handed left : List ℕ) → left ≡ before
       → SendsOver g events a b (λ own replies. handed ≡ datagram_sent own replies)
       → SendsOver g events a b (λ own replies. HandsOut true own before handed left replies)

@@ -1,25 +1,25 @@
--- The numbers of a device with a web server: the hits, and behind them the values.
+-- The numbers of a device with a web server: the hits, followed by the values.
 use Rattle.std.specs.List.{All}
 use Rattle.std.proofs.Common.{◌≡◌, ℕ, ◌+◌, ◌-◌, ◌*◌, ◌≤◌, List, ◌∷◌, ◌++◌, drop, length, length-append, replicate, take, refl, sym, ap, ◌∙◌, arith, lit<, Option, option_map}
 use Rattle.std.specs.List.{slice_index_or}
 use Rattle.std.specs.Option.{option_map_or}
 use Rattle.std.proofs.lemmas.List.{drop_at, take_at}
 use Rattle.std.proofs.lemmas.List.Elements.{All-append, All-cons, All-drop, All-replicate, All-take}
-use Rattle.app_events.specs.Pages.{IsByte, IsWord}
+use Rattle.app_events.specs.Pages.{IsByte, IsU32}
 use Rattle.site_image.specs.Files.{File}
 use Rattle.file_tree.specs.declared.file_id.FileId.{FileId}
 use Rattle.web_pages.specs.Pages.{hits_of, place_of}
 use Rattle.web_pages.specs.Serving.{no_hits}
 use Rattle.device_values.specs.Values.{no_values, value_given}
-use Rattle.uip_device.specs.Keeping.{KeepsWords}
+use Rattle.uip_device.specs.Keeping.{KeepsU32}
 use Rattle.uip_device.specs.WebDevices.{first_numbers, write_value}
 
--- a value is given behind the hits, which stay
-pub written_behind : (number : ℕ) (text hits values : List ℕ) → length values ≡ 528
+-- a value is set after the hits, which stay
+pub written_after : (number : ℕ) (text hits values : List ℕ) → length values ≡ 528
     → write_value number text (hits ++ values) ≡ hits ++ value_given number text values
-written_behind number text hits values long =
-    let front : length (hits ++ values) - 528 ≡ length hits = omega (arith, length-append hits values, long) in
-    ap (λ k. take k (hits ++ values) ++ value_given number text (drop k (hits ++ values))) front
+written_after number text hits values long =
+    let prefix : length (hits ++ values) - 528 ≡ length hits = omega (arith, length-append hits values, long) in
+    ap (λ k. take k (hits ++ values) ++ value_given number text (drop k (hits ++ values))) prefix
     ∙ (λ i. take_at hits values (length hits) refl i ++ value_given number text (drop_at hits values (length hits) refl i))
 
 -- the hits of a name by the place of its file
@@ -29,28 +29,28 @@ hits_at files numbers name o found at is =
     ap (λ p. option_map_or (λ place. slice_index_or numbers place 0) p 0) (sym (ap (λ (x : Option FileId). option_map (λ (id : FileId). id.0) x) is) ∙ at)
 
 -- they stay in 32 bits
-bytes_words : (text : List ℕ) → All IsByte text → All IsWord text
+bytes_words : (text : List ℕ) → All IsByte text → All IsU32 text
 bytes_words text bytes = λ k d l. (let low = bytes k d l in omega (arith, low))
 
-row_words : (text : List ℕ) → length text ≤ 32 → All IsByte text → All IsWord (length text ∷ (text ++ replicate (32 - length text) 0))
+row_words : (text : List ℕ) → length text ≤ 32 → All IsByte text → All IsU32 (length text ∷ (text ++ replicate (32 - length text) 0))
 row_words text short bytes =
-    All-cons IsWord (length text) (text ++ replicate (32 - length text) 0) (omega (arith, short))
-    (All-append IsWord text (replicate (32 - length text) 0) (bytes_words text bytes) (All-replicate IsWord (32 - length text) 0 (lit< tt)))
+    All-cons IsU32 (length text) (text ++ replicate (32 - length text) 0) (omega (arith, short))
+    (All-append IsU32 text (replicate (32 - length text) 0) (bytes_words text bytes) (All-replicate IsU32 (32 - length text) 0 (lit< tt)))
 
-given_words : (number : ℕ) (text own : List ℕ) → length text ≤ 32 → All IsByte text → All IsWord own → All IsWord (value_given number text own)
+given_words : (number : ℕ) (text own : List ℕ) → length text ≤ 32 → All IsByte text → All IsU32 own → All IsU32 (value_given number text own)
 given_words number text own short bytes words =
     let row : List ℕ = length text ∷ (text ++ replicate (32 - length text) 0) in
     let behind : List ℕ = drop (33 * number + 33) own in
-    All-append IsWord (take (33 * number) own ++ row) behind
-    (All-append IsWord (take (33 * number) own) row (All-take IsWord (33 * number) own words) (row_words text short bytes))
-    (All-drop IsWord (33 * number + 33) own words)
+    All-append IsU32 (take (33 * number) own ++ row) behind
+    (All-append IsU32 (take (33 * number) own) row (All-take IsU32 (33 * number) own words) (row_words text short bytes))
+    (All-drop IsU32 (33 * number + 33) own words)
 
-pub written_words : KeepsWords write_value
+pub written_words : KeepsU32 write_value
 written_words number text numbers is words =
     let hits : ℕ = length numbers - 528 in
-    All-append IsWord (take hits numbers) (value_given number text (drop hits numbers)) (All-take IsWord hits numbers words)
-    (given_words number text (drop hits numbers) is.0 is.1 (All-drop IsWord hits numbers words))
+    All-append IsU32 (take hits numbers) (value_given number text (drop hits numbers)) (All-take IsU32 hits numbers words)
+    (given_words number text (drop hits numbers) is.0 is.1 (All-drop IsU32 hits numbers words))
 
-pub first_words : (files : List File) → All IsWord (first_numbers files)
+pub first_words : (files : List File) → All IsU32 (first_numbers files)
 first_words files =
-    All-append IsWord (no_hits files) no_values (All-replicate IsWord (length files) 0 (lit< tt)) (All-replicate IsWord 528 0 (lit< tt))
+    All-append IsU32 (no_hits files) no_values (All-replicate IsU32 (length files) 0 (lit< tt)) (All-replicate IsU32 528 0 (lit< tt))

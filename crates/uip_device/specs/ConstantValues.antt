@@ -1,4 +1,4 @@
--- The constant of the code that contracts cite, with its value: a clause that names it says this number.
+-- The constant of the code that contracts name, and its value.
 use Rattle.std.specs.Prelude.{◌≡◌}
 use Rattle.uip_device.specs.declared.handing.TheConstants.{LARGEST_TEXT}
 

@@ -1,19 +1,19 @@
--- What a caller does to a device, one after another: calls, and between them values that are given.
+-- The moves of a caller: calls of a device, and values that it sets between them.
 use Rattle.std.specs.Prelude.{◌≡◌, ℕ, Bool, false, List, [], map}
 use Rattle.std.specs.List.{flat_map}
 use Rattle.uip_wire.specs.declared.addr.Addr.{Addr}
 use Rattle.uip_edge.specs.declared.item.Item.{Item}
 use Rattle.uip_node.specs.Events.{Event}
 use Rattle.uip_node.specs.Node.{AbstractNode, Ran, run}
-use Rattle.app_events.specs.Part.{Meaning}
-use Rattle.uip_device.specs.Calls.{Call, byte_calls, bytes_of_call, calls_behind, events_by, is_by_datagram}
+use Rattle.app_events.specs.AppSpec.{AppSpec}
+use Rattle.uip_device.specs.Calls.{Call, byte_calls, bytes_of_call, calls_after, events_by, is_by_datagram}
 
--- a call, or the value of a number is this text from then on
+-- a call, or the value with a number is this text from now on
 pub data Move : Type 0 where
   Makes : (call : Call) → Move
   Gives : (number : ℕ) (text : List ℕ) → Move
 
--- What a value that is given does to the numbers of an application: its number, its text, and the numbers before.
+-- How setting a value changes the counters of an application: its number, its text, and the counters before.
 abbrev pub Writing : Type 0
 Writing = ℕ → List ℕ → List ℕ → List ℕ
 
@@ -21,7 +21,7 @@ abbrev pub goes_by_datagram : Move → Bool
 goes_by_datagram (Makes call) = is_by_datagram call
 goes_by_datagram (Gives number text) = false
 
--- the bytes that come over a serial line, and the events that come to the node; a given value brings none
+-- the bytes fed over a serial line, and the events at the node; setting a value causes none
 abbrev pub bytes_of_move : Move → List ℕ
 bytes_of_move (Makes call) = bytes_of_call call
 bytes_of_move (Gives number text) = []
@@ -30,7 +30,7 @@ abbrev pub events_of_move : List ℕ → Move → Addr → List Event
 events_of_move before (Makes call) own = events_by before call own
 events_of_move before (Gives number text) own = []
 
--- it changes the numbers of the application, and nothing else of the node
+-- It changes the counters of the application, and nothing else of the node.
 abbrev pub with_numbers : (List ℕ → List ℕ) → AbstractNode → AbstractNode
 with_numbers change n = record n { numbers = change n.numbers }
 
@@ -38,12 +38,12 @@ abbrev pub with_value : Writing → Move → AbstractNode → AbstractNode
 with_value gives (Makes call) n = n
 with_value gives (Gives number text) n = with_numbers (gives number text) n
 
--- a move, behind the bytes that were heard before: the run over what it brings
-abbrev pub run_move : Meaning → (ℕ → Bool) → Writing → Addr → List ℕ → Move → AbstractNode → Ran
+-- a move after the bytes fed before: the run over its events
+abbrev pub run_move : AppSpec → (ℕ → Bool) → Writing → Addr → List ℕ → Move → AbstractNode → Ran
 run_move m served gives own before move n = run m served (events_of_move before move own) (with_value gives move n)
 
--- The moves are calls alone, and bring the items of a line at a pace, in order, however its bytes are cut among the calls.
+-- The moves are calls only. They cause the events of a line's items at a pace, in order, however its bytes are split among the calls.
 pub record Bring (pace : ℕ) (items : List Item) (moves : List Move) : Type 0 where
   pub calls : List Call
   pub made : moves ≡ map Makes calls
-  pub cut : flat_map byte_calls calls ≡ calls_behind pace 0 items
+  pub cut : flat_map byte_calls calls ≡ calls_after pace 0 items

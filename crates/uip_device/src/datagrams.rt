@@ -1,4 +1,4 @@
-//! What is sent over a link that carries datagrams.
+//! Output over a link that carries whole IP datagrams.
 
 ghost use Rattle.std.specs.Prelude.{◌≡◌, ◌≤◌, [], length, take, Option};
 ghost use Rattle.uip_wire.specs.declared.addr.Addr.{Addr as Address};
@@ -9,9 +9,9 @@ ghost use Rattle.uip_device.specs.Sending.{datagram_sent};
 
 use app_events::App;
 use uip_node::Node;
-use uip_wire::LARGEST_DATAGRAM;
+use uip_wire::{LARGEST_DATAGRAM, copy_bytes};
 
-/// Copies what a call of the node has sent, if it sent a datagram. Says how long it is.
+/// Copies the datagram that a call of the node sent, if it sent one, and returns its length in bytes.
 pub(crate) fn copy_sent<A: App>(node: &Node<A>, sent: Option<usize>, out: &mut [u8]) -> usize
     requires room { LARGEST_DATAGRAM ≤ length out.old }
     ensures long { length out.new ≡ length out.old }
@@ -23,6 +23,6 @@ pub(crate) fn copy_sent<A: App>(node: &Node<A>, sent: Option<usize>, out: &mut [
         return 0;
     }
     let datagram = node.packet();
-    out[..datagram.len()].copy_from_slice(datagram);
+    copy_bytes(&mut out[..datagram.len()], datagram);
     datagram.len()
 }

@@ -1,4 +1,4 @@
-//! The text of a datagram, handed out in pieces.
+//! The SLIP text of a datagram, written in pieces (RFC 1055).
 
 ghost use Rattle.std.specs.Prelude.{◌≡◌, ◌<◌, ◌≤◌, ◌+◌, ◌*◌, ◌-◌, ◌++◌, ◌⊎◌, [], ◌∷◌, Option, Some, None, IfSome, length, take};
 ghost use Rattle.packet_buffer.specs.Buffer.{datagram_in};
@@ -14,11 +14,11 @@ use uip_node::Node;
 use uip_slip::{END, put_escaped};
 use uip_wire::LARGEST_DATAGRAM;
 
-/// The longest text of a datagram, in bytes: each byte escaped, and an END on both sides.
+/// The longest SLIP text of a datagram, in bytes: each byte escaped, and an END on both sides.
 pub const LARGEST_TEXT: usize = 2 * LARGEST_DATAGRAM + 2;
 
-/// How many bytes were written to the front of the area, and behind how many bytes of the datagram in the packet the text
-/// goes on; nowhere where all was written.
+/// The bytes written at the start of the area, and after how many bytes of the datagram in the packet the text continues; `None` if all of
+/// it was written.
 #[derive(Clone, Copy, Debug, PartialEq, Eq)]
 pub(crate) struct Written {
     pub wrote: usize,
@@ -26,7 +26,7 @@ pub(crate) struct Written {
 }
 
 impl Written {
-    /// Nothing was written, and nothing is left.
+    /// Returns that nothing was written and nothing is pending.
     pub(crate) fn nothing() -> Written
         ensures { result ≡ record { wrote = 0; left = None } }
     {
@@ -37,14 +37,14 @@ impl Written {
     }
 }
 
-/// So many bytes of a piece were put, and so long is the text.
+/// The bytes of a piece that were put, and the length of the text in bytes.
 #[derive(Clone, Copy, Debug)]
 struct Run {
     count: usize,
     len: usize,
 }
 
-/// Puts as many bytes of a piece as fit whatever they are, escaped, behind a text of so many bytes.
+/// Appends bytes of a piece, escaped, to a text of `len` bytes: as many as fit even if each of them is escaped.
 fn put_some(out: &mut [u8], len: usize, piece: &[u8]) -> Run
     requires some { 0 < length piece.now }
     requires room { len + 2 ≤ length out.old }
@@ -62,7 +62,7 @@ fn put_some(out: &mut [u8], len: usize, piece: &[u8]) -> Run
     Run { count, len: end }
 }
 
-/// Writes on the text of a datagram behind so many of its bytes, as far as there is room.
+/// Continues the text of a datagram after its first `at` bytes, as far as there is room.
 pub(crate) fn write_on(out: &mut [u8], len: usize, datagram: &[u8], at: usize) -> Written
     requires within { at ≤ length datagram.now }
     requires room { len ≤ length out.old }
@@ -95,7 +95,7 @@ pub(crate) fn write_on(out: &mut [u8], len: usize, datagram: &[u8], at: usize) -
     }
 }
 
-/// Writes on what is left of the text of the datagram that a node has sent, behind so many of its bytes.
+/// Continues the text of the datagram that a node sent, after its first `at` bytes.
 pub(crate) fn hand_on<A: App>(node: &Node<A>, at: usize, out: &mut [u8]) -> Written
     requires within { at ≤ length (datagram_in node.now.packet) }
     ensures long { length out.new ≡ length out.old }
@@ -109,7 +109,7 @@ pub(crate) fn hand_on<A: App>(node: &Node<A>, at: usize, out: &mut [u8]) -> Writ
     write_on(out, 0, node.packet(), at)
 }
 
-/// Puts an END at the front.
+/// Puts an END at the start.
 fn put_end(out: &mut [u8])
     requires { 0 < length out.old }
     ensures long { length out.new ≡ length out.old }
@@ -118,7 +118,7 @@ fn put_end(out: &mut [u8])
     out[..1].copy_from_slice(&[END]);
 }
 
-/// Writes the text of what a call of the node has sent, if it sent a datagram, as far as there is room.
+/// Writes the text of the datagram that a call of the node sent, if it sent one, as far as there is room.
 pub(crate) fn write_text<A: App>(node: &Node<A>, sent: Option<usize>, out: &mut [u8]) -> Written
     requires room { 0 < length out.old }
     ensures long { length out.new ≡ length out.old }

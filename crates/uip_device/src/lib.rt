@@ -1,5 +1,5 @@
-//! A device: a node with an application, whose caller brings what came over the line and takes what is sent; and the web server
-//! of a device, whose scripts show values that the caller gives. Memory is taken when a device is made, and by no call after.
+//! A device: a node with an application, whose caller feeds it what was received and takes what is sent. The web server of a device has
+//! scripts that show values, which the caller sets. Only `new` and `open_web` allocate memory (measured).
 #![tactic(auto)]
 
 mod datagrams;
@@ -11,7 +11,7 @@ mod opening;
 mod value_pages;
 mod web_device;
 
-pub use device::{Device, Heard};
+pub use device::{Device, FeedResult};
 pub use device_web::{DeviceWeb, FlashWeb};
 pub use handing::LARGEST_TEXT;
 pub use laws::{calls_are_told, calls_keep_the_promise, constant_values, line_is_served};

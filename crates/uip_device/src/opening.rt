@@ -1,4 +1,4 @@
-//! A device with the web server of a site is opened.
+//! Opens a device with the web server of a site.
 
 ghost use Rattle.std.specs.Prelude.{◌≡◌, ◌++◌, ◌↔◌, IfOk, IsTrue};
 ghost use Rattle.std.specs.List.{All};
@@ -25,11 +25,11 @@ use uip_wire::Addr;
 pub enum OpenFault {
     /// The image has this first fault, or a page of it can be too long once scripts show values.
     BadSite(SiteError),
-    /// There was not enough memory.
+    /// Out of memory.
     NoMemory,
 }
 
-/// What is kept by every site.
+/// States what is true of every site.
 pub(crate) fn see_loaded(site: &FlashSite)
     ensures loaded { IsLoaded site.now }
     ensures bytes { All IsByte site.now.image }
@@ -37,19 +37,19 @@ pub(crate) fn see_loaded(site: &FlashSite)
     see_bytes(site.image);
 }
 
-/// A text is bytes.
+/// States that a text consists of bytes.
 fn see_bytes(text: &[u8])
     ensures { All IsByte text.now }
 {}
 
-/// Whether no page can be too long, whatever its scripts call.
+/// Returns whether no page can be too long, whatever its scripts call.
 fn is_sound(site: &FlashSite) -> bool
     ensures { IsTrue result ↔ HasSoundScripts word_calls (files_of site.now) }
 {
-    site.tree().are_scripts_sound::<Word>()
+    site.are_scripts_sound::<Word>()
 }
 
-/// A page can have 2^30 bytes or more, which is told of the whole image.
+/// Returns the fault that a page can have 2^30 bytes or more, which is reported for the whole image.
 fn too_long() -> SiteError
     ensures { result ≡ fault PageTooLong 0 }
 {
@@ -59,10 +59,10 @@ fn too_long() -> SiteError
     }
 }
 
-/// What the connections of the web server of a site share at first.
+/// Returns what the connections of a site's web server share at first.
 fn web_of(alloc: Global, site: FlashSite) -> Result<DeviceWeb, NoMemory>
-    ensures site { IfOk result (λ shared. shared.web.site ≡ site) }
-    ensures numbers { IfOk result (λ shared. shared.web.hits ++ shared.values.bytes ≡ first_numbers (files_of site)) }
+    ensures site { IfOk result (λ shared. shared.web.site ≡ site.entry) }
+    ensures numbers { IfOk result (λ shared. shared.web.hits ++ shared.values.bytes ≡ first_numbers (files_of site.entry)) }
 {
     let web = FlashWeb::new(alloc, site)?;
     Ok(DeviceWeb {
@@ -71,11 +71,12 @@ fn web_of(alloc: Global, site: FlashSite) -> Result<DeviceWeb, NoMemory>
     })
 }
 
-/// A device at an address with the site of an image, which is read where it lies. After this no call of it takes memory.
+/// Opens a device at an address with the site of an image, which is read in place and not copied. No later call allocates memory
+/// (measured).
 pub fn open_web(alloc: Global, image: &'static [u8], own: Addr) -> Result<WebDevice, OpenFault>
     ensures { OpensDevice image.now own result }
 {
-    let site = match FlashSite::read(alloc, image) {
+    let site = match FlashSite::read_in_place(alloc, image) {
         Ok(site) => site,
         Err(LoadFault::Bad(error)) => return Err(OpenFault::BadSite(error)),
         Err(_) => return Err(OpenFault::NoMemory),

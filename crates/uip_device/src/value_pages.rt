@@ -1,10 +1,10 @@
-//! The web server of a device on one connection.
+//! The web server of a device, on one connection.
 
 ghost use Rattle.std.specs.Prelude.{◌≡◌, ◌++◌};
-ghost use Rattle.app_events.specs.Part.{Part};
+ghost use Rattle.app_events.specs.AppSpec.{AppState};
 ghost use Rattle.device_values.specs.Words.{record_text, words};
 ghost use Rattle.file_tree.specs.Site.{files_of};
-ghost use Rattle.httpd.specs.HttpdStands.{PagesStand};
+ghost use Rattle.httpd.specs.HttpdRepresents.{PagesRepresent};
 ghost use Rattle.web_pages.specs.Requests.{wanted};
 ghost use Rattle.web_pages.specs.WebMeaning.{hits_by};
 
@@ -14,47 +14,47 @@ use device_values::ValueCapture;
 use httpd::Pages;
 use uip_wire::{Port, WEB_PORT};
 
-/// The pages of a device on one connection.
+/// The pages of a device, on one connection.
 #[derive(Drop)]
 pub struct ValuePages {
     pub pages: Pages<ValueCapture>,
 }
 
-/// The next bytes from the peer. A file that they ask for is hit.
+/// Delivers the next bytes from the peer, and counts a hit of the file that they request.
 fn hear(pages: &mut Pages<ValueCapture>, web: &mut FlashWeb, piece: &[u8])
     ensures site { web.new.site ≡ web.old.site }
-    ensures part { let stands = PagesStand words record_text in
-        (p : Part) → stands pages.old web.old.site p
-        → stands pages.new web.old.site (record p { heard = p.heard ++ piece.now; polls = 0 }) }
-    ensures hits { let stands = PagesStand words record_text in
-        (p : Part) → stands pages.old web.old.site p
-        → web.new.hits ≡ hits_by (files_of web.old.site) web.old.hits (wanted p.heard) (wanted (p.heard ++ piece.now)) }
+    ensures part { let stands = PagesRepresent words record_text in
+        (p : AppState) → stands pages.old web.old.site p
+        → stands pages.new web.old.site (record p { delivered = p.delivered ++ piece.now; polls = 0 }) }
+    ensures hits { let stands = PagesRepresent words record_text in
+        (p : AppState) → stands pages.old web.old.site p
+        → web.new.hits ≡ hits_by (files_of web.old.site) web.old.hits (wanted p.delivered) (wanted (p.delivered ++ piece.now)) }
 {
-    pages.hear(&web.site.tree(), &mut web.hits, piece);
+    pages.hear(&web.site, &mut web.hits, piece);
 }
 
 impl App for ValuePages {
     ghost use Rattle.std.specs.Prelude.{◌++◌};
     ghost use Rattle.file_tree.specs.Site.{SiteContent, files_of};
     ghost use Rattle.web_pages.specs.Serving.{is_served};
-    ghost use Rattle.web_pages.specs.WebMeaning.{web_meaning_by};
+    ghost use Rattle.web_pages.specs.WebMeaning.{web_spec_by};
     ghost use Rattle.web_pages.specs.Lemmas.WebLaws.{web_lawful, web_starts};
-    ghost use Rattle.httpd.specs.HttpdStands.{PagesStand};
+    ghost use Rattle.httpd.specs.HttpdRepresents.{PagesRepresent};
     ghost use Rattle.httpd.specs.Lemmas.SameLeft.{same_left_by};
     ghost use Rattle.device_values.specs.Words.{record_text, words};
 
     type Shared = DeviceWeb;
 
-    ghost Kept = { SiteContent };
+    ghost Config = { SiteContent };
 
-    ghost kept = { λ shared. shared.web.site };
+    ghost config = { λ shared. shared.web.site };
 
-    // The values stand behind the hits.
+    // The values follow the hits.
     ghost numbers = { λ shared. shared.web.hits ++ shared.values.bytes };
 
-    ghost meaning = { λ site. web_meaning_by words (files_of site) };
+    ghost app_spec = { λ site. web_spec_by words (files_of site) };
 
-    ghost stands_for = { λ a site part. PagesStand words record_text a.pages site part };
+    ghost represents = { λ a site part. PagesRepresent words record_text a.pages site part };
 
     ghost served = { is_served };
 
@@ -77,22 +77,30 @@ impl App for ValuePages {
         hear(&mut self.pages, &mut shared.web, piece);
     }
 
+    fn is_due(&self, shared: &DeviceWeb) -> bool {
+        let web = &shared.web;
+        self.pages.is_due_at(&web.site)
+    }
+
     fn prepare(&mut self, shared: &DeviceWeb, now: &Now) {
         let web = &shared.web;
         self.pages
-            .prepare_at(&web.tree(), &web.hits, &shared.values, now);
+            .prepare_at(&web.site, &web.hits, &shared.values, now);
     }
 
     fn want(&self, shared: &DeviceWeb) -> Want {
-        self.pages.want_of(&shared.web.tree())
+        let web = &shared.web;
+        self.pages.want_of(&web.site)
     }
 
     fn fill(&self, shared: &DeviceWeb, out: &mut [u8]) {
-        self.pages.fill_from(&shared.web.tree(), out);
+        let web = &shared.web;
+        self.pages.fill_from(&web.site, out);
     }
 
     fn acked(&mut self, shared: &mut DeviceWeb, count: usize) {
-        self.pages.pass(&shared.web.tree(), count);
+        let web = &shared.web;
+        self.pages.pass(&web.site, count);
     }
 
     fn polled(&mut self, _shared: &mut DeviceWeb) {
@@ -101,7 +109,7 @@ impl App for ValuePages {
 
     fn ended(&mut self, _shared: &mut DeviceWeb, _how: Ending) {}
 
-    ghost lawful = { λ a site. web_lawful words (files_of site) (λ part. PagesStand words record_text a.pages site part) };
+    ghost lawful = { λ a site. web_lawful words (files_of site) (λ part. PagesRepresent words record_text a.pages site part) };
 
     ghost starts = { λ site. web_starts words (files_of site) };
 

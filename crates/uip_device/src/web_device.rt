@@ -1,9 +1,9 @@
-//! What a device with the web server of a site knows beside its calls: values that are given, and hits that are read.
+//! What only a device with the web server has: values that are set, and hits that are read.
 
 ghost use Rattle.std.specs.Prelude.{◌≡◌, ◌<◌, ◌≤◌, length};
 ghost use Rattle.file_tree.specs.Site.{files_of};
 ghost use Rattle.uip_node.specs.Node.{AbstractNode};
-ghost use Rattle.uip_node.specs.StandsFor.{Stands};
+ghost use Rattle.uip_node.specs.Represents.{Represents};
 ghost use Rattle.web_pages.specs.Pages.{hits_of};
 ghost use Rattle.uip_device.specs.contracts.value_pages.ValuePagesApp.TheImpl.{ghosts};
 ghost use Rattle.uip_device.specs.Devices.{Changes};
@@ -17,7 +17,7 @@ use device_values::Values;
 /// A device with the web server of a site.
 pub type WebDevice = Device<ValuePages>;
 
-/// The values are so many bytes.
+/// States the length of the values.
 fn see_values(values: &Values)
     ensures { length values.now.bytes ≡ 528 }
 {
@@ -25,8 +25,8 @@ fn see_values(values: &Values)
 }
 
 impl WebDevice {
-    /// The value of a number below 16 is this text of at most 32 bytes from now on. What is left of a text stays.
-    pub fn give(&mut self, number: usize, text: &[u8])
+    /// Sets value `number`, below 16, to a copy of `text`, at most 32 bytes. Pending output is unchanged.
+    pub fn set_value(&mut self, number: usize, text: &[u8])
         requires number { number < 16 }
         requires short { length text.now ≤ 32 }
         requires sound { IsSoundWebDevice self.old }
@@ -38,15 +38,15 @@ impl WebDevice {
         node.shared.values.give(number, text);
     }
 
-    /// How often the file of that name was asked for, modulo 2^32; 0 where no file has the name.
+    /// Returns how often the file of that name was requested, modulo 2^32; 0 if no file has the name.
     pub fn hits(&self, name: &[u8]) -> u32
-        ensures { (n : AbstractNode) → Stands ghosts self.now.node n n.past
+        ensures { (n : AbstractNode) → Represents ghosts self.now.node n n.history
             → result ≡ hits_of (files_of (site_in self.now)) n.numbers name.now }
     {
         let node = &self.node;
         let web = &node.shared.web;
         see_loaded(&web.site);
-        match web.site.tree().find(name) {
+        match web.site.find(name) {
             Some(id) => web.hits[id.0 as usize],
             None => 0,
         }

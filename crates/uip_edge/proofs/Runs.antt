@@ -1,4 +1,4 @@
--- The bytes in front of the first silence.
+-- The bytes before the first silence.
 use Rattle.std.proofs.Common.{◌≡◌, ℕ, ◌+◌, ◌≤◌, ◌<◌, List, [], ◌∷◌, ◌++◌, take, drop, length, map, get_or, refl, sym, ap, ◌∙◌, arith, min, nat_lt, true, false}
 use Rattle.std.proofs.lemmas.List.{take-append-drop, drop_more, drop_all, length-take-le, drop-drop}
 use Rattle.std.proofs.lemmas.Bool.{ltb-true, ltb-false}

@@ -1,10 +1,10 @@
--- Bytes and items that are told, one call after another.
+-- Known bytes and items, one call after the other.
 use Rattle.std.proofs.Common.{◌≡◌, ℕ, List, [], ◌∷◌, ◌++◌, Option, None, Some, refl, sym, ◌∙◌, append_assoc, append-nil, ◌-◌, take, drop, length, map, ◌+◌, ◌≤◌, arith, length-append, ap, Result, Ok, Err, OnErr}
 use Rattle.std.proofs.lemmas.List.{take_rest, take-append-drop, drop-drop}
 use Rattle.uip_edge.specs.declared.item.Item.TheVariants.{Byte, Quiet}
 use Rattle.std.specs.Io.KnownBytes.{Appends, Keeps}
 use Rattle.uip_edge.specs.Coming.{Consumes, TookAll, bytes_among}
-use Rattle.uip_edge.specs.Told.{ShelfTold}
+use Rattle.uip_edge.specs.Views.{ShelfView}
 use Rattle.uip_edge.specs.Writing.{AppendsPrefix}
 use Rattle.uip_edge.specs.declared.item.Item.{Item}
 
@@ -34,11 +34,11 @@ Consumes-then (Some x) None c xs ys p q = absurd p
 Consumes-then (Some x) (Some y) None xs ys p q = absurd q
 Consumes-then (Some x) (Some y) (Some z) xs ys p q = rw (p, q) (sym (append_assoc xs ys z))
 
--- a front of a text is a front of the longer text
+-- a prefix of a text is a prefix of the longer text
 pub prefix_more : (a b : Option (List ℕ)) (xs more whole : List ℕ) → xs ++ more ≡ whole → AppendsPrefix a b xs → AppendsPrefix a b whole
 prefix_more a b xs more whole e p = (p.0, p.1 ++ more, sym e ∙ rw (p.2, append_assoc) refl, p.3)
 
--- a whole text and then a front of the next one
+-- a whole text and then a prefix of the next one
 pub prefix_then : (a m b : Option (List ℕ)) (xs ys : List ℕ) → Appends a m xs → AppendsPrefix m b ys → AppendsPrefix a b (xs ++ ys)
 prefix_then a m b xs ys w p = (xs ++ p.0, p.1, rw (p.2, append_assoc) refl, Appends-then a m b xs p.0 w p.3)
 
@@ -52,9 +52,9 @@ pub on_err : {T E P : Type 0} (r : Result T E) → P → OnErr r P
 on_err (Ok x) p = tt
 on_err (Err e) p = p
 
--- a part of the rest goes over to the front
-pub moved_on : (whole front rest : List ℕ) (n : ℕ) → whole ≡ front ++ rest → whole ≡ (front ++ take n rest) ++ take (length rest - n) (drop n rest)
-moved_on whole front rest n e = rw (take_rest, append_assoc, take-append-drop) e
+-- a part of the rest moves to the prefix
+pub moved_on : (whole prefix rest : List ℕ) (n : ℕ) → whole ≡ prefix ++ rest → whole ≡ (prefix ++ take n rest) ++ take (length rest - n) (drop n rest)
+moved_on whole prefix rest n e = rw (take_rest, append_assoc, take-append-drop) e
 
 -- the items that a call took, and the others
 pub taken_off : (k n at : ℕ) (all : List Item) (buf : List ℕ) → k ≡ n → take k (drop at all) ≡ map Byte (take k buf)
@@ -70,13 +70,13 @@ bytes_among-append [] ys = refl
 bytes_among-append (Byte b ∷ xs) ys = ap (λ l. b ∷ l) (bytes_among-append xs ys)
 bytes_among-append (Quiet ∷ xs) ys = bytes_among-append xs ys
 
--- what was taken before the end is all that was told
+-- what was taken before the end is all that was known
 pub took_all : (old mid : Option (List Item)) (taken : List Item) → Consumes old mid taken → TookAll mid [] → TookAll old taken
 took_all None mid taken c d = tt
 took_all (Some xs) None taken c d = absurd c
 took_all (Some xs) (Some ys) taken c d = c ∙ rw d (append-nil taken)
 
--- the items behind nothing
+-- the items after nothing
 pub none_more : (taken items : List Item) → items ≡ [] → taken ++ items ≡ taken
 none_more taken items none = ap (λ l. taken ++ l) none ∙ append-nil taken
 
@@ -88,5 +88,5 @@ taken_within (Some told) (Some left) all taken e c =
     let size : length all ≡ length (taken ++ left) = ap (λ l. length l) (sym same ∙ c) in
     omega (arith, size, length-append taken left)
 
-pub same_shelf : (old new : ShelfTold) → new.held ≡ old.held → new.faults ≡ old.faults → new ≡ old
+pub same_shelf : (old new : ShelfView) → new.held ≡ old.held → new.faults ≡ old.faults → new ≡ old
 same_shelf old new held faults = λ i. record { held = held i; faults = faults i }

@@ -1,4 +1,4 @@
--- Turns at a line, one behind another.
+-- Turns at a line, one after the other.
 use Rattle.std.proofs.Common.{◌≡◌, ℕ, ◌+◌, ◌<◌, ◌≤◌, List, [], ◌++◌, length, map, take, ◌∙◌, arith, length-append}
 use Rattle.std.proofs.lemmas.List.{length-map, length-take-le}
 use Rattle.uip_edge.specs.declared.item.Item.{Item}
@@ -8,7 +8,7 @@ use Rattle.uip_edge.specs.declared.serve_end.ServeEnd.TheVariants as ends
 use Rattle.uip_edge.specs.declared.turn.Turn.TheVariants.{Ended}
 use Rattle.uip_edge.specs.Coming.{Consumes}
 use Rattle.uip_edge.specs.Ending.{EndsBy}
-use Rattle.uip_edge.specs.Told.{IsCalm, LineTold}
+use Rattle.uip_edge.specs.Views.{IsCalm, LineView}
 use Rattle.uip_edge.specs.Turns.{TurnsBy}
 use Rattle.uip_edge.proofs.Told.{none_more, took_all}
 
@@ -17,11 +17,11 @@ pub counted : (n : ℕ) (buf : List ℕ) → n ≤ length buf → length (map By
 counted n buf h = rw length-map (length-take-le n buf h)
 
 -- neither count rose, and then neither did
-pub calm_then : (old mid new : LineTold) → IsCalm old mid → IsCalm mid new → IsCalm old new
+pub calm_then : (old mid new : LineView) → IsCalm old mid → IsCalm mid new → IsCalm old new
 calm_then old mid new a b = record { link = b.link ∙ a.link; sink = b.sink ∙ a.sink }
 
--- the cause of the end that a turn tells, behind the items that were taken before
-pub ends_by : (n : ℕ) (taken items : List Item) (old mid new : LineTold) (end : ServeEnd)
+-- the cause of the end that a turn reports, after the items that were taken before
+pub ends_by : (n : ℕ) (taken items : List Item) (old mid new : LineView) (end : ServeEnd)
     → Consumes old.link.coming mid.link.coming taken → length taken < n → length items + length taken ≤ n
     → IsCalm old mid → TurnsBy mid new items (Ended end) → EndsBy n old new (taken ++ items) end
 ends_by n taken items old mid new ends.End c below fits calm t =

@@ -1,28 +1,28 @@
--- Texts written one behind another.
+-- Texts written one after the other.
 use Rattle.std.proofs.Common.{◌≡◌, ℕ, List, [], ◌++◌, refl, sym, subst, Result, Ok, Err, IsErr, arith}
 use Rattle.std.specs.Io.KnownBytes.{Appends}
 use Rattle.uip_edge.specs.Causes.{HasCause}
-use Rattle.uip_edge.specs.Told.{SinkTold}
+use Rattle.uip_edge.specs.Views.{SinkView}
 use Rattle.uip_edge.specs.Writing.{AppendsPrefix, Writes}
 use Rattle.uip_edge.proofs.Told.{Appends-none, Appends-then, prefix_more, prefix_then}
 
-pub writes_by : {T E : Type 0} (r : Result T E) (a b : SinkTold) (xs ys : List ℕ) → ys ≡ xs → Writes a b r xs → Writes a b r ys
+pub writes_by : {T E : Type 0} (r : Result T E) (a b : SinkView) (xs ys : List ℕ) → ys ≡ xs → Writes a b r xs → Writes a b r ys
 writes_by r a b xs ys e w = subst (λ (l : List ℕ). Writes a b r l) (sym e) w
 
 cause_then : {T E : Type 0} (r : Result T E) (a m b : ℕ) → m ≡ a → HasCause m b r → HasCause a b r
 cause_then r a m b e c = subst (λ (n : ℕ). HasCause n b r) e c
 
 -- a whole text, and then what a call made of the next one
-pub writes_then : {T E : Type 0} (r : Result T E) (a m b : SinkTold) (xs ys : List ℕ) → Appends a.written m.written xs → m.faults ≡ a.faults
+pub writes_then : {T E : Type 0} (r : Result T E) (a m b : SinkView) (xs ys : List ℕ) → Appends a.written m.written xs → m.faults ≡ a.faults
     → Writes m b r ys → Writes a b r (xs ++ ys)
 writes_then (Ok x) a m b xs ys p same w = record {
   whole = Appends-then a.written m.written b.written xs ys p w.whole;
-  front = tt;
+  prefix = tt;
   cause = cause_then (Ok x) a.faults m.faults b.faults same w.cause;
 }
 writes_then (Err x) a m b xs ys p same w = record {
   whole = tt;
-  front = prefix_then a.written m.written b.written xs ys p w.front;
+  prefix = prefix_then a.written m.written b.written xs ys p w.prefix;
   cause = cause_then (Err x) a.faults m.faults b.faults same w.cause;
 }
 
@@ -30,27 +30,27 @@ fails_as : {T U E F : Type 0} (r : Result T E) → IsErr r → (x : F) (a b : �
 fails_as (Ok y) h x a b c = absurd (cc h)
 fails_as (Err y) h x a b c = record { later = c.later; same = tt; failed = c.failed }
 
-broken : {T U E F : Type 0} (r : Result T E) → IsErr r → (x : F) (a b : SinkTold) (text : List ℕ) → AppendsPrefix a.written b.written text
+broken : {T U E F : Type 0} (r : Result T E) → IsErr r → (x : F) (a b : SinkView) (text : List ℕ) → AppendsPrefix a.written b.written text
     → HasCause {T = U} a.faults b.faults (Err x) → Writes a b r text
 broken (Ok y) h x a b text p c = absurd (cc h)
-broken (Err y) h x a b text p c = record { whole = tt; front = p; cause = fails_as (Err y) h x a.faults b.faults c }
+broken (Err y) h x a b text p c = record { whole = tt; prefix = p; cause = fails_as (Err y) h x a.faults b.faults c }
 
--- a failed call behind a whole text, where more was to follow: the answer is a failure too
-pub writes_broken : {T U E F : Type 0} (r : Result T E) → IsErr r → (x : F) (a m b : SinkTold) (xs ys more whole : List ℕ) → (xs ++ ys) ++ more ≡ whole
+-- a failed call after a whole text, if more was to follow: the result is a failure too
+pub writes_broken : {T U E F : Type 0} (r : Result T E) → IsErr r → (x : F) (a m b : SinkView) (xs ys more whole : List ℕ) → (xs ++ ys) ++ more ≡ whole
     → Appends a.written m.written xs → m.faults ≡ a.faults → Writes {T = U} m b (Err x) ys → Writes a b r whole
 writes_broken {U = U} r h x a m b xs ys more whole e p same w =
     let here = writes_then {T = U} (Err x) a m b xs ys p same w in
-    broken {U = U} r h x a b whole (prefix_more a.written b.written (xs ++ ys) more whole e here.front) here.cause
+    broken {U = U} r h x a b whole (prefix_more a.written b.written (xs ++ ys) more whole e here.prefix) here.cause
 
 -- nothing was written
-pub writes_none : {T E : Type 0} (a : SinkTold) (t : T) → Writes {T = T} {E = E} a a (Ok t) []
-writes_none a t = record { whole = Appends-none a.written; front = tt; cause = record { later = omega arith; same = refl; failed = tt } }
+pub writes_none : {T E : Type 0} (a : SinkView) (t : T) → Writes {T = T} {E = E} a a (Ok t) []
+writes_none a t = record { whole = Appends-none a.written; prefix = tt; cause = record { later = omega arith; same = refl; failed = tt } }
 
 -- the first text was written, and then the second
-pub writes_both : {T U E F : Type 0} (a m b : SinkTold) (t : T) (r : Result U E) (xs ys : List ℕ) → Writes {T = T} {E = F} a m (Ok t) xs → Writes m b r ys
+pub writes_both : {T U E F : Type 0} (a m b : SinkView) (t : T) (r : Result U E) (xs ys : List ℕ) → Writes {T = T} {E = F} a m (Ok t) xs → Writes m b r ys
     → Writes a b r (xs ++ ys)
 writes_both a m b t r xs ys w v = writes_then r a m b xs ys w.whole w.cause.same v
 
 -- the first text failed, and so did both
-pub writes_stop : {T U E F : Type 0} (a b : SinkTold) (x : F) (r : Result T E) (xs ys : List ℕ) → IsErr r → Writes {T = U} a b (Err x) xs → Writes a b r (xs ++ ys)
-writes_stop {U = U} a b x r xs ys h w = broken {U = U} r h x a b (xs ++ ys) (prefix_more a.written b.written xs ys (xs ++ ys) refl w.front) w.cause
+pub writes_stop : {T U E F : Type 0} (a b : SinkView) (x : F) (r : Result T E) (xs ys : List ℕ) → IsErr r → Writes {T = U} a b (Err x) xs → Writes a b r (xs ++ ys)
+writes_stop {U = U} a b x r xs ys h w = broken {U = U} r h x a b (xs ++ ys) (prefix_more a.written b.written xs ys (xs ++ ys) refl w.prefix) w.cause

@@ -1,21 +1,21 @@
--- When a call of the outside may answer that it failed: only where the object's count of faults rose in that call.
+-- When a call of an outside object may fail: only if the object's fault count rose in that call.
 use Rattle.std.specs.Prelude.{◌≡◌, ◌+◌, ◌-◌, ◌^◌, ◌<◌, ◌≤◌, min, ℕ, Result, OnOk, OnErr}
 
--- one more; a count stays at 2^64 - 1, its end value
+-- One more; a count stays at its greatest value, 2^64 - 1.
 abbrev pub counted_on : ℕ → ℕ
 counted_on count = min (count + 1) (2 ^ 64 - 1)
 
--- the count rose, or stands at its end value
+-- The count rose, or is at its greatest value.
 abbrev pub Rose : ℕ → ℕ → Type 0
 Rose before now = counted_on before ≤ now
 
--- the count never falls, stays where the call did not fail, and rose where it failed
+-- The count never falls. It stays if the call succeeded, and rose if it failed.
 pub record HasCause {T E : Type 0} (before now : ℕ) (result : Result T E) : Type 0 where
   pub later : before ≤ now
   pub same : OnOk result (now ≡ before)
   pub failed : OnErr result (Rose before now)
 
--- No call failed: the count did not rise, and does not stand at its end value.
+-- No call failed: the count did not rise, and is not at its greatest value.
 pub record IsUnfailed (before now : ℕ) : Type 0 where
   pub same : now ≡ before
   pub below : before < 2 ^ 64 - 1

@@ -1,4 +1,4 @@
--- What a call of a link takes from the items that are still to come.
+-- What a call of a link takes from the items to come.
 use Rattle.std.specs.Prelude.{◌≡◌, ◌<◌, ◌≤◌, ◌++◌, ℕ, List, [], ◌∷◌, take, map, Option, None, Some, Result, Ok, Err, ⊤}
 use Rattle.uip_edge.specs.declared.item.Item.{Item}
 use Rattle.uip_edge.specs.declared.item.Item.TheVariants as item
@@ -6,33 +6,33 @@ use Rattle.uip_edge.specs.declared.got.Got.{Got}
 use Rattle.uip_edge.specs.declared.got.Got.TheVariants as got
 use Rattle.uip_edge.specs.declared.failed.Failed.{Failed}
 
--- the items that an answer stands for, with its bytes at the front of the buffer
+-- The items that a result represents, with its bytes at the start of the buffer.
 abbrev pub items_of : Result Got Failed → List ℕ → List Item
 items_of (Ok (got.Bytes n)) buf = map item.Byte (take n buf)
 items_of (Ok got.Quiet) buf = item.Quiet ∷ []
 items_of (Ok got.End) buf = []
 items_of (Err e) buf = []
 
--- bytes are at least one, and fit the buffer
+-- Bytes are at least one, and fit in the buffer.
 abbrev pub CountFits : Result Got Failed → ℕ → Type 0
 CountFits (Ok (got.Bytes n)) room = (0 < n) × (n ≤ room)
 CountFits (Ok got.Quiet) room = ⊤
 CountFits (Ok got.End) room = ⊤
 CountFits (Err e) room = ⊤
 
--- the bytes among the items; a silence is none
+-- The bytes among the items; a silence has none.
 abbrev pub bytes_among : List Item → List ℕ
 bytes_among [] = []
 bytes_among (item.Byte b ∷ items) = b ∷ bytes_among items
 bytes_among (item.Quiet ∷ items) = bytes_among items
 
--- the items that are told begin with these, and lose them
+-- If the items to come are known, they begin with these, which are removed.
 abbrev pub Consumes : Option (List Item) → Option (List Item) → List Item → Type 0
 Consumes None new xs = ⊤
 Consumes (Some all) None xs = ⊥
 Consumes (Some all) (Some left) xs = all ≡ xs ++ left
 
--- the end is answered only where no item is told to come
+-- The end is reported only if no item is known to come.
 abbrev pub IsAtEnd : Result Got Failed → Option (List Item) → Type 0
 IsAtEnd (Ok got.End) (Some all) = all ≡ []
 IsAtEnd (Ok got.End) None = ⊤
@@ -40,7 +40,7 @@ IsAtEnd (Ok (got.Bytes n)) told = ⊤
 IsAtEnd (Ok got.Quiet) told = ⊤
 IsAtEnd (Err e) told = ⊤
 
--- the items are all that were told to come
+-- These are all items that were known to come.
 abbrev pub TookAll : Option (List Item) → List Item → Type 0
 TookAll None taken = ⊤
 TookAll (Some all) taken = all ≡ taken

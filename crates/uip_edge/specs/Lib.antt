@@ -3,7 +3,7 @@ pub mod Coming
 pub mod Ending
 pub mod Memory
 pub mod Shelving
-pub mod Telling
-pub mod Told
+pub mod ViewsOf
+pub mod Views
 pub mod Turns
 pub mod Writing

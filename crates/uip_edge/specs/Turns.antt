@@ -7,19 +7,19 @@ use Rattle.uip_edge.specs.declared.turn.Turn.{Turn}
 use Rattle.uip_edge.specs.declared.turn.Turn.TheVariants as turns
 use Rattle.uip_edge.specs.Causes.{Rose}
 use Rattle.uip_edge.specs.Coming.{TookAll}
-use Rattle.uip_edge.specs.Told.{IsCalm, LineTold}
+use Rattle.uip_edge.specs.Views.{IsCalm, LineView}
 
--- this holds of the number of items that a turn took, unless it ended
+-- P holds of the number of items that a turn took, unless it ended.
 abbrev pub IfTook : {E : Type 0} → Turn E → (ℕ → Type 0) → Type 0
 IfTook (turns.Took n) P = P n
 IfTook (turns.Ended end) P = ⊤
 
--- a turn takes at least one item and no more than there is room for
+-- A turn takes at least one item, and no more than there is room for.
 abbrev pub TurnFits : {E : Type 0} → Turn E → ℕ → Type 0
 TurnFits turn room = IfTook turn (λ n. (0 < n) × (n ≤ room))
 
--- the cause of what a turn tells that took these items
-abbrev pub TurnsBy : LineTold → LineTold → List Item → Turn ServeEnd → Type 0
+-- The cause of the result of a turn that took these items.
+abbrev pub TurnsBy : LineView → LineView → List Item → Turn ServeEnd → Type 0
 TurnsBy old new items (turns.Took n) = (length items ≡ n) × IsCalm old new
 TurnsBy old new items (turns.Ended ends.End) = (items ≡ []) × TookAll old.link.coming [] × IsCalm old new
 TurnsBy old new items (turns.Ended ends.LinkFault) =

@@ -1,3 +1,3 @@
-/// A call of the outside failed. The object's count of faults rose in that call.
+/// A call of an outside object failed. The object's fault count rose in that call.
 #[derive(Clone, Copy, Debug, PartialEq, Eq)]
 pub struct Failed;

@@ -1,10 +1,10 @@
-/// What one call of a link gave.
+/// What one call of a link returned.
 #[derive(Clone, Copy, Debug, PartialEq, Eq)]
 pub enum Got {
-    /// So many bytes, at the front of the buffer.
+    /// This many bytes, at the start of the buffer.
     Bytes(usize),
     /// One silence.
     Quiet,
-    /// Nothing is left to come.
+    /// The end: nothing is left to come.
     End,
 }

@@ -1,6 +1,6 @@
-//! The outside of the stack: a shelf that files are read from, a line that bytes come in from and a sink that bytes go
-//! out to, as traits. Each counts its faults, so that a failure always has a cause that a caller can see, and may tell
-//! what it holds, so that a contract can speak of every byte. Forms of each in memory serve the tests and the replays.
+//! The outside of the stack as traits: a shelf to read files from, a link to receive bytes from and a sink to write bytes to. Each counts
+//! its faults, so that every failure has a cause that a caller can see. Its content may be known, so that a contract can state every byte.
+//! Implementations in memory serve the tests and the replays.
 #![tactic(auto)]
 
 mod failed;

@@ -6,16 +6,15 @@ ghost use Rattle.uip_edge.specs.Coming.{items_of, CountFits, Consumes, IsAtEnd};
 use crate::failed::Failed;
 use crate::got::Got;
 
-/// A line that items come in from.
+/// A link, from which items are received.
 pub trait Link {
-    /// The items that are still to come, where the link tells them.
+    /// The items to come, if they are known.
     ghost coming: { Self → Option (List Item) };
 
-    /// How often a call has failed. A count at 18446744073709551615 stays there.
+    /// The number of calls that failed. A count of 18446744073709551615 stays.
     ghost faults: { Self → ℕ };
 
-    /// Takes some bytes to the front of the buffer, or one silence. A failed call takes nothing and leaves the
-    /// contents of the buffer free.
+    /// Receives bytes, to the start of the buffer, or one silence. A failed call takes nothing and leaves the buffer unspecified.
     fn next(&mut self, buf: &mut [u8]) -> Result<Got, Failed>
         requires { 0 < length buf.old }
         ensures count { CountFits result (length buf.new) }

@@ -1,3 +1,5 @@
+//! A link in memory, of which planned calls fail.
+
 ghost use Rattle.std.specs.Prelude.{◌≡◌, ◌<◌, ◌≤◌, ◌↔◌, length, take, min, map, Contains, IsErr, IfOk, OnErr, Ok, Some};
 ghost use Rattle.uip_edge.specs.Causes.{HasCause, counted_on};
 ghost use Rattle.uip_edge.specs.Coming.{items_of, CountFits, Consumes, IsAtEnd};
@@ -10,7 +12,7 @@ use crate::item::Item;
 use crate::link::Link;
 use std::marker::Model;
 
-/// Copies the bytes at the front of the items, up to the first silence, as far as they fit.
+/// Copies the bytes at the start of the items, up to the first silence, as far as they fit.
 fn copy_run(items: &[Item], buf: &mut [u8]) -> usize
     ensures count { result ≡ min (length buf.new) (byte_run items.now) }
     ensures bytes { take result items.now ≡ map item.Byte (take result buf.new) }
@@ -39,7 +41,7 @@ pub fn copy_items(items: &[Item], most: usize, buf: &mut [u8]) -> Got
     }
 }
 
-/// How many items an answer takes.
+/// Returns the number of items that a result takes.
 pub fn count_of(got: Got) -> usize
     ensures { result ≡ item_count got }
 {
@@ -50,8 +52,7 @@ pub fn count_of(got: Got) -> usize
     }
 }
 
-/// A link in memory. A call gives at most `most` bytes, and the calls whose numbers, counted from 1, stand in `fails`
-/// fail.
+/// A link in memory. A call returns at most `most` bytes. The calls whose numbers, counted from 1, are in `fails` fail.
 #[derive(Drop)]
 pub struct MemLink {
     items: Vec<Item>,
@@ -94,7 +95,7 @@ impl MemLink {
         }
     }
 
-    /// The items that are still to come.
+    /// Returns the items to come.
     fn rest(&self) -> &[Item]
         ensures { result.now ≡ self.now.left }
     {
@@ -114,7 +115,7 @@ impl Link for MemLink {
         ensures end { IsAtEnd result (Some self.old.left) }
         ensures cause { HasCause self.old.faults self.new.faults result }
 
-        // A call fails exactly where its number is planned. Else it gives all that is there and fits.
+        // A call fails exactly if its number is planned. Else it returns all that is there and fits.
         ensures numbered { self.new.calls ≡ counted_on self.old.calls }
         ensures planned { IsErr result ↔ Contains self.old.fails self.new.calls }
         ensures counted { OnErr result (self.new.faults ≡ counted_on self.old.faults) }

@@ -1,3 +1,5 @@
+//! A shelf in memory, of which planned calls fail.
+
 ghost use Rattle.std.specs.Prelude.{◌≡◌, ◌<◌, ◌≤◌, ◌-◌, ◌↔◌, length, take, drop, min, Contains, IsErr, IfOk, IfSome, Some, None};
 ghost use Rattle.std.specs.Option.{option_copied};
 ghost use Rattle.uip_edge.specs.Causes.{counted_on};
@@ -8,7 +10,7 @@ use crate::held::Held;
 use crate::shelf::Shelf;
 use std::marker::Model;
 
-/// The bytes of the first file of that name.
+/// Returns the bytes of the first file of that name.
 fn content_of<'a>(files: &'a [Held], name: &[u8]) -> Option<&'a [u8]>
     ensures { option_copied result ≡ told_files files.now name.now }
 {
@@ -18,7 +20,7 @@ fn content_of<'a>(files: &'a [Held], name: &[u8]) -> Option<&'a [u8]>
         .map(|held| held.content.as_slice())
 }
 
-/// Copies the bytes from the place on, as far as they fit, and says how many.
+/// Copies the bytes from the offset on, as far as they fit, and returns how many.
 fn copy_from(content: &[u8], at: u64, buf: &mut [u8]) -> usize
     ensures count { result ≡ min (length buf.new) (length content.now - at) }
     ensures bytes { take result buf.new ≡ take result (drop at content.now) }
@@ -32,8 +34,8 @@ fn copy_from(content: &[u8], at: u64, buf: &mut [u8]) -> usize
     count
 }
 
-/// A shelf in memory. Of two files of one name the first one counts. The calls whose numbers, counted from 1, stand in
-/// `fails` fail and raise the count; a call with another name than the files have fails without.
+/// A shelf in memory. Of two files of one name the first counts. The calls whose numbers, counted from 1, are in `fails` fail and raise the
+/// count. A call with a name that no file has fails and leaves the count.
 #[derive(Drop)]
 pub struct MemShelf {
     files: Vec<Held>,
@@ -75,7 +77,7 @@ impl Shelf for MemShelf {
         ensures kept { (self.new.files ≡ self.old.files) × (self.new.fails ≡ self.old.fails) }
         ensures cause { HasShelfCause self.old.faults self.new.faults (Some (told_files self.old.files)) name.now result }
 
-        // A call fails exactly where its number is planned, which raises the count, or where the file is missing.
+        // A call fails exactly if its number is planned, which raises the count, or if the file is missing.
         ensures numbered { self.new.calls ≡ counted_on self.old.calls }
         ensures planned { Contains self.old.fails self.new.calls → IsErr result × (self.new.faults ≡ counted_on self.old.faults) }
         ensures unplanned { ¬ (Contains self.old.fails self.new.calls)

@@ -1,3 +1,5 @@
+//! A sink in memory, of which planned calls fail.
+
 ghost use Rattle.std.specs.Prelude.{◌≡◌, ◌<◌, ◌≤◌, ◌-◌, ◌↔◌, ◌⊎◌, [], length, min, Contains, IsErr, IfOk, OnErr, Some};
 ghost use Rattle.std.specs.Io.KnownBytes.{WriteAppends};
 ghost use Rattle.uip_edge.specs.Causes.{HasCause, counted_on};
@@ -8,8 +10,8 @@ use crate::sink::Sink;
 use std::alloc::Global;
 use std::marker::Model;
 
-/// A sink in memory with a fixed room. The calls whose numbers, counted from 1, stand in `fails` fail, and so does a
-/// write where no room is left.
+/// A sink in memory with a fixed capacity in bytes. The calls whose numbers, counted from 1, are in `fails` fail, and so does a write if no
+/// room is left.
 #[derive(Drop)]
 pub struct MemSink {
     text: Vec<u8>,
@@ -33,12 +35,12 @@ impl Model for MemSink {
       faults = sink.faults;
     } };
 
-    // The room was taken at the start, so that no write takes memory.
+    // The capacity was allocated at the start, so that no write allocates.
     ghost invariant = { λ sink. (length sink.text.items ≤ sink.room) × (sink.room ≤ vec_capacity sink.text) };
 }
 
 impl MemSink {
-    /// An empty sink. Its room is taken here, so that no write takes memory.
+    /// Returns an empty sink. Allocates its capacity here, so that no write allocates.
     pub fn new(alloc: Global, room: usize, fails: Vec<u64>) -> Result<MemSink, NoMemory>
         ensures { IfOk result (λ sink. sink ≡ record { text = []; room = room; fails = fails.items; calls = 0; faults = 0 }) }
     {
@@ -54,7 +56,7 @@ impl MemSink {
         }
     }
 
-    /// What was written.
+    /// Returns what was written.
     pub fn written(&self) -> &[u8]
         ensures { result.now ≡ self.now.text }
     {
@@ -73,7 +75,7 @@ impl Sink for MemSink {
         ensures bytes { WriteAppends (Some self.old.text) (Some self.new.text) result piece.now }
         ensures cause { HasCause self.old.faults self.new.faults result }
 
-        // A call fails exactly where its number is planned, or where a piece comes and no room is left.
+        // A call fails exactly if its number is planned, or if the piece is not empty and no room is left.
         ensures numbered { self.new.calls ≡ counted_on self.old.calls }
         ensures planned { IsErr result
             ↔ (Contains self.old.fails self.new.calls ⊎ ((0 < length piece.now) × (self.old.room ≤ length self.old.text))) }

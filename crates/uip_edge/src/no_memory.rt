@@ -1,6 +1,6 @@
 use std::alloc::{AllocError, AllocFailed};
 
-/// There was not enough memory. This is the one answer without a stated cause.
+/// Out of memory. This is the one failure without a stated cause.
 #[derive(Clone, Copy, Debug, PartialEq, Eq)]
 pub struct NoMemory;
 

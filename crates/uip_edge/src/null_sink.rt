@@ -5,7 +5,7 @@ ghost use Rattle.uip_edge.specs.Causes.{HasCause};
 use crate::failed::Failed;
 use crate::sink::Sink;
 
-/// A sink that takes each piece whole, tells nothing and never fails.
+/// A sink that accepts each piece whole, has no known content and never fails.
 #[derive(Drop)]
 pub struct NullSink;
 

@@ -1,12 +1,12 @@
 /// How the serving of a line ended.
 #[derive(Clone, Copy, Debug, PartialEq, Eq)]
 pub enum ServeEnd {
-    /// The link answered its end.
+    /// The link reported its end.
     End,
     /// A call of the link failed.
     LinkFault,
     /// A call of the sink failed.
     WriteFault,
-    /// As many items as were allowed were taken.
+    /// The number of items allowed was taken.
     Budget,
 }

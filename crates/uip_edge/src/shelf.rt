@@ -3,16 +3,16 @@ ghost use Rattle.uip_edge.specs.Shelving.{Files, Reads, HasShelfCause};
 
 use crate::failed::Failed;
 
-/// A place that files are read from.
+/// A shelf, from which files are read.
 pub trait Shelf {
-    /// The files that the shelf holds, where it tells them. No call changes them.
+    /// The files of the shelf, if they are known. No call changes them.
     ghost held: { Self → Option Files };
 
-    /// How often the shelf has failed. A count at 18446744073709551615 stays there.
+    /// The number of calls that failed. A count of 18446744073709551615 stays.
     ghost faults: { Self → ℕ };
 
-    /// Reads the file's bytes from the place `at` on to the front of the buffer, and says how many. A failed call leaves
-    /// the contents of the buffer free.
+    /// Reads the file's bytes from offset `at` on to the start of the buffer, and returns how many. A failed call leaves the buffer
+    /// unspecified.
     fn read(&mut self, name: &[u8], at: u64, buf: &mut [u8]) -> Result<usize, Failed>
         requires { 0 < length buf.old }
         ensures within { IfOk result (λ n. n ≤ length buf.new) }

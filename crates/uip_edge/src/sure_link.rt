@@ -10,7 +10,7 @@ use crate::link::Link;
 use crate::mem_link::{copy_items, count_of};
 use std::marker::Model;
 
-/// A link in memory of which no call fails. A call gives at most `most` bytes.
+/// A link in memory of which no call fails. A call returns at most `most` bytes.
 #[derive(Drop)]
 pub struct SureLink {
     items: Vec<Item>,
@@ -37,7 +37,7 @@ impl SureLink {
         SureLink { items, at: 0, most }
     }
 
-    /// The items that are still to come.
+    /// Returns the items to come.
     fn rest(&self) -> &[Item]
         ensures { result.now ≡ self.now.left }
     {

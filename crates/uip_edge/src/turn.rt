@@ -1,4 +1,4 @@
-/// What became of one turn at a line: so many items were taken, or it ended so.
+/// The result of one turn at a line: the number of items taken, or how it ended.
 pub enum Turn<E> {
     Took(u64),
     Ended(E),

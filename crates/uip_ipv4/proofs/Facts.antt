@@ -1,4 +1,5 @@
--- What holds of a datagram that passes every check.
+-- What holds for a datagram that passes every check.
+-- [add: fate] IP: what holds of a datagram that passes the further check.
 use Rattle.std.proofs.Common.{◌≡◌, ℕ, ◌%◌, ◌≤◌, Bool, true, false, not, ◌||◌, List, length, take, slice_index, refl, sym, ap, arith, ltb, eqb, if◌then◌else◌, Ok, Err, Result, Option, Some, None}
 use Rattle.std.proofs.lemmas.Grind.{common_steps}
 use Rattle.std.specs.Str.{bytes_eq}

@@ -1,5 +1,6 @@
 -- The checks on a header worked by hand, an echo request of 28 bytes from 10.0.0.2 to 10.0.0.1, and on changes of it: each
 -- fate at its first and its last length, and the earlier of two fates.
+-- [add: fate] IP: a row for the fate, at its first and its last length.
 use Rattle.std.proofs.Common.{◌≡◌, ℕ, List, [], ◌∷◌, map, Result, Ok, Err, refl}
 use Rattle.uip_ipv4.specs.declared.fate.IpFate.{IpFate}
 use Rattle.uip_ipv4.specs.declared.head.IpHead.{IpHead}
@@ -14,7 +15,7 @@ own = 10 ∷ 0 ∷ 0 ∷ 1 ∷ []
 abbrev peer : List ℕ
 peer = 10 ∷ 0 ∷ 0 ∷ 2 ∷ []
 
--- Datagrams, and what the header of each says or its fate.
+-- Datagrams, with the header of each or its fate.
 abbrev head_rows : List (List ℕ × Result IpHead IpFate)
 head_rows =
     ([], Err Short)  -- short empty

@@ -1,13 +1,14 @@
-/// Why a datagram is not taken, in the order of the checks.
+/// Why a datagram is dropped, in the order of the checks.
+/// [add: fate] IP: a variant, in the order of the checks.
 #[derive(Clone, Copy, Debug, PartialEq, Eq)]
 pub enum IpFate {
-    /// Fewer than 20 bytes.
+    /// It has fewer than 20 bytes.
     Short,
-    /// Another version than 4, or a header with options.
+    /// It has another version than 4, or a header with options.
     Version,
-    /// A total length below the header's, or above what was received.
+    /// Its total length is below the header's, or above what was received.
     Length,
-    /// A part of a larger datagram.
+    /// It is a fragment of a larger datagram.
     Fragment,
     /// The header's checksum is wrong.
     Checksum,

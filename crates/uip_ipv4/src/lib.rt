@@ -1,5 +1,5 @@
-//! The header of IPv4 without options: the checks of a received one, with the first that fails as the datagram's fate, and
-//! the header that this node writes. It stands on `uip_wire` alone and looks at no byte behind the header.
+//! The IPv4 header without options (RFC 791): the checks of a received one, and the header that this node writes. The first check that
+//! fails is the datagram's fate. It needs `uip_wire` alone and reads no byte after the header.
 #![tactic(auto)]
 
 mod fate;

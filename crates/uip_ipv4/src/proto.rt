@@ -1,7 +1,7 @@
 ghost use Rattle.std.specs.Prelude.{◌≡◌};
 ghost use Rattle.uip_ipv4.specs.Head.{number_of, proto_of};
 
-/// What a datagram carries (RFC 790).
+/// The protocol of a datagram (RFC 790).
 #[derive(Clone, Copy, Debug, PartialEq, Eq)]
 pub enum Proto {
     /// Protocol 1.
@@ -11,7 +11,7 @@ pub enum Proto {
 }
 
 impl Proto {
-    /// The protocol of this number, if it is one of ours.
+    /// Returns the protocol of this number, if it is one of ours.
     pub(crate) fn from_number(number: u8) -> Option<Proto>
         ensures { result ≡ proto_of number }
     {
@@ -22,7 +22,7 @@ impl Proto {
         }
     }
 
-    /// The protocol's number.
+    /// Returns the protocol's number.
     pub(crate) fn number(self) -> u8
         ensures { result ≡ number_of self }
     {

@@ -1,3 +1,5 @@
+//! The checks of a received header (RFC 791, section 3.1).
+
 ghost use Rattle.std.specs.Prelude.{◌≡◌, ◌≤◌, IfOk, length};
 ghost use Rattle.uip_ipv4.specs.Head.{IsHeadOf, head_or_fate};
 
@@ -6,7 +8,8 @@ use crate::head::IpHead;
 use crate::proto::Proto;
 use uip_wire::{Addr, checksum, get16};
 
-/// The header of a datagram to the address `own`, or the first check that fails.
+/// Returns the header of a datagram to the address `own`, or the first check that fails.
+/// [add: fate] IP: its check.
 #[tactic(auto, unfolding(crate::specs::Head::head_or_fate))]
 #[inline(always)]
 pub fn check(bytes: &[u8], own: Addr) -> Result<IpHead, IpFate>

@@ -1,10 +1,12 @@
+//! The header that is sent (RFC 791, section 3.1).
+
 ghost use Rattle.std.specs.Prelude.{◌≡◌, ◌≤◌, ◌++◌, length, drop};
 ghost use Rattle.uip_ipv4.specs.Head.{ReadsBack, head_bytes, numbered_head, numbered_with};
 
 use crate::proto::Proto;
 use uip_wire::{Addr, checksum, put16};
 
-/// Writes a header before a datagram that is sent, with no options, 64 hops to live and its checksum.
+/// Writes a header before a datagram, with no options, a time to live of 64 and its checksum.
 #[tactic(auto, unfolding(crate::specs::Head::head_bytes, crate::specs::Head::numbered_head))]
 pub fn put_head(out: &mut [u8], total: u16, id: u16, proto: Proto, source: Addr, target: Addr)
     requires { 20 ≤ length out.old }
@@ -13,7 +15,7 @@ pub fn put_head(out: &mut [u8], total: u16, id: u16, proto: Proto, source: Addr,
     put_numbered_head(out, total, id, proto.number(), source, target);
 }
 
-/// Writes the same for the protocol of this number (RFC 790), which need not be one that `check` takes.
+/// Writes the same for the protocol of this number (RFC 790), which need not be one that `check` accepts.
 #[tactic(auto, unfolding(crate::specs::Head::numbered_head))]
 pub fn put_numbered_head(
     out: &mut [u8],
@@ -32,12 +34,12 @@ pub fn put_numbered_head(
     out[..20].copy_from_slice(&head);
 }
 
-/// A header that was written before a whole datagram passes every check and says what was written.
+/// A header that was written before a whole datagram passes every check and is read back as written.
 pub fn reads_back()
     ensures { ReadsBack }
 {}
 
-/// The header with 0 in place of its checksum.
+/// Returns the header with 0 in place of its checksum.
 fn head_without_sum(total: u16, id: u16, number: u8, source: Addr, target: Addr) -> [u8; 20]
     ensures { result ≡ numbered_with 0 total id number source.0 target.0 }
 {

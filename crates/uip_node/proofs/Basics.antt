@@ -5,10 +5,10 @@ use Rattle.std.proofs.lemmas.List.{take-append-le, take-append-drop}
 use Rattle.std.proofs.Math.Seq.{take-add}
 use Rattle.uip_wire.specs.Numbers.{wrap}
 use Rattle.tcp_segment.specs.Segments.{PlainSegment, has_syn, has_fin}
-use Rattle.tcp_machine.specs.Segments.{has_place}
+use Rattle.tcp_machine.specs.Segments.{occupies_sequence_space}
 use Rattle.app_events.specs.Laws.{IsPrefixOf}
 
--- a text stands in a page at a place
+-- a text is a slice of a page at an offset
 pub record IsPart (page text : List ℕ) (at : ℕ) : Type 0 where
   pub fits : at + length text ≤ length page
   pub same : text ≡ take (length text) (drop at page)
@@ -52,7 +52,7 @@ part_none p = record { fits = omega arith; same = refl }
 prefix_is_part : (p xs : List ℕ) → IsPrefixOf xs p → IsPart p xs 0
 prefix_is_part p xs h = subst (λ x. IsPart x xs 0) h.joined (let own : IsPart xs xs 0 = record { fits = omega arith; same = sym (Rattle.std.proofs.Math.Seq.take-length xs) } in part_grows xs h.rest xs 0 own)
 
--- a front of a text, and the part that follows it
+-- a prefix of a text, and the part that follows it
 pub prefix_joins : (p xs ys : List ℕ) → IsPrefixOf xs p → IsPart p ys (length xs) → IsPrefixOf (xs ++ ys) p
 prefix_joins p xs ys h g = part_prefix p (xs ++ ys) (part_joins p xs ys (prefix_is_part p xs h) g)
 
@@ -119,11 +119,11 @@ pub not-true : (b : Bool) → not b ≡ true → b ≡ false
 not-true false h = refl
 not-true true h = absurd (cc)
 
--- text that is not answered at once stands where it is expected
-pub in_place : (s : PlainSegment) (n : ℕ) → has_place s && not (eqb s.seq n) ≡ false → 0 < length s.text → s.seq ≡ n
+-- text that is not replied to at once is at the expected number
+pub in_place : (s : PlainSegment) (n : ℕ) → occupies_sequence_space s && not (eqb s.seq n) ≡ false → 0 < length s.text → s.seq ≡ n
 in_place s n f h =
-    let a : has_place s ≡ true = or_left (ltb 0 (length s.text)) (has_syn s.flags || has_fin s.flags) (ltb-yes (length s.text) h) in
-    elim (and_false (has_place s) (not (eqb s.seq n)) f) [ inl x ↦ absurd (cc) | inr y ↦ eqb-eq s.seq n (not-false (eqb s.seq n) y) ]
+    let a : occupies_sequence_space s ≡ true = or_left (ltb 0 (length s.text)) (has_syn s.flags || has_fin s.flags) (ltb-yes (length s.text) h) in
+    elim (and_false (occupies_sequence_space s) (not (eqb s.seq n)) f) [ inl x ↦ absurd (cc) | inr y ↦ eqb-eq s.seq n (not-false (eqb s.seq n) y) ]
 
 -- a fact about a choice, by its two cases. In place of `rw`, which takes records apart
 pub choose : {A : Type 0} (P : A → Type 0) (b : Bool) (x y : A) → (b ≡ true → P x) → (b ≡ false → P y) → P (if b then x else y)
@@ -145,6 +145,6 @@ cut_length p at n h = simp (length-take, length-drop) (omega arith)
 pub only_some : {X : Type 0} (P : X → Type 0) (s x : X) → Some s ≡ Some x → P s → P x
 only_some P s x e h = subst P (let f : s ≡ x = cc in f) h
 
-pub nothing_placed : (s : PlainSegment) → has_syn s.flags ≡ false → has_fin s.flags ≡ false → s.text ≡ [] → has_place s ≡ true → ⊥
+pub nothing_placed : (s : PlainSegment) → has_syn s.flags ≡ false → has_fin s.flags ≡ false → s.text ≡ [] → occupies_sequence_space s ≡ true → ⊥
 nothing_placed s a b c h =
     let z : ltb 0 (length s.text) || (has_syn s.flags || has_fin s.flags) ≡ false = ap (λ t. ltb 0 (length t) || (has_syn s.flags || has_fin s.flags)) c ∙ ap (λ x. x || has_fin s.flags) a ∙ b in absurd (cc)

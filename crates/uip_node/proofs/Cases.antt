@@ -3,7 +3,7 @@ use Rattle.std.proofs.Common.{◌≡◌, ℕ, ◌+◌, Bool, true, false, List, 
 use Rattle.tcp_machine.specs.declared.ticking.TheConstants.{REST_TIME}
 use Rattle.rexmit_timer.specs.Ages.{beat_at}
 use Rattle.rexmit_timer.specs.declared.timer.Beat.{Beat}
-use Rattle.app_events.specs.Part.{Meaning}
+use Rattle.app_events.specs.AppSpec.{AppSpec}
 use Rattle.app_events.specs.declared.now.Now.{Now}
 use Rattle.app_events.specs.declared.state.State.{State}
 use Rattle.app_events.specs.declared.state.State.TheVariants.{Closed, SynRcvd, Established, CloseWait, FinWait1, FinWait2, Closing, TimeWait, LastAck}
@@ -11,7 +11,7 @@ use Rattle.app_events.specs.declared.want.Want.{Want}
 use Rattle.app_events.specs.declared.want.Want.TheVariants.{Nothing, Send, Close, Abort}
 use Rattle.tcp_machine.specs.Connection.{Connection, is_live, is_resting}
 use Rattle.tcp_machine.specs.Ask.{Outcome, after_own_fin, leaves, closes, peer_has_closed, idles, does_as_wanted, ask, asked_for, asked}
-use Rattle.tcp_machine.specs.Stands.{is_open}
+use Rattle.tcp_machine.specs.Represents.{is_open}
 use Rattle.tcp_machine.specs.OnTick.{limit_of, grows_older, outstanding, by_beat, rests_on, polls, ticks_established, tick_by, on_tick}
 use Rattle.tcp_machine.specs.declared.step.Step.{Step}
 use Rattle.uip_node.proofs.Basics.{choose, ltb-zero}
@@ -56,21 +56,21 @@ is_ask _ = false
 -- what an application that is asked leaves as it was
 pub record Unmoved (c d : Connection) : Type 0 where
   pub sockets : d.sockets ≡ c.sockets
-  pub peer_first : d.peer_first ≡ c.peer_first
+  pub irs : d.irs ≡ c.irs
   pub taken : d.taken ≡ c.taken
-  pub first : d.first ≡ c.first
+  pub iss : d.iss ≡ c.iss
   pub acked : d.acked ≡ c.acked
   pub part : d.part ≡ c.part
 
-module _ (m : Meaning) where
+module _ (m : AppSpec) where
   pub wanted_unmoved : (w : Want) (fresh : Bool) (c : Connection) (numbers : List ℕ) → Unmoved c (does_as_wanted w fresh c numbers).connection
   unfolding idles
-  wanted_unmoved Abort fresh c numbers = record { sockets = refl; peer_first = refl; taken = refl; first = refl; acked = refl; part = refl }
-  wanted_unmoved Close fresh c numbers = record { sockets = refl; peer_first = refl; taken = refl; first = refl; acked = refl; part = refl }
-  wanted_unmoved (Send n) fresh c numbers = record { sockets = refl; peer_first = refl; taken = refl; first = refl; acked = refl; part = refl }
+  wanted_unmoved Abort fresh c numbers = record { sockets = refl; irs = refl; taken = refl; iss = refl; acked = refl; part = refl }
+  wanted_unmoved Close fresh c numbers = record { sockets = refl; irs = refl; taken = refl; iss = refl; acked = refl; part = refl }
+  wanted_unmoved (Send n) fresh c numbers = record { sockets = refl; irs = refl; taken = refl; iss = refl; acked = refl; part = refl }
   wanted_unmoved Nothing fresh c numbers =
-      let same : Unmoved c c = record { sockets = refl; peer_first = refl; taken = refl; first = refl; acked = refl; part = refl } in
-      choose (λ (o : Outcome). Unmoved c o.connection) (peer_has_closed c.state) _ _ (λ e. record { sockets = refl; peer_first = refl; taken = refl; first = refl; acked = refl; part = refl })
+      let same : Unmoved c c = record { sockets = refl; irs = refl; taken = refl; iss = refl; acked = refl; part = refl } in
+      choose (λ (o : Outcome). Unmoved c o.connection) (peer_has_closed c.state) _ _ (λ e. record { sockets = refl; irs = refl; taken = refl; iss = refl; acked = refl; part = refl })
       (λ e. choose (λ (o : Outcome). Unmoved c o.connection) fresh _ _ (λ f. same) (λ f. same))
 
   asked_for_by : (P : Outcome → Type 0) (at : Connection → Now) (o : Outcome) (s : Step) → ((fresh : Bool) → s ≡ Step.Ask fresh → P (ask m (at o.connection) fresh o.connection o.numbers)) → P o → P (asked_for m at o s)
@@ -93,7 +93,8 @@ module _ (m : Meaning) where
   no_ask_again Closed = refl
   no_ask_again _ = refl
 
-  -- a fact about a tick: nothing is there, the timer of what is outstanding beats, a rest goes on or ends, or the application hears of it
+  -- a fact about a tick: no connection is there, the timer of what is outstanding runs, a rest continues or ends, or the application is
+  -- polled
   pub record OfTick (P : Outcome → Type 0) (c : Connection) (numbers : List ℕ) : Type 0 where
     pub none : P (leaves c numbers Step.Drop)
     pub beats : is_resting c.state ≡ false → (b : Beat) → P (by_beat m b c numbers)

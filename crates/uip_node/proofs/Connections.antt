@@ -102,7 +102,7 @@ is_served p (c ∷ cs) =
       | free f ↦ free (free_more p c cs e f)
     ])
 
--- what the search for a connection tells
+-- the result of the search for a connection
 pub data Finds (p : Sockets) (at : ℕ) (table : List Connection) (found : Option ℕ) : Type 0 where
   finds : (i : ℕ) → found ≡ Some (at + i) → slice_get table i ≡ Some (serving p table) → serves p (serving p table) ≡ true → Finds p at table found
   finds_none : found ≡ None → Free p table → Finds p at table found

@@ -71,10 +71,10 @@ words_of_low sum from to s u f t h =
 
 segment_low : (d : Datagram) → d.from < 65536 → d.to < 65536 → IsSoundSegment d.segment → All IsByte (segment_bytes d)
 segment_low d f t h =
-    let front : List ℕ = fixed_words (segment_sum d) d.from d.to d.segment in
-    let words : List ℕ = front ++ option_words d.segment.mss in
+    let prefix : List ℕ = fixed_words (segment_sum d) d.from d.to d.segment in
+    let words : List ℕ = prefix ++ option_words d.segment.mss in
     let sum : segment_sum d < 65536 = omega arith in
-    All-append IsByte (bytes_of words) d.segment.text (words_low words (each_joins IsShort front (option_words d.segment.mss) (words_of_low (segment_sum d) d.from d.to d.segment sum f t h) (options_low d.segment.mss h.mss))) h.text
+    All-append IsByte (bytes_of words) d.segment.text (words_low words (each_joins IsShort prefix (option_words d.segment.mss) (words_of_low (segment_sum d) d.from d.to d.segment sum f t h) (options_low d.segment.mss h.mss))) h.text
 
 options_len : (mss : Option ℕ) → length (option_words mss) ≤ 2
 options_len None = omega arith

@@ -1,4 +1,5 @@
 -- The slots that are found in the code's table and in the abstract node's.
+-- [add: state] Whether a slot in the state is found.
 use Rattle.std.proofs.Common.{ℕ, zero, suc, ◌≡◌, ◌+◌, ◌<◌, ◌&&◌, ◌==◌, Bool, true, false, not, max, List, [], ◌∷◌, length, Option, Some, None, ◌⊎◌, inl, inr, refl, sym, ap, ◌∙◌, subst, arith, nat_lt, if◌then◌else◌}
 use Rattle.std.specs.Prelude.{slice_get, position, bytes_eq}
 use Rattle.std.specs.List.{position_or_len}
@@ -15,14 +16,14 @@ use Rattle.tcp_table.specs.Slots as table
 use Rattle.tcp_table.specs.declared.conn.Conn.{Conn}
 use Rattle.tcp_machine.specs.Connection.{Connection, Sockets, is_resting, serves, same_sockets}
 use Rattle.tcp_machine.specs.Sound.{HasSoundNumbers, IsSound, LenFits}
-use Rattle.tcp_machine.specs.Stands.{ConnStands, IsLike}
+use Rattle.tcp_machine.specs.Represents.{ConnRepresents, IsLike}
 use Rattle.tcp_segment.specs.Segments.{PlainSegment}
 use Rattle.uip_node.specs.Node.{AbstractNode, arrives, arrives_at, opens, slot_for_syn}
-use Rattle.uip_node.specs.Slots.{AllKept, SlotsStand}
+use Rattle.uip_node.specs.Slots.{AllWellFormed, SlotsRepresent}
 use Rattle.uip_node.specs.Counted.{seen}
 use Rattle.uip_node.specs.Counters.{counters}
 use Rattle.uip_node.specs.Events.Event.{Arrived}
-use Rattle.uip_node.specs.StandsFor.{Stands, Steps}
+use Rattle.uip_node.specs.Represents.{Represents, Steps}
 use Rattle.tcp_machine.proofs.States.{by_state}
 use Rattle.uip_node.proofs.Stepping.{stands_later}
 use Rattle.uip_node.proofs.Twice.{recounted}
@@ -47,7 +48,7 @@ position_agrees p q xs ys e h =
     let same = or_len_agrees p q xs ys e h in
     cc
 
--- what is found stands there
+-- what is found is there
 pub found : {X : Type 0} (p : X → Bool) (xs : List X) (i : ℕ) → position p xs ≡ Some i → (i < length xs) × ((x : X) → slice_get xs i ≡ Some x → p x ≡ true)
 found p [] i h = cc
 found p (y ∷ ys) i h =
@@ -94,11 +95,11 @@ dead_at c a s e dead =
     ap (λ (b : Bool). b && (bytes_eq c.peer.0 s.peer.0 && ((c.peer_port.0 == s.peer_port.0) && (c.own_port.0 == s.own_port.0)))) f
     ∙ sym (ap (λ (b : Bool). b && same_sockets a.sockets s) dead)
 
-at_serves : {A S : Type 0} (g : Ghosts A S) (k : g.Kept) (c : Conn A) (a : Connection) (s : Sockets) → ConnStands g k c a → is_at s.peer s.peer_port s.own_port c ≡ serves s a
+at_serves : {A S : Type 0} (g : Ghosts A S) (k : g.Config) (c : Conn A) (a : Connection) (s : Sockets) → ConnRepresents g k c a → is_at s.peer s.peer_port s.own_port c ≡ serves s a
 at_serves g k c a s h =
     by_bool (is_live a.state) (λ live. live_at c a s (h.numbers.like live) h.numbers.state) (λ dead. dead_at c a s h.numbers.state dead)
 
-pub find_agrees : {A S : Type 0} (g : Ghosts A S) (k : g.Kept) (cs : List (Conn A)) (abstracts : List Connection) (s : Sockets) → SlotsStand g k cs abstracts →
+pub find_agrees : {A S : Type 0} (g : Ghosts A S) (k : g.Config) (cs : List (Conn A)) (abstracts : List Connection) (s : Sockets) → SlotsRepresent g k cs abstracts →
     position (is_at s.peer s.peer_port s.own_port) cs ≡ position (serves s) abstracts
 find_agrees g k cs abstracts s h =
     position_agrees (is_at s.peer s.peer_port s.own_port) (serves s) cs abstracts (sym h.same_length) (λ i c a at there. at_serves g k c a s (h.each i c a at there))
@@ -107,7 +108,7 @@ waits_alone : (state : State) → is_time_wait state ≡ true → state ≡ Time
 waits_alone state = by_state (λ s. is_time_wait s ≡ true → s ≡ TimeWait) (λ t. cc) (λ t. cc) (λ t. cc) (λ t. cc) (λ t. cc) (λ t. cc) (λ t. cc) (λ t. refl) (λ t. cc) state
 
 -- in TIME-WAIT the timer counts the age
-pub age_counted : {A S : Type 0} (g : Ghosts A S) (k : g.Kept) (c : Conn A) (a : Connection) → ConnStands g k c a → IsSound g k c → is_time_wait a.state ≡ true → c.timer.count ≡ a.age
+pub age_counted : {A S : Type 0} (g : Ghosts A S) (k : g.Config) (c : Conn A) (a : Connection) → ConnRepresents g k c a → IsSound g k c → is_time_wait a.state ≡ true → c.timer.count ≡ a.age
 age_counted g k c a h sound t =
     let waits : a.state ≡ TimeWait = waits_alone a.state t in
     let live : is_live a.state ≡ true = ap is_live waits in
@@ -119,7 +120,7 @@ if_waits : (b : Bool) (x y t : ℕ) → (b ≡ true → x ≡ y) → (b && (x ==
 if_waits true x y t h = ap (λ (n : ℕ). n == t) (h refl)
 if_waits false x y t h = refl
 
-waited_agrees : {A S : Type 0} (g : Ghosts A S) (k : g.Kept) (t : ℕ) (c : Conn A) (a : Connection) → ConnStands g k c a → IsSound g k c → has_waited t c ≡ (is_time_wait a.state && (a.age == t))
+waited_agrees : {A S : Type 0} (g : Ghosts A S) (k : g.Config) (t : ℕ) (c : Conn A) (a : Connection) → ConnRepresents g k c a → IsSound g k c → has_waited t c ≡ (is_time_wait a.state && (a.age == t))
 waited_agrees g k t c a h sound =
     ap (λ (s : State). is_time_wait s && (c.timer.count == t)) h.numbers.state
     ∙ if_waits (is_time_wait a.state) c.timer.count a.age t (age_counted g k c a h sound)
@@ -128,8 +129,8 @@ greater : (b : Bool) (x y rest more : ℕ) → (b ≡ true → x ≡ y) → rest
 greater true x y rest more h e = let same = h refl in cc
 greater false x y rest more h e = cc
 
-longest_agrees : {A S : Type 0} (g : Ghosts A S) (k : g.Kept) (cs : List (Conn A)) (abstracts : List Connection) → length cs ≡ length abstracts →
-    ((i : ℕ) (c : Conn A) (a : Connection) → slice_get cs i ≡ Some c → slice_get abstracts i ≡ Some a → ConnStands g k c a × IsSound g k c) → table.longest_rest cs ≡ longest_wait (λ (a : Connection). a.state) (λ (a : Connection). a.age) abstracts
+longest_agrees : {A S : Type 0} (g : Ghosts A S) (k : g.Config) (cs : List (Conn A)) (abstracts : List Connection) → length cs ≡ length abstracts →
+    ((i : ℕ) (c : Conn A) (a : Connection) → slice_get cs i ≡ Some c → slice_get abstracts i ≡ Some a → ConnRepresents g k c a × IsSound g k c) → table.longest_rest cs ≡ longest_wait (λ (a : Connection). a.state) (λ (a : Connection). a.age) abstracts
 longest_agrees g k [] [] e h = refl
 longest_agrees g k [] (a ∷ abstracts) e h = absurd (omega (arith, e))
 longest_agrees g k (c ∷ cs) [] e h = absurd (omega (arith, e))
@@ -139,7 +140,7 @@ longest_agrees g k (c ∷ cs) (a ∷ abstracts) e h =
     ap (λ (s : State). max (if is_time_wait s then c.timer.count else 0) (table.longest_rest cs)) here.0.numbers.state
     ∙ greater (is_time_wait a.state) c.timer.count a.age (table.longest_rest cs) (longest_wait (λ (a : Connection). a.state) (λ (a : Connection). a.age) abstracts) (age_counted g k c a here.0 here.1) rest
 
-pub slot_agrees : {A S : Type 0} (g : Ghosts A S) (k : g.Kept) (cs : List (Conn A)) (abstracts : List Connection) → SlotsStand g k cs abstracts → AllKept g k cs → table.slot_to_take cs ≡ slot_for_syn abstracts
+pub slot_agrees : {A S : Type 0} (g : Ghosts A S) (k : g.Config) (cs : List (Conn A)) (abstracts : List Connection) → SlotsRepresent g k cs abstracts → AllWellFormed g k cs → table.slot_to_take cs ≡ slot_for_syn abstracts
 slot_agrees {A} g k cs abstracts h kept =
     let size : length cs ≡ length abstracts = sym h.same_length in
     let free = position_agrees (λ (c : Conn A). not (is_live c.state)) (λ (a : Connection). not (is_live a.state)) cs abstracts size (λ i c a at there. ap (λ (s : State). not (is_live s)) (h.each i c a at there).numbers.state) in
@@ -169,23 +170,23 @@ slot_within cs i h = within (λ c. c.state) (λ c. c.timer.count) cs i h
 pub syn_slot_within : (cs : List Connection) (i : ℕ) → slot_for_syn cs ≡ Some i → i < length cs
 syn_slot_within cs i h = within (λ c. c.state) (λ c. c.age) cs i h
 
--- a segment comes to the slot that the code's table has for it
-pub arrives_by : {A S : Type 0} (g : Ghosts A S) (k : g.Kept) (cs : List (Conn A)) (n : AbstractNode) (s : Sockets) (seg : PlainSegment) (o : Option ℕ) (node : Node A S) (result : Option ℕ) →
-    SlotsStand g k cs n.connections → position (is_at s.peer s.peer_port s.own_port) cs ≡ o → Steps g node result (arrives_at (g.meaning k) g.served n s seg o) → Steps g node result (arrives (g.meaning k) g.served n s seg)
+-- a segment is delivered to the slot that the code's table has for it
+pub arrives_by : {A S : Type 0} (g : Ghosts A S) (k : g.Config) (cs : List (Conn A)) (n : AbstractNode) (s : Sockets) (seg : PlainSegment) (o : Option ℕ) (node : Node A S) (result : Option ℕ) →
+    SlotsRepresent g k cs n.connections → position (is_at s.peer s.peer_port s.own_port) cs ≡ o → Steps g node result (arrives_at (g.app_spec k) g.served n s seg o) → Steps g node result (arrives (g.app_spec k) g.served n s seg)
 arrives_by g k cs n s seg o node result stand here steps =
-    subst (λ (x : Option ℕ). Steps g node result (arrives_at (g.meaning k) g.served n s seg x)) (sym here ∙ find_agrees g k cs n.connections s stand) steps
+    subst (λ (x : Option ℕ). Steps g node result (arrives_at (g.app_spec k) g.served n s seg x)) (sym here ∙ find_agrees g k cs n.connections s stand) steps
 
--- a segment was counted, and comes to the slot that the code's table has for it
+-- a segment was counted, and is delivered to the slot that the code's table has for it
 pub arrived : {A S : Type 0} (g : Ghosts A S) (now : Node A S) (n : AbstractNode) (s : Sockets) (seg : PlainSegment) (o : Option ℕ) (net : List ℕ) (node : Node A S) (result : Option ℕ) →
-    Stands g now n n.past → position (is_at s.peer s.peer_port s.own_port) now.table.conns ≡ o → net ≡ counters (seen (Arrived s seg) n.past) →
-    (Stands g (record now { counts = record now.counts { net = net } }) n (seen (Arrived s seg) n.past) → Steps g node result (arrives_at (g.meaning (g.kept now.shared)) g.served n s seg o)) →
-    Steps g node result (arrives (g.meaning (g.kept now.shared)) g.served n s seg)
+    Represents g now n n.history → position (is_at s.peer s.peer_port s.own_port) now.table.conns ≡ o → net ≡ counters (seen (Arrived s seg) n.history) →
+    (Represents g (record now { counts = record now.counts { net = net } }) n (seen (Arrived s seg) n.history) → Steps g node result (arrives_at (g.app_spec (g.config now.shared)) g.served n s seg o)) →
+    Steps g node result (arrives (g.app_spec (g.config now.shared)) g.served n s seg)
 arrived g now n s seg o net node result h here e steps =
-    arrives_by g (g.kept now.shared) now.table.conns n s seg o node result h.slots here
-    (steps (stands_later g now now.packet (record now.counts { net = net }) n n.past (seen (Arrived s seg) n.past) n.past h h.iss (recounted (Arrived s seg) n.past now.counts net refl h.counts e)))
+    arrives_by g (g.config now.shared) now.table.conns n s seg o node result h.slots here
+    (steps (stands_later g now now.packet (record now.counts { net = net }) n n.history (seen (Arrived s seg) n.history) n.history h h.iss (recounted (Arrived s seg) n.history now.counts net refl h.counts e)))
 
 -- a plain SYN takes the slot that the code's table has for it
-pub opens_by : {A S : Type 0} (g : Ghosts A S) (k : g.Kept) (cs : List (Conn A)) (n : AbstractNode) (s : Sockets) (seg : PlainSegment) (o : Option ℕ) (node : Node A S) (result : Option ℕ) →
-    SlotsStand g k cs n.connections → AllKept g k cs → table.slot_to_take cs ≡ o → Steps g node result (opens (g.meaning k) n s seg o) → Steps g node result (opens (g.meaning k) n s seg (slot_for_syn n.connections))
+pub opens_by : {A S : Type 0} (g : Ghosts A S) (k : g.Config) (cs : List (Conn A)) (n : AbstractNode) (s : Sockets) (seg : PlainSegment) (o : Option ℕ) (node : Node A S) (result : Option ℕ) →
+    SlotsRepresent g k cs n.connections → AllWellFormed g k cs → table.slot_to_take cs ≡ o → Steps g node result (opens (g.app_spec k) n s seg o) → Steps g node result (opens (g.app_spec k) n s seg (slot_for_syn n.connections))
 opens_by g k cs n s seg o node result stand kept here steps =
-    subst (λ (x : Option ℕ). Steps g node result (opens (g.meaning k) n s seg x)) (sym here ∙ slot_agrees g k cs n.connections stand kept) steps
+    subst (λ (x : Option ℕ). Steps g node result (opens (g.app_spec k) n s seg x)) (sym here ∙ slot_agrees g k cs n.connections stand kept) steps

@@ -1,11 +1,11 @@
--- Every connection of a node has captures of moments alone, and an address and a port that fit their types.
+-- Every connection of a node has captures of snapshots alone, and an address and a port that fit their types.
 use Rattle.std.specs.List.{All, position_from}
 use Rattle.std.proofs.lemmas.Iterator.Adapters.{position_from-zero}
 use Rattle.std.proofs.Common.{◌≡◌, ℕ, zero, suc, ◌+◌, ◌<◌, ◌≤◌, Bool, not, ◌&&◌, List, [], ◌∷◌, length, refl, sym, ap, ◌∙◌, subst, arith, Option, Some, None, slice_get, slice_index_or, position, cond, length-set}
 use Rattle.tcp_segment.specs.Segments.{PlainSegment, has_rst}
-use Rattle.app_events.specs.Part.{Meaning}
+use Rattle.app_events.specs.AppSpec.{AppSpec}
 use Rattle.uip_node.specs.Steady.{IsSteady}
-use Rattle.app_events.specs.Pages.{IsMoment, IsNow, IsWord, IsByte, IsAddr}
+use Rattle.app_events.specs.Pages.{IsSnapshot, IsNow, IsU32, IsByte, IsAddr}
 use Rattle.tcp_machine.specs.Connection.{Sockets, Connection, closed, is_live, serves}
 use Rattle.tcp_machine.specs.Segments.{is_plain_syn}
 use Rattle.tcp_machine.specs.Ask.{Outcome}
@@ -15,12 +15,12 @@ use Rattle.uip_node.specs.Events.{Event, Reply}
 use Rattle.uip_node.specs.Events.Answer.{EchoReplied, Silent}
 use Rattle.uip_node.specs.Events.Event.{IpRefused, IcmpRefused, TcpRefused, EchoAsked, Arrived, Overlong, Periodic}
 use Rattle.uip_node.specs.Counters.{initial_number}
-use Rattle.uip_node.specs.Node.{AbstractNode, NodeStep, moment, happened, connection_in, slot_for_syn, opens_in, opens, from_stranger, arrives_at, remembers, step}
+use Rattle.uip_node.specs.Node.{AbstractNode, NodeStep, snapshot, happened, connection_in, slot_for_syn, opens_in, opens, for_no_connection, arrives_at, remembers, step}
 use Rattle.uip_node.proofs.Finding.{syn_slot_within}
 use Rattle.uip_node.proofs.Stepping.{slice_get-element}
 use Rattle.uip_node.specs.Laws.{serving, IsEvent}
 use Rattle.uip_node.proofs.Basics.{choose, only_some}
-use Rattle.uip_node.proofs.Fits.{FitConn, FitOut, all_nil, all_cons, set_conns, moment_fits, asked_fits, accepted_fits, on_segment_fits, on_tick_fits}
+use Rattle.uip_node.proofs.Fits.{FitConn, FitOut, all_nil, all_cons, set_conns, snapshot_fits, asked_fits, accepted_fits, on_segment_fits, on_tick_fits}
 
 abbrev pub FitConns : List Connection → Type 0
 FitConns table = (i : ℕ) (c : Connection) → slice_get table i ≡ Some c → FitConn c
@@ -28,7 +28,7 @@ FitConns table = (i : ℕ) (c : Connection) → slice_get table i ≡ Some c →
 pub record FitNode (n : AbstractNode) : Type 0 where
   pub size : length n.connections ≤ 10
   pub conns : FitConns n.connections
-  pub numbers : All IsWord n.numbers
+  pub numbers : All IsU32 n.numbers
 
 pub record FitStep (r : NodeStep) : Type 0 where
   pub node : FitNode r.node
@@ -37,7 +37,7 @@ pub record FitStep (r : NodeStep) : Type 0 where
 pub closed_fits : FitConn closed
 closed_fits = record {
   rest = λ r. absurd (cc);
-  captures = all_nil IsMoment;
+  captures = all_nil IsSnapshot;
   addr = record { four = refl; all_bytes = all_cons IsByte 0 (0 ∷ 0 ∷ 0 ∷ []) (omega arith) (all_cons IsByte 0 (0 ∷ 0 ∷ []) (omega arith) (all_cons IsByte 0 (0 ∷ []) (omega arith) (all_cons IsByte 0 [] (omega arith) (all_nil IsByte)))) };
   port = omega arith;
 }
@@ -51,7 +51,7 @@ index_fits [] i h = closed_fits
 index_fits (c ∷ cs) zero h = h zero c refl
 index_fits (c ∷ cs) (suc i) h = index_fits cs i (λ j x g. h (suc j) x g)
 
--- what a position tells
+-- what a position means
 pub record Placed {X : Type 0} (xs : List X) (at i : ℕ) : Type 0 where
   pub index : ℕ
   pub is : i ≡ at + index
@@ -81,7 +81,7 @@ slot_inside cs slot h =
     let there = slice_get-element cs slot (syn_slot_within cs slot h) in
     record { item = there.0; get = there.1 }
 
-module _ (m : Meaning) (steady : IsSteady m) where
+module _ (m : AppSpec) (steady : IsSteady m) where
   pub happened_fits : (n : AbstractNode) (event : Event) (slot : ℕ) (old : Connection) (o : Outcome) → FitNode n → FitOut o → FitStep (happened m n event slot old o)
   unfolding happened
   happened_fits n event slot old o f h = record {
@@ -90,15 +90,15 @@ module _ (m : Meaning) (steady : IsSteady m) where
         (λ e g q. only_some (λ z. FitConn z) o.connection g q h.conn) (λ e g q. absurd (cc));
   }
 
-  pub node_moment : (n : AbstractNode) (event : Event) (slot : ℕ) → FitNode n → (c : Connection) → FitConn c → IsNow (moment n event slot c)
-  node_moment n event slot f c h = moment_fits n event slot c f.size f.conns h
+  pub node_snapshot : (n : AbstractNode) (event : Event) (slot : ℕ) → FitNode n → (c : Connection) → FitConn c → IsNow (snapshot n event slot c)
+  node_snapshot n event slot f c h = snapshot_fits n event slot c f.size f.conns h
 
   pub still_fits : (n d : AbstractNode) (sent : Option Reply) → d.connections ≡ n.connections → d.numbers ≡ n.numbers → FitNode n → FitStep (record { node = d; sent = sent; gone = None })
   still_fits n d sent ec en f = record {
     node = record {
       size = subst (λ (x : List Connection). length x ≤ 10) (sym ec) f.size;
       conns = subst FitConns (sym ec) f.conns;
-      numbers = subst (λ x. All IsWord x) (sym en) f.numbers;
+      numbers = subst (λ x. All IsU32 x) (sym en) f.numbers;
     };
     gone = λ g q. absurd (cc);
   }
@@ -107,16 +107,16 @@ module _ (m : Meaning) (steady : IsSteady m) where
   unfolding opens_in happened
   opens_fit n sockets s None a p f = still_fits n _ None refl refl f
   opens_fit n sockets s (Some slot) a p f =
-      let h : FitStep (happened m n (Arrived sockets s) slot (connection_in slot n) (accept (initial_number n.past) sockets s n.numbers)) =
-      happened_fits n (Arrived sockets s) slot (connection_in slot n) (accept (initial_number n.past) sockets s n.numbers) f record { conn = accepted_fits m steady (initial_number n.past) sockets s a p; numbers = f.numbers } in
+      let h : FitStep (happened m n (Arrived sockets s) slot (connection_in slot n) (accept (initial_number n.history) sockets s n.numbers)) =
+      happened_fits n (Arrived sockets s) slot (connection_in slot n) (accept (initial_number n.history) sockets s n.numbers) f record { conn = accepted_fits m steady (initial_number n.history) sockets s a p; numbers = f.numbers } in
       record {
         node = h.node;
         gone = choose (λ (x : Option Connection). (g : Connection) → x ≡ Some g → FitConn g) (is_live (connection_in slot n).state) _ _
             (λ e g q. only_some (λ z. FitConn z) (connection_in slot n) g q (index_fits n.connections slot f.conns)) (λ e g q. absurd (cc));
       }
 
-  stranger_fits : (served : ℕ → Bool) (n : AbstractNode) (sockets : Sockets) (s : PlainSegment) → IsAddr sockets.peer → sockets.peer_port.0 < 65536 → FitNode n → FitStep (from_stranger m served n sockets s)
-  unfolding from_stranger
+  stranger_fits : (served : ℕ → Bool) (n : AbstractNode) (sockets : Sockets) (s : PlainSegment) → IsAddr sockets.peer → sockets.peer_port.0 < 65536 → FitNode n → FitStep (for_no_connection m served n sockets s)
+  unfolding for_no_connection
   stranger_fits served n sockets s a p f =
       choose (λ x. FitStep x) (is_plain_syn s && served sockets.own_port.0) _ _ (λ e. opens_fit n sockets s (slot_for_syn n.connections) a p f)
       (λ e. choose (λ x. FitStep x) (has_rst s.flags) _ _ (λ g. still_fits n _ None refl refl f) (λ g. still_fits n _ _ refl refl f))
@@ -125,7 +125,7 @@ module _ (m : Meaning) (steady : IsSteady m) where
   arrives_fits served n sockets s None a p f = stranger_fits served n sockets s a p f
   arrives_fits served n sockets s (Some slot) a p f =
       happened_fits n (Arrived sockets s) slot (connection_in slot n) _ f
-      (asked_fits m steady (moment n (Arrived sockets s) slot) (node_moment n (Arrived sockets s) slot f) (on_segment m (connection_in slot n) n.numbers s)
+      (asked_fits m steady (snapshot n (Arrived sockets s) slot) (node_snapshot n (Arrived sockets s) slot f) (on_segment m (connection_in slot n) n.numbers s)
       (on_segment_fits m steady (connection_in slot n) n.numbers s (index_fits n.connections slot f.conns) f.numbers))
 
   -- an event whose addresses and ports fit their types
@@ -138,5 +138,5 @@ module _ (m : Meaning) (steady : IsSteady m) where
   event_fits served n Overlong e f = (still_fits n (remembers n Overlong Silent) None refl refl f).node
   event_fits served n (Periodic slot) e f =
       (happened_fits n (Periodic slot) slot (connection_in slot n) _ f
-      (asked_fits m steady (moment n (Periodic slot) slot) (node_moment n (Periodic slot) slot f) (on_tick m (connection_in slot n) n.numbers)
+      (asked_fits m steady (snapshot n (Periodic slot) slot) (node_snapshot n (Periodic slot) slot f) (on_tick m (connection_in slot n) n.numbers)
       (on_tick_fits m steady (connection_in slot n) n.numbers (index_fits n.connections slot f.conns) f.numbers))).node

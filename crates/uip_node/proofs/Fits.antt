@@ -1,4 +1,5 @@
--- Every capture that was ever taken is of a moment that a node makes. This holds of all connections, clean or not.
+-- Every capture ever taken is of a snapshot that a node makes. This holds for all connections, clean or not.
+-- [add: counter] The number of counters of a snapshot.
 use Rattle.std.specs.List.{All, range_with_len}
 use Rattle.std.proofs.Common.{◌≡◌, ℕ, zero, suc, ◌+◌, ◌-◌, ◌<◌, ◌≤◌, Bool, true, false, not, ◌&&◌, List, [], ◌∷◌, length, set, refl, sym, subst, arith, Some, slice_get, slice_index, count_by, nat_le, eqb, ltb, length-set, ◌∙◌}
 use Rattle.std.proofs.lemmas.List.Elements.{All-push, All-map}
@@ -8,9 +9,9 @@ use Rattle.uip_wire.specs.Numbers.{wrap}
 use Rattle.tcp_segment.specs.Segments.{PlainSegment, has_fin, has_rst}
 use Rattle.rexmit_timer.specs.Ages.{ages, tries_at}
 use Rattle.rexmit_timer.specs.declared.timer.Beat.{Beat}
-use Rattle.app_events.specs.Part.{Part, Meaning}
+use Rattle.app_events.specs.AppSpec.{AppState, AppSpec}
 use Rattle.uip_node.specs.Steady.{IsSteady}
-use Rattle.app_events.specs.Pages.{IsMoment, IsNow, IsRow, IsWord, IsAddr}
+use Rattle.app_events.specs.Pages.{IsSnapshot, IsNow, IsRow, IsU32, IsAddr}
 use Rattle.app_events.specs.declared.ending.Ending.{Ending}
 use Rattle.app_events.specs.declared.now.Now.{Now}
 use Rattle.app_events.specs.declared.row.Row.{Row}
@@ -20,12 +21,12 @@ use Rattle.app_events.specs.declared.want.Want.{Want}
 use Rattle.app_events.specs.declared.want.Want.TheVariants.{Nothing, Send, Close, Abort}
 use Rattle.tcp_machine.specs.Connection.{Sockets, Connection, is_live, is_resting, tries_of, count_of, row_of, rows_from}
 use Rattle.tcp_machine.specs.Ask.{Outcome, closes, after_own_fin, peer_has_closed, idles, does_as_wanted, ask, asked}
-use Rattle.tcp_machine.specs.OnSegment.{accepted, told_end, is_out_of_order, is_acked, rests, has_text, hears, takes, with_part, in_state, with_window, peer_closes, goes_on, in_established, fin_acked, fin_waits, by_state, on_segment}
+use Rattle.tcp_machine.specs.OnSegment.{accepted, told_end, is_out_of_order, is_acked, rests, has_text, hears, takes, with_part, in_state, with_window, peer_closes, stays_established, in_established, fin_acked, fin_waits, by_state, on_segment}
 use Rattle.tcp_machine.specs.OnTick.{by_beat, grows_older, on_tick, polls}
-use Rattle.uip_node.specs.Events.{Event, Past}
+use Rattle.uip_node.specs.Events.{Event, HistoryEntry}
 use Rattle.uip_node.specs.Events.Answer.{Silent}
 use Rattle.uip_node.specs.Counters.{counters, raises, times}
-use Rattle.uip_node.specs.Node.{AbstractNode, moment}
+use Rattle.uip_node.specs.Node.{AbstractNode, snapshot}
 use Rattle.uip_node.proofs.Cases.{asked_by, by_own_fin, on_tick_by}
 use Rattle.uip_node.proofs.Basics.{choose, wrap_low}
 use Rattle.uip_node.proofs.Connections.{get_set}
@@ -40,13 +41,13 @@ all_cons P x xs a h (suc k) d l = h k d (omega arith)
 
 pub record FitConn (c : Connection) : Type 0 where
   pub rest : is_resting c.state ≡ true → c.age < 120
-  pub captures : All IsMoment c.part.captures
+  pub captures : All IsSnapshot c.part.captures
   pub addr : IsAddr c.sockets.peer
   pub port : c.sockets.peer_port.0 < 65536
 
 pub record FitOut (o : Outcome) : Type 0 where
   pub conn : FitConn o.connection
-  pub numbers : All IsWord o.numbers
+  pub numbers : All IsU32 o.numbers
 
 -- rows
 index_low : (n : ℕ) → slice_index ages n ≤ 249
@@ -88,38 +89,38 @@ pub set_conns : (table : List Connection) (i : ℕ) (new : Connection) → FitCo
     (j : ℕ) (c : Connection) → slice_get (set table i new) j ≡ Some c → FitConn c
 set_conns table i new f h j c x = elim (get_set table i new j c x) [ here e q ↦ subst (λ z. FitConn z) q f | there n g ↦ h j c g ]
 
-pub counters_fit : (past : List Past) → All IsWord (counters past)
-counters_fit past = All-map IsWord (λ k. wrap (times (raises k) past)) (range_with_len 0 20) (λ k d l. wrap_low _)
+pub counters_fit : (history : List HistoryEntry) → All IsU32 (counters history)
+counters_fit history = All-map IsU32 (λ k. wrap (times (raises k) history)) (range_with_len 0 20) (λ k d l. wrap_low _)
 
-pub moment_fits : (n : AbstractNode) (event : Event) (slot : ℕ) (c : Connection) → length n.connections ≤ 10 → ((j : ℕ) (x : Connection) → slice_get n.connections j ≡ Some x → FitConn x) → FitConn c → IsNow (moment n event slot c)
-moment_fits n event slot c l h f =
+pub snapshot_fits : (n : AbstractNode) (event : Event) (slot : ℕ) (c : Connection) → length n.connections ≤ 10 → ((j : ℕ) (x : Connection) → slice_get n.connections j ≡ Some x → FitConn x) → FitConn c → IsNow (snapshot n event slot c)
+snapshot_fits n event slot c l h f =
     let size : length (set n.connections slot c) ≡ length n.connections = length-set n.connections slot c in
     record {
       ticks = wrap_low _;
       twenty = refl;
-      counters = counters_fit (record { event = event; answer = Silent } ∷ n.past);
+      counters = counters_fit (record { event = event; answer = Silent } ∷ n.history);
       slots = omega (arith, rows_few 0 (set n.connections slot c), size);
       rows = rows_fit 0 (set n.connections slot c) (omega (arith, size)) (set_conns n.connections slot c f h);
     }
 
-module _ (m : Meaning) (steady : IsSteady m) where
+module _ (m : AppSpec) (steady : IsSteady m) where
   fit_like : (c d : Connection) → d.sockets ≡ c.sockets → d.part.captures ≡ c.part.captures → (is_resting d.state ≡ true → d.age < 120) → FitConn c → FitConn d
   fit_like c d s k r f = record {
     rest = r;
-    captures = subst (λ l. All IsMoment l) (sym k) f.captures;
+    captures = subst (λ l. All IsSnapshot l) (sym k) f.captures;
     addr = subst (λ (x : Sockets). IsAddr x.peer) (sym s) f.addr;
     port = subst (λ (x : Sockets). x.peer_port.0 < 65536) (sym s) f.port;
   }
 
-  hears_captures : (numbers : List ℕ) (p : Part) (text : List ℕ) → (hears m numbers p text).part.captures ≡ p.captures
+  hears_captures : (numbers : List ℕ) (p : AppState) (text : List ℕ) → (hears m numbers p text).part.captures ≡ p.captures
   hears_captures numbers p [] = refl
   hears_captures numbers p (x ∷ xs) = steady.newdata_captures numbers p (x ∷ xs)
 
-  hears_numbers : (numbers : List ℕ) (p : Part) (text : List ℕ) → All IsWord numbers → All IsWord (hears m numbers p text).numbers
+  hears_numbers : (numbers : List ℕ) (p : AppState) (text : List ℕ) → All IsU32 numbers → All IsU32 (hears m numbers p text).numbers
   hears_numbers numbers p [] h = h
   hears_numbers numbers p (x ∷ xs) h = steady.newdata_numbers numbers p (x ∷ xs) h
 
-  told_numbers : (how : Ending) (st : State) (p : Part) (numbers : List ℕ) → All IsWord numbers → All IsWord (told_end m how st p numbers)
+  told_numbers : (how : Ending) (st : State) (p : AppState) (numbers : List ℕ) → All IsU32 numbers → All IsU32 (told_end m how st p numbers)
   told_numbers how Established p numbers h = steady.ended_numbers numbers p how h
   told_numbers how CloseWait p numbers h = steady.ended_numbers numbers p how h
   told_numbers how _ p numbers h = h
@@ -131,7 +132,7 @@ module _ (m : Meaning) (steady : IsSteady m) where
   closes_fit c f = fit_like c (closes c) refl refl (λ r. absurd (cc)) f
 
   -- asking
-  wanted_fits : (w : Want) (fresh : Bool) (c : Connection) (numbers : List ℕ) → FitConn c → All IsWord numbers → FitOut (does_as_wanted w fresh c numbers)
+  wanted_fits : (w : Want) (fresh : Bool) (c : Connection) (numbers : List ℕ) → FitConn c → All IsU32 numbers → FitOut (does_as_wanted w fresh c numbers)
   unfolding idles
   wanted_fits Abort fresh c numbers f n = record { conn = closes_fit c f; numbers = n }
   wanted_fits Close fresh c numbers f n = record { conn = fit_like c _ refl refl (λ r. absurd (fin_rest c.state r)) f; numbers = n }
@@ -140,14 +141,14 @@ module _ (m : Meaning) (steady : IsSteady m) where
       choose (λ (x : Outcome). FitOut x) (peer_has_closed c.state) _ _ (λ e. record { conn = closes_fit c f; numbers = n })
       (λ e. choose (λ (x : Outcome). FitOut x) fresh _ _ (λ g. record { conn = f; numbers = n }) (λ g. record { conn = f; numbers = n }))
 
-  pub prepared_captures : (numbers : List ℕ) (p : Part) (now : Now) → All IsWord numbers → IsNow now → All IsMoment p.captures → All IsMoment (m.prepare numbers p now).captures
+  pub prepared_captures : (numbers : List ℕ) (p : AppState) (now : Now) → All IsU32 numbers → IsNow now → All IsSnapshot p.captures → All IsSnapshot (m.prepare numbers p now).captures
   prepared_captures numbers p now n is f =
       elim (steady.prepare_captures numbers p now) [
-        | Rattle.std.proofs.Common.inl e ↦ subst (λ l. All IsMoment l) (sym e) f
-        | Rattle.std.proofs.Common.inr e ↦ subst (λ l. All IsMoment l) (sym e) (All-push IsMoment p.captures (record { numbers = numbers; now = now }) f record { numbers = n; now = is })
+        | Rattle.std.proofs.Common.inl e ↦ subst (λ l. All IsSnapshot l) (sym e) f
+        | Rattle.std.proofs.Common.inr e ↦ subst (λ l. All IsSnapshot l) (sym e) (All-push IsSnapshot p.captures (record { numbers = numbers; now = now }) f record { numbers = n; now = is })
       ]
 
-  ask_fits : (now : Now) (fresh : Bool) (c : Connection) (numbers : List ℕ) → IsNow now → FitConn c → All IsWord numbers → FitOut (ask m now fresh c numbers)
+  ask_fits : (now : Now) (fresh : Bool) (c : Connection) (numbers : List ℕ) → IsNow now → FitConn c → All IsU32 numbers → FitOut (ask m now fresh c numbers)
   ask_fits now fresh c numbers is f n =
       wanted_fits (m.want numbers (m.prepare numbers c.part now)) fresh (with_part (m.prepare numbers c.part now) c) numbers
       record { rest = f.rest; captures = prepared_captures numbers c.part now n is f.captures; addr = f.addr; port = f.port } n
@@ -156,36 +157,36 @@ module _ (m : Meaning) (steady : IsSteady m) where
   asked_fits at is o f = asked_by m FitOut at o (λ a fresh. ask_fits (at o.connection) fresh o.connection o.numbers (is o.connection f.conn) f.conn f.numbers) f
 
   -- a segment
-  pub accepted_fits : (first : ℕ) (sockets : Sockets) (s : PlainSegment) → IsAddr sockets.peer → sockets.peer_port.0 < 65536 → FitConn (accepted first sockets s)
-  accepted_fits first sockets s a p = record { rest = λ r. absurd (cc); captures = all_nil IsMoment; addr = a; port = p }
+  pub accepted_fits : (iss : ℕ) (sockets : Sockets) (s : PlainSegment) → IsAddr sockets.peer → sockets.peer_port.0 < 65536 → FitConn (accepted iss sockets s)
+  accepted_fits iss sockets s a p = record { rest = λ r. absurd (cc); captures = all_nil IsSnapshot; addr = a; port = p }
 
-  closing_fits : (c : Connection) (numbers : List ℕ) (s : PlainSegment) → FitConn c → All IsWord numbers → FitOut (peer_closes m c numbers s)
+  closing_fits : (c : Connection) (numbers : List ℕ) (s : PlainSegment) → FitConn c → All IsU32 numbers → FitOut (peer_closes m c numbers s)
   unfolding peer_closes
   closing_fits c numbers s f n =
       let x : (hears m numbers c.part s.text).part.captures ≡ c.part.captures = hears_captures numbers c.part s.text in
       let d : Connection = in_state CloseWait (with_window s.window (with_part (hears m numbers c.part s.text).part (takes (length s.text + 1) c))) in
       let g : FitConn d = fit_like c d refl x (λ r. absurd (cc)) f in
-      let k : All IsWord (hears m numbers c.part s.text).numbers = hears_numbers numbers c.part s.text n in
+      let k : All IsU32 (hears m numbers c.part s.text).numbers = hears_numbers numbers c.part s.text n in
       choose (λ (o : Outcome). FitOut o) (ltb 0 c.len) _ _ (λ e. record { conn = g; numbers = k }) (λ e. record { conn = g; numbers = k })
 
-  going_fits : (acked : Bool) (c : Connection) (numbers : List ℕ) (s : PlainSegment) → FitConn c → All IsWord numbers → FitOut (goes_on m acked c numbers s)
-  unfolding goes_on
+  going_fits : (acked : Bool) (c : Connection) (numbers : List ℕ) (s : PlainSegment) → FitConn c → All IsU32 numbers → FitOut (stays_established m acked c numbers s)
+  unfolding stays_established
   going_fits acked c numbers s f n =
       let x : (hears m numbers c.part s.text).part.captures ≡ c.part.captures = hears_captures numbers c.part s.text in
       let d : Connection = with_window s.window (with_part (hears m numbers c.part s.text).part (takes (length s.text) c)) in
       let g : FitConn d = fit_like c d refl x f.rest f in
-      let k : All IsWord (hears m numbers c.part s.text).numbers = hears_numbers numbers c.part s.text n in
+      let k : All IsU32 (hears m numbers c.part s.text).numbers = hears_numbers numbers c.part s.text n in
       choose (λ (o : Outcome). FitOut o) (not acked && not (has_text s)) _ _ (λ e. record { conn = g; numbers = k })
       (λ e. choose (λ (o : Outcome). FitOut o) (ltb 0 c.len) _ _ (λ i. record { conn = g; numbers = k }) (λ i. record { conn = g; numbers = k }))
 
-  established_fits : (acked : Bool) (c : Connection) (numbers : List ℕ) (s : PlainSegment) → FitConn c → All IsWord numbers → FitOut (in_established m acked c numbers s)
+  established_fits : (acked : Bool) (c : Connection) (numbers : List ℕ) (s : PlainSegment) → FitConn c → All IsU32 numbers → FitOut (in_established m acked c numbers s)
   unfolding in_established
   established_fits acked c numbers s f n = choose (λ (o : Outcome). FitOut o) (has_fin s.flags) _ _ (λ e. closing_fits c numbers s f n) (λ e. going_fits acked c numbers s f n)
 
   acked_fits : (c : Connection) (numbers : List ℕ) → FitConn c → FitConn (with_part (m.acked numbers c.part c.len).part (rests c))
   acked_fits c numbers f = fit_like c _ refl (steady.acked_captures numbers c.part c.len) (λ r. omega arith) f
 
-  by_state_fits : (st : State) (acked : Bool) (c : Connection) (numbers : List ℕ) (s : PlainSegment) → FitConn c → All IsWord numbers → FitOut (by_state m st acked c numbers s)
+  by_state_fits : (st : State) (acked : Bool) (c : Connection) (numbers : List ℕ) (s : PlainSegment) → FitConn c → All IsU32 numbers → FitOut (by_state m st acked c numbers s)
   unfolding fin_acked fin_waits
   by_state_fits Closed acked c numbers s f n = record { conn = f; numbers = n }
   by_state_fits SynRcvd true c numbers s f n =
@@ -193,7 +194,7 @@ module _ (m : Meaning) (steady : IsSteady m) where
       let x : (hears m (m.connected numbers port).numbers (m.connected numbers port).part s.text).part.captures ≡ (m.connected numbers port).part.captures = hears_captures (m.connected numbers port).numbers (m.connected numbers port).part s.text in
       let none : (hears m (m.connected numbers port).numbers (m.connected numbers port).part s.text).part.captures ≡ [] = x ∙ steady.connected_captures numbers port in
       record {
-        conn = record { rest = λ r. absurd (cc); captures = subst (λ l. All IsMoment l) (sym none) (all_nil IsMoment); addr = f.addr; port = f.port };
+        conn = record { rest = λ r. absurd (cc); captures = subst (λ l. All IsSnapshot l) (sym none) (all_nil IsSnapshot); addr = f.addr; port = f.port };
         numbers = hears_numbers (m.connected numbers port).numbers (m.connected numbers port).part s.text (steady.connected_numbers numbers port n);
       }
   by_state_fits SynRcvd false c numbers s f n = record { conn = f; numbers = n }
@@ -219,14 +220,14 @@ module _ (m : Meaning) (steady : IsSteady m) where
   by_state_fits LastAck false c numbers s f n = record { conn = f; numbers = n }
   by_state_fits TimeWait acked c numbers s f n = record { conn = f; numbers = n }
 
-  pub on_segment_fits : (c : Connection) (numbers : List ℕ) (s : PlainSegment) → FitConn c → All IsWord numbers → FitOut (on_segment m c numbers s)
+  pub on_segment_fits : (c : Connection) (numbers : List ℕ) (s : PlainSegment) → FitConn c → All IsU32 numbers → FitOut (on_segment m c numbers s)
   unfolding on_segment
   on_segment_fits c numbers s f n =
       choose (λ (o : Outcome). FitOut o) (has_rst s.flags) _ _ (λ e. record { conn = closes_fit c f; numbers = told_numbers _ c.state c.part numbers n }) (λ e.
       choose (λ (o : Outcome). FitOut o) (is_out_of_order c s) _ _ (λ i. record { conn = f; numbers = n }) (λ i. by_state_fits c.state (is_acked c s) c numbers s f n))
 
   -- a tick
-  by_beat_fits : (b : Beat) (c : Connection) (numbers : List ℕ) → is_resting c.state ≡ false → FitConn c → All IsWord numbers → FitOut (by_beat m b c numbers)
+  by_beat_fits : (b : Beat) (c : Connection) (numbers : List ℕ) → is_resting c.state ≡ false → FitConn c → All IsU32 numbers → FitOut (by_beat m b c numbers)
   by_beat_fits Beat.Wait c numbers r f n = record { conn = fit_like c _ refl refl (λ x. absurd (cc)) f; numbers = n }
   by_beat_fits Beat.Again c numbers r f n = record { conn = fit_like c _ refl refl (λ x. absurd (cc)) f; numbers = n }
   by_beat_fits Beat.GiveUp c numbers r f n = record { conn = closes_fit c f; numbers = told_numbers _ c.state c.part numbers n }
@@ -234,7 +235,7 @@ module _ (m : Meaning) (steady : IsSteady m) where
   not_last : (age : ℕ) → age < 120 → eqb (age + 1) 120 ≡ false → age + 1 < 120
   not_last age h e = grind (arith, common_steps)
 
-  pub on_tick_fits : (c : Connection) (numbers : List ℕ) → FitConn c → All IsWord numbers → FitOut (on_tick m c numbers)
+  pub on_tick_fits : (c : Connection) (numbers : List ℕ) → FitConn c → All IsU32 numbers → FitOut (on_tick m c numbers)
   on_tick_fits c numbers f n = on_tick_by m FitOut c numbers record {
     none = record { conn = f; numbers = n };
     beats = λ r b. by_beat_fits b c numbers r f n;

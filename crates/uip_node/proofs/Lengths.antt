@@ -35,7 +35,7 @@ pub cut_length : (area : List ℕ) (at len : ℕ) → at + len ≤ length area �
 cut_length area at len fits =
     omega (arith, length-take (at + len - at) (drop at area), length-drop at area)
 
--- what stands in the packet after a datagram was written around its text
+-- the content of the packet after a datagram was written around its text
 pub sent_is : (out : Out) (area new : List ℕ) (len : ℕ) → HasAddrs out → 40 + out.len ≤ length area → new ≡ sent_in out area → len ≡ datagram_len out →
     take len new ≡ datagram_bytes (datagram_of out (slice_range area 40 (40 + out.len)))
 sent_is out area new len addrs fits e n =

@@ -1,20 +1,20 @@
--- How far a step brings a connection: what is acknowledged moves to the end of what was outstanding, or stays.
+-- A step moves the acknowledged position to the end of what was outstanding, or leaves it.
 use Rattle.std.proofs.Common.{◌≡◌, ℕ, ◌+◌, ◌≤◌, Bool, true, false, not, ◌&&◌, ◌⊎◌, inl, inr, List, refl, ap, ◌∙◌, sym, subst, arith, ltb}
 use Rattle.tcp_segment.specs.Segments.{PlainSegment, has_fin, has_rst}
 use Rattle.rexmit_timer.specs.declared.timer.Beat.{Beat}
-use Rattle.app_events.specs.Part.{Meaning}
+use Rattle.app_events.specs.AppSpec.{AppSpec}
 use Rattle.app_events.specs.declared.now.Now.{Now}
 use Rattle.app_events.specs.declared.state.State.{State}
 use Rattle.app_events.specs.declared.state.State.TheVariants.{Closed, SynRcvd, Established, CloseWait, FinWait1, FinWait2, Closing, TimeWait, LastAck}
 use Rattle.tcp_machine.specs.Connection.{Connection}
 use Rattle.tcp_machine.specs.Ask.{Outcome, ask, asked, closes, prepared}
-use Rattle.tcp_machine.specs.OnSegment.{is_out_of_order, is_acked, rests, has_text, with_part, in_established, peer_closes, goes_on, fin_acked, fin_waits, by_state, on_segment}
+use Rattle.tcp_machine.specs.OnSegment.{is_out_of_order, is_acked, rests, has_text, with_part, in_established, peer_closes, stays_established, fin_acked, fin_waits, by_state, on_segment}
 use Rattle.tcp_machine.specs.OnTick.{by_beat, grows_older, on_tick, polls}
 use Rattle.uip_node.proofs.Basics.{choose, ltb-zero}
 use Rattle.uip_node.proofs.Cases.{asked_by, is_ask, no_ask_again, on_tick_by, wanted_unmoved}
 
 pub record Moves (acked : Bool) (c d : Connection) : Type 0 where
-  pub first : d.first ≡ c.first
+  pub iss : d.iss ≡ c.iss
   pub place : (d.acked ≡ c.acked) ⊎ ((acked ≡ true) × (d.acked ≡ c.acked + c.len))
   pub top : c.acked + c.len ≤ d.acked + d.len
 
@@ -22,31 +22,31 @@ pub record OutMoves (acked : Bool) (c : Connection) (o : Outcome) : Type 0 where
   pub moves : Moves acked c o.connection
   pub idle : is_ask o.step ≡ true → o.connection.len ≡ 0
 
-stays : (acked : Bool) (c d : Connection) → d.first ≡ c.first → d.acked ≡ c.acked → c.len ≤ d.len → Moves acked c d
-stays acked c d f a l = record { first = f; place = inl a; top = omega (arith, a, l) }
+stays : (acked : Bool) (c d : Connection) → d.iss ≡ c.iss → d.acked ≡ c.acked → c.len ≤ d.len → Moves acked c d
+stays acked c d f a l = record { iss = f; place = inl a; top = omega (arith, a, l) }
 
-goes : (c d : Connection) → d.first ≡ c.first → d.acked ≡ c.acked + c.len → Moves true c d
-goes c d f a = record { first = f; place = inr (refl, a); top = omega (arith, a) }
+goes : (c d : Connection) → d.iss ≡ c.iss → d.acked ≡ c.acked + c.len → Moves true c d
+goes c d f a = record { iss = f; place = inr (refl, a); top = omega (arith, a) }
 
-like : (acked : Bool) (c b d : Connection) → Moves acked c b → d.first ≡ b.first → d.acked ≡ b.acked → b.len ≤ d.len → Moves acked c d
+like : (acked : Bool) (c b d : Connection) → Moves acked c b → d.iss ≡ b.iss → d.acked ≡ b.acked → b.len ≤ d.len → Moves acked c d
 like acked c b d m f a l = record {
-  first = f ∙ m.first;
+  iss = f ∙ m.iss;
   place = elim m.place [ inl x ↦ inl (a ∙ x) | inr x ↦ inr (x.0, a ∙ x.1) ];
   top = omega (arith, m.top, a, l);
 }
 
-module _ (m : Meaning) where
+module _ (m : AppSpec) where
   pub asked_moves : (acked : Bool) (c : Connection) (at : Connection → Now) (o : Outcome) → OutMoves acked c o → Moves acked c (asked m at o).connection
   asked_moves acked c at o h =
       asked_by m (λ x. Moves acked c x.connection) at o
       (λ a fresh. (let b : Connection = prepared m (at o.connection) o.connection o.numbers in
       let u = wanted_unmoved m (m.want o.numbers b.part) fresh b o.numbers in
       let none : o.connection.len ≡ 0 = h.idle a in
-      like acked c o.connection (ask m (at o.connection) fresh o.connection o.numbers).connection h.moves u.first u.acked (omega (arith, none))))
+      like acked c o.connection (ask m (at o.connection) fresh o.connection o.numbers).connection h.moves u.iss u.acked (omega (arith, none))))
       h.moves
 
   established_moves : (acked flag : Bool) (c b : Connection) (numbers : List ℕ) (s : PlainSegment) → Moves acked c b → OutMoves acked c (in_established m flag b numbers s)
-  unfolding in_established peer_closes goes_on
+  unfolding in_established peer_closes stays_established
   established_moves acked flag c b numbers s h =
       choose (λ x. OutMoves acked c x) (has_fin s.flags) _ _
       (λ e. choose (λ x. OutMoves acked c x) (ltb 0 b.len) _ _

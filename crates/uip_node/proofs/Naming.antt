@@ -1,10 +1,10 @@
--- What stands on all segments of a connection, after a step.
+-- What all segments of a connection contain, after a step.
+-- [add: state] What its segments carry.
 use Rattle.std.proofs.Common.{ℕ, ◌≡◌, ◌+◌, ◌&&◌, ◌==◌, Bool, true, false, List, inl, inr, ◌⊎◌, refl, sym, ap, ◌∙◌, nat_lt, if◌then◌else◌, not}
 use Rattle.tcp_machine.specs.declared.ticking.TheConstants.{REST_TIME}
-use Rattle.app_events.specs.Part.{Meaning}
+use Rattle.app_events.specs.AppSpec.{AppSpec}
 use Rattle.app_events.specs.declared.app.App.{Ghosts}
 use Rattle.app_events.specs.States.{is_live}
-use Rattle.app_events.specs.declared.now.Now.{Now}
 use Rattle.app_events.specs.declared.want.Want.{Want}
 use Rattle.app_events.specs.declared.state.State.{State}
 use Rattle.app_events.specs.declared.state.State.TheVariants.{Closed, SynRcvd, Established, CloseWait, FinWait1, FinWait2, Closing, TimeWait, LastAck}
@@ -12,12 +12,12 @@ use Rattle.rexmit_timer.specs.Ages.{beat_at}
 use Rattle.rexmit_timer.specs.declared.timer.Beat.{Beat}
 use Rattle.tcp_segment.specs.Segments.{PlainSegment, has_fin, has_rst}
 use Rattle.tcp_table.specs.declared.conn.Conn.{Conn}
-use Rattle.tcp_machine.specs.Ask.{Outcome, ask, closes, does_as_wanted, idles, leaves, peer_has_closed, prepared}
-use Rattle.tcp_machine.specs.Connection.{Connection, rcv_nxt, snd_nxt}
+use Rattle.tcp_machine.specs.Ask.{Outcome, ask_prepared, closes, does_as_wanted, idles, leaves, peer_has_closed}
+use Rattle.tcp_machine.specs.Connection.{Connection, rcv_nxt, snd_una}
 use Rattle.tcp_machine.specs.Fits.{SameNumbers, SameSockets}
-use Rattle.tcp_machine.specs.OnSegment.{by_state, fin_acked, fin_waits, goes_on, has_text, in_established, is_acked, is_out_of_order, on_segment, peer_closes}
+use Rattle.tcp_machine.specs.OnSegment.{by_state, fin_acked, fin_waits, stays_established, has_text, in_established, is_acked, is_out_of_order, on_segment, peer_closes}
 use Rattle.tcp_machine.specs.OnTick.{by_beat, grows_older, limit_of, on_tick, polls, rests_on, tick_by, ticks_established, waits_for_ack}
-use Rattle.tcp_machine.specs.Stands.{ConnStands, IsLike, Meets}
+use Rattle.tcp_machine.specs.Represents.{ConnRepresents, IsLike, Meets}
 use Rattle.tcp_machine.specs.declared.step.Step.{Step}
 use Rattle.uip_node.specs.Slots.{IsNamed}
 
@@ -25,12 +25,12 @@ use Rattle.uip_node.specs.Slots.{IsNamed}
 pub record SameNames (a b : Connection) : Type 0 where
   pub sockets : b.sockets ≡ a.sockets
   pub rcv_nxt : rcv_nxt b ≡ rcv_nxt a
-  pub snd_nxt : snd_nxt b ≡ snd_nxt a
+  pub snd_nxt : snd_una b ≡ snd_una a
 
 pub like_named : {A : Type 0} (c : Conn A) (a : Connection) → IsLike c a → IsNamed c a
 like_named c a l = record { peer = l.peer; peer_port = l.peer_port; own_port = l.own_port; rcv_nxt = l.rcv_nxt; snd_nxt = l.snd_nxt }
 
-pub live_named : {A S : Type 0} (g : Ghosts A S) (k : g.Kept) (c : Conn A) (a : Connection) → ConnStands g k c a → is_live c.state ≡ true → IsNamed c a
+pub live_named : {A S : Type 0} (g : Ghosts A S) (k : g.Config) (c : Conn A) (a : Connection) → ConnRepresents g k c a → is_live c.state ≡ true → IsNamed c a
 live_named g k c a h live = like_named c a (h.numbers.like (sym (ap is_live h.numbers.state) ∙ live))
 
 pub named_after : {A : Type 0} (c d : Conn A) (a b : Connection) → IsNamed c a → SameSockets c d → SameNumbers c d → SameNames a b → IsNamed d b
@@ -67,29 +67,27 @@ wanted_same Want.Close fresh a ns = record { sockets = refl; rcv_nxt = refl; snd
 wanted_same (Want.Send n) fresh a ns = record { sockets = refl; rcv_nxt = refl; snd_nxt = refl }
 wanted_same Want.Nothing fresh a ns = idles_same fresh a ns
 
-pub ask_same : (m : Meaning) (now : Now) (fresh : Bool) (a : Connection) (ns : List ℕ) → SameNames a (ask m now fresh a ns).connection
-ask_same m now fresh a ns =
-    let r = wanted_same (m.want ns (m.prepare ns a.part now)) fresh (prepared m now a ns) ns in
-    record { sockets = r.sockets; rcv_nxt = r.rcv_nxt; snd_nxt = r.snd_nxt }
+pub asked_same : (m : AppSpec) (fresh : Bool) (a : Connection) (ns : List ℕ) → SameNames a (ask_prepared m fresh a ns).connection
+asked_same m fresh a ns = wanted_same (m.want ns a.part) fresh a ns
 
-beat_same : (m : Meaning) (b : Beat) (a : Connection) (ns : List ℕ) → SameNames a (by_beat m b a ns).connection
+beat_same : (m : AppSpec) (b : Beat) (a : Connection) (ns : List ℕ) → SameNames a (by_beat m b a ns).connection
 beat_same m Beat.Wait a ns = older a
 beat_same m Beat.Again a ns = older a
 beat_same m Beat.GiveUp a ns = gone a
 
-waits_same : (m : Meaning) (a : Connection) (ns : List ℕ) → SameNames a (waits_for_ack m a ns).connection
+waits_same : (m : AppSpec) (a : Connection) (ns : List ℕ) → SameNames a (waits_for_ack m a ns).connection
 waits_same m a ns = beat_same m (beat_at (limit_of a.state) (a.age + 1)) a ns
 
 rests_same : (a : Connection) (ns : List ℕ) → SameNames a (rests_on a ns).connection
 unfolding rests_on
 rests_same a ns = either a (a.age + 1 == REST_TIME) (leaves (closes a) ns Step.Drop) (leaves (grows_older a) ns Step.Drop) (gone a) (older a)
 
-established_same : (m : Meaning) (a : Connection) (ns : List ℕ) → SameNames a (ticks_established m a ns).connection
+established_same : (m : AppSpec) (a : Connection) (ns : List ℕ) → SameNames a (ticks_established m a ns).connection
 unfolding ticks_established
 established_same m a ns =
     either a (nat_lt 0 a.len) (waits_for_ack m a ns) (polls m a ns) (waits_same m a ns) (record { sockets = refl; rcv_nxt = refl; snd_nxt = refl })
 
-tick_same : (m : Meaning) (s : State) (a : Connection) (ns : List ℕ) → SameNames a (tick_by m s a ns).connection
+tick_same : (m : AppSpec) (s : State) (a : Connection) (ns : List ℕ) → SameNames a (tick_by m s a ns).connection
 tick_same m Closed a ns = same a
 tick_same m SynRcvd a ns = waits_same m a ns
 tick_same m Established a ns = established_same m a ns
@@ -100,7 +98,7 @@ tick_same m Closing a ns = waits_same m a ns
 tick_same m TimeWait a ns = rests_same a ns
 tick_same m LastAck a ns = waits_same m a ns
 
-pub on_tick_same : (m : Meaning) (a : Connection) (ns : List ℕ) → SameNames a (on_tick m a ns).connection
+pub on_tick_same : (m : AppSpec) (a : Connection) (ns : List ℕ) → SameNames a (on_tick m a ns).connection
 on_tick_same m a ns = tick_same m a.state a ns
 
 -- after a segment a connection lives, or nothing is asked of the node
@@ -115,15 +113,15 @@ either_lives : (b : Bool) (x y : Outcome) → Lives x → Lives y → Lives (if 
 either_lives true x y p q = p
 either_lives false x y p q = q
 
-closes_lives : (m : Meaning) (a : Connection) (ns : List ℕ) (s : PlainSegment) → Lives (peer_closes m a ns s)
+closes_lives : (m : AppSpec) (a : Connection) (ns : List ℕ) (s : PlainSegment) → Lives (peer_closes m a ns s)
 unfolding peer_closes
 closes_lives m a ns s = either_lives (nat_lt 0 a.len) _ _ (inr refl) (inr refl)
 
-goes_lives : (m : Meaning) (acked : Bool) (a : Connection) (ns : List ℕ) (s : PlainSegment) → is_live a.state ≡ true → Lives (goes_on m acked a ns s)
-unfolding goes_on
+goes_lives : (m : AppSpec) (acked : Bool) (a : Connection) (ns : List ℕ) (s : PlainSegment) → is_live a.state ≡ true → Lives (stays_established m acked a ns s)
+unfolding stays_established
 goes_lives m acked a ns s live = either_lives (not acked && not (has_text s)) _ _ (inl refl) (either_lives (nat_lt 0 a.len) _ _ (inr live) (inr live))
 
-established_lives : (m : Meaning) (acked : Bool) (a : Connection) (ns : List ℕ) (s : PlainSegment) → is_live a.state ≡ true → Lives (in_established m acked a ns s)
+established_lives : (m : AppSpec) (acked : Bool) (a : Connection) (ns : List ℕ) (s : PlainSegment) → is_live a.state ≡ true → Lives (in_established m acked a ns s)
 unfolding in_established
 established_lives m acked a ns s live = either_lives (has_fin s.flags) _ _ (closes_lives m a ns s) (goes_lives m acked a ns s live)
 
@@ -135,7 +133,7 @@ waits_lives : (d a : Connection) (ns : List ℕ) (s : PlainSegment) → is_live 
 unfolding fin_waits
 waits_lives d a ns s there live = either_lives (has_fin s.flags) _ _ (inr there) (either_lives (has_text s) _ _ (inr live) (inr live))
 
-state_lives : (m : Meaning) (state : State) (acked : Bool) (a : Connection) (ns : List ℕ) (s : PlainSegment) → is_live a.state ≡ true → Lives (by_state m state acked a ns s)
+state_lives : (m : AppSpec) (state : State) (acked : Bool) (a : Connection) (ns : List ℕ) (s : PlainSegment) → is_live a.state ≡ true → Lives (by_state m state acked a ns s)
 state_lives m SynRcvd true a ns s live = inr refl
 state_lives m SynRcvd false a ns s live = inl refl
 state_lives m Established true a ns s live = established_lives m true _ _ s live
@@ -152,12 +150,12 @@ state_lives m LastAck false a ns s live = inl refl
 state_lives m TimeWait acked a ns s live = inr live
 state_lives m Closed acked a ns s live = inl refl
 
-pub segment_lives : (m : Meaning) (a : Connection) (ns : List ℕ) (s : PlainSegment) → is_live a.state ≡ true → Lives (on_segment m a ns s)
+pub segment_lives : (m : AppSpec) (a : Connection) (ns : List ℕ) (s : PlainSegment) → is_live a.state ≡ true → Lives (on_segment m a ns s)
 unfolding on_segment
 segment_lives m a ns s live =
     either_lives (has_rst s.flags) _ _ (inl refl) (either_lives (is_out_of_order a s) _ _ (inr live) (state_lives m a.state (is_acked a s) a ns s live))
 
-pub segment_named : {A S : Type 0} (g : Ghosts A S) (k : g.Kept) (d : Conn A) (a : Connection) (step : Step) (m : Meaning) (ns : List ℕ) (s : PlainSegment) (after : List ℕ) →
+pub segment_named : {A S : Type 0} (g : Ghosts A S) (k : g.Config) (d : Conn A) (a : Connection) (step : Step) (m : AppSpec) (ns : List ℕ) (s : PlainSegment) (after : List ℕ) →
     Meets g k d after step (on_segment m a ns s) → is_live a.state ≡ true → (step ≡ Step.Drop → ⊥) → IsNamed d (on_segment m a ns s).connection
 segment_named g k d a step m ns s after h live speaks =
     elim (segment_lives m a ns s live) [

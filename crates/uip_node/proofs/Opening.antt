@@ -6,9 +6,9 @@ use Rattle.app_events.specs.declared.app.App.{Ghosts}
 use Rattle.app_events.specs.States.{is_live}
 use Rattle.app_events.specs.declared.state.State.TheVariants.{Closed}
 use Rattle.tcp_machine.specs.Connection.{Connection, closed}
-use Rattle.tcp_machine.specs.Stands.{ConnStands, is_open}
+use Rattle.tcp_machine.specs.Represents.{ConnRepresents, is_open}
 use Rattle.tcp_table.specs.declared.conn.Conn.{Conn}
-use Rattle.uip_node.specs.Slots.{AllKept, IsKept, SlotsStand}
+use Rattle.uip_node.specs.Slots.{AllWellFormed, IsWellFormedConn, SlotsRepresent}
 
 not_both : (b : Bool) → b ≡ false → b ≡ true → ⊥
 not_both true f t = cc
@@ -22,7 +22,7 @@ is_within (y ∷ ys) (suc i) x at = omega (arith, is_within ys i x at)
 all_at : {X : Type 0} (P : X → Type 0) (xs : List X) (i : ℕ) (x : X) → All P xs → slice_get xs i ≡ Some x → P x
 all_at P xs i x all at = subst P (get_or_from_slice_get xs i x x at) (all i x (is_within xs i x at))
 
-closed_kept : {A S : Type 0} (g : Ghosts A S) (k : g.Kept) (c : Conn A) → c.state ≡ Closed → IsKept g k c
+closed_kept : {A S : Type 0} (g : Ghosts A S) (k : g.Config) (c : Conn A) → c.state ≡ Closed → IsWellFormedConn g k c
 closed_kept g k c h = record {
   sound = record {
     numbers = λ live. absurd (not_both (is_live c.state) (ap is_live h) live);
@@ -31,7 +31,7 @@ closed_kept g k c h = record {
   busy = λ waits. let e = sym h ∙ waits in cc;
 }
 
-pub all_kept : {A S : Type 0} (g : Ghosts A S) (k : g.Kept) (cs : List (Conn A)) → All (λ (c : Conn A). c.state ≡ Closed) cs → AllKept g k cs
+pub all_kept : {A S : Type 0} (g : Ghosts A S) (k : g.Config) (cs : List (Conn A)) → All (λ (c : Conn A). c.state ≡ Closed) cs → AllWellFormed g k cs
 all_kept {A} g k cs all i c at = closed_kept g k c (all_at (λ (d : Conn A). d.state ≡ Closed) cs i c all at)
 
 from_replicate : {X : Type 0} (n i : ℕ) (x y : X) → slice_get (replicate n x) i ≡ Some y → y ≡ x
@@ -39,7 +39,7 @@ from_replicate zero i x y h = cc
 from_replicate (suc n) zero x y h = cc
 from_replicate (suc n) (suc i) x y h = from_replicate n i x y h
 
-closed_stands : {A S : Type 0} (g : Ghosts A S) (k : g.Kept) (c : Conn A) (a : Connection) → c.state ≡ Closed → a ≡ closed → ConnStands g k c a
+closed_stands : {A S : Type 0} (g : Ghosts A S) (k : g.Config) (c : Conn A) (a : Connection) → c.state ≡ Closed → a ≡ closed → ConnRepresents g k c a
 closed_stands g k c a h e =
     let state : a.state ≡ Closed = ap (λ (b : Connection). b.state) e in
     record {
@@ -47,7 +47,7 @@ closed_stands g k c a h e =
       part = λ open_to_it. absurd (not_both (is_open a.state) (ap is_open state) open_to_it);
     }
 
-pub all_stand : {A S : Type 0} (g : Ghosts A S) (k : g.Kept) (cs : List (Conn A)) → All (λ (c : Conn A). c.state ≡ Closed) cs → length cs ≡ 10 → SlotsStand g k cs (replicate 10 closed)
+pub all_stand : {A S : Type 0} (g : Ghosts A S) (k : g.Config) (cs : List (Conn A)) → All (λ (c : Conn A). c.state ≡ Closed) cs → length cs ≡ 10 → SlotsRepresent g k cs (replicate 10 closed)
 all_stand {A} g k cs all ten = record {
   same_length = sym ten;
   each = λ i c a at there. closed_stands g k c a (all_at (λ (d : Conn A). d.state ≡ Closed) cs i c all at) (from_replicate 10 i closed a there);

@@ -2,13 +2,13 @@
 use Rattle.std.proofs.Common.{◌≡◌, ℕ, Bool, true, false, not, ◌&&◌, List, refl, ◌∙◌, ltb}
 use Rattle.tcp_segment.specs.Segments.{PlainSegment, has_fin, has_rst}
 use Rattle.rexmit_timer.specs.declared.timer.Beat.{Beat}
-use Rattle.app_events.specs.Part.{Meaning}
+use Rattle.app_events.specs.AppSpec.{AppSpec}
 use Rattle.app_events.specs.declared.now.Now.{Now}
 use Rattle.app_events.specs.declared.state.State.{State}
 use Rattle.app_events.specs.declared.state.State.TheVariants.{Closed, SynRcvd, Established, CloseWait, FinWait1, FinWait2, Closing, TimeWait, LastAck}
 use Rattle.tcp_machine.specs.Connection.{Connection, is_live}
 use Rattle.tcp_machine.specs.Ask.{Outcome, leaves, prepared, asked}
-use Rattle.tcp_machine.specs.OnSegment.{is_out_of_order, is_acked, has_text, peer_closes, goes_on, in_established, fin_acked, fin_waits, by_state, on_segment, with_part, rests}
+use Rattle.tcp_machine.specs.OnSegment.{is_out_of_order, is_acked, has_text, peer_closes, stays_established, in_established, fin_acked, fin_waits, by_state, on_segment, with_part, rests}
 use Rattle.tcp_machine.specs.OnTick.{by_beat, tick_by, on_tick}
 use Rattle.tcp_machine.specs.declared.step.Step.{Step}
 use Rattle.uip_node.proofs.Basics.{choose}
@@ -17,13 +17,13 @@ use Rattle.uip_node.proofs.Cases.{asked_by, on_tick_by, wanted_unmoved}
 abbrev pub Keeps : Connection → Outcome → Type 0
 Keeps c o = o.connection.sockets ≡ c.sockets
 
-module _ (m : Meaning) where
+module _ (m : AppSpec) where
   pub asked_keeps : (at : Connection → Now) (c : Connection) (o : Outcome) → Keeps c o → Keeps c (asked m at o)
   asked_keeps at c o h =
       asked_by m (λ x. Keeps c x) at o (λ a fresh. (let b : Connection = prepared m (at o.connection) o.connection o.numbers in (wanted_unmoved m (m.want o.numbers b.part) fresh b o.numbers).sockets ∙ h)) h
 
   established_keeps : (acked : Bool) (c : Connection) (numbers : List ℕ) (s : PlainSegment) → Keeps c (in_established m acked c numbers s)
-  unfolding in_established peer_closes goes_on
+  unfolding in_established peer_closes stays_established
   established_keeps acked c numbers s =
       choose (λ o. Keeps c o) (has_fin s.flags) _ _
       (λ e. choose (λ o. Keeps c o) (ltb 0 c.len) _ _ (λ f. refl) (λ f. refl))

@@ -1,4 +1,5 @@
--- Counters raised together, place by place, and as counts.
+-- Counters raised together, index by index, and as counts.
+-- [add: counter] A further number.
 use Rattle.std.proofs.Common.{◌≡◌, ℕ, suc, ◌+◌, ◌<◌, ◌==◌, ◌||◌, Bool, true, false, List, [], ◌∷◌, if◌then◌else◌, length, get_or, map, refl, sym, ap, ◌∙◌, arith}
 use Rattle.std.specs.List.{range_with_len}
 use Rattle.std.proofs.lemmas.Bool.{agree_below_at, eqb-true}
@@ -7,7 +8,7 @@ use Rattle.std.proofs.Math.Nat.{mod-add-mod}
 use Rattle.uip_wire.specs.Numbers.{wrap}
 use Rattle.uip_node.specs.Raising.{marks, raise, counter_places}
 use Rattle.uip_node.specs.Counters.{counters, raises, times}
-use Rattle.uip_node.specs.Events.{Past}
+use Rattle.uip_node.specs.Events.{HistoryEntry}
 
 pub raise_by_place : (bs : List Bool) (ns ms : List ℕ) → length ms ≡ length ns → length bs ≡ length ns →
     ((k : ℕ) → k < length ns → get_or ms k 0 ≡ (if get_or bs k false then wrap (get_or ns k 0 + 1) else get_or ns k 0)) → ms ≡ raise bs ns
@@ -26,20 +27,20 @@ one_more true n = sym (mod-add-mod n 4294967296 1)
 one_more false n = refl
 
 -- one event more raises the counters that are its own
-counts_more : (numbers : List ℕ) (p : Past) (past : List Past) →
-    map (λ k. wrap (times (raises k) (p ∷ past))) numbers ≡ raise (map (λ k. raises k p) numbers) (map (λ k. wrap (times (raises k) past)) numbers)
-counts_more [] p past = refl
-counts_more (k ∷ numbers) p past =
-    let tail = counts_more numbers p past in
-    let head : wrap (times (raises k) (p ∷ past)) ≡ (if raises k p then wrap (wrap (times (raises k) past) + 1) else wrap (times (raises k) past)) = one_more (raises k p) (times (raises k) past) in
+counts_more : (numbers : List ℕ) (p : HistoryEntry) (history : List HistoryEntry) →
+    map (λ k. wrap (times (raises k) (p ∷ history))) numbers ≡ raise (map (λ k. raises k p) numbers) (map (λ k. wrap (times (raises k) history)) numbers)
+counts_more [] p history = refl
+counts_more (k ∷ numbers) p history =
+    let tail = counts_more numbers p history in
+    let head : wrap (times (raises k) (p ∷ history)) ≡ (if raises k p then wrap (wrap (times (raises k) history) + 1) else wrap (times (raises k) history)) = one_more (raises k p) (times (raises k) history) in
     cc
 
 -- which of the twenty an event of the past raised
-abbrev pub raised_at : Past → List Bool
+abbrev pub raised_at : HistoryEntry → List Bool
 raised_at p = map (λ k. raises k p) (range_with_len 0 20)
 
-pub counters_more : (p : Past) (past : List Past) → counters (p ∷ past) ≡ raise (raised_at p) (counters past)
-counters_more p past = counts_more (range_with_len 0 20) p past
+pub counters_more : (p : HistoryEntry) (history : List HistoryEntry) → counters (p ∷ history) ≡ raise (raised_at p) (counters history)
+counters_more p history = counts_more (range_with_len 0 20) p history
 
 -- the twenty places in their order
 abbrev in_order : ℕ → Bool

@@ -1,15 +1,15 @@
 -- Whole conversations, computed from the definitions alone.
 use Rattle.std.proofs.Common.{◌≡◌, ◌+◌, ℕ, zero, suc, Bool, true, false, List, [], ◌∷◌, ◌++◌, map, refl, Option, Some, None, ◌==◌}
 use Rattle.tcp_segment.specs.declared.flags.TheConstants.{FIN, SYN, RST, PSH, ACK}
-use Rattle.app_events.specs.FixedMeaning.{fixed_meaning, hello}
+use Rattle.app_events.specs.FixedSpec.{fixed_spec, hello}
 use Rattle.tcp_machine.specs.Connection.{Sockets}
 use Rattle.tcp_machine.specs.Ask.{idles}
-use Rattle.tcp_machine.specs.OnSegment.{peer_closes, goes_on, in_established, fin_acked, fin_waits, on_segment}
+use Rattle.tcp_machine.specs.OnSegment.{peer_closes, stays_established, in_established, fin_acked, fin_waits, on_segment}
 use Rattle.tcp_machine.specs.OnTick.{rests_on, ticks_established}
 use Rattle.uip_node.specs.Events.{Event, Reply, tick}
 use Rattle.uip_node.specs.Events.Event.{Arrived}
 use Rattle.uip_node.specs.Events.Reply.{Echo, Tcp}
-use Rattle.uip_node.specs.Node.{opening, run, happened, opens_in, from_stranger}
+use Rattle.uip_node.specs.Node.{initial_node, run, happened, opens_in, for_no_connection}
 
 abbrev web : ℕ → Bool
 web port = port == 80
@@ -42,7 +42,7 @@ ticks zero = []
 ticks (suc n) = tick ++ ticks n
 
 abbrev sent_for : List Event → List Told
-sent_for events = map told (run fixed_meaning web events (opening (record { 0 = 10 ∷ 0 ∷ 0 ∷ 1 ∷ [] }) [])).sent
+sent_for events = map told (run fixed_spec web events (initial_node (record { 0 = 10 ∷ 0 ∷ 0 ∷ 1 ∷ [] }) [])).sent
 
 abbrev synack : ℕ → Bool → Told
 synack id again = record { id = id; again = again; seq = 0; ack = 1001; flags = SYN + ACK; text = [] }
@@ -52,19 +52,19 @@ greeting id again = record { id = id; again = again; seq = 1; ack = 1002; flags 
 
 -- a SYN is answered, and the SYN-ACK is sent again at the fourth tick
 usual_syn : sent_for (syn ∷ ticks 4) ≡ synack 1 false ∷ synack 2 true ∷ []
-unfolding idles peer_closes goes_on in_established fin_acked fin_waits on_segment rests_on ticks_established happened opens_in from_stranger
+unfolding idles peer_closes stays_established in_established fin_acked fin_waits on_segment rests_on ticks_established happened opens_in for_no_connection
 usual_syn = refl
 
 -- a byte is answered by the text
 first_text : sent_for (syn ∷ says 1001 1 ACK None (120 ∷ []) ∷ []) ≡ synack 1 false ∷ greeting 2 false ∷ []
-unfolding idles peer_closes goes_on in_established fin_acked fin_waits on_segment rests_on ticks_established happened opens_in from_stranger
+unfolding idles peer_closes stays_established in_established fin_acked fin_waits on_segment rests_on ticks_established happened opens_in for_no_connection
 first_text = refl
 
 -- the text is lost each time: it is sent again at eight ages and given up at the ninth
 lost_text : sent_for (syn ∷ says 1001 1 ACK None (120 ∷ []) ∷ ticks 249)
     ≡ synack 1 false ∷ greeting 2 false ∷ greeting 3 true ∷ greeting 4 true ∷ greeting 5 true ∷ greeting 6 true ∷ greeting 7 true ∷ greeting 8 true ∷ greeting 9 true ∷ greeting 10 true
     ∷ record { id = 11; again = false; seq = 1; ack = 1002; flags = RST + ACK; text = [] } ∷ []
-unfolding idles peer_closes goes_on in_established fin_acked fin_waits on_segment rests_on ticks_established happened opens_in from_stranger
+unfolding idles peer_closes stays_established in_established fin_acked fin_waits on_segment rests_on ticks_established happened opens_in for_no_connection
 lost_text = refl
 
 -- a whole life: the peer acknowledges the text and the FIN, and closes
@@ -72,7 +72,7 @@ whole_life : sent_for (syn ∷ says 1001 1 ACK None (120 ∷ []) ∷ says 1002 7
     ≡ synack 1 false ∷ greeting 2 false
     ∷ record { id = 3; again = false; seq = 7; ack = 1002; flags = FIN + ACK; text = [] }
     ∷ record { id = 4; again = false; seq = 8; ack = 1003; flags = ACK; text = [] } ∷ []
-unfolding idles peer_closes goes_on in_established fin_acked fin_waits on_segment rests_on ticks_established happened opens_in from_stranger
+unfolding idles peer_closes stays_established in_established fin_acked fin_waits on_segment rests_on ticks_established happened opens_in for_no_connection
 whole_life = refl
 
 -- the peer closes first, with its request: it still gets the whole text, and then the FIN
@@ -80,5 +80,5 @@ closes_first : sent_for (syn ∷ says 1001 1 ACK None [] ∷ says 1001 1 (FIN + 
     ≡ synack 1 false
     ∷ record { id = 2; again = false; seq = 1; ack = 1003; flags = ACK + PSH; text = hello }
     ∷ record { id = 3; again = false; seq = 7; ack = 1003; flags = FIN + ACK; text = [] } ∷ []
-unfolding idles peer_closes goes_on in_established fin_acked fin_waits on_segment rests_on ticks_established happened opens_in from_stranger
+unfolding idles peer_closes stays_established in_established fin_acked fin_waits on_segment rests_on ticks_established happened opens_in for_no_connection
 closes_first = refl

@@ -2,7 +2,7 @@
 use Rattle.std.proofs.Common.{ℕ, zero, suc, ◌≡◌, ◌+◌, ◌<◌, Bool, true, false, List, [], ◌∷◌, length, Some, inl, inr, refl, sym, ap, ◌∙◌, subst, arith, nat_lt, if◌then◌else◌}
 use Rattle.std.specs.Prelude.{slice_get, slice_set}
 use Rattle.std.proofs.lemmas.Bool.{cases_eq, ltb-true, ltb-false}
-use Rattle.app_events.specs.Part.{Meaning}
+use Rattle.app_events.specs.AppSpec.{AppSpec}
 use Rattle.app_events.specs.declared.app.App.{Ghosts}
 use Rattle.app_events.specs.States.{is_live}
 use Rattle.app_events.specs.declared.now.Now.{Now}
@@ -10,12 +10,13 @@ use Rattle.app_events.specs.declared.row.Row.{Row}
 use Rattle.app_events.specs.declared.state.State.{State}
 use Rattle.rexmit_timer.specs.Ages.{count_at, tries_at}
 use Rattle.tcp_table.specs.declared.conn.Conn.{Conn}
-use Rattle.tcp_machine.specs.Ask.{Outcome, ask, asked, asked_for}
+use Rattle.tcp_machine.specs.Ask.{Outcome, ask, ask_prepared, asked, asked_for, prepared}
 use Rattle.tcp_machine.specs.Connection.{Connection, row_of, rows_from, tries_of, count_of, is_resting}
 use Rattle.tcp_machine.specs.Fits.{IsAnswer, Rests, StepFits}
-use Rattle.tcp_machine.specs.Stands.{ConnStands}
+use Rattle.tcp_machine.specs.Represents.{ConnRepresents}
 use Rattle.tcp_machine.specs.declared.step.Step.{Step}
-use Rattle.uip_node.specs.Slots.{AllKept, AllSound, IsKept, MeetsAt, OthersRest, SlotsStand, live_rows, moment_at, row_in}
+use Rattle.uip_node.specs.Inner.{PreparesIn, StaysPrepared, TakesIn}
+use Rattle.uip_node.specs.Slots.{AllWellFormed, AllSound, IsWellFormedConn, MeetsAt, OthersRest, SlotsRepresent, live_rows, snapshot_at, row_in}
 use Rattle.uip_node.proofs.Tables.{get_after_set, get_set_same}
 
 pub rests_of : {A : Type 0} (d : Conn A) (step : Step) → IsAnswer step → StepFits d step → Rests d
@@ -27,10 +28,10 @@ rests_of d (Step.Fin again) a f = f
 rests_of d Step.Reset a f = f
 rests_of d (Step.Ask fresh) a f = absurd a
 
-pub kept_after : {A S : Type 0} (g : Ghosts A S) (k : g.Kept) (cs : List (Conn A)) (i : ℕ) (d : Conn A) → AllSound g k cs → OthersRest i cs → IsKept g k d → AllKept g k (slice_set cs i d)
+pub kept_after : {A S : Type 0} (g : Ghosts A S) (k : g.Config) (cs : List (Conn A)) (i : ℕ) (d : Conn A) → AllSound g k cs → OthersRest i cs → IsWellFormedConn g k d → AllWellFormed g k (slice_set cs i d)
 kept_after {A} g k cs i d sound others here j c h =
     elim (cases_eq j i) [
-      | inl same ↦ subst (λ (x : Conn A). IsKept g k x) (sym (get_set_same cs i d c (subst (λ (n : ℕ). slice_get (slice_set cs i d) n ≡ Some c) same h))) here
+      | inl same ↦ subst (λ (x : Conn A). IsWellFormedConn g k x) (sym (get_set_same cs i d c (subst (λ (n : ℕ). slice_get (slice_set cs i d) n ≡ Some c) same h))) here
       | inr other ↦ elim (get_after_set cs i j d c h) [
         | inl e ↦ absurd (other (sym e.0))
         | inr old ↦ record { sound = sound j c old; busy = others j c other old }
@@ -52,7 +53,7 @@ pick true x y z f g = f refl
 pick false x y z f g = g refl
 
 -- the row of a connection is that of the abstract one
-row_stands : {A S : Type 0} (g : Ghosts A S) (k : g.Kept) (slot : ℕ) (c : Conn A) (a : Connection) → ConnStands g k c a → is_live a.state ≡ true → row_in slot c ≡ row_of slot a
+row_stands : {A S : Type 0} (g : Ghosts A S) (k : g.Config) (slot : ℕ) (c : Conn A) (a : Connection) → ConnRepresents g k c a → is_live a.state ≡ true → row_in slot c ≡ row_of slot a
 row_stands g k slot c a h live =
     let l = h.numbers.like live in
     let peer = l.peer in
@@ -69,13 +70,13 @@ both : (b : Bool) (x y : Row) (xs ys : List Row) → (b ≡ true → x ≡ y) �
 both true x y xs ys e f = let g = e refl in cc
 both false x y xs ys e f = f
 
-tail_stands : {A S : Type 0} (g : Ghosts A S) (k : g.Kept) (c : Conn A) (cs : List (Conn A)) (a : Connection) (abstracts : List Connection) → SlotsStand g k (c ∷ cs) (a ∷ abstracts) → SlotsStand g k cs abstracts
+tail_stands : {A S : Type 0} (g : Ghosts A S) (k : g.Config) (c : Conn A) (cs : List (Conn A)) (a : Connection) (abstracts : List Connection) → SlotsRepresent g k (c ∷ cs) (a ∷ abstracts) → SlotsRepresent g k cs abstracts
 tail_stands g k c cs a abstracts h = record {
   same_length = omega (arith, h.same_length);
   each = λ i d b e f. h.each (suc i) d b e f;
 }
 
-pub rows_stand : {A S : Type 0} (g : Ghosts A S) (k : g.Kept) (slot : ℕ) (cs : List (Conn A)) (abstracts : List Connection) → SlotsStand g k cs abstracts → live_rows slot cs ≡ rows_from slot abstracts
+pub rows_stand : {A S : Type 0} (g : Ghosts A S) (k : g.Config) (slot : ℕ) (cs : List (Conn A)) (abstracts : List Connection) → SlotsRepresent g k cs abstracts → live_rows slot cs ≡ rows_from slot abstracts
 rows_stand g k slot [] [] h = refl
 rows_stand g k slot [] (a ∷ abstracts) h = absurd (omega (arith, h.same_length))
 rows_stand g k slot (c ∷ cs) [] h = absurd (omega (arith, h.same_length))
@@ -85,26 +86,59 @@ rows_stand g k slot (c ∷ cs) (a ∷ abstracts) h =
     ap (λ (s : State). if is_live s then row_in slot c ∷ live_rows (slot + 1) cs else live_rows (slot + 1) cs) head.numbers.state
     ∙ both (is_live a.state) (row_in slot c) (row_of slot a) (live_rows (slot + 1) cs) (rows_from (slot + 1) abstracts) (λ live. row_stands g k slot c a head live) rest
 
-pub settled : {A S : Type 0} (g : Ghosts A S) (k : g.Kept) (m : Meaning) (cs ds : List (Conn A)) (abstracts : List Connection) (ns : List ℕ) (step result : Step) (slot ticks : ℕ) (net : List ℕ) (fresh : Bool) (now : Now) (o : Outcome) →
+pub settled : {A S : Type 0} (g : Ghosts A S) (k : g.Config) (m : AppSpec) (cs ds : List (Conn A)) (abstracts : List Connection) (ns : List ℕ) (step result : Step) (slot ticks : ℕ) (net : List ℕ) (fresh : Bool) (now : Now) (o : Outcome) →
     slot < length abstracts → step ≡ Step.Ask fresh → MeetsAt g k cs ns step abstracts slot o →
     now ≡ record { ticks = ticks; net = net; rows = live_rows 0 cs } →
-    ((others : List Connection) (a : Connection) → SlotsStand g k cs others → slice_get others slot ≡ Some a → MeetsAt g k ds ns result others slot (ask m now fresh a ns)) →
-    MeetsAt g k ds ns result abstracts slot (asked m (moment_at ticks net abstracts slot) o)
+    ((others : List Connection) (a : Connection) → SlotsRepresent g k cs others → slice_get others slot ≡ Some a → MeetsAt g k ds ns result others slot (ask m now fresh a ns)) →
+    MeetsAt g k ds ns result abstracts slot (asked m (snapshot_at ticks net abstracts slot) o)
 settled g k m cs ds abstracts ns step result slot ticks net fresh now o within is h n meets =
     let after : List Connection = slice_set abstracts slot o.connection in
-    let said : o.step ≡ Step.Ask fresh = sym h.asked ∙ is in
-    let moment : now ≡ moment_at ticks net abstracts slot o.connection = n ∙ ap (λ (rows : List Row). record { ticks = ticks; net = net; rows = rows }) (rows_stand g k 0 cs after h.slots) in
+    let output : o.step ≡ Step.Ask fresh = sym h.asked ∙ is in
+    let snapshot : now ≡ snapshot_at ticks net abstracts slot o.connection = n ∙ ap (λ (rows : List Row). record { ticks = ticks; net = net; rows = rows }) (rows_stand g k 0 cs after h.slots) in
     let one = meets after o.connection h.slots (get_set abstracts slot o.connection within) in
-    let two = subst (λ (t : Now). MeetsAt g k ds ns result after slot (ask m t fresh o.connection ns)) moment one in
-    let three = subst (λ (x : List ℕ). MeetsAt g k ds ns result after slot (ask m (moment_at ticks net abstracts slot o.connection) fresh o.connection x)) h.counted two in
-    subst (λ (s : Step). MeetsAt g k ds ns result abstracts slot (asked_for m (moment_at ticks net abstracts slot) o s)) (sym said)
+    let two = subst (λ (t : Now). MeetsAt g k ds ns result after slot (ask m t fresh o.connection ns)) snapshot one in
+    let three = subst (λ (x : List ℕ). MeetsAt g k ds ns result after slot (ask m (snapshot_at ticks net abstracts slot o.connection) fresh o.connection x)) h.counted two in
+    subst (λ (s : Step). MeetsAt g k ds ns result abstracts slot (asked_for m (snapshot_at ticks net abstracts slot) o s)) (sym output)
     (record {
-      slots = subst (λ (xs : List Connection). SlotsStand g k ds xs) (set_set abstracts slot o.connection (ask m (moment_at ticks net abstracts slot o.connection) fresh o.connection o.numbers).connection) three.slots;
+      slots = subst (λ (xs : List Connection). SlotsRepresent g k ds xs) (set_set abstracts slot o.connection (ask m (snapshot_at ticks net abstracts slot o.connection) fresh o.connection o.numbers).connection) three.slots;
       counted = three.counted;
       asked = three.asked;
       named = three.named;
     })
 
-pub kept_with : {A S : Type 0} (g : Ghosts A S) (k : g.Kept) (cs : List (Conn A)) (i : ℕ) (d : Conn A) → AllKept g k cs → IsKept g k d → AllKept g k (slice_set cs i d)
+-- the connection in a slot is written there again
+pub set_same : {X : Type 0} (xs : List X) (i : ℕ) (x : X) → slice_get xs i ≡ Some x → slice_set xs i x ≡ xs
+set_same [] i x h = refl
+set_same (y ∷ ys) zero x h = cc
+set_same (y ∷ ys) (suc i) x h = ap (λ (ws : List _). y ∷ ws) (set_same ys i x h)
+
+get_set_there : {X : Type 0} (xs : List X) (i : ℕ) (x y : X) → slice_get xs i ≡ Some y → slice_get (slice_set xs i x) i ≡ Some x
+get_set_there [] i x y h = cc
+get_set_there (z ∷ zs) zero x y h = refl
+get_set_there (z ∷ zs) (suc i) x y h = get_set_there zs i x y h
+
+-- a connection that is not due stays what it is
+pub prepares_none : {A S : Type 0} (g : Ghosts A S) (k : g.Config) (slot : ℕ) (now : Now) (cs : List (Conn A)) (ns : List ℕ) →
+    StaysPrepared g k slot cs ns → PreparesIn g k slot now cs cs ns
+prepares_none g k slot now cs ns stays abstracts a stand at =
+    let same : slice_set abstracts slot (prepared (g.app_spec k) now a ns) ≡ abstracts =
+    ap (λ (b : Connection). slice_set abstracts slot b) (stays abstracts a now stand at) ∙ set_same abstracts slot a at in
+    subst (λ (xs : List Connection). SlotsRepresent g k cs xs) (sym same) stand
+
+-- a connection that is prepared, and then asked
+pub prepared_asked : {A S : Type 0} (g : Ghosts A S) (k : g.Config) (slot : ℕ) (now : Now) (fresh : Bool) (cs ds es : List (Conn A)) (ns : List ℕ) (answer : Step) →
+    PreparesIn g k slot now cs ds ns → TakesIn g k slot (λ a. ask_prepared (g.app_spec k) fresh a ns) ds es ns answer →
+    TakesIn g k slot (λ a. ask (g.app_spec k) now fresh a ns) cs es ns answer
+prepared_asked g k slot now fresh cs ds es ns answer prepares takes abstracts a stand at =
+    let b : Connection = prepared (g.app_spec k) now a ns in
+    let one = takes (slice_set abstracts slot b) b (prepares abstracts a stand at) (get_set_there abstracts slot b a at) in
+    record {
+      slots = subst (λ (xs : List Connection). SlotsRepresent g k es xs) (set_set abstracts slot b (ask (g.app_spec k) now fresh a ns).connection) one.slots;
+      counted = one.counted;
+      asked = one.asked;
+      named = one.named;
+    }
+
+pub kept_with : {A S : Type 0} (g : Ghosts A S) (k : g.Config) (cs : List (Conn A)) (i : ℕ) (d : Conn A) → AllWellFormed g k cs → IsWellFormedConn g k d → AllWellFormed g k (slice_set cs i d)
 kept_with {A} g k cs i d all here j c h =
-    elim (get_after_set cs i j d c h) [ inl e ↦ subst (λ (x : Conn A). IsKept g k x) (sym e.1) here | inr old ↦ all j c old ]
+    elim (get_after_set cs i j d c h) [ inl e ↦ subst (λ (x : Conn A). IsWellFormedConn g k x) (sym e.1) here | inr old ↦ all j c old ]

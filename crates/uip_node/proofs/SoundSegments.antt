@@ -6,7 +6,7 @@ use Rattle.uip_wire.specs.Numbers.{wrap}
 use Rattle.uip_wire.specs.declared.sizes.TheConstants.{OWN_MSS}
 use Rattle.tcp_segment.specs.Segments.{PlainSegment, has_fin, has_rst}
 use Rattle.rexmit_timer.specs.declared.timer.Beat.{Beat}
-use Rattle.app_events.specs.Part.{Meaning}
+use Rattle.app_events.specs.AppSpec.{AppSpec}
 use Rattle.app_events.specs.Pages.{IsByte}
 use Rattle.app_events.specs.declared.now.Now.{Now}
 use Rattle.app_events.specs.declared.state.State.{State}
@@ -14,9 +14,9 @@ use Rattle.app_events.specs.declared.state.State.TheVariants.{Closed, SynRcvd, E
 use Rattle.app_events.specs.declared.want.Want.{Want}
 use Rattle.app_events.specs.declared.want.Want.TheVariants.{Nothing, Send, Close, Abort}
 use Rattle.tcp_machine.specs.Connection.{Sockets, Connection, closed}
-use Rattle.tcp_machine.specs.Segments.{bare_ack, syn_ack, text_segment, fin_of, reset_of, reset_to_none, segment_of}
+use Rattle.tcp_machine.specs.Segments.{bare_ack, syn_ack, text_segment, fin_of, reset_of, reset_for_no_connection, segment_of}
 use Rattle.tcp_machine.specs.Ask.{Outcome, peer_has_closed, idles, does_as_wanted, prepared, asked_for, asked}
-use Rattle.tcp_machine.specs.OnSegment.{first_mss, accepted, is_out_of_order, is_acked, rests, has_text, with_part, peer_closes, goes_on, in_established, fin_acked, fin_waits, by_state, on_segment}
+use Rattle.tcp_machine.specs.OnSegment.{first_mss, accepted, is_out_of_order, is_acked, rests, has_text, with_part, peer_closes, stays_established, in_established, fin_acked, fin_waits, by_state, on_segment}
 use Rattle.tcp_machine.specs.OnTick.{by_beat, on_tick}
 use Rattle.tcp_machine.specs.declared.step.Step.{Step}
 use Rattle.uip_node.proofs.Cases.{on_tick_by}
@@ -52,10 +52,10 @@ pub first_low : (n : Option ℕ) → first_mss n ≤ 1460
 first_low None = omega arith
 first_low (Some n) = choose (λ x. x ≤ 1460) (eqb n 0) _ _ (λ e. omega arith) (λ e. omega arith)
 
-pub accepted_lens : (first : ℕ) (sockets : Sockets) (s : PlainSegment) → Lens (accepted first sockets s)
-accepted_lens first sockets s = record { len = omega arith; mss = first_low s.mss; initial = first_low s.mss }
+pub accepted_lens : (iss : ℕ) (sockets : Sockets) (s : PlainSegment) → Lens (accepted iss sockets s)
+accepted_lens iss sockets s = record { len = omega arith; mss = first_low s.mss; initial = first_low s.mss }
 
-module _ (m : Meaning) (most : ℕ) (some : 1 ≤ most) where
+module _ (m : AppSpec) (most : ℕ) (some : 1 ≤ most) where
   wanted_within : (w : Want) (fresh : Bool) (c : Connection) (numbers : List ℕ) → LensWithin most c → LensWithin most (does_as_wanted w fresh c numbers).connection
   unfolding idles
   wanted_within Abort fresh c numbers h = record { len = h.len; mss = h.mss; initial = h.initial }
@@ -75,7 +75,7 @@ module _ (m : Meaning) (most : ℕ) (some : 1 ≤ most) where
   asked_within at o h = asked_for_within at o o.step h
 
   established_within : (acked : Bool) (c : Connection) (numbers : List ℕ) (s : PlainSegment) → LensWithin most c → LensWithin most (in_established m acked c numbers s).connection
-  unfolding in_established peer_closes goes_on
+  unfolding in_established peer_closes stays_established
   established_within acked c numbers s h =
       let w = window_within most c.initial_mss s.window h.initial in
       choose (λ (o : Outcome). LensWithin most o.connection) (has_fin s.flags) _ _
@@ -126,7 +126,7 @@ module _ (m : Meaning) (most : ℕ) (some : 1 ≤ most) where
     polled = λ e l. record { len = h.len; mss = h.mss; initial = h.initial };
   }
 
-module _ (m : Meaning) where
+module _ (m : AppSpec) where
   pub asked_lens : (at : Connection → Now) (o : Outcome) → Lens o.connection → Lens (asked m at o).connection
   asked_lens at o h = asked_within m 1460 (omega arith) at o h
 
@@ -137,23 +137,23 @@ module _ (m : Meaning) where
   on_tick_lens c numbers h = on_tick_within m 1460 (omega arith) c numbers h
 
   control : (c : Connection) (flags window : ℕ) (mss : Option ℕ) → flags < 64 → window < 65536 → IfSome mss (λ n. (0 < n) × (n < 65536)) →
-      IsSoundSegment (record { seq = wrap (c.first + c.acked); ack = wrap (c.peer_first + 1 + c.taken); flags = flags; window = window; mss = mss; text = [] })
+      IsSoundSegment (record { seq = wrap (c.iss + c.acked); ack = wrap (c.irs + 1 + c.taken); flags = flags; window = window; mss = mss; text = [] })
   control c flags window mss f w n = record { seq = wrap_low _; ack = wrap_low _; flags = f; window = w; mss = n; short = omega arith; alone = inr refl; text = all_nil IsByte }
 
-  text_sound : (c : Connection) → Lens c → All IsByte (m.said c.part) → IsSoundSegment (text_segment m c)
+  text_sound : (c : Connection) → Lens c → All IsByte (m.output c.part) → IsSoundSegment (text_segment m c)
   text_sound c l bytes = record {
     seq = wrap_low _;
     ack = wrap_low _;
     flags = omega arith;
     window = omega arith;
     mss = tt;
-    short = (let e : length (take c.len (drop c.part.acked (m.said c.part))) ≤ c.len = simp length-take (omega arith) in omega (arith, e, l.len));
+    short = (let e : length (take c.len (drop c.part.acked (m.output c.part))) ≤ c.len = simp length-take (omega arith) in omega (arith, e, l.len));
     alone = inl refl;
-    text = All-take IsByte c.len (drop c.part.acked (m.said c.part)) (All-drop IsByte c.part.acked (m.said c.part) bytes);
+    text = All-take IsByte c.len (drop c.part.acked (m.output c.part)) (All-drop IsByte c.part.acked (m.output c.part) bytes);
   }
 
-  -- what a step sends, where its application says bytes
-  pub said_sound : (c : Connection) (step : Step) (s : PlainSegment) → Lens c → All IsByte (m.said c.part) → segment_of m c step ≡ Some s → IsSoundSegment s
+  -- what a step sends, if its application sends bytes
+  pub said_sound : (c : Connection) (step : Step) (s : PlainSegment) → Lens c → All IsByte (m.output c.part) → segment_of m c step ≡ Some s → IsSoundSegment s
   said_sound c Step.Drop s l b e = absurd (cc)
   said_sound c Step.Ack s l b e = only_some (λ x. IsSoundSegment x) (bare_ack c) s e (control c 16 OWN_MSS None (omega arith) (omega arith) tt)
   said_sound c (Step.SynAck again) s l b e = only_some (λ x. IsSoundSegment x) (syn_ack c) s e (control c 18 OWN_MSS (Some OWN_MSS) (omega arith) (omega arith) (omega arith, omega arith))
@@ -162,5 +162,5 @@ module _ (m : Meaning) where
   said_sound c Step.Reset s l b e = only_some (λ x. IsSoundSegment x) (reset_of c) s e (control c 20 0 None (omega arith) (omega arith) tt)
   said_sound c (Step.Ask fresh) s l b e = absurd (cc)
 
-pub none_sound : (s : PlainSegment) → IsSoundSegment s → IsSoundSegment (reset_to_none s)
+pub none_sound : (s : PlainSegment) → IsSoundSegment s → IsSoundSegment (reset_for_no_connection s)
 none_sound s h = record { seq = h.ack; ack = wrap_low _; flags = omega arith; window = omega arith; mss = tt; short = omega arith; alone = inr refl; text = all_nil IsByte }

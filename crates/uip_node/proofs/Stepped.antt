@@ -1,8 +1,8 @@
--- A connection that was asked fits, and tells what is outstanding; its numbers are low.
+-- A connection whose application was asked fits, and has what is outstanding; its numbers are low.
 use Rattle.std.specs.List.{All}
 use Rattle.std.proofs.Common.{ℕ, ◌<◌, ◌≤◌, length, sym, subst, arith}
-use Rattle.app_events.specs.Part.{Part, Meaning}
-use Rattle.app_events.specs.Pages.{IsMoment, IsNow, IsWord}
+use Rattle.app_events.specs.AppSpec.{AppState, AppSpec}
+use Rattle.app_events.specs.Pages.{IsSnapshot, IsNow, IsU32}
 use Rattle.app_events.specs.declared.now.Now.{Now}
 use Rattle.app_events.specs.declared.state.State.{State}
 use Rattle.app_events.specs.declared.state.State.TheVariants.{Closed, SynRcvd, Established, CloseWait, FinWait1, FinWait2, Closing, TimeWait, LastAck}
@@ -12,8 +12,8 @@ use Rattle.uip_node.specs.Steady.{IsSteady}
 use Rattle.uip_node.proofs.Fits.{FitConn, FitOut, asked_fits, prepared_captures}
 use Rattle.uip_node.proofs.Told.{IsNear, TextSafe, SafeState, OutTells, OutTold, asked_tells}
 
-module _ (m : Meaning) (steady : IsSteady m) (Low : ℕ → Type 0) (low_text : (p : Part) → All IsMoment p.captures → Low (length (m.said p))) where
-  asks_fit : (o : Outcome) → All IsWord o.numbers → FitConn o.connection → (now : Now) → IsNow now → All IsMoment (m.prepare o.numbers o.connection.part now).captures
+module _ (m : AppSpec) (steady : IsSteady m) (Low : ℕ → Type 0) (low_text : (p : AppState) → All IsSnapshot p.captures → Low (length (m.output p))) where
+  asks_fit : (o : Outcome) → All IsU32 o.numbers → FitConn o.connection → (now : Now) → IsNow now → All IsSnapshot (m.prepare o.numbers o.connection.part now).captures
   asks_fit o n f now is = prepared_captures m steady o.numbers o.connection.part now n is f.captures
 
   pub stepped_fits : (now : Connection → Now) (o : Outcome) → ((c : Connection) → FitConn c → IsNow (now c)) → FitOut o → FitConn (asked m now o).connection

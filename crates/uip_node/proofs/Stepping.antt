@@ -1,11 +1,12 @@
 -- The cases of a node's step.
+-- [add: state] A step in it.
 use Rattle.std.proofs.Common.{ℕ, zero, suc, ◌≡◌, ◌+◌, ◌-◌, ◌%◌, ◌&&◌, ◌<◌, ◌≤◌, Bool, true, false, List, [], ◌∷◌, ◌++◌, length, take, drop, Option, Some, None, refl, sym, ap, ◌∙◌, subst, arith, nat_lt, slice_range, length-take, length-drop, length-append}
 use Rattle.std.specs.Prelude.{is_some, slice_get, slice_set}
 use Rattle.std.proofs.Math.Nat.{mod-add-mod}
 use Rattle.std.proofs.Math.Seq.{take-append_seam}
 use Rattle.std.proofs.lemmas.Bool.{ltb-false}
 use Rattle.std.proofs.lemmas.List.{take-take}
-use Rattle.app_events.specs.Part.{Meaning}
+use Rattle.app_events.specs.AppSpec.{AppSpec}
 use Rattle.app_events.specs.declared.app.App.{Ghosts}
 use Rattle.app_events.specs.States.{is_live}
 use Rattle.app_events.specs.declared.state.State.{State}
@@ -21,53 +22,54 @@ use Rattle.tcp_machine.specs.OnTick.{on_tick, tick_by}
 use Rattle.tcp_machine.specs.Segments.{is_plain_syn}
 use Rattle.tcp_machine.specs.declared.step.Step.{Step}
 use Rattle.tcp_machine.proofs.States.{by_state}
-use Rattle.uip_node.specs.Counted.{CountsStand, seen}
+use Rattle.uip_node.specs.Counted.{CountsRepresent, seen}
 use Rattle.uip_node.specs.Counters.{called_by, initial_number, times}
-use Rattle.uip_node.specs.Events.{Past}
+use Rattle.uip_node.specs.Events.{HistoryEntry}
 use Rattle.uip_node.specs.Events.Event.{Arrived, Periodic}
 use Rattle.uip_node.specs.Events.Answer.{Silent}
-use Rattle.uip_node.specs.Node.{AbstractNode, connection_in, from_stranger, happened, moment, opens, opens_in, passes, periodic, refuses, slot_for_syn}
-use Rattle.uip_node.specs.Slots.{SlotsStand}
-use Rattle.uip_node.specs.StandsFor.{Stands, Steps}
+use Rattle.uip_node.specs.Node.{AbstractNode, connection_in, for_no_connection, happened, snapshot, opens, opens_in, passes, periodic, refuses, slot_for_syn}
+use Rattle.uip_node.specs.Slots.{SlotsRepresent}
+use Rattle.uip_node.specs.Represents.{Represents, Steps}
 use Rattle.uip_node.specs.State.{Counts, Node}
 
--- a node stands after a later past, with another packet and other counts; what the abstract one remembers is not looked at
-pub stands_later : {A S : Type 0} (g : Ghosts A S) (node : Node A S) (packet : Buffer) (counts : Counts) (n : AbstractNode) (past later remembered : List Past) →
-    Stands g node n past → node.table.iss ≡ initial_number later → CountsStand counts later → Stands g (record node { packet = packet; counts = counts }) (record n { past = remembered }) later
-stands_later g node packet counts n past later remembered h iss stand = record { addr = h.addr; slots = h.slots; iss = iss; numbers_stand = h.numbers_stand; counts = stand }
+-- a node represents the abstract one after a later history, with another packet and other counts; what the abstract one remembers is not
+-- used
+pub stands_later : {A S : Type 0} (g : Ghosts A S) (node : Node A S) (packet : Buffer) (counts : Counts) (n : AbstractNode) (history later remembered : List HistoryEntry) →
+    Represents g node n history → node.table.iss ≡ initial_number later → CountsRepresent counts later → Represents g (record node { packet = packet; counts = counts }) (record n { history = remembered }) later
+stands_later g node packet counts n history later remembered h iss stand = record { addr = h.addr; slots = h.slots; iss = iss; numbers_stand = h.numbers_stand; counts = stand }
 
 -- only what is left and what is sent is looked at
-pub opened : {A S : Type 0} (g : Ghosts A S) (node : Node A S) (result : Option ℕ) (m : Meaning) (n : AbstractNode) (s : Sockets) (seg : PlainSegment) (slot : ℕ) →
-    Steps g node result (happened m n (Arrived s seg) slot (connection_in slot n) (accept (initial_number n.past) s seg n.numbers)) →
+pub opened : {A S : Type 0} (g : Ghosts A S) (node : Node A S) (result : Option ℕ) (m : AppSpec) (n : AbstractNode) (s : Sockets) (seg : PlainSegment) (slot : ℕ) →
+    Steps g node result (happened m n (Arrived s seg) slot (connection_in slot n) (accept (initial_number n.history) s seg n.numbers)) →
     Steps g node result (opens_in m n s seg slot)
 unfolding opens_in
 opened g node result m n s seg slot h = record { stands = h.stands; sent = h.sent }
 
-pub stranger_opens : (m : Meaning) (served : ℕ → Bool) (n : AbstractNode) (s : Sockets) (seg : PlainSegment) → (is_plain_syn seg && served s.own_port.0) ≡ true →
-    opens m n s seg (slot_for_syn n.connections) ≡ from_stranger m served n s seg
-unfolding from_stranger
+pub stranger_opens : (m : AppSpec) (served : ℕ → Bool) (n : AbstractNode) (s : Sockets) (seg : PlainSegment) → (is_plain_syn seg && served s.own_port.0) ≡ true →
+    opens m n s seg (slot_for_syn n.connections) ≡ for_no_connection m served n s seg
+unfolding for_no_connection
 stranger_opens m served n s seg h = cc
 
-pub stranger_passes : (m : Meaning) (served : ℕ → Bool) (n : AbstractNode) (s : Sockets) (seg : PlainSegment) → (is_plain_syn seg && served s.own_port.0) ≡ false → has_rst seg.flags ≡ true →
-    passes n (Arrived s seg) Silent ≡ from_stranger m served n s seg
-unfolding from_stranger
+pub stranger_passes : (m : AppSpec) (served : ℕ → Bool) (n : AbstractNode) (s : Sockets) (seg : PlainSegment) → (is_plain_syn seg && served s.own_port.0) ≡ false → has_rst seg.flags ≡ true →
+    passes n (Arrived s seg) Silent ≡ for_no_connection m served n s seg
+unfolding for_no_connection
 stranger_passes m served n s seg h r = cc
 
-pub stranger_refused : (m : Meaning) (served : ℕ → Bool) (n : AbstractNode) (s : Sockets) (seg : PlainSegment) → (is_plain_syn seg && served s.own_port.0) ≡ false → has_rst seg.flags ≡ false →
-    refuses n s seg ≡ from_stranger m served n s seg
-unfolding from_stranger
+pub stranger_refused : (m : AppSpec) (served : ℕ → Bool) (n : AbstractNode) (s : Sockets) (seg : PlainSegment) → (is_plain_syn seg && served s.own_port.0) ≡ false → has_rst seg.flags ≡ false →
+    refuses n s seg ≡ for_no_connection m served n s seg
+unfolding for_no_connection
 stranger_refused m served n s seg h r = cc
 
 -- the initial number rises by one at each periodic call
-pub next_first : (past : List Past) (slot : ℕ) → (initial_number past + 1) % 4294967296 ≡ initial_number (seen (Periodic slot) past)
-next_first past slot = mod-add-mod (times (λ p. is_some (called_by p.event)) past) 4294967296 1
+pub next_first : (history : List HistoryEntry) (slot : ℕ) → (initial_number history + 1) % 4294967296 ≡ initial_number (seen (Periodic slot) history)
+next_first history slot = mod-add-mod (times (λ p. is_some (called_by p.event)) history) 4294967296 1
 
 -- a CLOSED connection does nothing at a tick
-closed_by : (m : Meaning) (a : Connection) (ns : List ℕ) (state : State) → is_live state ≡ false → tick_by m state a ns ≡ leaves a ns Step.Drop
+closed_by : (m : AppSpec) (a : Connection) (ns : List ℕ) (state : State) → is_live state ≡ false → tick_by m state a ns ≡ leaves a ns Step.Drop
 closed_by m a ns state =
     by_state (λ s. is_live s ≡ false → tick_by m s a ns ≡ leaves a ns Step.Drop) (λ h. refl) (λ h. cc) (λ h. cc) (λ h. cc) (λ h. cc) (λ h. cc) (λ h. cc) (λ h. cc) (λ h. cc) state
 
-pub closed_tick : (m : Meaning) (a : Connection) (ns : List ℕ) → is_live a.state ≡ false → on_tick m a ns ≡ leaves a ns Step.Drop
+pub closed_tick : (m : AppSpec) (a : Connection) (ns : List ℕ) → is_live a.state ≡ false → on_tick m a ns ≡ leaves a ns Step.Drop
 closed_tick m a ns h = closed_by m a ns a.state h
 
 pub set_same : {X : Type 0} (xs : List X) (i : ℕ) (x : X) → slice_get xs i ≡ Some x → slice_set xs i x ≡ xs
@@ -75,14 +77,14 @@ set_same [] i x h = refl
 set_same (y ∷ ys) zero x h = cc
 set_same (y ∷ ys) (suc i) x h = ap (λ (zs : List _). y ∷ zs) (set_same ys i x h)
 
--- what stands at a place inside
+-- the element at an index inside
 pub slice_get-element : {X : Type 0} (xs : List X) (i : ℕ) → i < length xs → (x : X) × (slice_get xs i ≡ Some x)
 slice_get-element [] i h = absurd (omega (arith, h))
 slice_get-element (x ∷ xs) zero h = (x, refl)
 slice_get-element (x ∷ xs) (suc i) h = slice_get-element xs i (omega (arith, h))
 
-rests_by : {A S : Type 0} (g : Ghosts A S) (m : Meaning) (node : Node A S) (n : AbstractNode) (slot : ℕ) →
-    node.addr ≡ n.addr → SlotsStand g (g.kept node.shared) node.table.conns (slice_set n.connections slot (connection_in slot n)) → node.table.iss ≡ initial_number (seen (Periodic slot) n.past) → g.numbers node.shared ≡ n.numbers → CountsStand node.counts (seen (Periodic slot) n.past) →
+rests_by : {A S : Type 0} (g : Ghosts A S) (m : AppSpec) (node : Node A S) (n : AbstractNode) (slot : ℕ) →
+    node.addr ≡ n.addr → SlotsRepresent g (g.config node.shared) node.table.conns (slice_set n.connections slot (connection_in slot n)) → node.table.iss ≡ initial_number (seen (Periodic slot) n.history) → g.numbers node.shared ≡ n.numbers → CountsRepresent node.counts (seen (Periodic slot) n.history) →
     Steps g node None (happened m n (Periodic slot) slot (connection_in slot n) (leaves (connection_in slot n) n.numbers Step.Drop))
 unfolding happened
 rests_by g m node n slot addr slots iss ns counts = record {
@@ -90,13 +92,13 @@ rests_by g m node n slot addr slots iss ns counts = record {
   sent = refl;
 }
 
-pub rests_at : {A S : Type 0} (g : Ghosts A S) (m : Meaning) (node : Node A S) (n : AbstractNode) (slot : ℕ) →
-    node.addr ≡ n.addr → SlotsStand g (g.kept node.shared) node.table.conns n.connections → node.table.iss ≡ initial_number (seen (Periodic slot) n.past) → g.numbers node.shared ≡ n.numbers → CountsStand node.counts (seen (Periodic slot) n.past) →
+pub rests_at : {A S : Type 0} (g : Ghosts A S) (m : AppSpec) (node : Node A S) (n : AbstractNode) (slot : ℕ) →
+    node.addr ≡ n.addr → SlotsRepresent g (g.config node.shared) node.table.conns n.connections → node.table.iss ≡ initial_number (seen (Periodic slot) n.history) → g.numbers node.shared ≡ n.numbers → CountsRepresent node.counts (seen (Periodic slot) n.history) →
     slice_get n.connections slot ≡ Some (connection_in slot n) → is_live (connection_in slot n).state ≡ false → Steps g node None (periodic m n slot)
 rests_at g m node n slot addr slots iss ns counts there dead =
     let a : Connection = connection_in slot n in
-    subst (λ (o : Outcome). Steps g node None (happened m n (Periodic slot) slot a (asked m (moment n (Periodic slot) slot) o))) (sym (closed_tick m a n.numbers dead))
-    (rests_by g m node n slot addr (subst (λ (xs : List Connection). SlotsStand g (g.kept node.shared) node.table.conns xs) (sym (set_same n.connections slot a there)) slots) iss ns counts)
+    subst (λ (o : Outcome). Steps g node None (happened m n (Periodic slot) slot a (asked m (snapshot n (Periodic slot) slot) o))) (sym (closed_tick m a n.numbers dead))
+    (rests_by g m node n slot addr (subst (λ (xs : List Connection). SlotsRepresent g (g.config node.shared) node.table.conns xs) (sym (set_same n.connections slot a there)) slots) iss ns counts)
 
 -- a message that passes the checks is whole
 by_short : (b : Bool) (message : List ℕ) → nat_lt (length message) 8 ≡ b → echo_fate message ≡ None → 8 ≤ length message

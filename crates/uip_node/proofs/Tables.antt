@@ -11,7 +11,7 @@ use Rattle.tcp_table.specs.declared.conn.Conn.{Conn}
 use Rattle.tcp_table.specs.Connections.{Connections, IsTable, is_at}
 use Rattle.tcp_machine.specs.Fits.{SameSockets}
 
--- what stands at a place after a write
+-- the element at an index after a write
 pub get_after_set : {X : Type 0} (xs : List X) (i j : ℕ) (d x : X) → slice_get (slice_set xs i d) j ≡ Some x → ((i ≡ j) × (x ≡ d)) ⊎ (slice_get xs j ≡ Some x)
 get_after_set [] i j d x h = inr h
 get_after_set (c ∷ cs) zero zero d x h = inl (refl, cc)
@@ -24,12 +24,12 @@ get_set_same [] i x y h = cc
 get_set_same (z ∷ xs) zero x y h = cc
 get_set_same (z ∷ xs) (suc i) x y h = get_set_same xs i x y h
 
--- what is read at a place stands there
+-- what is read at an index is there
 pub at_place : {X : Type 0} (xs ys : List X) (i : ℕ) (x : X) → xs ≡ ys → i < length ys → x ≡ get_or xs i x → slice_get ys i ≡ Some x
 at_place {X} xs ys i x e l h =
     subst (λ (zs : List X). i < length zs → slice_get zs i ≡ Some x) e (λ m. slice_get-get_or xs i x m ∙ ap (λ (y : X). Some y) (sym h)) l
 
--- the connection that was read in a slot stands there in what the table is seen as, and in its own lists
+-- the connection that was read in a slot is there in the lists that the table is seen as, and in its own
 pub at_viewed : {A : Type 0} (inside view : Connections A) (slot : ℕ) (c : Conn A) → inside ≡ view → slot < length view.conns → c ≡ get_or inside.conns slot c → slice_get view.conns slot ≡ Some c
 at_viewed {A} inside view slot c e l h = at_place inside.conns view.conns slot c (ap (λ (t : Connections A). t.conns) e) l h
 

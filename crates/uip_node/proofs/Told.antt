@@ -1,4 +1,4 @@
--- What a step tells of what is outstanding: it stays the same until it is acknowledged, and is sent again as it was.
+-- What is outstanding stays the same until it is acknowledged, and is retransmitted unchanged.
 use Rattle.std.specs.List.{All}
 use Rattle.tcp_machine.specs.declared.ticking.TheConstants.{REST_TIME}
 use Rattle.std.proofs.Common.{◌≡◌, ℕ, ◌+◌, ◌<◌, ◌≤◌, min, Bool, true, false, not, ◌&&◌, ◌||◌, ◌⊎◌, inl, inr, List, [], ◌∷◌, ◌++◌, length, take, drop, length-drop, refl, sym, ap, ◌∙◌, subst, arith, Option, Some, None, eqb, ltb, if◌then◌else◌}
@@ -7,28 +7,28 @@ use Rattle.uip_wire.specs.Numbers.{wrap}
 use Rattle.tcp_segment.specs.Segments.{PlainSegment, has_fin, has_rst, has_syn}
 use Rattle.rexmit_timer.specs.Ages.{beat_at}
 use Rattle.rexmit_timer.specs.declared.timer.Beat.{Beat}
-use Rattle.app_events.specs.Part.{Part, Meaning}
+use Rattle.app_events.specs.AppSpec.{AppState, AppSpec}
 use Rattle.app_events.specs.Laws.{IsPrefixOf, Grows, CanSend}
-use Rattle.app_events.specs.Pages.{IsMoment}
+use Rattle.app_events.specs.Pages.{IsSnapshot}
 use Rattle.app_events.specs.declared.now.Now.{Now}
 use Rattle.app_events.specs.declared.state.State.{State}
 use Rattle.app_events.specs.declared.state.State.TheVariants.{Closed, SynRcvd, Established, CloseWait, FinWait1, FinWait2, Closing, TimeWait, LastAck}
 use Rattle.app_events.specs.declared.want.Want.{Want}
 use Rattle.app_events.specs.declared.want.Want.TheVariants.{Nothing, Send, Close, Abort}
-use Rattle.tcp_machine.specs.Connection.{Connection, is_live, snd_nxt}
-use Rattle.tcp_machine.specs.Segments.{has_place, bare_ack, syn_ack, text_segment, fin_of, reset_of, segment_of, is_again}
+use Rattle.tcp_machine.specs.Connection.{Connection, is_live, snd_una}
+use Rattle.tcp_machine.specs.Segments.{occupies_sequence_space, bare_ack, syn_ack, text_segment, fin_of, reset_of, segment_of, is_again}
 use Rattle.tcp_machine.specs.Ask.{Outcome, leaves, closes, after_own_fin, peer_has_closed, idles, does_as_wanted, prepared, ask, asked_for, asked}
-use Rattle.tcp_machine.specs.OnSegment.{is_out_of_order, is_acked, rests, has_text, hears, takes, with_part, in_state, with_window, peer_closes, goes_on, in_established, fin_acked, fin_waits, by_state, on_segment}
+use Rattle.tcp_machine.specs.OnSegment.{is_out_of_order, is_acked, rests, has_text, hears, takes, with_part, in_state, with_window, peer_closes, stays_established, in_established, fin_acked, fin_waits, by_state, on_segment}
 use Rattle.tcp_machine.specs.OnTick.{outstanding, limit_of, grows_older, by_beat, waits_for_ack, rests_on, ticks_established, tick_by, on_tick}
 use Rattle.tcp_machine.specs.declared.step.Step.{Step}
 use Rattle.uip_node.specs.Laws.{Alike}
 use Rattle.uip_node.specs.Steady.{IsSteady}
 use Rattle.uip_node.proofs.Basics.{choose, append_nothing, only_some, ltb-zero, ltb-lt, ltb-yes, part_grows, cut_part, cut_length, IsPart, prefix_length}
-use Rattle.tcp_machine.specs.Stands.{is_open}
+use Rattle.tcp_machine.specs.Represents.{is_open}
 use Rattle.uip_node.proofs.Cases.{by_open, by_own_fin, fin_lives, open_live}
 
 -- what is outstanding in a state
-abbrev pub due : Meaning → State → Connection → PlainSegment
+abbrev pub due : AppSpec → State → Connection → PlainSegment
 due m SynRcvd c = syn_ack c
 due m Established c = text_segment m c
 due m CloseWait c = text_segment m c
@@ -59,7 +59,7 @@ not_zero w h = grind (arith, common_steps)
 window_some : (initial w : ℕ) → 0 < initial → 0 < (if eqb w 0 then initial else min initial w)
 window_some initial w h = choose (λ x. 0 < x) (eqb w 0) _ _ (λ e. h) (λ e. (let z : 0 < w = not_zero w e in omega arith))
 
-placed_by_length : (s : PlainSegment) → 0 < length s.text → has_place s ≡ true
+placed_by_length : (s : PlainSegment) → 0 < length s.text → occupies_sequence_space s ≡ true
 placed_by_length s h = ap (λ b. b || (has_syn s.flags || has_fin s.flags)) (ltb-yes (length s.text) h)
 
 -- a number that is at most so far above a low one
@@ -68,10 +68,10 @@ pub record IsNear (Low : ℕ → Type 0) (n far : ℕ) : Type 0 where
   pub low : Low at
   pub near : n ≤ at + far
 
-module _ (m : Meaning) (steady : IsSteady m) (Low : ℕ → Type 0) (low_text : (p : Part) → All IsMoment p.captures → Low (length (m.said p))) where
+module _ (m : AppSpec) (steady : IsSteady m) (Low : ℕ → Type 0) (low_text : (p : AppState) → All IsSnapshot p.captures → Low (length (m.output p))) where
   -- in ESTABLISHED and CLOSE-WAIT
   pub record TextSafe (c : Connection) : Type 0 where
-    pub fits : c.part.acked + c.len ≤ length (m.said c.part)
+    pub fits : c.part.acked + c.len ≤ length (m.output c.part)
     pub count : c.acked ≡ 1 + c.part.acked
 
   pub record ControlSafe (c : Connection) : Type 0 where
@@ -109,12 +109,12 @@ module _ (m : Meaning) (steady : IsSteady m) (Low : ℕ → Type 0) (low_text : 
   -- what is outstanding
   pub record IsDue (c : Connection) (s : PlainSegment) : Type 0 where
     pub len : 0 < c.len
-    pub seq : s.seq ≡ wrap (c.first + c.acked)
+    pub seq : s.seq ≡ wrap (c.iss + c.acked)
     pub alike : Alike s (due m c.state c)
 
   -- d comes after c
   pub record Onto (c d : Connection) : Type 0 where
-    pub first : d.first ≡ c.first
+    pub iss : d.iss ≡ c.iss
     pub grows : c.acked ≤ d.acked
     pub kept : 0 < c.len → d.acked ≡ c.acked → (0 < d.len) × Alike (due m d.state d) (due m c.state c)
 
@@ -130,15 +130,15 @@ module _ (m : Meaning) (steady : IsSteady m) (Low : ℕ → Type 0) (low_text : 
     pub same : d.acked ≡ c.acked
 
   pub record Anew (sent : Option PlainSegment) : Type 0 where
-    pub said : PlainSegment
-    pub is : sent ≡ Some said
-    pub placed : has_place said ≡ true
+    pub output : PlainSegment
+    pub is : sent ≡ Some output
+    pub placed : occupies_sequence_space output ≡ true
 
   pub record StepTells (c d : Connection) (sent : Option PlainSegment) (again : Bool) : Type 0 where
     pub onto : is_live d.state ≡ true → Onto c d
     pub safe : is_live d.state ≡ true → Safe d
-    pub said : (s : PlainSegment) → sent ≡ Some s → has_place s ≡ true → Tells c d again s
-    pub marked : (s : PlainSegment) → sent ≡ Some s → again ≡ true → has_place s ≡ true
+    pub output : (s : PlainSegment) → sent ≡ Some s → occupies_sequence_space s ≡ true → Tells c d again s
+    pub marked : (s : PlainSegment) → sent ≡ Some s → again ≡ true → occupies_sequence_space s ≡ true
     pub still : is_live d.state ≡ true → 0 < d.len → Still c d ⊎ Anew sent
 
   pub record AskTells (c d : Connection) : Type 0 where
@@ -160,7 +160,7 @@ module _ (m : Meaning) (steady : IsSteady m) (Low : ℕ → Type 0) (low_text : 
   OutTells c d Step.Reset = StepTells c d (Some (reset_of d)) false
 
   -- the same state: only text may differ
-  alike_same : (st : State) (c d : Connection) → take d.len (drop d.part.acked (m.said d.part)) ≡ take c.len (drop c.part.acked (m.said c.part)) → Alike (due m st d) (due m st c)
+  alike_same : (st : State) (c d : Connection) → take d.len (drop d.part.acked (m.output d.part)) ≡ take c.len (drop c.part.acked (m.output c.part)) → Alike (due m st d) (due m st c)
   alike_same Closed c d h = record { flags = refl; text = refl }
   alike_same SynRcvd c d h = record { flags = refl; text = refl }
   alike_same Established c d h = record { flags = refl; text = h }
@@ -168,43 +168,43 @@ module _ (m : Meaning) (steady : IsSteady m) (Low : ℕ → Type 0) (low_text : 
   alike_same _ c d h = record { flags = refl; text = refl }
 
   onto_same : (c : Connection) → Onto c c
-  onto_same c = record { first = refl; grows = omega arith; kept = λ l e. (l, alike_refl (due m c.state c)) }
+  onto_same c = record { iss = refl; grows = omega arith; kept = λ l e. (l, alike_refl (due m c.state c)) }
 
   onto_then : (c b d : Connection) → Onto c b → Onto b d → Onto c d
   onto_then c b d x y = record {
-    first = y.first ∙ x.first;
+    iss = y.iss ∙ x.iss;
     grows = omega (arith, x.grows, y.grows);
     kept = λ l e. (let p = x.kept l (omega (arith, x.grows, y.grows)) in let q = y.kept p.0 (omega (arith, x.grows, y.grows)) in
         (q.0, alike_trans (due m d.state d) (due m b.state b) (due m c.state c) q.1 p.1));
   }
 
   -- more is acknowledged
-  onto_more : (c d : Connection) → d.first ≡ c.first → c.acked < d.acked → Onto c d
-  onto_more c d f l = record { first = f; grows = omega (arith, l); kept = λ x e. absurd (omega (arith, l, e)) }
+  onto_more : (c d : Connection) → d.iss ≡ c.iss → c.acked < d.acked → Onto c d
+  onto_more c d f l = record { iss = f; grows = omega (arith, l); kept = λ x e. absurd (omega (arith, l, e)) }
 
   -- nothing was outstanding
-  onto_idle : (c d : Connection) → d.first ≡ c.first → c.len ≡ 0 → d.acked ≡ c.acked → Onto c d
-  onto_idle c d f z e = record { first = f; grows = omega (arith, e); kept = λ x y. absurd (omega (arith, x, z)) }
+  onto_idle : (c d : Connection) → d.iss ≡ c.iss → c.len ≡ 0 → d.acked ≡ c.acked → Onto c d
+  onto_idle c d f z e = record { iss = f; grows = omega (arith, e); kept = λ x y. absurd (omega (arith, x, z)) }
 
   silent_tells : (c d : Connection) → Onto c d → (is_live d.state ≡ true → Safe d) → (0 < d.len → Still c d) → StepTells c d None false
-  silent_tells c d o s k = record { onto = λ l. o; safe = s; said = λ x e p. absurd (cc); marked = λ x e p. absurd (cc); still = λ l z. inl (k z) }
+  silent_tells c d o s k = record { onto = λ l. o; safe = s; output = λ x e p. absurd (cc); marked = λ x e p. absurd (cc); still = λ l z. inl (k z) }
 
   ack_tells : (c d : Connection) → Onto c d → (is_live d.state ≡ true → Safe d) → (0 < d.len → Still c d) → StepTells c d (Some (bare_ack d)) false
-  ack_tells c d o s k = record { still = λ l z. inl (k z); onto = λ l. o; safe = s; said = λ x e p. absurd (let z : has_place x ≡ false = only_some (λ y. has_place y ≡ false) (bare_ack d) x e refl in cc); marked = λ x e p. absurd (cc) }
+  ack_tells c d o s k = record { still = λ l z. inl (k z); onto = λ l. o; safe = s; output = λ x e p. absurd (let z : occupies_sequence_space x ≡ false = only_some (λ y. occupies_sequence_space y ≡ false) (bare_ack d) x e refl in cc); marked = λ x e p. absurd (cc) }
 
   reset_tells : (c b : Connection) → StepTells c (closes b) (Some (reset_of (closes b))) false
-  reset_tells c b = record { still = λ l z. absurd (cc); onto = λ l. absurd (cc); safe = λ l. absurd (cc); said = λ x e p. absurd (let z : has_place x ≡ false = only_some (λ y. has_place y ≡ false) (reset_of (closes b)) x e refl in cc); marked = λ x e p. absurd (cc) }
+  reset_tells c b = record { still = λ l z. absurd (cc); onto = λ l. absurd (cc); safe = λ l. absurd (cc); output = λ x e p. absurd (let z : occupies_sequence_space x ≡ false = only_some (λ y. occupies_sequence_space y ≡ false) (reset_of (closes b)) x e refl in cc); marked = λ x e p. absurd (cc) }
 
   dead_tells : (c b : Connection) → StepTells c (closes b) None false
-  dead_tells c b = record { still = λ l z. absurd (cc); onto = λ l. absurd (cc); safe = λ l. absurd (cc); said = λ x e p. absurd (cc); marked = λ x e p. absurd (cc) }
+  dead_tells c b = record { still = λ l z. absurd (cc); onto = λ l. absurd (cc); safe = λ l. absurd (cc); output = λ x e p. absurd (cc); marked = λ x e p. absurd (cc) }
 
   -- something is sent for the first time
-  new_tells : (c d : Connection) (s : PlainSegment) → Onto c d → is_live d.state ≡ true → Safe d → IsDue d s → (0 < c.len → c.acked < d.acked) → has_place s ≡ true → StepTells c d (Some s) false
+  new_tells : (c d : Connection) (s : PlainSegment) → Onto c d → is_live d.state ≡ true → Safe d → IsDue d s → (0 < c.len → c.acked < d.acked) → occupies_sequence_space s ≡ true → StepTells c d (Some s) false
   new_tells c d s o l f n new placed = record {
-    still = λ x z. inr record { said = s; is = refl; placed = placed };
+    still = λ x z. inr record { output = s; is = refl; placed = placed };
     onto = λ x. o;
     safe = λ x. f;
-    said = λ x e p. record { live = l; due_now = only_some (λ y. IsDue d y) s x e n; repeated = λ z. absurd (cc); new = λ z. new };
+    output = λ x e p. record { live = l; due_now = only_some (λ y. IsDue d y) s x e n; repeated = λ z. absurd (cc); new = λ z. new };
     marked = λ x e p. absurd (cc);
   }
 
@@ -214,7 +214,7 @@ module _ (m : Meaning) (steady : IsSteady m) (Low : ℕ → Type 0) (low_text : 
     still = λ l x. elim (t.still l x) [ inl y ↦ absurd (let p = y.some in omega (arith, p, z)) | inr y ↦ inr y ];
     onto = λ l. onto_then c b d o (t.onto l);
     safe = t.safe;
-    said = λ s e p. (let h = t.said s e p in record { live = h.live; due_now = h.due_now; repeated = λ x. absurd (cc); new = λ x y. (let g = (t.onto h.live).grows in omega (arith, new y, g)) });
+    output = λ s e p. (let h = t.output s e p in record { live = h.live; due_now = h.due_now; repeated = λ x. absurd (cc); new = λ x y. (let g = (t.onto h.live).grows in omega (arith, new y, g)) });
     marked = t.marked;
   }
 
@@ -233,31 +233,31 @@ module _ (m : Meaning) (steady : IsSteady m) (Low : ℕ → Type 0) (low_text : 
   fin_due : (d : Connection) (st : State) → Alike (fin_of d) (due m (after_own_fin st) d)
   fin_due d st = by_own_fin (λ x. Alike (fin_of d) (due m x d)) (alike_refl (fin_of d)) (alike_refl (fin_of d)) st
 
-  -- with nothing wanted, ESTABLISHED rests
+  -- if nothing is requested, ESTABLISHED rests
   idle_safe : (d : Connection) (st : State) → is_open st ≡ true → peer_has_closed st ≡ false → TextSafe d → SafeState d st
   idle_safe d st o p h = by_open (λ x. peer_has_closed x ≡ false → SafeState d x) (λ q. h) (λ q. absurd (cc)) st o p
 
   abbrev pub OutTold : Connection → Outcome → Type 0
   OutTold c o = StepTells c o.connection (segment_of m o.connection o.step) (is_again o.step)
 
-  text_placed : (d : Connection) → TextSafe d → 0 < d.len → has_place (text_segment m d) ≡ true
+  text_placed : (d : Connection) → TextSafe d → 0 < d.len → occupies_sequence_space (text_segment m d) ≡ true
   text_placed d h l =
-      let e : length (take d.len (drop d.part.acked (m.said d.part))) ≡ d.len = cut_length (m.said d.part) d.part.acked d.len h.fits in
+      let e : length (take d.len (drop d.part.acked (m.output d.part))) ≡ d.len = cut_length (m.output d.part) d.part.acked d.len h.fits in
       placed_by_length (text_segment m d) (omega (arith, e, l))
 
-  wanted_tells : (w : Want) (fresh : Bool) (c : Connection) (numbers : List ℕ) → is_open c.state ≡ true → c.len ≡ 0 → 0 < c.mss → 0 < c.initial_mss → TextSafe c → All IsMoment c.part.captures → CanSend w (length (drop c.part.acked (m.said c.part))) →
+  wanted_tells : (w : Want) (fresh : Bool) (c : Connection) (numbers : List ℕ) → is_open c.state ≡ true → c.len ≡ 0 → 0 < c.mss → 0 < c.initial_mss → TextSafe c → All IsSnapshot c.part.captures → CanSend w (length (drop c.part.acked (m.output c.part))) →
       OutTold c (does_as_wanted w fresh c numbers)
   unfolding idles
   wanted_tells Abort fresh c numbers o z ms ini h fit w = reset_tells c c
   wanted_tells Close fresh c numbers o z ms ini h fit w =
       let d : Connection = record c { state = after_own_fin c.state; len = 1; age = 0 } in
       new_tells c d (fin_of d) (onto_idle c d refl z refl) (fin_lives c.state)
-      record { mss = ms; initial = ini; state = fin_safe d c.state record { len = refl; low = record { at = length (m.said c.part); low = low_text c.part fit; near = omega (arith, h.count, h.fits) } } }
+      record { mss = ms; initial = ini; state = fin_safe d c.state record { len = refl; low = record { at = length (m.output c.part); low = low_text c.part fit; near = omega (arith, h.count, h.fits) } } }
       record { len = omega arith; seq = refl; alike = fin_due d c.state } (λ x. absurd (omega (arith, x, z))) refl
   wanted_tells (Send n) fresh c numbers o z ms ini h fit w =
       let d : Connection = record c { len = min n c.mss; age = 0 } in
       let some : 0 < d.len = omega (arith, w.0, ms) in
-      let t : TextSafe d = record { fits = omega (arith, w.0, w.1, length-drop c.part.acked (m.said c.part)); count = h.count } in
+      let t : TextSafe d = record { fits = omega (arith, w.0, w.1, length-drop c.part.acked (m.output c.part)); count = h.count } in
       new_tells c d (text_segment m d) (onto_idle c d refl z refl) (open_live c.state o)
       record { mss = ms; initial = ini; state = text_safe d c.state o t some }
       record { len = some; seq = refl; alike = text_due d c.state o } (λ x. absurd (omega (arith, x, z))) (text_placed d t some)
@@ -273,12 +273,12 @@ module _ (m : Meaning) (steady : IsSteady m) (Low : ℕ → Type 0) (low_text : 
   wanted_again (Send n) fresh c numbers = refl
   wanted_again Nothing fresh c numbers = choose (λ (x : Outcome). is_again x.step ≡ false) (peer_has_closed c.state) _ _ (λ e. refl) (λ e. choose (λ (x : Outcome). is_again x.step ≡ false) fresh _ _ (λ g. refl) (λ g. refl))
 
-  asking_tells : (c d : Connection) (now : Now) (fresh : Bool) (numbers : List ℕ) → AskTells c d → All IsMoment (m.prepare numbers d.part now).captures → OutTold c (ask m now fresh d numbers)
+  asking_tells : (c d : Connection) (now : Now) (fresh : Bool) (numbers : List ℕ) → AskTells c d → All IsSnapshot (m.prepare numbers d.part now).captures → OutTold c (ask m now fresh d numbers)
   asking_tells c d now fresh numbers a fit =
-      let q : Part = m.prepare numbers d.part now in
+      let q : AppState = m.prepare numbers d.part now in
       let b : Connection = prepared m now d numbers in
       let p : Grows m d.part q = steady.lawful.prepare_grows numbers d.part now tt in
-      let more : length (m.said d.part) ≤ length (m.said q) = prefix_length (m.said d.part) (m.said q) p.text in
+      let more : length (m.output d.part) ≤ length (m.output q) = prefix_length (m.output d.part) (m.output q) p.text in
       let h : TextSafe d = a.text in
       let t : TextSafe b = record { fits = omega (arith, more, h.fits, p.offset); count = omega (arith, h.count, p.offset) } in
       let o : Outcome = ask m now fresh d numbers in
@@ -288,38 +288,38 @@ module _ (m : Meaning) (steady : IsSteady m) (Low : ℕ → Type 0) (low_text : 
       subst (λ x. StepTells c o.connection (segment_of m o.connection o.step) x) (sym n)
       (from_tells c b o.connection (segment_of m o.connection o.step) (onto_then c d b a.onto (onto_idle d b refl a.idle refl)) a.new a.idle w')
 
-  asked_for_tells : (moment : Connection → Now) (c d : Connection) (numbers : List ℕ) (s : Step) → ((now : Now) → now ≡ moment d → All IsMoment (m.prepare numbers d.part now).captures) → OutTells c d s → OutTold c (asked_for m moment (leaves d numbers s) s)
-  asked_for_tells moment c d numbers (Step.Ask fresh) fit h = asking_tells c d (moment d) fresh numbers h (fit (moment d) refl)
-  asked_for_tells moment c d numbers _ fit h = h
+  asked_for_tells : (snapshot : Connection → Now) (c d : Connection) (numbers : List ℕ) (s : Step) → ((now : Now) → now ≡ snapshot d → All IsSnapshot (m.prepare numbers d.part now).captures) → OutTells c d s → OutTold c (asked_for m snapshot (leaves d numbers s) s)
+  asked_for_tells snapshot c d numbers (Step.Ask fresh) fit h = asking_tells c d (snapshot d) fresh numbers h (fit (snapshot d) refl)
+  asked_for_tells snapshot c d numbers _ fit h = h
 
-  pub asked_tells : (moment : Connection → Now) (c : Connection) (o : Outcome) → ((now : Now) → now ≡ moment o.connection → All IsMoment (m.prepare o.numbers o.connection.part now).captures) → OutTells c o.connection o.step → OutTold c (asked m moment o)
-  asked_tells moment c o fit h = asked_for_tells moment c o.connection o.numbers o.step fit h
+  pub asked_tells : (snapshot : Connection → Now) (c : Connection) (o : Outcome) → ((now : Now) → now ≡ snapshot o.connection → All IsSnapshot (m.prepare o.numbers o.connection.part now).captures) → OutTells c o.connection o.step → OutTold c (asked m snapshot o)
+  asked_tells snapshot c o fit h = asked_for_tells snapshot c o.connection o.numbers o.step fit h
 
-  -- text is heard while something may be outstanding
-  hears_grows : (numbers : List ℕ) (p : Part) (text : List ℕ) → Grows m p (hears m numbers p text).part
-  hears_grows numbers p [] = record { text = record { rest = []; joined = append_nothing (m.said p) }; offset = refl }
+  -- text is delivered while something may be outstanding
+  hears_grows : (numbers : List ℕ) (p : AppState) (text : List ℕ) → Grows m p (hears m numbers p text).part
+  hears_grows numbers p [] = record { text = record { rest = []; joined = append_nothing (m.output p) }; offset = refl }
   hears_grows numbers p (x ∷ xs) = steady.lawful.newdata_grows numbers p (x ∷ xs) tt
 
-  heard_due : (c d : Connection) → TextSafe c → Grows m c.part d.part → d.len ≡ c.len → take d.len (drop d.part.acked (m.said d.part)) ≡ take c.len (drop c.part.acked (m.said c.part))
+  heard_due : (c d : Connection) → TextSafe c → Grows m c.part d.part → d.len ≡ c.len → take d.len (drop d.part.acked (m.output d.part)) ≡ take c.len (drop c.part.acked (m.output c.part))
   heard_due c d h x el =
-      ap (λ n. take n (drop d.part.acked (m.said d.part))) el
-      ∙ ap (λ n. take c.len (drop n (m.said d.part))) x.offset
-      ∙ slice_same (m.said c.part) (m.said d.part) c.part.acked c.len x.text h.fits
+      ap (λ n. take n (drop d.part.acked (m.output d.part))) el
+      ∙ ap (λ n. take c.len (drop n (m.output d.part))) x.offset
+      ∙ slice_same (m.output c.part) (m.output d.part) c.part.acked c.len x.text h.fits
 
   heard_text : (c d : Connection) → TextSafe c → Grows m c.part d.part → d.acked ≡ c.acked → d.len ≡ c.len → TextSafe d
   heard_text c d h x ea el =
-      let more : length (m.said c.part) ≤ length (m.said d.part) = prefix_length (m.said c.part) (m.said d.part) x.text in
+      let more : length (m.output c.part) ≤ length (m.output d.part) = prefix_length (m.output c.part) (m.output d.part) x.text in
       record { fits = omega (arith, more, h.fits, x.offset, el); count = omega (arith, h.count, x.offset, ea) }
 
   -- text of ESTABLISHED that is outstanding stays so in CLOSE-WAIT
-  open_due : (c d : Connection) → c.state ≡ Established → is_open d.state ≡ true → take d.len (drop d.part.acked (m.said d.part)) ≡ take c.len (drop c.part.acked (m.said c.part)) → Alike (due m d.state d) (due m c.state c)
+  open_due : (c d : Connection) → c.state ≡ Established → is_open d.state ≡ true → take d.len (drop d.part.acked (m.output d.part)) ≡ take c.len (drop c.part.acked (m.output c.part)) → Alike (due m d.state d) (due m c.state c)
   open_due c d e o h =
       alike_trans (due m d.state d) (text_segment m d) (due m c.state c) (alike_sym (text_segment m d) (due m d.state d) (text_due d d.state o))
       (alike_trans (text_segment m d) (text_segment m c) (due m c.state c) record { flags = refl; text = h } (text_due c c.state (ap is_open e)))
 
-  heard_onto : (c d : Connection) → c.state ≡ Established → is_open d.state ≡ true → TextSafe c → Grows m c.part d.part → d.first ≡ c.first → d.acked ≡ c.acked → d.len ≡ c.len → Onto c d
+  heard_onto : (c d : Connection) → c.state ≡ Established → is_open d.state ≡ true → TextSafe c → Grows m c.part d.part → d.iss ≡ c.iss → d.acked ≡ c.acked → d.len ≡ c.len → Onto c d
   heard_onto c d st o h x f ea el = record {
-    first = f;
+    iss = f;
     grows = omega (arith, ea);
     kept = λ l e. (omega (arith, l, el), open_due c d st o (heard_due c d h x el));
   }
@@ -336,8 +336,8 @@ module _ (m : Meaning) (steady : IsSteady m) (Low : ℕ → Type 0) (low_text : 
       (λ e. ack_tells c d o (λ l. record { mss = w; initial = ini; state = record { text = t; some = ltb-lt 0 c.len e } }) (λ z. record { some = z; same = refl }))
       (λ e. record { onto = o; is_asked = refl; idle = ltb-zero c.len e; mss = w; initial = ini; text = t; new = λ y. absurd (omega (arith, y, ltb-zero c.len e)) })
 
-  going_tells : (acked : Bool) (c : Connection) (numbers : List ℕ) (s : PlainSegment) → c.state ≡ Established → 0 < c.mss → 0 < c.initial_mss → TextSafe c → (let o : Outcome = goes_on m acked c numbers s in OutTells c o.connection o.step)
-  unfolding goes_on
+  going_tells : (acked : Bool) (c : Connection) (numbers : List ℕ) (s : PlainSegment) → c.state ≡ Established → 0 < c.mss → 0 < c.initial_mss → TextSafe c → (let o : Outcome = stays_established m acked c numbers s in OutTells c o.connection o.step)
+  unfolding stays_established
   going_tells acked c numbers s st ms ini h =
       let x : Grows m c.part (hears m numbers c.part s.text).part = hears_grows numbers c.part s.text in
       let d : Connection = with_window s.window (with_part (hears m numbers c.part s.text).part (takes (length s.text) c)) in
@@ -364,7 +364,7 @@ module _ (m : Meaning) (steady : IsSteady m) (Low : ℕ → Type 0) (low_text : 
   out_from c b d Step.Reset n o new none h = from_tells c b d (Some (reset_of d)) o new none h
 
   established_again : (acked : Bool) (c : Connection) (numbers : List ℕ) (s : PlainSegment) → is_again (in_established m acked c numbers s).step ≡ false
-  unfolding in_established peer_closes goes_on
+  unfolding in_established peer_closes stays_established
   established_again acked c numbers s =
       choose (λ (y : Outcome). is_again y.step ≡ false) (has_fin s.flags) _ _
       (λ e. choose (λ (y : Outcome). is_again y.step ≡ false) (ltb 0 c.len) _ _ (λ f. refl) (λ f. refl))
@@ -372,9 +372,9 @@ module _ (m : Meaning) (steady : IsSteady m) (Low : ℕ → Type 0) (low_text : 
 
   ack_text : (c : Connection) (numbers : List ℕ) → TextSafe c → TextSafe (with_part (m.acked numbers c.part c.len).part (rests c))
   ack_text c numbers h =
-      let q : Part = (m.acked numbers c.part c.len).part in
-      let x = steady.lawful.acked_moves numbers c.part c.len tt (let e = length-drop c.part.acked (m.said c.part) in omega (arith, e, h.fits)) in
-      let e : length (m.said q) ≡ length (m.said c.part) = ap (λ t. length t) x.0 in
+      let q : AppState = (m.acked numbers c.part c.len).part in
+      let x = steady.lawful.acked_moves numbers c.part c.len tt (let e = length-drop c.part.acked (m.output c.part) in omega (arith, e, h.fits)) in
+      let e : length (m.output q) ≡ length (m.output c.part) = ap (λ t. length t) x.0 in
       record { fits = omega (arith, e, h.fits, x.1); count = omega (arith, h.count, x.1) }
 
   acked_len : (c : Connection) (s : PlainSegment) → is_acked c s ≡ true → 0 < c.len
@@ -387,7 +387,7 @@ module _ (m : Meaning) (steady : IsSteady m) (Low : ℕ → Type 0) (low_text : 
   near_more : (c d : Connection) → d.acked ≡ c.acked + 1 → IsNear Low c.acked 1 → IsNear Low d.acked 2
   near_more c d a n = record { at = n.at; low = n.low; near = omega (arith, a, n.near) }
 
-  -- the rest of a control connection, its counts told
+  -- the rest of a control connection, with its counts known
   control_safe : (c d : Connection) → d.len ≡ c.len → d.acked ≡ c.acked → ControlSafe c → ControlSafe d
   control_safe c d l a h = record { len = l ∙ h.len; low = near_same c d 1 a h.low }
 
@@ -397,7 +397,7 @@ module _ (m : Meaning) (steady : IsSteady m) (Low : ℕ → Type 0) (low_text : 
   by_state_tells Closed acked c numbers s e ac ms ini h = absurd h
   by_state_tells SynRcvd true c numbers s e ac ms ini h =
       let port : ℕ = c.sockets.own_port.0 in
-      let start : Part = (m.connected numbers port).part in
+      let start : AppState = (m.connected numbers port).part in
       let x : Grows m start (hears m (m.connected numbers port).numbers start s.text).part = hears_grows (m.connected numbers port).numbers start s.text in
       let d : Connection = with_part (hears m (m.connected numbers port).numbers start s.text).part (takes (length s.text) (in_state Established (rests c))) in
       let z : d.part.acked ≡ 0 = x.offset ∙ steady.connected_acked numbers port in
@@ -418,7 +418,7 @@ module _ (m : Meaning) (steady : IsSteady m) (Low : ℕ → Type 0) (low_text : 
       record { onto = onto_more c d refl (omega (arith, some)); is_asked = ap is_open e; idle = refl; mss = window_some c.initial_mss s.window ini; initial = ini; text = record { fits = t.fits; count = t.count }; new = λ y. omega (arith, some) }
   by_state_tells CloseWait false c numbers s e ac ms ini h =
       let d : Connection = with_window s.window c in
-      silent_tells c d record { first = refl; grows = omega arith; kept = λ l z. (l, alike_same c.state c d refl) }
+      silent_tells c d record { iss = refl; grows = omega arith; kept = λ l z. (l, alike_same c.state c d refl) }
       (λ l. record { mss = window_some c.initial_mss s.window ini; initial = ini; state = state_at d CloseWait e record { text = record { fits = h.text.fits; count = h.text.count }; some = h.some } }) (λ z. record { some = z; same = refl })
   by_state_tells FinWait1 true c numbers s e ac ms ini h =
       choose (λ (y : Outcome). OutTells c y.connection y.step) (has_fin s.flags) _ _
@@ -429,11 +429,11 @@ module _ (m : Meaning) (steady : IsSteady m) (Low : ℕ → Type 0) (low_text : 
   by_state_tells FinWait1 false c numbers s e ac ms ini h =
       choose (λ (y : Outcome). OutTells c y.connection y.step) (has_fin s.flags) _ _
       (λ f. let d : Connection = in_state Closing (takes (length s.text + 1) c) in
-      ack_tells c d record { first = refl; grows = omega arith; kept = λ l z. (l, subst (λ x. Alike (fin_of d) (due m x c)) (sym e) (record { flags = refl; text = refl })) }
+      ack_tells c d record { iss = refl; grows = omega arith; kept = λ l z. (l, subst (λ x. Alike (fin_of d) (due m x c)) (sym e) (record { flags = refl; text = refl })) }
       (λ l. record { mss = ms; initial = ini; state = control_safe c d refl refl h }) (λ z. record { some = z; same = refl }))
       (λ f. choose (λ (y : Outcome). OutTells c y.connection y.step) (has_text s) _ _
       (λ i. let d : Connection = takes (length s.text) c in
-      ack_tells c d record { first = refl; grows = omega arith; kept = λ l z. (l, alike_same c.state c d refl) }
+      ack_tells c d record { iss = refl; grows = omega arith; kept = λ l z. (l, alike_same c.state c d refl) }
       (λ l. record { mss = ms; initial = ini; state = state_at d FinWait1 e (control_safe c d refl refl h) }) (λ z. record { some = z; same = refl }))
       (λ i. silent_tells c c (onto_same c) (λ l. record { mss = ms; initial = ini; state = state_at c FinWait1 e h }) (λ z. record { some = z; same = refl })))
   by_state_tells FinWait2 acked c numbers s e ac ms ini h =
@@ -468,22 +468,22 @@ module _ (m : Meaning) (steady : IsSteady m) (Low : ℕ → Type 0) (low_text : 
   older_safe c _ h = record { len = h.len; low = h.low }
 
   older_onto : (c : Connection) → Onto c (grows_older c)
-  older_onto c = record { first = refl; grows = omega arith; kept = λ l e. (l, alike_same c.state c (grows_older c) refl) }
+  older_onto c = record { iss = refl; grows = omega arith; kept = λ l e. (l, alike_same c.state c (grows_older c) refl) }
 
   older_is_safe : (c : Connection) → Safe c → Safe (grows_older c)
   older_is_safe c f = record { mss = f.mss; initial = f.initial; state = older_safe c c.state f.state }
 
   -- what is outstanding is sent again
-  repeat_tells : (c : Connection) (s : PlainSegment) → is_live c.state ≡ true → Safe c → 0 < c.len → s.seq ≡ snd_nxt c → Alike s (due m c.state (grows_older c)) → has_place s ≡ true → StepTells c (grows_older c) (Some s) true
+  repeat_tells : (c : Connection) (s : PlainSegment) → is_live c.state ≡ true → Safe c → 0 < c.len → s.seq ≡ snd_una c → Alike s (due m c.state (grows_older c)) → occupies_sequence_space s ≡ true → StepTells c (grows_older c) (Some s) true
   repeat_tells c s l f some seq alike placed = record {
     still = λ x z. inl record { some = some; same = refl };
     onto = λ x. older_onto c;
     safe = λ x. older_is_safe c f;
-    said = λ x e p. record { live = l; due_now = record { len = some; seq = only_some (λ y. y.seq ≡ snd_nxt c) s x e seq; alike = only_some (λ y. Alike y (due m c.state (grows_older c))) s x e alike }; repeated = λ y. (some, refl); new = λ y. absurd (cc) };
-    marked = λ x e p. only_some (λ y. has_place y ≡ true) s x e placed;
+    output = λ x e p. record { live = l; due_now = record { len = some; seq = only_some (λ y. y.seq ≡ snd_una c) s x e seq; alike = only_some (λ y. Alike y (due m c.state (grows_older c))) s x e alike }; repeated = λ y. (some, refl); new = λ y. absurd (cc) };
+    marked = λ x e p. only_some (λ y. occupies_sequence_space y ≡ true) s x e placed;
   }
 
-  text_place : (c : Connection) → TextSafe c → 0 < c.len → has_place (text_segment m (grows_older c)) ≡ true
+  text_place : (c : Connection) → TextSafe c → 0 < c.len → occupies_sequence_space (text_segment m (grows_older c)) ≡ true
   text_place c h l = text_placed (grows_older c) record { fits = h.fits; count = h.count } l
 
   again_tells : (c : Connection) (st : State) → c.state ≡ st → is_live st ≡ true → Safe c → SafeState c st → 0 < c.len → OutTells c (grows_older c) (outstanding true st)
@@ -516,7 +516,7 @@ module _ (m : Meaning) (steady : IsSteady m) (Low : ℕ → Type 0) (low_text : 
       (λ i. let x = steady.lawful.polled_keeps numbers c.part tt in
       let d : Connection = with_part (m.polled numbers c.part).part c in
       let z : c.len ≡ 0 = ltb-zero c.len i in
-      let q : length (m.said d.part) ≡ length (m.said c.part) = ap (λ t. length t) x.0 in
+      let q : length (m.output d.part) ≡ length (m.output c.part) = ap (λ t. length t) x.0 in
       record { onto = onto_idle c d refl z refl; is_asked = ap is_open e; idle = z; mss = f.mss; initial = f.initial; text = record { fits = omega (arith, q, h.fits, x.1); count = omega (arith, h.count, x.1) }; new = λ y. absurd (omega (arith, y, z)) })
 
   tick_by_tells : (st : State) (c : Connection) (numbers : List ℕ) → c.state ≡ st → Safe c → SafeState c st → (let o : Outcome = tick_by m st c numbers in OutTells c o.connection o.step)

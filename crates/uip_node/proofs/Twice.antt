@@ -1,4 +1,5 @@
 -- The counters after an event, and after its answer.
+-- [add: counter] The events that raise the counter.
 use Rattle.std.proofs.Common.{◌≡◌, ℕ, ◌+◌, ◌%◌, ◌==◌, ◌||◌, ◌&&◌, not, Bool, true, false, List, [], ◌∷◌, if◌then◌else◌, refl, sym, ap, ◌∙◌, Option, None}
 use Rattle.std.specs.List.{list_any}
 use Rattle.std.specs.Option.{option_map_or}
@@ -9,15 +10,15 @@ use Rattle.uip_ipv4.specs.declared.fate.IpFate.TheVariants as Ip
 use Rattle.icmp_echo.specs.declared.fate.IcmpFate.TheVariants as Icmp
 use Rattle.tcp_segment.specs.declared.fate.TcpFate.TheVariants as Tcp
 use Rattle.uip_node.specs.Raising.{marks, raise}
-use Rattle.uip_node.specs.Counted.{CountsStand, again_place, icmp_place, ip_place, seen, tcp_place}
+use Rattle.uip_node.specs.Counted.{CountsRepresent, again_place, icmp_place, ip_place, seen, tcp_place}
 use Rattle.uip_node.specs.Counters.{called_by, counters, ident_of, raised_by_answer, times}
 use Rattle.uip_node.specs.State.{Counts}
-use Rattle.uip_node.specs.Events.{Answer, Event, Past}
+use Rattle.uip_node.specs.Events.{Answer, Event, HistoryEntry}
 use Rattle.uip_node.specs.Events.Event.{IpRefused, IcmpRefused, TcpRefused, EchoAsked, Arrived, Overlong, Periodic}
 use Rattle.uip_node.specs.Events.Answer.{NoSlot, Silent, Spoke}
 use Rattle.uip_node.proofs.Raises.{counters_more, raised_at}
 
-abbrev with_answer : Event → Answer → Past
+abbrev with_answer : Event → Answer → HistoryEntry
 with_answer event answer = record { event = event; answer = answer }
 
 -- the places that an event marks
@@ -37,15 +38,15 @@ marked (TcpRefused Tcp.Short) = refl
 marked _ = refl
 
 -- an event was counted
-pub counted : (event : Event) (past : List Past) (old net : List ℕ) → old ≡ counters past → net ≡ raise (marks_of event) old → net ≡ counters (seen event past)
-counted event past old net h e =
-    e ∙ ap (raise (marks_of event)) h ∙ ap (λ (bs : List Bool). raise bs (counters past)) (sym (marked event)) ∙ sym (counters_more (with_answer event Silent) past)
+pub counted : (event : Event) (history : List HistoryEntry) (old net : List ℕ) → old ≡ counters history → net ≡ raise (marks_of event) old → net ≡ counters (seen event history)
+counted event history old net h e =
+    e ∙ ap (raise (marks_of event)) h ∙ ap (λ (bs : List Bool). raise bs (counters history)) (sym (marked event)) ∙ sym (counters_more (with_answer event Silent) history)
 
--- so the numbers stand, where it is no periodic call
-pub recounted : (event : Event) (past : List Past) (counts : Counts) (net : List ℕ) → called_by event ≡ None → CountsStand counts past → net ≡ counters (seen event past) →
-    CountsStand (record counts { net = net }) (seen event past)
-recounted event past counts net uncalled h e =
-    let ticks : ℕ = times (λ p. option_map_or (λ place. place == 0) (called_by p.event) false) past in
+-- so the numbers are represented, if it is no periodic call
+pub recounted : (event : Event) (history : List HistoryEntry) (counts : Counts) (net : List ℕ) → called_by event ≡ None → CountsRepresent counts history → net ≡ counters (seen event history) →
+    CountsRepresent (record counts { net = net }) (seen event history)
+recounted event history counts net uncalled h e =
+    let ticks : ℕ = times (λ p. option_map_or (λ place. place == 0) (called_by p.event) false) history in
     record {
       net = e;
       ticks = h.ticks ∙ ap (λ (o : Option ℕ). wrap (if option_map_or (λ place. place == 0) o false then ticks + 1 else ticks)) (sym uncalled);
@@ -102,20 +103,20 @@ turns_away (TcpRefused Tcp.Short) = record { apart = refl; both = refl }
 turns_away _ = record { apart = refl; both = refl }
 
 -- the answer was counted after the event
-pub second : (event : Event) (answer : Answer) (past : List Past) (a b c : ℕ) (net new : List ℕ) → Adds event answer a b c →
-    net ≡ counters (seen event past) → new ≡ raise (marks a b c) net → new ≡ counters (record { event = event; answer = answer } ∷ past)
-second event answer past a b c net new adds n e =
-    let silent : Past = with_answer event Silent in
-    e ∙ ap (raise (marks a b c)) n ∙ ap (raise (marks a b c)) (counters_more silent past)
-    ∙ raise_raise (marks a b c) (raised_at silent) (counters past) adds.apart
-    ∙ ap (λ (bs : List Bool). raise bs (counters past)) adds.both
-    ∙ sym (counters_more (with_answer event answer) past)
+pub second : (event : Event) (answer : Answer) (history : List HistoryEntry) (a b c : ℕ) (net new : List ℕ) → Adds event answer a b c →
+    net ≡ counters (seen event history) → new ≡ raise (marks a b c) net → new ≡ counters (record { event = event; answer = answer } ∷ history)
+second event answer history a b c net new adds n e =
+    let silent : HistoryEntry = with_answer event Silent in
+    e ∙ ap (raise (marks a b c)) n ∙ ap (raise (marks a b c)) (counters_more silent history)
+    ∙ raise_raise (marks a b c) (raised_at silent) (counters history) adds.apart
+    ∙ ap (λ (bs : List Bool). raise bs (counters history)) adds.both
+    ∙ sym (counters_more (with_answer event answer) history)
 
 -- the next identification
-pub next_ident : (counts : Counts) (event : Event) (again : Bool) (past : List Past) → CountsStand counts (seen event past) → (counts.ident + 1) % 65536 ≡ ident_of (with_answer event (Spoke again) ∷ past)
-next_ident counts event again past h = ap (λ (n : ℕ). (n + 1) % 65536) h.ident ∙ mod-add-mod (times (λ p. list_any (λ n. n == 15) (raised_by_answer p.answer)) past) 65536 1
+pub next_ident : (counts : Counts) (event : Event) (again : Bool) (history : List HistoryEntry) → CountsRepresent counts (seen event history) → (counts.ident + 1) % 65536 ≡ ident_of (with_answer event (Spoke again) ∷ history)
+next_ident counts event again history h = ap (λ (n : ℕ). (n + 1) % 65536) h.ident ∙ mod-add-mod (times (λ p. list_any (λ n. n == 15) (raised_by_answer p.answer)) history) 65536 1
 
--- what was said was counted
-pub said_counted : (counts : Counts) (event : Event) (again : Bool) (past : List Past) (net : List ℕ) → CountsStand counts (seen event past) → net ≡ counters (with_answer event (Spoke again) ∷ past) →
-    CountsStand (record { net = net; ticks = counts.ticks; ident = (counts.ident + 1) % 65536 }) (with_answer event (Spoke again) ∷ past)
-said_counted counts event again past net h e = record { net = e; ticks = h.ticks; ident = next_ident counts event again past h }
+-- what was sent was counted
+pub said_counted : (counts : Counts) (event : Event) (again : Bool) (history : List HistoryEntry) (net : List ℕ) → CountsRepresent counts (seen event history) → net ≡ counters (with_answer event (Spoke again) ∷ history) →
+    CountsRepresent (record { net = net; ticks = counts.ticks; ident = (counts.ident + 1) % 65536 }) (with_answer event (Spoke again) ∷ history)
+said_counted counts event again history net h e = record { net = e; ticks = h.ticks; ident = next_ident counts event again history h }

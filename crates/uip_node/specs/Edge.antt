@@ -1,4 +1,4 @@
--- The edge of a node, where bytes stand: which event a received datagram is, and the bytes of what is sent.
+-- The edge of a node: the event of a received datagram, and the bytes of what is sent.
 use Rattle.std.specs.Prelude.{ℕ, List, take, Result, Ok, Err}
 use Rattle.std.specs.Option.{option_map_or}
 use Rattle.uip_wire.specs.declared.addr.Addr.{Addr}
@@ -17,7 +17,7 @@ use Rattle.uip_node.specs.Events.{Event, Reply}
 use Rattle.uip_node.specs.Events.Event.{IpRefused, IcmpRefused, TcpRefused, EchoAsked, Arrived}
 use Rattle.uip_node.specs.Events.Reply.{Echo, Tcp as TcpReply}
 
--- the sockets that a segment from a peer is for
+-- the sockets that a segment from a peer addresses
 abbrev pub sockets_of : Addr → Segment → Sockets
 sockets_of peer s = record { peer = peer; peer_port = s.from; own_port = s.to }
 
@@ -33,11 +33,11 @@ abbrev pub by_head : List ℕ → Result IpHead IpFate → Event
 by_head bytes (Ok head) = by_proto head.proto head bytes
 by_head bytes (Err fate) = IpRefused fate
 
--- the one fate of a datagram at an address
+-- The one event of a datagram at this address.
 abbrev pub event_of : Addr → List ℕ → Event
 event_of addr bytes = by_head bytes (head_or_fate bytes addr.0)
 
--- the datagram from an address, with this identification
+-- the datagram from an address with this identification
 abbrev pub datagram_to : Addr → Sockets → ℕ → PlainSegment → Datagram
 datagram_to addr sockets id s = record {
   source = addr.0;

@@ -1,9 +1,9 @@
--- What the laws about nodes speak of.
+-- Definitions that the laws of a node share.
 use Rattle.std.specs.List.{All}
 use Rattle.std.specs.Prelude.{◌≡◌, ℕ, ◌+◌, ◌<◌, ◌≤◌, List, [], ◌∷◌, length, take, drop, if◌then◌else◌}
 use Rattle.tcp_segment.specs.Segments.{PlainSegment}
-use Rattle.app_events.specs.Part.{Moment}
-use Rattle.app_events.specs.Pages.{Pages, IsMoment, IsByte, IsAddr}
+use Rattle.app_events.specs.AppSpec.{Snapshot}
+use Rattle.app_events.specs.Pages.{Pages, IsSnapshot, IsByte, IsAddr}
 use Rattle.tcp_machine.specs.Connection.{Sockets, Connection, closed, serves}
 use Rattle.uip_node.specs.Events.{Event}
 use Rattle.uip_node.specs.Events.Event.{Arrived}
@@ -13,21 +13,21 @@ abbrev pub IsEvent : Event → Type 0
 IsEvent (Arrived sockets s) = IsAddr sockets.peer × (sockets.peer_port.0 < 65536)
 IsEvent _ = Unit {0}
 
--- the first connection that serves these sockets; one that is CLOSED where none does
+-- the first connection that serves these sockets; a CLOSED one if there is none
 abbrev pub serving : Sockets → List Connection → Connection
 serving sockets [] = closed
 serving sockets (c ∷ cs) = if serves sockets c then c else serving sockets cs
 
--- every text of a page is bytes
+-- Every text of a page is bytes.
 abbrev pub HasBytes : Pages → Type 0
-HasBytes pages = (heard : List ℕ) (captures : List Moment) → All IsMoment captures → All IsByte (pages.text heard captures)
+HasBytes pages = (delivered : List ℕ) (captures : List Snapshot) → All IsSnapshot captures → All IsByte (pages.text delivered captures)
 
--- the same flags and the same text
+-- The same flags and the same text.
 pub record Alike (s t : PlainSegment) : Type 0 where
   pub flags : s.flags ≡ t.flags
   pub text : s.text ≡ t.text
 
--- the text stands at this place of the whole
+-- The text is the slice of the whole at this offset.
 pub record IsSlice (whole text : List ℕ) (at : ℕ) : Type 0 where
   pub fits : at + length text ≤ length whole
   pub same : text ≡ take (length text) (drop at whole)

@@ -8,7 +8,7 @@ pub mod Raising
 pub mod State
 pub mod Counted
 pub mod Spoken
-pub mod StandsFor
+pub mod Represents
 pub mod Inner
 pub mod Steady
 pub mod Laws

@@ -1,114 +1,116 @@
--- The abstract node, and its step at each event.
+-- The abstract node, and its transition at each event.
 use Rattle.std.specs.Prelude.{ℕ, ◌&&◌, Bool, false, not, List, [], ◌∷◌, replicate, position, slice_set, slice_index_or, Option, Some, None, option_map, if◌then◌else◌}
 use Rattle.std.specs.Option.{option_map_or}
 use Rattle.uip_wire.specs.declared.addr.Addr.{Addr}
 use Rattle.tcp_segment.specs.Segments.{PlainSegment, has_rst}
-use Rattle.app_events.specs.Part.{Meaning}
+use Rattle.app_events.specs.AppSpec.{AppSpec}
 use Rattle.app_events.specs.declared.now.Now.{Now}
 use Rattle.tcp_table.specs.Slots.{slot_by}
 use Rattle.tcp_machine.specs.Connection.{Sockets, Connection, closed, is_live, serves, rows_from}
-use Rattle.tcp_machine.specs.Segments.{is_plain_syn, reset_to_none, segment_of, is_again}
+use Rattle.tcp_machine.specs.Segments.{is_plain_syn, reset_for_no_connection, segment_of, is_again}
 use Rattle.tcp_machine.specs.Ask.{Outcome, asked}
 use Rattle.tcp_machine.specs.OnSegment.{accept, on_segment}
 use Rattle.tcp_machine.specs.OnTick.{on_tick}
-use Rattle.uip_node.specs.Events.{Event, Answer, Past, Reply}
+use Rattle.uip_node.specs.Events.{Event, Answer, HistoryEntry, Reply}
 use Rattle.uip_node.specs.Events.Event.{EchoAsked, Arrived, Periodic}
 use Rattle.uip_node.specs.Events.Answer.{Silent, NoSlot, EchoReplied, Spoke}
 use Rattle.uip_node.specs.Events.Reply.{Echo, Tcp}
 use Rattle.uip_node.specs.Counters.{counters, ticks_of, initial_number, ident_of}
 
+-- The state of a node.
 pub record AbstractNode : Type 0 where
   pub addr : Addr
-  pub numbers : List ℕ  -- what its application counts in
+  pub numbers : List ℕ  -- the counters of its application
   pub connections : List Connection  -- ten, by their slots
-  pub past : List Past  -- the newest first
+  pub history : List HistoryEntry  -- the newest entry first
 
--- ten CLOSED connections and no past
-abbrev pub opening : Addr → List ℕ → AbstractNode
-opening addr numbers = record { addr = addr; numbers = numbers; connections = replicate 10 closed; past = [] }
+-- the initial state: ten CLOSED connections and no history
+abbrev pub initial_node : Addr → List ℕ → AbstractNode
+initial_node addr numbers = record { addr = addr; numbers = numbers; connections = replicate 10 closed; history = [] }
 
--- What an event leaves and sends, and the connection that became CLOSED by it, as it was at last.
+-- The result of a transition: the node, the datagram sent, and the connection that became CLOSED, with its last values.
 pub record NodeStep : Type 0 where
   pub node : AbstractNode
   pub sent : Option Reply
   pub gone : Option Connection
 
 abbrev pub remembers : AbstractNode → Event → Answer → AbstractNode
-remembers n event answer = record n { past = record { event = event; answer = answer } ∷ n.past }
+remembers n event answer = record n { history = record { event = event; answer = answer } ∷ n.history }
 
--- nothing is sent, and nothing but the past changes
+-- Nothing is sent, and only the history changes.
 abbrev pub passes : AbstractNode → Event → Answer → NodeStep
 passes n event answer = record { node = remembers n event answer; sent = None; gone = None }
 
--- The moment of an event, at which the connection in a slot is asked: it counts the event, and not its answer.
-abbrev pub moment : AbstractNode → Event → ℕ → Connection → Now
-moment n event slot c =
-    let seen : List Past = record { event = event; answer = Silent } ∷ n.past in
+-- The snapshot at an event for the connection in a slot. It counts the event, and not its reply.
+abbrev pub snapshot : AbstractNode → Event → ℕ → Connection → Now
+snapshot n event slot c =
+    let seen : List HistoryEntry = record { event = event; answer = Silent } ∷ n.history in
     record { ticks = ticks_of seen; net = counters seen; rows = rows_from 0 (slice_set n.connections slot c) }
 
--- the connection that was in a slot is CLOSED now
+-- The connection that was in a slot is CLOSED now.
 abbrev pub gone_by : Connection → Connection → Option Connection
 gone_by old new = if is_live old.state && not (is_live new.state) then Some new else None
 
--- the connection in a slot took a step
-unfoldable pub happened : Meaning → AbstractNode → Event → ℕ → Connection → Outcome → NodeStep
+-- The connection in a slot took a step.
+unfoldable pub happened : AppSpec → AbstractNode → Event → ℕ → Connection → Outcome → NodeStep
 happened m n event slot old o =
-    let said : Option PlainSegment = segment_of m o.connection o.step in
+    let output : Option PlainSegment = segment_of m o.connection o.step in
     let again : Bool = is_again o.step in
-    let past : List Past = record { event = event; answer = option_map_or (λ s. Spoke again) said Silent } ∷ n.past in
+    let history : List HistoryEntry = record { event = event; answer = option_map_or (λ s. Spoke again) output Silent } ∷ n.history in
     record {
-      node = record n { numbers = o.numbers; connections = slice_set n.connections slot o.connection; past = past };
-      sent = option_map (λ s. Tcp o.connection.sockets (ident_of past) again s) said;
+      node = record n { numbers = o.numbers; connections = slice_set n.connections slot o.connection; history = history };
+      sent = option_map (λ s. Tcp o.connection.sockets (ident_of history) again s) output;
       gone = gone_by old o.connection;
     }
 
 abbrev pub connection_in : ℕ → AbstractNode → Connection
 connection_in slot n = slice_index_or n.connections slot closed
 
--- the slot that a plain SYN takes, by the states and the ages of the connections
+-- the slot for a plain SYN, by the states and ages of the connections
 abbrev pub slot_for_syn : List Connection → Option ℕ
 slot_for_syn cs = slot_by (λ c. c.state) (λ c. c.age) cs
 
--- a connection is opened in a slot; the one that waited there is gone
-unfoldable pub opens_in : Meaning → AbstractNode → Sockets → PlainSegment → ℕ → NodeStep
+-- A connection opens in a slot. A connection in TIME-WAIT there is gone.
+unfoldable pub opens_in : AppSpec → AbstractNode → Sockets → PlainSegment → ℕ → NodeStep
 opens_in m n sockets s slot =
     let old : Connection = connection_in slot n in
-    let step : NodeStep = happened m n (Arrived sockets s) slot old (accept (initial_number n.past) sockets s n.numbers) in
+    let step : NodeStep = happened m n (Arrived sockets s) slot old (accept (initial_number n.history) sockets s n.numbers) in
     record step { gone = (if is_live old.state then Some old else None) }
 
-abbrev pub opens : Meaning → AbstractNode → Sockets → PlainSegment → Option ℕ → NodeStep
+abbrev pub opens : AppSpec → AbstractNode → Sockets → PlainSegment → Option ℕ → NodeStep
 opens m n sockets s None = passes n (Arrived sockets s) NoSlot
 opens m n sockets s (Some slot) = opens_in m n sockets s slot
 
 abbrev pub refuses : AbstractNode → Sockets → PlainSegment → NodeStep
 refuses n sockets s =
-    let past : List Past = record { event = Arrived sockets s; answer = Spoke false } ∷ n.past in
-    record { node = record n { past = past }; sent = Some (Tcp sockets (ident_of past) false (reset_to_none s)); gone = None }
+    let history : List HistoryEntry = record { event = Arrived sockets s; answer = Spoke false } ∷ n.history in
+    record { node = record n { history = history }; sent = Some (Tcp sockets (ident_of history) false (reset_for_no_connection s)); gone = None }
 
--- a segment that belongs to no connection
-unfoldable pub from_stranger : Meaning → (ℕ → Bool) → AbstractNode → Sockets → PlainSegment → NodeStep
-from_stranger m served n sockets s =
+-- A segment belongs to no connection.
+unfoldable pub for_no_connection : AppSpec → (ℕ → Bool) → AbstractNode → Sockets → PlainSegment → NodeStep
+for_no_connection m served n sockets s =
     if is_plain_syn s && served sockets.own_port.0 then opens m n sockets s (slot_for_syn n.connections)
     else if has_rst s.flags then passes n (Arrived sockets s) Silent
     else refuses n sockets s
 
-abbrev pub arrives_at : Meaning → (ℕ → Bool) → AbstractNode → Sockets → PlainSegment → Option ℕ → NodeStep
-arrives_at m served n sockets s None = from_stranger m served n sockets s
+abbrev pub arrives_at : AppSpec → (ℕ → Bool) → AbstractNode → Sockets → PlainSegment → Option ℕ → NodeStep
+arrives_at m served n sockets s None = for_no_connection m served n sockets s
 arrives_at m served n sockets s (Some slot) =
     let c : Connection = connection_in slot n in
-    happened m n (Arrived sockets s) slot c (asked m (moment n (Arrived sockets s) slot) (on_segment m c n.numbers s))
+    happened m n (Arrived sockets s) slot c (asked m (snapshot n (Arrived sockets s) slot) (on_segment m c n.numbers s))
 
 -- A segment belongs to the connection that is not CLOSED and has its sockets.
-abbrev pub arrives : Meaning → (ℕ → Bool) → AbstractNode → Sockets → PlainSegment → NodeStep
+abbrev pub arrives : AppSpec → (ℕ → Bool) → AbstractNode → Sockets → PlainSegment → NodeStep
 arrives m served n sockets s = arrives_at m served n sockets s (position (serves sockets) n.connections)
 
 -- the periodic call of a slot
-abbrev pub periodic : Meaning → AbstractNode → ℕ → NodeStep
+abbrev pub periodic : AppSpec → AbstractNode → ℕ → NodeStep
 periodic m n slot =
     let c : Connection = connection_in slot n in
-    happened m n (Periodic slot) slot c (asked m (moment n (Periodic slot) slot) (on_tick m c n.numbers))
+    happened m n (Periodic slot) slot c (asked m (snapshot n (Periodic slot) slot) (on_tick m c n.numbers))
 
-abbrev pub step : Meaning → (ℕ → Bool) → AbstractNode → Event → NodeStep
+-- The transition function of the node: an echo request is answered, a segment arrives, a slot is called, or the event is only counted.
+abbrev pub step : AppSpec → (ℕ → Bool) → AbstractNode → Event → NodeStep
 step m served n (EchoAsked datagram) =
     record { node = remembers n (EchoAsked datagram) EchoReplied; sent = Some (Echo datagram); gone = None }
 step m served n (Arrived sockets s) = arrives m served n sockets s
@@ -119,14 +121,14 @@ abbrev pub joined : {X : Type 0} → Option X → List X → List X
 joined None xs = xs
 joined (Some x) xs = x ∷ xs
 
--- The events in turn: what is left, and all that was sent, the oldest first.
+-- The result of events in order: the node, and everything sent, the oldest first.
 pub record Ran : Type 0 where
   pub node : AbstractNode
   pub sent : List Reply
 
-abbrev pub run : Meaning → (ℕ → Bool) → List Event → AbstractNode → Ran
+abbrev pub run : AppSpec → (ℕ → Bool) → List Event → AbstractNode → Ran
 run m served [] n = record { node = n; sent = [] }
 run m served (e ∷ es) n =
-    let first : NodeStep = step m served n e in
-    let rest : Ran = run m served es first.node in
-    record { node = rest.node; sent = joined first.sent rest.sent }
+    let iss : NodeStep = step m served n e in
+    let rest : Ran = run m served es iss.node in
+    record { node = rest.node; sent = joined iss.sent rest.sent }

@@ -4,7 +4,7 @@ use Rattle.uip_wire.specs.declared.addr.Addr.{Addr}
 use Rattle.packet_buffer.specs.Buffer.{Buffer}
 use Rattle.tcp_table.specs.Connections.{Connections}
 
--- the numbers of a node that only rise: its counters, its ticks, and the identification of its last TCP datagram
+-- The numbers of a node that only rise: its counters, its ticks, and the identification of its last TCP datagram.
 pub record Counts : Type 0 where
   pub net : List ℕ
   pub ticks : ℕ

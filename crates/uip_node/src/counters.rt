@@ -1,10 +1,11 @@
-//! The twenty counters of a node.
+//! Raises counters of a node.
 
 ghost use Rattle.std.specs.Prelude.{◌≡◌, ◌+◌, ◌==◌, ◌||◌, if◌then◌else◌};
 ghost use Rattle.uip_wire.specs.Numbers.{wrap};
 ghost use Rattle.uip_node.specs.Raising.{marks, raise};
 
-/// The counters at three places, each counted from 0, rise by one modulo 2^32; a place past the end is none.
+/// Adds 1, modulo 2^32, to the counters at three indices; an index of 20 or more is none.
+/// [add: counter] The length of the array.
 pub(crate) fn raised(net: [u32; 20], first: usize, second: usize, third: usize) -> [u32; 20]
     ensures { result ≡ raise (marks first second third) net }
 {
@@ -21,7 +22,7 @@ fn is_one_of(place: usize, first: usize, second: usize, third: usize) -> bool
     place == first || place == second || place == third
 }
 
-/// The counter, one more where it is marked.
+/// Returns the counter, with 1 added if it is marked.
 fn next(count: u32, marked: bool) -> u32
     ensures { result ≡ (if marked then wrap (count + 1) else count) }
 {

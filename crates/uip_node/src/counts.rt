@@ -1,11 +1,11 @@
-//! What a node counts: its counters, its ticks, and the identification of its datagrams.
+//! What a node counts at each kind of event: its counters, its ticks, and the identification of its datagrams.
 
 ghost use Rattle.std.specs.Prelude.{◌≡◌, ℕ, ◌∷◌, List};
 ghost use Rattle.tcp_machine.specs.Connection.{Sockets};
 ghost use Rattle.tcp_segment.specs.Segments.{PlainSegment};
 ghost use Rattle.uip_node.specs.Counted.{CountsAnswer, CountsEvent, again_place, icmp_place, ip_place, seen, tcp_place};
 ghost use Rattle.uip_node.specs.Counters.{counters, ticks_of};
-ghost use Rattle.uip_node.specs.Events.{Past};
+ghost use Rattle.uip_node.specs.Events.{HistoryEntry};
 ghost use Rattle.uip_node.specs.Events.Event.{Arrived, EchoAsked, IcmpRefused, IpRefused, Overlong, Periodic, TcpRefused};
 ghost use Rattle.uip_node.specs.Events.Answer.{EchoReplied, NoSlot, Spoke};
 
@@ -19,7 +19,8 @@ use icmp_echo::IcmpFate;
 use tcp_segment::TcpFate;
 use uip_ipv4::IpFate;
 
-/// The place of an IP fate's counter.
+/// Returns the index of an IP fate's counter.
+/// [add: fate] The number of a fate's counter, here or in the two functions below.
 fn ip_place(fate: IpFate) -> usize
     ensures { result ≡ ip_place fate }
 {
@@ -34,7 +35,7 @@ fn ip_place(fate: IpFate) -> usize
     }
 }
 
-/// The place of an ICMP fate's counter.
+/// Returns the index of an ICMP fate's counter.
 fn icmp_place(fate: IcmpFate) -> usize
     ensures { result ≡ icmp_place fate }
 {
@@ -44,7 +45,7 @@ fn icmp_place(fate: IcmpFate) -> usize
     }
 }
 
-/// The place of a TCP fate's counter.
+/// Returns the index of a TCP fate's counter.
 fn tcp_place(fate: TcpFate) -> usize
     ensures { result ≡ tcp_place fate }
 {
@@ -54,60 +55,61 @@ fn tcp_place(fate: TcpFate) -> usize
     }
 }
 
-/// The place of the counter of what is sent again, where this is.
+/// Returns the index of the counter of retransmissions, if this is one.
 fn again_place(again: bool) -> usize
     ensures { result ≡ again_place again }
 {
     if again { TCP_AGAIN } else { NO_COUNTER }
 }
 
-/// A datagram failed a check of its IP header.
+/// Counts a datagram that fails a check of its IP header.
 pub(crate) fn refuse_ip(net: &mut [u32; 20], fate: IpFate)
     ensures { CountsEvent net.old net.new (IpRefused fate) }
 {
     *net = raised(*net, IP_IN, ip_place(fate), NO_COUNTER);
 }
 
-/// A datagram's ICMP message was refused.
+/// Counts a datagram whose ICMP message is refused.
 pub(crate) fn refuse_icmp(net: &mut [u32; 20], fate: IcmpFate)
     ensures { CountsEvent net.old net.new (IcmpRefused fate) }
 {
     *net = raised(*net, IP_IN, ICMP_IN, icmp_place(fate));
 }
 
-/// A datagram's TCP segment was refused.
+/// Counts a datagram whose TCP segment is refused.
 pub(crate) fn refuse_tcp(net: &mut [u32; 20], fate: TcpFate)
     ensures { CountsEvent net.old net.new (TcpRefused fate) }
 {
     *net = raised(*net, IP_IN, TCP_IN, tcp_place(fate));
 }
 
-/// An echo was asked for and replied to.
+/// Counts an echo request and its reply.
+/// [add: counter] A call that raises the counter, as this one.
 pub(crate) fn echo(net: &mut [u32; 20])
-    ensures { (past : List Past) (request : List ℕ) → net.old ≡ counters past
-        → net.new ≡ counters (record { event = EchoAsked request; answer = EchoReplied } ∷ past) }
+    ensures { (history : List HistoryEntry) (request : List ℕ) → net.old ≡ counters history
+        → net.new ≡ counters (record { event = EchoAsked request; answer = EchoReplied } ∷ history) }
 {
     let asked = raised(*net, IP_IN, ICMP_IN, NO_COUNTER);
     *net = raised(asked, IP_OUT, ICMP_OUT, NO_COUNTER);
 }
 
-/// A segment arrived.
-pub(crate) fn arrive(net: &mut [u32; 20])
+/// Counts a received segment.
+pub(crate) fn segment_arrives(net: &mut [u32; 20])
     ensures { (sockets : Sockets) (segment : PlainSegment) → CountsEvent net.old net.new (Arrived sockets segment) }
 {
     *net = raised(*net, IP_IN, TCP_IN, NO_COUNTER);
 }
 
-/// A frame was longer than a datagram.
+/// Counts a frame that is longer than a datagram.
 pub(crate) fn overlong(net: &mut [u32; 20])
     ensures { CountsEvent net.old net.new Overlong }
 {
     *net = raised(*net, OVERLONG_FRAMES, NO_COUNTER, NO_COUNTER);
 }
 
-/// The ticks at the periodic call of a slot, of which the first begins one.
+/// Returns the ticks after the periodic call of a slot; that of slot 0 begins a tick.
 pub(crate) fn ticks_at(ticks: u32, slot: usize) -> u32
-    ensures { (past : List Past) → ticks ≡ ticks_of past → result ≡ ticks_of (seen (Periodic slot) past) }
+    ensures { (history : List HistoryEntry) → ticks ≡ ticks_of history → result ≡ ticks_of (seen (Periodic slot) history) }
 {
     if slot == 0 {
         ticks.wrapping_add(1)
@@ -116,14 +118,14 @@ pub(crate) fn ticks_at(ticks: u32, slot: usize) -> u32
     }
 }
 
-/// A TCP datagram is sent as the answer to the last event, maybe again.
+/// Counts a TCP datagram that is sent at the last event, and whether it is a retransmission.
 pub(crate) fn speak(net: &mut [u32; 20], again: bool)
     ensures { CountsAnswer net.old net.new (Spoke again) }
 {
     *net = raised(*net, IP_OUT, TCP_OUT, again_place(again));
 }
 
-/// The last event, a plain SYN, found no slot.
+/// Counts a plain SYN for which there is no slot.
 pub(crate) fn turn_away(net: &mut [u32; 20])
     ensures { CountsAnswer net.old net.new NoSlot }
 {

@@ -1,26 +1,26 @@
-//! The connection in a slot takes an event.
+//! The events of the connection in one slot of the table.
 
 ghost use Rattle.std.specs.Prelude.{◌≡◌, ◌<◌, ◌≤◌, true, false, Some, length, slice_get};
 ghost use Rattle.app_events.specs.States.{is_live};
-ghost use Rattle.tcp_machine.specs.Ask.{ask};
+ghost use Rattle.tcp_machine.specs.Ask.{ask_prepared};
 ghost use Rattle.tcp_machine.specs.Fits.{CanBeAsked, IsAnswer, StepFits};
 ghost use Rattle.tcp_machine.specs.OnSegment.{on_segment};
 ghost use Rattle.tcp_machine.specs.OnTick.{on_tick};
-ghost use Rattle.tcp_machine.specs.Stands.{plain};
+ghost use Rattle.tcp_machine.specs.Represents.{plain};
 ghost use Rattle.uip_node.specs.Edge.{sockets_of};
-ghost use Rattle.uip_node.specs.Inner.{OpensIn, SettlesIn, SpeaksIn, TakesIn};
-ghost use Rattle.uip_node.specs.Slots.{AllKept, AllSound, IsIn, NoneAt, OthersRest, TookStep, live_rows};
+ghost use Rattle.uip_node.specs.Inner.{OpensIn, PreparesIn, SettlesIn, SpeaksIn, StaysPrepared, TakesIn};
+ghost use Rattle.uip_node.specs.Slots.{AllWellFormed, AllSound, IsIn, NoneAt, OthersRest, TookStep, live_rows};
 
 use crate::listing::rows_of;
 use crate::speaking::speak;
 use app_events::{App, Now, RowList};
 use packet_buffer::Packet;
-use tcp_machine::{Step, accept, ask, on_segment, on_tick};
+use tcp_machine::{Step, accept, ask_prepared, is_due, on_segment, on_tick, prepare};
 use tcp_segment::Segment;
 use tcp_table::{Conn, Table};
 use uip_wire::{Addr, LARGEST_DATAGRAM};
 
-/// The connection in a slot, which is not CLOSED, takes a segment.
+/// Delivers a segment to the connection in a slot, which is not CLOSED.
 pub(crate) fn take_segment<A: App>(
     table: &mut Table<A>,
     shared: &mut A::Shared,
@@ -30,61 +30,116 @@ pub(crate) fn take_segment<A: App>(
 ) -> Step
     requires within { slot < length table.old.conns }
     requires live { IsIn table.old.conns slot (λ c. is_live c.state ≡ true) }
-    requires kept { AllKept A.App (A.kept shared.old) table.old.conns }
+    requires kept { AllWellFormed A.App (A.config shared.old) table.old.conns }
     requires short { length piece.now ≤ 1500 }
-    ensures same { A.kept shared.new ≡ A.kept shared.old }
-    ensures took { TookStep A.App (A.kept shared.old) slot table.old table.new result }
-    ensures meets { TakesIn A.App (A.kept shared.old) slot
-        (λ a. on_segment (A.meaning (A.kept shared.old)) a (A.numbers shared.old) (plain seg.now piece.now))
+    ensures same { A.config shared.new ≡ A.config shared.old }
+    ensures took { TookStep A.App (A.config shared.old) slot table.old table.new result }
+    ensures meets { TakesIn A.App (A.config shared.old) slot
+        (λ a. on_segment (A.app_spec (A.config shared.old)) a (A.numbers shared.old) (plain seg.now piece.now))
         table.old.conns table.new.conns (A.numbers shared.new) result }
 {
     let conn = &mut table.conns[slot];
     on_segment(conn, shared, seg, piece)
 }
 
-/// The connection in a slot, which is not CLOSED, takes its periodic call.
+/// Makes the periodic call of the connection in a slot, which is not CLOSED.
 pub(crate) fn take_tick<A: App>(table: &mut Table<A>, shared: &mut A::Shared, slot: usize) -> Step
     requires within { slot < length table.old.conns }
     requires live { IsIn table.old.conns slot (λ c. is_live c.state ≡ true) }
-    requires kept { AllKept A.App (A.kept shared.old) table.old.conns }
-    ensures same { A.kept shared.new ≡ A.kept shared.old }
-    ensures took { TookStep A.App (A.kept shared.old) slot table.old table.new result }
-    ensures meets { TakesIn A.App (A.kept shared.old) slot
-        (λ a. on_tick (A.meaning (A.kept shared.old)) a (A.numbers shared.old))
+    requires kept { AllWellFormed A.App (A.config shared.old) table.old.conns }
+    ensures same { A.config shared.new ≡ A.config shared.old }
+    ensures took { TookStep A.App (A.config shared.old) slot table.old table.new result }
+    ensures meets { TakesIn A.App (A.config shared.old) slot
+        (λ a. on_tick (A.app_spec (A.config shared.old)) a (A.numbers shared.old))
         table.old.conns table.new.conns (A.numbers shared.new) result }
 {
     let conn = &mut table.conns[slot];
     on_tick(conn, shared)
 }
 
-/// The application of the connection in a slot is asked what it wants.
-fn ask_in<A: App>(
-    table: &mut Table<A>,
-    shared: &A::Shared,
-    slot: usize,
-    now: &Now,
-    fresh: bool,
-) -> Step
+/// Returns whether the application of the connection in a slot may need a capture before it is asked.
+fn is_due_in<A: App>(table: &Table<A>, shared: &A::Shared, slot: usize) -> bool
+    requires within { slot < length table.now.conns }
+    requires asked { IsIn table.now.conns slot CanBeAsked }
+    requires sound { AllSound A.App (A.config shared.now) table.now.conns }
+    ensures not_due { result ≡ false → StaysPrepared A.App (A.config shared.now) slot table.now.conns (A.numbers shared.now) }
+{
+    let conn = &table.conns[slot];
+    is_due(conn, shared)
+}
+
+/// Lets the application of the connection in a slot take a capture from a `Now`.
+fn prepare_in<A: App>(table: &mut Table<A>, shared: &A::Shared, slot: usize, now: &Now)
     requires within { slot < length table.old.conns }
     requires asked { IsIn table.old.conns slot CanBeAsked }
-    requires sound { AllSound A.App (A.kept shared.now) table.old.conns }
+    requires sound { AllSound A.App (A.config shared.now) table.old.conns }
     requires others { OthersRest slot table.old.conns }
     ensures long { length table.new.conns ≡ length table.old.conns }
     ensures iss { table.new.iss ≡ table.old.iss }
-    ensures kept { AllKept A.App (A.kept shared.now) table.new.conns }
+    ensures asked { IsIn table.new.conns slot CanBeAsked }
+    ensures sound { AllSound A.App (A.config shared.now) table.new.conns }
+    ensures others { OthersRest slot table.new.conns }
+    ensures meets { PreparesIn A.App (A.config shared.now) slot now.now table.old.conns table.new.conns (A.numbers shared.now) }
+{
+    let conn = &mut table.conns[slot];
+    prepare(conn, shared, now);
+}
+
+/// Lets the application of the connection in a slot take a capture, if it needs one. The `Now` is made only then.
+/// [add: counter] The length of the array, here and below.
+fn ready_in<A: App>(
+    table: &mut Table<A>,
+    shared: &A::Shared,
+    slot: usize,
+    ticks: u32,
+    net: &[u32; 20],
+)
+    requires within { slot < length table.old.conns }
+    requires asked { IsIn table.old.conns slot CanBeAsked }
+    requires sound { AllSound A.App (A.config shared.now) table.old.conns }
+    requires others { OthersRest slot table.old.conns }
+    ensures long { length table.new.conns ≡ length table.old.conns }
+    ensures iss { table.new.iss ≡ table.old.iss }
+    ensures asked { IsIn table.new.conns slot CanBeAsked }
+    ensures sound { AllSound A.App (A.config shared.now) table.new.conns }
+    ensures others { OthersRest slot table.new.conns }
+    ensures meets { PreparesIn A.App (A.config shared.now) slot
+        (record { ticks = ticks; net = net.now; rows = live_rows 0 table.old.conns })
+        table.old.conns table.new.conns (A.numbers shared.now) }
+{
+    if !is_due_in(table, shared, slot) {
+        return;
+    }
+    let rows = rows_in(table);
+    let now = Now {
+        ticks,
+        net: *net,
+        rows,
+    };
+    prepare_in(table, shared, slot, &now);
+}
+
+/// Asks the application of the connection in a slot, which has taken the capture that it needs, what to send.
+fn ask_in<A: App>(table: &mut Table<A>, shared: &A::Shared, slot: usize, fresh: bool) -> Step
+    requires within { slot < length table.old.conns }
+    requires asked { IsIn table.old.conns slot CanBeAsked }
+    requires sound { AllSound A.App (A.config shared.now) table.old.conns }
+    requires others { OthersRest slot table.old.conns }
+    ensures long { length table.new.conns ≡ length table.old.conns }
+    ensures iss { table.new.iss ≡ table.old.iss }
+    ensures kept { AllWellFormed A.App (A.config shared.now) table.new.conns }
     ensures answer { IsAnswer result }
     ensures text { IsIn table.new.conns slot (λ c. StepFits c result) }
-    ensures meets { TakesIn A.App (A.kept shared.now) slot
-        (λ a. ask (A.meaning (A.kept shared.now)) now.now fresh a (A.numbers shared.now))
+    ensures meets { TakesIn A.App (A.config shared.now) slot
+        (λ a. ask_prepared (A.app_spec (A.config shared.now)) fresh a (A.numbers shared.now))
         table.old.conns table.new.conns (A.numbers shared.now) result }
 {
     let conn = &mut table.conns[slot];
-    ask(conn, shared, now, fresh)
+    ask_prepared(conn, shared, fresh)
 }
 
-/// After a step of the connection in a slot its application is asked, where the step says so. `ticks` and `net` are the
-/// node's at this moment.
-pub(crate) fn settle<A: App>(
+/// Asks the application of the connection in a slot, if the step demands it. `ticks` and `net` are those of the node at this event.
+pub(crate) fn ask_app<A: App>(
     table: &mut Table<A>,
     shared: &A::Shared,
     slot: usize,
@@ -94,38 +149,33 @@ pub(crate) fn settle<A: App>(
 ) -> Step
     requires within { slot < length table.old.conns }
     requires fits { IsIn table.old.conns slot (λ c. StepFits c step) }
-    requires sound { AllSound A.App (A.kept shared.now) table.old.conns }
+    requires sound { AllSound A.App (A.config shared.now) table.old.conns }
     requires others { OthersRest slot table.old.conns }
     ensures long { length table.new.conns ≡ length table.old.conns }
     ensures iss { table.new.iss ≡ table.old.iss }
-    ensures kept { AllKept A.App (A.kept shared.now) table.new.conns }
+    ensures kept { AllWellFormed A.App (A.config shared.now) table.new.conns }
     ensures answer { IsAnswer result }
     ensures text { IsIn table.new.conns slot (λ c. StepFits c result) }
-    ensures meets { SettlesIn A.App (A.kept shared.now) slot ticks net.now
+    ensures meets { SettlesIn A.App (A.config shared.now) slot ticks net.now
         table.old.conns table.new.conns (A.numbers shared.now) step result }
 {
     match step {
         Step::Ask { fresh } => {
-            let rows = rows_in(table);
-            let now = Now {
-                ticks,
-                net: *net,
-                rows,
-            };
-            ask_in(table, shared, slot, &now, fresh)
+            ready_in(table, shared, slot, ticks, net);
+            ask_in(table, shared, slot, fresh)
         }
         other => other,
     }
 }
 
-/// The rows of a table.
+/// Returns the rows of a table.
 pub(crate) fn rows_in<A: App>(table: &Table<A>) -> RowList
     ensures { result ≡ live_rows 0 table.now.conns }
 {
     rows_of(&table.conns)
 }
 
-/// A plain SYN takes a slot that is CLOSED or in TIME_WAIT.
+/// Opens a connection for a plain SYN in a slot that is CLOSED or in TIME-WAIT.
 pub(crate) fn open_in<A: App>(table: &mut Table<A>, slot: usize, peer: Addr, seg: &Segment) -> Step
     requires within { slot < length table.old.conns }
     requires free { NoneAt peer seg.now.from seg.now.to table.old.conns }
@@ -133,7 +183,7 @@ pub(crate) fn open_in<A: App>(table: &mut Table<A>, slot: usize, peer: Addr, seg
     ensures iss { table.new.iss ≡ table.old.iss }
     ensures fits { IsIn table.new.conns slot (λ c. StepFits c result) }
     ensures step { result ≡ Step.SynAck false }
-    ensures kept { (k : A.Kept) → AllKept A.App k table.old.conns → AllKept A.App k table.new.conns }
+    ensures kept { (k : A.Config) → AllWellFormed A.App k table.old.conns → AllWellFormed A.App k table.new.conns }
     ensures stands { OpensIn A.App slot table.old.iss (sockets_of peer seg.now) seg.now table.old.conns table.new.conns }
 {
     let iss = table.iss;
@@ -153,17 +203,17 @@ pub(crate) fn speak_in<A: App>(
 ) -> Option<usize>
     requires size { length packet.old.area ≡ LARGEST_DATAGRAM }
     requires within { slot < length table.now.conns }
-    requires kept { AllKept A.App (A.kept shared.now) table.now.conns }
+    requires kept { AllWellFormed A.App (A.config shared.now) table.now.conns }
     requires fits { IsIn table.now.conns slot (λ c. StepFits c step) }
     requires answer { IsAnswer step }
     ensures size { length packet.new.area ≡ LARGEST_DATAGRAM }
-    ensures spoken { SpeaksIn A.App (A.kept shared.now) slot own id table.now.conns step result packet.new }
+    ensures spoken { SpeaksIn A.App (A.config shared.now) slot own id table.now.conns step result packet.new }
 {
     let conn = &table.conns[slot];
     speak(packet, conn, shared, step, own, id)
 }
 
-/// Whether the connection in a slot is not CLOSED.
+/// Returns whether the connection in a slot is not CLOSED.
 pub(crate) fn is_live_in<A: App>(table: &Table<A>, slot: usize) -> bool
     requires within { slot < length table.now.conns }
     ensures { IsIn table.now.conns slot (λ c. result ≡ is_live c.state) }
@@ -171,7 +221,7 @@ pub(crate) fn is_live_in<A: App>(table: &Table<A>, slot: usize) -> bool
     table.conns[slot].is_live()
 }
 
-/// The connection in a slot.
+/// Returns the connection in a slot.
 pub(crate) fn conn_in<A: App>(table: &Table<A>, slot: usize) -> &Conn<A>
     requires { slot < 10 }
     ensures { slice_get table.now.conns slot ≡ Some result.now }
@@ -179,7 +229,7 @@ pub(crate) fn conn_in<A: App>(table: &Table<A>, slot: usize) -> &Conn<A>
     &table.conns[slot]
 }
 
-/// How many slots a table has.
+/// Returns the number of slots of a table.
 pub(crate) fn count_slots<A: App>(table: &Table<A>) -> usize
     ensures ten { result ≡ 10 }
     ensures all { length table.now.conns ≡ 10 }

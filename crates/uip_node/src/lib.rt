@@ -1,5 +1,5 @@
-//! The node: ten connections over one packet buffer. What a node is and how each event changes it is told in `specs/` over
-//! plain data, with all of its numbers as counts over its past.
+//! The node: ten connections over one packet buffer. `specs/` defines over plain data what a node is and how each event changes it; all of
+//! its numbers are counts over its history.
 #![tactic(auto)]
 
 pub mod counter;

@@ -7,7 +7,7 @@ use app_events::{Row, RowList};
 use arrayvec::ArrayVec;
 use tcp_table::Conn;
 
-/// The connection in a slot as a row.
+/// Returns the connection in a slot as a row.
 fn row_in<A>(slot: u8, conn: &Conn<A>) -> Row
     ensures { result ≡ row_in slot conn.now }
 {
@@ -22,7 +22,7 @@ fn row_in<A>(slot: u8, conn: &Conn<A>) -> Row
     }
 }
 
-/// The rows of the connections that are not CLOSED, in the order of their slots.
+/// Returns the rows of the connections that are not CLOSED, in the order of their slots.
 pub(crate) fn rows_of<A>(conns: &[Conn<A>]) -> RowList
     requires { length conns.now ≤ 10 }
     ensures { result ≡ live_rows 0 conns.now }

@@ -1,13 +1,13 @@
-//! The segment that a connection sends, written into the packet.
+//! Output: writes the segment that a connection sends into the packet.
 
 ghost use Rattle.std.specs.Prelude.{◌≡◌, ℕ, ◌+◌, ◌≤◌, List, IsSome, length, slice_range, take};
-ghost use Rattle.app_events.specs.Part.{CanSay, Part, text_left};
+ghost use Rattle.app_events.specs.AppSpec.{CanSay, AppState, text_left};
 ghost use Rattle.packet_buffer.specs.Buffer.{datagram_in};
 ghost use Rattle.tcp_machine.specs.Connection.{Connection};
 ghost use Rattle.tcp_machine.specs.Fits.{IsAnswer, StepFits};
-ghost use Rattle.tcp_machine.specs.Segments.{reset_to_none, segment_of};
+ghost use Rattle.tcp_machine.specs.Segments.{reset_for_no_connection, segment_of};
 ghost use Rattle.tcp_machine.specs.Sound.{IsSound};
-ghost use Rattle.tcp_machine.specs.Stands.{ConnStands, plain};
+ghost use Rattle.tcp_machine.specs.Represents.{ConnRepresents, plain};
 ghost use Rattle.tcp_machine.specs.declared.step.Step.TheVariants.{Drop};
 ghost use Rattle.tcp_segment.specs.Segments.{datagram_bytes};
 ghost use Rattle.tcp_segment.specs.Sent.{datagram_of};
@@ -23,7 +23,7 @@ use tcp_segment::{ACK, FIN, Out, PSH, RST, SYN, Segment, put};
 use tcp_table::Conn;
 use uip_wire::{Addr, LARGEST_DATAGRAM, OWN_MSS};
 
-/// What of a segment's header does not stand in its connection.
+/// The fields of a segment's header that its connection does not have.
 #[derive(Clone, Copy, Debug, PartialEq, Eq)]
 pub(crate) struct Heading {
     pub flags: u8,
@@ -33,7 +33,7 @@ pub(crate) struct Heading {
     pub len: u16,
 }
 
-/// The heading of a segment without text, with the own window.
+/// Returns the heading of a segment without text, with the node's own window.
 fn bare(flags: u8) -> Heading
     ensures { result ≡ record { flags = flags; window = OWN_MSS; mss = None; len = 0 } }
 {
@@ -45,14 +45,14 @@ fn bare(flags: u8) -> Heading
     }
 }
 
-/// An address has four bytes.
+/// States that an address has four bytes.
 fn has_four_bytes(addr: Addr)
     ensures { length addr.0 ≡ 4 }
 {
     let [_first, _second, _third, _fourth] = addr.0;
 }
 
-/// Writes a segment around the text that stands at place 40, and answers the length of its datagram.
+/// Writes a segment around the text at offset 40, and returns the length of its datagram in bytes.
 fn put_out(packet: &mut Packet, out: &Out) -> usize
     requires size { length packet.old.area ≡ LARGEST_DATAGRAM }
     requires len { out.now.len ≤ OWN_MSS }
@@ -67,7 +67,7 @@ fn put_out(packet: &mut Packet, out: &Out) -> usize
     packet.bytes().len()
 }
 
-/// Writes a connection's segment around the text that stands at place 40, and answers the length of its datagram.
+/// Writes a connection's segment around the text at offset 40, and returns the length of its datagram in bytes.
 fn send<A>(packet: &mut Packet, conn: &Conn<A>, heading: Heading, own: Addr, id: u16) -> usize
     requires size { length packet.old.area ≡ LARGEST_DATAGRAM }
     requires len { heading.len ≤ OWN_MSS }
@@ -94,30 +94,30 @@ fn send<A>(packet: &mut Packet, conn: &Conn<A>, heading: Heading, own: Addr, id:
     put_out(packet, &out)
 }
 
-/// The application makes its text at place 40 of an area.
+/// Lets the application generate its text at offset 40 of an area.
 fn fill_at_40<A: App>(app: &A, shared: &A::Shared, area: &mut [u8], len: usize)
     requires fits { 40 + len ≤ length area.old }
-    requires says { CanSay A.meaning A.stands_for app.now (A.kept shared.now) len }
+    requires says { CanSay A.app_spec A.represents app.now (A.config shared.now) len }
     ensures size { length area.new ≡ length area.old }
-    ensures text { (p : Part) → A.stands_for app.now (A.kept shared.now) p
-        → slice_range area.new 40 (40 + len) ≡ take len (text_left (A.meaning (A.kept shared.now)) p) }
+    ensures text { (p : AppState) → A.represents app.now (A.config shared.now) p
+        → slice_range area.new 40 (40 + len) ≡ take len (text_left (A.app_spec (A.config shared.now)) p) }
 {
     app.fill(shared, &mut area[40..40 + len]);
 }
 
-/// The application makes the text that is outstanding, at place 40.
+/// Lets the application generate the text that is outstanding, at offset 40.
 fn fill_text<A: App>(packet: &mut Packet, conn: &Conn<A>, shared: &A::Shared)
     requires size { length packet.old.area ≡ LARGEST_DATAGRAM }
-    requires says { CanSay A.meaning A.stands_for conn.now.app (A.kept shared.now) conn.now.len }
+    requires says { CanSay A.app_spec A.represents conn.now.app (A.config shared.now) conn.now.len }
     requires len { conn.now.len ≤ OWN_MSS }
     ensures size { length packet.new.area ≡ LARGEST_DATAGRAM }
-    ensures text { (p : Part) → A.stands_for conn.now.app (A.kept shared.now) p
-        → slice_range packet.new.area 40 (40 + conn.now.len) ≡ take conn.now.len (text_left (A.meaning (A.kept shared.now)) p) }
+    ensures text { (p : AppState) → A.represents conn.now.app (A.config shared.now) p
+        → slice_range packet.new.area 40 (40 + conn.now.len) ≡ take conn.now.len (text_left (A.app_spec (A.config shared.now)) p) }
 {
     fill_at_40(&conn.app, shared, packet.area_mut(), conn.len as usize);
 }
 
-/// The segment of a connection's text.
+/// Writes the segment of a connection's text.
 fn send_text<A: App>(
     packet: &mut Packet,
     conn: &Conn<A>,
@@ -126,11 +126,11 @@ fn send_text<A: App>(
     id: u16,
 ) -> usize
     requires size { length packet.old.area ≡ LARGEST_DATAGRAM }
-    requires says { CanSay A.meaning A.stands_for conn.now.app (A.kept shared.now) conn.now.len }
+    requires says { CanSay A.app_spec A.represents conn.now.app (A.config shared.now) conn.now.len }
     requires len { conn.now.len ≤ OWN_MSS }
     ensures size { length packet.new.area ≡ LARGEST_DATAGRAM }
     ensures length { result ≡ length (datagram_in packet.new) }
-    ensures bytes { WritesText A.App (A.kept shared.now) own id conn.now packet.new }
+    ensures bytes { WritesText A.App (A.config shared.now) own id conn.now packet.new }
 {
     fill_text(packet, conn, shared);
     let heading = Heading {
@@ -140,7 +140,7 @@ fn send_text<A: App>(
     send(packet, conn, heading, own, id)
 }
 
-/// Writes the segment of a step into the packet and answers the length of its datagram, or sends nothing.
+/// Writes the segment of a step into the packet and returns the length of its datagram in bytes, or `None` if nothing is sent.
 pub(crate) fn speak<A: App>(
     packet: &mut Packet,
     conn: &Conn<A>,
@@ -150,12 +150,12 @@ pub(crate) fn speak<A: App>(
     id: u16,
 ) -> Option<usize>
     requires size { length packet.old.area ≡ LARGEST_DATAGRAM }
-    requires sound { IsSound A.App (A.kept shared.now) conn.now }
+    requires sound { IsSound A.App (A.config shared.now) conn.now }
     requires fits { StepFits conn.now step }
     requires answer { IsAnswer step }
     ensures size { length packet.new.area ≡ LARGEST_DATAGRAM }
-    ensures spoken { (a : Connection) → ConnStands A.App (A.kept shared.now) conn.now a → ((step ≡ Drop → ⊥) → IsNamed conn.now a)
-        → IsSpoken own a.sockets id (segment_of (A.meaning (A.kept shared.now)) a step) result packet.new }
+    ensures spoken { (a : Connection) → ConnRepresents A.App (A.config shared.now) conn.now a → ((step ≡ Drop → ⊥) → IsNamed conn.now a)
+        → IsSpoken own a.sockets id (segment_of (A.app_spec (A.config shared.now)) a step) result packet.new }
 {
     match step {
         Step::Drop | Step::Ask { .. } => None,
@@ -179,14 +179,13 @@ pub(crate) fn speak<A: App>(
     }
 }
 
-/// Writes the answer to a segment that belongs to no connection (RFC 793, section 3.4), and answers the length of its
-/// datagram.
+/// Writes the RST for a segment of no connection (RFC 793, section 3.4), and returns the length of its datagram in bytes.
 pub(crate) fn put_reset(packet: &mut Packet, own: Addr, peer: Addr, seg: &Segment, id: u16) -> usize
     requires size { length packet.old.area ≡ LARGEST_DATAGRAM }
     ensures size { length packet.new.area ≡ LARGEST_DATAGRAM }
     ensures length { result ≡ length (datagram_in packet.new) }
     ensures bytes { (text : List ℕ)
-        → datagram_in packet.new ≡ datagram_bytes (datagram_to own (sockets_of peer seg.now) id (reset_to_none (plain seg.now text))) }
+        → datagram_in packet.new ≡ datagram_bytes (datagram_to own (sockets_of peer seg.now) id (reset_for_no_connection (plain seg.now text))) }
 {
     let out = Out {
         source: own,

@@ -1,4 +1,4 @@
--- Bytes of ASCII that are looked at together have no mark among them.
+-- Bytes of ASCII that are examined together have no mark among them.
 use Rattle.std.proofs.Common.{◌≡◌, ℕ, ◌+◌, ◌%◌, ◌^◌, ◌≤◌, Bool, true, false, cond, not, leb, List, [], ◌∷◌, length, take, drop, map, replicate, ◌-◌, refl, sym, ap, ◌∙◌, arith, length-take, length-drop}
 use Rattle.std.specs.List.{prefix_len}
 use Rattle.std.specs.Prelude.{slice_range, nat_eq}
@@ -12,7 +12,7 @@ top_of : (a : Bool) → top 7 (cond a 255 0) ≡ a
 top_of true = refl
 top_of false = refl
 
--- what a comparison of all lanes with 128 tells
+-- the result of a comparison of all lanes with 128
 abbrev great_of : List ℕ → ℕ → List Bool
 great_of xs n = map (top 7) (zip2 (λ a b. cond (leb a b) 255 0) (replicate n 128) xs)
 

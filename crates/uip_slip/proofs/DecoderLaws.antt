@@ -7,14 +7,14 @@ use Rattle.std.proofs.lemmas.Bool.{ltb-false, ltb-true, le-ltb, lt-ltb, le-leb, 
 use Rattle.uip_slip.specs.Frames.{Frame, meant, unescaped, frame_of, open_part, frames, Datagram, Overlong, is_plain}
 use Rattle.uip_slip.specs.declared.fed.Fed.{Fed}
 use Rattle.uip_slip.specs.declared.fed.Fed.TheVariants as fed
-use Rattle.uip_slip.specs.Decoding.{EndsFrame, State, WasFed, waits_after, open_bytes, told_by}
+use Rattle.uip_slip.specs.Decoding.{EndsFrame, State, WasFed, waits_after, open_bytes, reported_by}
 use Rattle.uip_slip.specs.Steps.{reopened, pushed, taken, joined_parts, Closes}
 use Rattle.uip_slip.proofs.PartLaws.{frames-end, open_part-end, frames-plain, open_part-plain, parts-byte}
 use Rattle.uip_slip.proofs.PlainLaws.{adds, unescaped-push, waits_after-push, parts-plain, plain_joined}
 
--- a state stands for the bytes u of a part
+-- a state represents the bytes u of a part
 pub record Holds (u : List ℕ) (w : Bool) (s : State) : Type 0 where
-  pub front : s.bytes ≡ take 1500 u
+  pub prefix : s.bytes ≡ take 1500 u
   pub over : s.over ≡ nat_lt 1500 (length u)
   pub waits : s.waits ≡ w
   pub told : s.told ≡ false
@@ -43,10 +43,10 @@ pushed_holds u w s c h =
     elim (nat_lt (length s.bytes) 1500) as (λ v. nat_lt (length s.bytes) 1500 ≡ v → Holds (u ++ c ∷ []) false
     (cond v (record { bytes = s.bytes ++ c ∷ []; over = s.over; waits = false; told = false })
     (record { bytes = s.bytes; over = true; waits = false; told = false }))) [
-      | true ↦ λ e. let g = room_left 1500 u s.bytes c h.front (ltb-true _ _ e) in
-          record { front = g.0; over = h.over ∙ g.1; waits = refl; told = refl }
-      | false ↦ λ e. let g = no_room 1500 u s.bytes c h.front (ltb-false _ _ e) in
-          record { front = g.0; over = g.1; waits = refl; told = refl }
+      | true ↦ λ e. let g = room_left 1500 u s.bytes c h.prefix (ltb-true _ _ e) in
+          record { prefix = g.0; over = h.over ∙ g.1; waits = refl; told = refl }
+      | false ↦ λ e. let g = no_room 1500 u s.bytes c h.prefix (ltb-false _ _ e) in
+          record { prefix = g.0; over = g.1; waits = refl; told = refl }
     ] refl
 
 taken_holds : (p : List ℕ) (s : State) (b : ℕ) → Holds (unescaped p) (waits_after p) s
@@ -57,15 +57,15 @@ taken_holds p s b h = rw (unescaped-push p b, waits_after-push p b, h.waits)
       | true ↦ pushed_holds (unescaped p) (waits_after p) s (meant b) h
       | false ↦ elim (eqb b 219) as (λ v. Holds (unescaped p ++ cond v [] (b ∷ [])) v
           (cond v (record { bytes = s.bytes; over = s.over; waits = true; told = false }) (pushed s b))) [
-            | true ↦ rw append-nil (record { front = h.front; over = h.over; waits = refl; told = refl })
+            | true ↦ rw append-nil (record { prefix = h.prefix; over = h.over; waits = refl; told = refl })
             | false ↦ pushed_holds (unescaped p) (waits_after p) s b h
           ]
     ])
 
--- more bytes behind the first n of a list
-front_joined : (n : ℕ) (u t run : List ℕ) → t ≡ take n u
+-- more bytes after the first n of a list
+prefix_joined : (n : ℕ) (u t run : List ℕ) → t ≡ take n u
     → (take n (t ++ run) ≡ take n (u ++ run)) × ((nat_lt n (length u) || nat_lt n (length t + length run)) ≡ nat_lt n (length (u ++ run)))
-front_joined n u t run e =
+prefix_joined n u t run e =
     elim (nat_lt n (length u)) as (λ v. nat_lt n (length u) ≡ v
     → (take n (t ++ run) ≡ take n (u ++ run)) × ((v || nat_lt n (length t + length run)) ≡ nat_lt n (length (u ++ run)))) [
       | true ↦ λ q.
@@ -84,23 +84,23 @@ front_joined n u t run e =
 
 joined_holds : (u : List ℕ) (s : State) (run : List ℕ) → Holds u false s → Holds (u ++ run) false (joined_parts s run)
 joined_holds u s run h =
-    let both = front_joined 1500 u s.bytes run h.front in
-    record { front = both.0; over = ap (λ v. v || nat_lt 1500 (length s.bytes + length run)) h.over ∙ both.1; waits = h.waits; told = h.told }
+    let both = prefix_joined 1500 u s.bytes run h.prefix in
+    record { prefix = both.0; over = ap (λ v. v || nat_lt 1500 (length s.bytes + length run)) h.over ∙ both.1; waits = h.waits; told = h.told }
 
 open_again : (u : List ℕ) (w : Bool) (s : State) → Holds u w s → open_bytes s ≡ take 1500 u
-open_again u w s h = rw h.told h.front
+open_again u w s h = rw h.told h.prefix
 
 -- a decoder that was opened again, and was then fed to a state that holds the longer part
 held : (bytes more : List ℕ) (s new : State) → open_part (bytes ++ more) ≡ open_part bytes ++ more
     → Holds (unescaped (open_part bytes ++ more)) (waits_after (open_part bytes ++ more)) new → WasFed (bytes ++ more) new
 held bytes more s new longer h = record {
-  front = rw longer (open_again _ _ new h);
+  prefix = rw longer (open_again _ _ new h);
   over = rw longer h.over;
   waits = rw longer h.waits;
 }
 
 reopened_holds : (bytes : List ℕ) (s : State) → WasFed bytes s → Holds (unescaped (open_part bytes)) (waits_after (open_part bytes)) (reopened s)
-reopened_holds bytes s f = record { front = f.front; over = f.over; waits = f.waits; told = refl }
+reopened_holds bytes s f = record { prefix = f.prefix; over = f.over; waits = f.waits; told = refl }
 
 pub fed_byte : (bytes : List ℕ) (s : State) (b : ℕ) → eqb b 192 ≡ false → WasFed bytes s
     → WasFed (bytes ++ b ∷ []) (taken (reopened s) b) × (frames (bytes ++ b ∷ []) ≡ frames bytes ++ [])
@@ -119,30 +119,30 @@ frame_of-overlong (b ∷ u) h = (let long = lt-leb (length (b ∷ u)) 1500 h in 
 
 pub fed_end : (bytes : List ℕ) (s : State) (b : ℕ) (answer : Fed) (new : State) → eqb b 192 ≡ true → WasFed bytes s
     → Closes (reopened s) answer new
-    → WasFed (bytes ++ b ∷ []) new × (frames (bytes ++ b ∷ []) ≡ frames bytes ++ told_by answer new)
+    → WasFed (bytes ++ b ∷ []) new × (frames (bytes ++ b ∷ []) ≡ frames bytes ++ reported_by answer new)
 fed_end bytes s b fed.More new end f c =
     let shut : open_part (bytes ++ b ∷ []) ≡ [] = open_part-end bytes b end in
     let u = unescaped (open_part bytes) in
     let small : length u ≤ 1500 = ltb-false _ _ (sym f.over ∙ c.0) in
-    let none : u ≡ [] = sym (take_all 1500 u small) ∙ sym f.front ∙ c.1 in (
-      record { front = rw (shut, c.2) refl; over = rw (shut, c.2) refl; waits = rw (shut, c.2) refl },
+    let none : u ≡ [] = sym (take_all 1500 u small) ∙ sym f.prefix ∙ c.1 in (
+      record { prefix = rw (shut, c.2) refl; over = rw (shut, c.2) refl; waits = rw (shut, c.2) refl },
       frames-end bytes b end ∙ ap (λ l. frames bytes ++ frame_of l) none,
     )
 fed_end bytes s b fed.Overlong new end f c =
     let shut : open_part (bytes ++ b ∷ []) ≡ [] = open_part-end bytes b end in
     let u = unescaped (open_part bytes) in
     let long : 1500 < length u = ltb-true _ _ (sym f.over ∙ c.0) in (
-      record { front = rw (shut, c.1) refl; over = rw (shut, c.1) refl; waits = rw (shut, c.1) refl },
+      record { prefix = rw (shut, c.1) refl; over = rw (shut, c.1) refl; waits = rw (shut, c.1) refl },
       frames-end bytes b end ∙ ap (λ l. frames bytes ++ l) (frame_of-overlong u long),
     )
 fed_end bytes s b (fed.Datagram n) new end f c =
     let shut : open_part (bytes ++ b ∷ []) ≡ [] = open_part-end bytes b end in
     let u = unescaped (open_part bytes) in
     let small : length u ≤ 1500 = ltb-false _ _ (sym f.over ∙ c.0) in
-    let same : open_bytes s ≡ u = f.front ∙ take_all 1500 u small in
+    let same : open_bytes s ≡ u = f.prefix ∙ take_all 1500 u small in
     let whole : new.bytes ≡ u = rw c.3 same in
     let some : u ≡ [] → ⊥ = λ e. let z : length (open_bytes s) ≡ 0 = ap (λ l. length l) (same ∙ e) in omega arith in (
-      record { front = rw (shut, c.3) refl; over = rw (shut, c.3) refl; waits = rw (shut, c.3) refl },
+      record { prefix = rw (shut, c.3) refl; over = rw (shut, c.3) refl; waits = rw (shut, c.3) refl },
       frames-end bytes b end ∙ ap (λ l. frames bytes ++ l) (frame_of-datagram u some small ∙ ap (λ l. Datagram l ∷ []) (sym whole)),
     )
 
@@ -155,7 +155,7 @@ fed_run before bytes n s mid new opens plain waiting joins f = let run = take n 
     | true ↦ λ w.
         let none = waiting w in
         let same : before ++ run ≡ before = ap (λ k. before ++ take k bytes) none.0 ∙ append-nil before in
-        rw (same, none.1, opens) (record { front = f.front; over = f.over; waits = f.waits })
+        rw (same, none.1, opens) (record { prefix = f.prefix; over = f.over; waits = f.waits })
     | false ↦ λ w.
         let rests : waits_after (open_part before) ≡ false = sym f.waits ∙ sym (ap (λ m. m.waits) opens) ∙ w in
         let long = plain_joined (open_part before) run plain rests in
@@ -167,10 +167,10 @@ fed_run before bytes n s mid new opens plain waiting joins f = let run = take n 
   frames-plain before run (parts-plain run plain),
 )
 
--- a run, and the byte behind it
+-- a run, and the byte after it
 pub run_then_byte : (before bytes : List ℕ) (n : ℕ) (s mid new : State) (told : List Frame) → n < length bytes
     → (WasFed before s → WasFed (before ++ take n bytes) mid × (frames (before ++ take n bytes) ≡ frames before ++ []))
-    → ((front : List ℕ) → WasFed front mid → WasFed (front ++ get_or bytes n 0 ∷ []) new × (frames (front ++ get_or bytes n 0 ∷ []) ≡ frames front ++ told))
+    → ((prefix : List ℕ) → WasFed prefix mid → WasFed (prefix ++ get_or bytes n 0 ∷ []) new × (frames (prefix ++ get_or bytes n 0 ∷ []) ≡ frames prefix ++ told))
     → WasFed before s → WasFed (before ++ take (n + 1) bytes) new × (frames (before ++ take (n + 1) bytes) ≡ frames before ++ told)
 run_then_byte before bytes n s mid new told here run byte f =
     let one = run f in
@@ -192,8 +192,8 @@ min_take n count run e =
           take_all count run (omega (arith, all)) ∙ sym (take_all n run most))
     ] refl
 
-front_then : (n : ℕ) (t run : List ℕ) → length t ≤ n → take n (t ++ run) ≡ t ++ take (n - length t) run
-front_then n t run h =
+prefix_before : (n : ℕ) (t run : List ℕ) → length t ≤ n → take n (t ++ run) ≡ t ++ take (n - length t) run
+prefix_before n t run h =
     ap (λ k. take k (t ++ run)) (let e : n ≡ length t + (n - length t) = omega arith in e) ∙ take-append-add t run (n - length t)
 
 past_room : (n a b : ℕ) → a ≤ n → nat_lt (n - a) b ≡ nat_lt n (a + b)
@@ -208,30 +208,30 @@ pub joined_is : (s : State) (run : List ℕ) (len count : ℕ) → length s.byte
     → record s { bytes = s.bytes ++ take count run; over = s.over || nat_lt (1500 - len) (length run) } ≡ joined_parts s run
 joined_is s run len count size h e =
     let bytes : s.bytes ++ take count run ≡ take 1500 (s.bytes ++ run) =
-    ap (λ l. s.bytes ++ l) (min_take (1500 - len) count run e ∙ ap (λ k. take (1500 - k) run) (sym size)) ∙ sym (front_then 1500 s.bytes run (omega (arith, size))) in
+    ap (λ l. s.bytes ++ l) (min_take (1500 - len) count run e ∙ ap (λ k. take (1500 - k) run) (sym size)) ∙ sym (prefix_before 1500 s.bytes run (omega (arith, size))) in
     let over : nat_lt (1500 - len) (length run) ≡ nat_lt 1500 (length s.bytes + length run) =
     past_room 1500 len (length run) h ∙ ap (λ k. nat_lt 1500 (k + length run)) (sym size) in
     same_state s _ _ _ _ bytes (ap (λ v. s.over || v) over)
 
--- the first bytes, and then a front of the others
-front_and_more : (before bytes : List ℕ) (n k : ℕ) → (before ++ take n bytes) ++ take k (take (length bytes - n) (drop n bytes)) ≡ before ++ take (n + k) bytes
-front_and_more before bytes n k =
+-- the first bytes, and then a prefix of the others
+prefix_and_more : (before bytes : List ℕ) (n k : ℕ) → (before ++ take n bytes) ++ take k (take (length bytes - n) (drop n bytes)) ≡ before ++ take (n + k) bytes
+prefix_and_more before bytes n k =
     let rest : take (length bytes - n) (drop n bytes) ≡ drop n bytes = take_all (length bytes - n) (drop n bytes) (omega (arith, length-drop n bytes)) in
     append_assoc before (take n bytes) (take k (take (length bytes - n) (drop n bytes)))
     ∙ ap (λ l. before ++ (take n bytes ++ take k l)) rest ∙ ap (λ l. before ++ l) (sym (take-add n k bytes))
 
--- what was fed and told so far, and then a front of the other bytes
+-- what was fed and reported so far, and then a prefix of the other bytes
 pub fed_on : (before bytes : List ℕ) (n k : ℕ) (s t : State) (told : List Frame)
     → WasFed (before ++ take n bytes) s × (frames (before ++ take n bytes) ≡ frames before)
     → ((b : List ℕ) → WasFed b s → WasFed (b ++ take k (take (length bytes - n) (drop n bytes))) t
     × (frames (b ++ take k (take (length bytes - n) (drop n bytes))) ≡ frames b ++ told))
     → WasFed (before ++ take (n + k) bytes) t × (frames (before ++ take (n + k) bytes) ≡ frames before ++ told)
 fed_on before bytes n k s t told so_far step =
-    let at = front_and_more before bytes n k in
+    let at = prefix_and_more before bytes n k in
     let both = step (before ++ take n bytes) so_far.0 in
     (subst (λ l. WasFed l t) at both.0, ap frames (sym at) ∙ both.1 ∙ ap (λ l. l ++ told) so_far.1)
 
--- the last byte of a piece stands there in the whole
+-- the last byte of a piece is there in the whole
 pub ends_on : (bytes : List ℕ) (n k : ℕ) (fed : Fed) → 0 < k → k ≤ length (take (length bytes - n) (drop n bytes))
     → EndsFrame fed (get_or (take (length bytes - n) (drop n bytes)) (k - 1) 0) → EndsFrame fed (get_or bytes (n + k - 1) 0)
 ends_on bytes n k fed some within e =

@@ -1,9 +1,9 @@
--- The frames that bytes complete, one byte after another.
+-- The frames that bytes complete, one byte after the other.
 use Rattle.std.proofs.Common.{◌≡◌, ℕ, true, false, List, [], ◌∷◌, ◌++◌, if◌then◌else◌, eqb, refl, sym, ap, ◌∙◌, append-nil, append_assoc}
 use Rattle.uip_slip.specs.Frames.{Frame, completed, frame_of, frames, open_part, unescaped}
 use Rattle.uip_slip.proofs.PartLaws.{frames-end, frames-plain, parts-byte}
 
--- the frames that bytes complete behind others
+-- the frames that bytes complete after others
 abbrev pub completed_by : List ℕ → List ℕ → List Frame
 completed_by before [] = []
 completed_by before (b ∷ bytes) = completed before b ++ completed_by (before ++ b ∷ []) bytes
@@ -27,6 +27,6 @@ same_rest : (xs ys zs : List Frame) → xs ++ ys ≡ xs ++ zs → ys ≡ zs
 same_rest [] ys zs e = e
 same_rest (x ∷ xs) ys zs e = same_rest xs ys zs cc
 
--- what a decoder tells of more bytes are the frames that they complete
+-- what a decoder reports of more bytes are the frames that they complete
 pub completed_told : (before bytes : List ℕ) (told : List Frame) → frames (before ++ bytes) ≡ frames before ++ told → completed_by before bytes ≡ told
 completed_told before bytes told e = same_rest (frames before) (completed_by before bytes) told (sym (frames-then before bytes) ∙ e)

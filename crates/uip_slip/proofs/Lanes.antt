@@ -1,4 +1,4 @@
--- Bytes that are looked at together: where the first mark stands.
+-- Bytes that are examined together: the offset of the first mark.
 use Rattle.std.proofs.Common.{◌≡◌, ℕ, ◌+◌, ◌%◌, ◌^◌, ◌<◌, ◌≤◌, Bool, true, false, cond, not, eqb, ◌||◌, List, [], ◌∷◌, length, take, drop, get_or, map, replicate, inl, inr, ◌-◌, true≢false, bit_or, refl, sym, ap, ◌∙◌, arith}
 use Rattle.std.specs.List.{prefix_len}
 use Rattle.std.proofs.lemmas.List.{length-map}
@@ -8,7 +8,7 @@ use lib.Lanes.{mask_l, top, zip2}
 use Rattle.std.specs.Prelude.{slice_range}
 use Rattle.std.specs.List.{list_all}
 use Rattle.std.proofs.lemmas.Bool.{cases_lt}
-use Rattle.uip_slip.specs.Frames.{IsPlainFront, is_mark, is_plain}
+use Rattle.uip_slip.specs.Frames.{IsPlainPrefix, is_mark, is_plain}
 use Rattle.uip_slip.proofs.PlainLaws.{none_marked}
 
 or_top : (a b : Bool) → top 7 (bit_or (cond a 255 0) (cond b 255 0)) ≡ (a || b)
@@ -17,7 +17,7 @@ or_top true false = refl
 or_top false true = refl
 or_top false false = refl
 
--- what two comparisons of all lanes tell
+-- the result of two comparisons of all lanes
 abbrev lanes_of : List ℕ → ℕ → List Bool
 lanes_of xs n =
     map (top 7) (zip2 bit_or (zip2 (λ a b. cond (eqb a b) 255 0) xs (replicate n 192)) (zip2 (λ a b. cond (eqb a b) 255 0) xs (replicate n 219)))
@@ -31,7 +31,7 @@ told_at xs n long few =
     ap (λ k. mask_l (lanes_of xs k) % 2 ^ 64) (sym long) ∙ ap (λ ms. mask_l ms % 2 ^ 64) (marks_told xs)
     ∙ mask_l-mod (map is_mark xs) 64 (omega (arith, length-map xs is_mark))
 
--- the lanes in front of the first mark
+-- the lanes before the first mark
 pub counted : (n : ℕ) (xs : List ℕ) → length xs ≡ n → n ≤ 64
     → cond (eqb (mask_l (lanes_of xs n) % 2 ^ 64) 0) n (count_trailing_zeros 64 (mask_l (lanes_of xs n) % 2 ^ 64)) ≡ prefix_len (λ b. not (is_mark b)) xs
 counted n xs long few =
@@ -61,14 +61,14 @@ window bytes at n r room e =
       stops = run_in_chunk_stops is_mark bytes at n r 0 room counted;
     }
 
--- the same of the window at the front
-pub front_plain : (bytes : List ℕ) (n r : ℕ) → Window bytes 0 n r → (k : ℕ) → k < r → is_mark (get_or bytes k 0) ≡ false
-front_plain bytes n r w k h = w.fails k (omega arith) (omega (arith, h))
+-- the same for the window at the start
+pub prefix_plain : (bytes : List ℕ) (n r : ℕ) → Window bytes 0 n r → (k : ℕ) → k < r → is_mark (get_or bytes k 0) ≡ false
+prefix_plain bytes n r w k h = w.fails k (omega arith) (omega (arith, h))
 
-pub front_stops : (bytes : List ℕ) (n r : ℕ) → Window bytes 0 n r → r < n → is_mark (get_or bytes r 0) ≡ true
-front_stops bytes n r w h = ap (λ k. is_mark (get_or bytes k 0)) (let same : r ≡ 0 + r = omega arith in same) ∙ w.stops h
+pub prefix_stops : (bytes : List ℕ) (n r : ℕ) → Window bytes 0 n r → r < n → is_mark (get_or bytes r 0) ≡ true
+prefix_stops bytes n r w h = ap (λ k. is_mark (get_or bytes k 0)) (let same : r ≡ 0 + r = omega arith in same) ∙ w.stops h
 
--- the bytes in front of a window and its own
+-- the bytes before a window and its own
 pub none_before : (bytes : List ℕ) (at n r : ℕ) → Window bytes at n r → ((k : ℕ) → k < at → is_mark (get_or bytes k 0) ≡ false)
     → (k : ℕ) → k < at + r → is_mark (get_or bytes k 0) ≡ false
 none_before bytes at n r w before k h = elim (cases_lt k at) [ inl early ↦ before k early | inr late ↦ w.fails k late h ]
@@ -76,12 +76,12 @@ none_before bytes at n r w before k h = elim (cases_lt k at) [ inl early ↦ bef
 pub all_plain : (bytes : List ℕ) (n : ℕ) → n ≤ length bytes → ((k : ℕ) → k < n → is_mark (get_or bytes k 0) ≡ false) → list_all is_plain (take n bytes) ≡ true
 all_plain bytes n h none = none_marked n bytes h (λ k less e. true≢false (sym e ∙ none k less))
 
--- a mark stands in the window at the front
-pub front_alone : (bytes : List ℕ) (n r : ℕ) → 0 + n ≤ length bytes → r ≡ prefix_len (λ b. not (is_mark b)) (slice_range bytes 0 (0 + n)) → r < n → IsPlainFront bytes r
-front_alone bytes n r room e h =
+-- a mark is in the window at the start
+pub prefix_alone : (bytes : List ℕ) (n r : ℕ) → 0 + n ≤ length bytes → r ≡ prefix_len (λ b. not (is_mark b)) (slice_range bytes 0 (0 + n)) → r < n → IsPlainPrefix bytes r
+prefix_alone bytes n r room e h =
     let w = window bytes 0 n r room e in
     record {
       within = omega (arith, w.le, room);
-      plain = all_plain bytes r (omega (arith, w.le, room)) (front_plain bytes n r w);
-      marked = λ _. front_stops bytes n r w h;
+      plain = all_plain bytes r (omega (arith, w.le, room)) (prefix_plain bytes n r w);
+      marked = λ _. prefix_stops bytes n r w h;
     }

@@ -7,10 +7,10 @@ use Rattle.uip_slip.specs.Frames.{Frame, unescaped, frame_of, parts, all_but_las
 abbrev pub part_frame : List ℕ → List Frame
 part_frame part = frame_of (unescaped part)
 
--- bytes in front of the first part
+-- bytes before the first part
 abbrev pub with_first : List ℕ → List (List ℕ) → List (List ℕ)
-with_first front [] = []
-with_first front (p ∷ ps) = (front ++ p) ∷ ps
+with_first prefix [] = []
+with_first prefix (p ∷ ps) = (prefix ++ p) ∷ ps
 
 -- there is always a part
 abbrev pub IsSomeParts : List (List ℕ) → Type 0
@@ -27,9 +27,9 @@ parts-some (a ∷ bytes) =
     elim (eqb a 192) as (λ v. IsSomeParts (cond v ([] ∷ parts bytes) (onto_first a (parts bytes))))
     [ true ↦ tt | false ↦ onto-some a (parts bytes) (parts-some bytes) ]
 
-with-some : (front : List ℕ) (ps : List (List ℕ)) → IsSomeParts ps → IsSomeParts (with_first front ps)
-with-some front [] h = absurd h
-with-some front (p ∷ ps) h = tt
+with-some : (prefix : List ℕ) (ps : List (List ℕ)) → IsSomeParts ps → IsSomeParts (with_first prefix ps)
+with-some prefix [] h = absurd h
+with-some prefix (p ∷ ps) h = tt
 
 with-none : (ps : List (List ℕ)) → ps ≡ with_first [] ps
 with-none [] = refl
@@ -58,17 +58,17 @@ parts-append (a ∷ xs) ys =
       | false ↦ ap (λ l. onto_first a l) (parts-append xs ys) ∙ byte_first a (parts xs) (parts ys) (parts-some xs) (parts-some ys)
     ]
 
-closed-append : (front rest : List (List ℕ)) → IsSomeParts rest → all_but_last (front ++ rest) ≡ front ++ all_but_last rest
+closed-append : (prefix rest : List (List ℕ)) → IsSomeParts rest → all_but_last (prefix ++ rest) ≡ prefix ++ all_but_last rest
 closed-append [] rest h = refl
 closed-append (p ∷ []) [] h = absurd h
 closed-append (p ∷ []) (r ∷ rest) h = refl
-closed-append (p ∷ q ∷ front) rest h = ap (λ l. p ∷ l) (closed-append (q ∷ front) rest h)
+closed-append (p ∷ q ∷ prefix) rest h = ap (λ l. p ∷ l) (closed-append (q ∷ prefix) rest h)
 
-last-append : (front rest : List (List ℕ)) → IsSomeParts rest → last_of (front ++ rest) ≡ last_of rest
+last-append : (prefix rest : List (List ℕ)) → IsSomeParts rest → last_of (prefix ++ rest) ≡ last_of rest
 last-append [] rest h = refl
 last-append (p ∷ []) [] h = absurd h
 last-append (p ∷ []) (r ∷ rest) h = refl
-last-append (p ∷ q ∷ front) rest h = last-append (q ∷ front) rest h
+last-append (p ∷ q ∷ prefix) rest h = last-append (q ∷ prefix) rest h
 
 -- the open part has no END
 onto_open : (a : ℕ) → eqb a 192 ≡ false → (ps : List (List ℕ)) → IsSomeParts ps → parts (last_of ps) ≡ last_of ps ∷ []

@@ -10,17 +10,17 @@ both_true : (a b : Bool) → (a && b) ≡ true → (a ≡ true) × (b ≡ true)
 both_true true b e = (refl, e)
 both_true false b e = absurd (cc e)
 
--- no byte of the front passes the search for a mark
+-- no byte of the prefix passes the search for a mark
 pub none_marked : (n : ℕ) (bytes : List ℕ) → n ≤ length bytes → ((k : ℕ) → k < n → is_mark (get_or bytes k 0) ≡ true → ⊥)
     → list_all is_plain (take n bytes) ≡ true
 none_marked zero bytes h none = refl
 none_marked (suc n) bytes h none =
     let here : n < length bytes = omega arith in
-    let front = none_marked n bytes (omega arith) (λ k less. none k (omega arith)) in
+    let prefix = none_marked n bytes (omega arith) (λ k less. none k (omega arith)) in
     let byte : is_plain (get_or bytes n 0) ≡ true =
     elim (is_mark (get_or bytes n 0)) as (λ v. is_mark (get_or bytes n 0) ≡ v → cond v false true ≡ true)
     [ true ↦ λ e. absurd (none n (omega arith) e) | false ↦ λ e. refl ] refl in
-    rw (← add-one n) (list_all_more is_plain bytes n 0 here ∙ rw (front, byte) refl)
+    rw (← add-one n) (list_all_more is_plain bytes n 0 here ∙ rw (prefix, byte) refl)
 
 plain_byte : (b : ℕ) → is_plain b ≡ true → (eqb b 192 ≡ false) × (eqb b 219 ≡ false)
 plain_byte b =
@@ -69,7 +69,7 @@ waits_after-push (a ∷ c ∷ rest) b =
     ≡ cond (cond v (waits_after rest) (waits_after (c ∷ rest))) false (eqb b 219))
     [ true ↦ waits_after-push rest b | false ↦ waits_after-push (c ∷ rest) b ]
 
--- plain bytes stand for themselves behind a part where no ESC waits
+-- plain bytes represent themselves after a part in which no ESC waits
 pub plain_joined : (part bytes : List ℕ) → list_all is_plain bytes ≡ true → waits_after part ≡ false
     → (unescaped (part ++ bytes) ≡ unescaped part ++ bytes) × (waits_after (part ++ bytes) ≡ false)
 plain_joined part [] e w = (ap (λ l. unescaped l) (append-nil part) ∙ sym (append-nil (unescaped part)), ap (λ l. waits_after l) (append-nil part) ∙ w)

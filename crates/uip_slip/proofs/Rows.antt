@@ -11,11 +11,11 @@ stray_escape = refl
 both_escapes : frames (219 ∷ 220 ∷ 219 ∷ 221 ∷ 192 ∷ []) ≡ Datagram (192 ∷ 219 ∷ []) ∷ []
 both_escapes = refl
 
--- an END always ends a frame, also behind an ESC, which is dropped
+-- an END always ends a frame, also after an ESC, which is dropped
 escape_at_end : frames (219 ∷ 192 ∷ 220 ∷ 192 ∷ []) ≡ Datagram (220 ∷ []) ∷ []
 escape_at_end = refl
 
--- what stands behind the last END is dropped, and empty parts are nothing
+-- what follows the last END is dropped, and empty parts are nothing
 unfinished : frames (192 ∷ 192 ∷ 1 ∷ 192 ∷ 2 ∷ []) ≡ Datagram (1 ∷ []) ∷ []
 unfinished = refl
 

@@ -5,24 +5,24 @@ use Rattle.uip_slip.specs.Frames.{Datagram, unescaped, frame_of, parts, frames, 
 use Rattle.uip_slip.specs.Text.{escaped, escaped_byte, slip_text}
 use Rattle.uip_slip.proofs.PartLaws.{frames-end, frames-plain, open_part-plain}
 
-plain_front : (b : ℕ) (rest : List ℕ) → eqb b 219 ≡ false → unescaped (b ∷ rest) ≡ b ∷ unescaped rest
-plain_front b [] e = rw e refl
-plain_front b (c ∷ rest) e = rw e refl
+plain_prefix : (b : ℕ) (rest : List ℕ) → eqb b 219 ≡ false → unescaped (b ∷ rest) ≡ b ∷ unescaped rest
+plain_prefix b [] e = rw e refl
+plain_prefix b (c ∷ rest) e = rw e refl
 
--- what stands in front of the rest of a part
-front_byte : (b : ℕ) (rest : List ℕ) → unescaped (escaped_byte b ++ rest) ≡ b ∷ unescaped rest
-front_byte b rest =
+-- what comes before the rest of a part
+prefix_byte : (b : ℕ) (rest : List ℕ) → unescaped (escaped_byte b ++ rest) ≡ b ∷ unescaped rest
+prefix_byte b rest =
     elim (eqb b 192) as (λ v. eqb b 192 ≡ v → unescaped (cond v (219 ∷ 220 ∷ []) (cond (eqb b 219) (219 ∷ 221 ∷ []) (b ∷ [])) ++ rest) ≡ b ∷ unescaped rest) [
       | true ↦ λ e. ap (λ x. x ∷ unescaped rest) (sym (eqb-true b 192 e))
       | false ↦ λ _. elim (eqb b 219) as (λ v. eqb b 219 ≡ v → unescaped (cond v (219 ∷ 221 ∷ []) (b ∷ []) ++ rest) ≡ b ∷ unescaped rest) [
         | true ↦ λ e. ap (λ x. x ∷ unescaped rest) (sym (eqb-true b 219 e))
-        | false ↦ λ e. plain_front b rest e
+        | false ↦ λ e. plain_prefix b rest e
       ] refl
     ] refl
 
 pub unescaped-escaped : (datagram : List ℕ) → unescaped (escaped datagram) ≡ datagram
 unescaped-escaped [] = refl
-unescaped-escaped (b ∷ datagram) = front_byte b (escaped datagram) ∙ ap (λ l. b ∷ l) (unescaped-escaped datagram)
+unescaped-escaped (b ∷ datagram) = prefix_byte b (escaped datagram) ∙ ap (λ l. b ∷ l) (unescaped-escaped datagram)
 
 parts_byte : (b : ℕ) (rest : List ℕ) → parts rest ≡ rest ∷ [] → parts (escaped_byte b ++ rest) ≡ (escaped_byte b ++ rest) ∷ []
 parts_byte b rest e =
@@ -46,7 +46,7 @@ frame_of-some (b ∷ d) some fits = (let e = le-leb (length (b ∷ d)) 1500 fits
 pub frames-text : (d : List ℕ) → 0 < length d → length d ≤ 1500 → frames (slip_text d) ≡ Datagram d ∷ []
 frames-text d some fits =
     let e = escaped d in
-    let front : frames (192 ∷ e) ≡ [] = frames-plain (192 ∷ []) e (parts-escaped d) in
+    let prefix : frames (192 ∷ e) ≡ [] = frames-plain (192 ∷ []) e (parts-escaped d) in
     let open_is : open_part (192 ∷ e) ≡ e = open_part-plain (192 ∷ []) e (parts-escaped d) in
-    frames-end (192 ∷ e) 192 refl ∙ ap (λ l. l ++ frame_of (unescaped (open_part (192 ∷ e)))) front
+    frames-end (192 ∷ e) 192 refl ∙ ap (λ l. l ++ frame_of (unescaped (open_part (192 ∷ e)))) prefix
     ∙ ap (λ l. frame_of (unescaped l)) open_is ∙ ap (λ l. frame_of l) (unescaped-escaped d) ∙ frame_of-some d some fits

@@ -32,11 +32,11 @@ byte_text start text new piece n here made e =
     ∙ ap (λ l. escaped (take n piece) ++ l) (append-nil byte) in
     e ∙ ap (λ l. l ++ byte) made ∙ append_assoc start (escaped (take n piece)) byte ∙ ap (λ l. start ++ l) (sym both)
 
--- text behind the text of a front
-pub escaped_then : (start text new front part : List ℕ) → text ≡ start ++ escaped front → new ≡ text ++ escaped part → new ≡ start ++ escaped (front ++ part)
-escaped_then start text new front part made e =
-    e ∙ ap (λ l. l ++ escaped part) made ∙ append_assoc start (escaped front) (escaped part)
-    ∙ ap (λ l. start ++ l) (sym (flat_map-append escaped_byte front part))
+-- text after the text of a prefix
+pub escaped_then : (start text new prefix part : List ℕ) → text ≡ start ++ escaped prefix → new ≡ text ++ escaped part → new ≡ start ++ escaped (prefix ++ part)
+escaped_then start text new prefix part made e =
+    e ∙ ap (λ l. l ++ escaped part) made ∙ append_assoc start (escaped prefix) (escaped part)
+    ∙ ap (λ l. start ++ l) (sym (flat_map-append escaped_byte prefix part))
 
 -- what is left fits, if a run took its room
 pub room_left : (old new rest : List ℕ) (n room : ℕ) → length old + 2 * length rest ≤ room → n ≤ length rest → new ≡ old ++ escaped (take n rest)
@@ -46,28 +46,28 @@ room_left old new rest n room h within e =
     omega (arith, size, escaped-bound (take n rest), length-take n rest, length-take (length rest - n) (drop n rest), length-drop n rest)
 
 -- text that was sent and text that is gathered
-pub gathered : (sent text new front part : List ℕ) → sent ++ text ≡ 192 ∷ escaped front → new ≡ text ++ escaped part
-    → sent ++ new ≡ 192 ∷ escaped (front ++ part)
-gathered sent text new front part made e =
+pub gathered : (sent text new prefix part : List ℕ) → sent ++ text ≡ 192 ∷ escaped prefix → new ≡ text ++ escaped part
+    → sent ++ new ≡ 192 ∷ escaped (prefix ++ part)
+gathered sent text new prefix part made e =
     ap (λ l. sent ++ l) e ∙ sym (append_assoc sent text (escaped part)) ∙ ap (λ l. l ++ escaped part) made
-    ∙ ap (λ l. 192 ∷ l) (sym (flat_map-append escaped_byte front part))
+    ∙ ap (λ l. 192 ∷ l) (sym (flat_map-append escaped_byte prefix part))
 
 -- the text of a datagram in two parts
-pub text_parts : (datagram front part rest : List ℕ) → datagram ≡ (front ++ part) ++ rest
-    → (192 ∷ escaped (front ++ part)) ++ (escaped rest ++ 192 ∷ []) ≡ slip_text datagram
-text_parts datagram front part rest e =
-    sym (append_assoc (192 ∷ escaped (front ++ part)) (escaped rest) (192 ∷ []))
-    ∙ ap (λ l. (192 ∷ l) ++ 192 ∷ []) (sym (flat_map-append escaped_byte (front ++ part) rest) ∙ ap (λ l. escaped l) (sym e))
+pub text_parts : (datagram prefix part rest : List ℕ) → datagram ≡ (prefix ++ part) ++ rest
+    → (192 ∷ escaped (prefix ++ part)) ++ (escaped rest ++ 192 ∷ []) ≡ slip_text datagram
+text_parts datagram prefix part rest e =
+    sym (append_assoc (192 ∷ escaped (prefix ++ part)) (escaped rest) (192 ∷ []))
+    ∙ ap (λ l. (192 ∷ l) ++ 192 ∷ []) (sym (flat_map-append escaped_byte (prefix ++ part) rest) ∙ ap (λ l. escaped l) (sym e))
 
-pub split_pieces : (datagram front rest part others : List ℕ) (n : ℕ) → datagram ≡ front ++ rest → part ≡ take n rest → others ≡ drop n rest
-    → datagram ≡ (front ++ part) ++ others
-split_pieces datagram front rest part others n e p o =
-    e ∙ ap (λ l. front ++ l) (sym (take-append-drop n rest) ∙ ap (λ l. l ++ drop n rest) (sym p) ∙ ap (λ l. part ++ l) (sym o))
-    ∙ sym (append_assoc front part others)
+pub split_pieces : (datagram prefix rest part others : List ℕ) (n : ℕ) → datagram ≡ prefix ++ rest → part ≡ take n rest → others ≡ drop n rest
+    → datagram ≡ (prefix ++ part) ++ others
+split_pieces datagram prefix rest part others n e p o =
+    e ∙ ap (λ l. prefix ++ l) (sym (take-append-drop n rest) ∙ ap (λ l. l ++ drop n rest) (sym p) ∙ ap (λ l. part ++ l) (sym o))
+    ∙ sym (append_assoc prefix part others)
 
 -- the whole text, with its last END
-pub whole_text : (datagram sent text new full front rest : List ℕ) → sent ++ text ≡ 192 ∷ escaped front → new ≡ text ++ escaped rest
-    → full ≡ new ++ 192 ∷ [] → datagram ≡ front ++ rest → sent ++ full ≡ slip_text datagram
-whole_text datagram sent text new full front rest made e f pieces =
+pub whole_text : (datagram sent text new full prefix rest : List ℕ) → sent ++ text ≡ 192 ∷ escaped prefix → new ≡ text ++ escaped rest
+    → full ≡ new ++ 192 ∷ [] → datagram ≡ prefix ++ rest → sent ++ full ≡ slip_text datagram
+whole_text datagram sent text new full prefix rest made e f pieces =
     ap (λ l. sent ++ l) f ∙ sym (append_assoc sent new (192 ∷ []))
-    ∙ ap (λ l. l ++ 192 ∷ []) (gathered sent text new front rest made e ∙ ap (λ l. 192 ∷ escaped l) (sym pieces))
+    ∙ ap (λ l. l ++ 192 ∷ []) (gathered sent text new prefix rest made e ∙ ap (λ l. 192 ∷ escaped l) (sym pieces))

@@ -1,4 +1,4 @@
--- What a decoder knows of the bytes that it was fed, and what its answers say.
+-- What a decoder knows of the bytes that it was fed, and what its results state.
 use Rattle.std.specs.Prelude.{◌≡◌, ◌<◌, ◌≤◌, ℕ, ◌-◌, ◌==◌, nat_lt, if◌then◌else◌, List, [], ◌∷◌, ◌++◌, take, length, slice_index, Bool, true, false, ⊤}
 use Rattle.uip_wire.specs.declared.sizes.TheConstants.{LARGEST_DATAGRAM}
 use Rattle.uip_slip.specs.Frames.{Frame, Datagram, Overlong, frames, unescaped, open_part}
@@ -6,53 +6,53 @@ use Rattle.uip_slip.specs.declared.fed.Fed.{Fed}
 use Rattle.uip_slip.specs.declared.fed.FedRun.{FedRun}
 use Rattle.uip_slip.specs.declared.fed.Fed.TheVariants as fed
 
--- a decoder as its callers see it: the bytes so far, whether there were more of them than the largest datagram has,
--- whether an ESC waits, and whether the bytes are those of a datagram that was just told
+-- A decoder as its callers see it: the bytes so far, and whether they are more than the largest datagram has; whether an ESC waits; and
+-- whether the bytes are a datagram that was just decoded.
 pub record State : Type 0 where
   pub bytes : List ℕ
   pub over : Bool
   pub waits : Bool
   pub told : Bool
 
--- an ESC at the end of a part waits for its second byte
+-- An ESC at the end of a part waits for its second byte.
 abbrev pub waits_after : List ℕ → Bool
 waits_after [] = false
 waits_after (a ∷ []) = a == 219
 waits_after (a ∷ b ∷ rest) = if a == 219 then waits_after rest else waits_after (b ∷ rest)
 
--- the bytes of the open part
+-- The bytes of the open part.
 abbrev pub open_bytes : State → List ℕ
 open_bytes s = if s.told then [] else s.bytes
 
--- the decoder was fed these bytes
+-- The decoder was fed these bytes.
 pub record WasFed (bytes : List ℕ) (s : State) : Type 0 where
-  pub front : open_bytes s ≡ take LARGEST_DATAGRAM (unescaped (open_part bytes))
+  pub prefix : open_bytes s ≡ take LARGEST_DATAGRAM (unescaped (open_part bytes))
   pub over : s.over ≡ nat_lt LARGEST_DATAGRAM (length (unescaped (open_part bytes)))
   pub waits : s.waits ≡ waits_after (open_part bytes)
 
--- the frame that an answer tells
-abbrev pub told_by : Fed → State → List Frame
-told_by fed.More s = []
-told_by (fed.Datagram n) s = Datagram s.bytes ∷ []
-told_by fed.Overlong s = Overlong ∷ []
+-- The frame that a result reports.
+abbrev pub reported_by : Fed → State → List Frame
+reported_by fed.More s = []
+reported_by (fed.Datagram n) s = Datagram s.bytes ∷ []
+reported_by fed.Overlong s = Overlong ∷ []
 
--- exactly a datagram leaves its bytes to be read
+-- Only a decoded datagram leaves bytes to be read.
 abbrev pub Leaves : Fed → State → Type 0
 Leaves (fed.Datagram n) s = (s.told ≡ true) × (n ≡ length s.bytes) × (0 < n) × (n ≤ LARGEST_DATAGRAM)
 Leaves fed.More s = s.told ≡ false
 Leaves fed.Overlong s = s.told ≡ false
 
--- the byte that completes a frame is an END
+-- The byte that completes a frame is an END.
 abbrev pub EndsFrame : Fed → ℕ → Type 0
 EndsFrame fed.More byte = ⊤
 EndsFrame (fed.Datagram n) byte = byte ≡ 192
 EndsFrame fed.Overlong byte = byte ≡ 192
 
--- A front of these bytes was fed, one at least: it is as if each of them was, and the frame that the last of them completes is told.
-pub record FeedsFront (old : State) (bytes : List ℕ) (run : FedRun) (new : State) : Type 0 where
+-- A prefix of these bytes was fed, at least one, as if one by one; the frame that the last of them completes is reported.
+pub record FeedsPrefix (old : State) (bytes : List ℕ) (run : FedRun) (new : State) : Type 0 where
   pub some : 0 < run.count
   pub within : run.count ≤ length bytes
   pub frames : (before : List ℕ) → WasFed before old → WasFed (before ++ take run.count bytes) new
-      × (frames (before ++ take run.count bytes) ≡ frames before ++ told_by run.fed new)
+      × (frames (before ++ take run.count bytes) ≡ frames before ++ reported_by run.fed new)
   pub leaves : Leaves run.fed new
   pub end : EndsFrame run.fed (slice_index bytes (run.count - 1))

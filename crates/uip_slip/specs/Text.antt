@@ -1,20 +1,20 @@
--- What is written for a datagram (RFC 1055).
+-- The SLIP text of a datagram (RFC 1055).
 use Rattle.std.specs.Prelude.{◌≡◌, ◌<◌, ◌≤◌, ℕ, ◌+◌, ◌*◌, ◌==◌, if◌then◌else◌, List, [], ◌∷◌, ◌++◌, length, take}
 use Rattle.std.specs.List.{flat_map}
 
--- END is written as ESC 220, ESC as ESC 221, and any other byte as it is
+-- END is written as ESC 220, ESC as ESC 221, and any other byte as it is.
 abbrev pub escaped_byte : ℕ → List ℕ
 escaped_byte b = if b == 192 then 219 ∷ 220 ∷ [] else if b == 219 then 219 ∷ 221 ∷ [] else b ∷ []
 
 abbrev pub escaped : List ℕ → List ℕ
 escaped datagram = flat_map escaped_byte datagram
 
--- END, the escaped bytes, END
+-- END, the escaped bytes, END.
 abbrev pub slip_text : List ℕ → List ℕ
 slip_text datagram = 192 ∷ escaped datagram ++ 192 ∷ []
 
--- A front of so many bytes was put, escaped, behind a text of `len` bytes at the front of an area; the text has `end` bytes then.
-pub record PutsFront (piece : List ℕ) (len : ℕ) (old : List ℕ) (count end : ℕ) (new : List ℕ) : Type 0 where
+-- The first `count` bytes of a piece were put, escaped, after a text of `len` bytes at the start of an area. The text then has `end` bytes.
+pub record PutsPrefix (piece : List ℕ) (len : ℕ) (old : List ℕ) (count end : ℕ) (new : List ℕ) : Type 0 where
   pub long : length new ≡ length old
   pub some : 0 < count
   pub within : count ≤ length piece

@@ -1,3 +1,5 @@
+//! The decoder: an incremental state machine, which is proved equal to `frames` of the whole list of bytes (RFC 1055).
+
 ghost use Rattle.std.specs.Prelude.{◌≡◌, ◌≤◌, ◌<◌, ◌++◌, ◌+◌, [], ◌∷◌, List, ℕ, length, take, true, false};
 ghost use Rattle.uip_slip.specs.Frames.{frames, is_plain};
 ghost use Rattle.std.specs.List.{list_all};
@@ -5,9 +7,9 @@ ghost use Rattle.std.specs.List.{list_all};
 use crate::fed::{Fed, FedRun};
 use crate::marks::{END, ESC, meant, plain_len};
 use std::marker::Model;
-use uip_wire::LARGEST_DATAGRAM;
+use uip_wire::{LARGEST_DATAGRAM, copy_bytes};
 
-/// A decoder with a frame area of its own.
+/// A decoder with its own frame area.
 #[derive(Drop)]
 pub struct Decoder {
     area: [u8; LARGEST_DATAGRAM],
@@ -29,18 +31,18 @@ impl Model for Decoder {
     ghost invariant = { λ d. d.len ≤ LARGEST_DATAGRAM };
 }
 
-/// A front that is shorter has marks close together: a run of fewer than eight bytes, an ESC and the byte behind it.
+/// A shorter prefix means that marks are close together: a run of fewer than eight bytes, an ESC and the byte after it.
 const SHORT_FRONT: usize = 10;
 
-/// So many bytes go one by one behind a short front.
+/// This many bytes are fed one by one after a short prefix.
 const DENSE_BYTES: usize = 16;
 
-/// A byte in front of which there is no run to search for.
+/// Returns whether a byte is END or ESC, so that there is no run before it.
 fn is_mark(byte: u8) -> bool {
     byte == END || byte == ESC
 }
 
-/// How many more bytes go one by one, behind a front of `count` bytes that ends with this one. An END stands at each frame's front.
+/// Returns how many more bytes are fed one by one, after a prefix of `count` bytes that ends with this one. Each frame begins with an END.
 fn still_dense(dense: usize, count: usize, last: u8) -> usize {
     if dense > 0 {
         return dense - 1;
@@ -53,11 +55,11 @@ fn still_dense(dense: usize, count: usize, last: u8) -> usize {
 }
 
 impl Decoder {
-    ghost use Rattle.uip_slip.specs.Decoding.{EndsFrame, FeedsFront, Leaves, WasFed, told_by};
+    ghost use Rattle.uip_slip.specs.Decoding.{EndsFrame, FeedsPrefix, Leaves, WasFed, reported_by};
     ghost use Rattle.uip_slip.specs.declared.fed.Fed.TheVariants.{More};
     ghost use Rattle.uip_slip.specs.Steps.{reopened, taken, pushed, joined_parts, Closes};
 
-    /// A decoder that was fed nothing.
+    /// Returns a decoder that was fed nothing.
     pub fn new() -> Decoder
         ensures { WasFed [] result }
     {
@@ -70,12 +72,12 @@ impl Decoder {
         }
     }
 
-    /// Takes one byte. The bytes of a datagram that it completes stay until the next call.
-    #[inline(always)]
+    /// Feeds one byte. The bytes of a datagram that it completes stay readable until the next call.
+    #[inline(never)]
     pub fn feed(&mut self, byte: u8) -> Fed
-        // Whatever was fed before, the answers tell its frames.
+        // Whatever was fed before, the results report its frames.
         ensures frames { (bytes : List ℕ) → WasFed bytes self.old → WasFed (bytes ++ byte ∷ []) self.new
-            × (frames (bytes ++ byte ∷ []) ≡ frames bytes ++ told_by result self.new) }
+            × (frames (bytes ++ byte ∷ []) ≡ frames bytes ++ reported_by result self.new) }
         ensures leaves { Leaves result self.new }
         ensures end { EndsFrame result byte }
     {
@@ -87,11 +89,11 @@ impl Decoder {
         Fed::More
     }
 
-    /// Takes a front of the bytes: up to an END that completes a frame, or all of them. It is as if each of them was fed, but a run without
-    /// END and ESC is copied as a whole.
+    /// Feeds a prefix of the bytes: up to an END that completes a frame, or all of them. The result is that of feeding them one by one, but
+    /// a run without END and ESC is copied as a whole.
     pub fn feed_run(&mut self, bytes: &[u8]) -> FedRun
         requires { 0 < length bytes.now }
-        ensures front { FeedsFront self.old bytes.now result self.new }
+        ensures prefix { FeedsPrefix self.old bytes.now result self.new }
         ensures whole { result.fed ≡ More → result.count ≡ length bytes.now }
     {
         if bytes[0] != END {
@@ -112,19 +114,19 @@ impl Decoder {
     /// The same, part by part.
     fn feed_parts(&mut self, bytes: &[u8]) -> FedRun
         requires { 0 < length bytes.now }
-        ensures front { FeedsFront self.old bytes.now result self.new }
+        ensures prefix { FeedsPrefix self.old bytes.now result self.new }
         ensures whole { result.fed ≡ More → result.count ≡ length bytes.now }
     {
         let mut count = 0;
         let mut dense = 0;
         while count < bytes.len() {
             let is_alone = self.waits || is_mark(bytes[count]);
-            let front = self.feed_part(&bytes[count..], is_alone || dense > 0);
-            count += front.count;
+            let prefix = self.feed_part(&bytes[count..], is_alone || dense > 0);
+            count += prefix.count;
             if !is_alone {
-                dense = still_dense(dense, front.count, bytes[count - 1]);
+                dense = still_dense(dense, prefix.count, bytes[count - 1]);
             }
-            match front.fed {
+            match prefix.fed {
                 Fed::More => {}
                 fed => return FedRun { count, fed },
             }
@@ -135,24 +137,24 @@ impl Decoder {
         }
     }
 
-    /// Takes a front of the bytes: where marks stand close together one byte, and else a run with the mark behind it.
+    /// Feeds a prefix of the bytes: one byte if marks are close together, else a run with the mark after it.
     #[inline(always)]
     fn feed_part(&mut self, bytes: &[u8], is_dense: bool) -> FedRun
         requires { 0 < length bytes.now }
-        ensures { FeedsFront self.old bytes.now result self.new }
+        ensures { FeedsPrefix self.old bytes.now result self.new }
     {
         if is_dense {
             let fed = self.feed(bytes[0]);
             return FedRun { count: 1, fed };
         }
-        self.feed_front(bytes)
+        self.feed_prefix(bytes)
     }
 
-    /// Takes the bytes in front of the next END or ESC, and the byte behind them if there is one.
+    /// Feeds the bytes before the next END or ESC, and that mark, if it is there.
     #[inline(always)]
-    fn feed_front(&mut self, bytes: &[u8]) -> FedRun
+    fn feed_prefix(&mut self, bytes: &[u8]) -> FedRun
         requires { 0 < length bytes.now }
-        ensures { FeedsFront self.old bytes.now result self.new }
+        ensures { FeedsPrefix self.old bytes.now result self.new }
     {
         self.reopen();
         let count = self.join_plain(bytes);
@@ -169,11 +171,11 @@ impl Decoder {
         }
     }
 
-    /// Takes a byte, and the one behind it where the first completes nothing: an ESC goes with the byte that it escapes.
+    /// Feeds a byte, and the next one if the first completes nothing, so that an ESC goes with the byte that it escapes.
     #[inline(always)]
     fn feed_mark(&mut self, bytes: &[u8]) -> FedRun
         requires { 0 < length bytes.now }
-        ensures { FeedsFront self.old bytes.now result self.new }
+        ensures { FeedsPrefix self.old bytes.now result self.new }
     {
         match self.feed(bytes[0]) {
             Fed::More if bytes.len() > 1 => FedRun {
@@ -184,7 +186,7 @@ impl Decoder {
         }
     }
 
-    /// Forgets a datagram that was told.
+    /// Discards a datagram that was decoded.
     #[inline(always)]
     fn reopen(&mut self)
         ensures { self.new ≡ reopened self.old }
@@ -195,7 +197,7 @@ impl Decoder {
         }
     }
 
-    /// Takes an END.
+    /// Feeds an END.
     #[inline(always)]
     fn close(&mut self) -> Fed
         ensures { Closes self.old result self.new }
@@ -213,7 +215,7 @@ impl Decoder {
         if over { Fed::Overlong } else { Fed::More }
     }
 
-    /// Takes a byte of the part.
+    /// Feeds a byte of the part.
     #[inline(always)]
     fn take(&mut self, byte: u8)
         ensures { self.new ≡ taken self.old byte }
@@ -228,7 +230,7 @@ impl Decoder {
         }
     }
 
-    /// Adds a byte to the frame.
+    /// Appends a byte to the frame.
     #[inline(always)]
     fn push(&mut self, byte: u8)
         ensures { self.new ≡ pushed self.old byte }
@@ -243,7 +245,7 @@ impl Decoder {
         }
     }
 
-    /// Adds the bytes in front of the next END or ESC to the frame, and says how many these are.
+    /// Appends the bytes before the next END or ESC to the frame, and returns how many they are.
     #[inline(always)]
     fn join_plain(&mut self, bytes: &[u8]) -> usize
         ensures within { result ≤ length bytes.now }
@@ -259,7 +261,7 @@ impl Decoder {
         count
     }
 
-    /// Adds bytes to the frame, as far as there is room.
+    /// Appends bytes to the frame, as far as there is room.
     #[inline(always)]
     fn join(&mut self, bytes: &[u8])
         ensures { self.new ≡ joined_parts self.old bytes.now }
@@ -270,18 +272,18 @@ impl Decoder {
         self.append(&bytes[..count]);
     }
 
-    /// Adds bytes to the frame.
+    /// Appends bytes to the frame.
     #[inline(always)]
     fn append(&mut self, bytes: &[u8])
         requires { length self.old.bytes + length bytes.now ≤ LARGEST_DATAGRAM }
         ensures { self.new ≡ record self.old { bytes = self.old.bytes ++ bytes.now } }
     {
         let end = self.len + bytes.len();
-        self.area[self.len..end].copy_from_slice(bytes);
+        copy_bytes(&mut self.area[self.len..end], bytes);
         self.len = end;
     }
 
-    /// The datagram that was just told.
+    /// Returns the datagram that was just decoded.
     pub fn bytes(&self, count: usize) -> &[u8]
         requires told { self.now.told ≡ true }
         requires count { count ≡ length self.now.bytes }

@@ -1,5 +1,7 @@
+//! The encoder.
+
 ghost use Rattle.std.specs.Prelude.{◌≡◌, ◌≤◌, length};
-ghost use Rattle.uip_edge.specs.Telling.{sink_told};
+ghost use Rattle.uip_edge.specs.ViewsOf.{sink_view};
 ghost use Rattle.uip_edge.specs.Writing.{Writes};
 ghost use Rattle.uip_slip.specs.Text.{slip_text};
 
@@ -8,7 +10,7 @@ use crate::text_area::TextArea;
 use uip_edge::{Failed, Sink};
 use uip_wire::LARGEST_DATAGRAM;
 
-/// The length of the text of a datagram.
+/// Returns the length of the SLIP text of a datagram, in bytes.
 pub fn encoded_len(datagram: &[u8]) -> usize
     requires { length datagram.now ≤ LARGEST_DATAGRAM }
     ensures { result ≡ length (slip_text datagram.now) }
@@ -20,7 +22,7 @@ pub fn encoded_len(datagram: &[u8]) -> usize
     len
 }
 
-/// An encoder with an area of its own for the text, so that each datagram goes out in one piece.
+/// An encoder with its own text area, so that each datagram is written in one piece.
 #[derive(Drop)]
 pub struct Encoder {
     text: TextArea,
@@ -33,11 +35,10 @@ impl Encoder {
         }
     }
 
-    /// Writes the text of a datagram: in one piece, unless the datagram is longer than the largest. A failed call has
-    /// written a front of the text.
+    /// Writes the text of a datagram: in one piece, if the datagram has at most 1500 bytes. On failure a prefix of the text was written.
     #[inline(always)]
     pub fn encode<K: Sink>(&mut self, datagram: &[u8], sink: &mut K) -> Result<(), Failed>
-        ensures { Writes (sink_told K.Sink sink.old) (sink_told K.Sink sink.new) result (slip_text datagram.now) }
+        ensures { Writes (sink_view K.Sink sink.old) (sink_view K.Sink sink.new) result (slip_text datagram.now) }
     {
         encode_over(&mut self.text, datagram, sink)
     }
@@ -46,15 +47,15 @@ impl Encoder {
 /// Writes the text of one datagram, as an encoder does.
 #[inline(always)]
 pub fn encode<K: Sink>(datagram: &[u8], sink: &mut K) -> Result<(), Failed>
-    ensures { Writes (sink_told K.Sink sink.old) (sink_told K.Sink sink.new) result (slip_text datagram.now) }
+    ensures { Writes (sink_view K.Sink sink.old) (sink_view K.Sink sink.new) result (slip_text datagram.now) }
 {
     Encoder::new().encode(datagram, sink)
 }
 
-/// Writes the text of a datagram over a text area.
+/// Writes the text of a datagram through a text area.
 #[inline(always)]
 fn encode_over<K: Sink>(text: &mut TextArea, datagram: &[u8], sink: &mut K) -> Result<(), Failed>
-    ensures { Writes (sink_told K.Sink sink.old) (sink_told K.Sink sink.new) result (slip_text datagram.now) }
+    ensures { Writes (sink_view K.Sink sink.old) (sink_view K.Sink sink.new) result (slip_text datagram.now) }
 {
     text.clear();
     text.push(END);
@@ -74,7 +75,7 @@ fn encode_over<K: Sink>(text: &mut TextArea, datagram: &[u8], sink: &mut K) -> R
 ghost use Rattle.std.specs.Prelude.{◌<◌, List, ℕ, [], ◌∷◌};
 ghost use Rattle.uip_slip.specs.Frames.{frames, Datagram};
 
-/// The text of a datagram is read back as just that datagram.
+/// Decoding the text of a datagram gives that datagram and nothing else.
 pub fn text_is_one_frame()
     ensures { (datagram : List ℕ) → 0 < length datagram → length datagram ≤ LARGEST_DATAGRAM
         → frames (slip_text datagram) ≡ Datagram datagram ∷ [] }

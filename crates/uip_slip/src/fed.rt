@@ -1,15 +1,15 @@
-/// What a byte has completed.
+/// What a byte completed.
 #[derive(Clone, Copy, Debug, PartialEq, Eq)]
 pub enum Fed {
     /// Nothing.
     More,
-    /// A datagram of so many bytes, from 1 to the largest.
+    /// A datagram of this many bytes, 1 to 1500.
     Datagram(usize),
     /// A frame of more bytes than the largest datagram has, which is dropped.
     Overlong,
 }
 
-/// How many bytes of a run were taken, and what the last of them completed.
+/// The number of bytes consumed, and what the last of them completed.
 #[derive(Clone, Copy, Debug, PartialEq, Eq)]
 pub struct FedRun {
     pub count: usize,

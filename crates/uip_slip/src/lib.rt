@@ -1,6 +1,5 @@
-//! Datagrams on a serial line (RFC 1055): between END bytes, with END and ESC inside escaped. A decoder takes the bytes
-//! of the line one at a time or in runs and tells each datagram, and `encode` writes the text of one. What the frames of
-//! a list of bytes are is said of the whole list; the decoder is proved to tell just these.
+//! SLIP framing (RFC 1055): encodes datagrams into frames and decodes a byte stream into datagrams. `frames` is defined on the whole list
+//! of bytes; the decoder consumes them one at a time or in runs, and is proved equal to it.
 #![tactic(auto)]
 
 mod decoder;

@@ -1,31 +1,33 @@
+//! The marks END and ESC (RFC 1055), and the search for the next one.
+
 ghost use Rattle.std.specs.Prelude.{◌≡◌, ℕ, ◌≤◌, ◌+◌, ◌*◌, length, not, true, false, ◌<◌, slice_index, slice_range};
 ghost use Rattle.std.specs.List.{prefix_len};
-ghost use Rattle.uip_slip.specs.Frames.{IsPlainFront, is_mark, meant as meant_of};
+ghost use Rattle.uip_slip.specs.Frames.{IsPlainPrefix, is_mark, meant as meant_of};
 
 use std::simd::prelude::*;
 
-/// Ends a frame, and stands before one too.
+/// Ends a frame, and begins one too.
 pub const END: u8 = 0xC0;
 
-/// Escapes the byte behind it.
+/// Escapes the byte after it.
 pub const ESC: u8 = 0xDB;
 
-/// Behind an ESC: an END of the datagram.
+/// After an ESC: an END of the datagram.
 pub const ESC_END: u8 = 0xDC;
 
-/// Behind an ESC: an ESC of the datagram.
+/// After an ESC: an ESC of the datagram.
 pub const ESC_ESC: u8 = 0xDD;
 
-/// So many bytes are looked at together.
+/// The number of bytes that are examined together.
 const LANES: usize = 32;
 
-/// So many bytes of a long piece are looked at together.
+/// The number of bytes of a long piece that are examined together.
 const WIDE: usize = 64;
 
-/// The length of the front without END and ESC.
-#[inline(always)]
+/// Returns the length of the prefix without END and ESC. It is not inlined, since decoder and encoder both search.
+#[inline(never)]
 pub fn plain_len(bytes: &[u8]) -> usize
-    ensures { IsPlainFront bytes.now result }
+    ensures { IsPlainPrefix bytes.now result }
 {
     match bytes.len() {
         0..8 => plain_of_few(bytes),
@@ -36,40 +38,40 @@ pub fn plain_len(bytes: &[u8]) -> usize
     }
 }
 
-/// The same of as many bytes as the lanes from both ends cover.
+/// The same for `N` to `2 * N` bytes, which the lanes from both ends cover.
 #[inline(always)]
 fn plain_of_some<const N: usize>(bytes: &[u8]) -> usize
     requires lanes { N ≤ 64 }
     requires least { N ≤ length bytes.now }
     requires most { length bytes.now ≤ 2 * N }
-    ensures { IsPlainFront bytes.now result }
+    ensures { IsPlainPrefix bytes.now result }
 {
-    let front = plain_lanes::<N>(bytes, 0);
-    if front < N {
-        return front;
+    let prefix = plain_lanes::<N>(bytes, 0);
+    if prefix < N {
+        return prefix;
     }
     let last = bytes.len() - N;
     last + plain_lanes::<N>(bytes, last)
 }
 
-/// The same of many bytes. The first lanes are looked at alone, since most runs of binary bytes are short.
+/// The same for many bytes. The first lanes are examined alone, since most runs of binary bytes are short.
 #[inline(always)]
 fn plain_of_many(bytes: &[u8]) -> usize
     requires { WIDE ≤ length bytes.now }
-    ensures { IsPlainFront bytes.now result }
+    ensures { IsPlainPrefix bytes.now result }
 {
-    let front = plain_lanes::<LANES>(bytes, 0);
-    if front < LANES {
-        return front;
+    let prefix = plain_lanes::<LANES>(bytes, 0);
+    if prefix < LANES {
+        return prefix;
     }
-    plain_behind(bytes)
+    plain_after(bytes)
 }
 
-/// The same of many bytes, of which the first lanes have neither.
-fn plain_behind(bytes: &[u8]) -> usize
+/// The same for many bytes, whose first lanes have neither.
+fn plain_after(bytes: &[u8]) -> usize
     requires many { WIDE ≤ length bytes.now }
-    requires front { (k : ℕ) → k < LANES → is_mark (slice_index bytes.now k) ≡ false }
-    ensures { IsPlainFront bytes.now result }
+    requires prefix { (k : ℕ) → k < LANES → is_mark (slice_index bytes.now k) ≡ false }
+    ensures { IsPlainPrefix bytes.now result }
 {
     let last = bytes.len() - WIDE;
     let mut at = LANES;
@@ -83,10 +85,10 @@ fn plain_behind(bytes: &[u8]) -> usize
     last + plain_wide(bytes, last)
 }
 
-/// The same of a few bytes, one by one.
+/// The same for a few bytes, one by one.
 #[inline(never)]
 fn plain_of_few(bytes: &[u8]) -> usize
-    ensures { IsPlainFront bytes.now result }
+    ensures { IsPlainPrefix bytes.now result }
 {
     for (at, byte) in bytes.iter().enumerate() {
         if *byte == END || *byte == ESC {
@@ -96,7 +98,7 @@ fn plain_of_few(bytes: &[u8]) -> usize
     bytes.len()
 }
 
-/// How many of the lanes from a place on stand before the first END or ESC.
+/// Returns how many of the lanes from an offset on are before the first END or ESC.
 #[inline(always)]
 fn plain_lanes<const N: usize>(bytes: &[u8], at: usize) -> usize
     requires few { N ≤ 64 }
@@ -113,7 +115,7 @@ fn plain_lanes<const N: usize>(bytes: &[u8], at: usize) -> usize
     mask.trailing_zeros() as usize
 }
 
-/// The same of the wide lanes.
+/// The same for the wide lanes.
 #[inline(always)]
 fn plain_wide(bytes: &[u8], at: usize) -> usize
     requires { at + WIDE ≤ length bytes.now }
@@ -126,7 +128,7 @@ fn plain_wide(bytes: &[u8], at: usize) -> usize
     plain_lanes::<WIDE>(bytes, at)
 }
 
-/// Whether each of the wide lanes from a place on is ASCII, which has neither END nor ESC.
+/// Returns whether each of the wide lanes from an offset on is ASCII, which has neither END nor ESC.
 #[inline(always)]
 fn is_ascii(bytes: &[u8], at: usize) -> bool
     requires { at + WIDE ≤ length bytes.now }
@@ -136,7 +138,7 @@ fn is_ascii(bytes: &[u8], at: usize) -> bool
     !lanes.simd_ge(u8x64::splat(128)).any()
 }
 
-/// The byte that stands behind an ESC.
+/// Returns the meaning of the byte after an ESC.
 pub fn meant(byte: u8) -> u8
     ensures { result ≡ meant_of byte }
 {

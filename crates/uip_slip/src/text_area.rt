@@ -1,3 +1,5 @@
+//! The area in which a text is gathered.
+
 ghost use Rattle.std.specs.Prelude.{◌≡◌, ◌≤◌, ◌<◌, ◌+◌, ◌*◌, ◌++◌, [], ◌∷◌, length, take};
 ghost use Rattle.uip_slip.specs.Text.{escaped};
 
@@ -5,10 +7,10 @@ use crate::writing::put_escaped;
 use std::marker::Model;
 use uip_wire::LARGEST_DATAGRAM;
 
-/// The most bytes of a datagram's text: each byte escaped, and an END on both sides.
+/// The length of the longest SLIP text, in bytes: each byte escaped, and an END on both sides.
 pub const LARGEST_TEXT: usize = 2 * LARGEST_DATAGRAM + 2;
 
-/// An area in which text is gathered, so that it goes out in one piece.
+/// An area in which text is gathered, so that it is written in one piece.
 #[derive(Drop)]
 pub struct TextArea {
     area: [u8; LARGEST_TEXT],
@@ -48,7 +50,7 @@ impl TextArea {
         self.len = 0;
     }
 
-    /// Adds a byte as it is.
+    /// Appends a byte as it is.
     pub fn push(&mut self, byte: u8)
         requires { length self.old < LARGEST_TEXT }
         ensures { self.new ≡ self.old ++ byte ∷ [] }
@@ -57,7 +59,7 @@ impl TextArea {
         self.len += 1;
     }
 
-    /// Adds bytes of a datagram, escaped.
+    /// Appends bytes of a datagram, escaped.
     pub fn put_escaped(&mut self, piece: &[u8])
         requires { length self.old + 2 * length piece.now ≤ LARGEST_TEXT }
         ensures { self.new ≡ self.old ++ escaped piece.now }

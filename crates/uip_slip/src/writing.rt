@@ -1,25 +1,26 @@
-//! The text of a datagram, written into an area of the caller's. Short runs between marks go byte by byte, and a long one is searched
-//! for its end and copied as a whole, so that no line is much dearer than another.
+//! Writes the SLIP text of a datagram into an area of the caller's (RFC 1055). Short runs between marks go byte by byte; the end of a long
+//! run is searched for and the run copied as a whole. This bounds the cost of the worst input.
 
 ghost use Rattle.std.specs.Prelude.{◌≡◌, ◌≤◌, ◌<◌, ◌+◌, ◌*◌, ◌/◌, ◌%◌, ◌++◌, [], ◌∷◌, length, take};
-ghost use Rattle.uip_slip.specs.Text.{PutsFront, escaped, escaped_byte, slip_text};
+ghost use Rattle.uip_slip.specs.Text.{PutsPrefix, escaped, escaped_byte, slip_text};
 
 use crate::marks::{END, plain_len};
+use uip_wire::copy_bytes;
 
-/// So many bytes go one by one where marks stand close together.
+/// This many bytes go one by one if marks are close together.
 const CHUNK: usize = 32;
 
-/// A run that is shorter than this has marks close to it.
+/// A shorter run has marks close to it.
 const SHORT_RUN: usize = 8;
 
-/// So many bytes of a piece were put, and so long is the text.
+/// The number of bytes of a piece that were put, and the length of the text.
 #[derive(Clone, Copy, Debug)]
 struct Run {
     count: usize,
     len: usize,
 }
 
-/// Puts bytes behind a text of so many bytes at the front, as they are. Says how long the text is then.
+/// Appends bytes as they are to a text of `len` bytes. Returns its new length.
 fn put(out: &mut [u8], len: usize, piece: &[u8]) -> usize
     requires { len + length piece.now ≤ length out.old }
     ensures long { length out.new ≡ length out.old }
@@ -31,13 +32,25 @@ fn put(out: &mut [u8], len: usize, piece: &[u8]) -> usize
     end
 }
 
+/// Appends bytes as they are to a text of `len` bytes; there may be many of them. Returns its new length.
+fn put_long(out: &mut [u8], len: usize, piece: &[u8]) -> usize
+    requires { len + length piece.now ≤ length out.old }
+    ensures long { length out.new ≡ length out.old }
+    ensures end { result ≡ len + length piece.now }
+    ensures text { take result out.new ≡ take len out.old ++ piece.now }
+{
+    let end = len + piece.len();
+    copy_bytes(&mut out[len..end], piece);
+    end
+}
+
 /// The text of an END of a datagram, as one number with the first byte lowest.
 const END_TEXT: u16 = 0xDCDB;
 
 /// The text of an ESC of a datagram.
 const ESC_TEXT: u16 = 0xDDDB;
 
-/// The text of each byte of a datagram: two bytes, or itself and a zero that is no part of it.
+/// The text of each byte of a datagram: two bytes, or the byte and a zero that is no part of it.
 static TEXTS: [u16; 256] = [
     0, 1, 2, 3, 4, 5, 6, 7, 8, 9, 10, 11, 12, 13, 14, 15, 16, 17, 18, 19, 20, 21, 22, 23, 24, 25,
     26, 27, 28, 29, 30, 31, 32, 33, 34, 35, 36, 37, 38, 39, 40, 41, 42, 43, 44, 45, 46, 47, 48, 49,
@@ -54,7 +67,7 @@ static TEXTS: [u16; 256] = [
     247, 248, 249, 250, 251, 252, 253, 254, 255,
 ];
 
-/// The text of a byte of a datagram as one number, whose first byte is the lowest: below 256 it is one byte, and else two.
+/// Returns the text of a byte of a datagram as one number, whose first byte is the lowest. Below 256 it is one byte, else two.
 fn text_of(byte: u8) -> u16
     ensures one { result < 256 → escaped_byte byte ≡ result ∷ [] }
     ensures two { 256 ≤ result → escaped_byte byte ≡ result % 256 ∷ result / 256 ∷ [] }
@@ -62,7 +75,7 @@ fn text_of(byte: u8) -> u16
     TEXTS[byte as usize]
 }
 
-/// Puts a byte of a datagram, escaped where it has to be. The byte behind its text may change too.
+/// Appends a byte of a datagram, escaped if need be. The byte after its text may change too.
 fn put_byte(out: &mut [u8], len: usize, byte: u8) -> usize
     requires { len + 2 ≤ length out.old }
     ensures long { length out.new ≡ length out.old }
@@ -74,7 +87,7 @@ fn put_byte(out: &mut [u8], len: usize, byte: u8) -> usize
     if text < 256 { len + 1 } else { len + 2 }
 }
 
-/// Puts bytes of a datagram one by one.
+/// Appends bytes of a datagram one by one.
 fn put_bytes(out: &mut [u8], len: usize, piece: &[u8]) -> usize
     requires room { len + 2 * length piece.now ≤ length out.old }
     ensures long { length out.new ≡ length out.old }
@@ -88,14 +101,14 @@ fn put_bytes(out: &mut [u8], len: usize, piece: &[u8]) -> usize
     end
 }
 
-/// Puts the bytes in front of the next mark, and this one if it is there.
+/// Appends the bytes before the next mark, and that mark if it is there.
 fn put_run(out: &mut [u8], len: usize, piece: &[u8]) -> Run
     requires some { 0 < length piece.now }
     requires room { len + 2 * length piece.now ≤ length out.old }
-    ensures { PutsFront piece.now len out.old result.count result.len out.new }
+    ensures { PutsPrefix piece.now len out.old result.count result.len out.new }
 {
     let plain = plain_len(piece);
-    let end = put(out, len, &piece[..plain]);
+    let end = put_long(out, len, &piece[..plain]);
     if plain == piece.len() {
         return Run {
             count: plain,
@@ -109,11 +122,11 @@ fn put_run(out: &mut [u8], len: usize, piece: &[u8]) -> Run
     }
 }
 
-/// Puts a front of the bytes: where marks stand close together a chunk, byte by byte, and else a run with the mark behind it.
-fn put_front(out: &mut [u8], len: usize, piece: &[u8], is_dense: bool) -> Run
+/// Appends a prefix of the bytes: a chunk, byte by byte, if marks are close together, else a run with the mark after it.
+fn put_prefix(out: &mut [u8], len: usize, piece: &[u8], is_dense: bool) -> Run
     requires some { 0 < length piece.now }
     requires room { len + 2 * length piece.now ≤ length out.old }
-    ensures { PutsFront piece.now len out.old result.count result.len out.new }
+    ensures { PutsPrefix piece.now len out.old result.count result.len out.new }
 {
     if !is_dense {
         return put_run(out, len, piece);
@@ -132,8 +145,9 @@ fn put_front(out: &mut [u8], len: usize, piece: &[u8], is_dense: bool) -> Run
     }
 }
 
-/// Whether marks stand close together behind a front of `count` bytes whose text has `grown` bytes: a run was short, or a chunk has two.
-fn is_dense_behind(was_dense: bool, count: usize, grown: usize) -> bool {
+/// Returns whether marks are close together after a prefix of `count` bytes whose text has `grown` bytes: a run was short, or a chunk has
+/// two.
+fn is_dense_after(was_dense: bool, count: usize, grown: usize) -> bool {
     if was_dense {
         grown > count.saturating_add(1)
     } else {
@@ -141,7 +155,7 @@ fn is_dense_behind(was_dense: bool, count: usize, grown: usize) -> bool {
     }
 }
 
-/// Puts bytes of a datagram, escaped, behind a text of so many bytes at the front of an area. Says how long the text is then.
+/// Appends bytes of a datagram, escaped, to a text of `len` bytes at the start of an area. Returns its new length.
 pub fn put_escaped(out: &mut [u8], len: usize, piece: &[u8]) -> usize
     requires room { len + 2 * length piece.now ≤ length out.old }
     ensures long { length out.new ≡ length out.old }
@@ -152,15 +166,15 @@ pub fn put_escaped(out: &mut [u8], len: usize, piece: &[u8]) -> usize
     let mut end = len;
     let mut is_dense = false;
     while !rest.is_empty() {
-        let run = put_front(out, end, rest, is_dense);
-        is_dense = is_dense_behind(is_dense, run.count, run.len.saturating_sub(end));
+        let run = put_prefix(out, end, rest, is_dense);
+        is_dense = is_dense_after(is_dense, run.count, run.len.saturating_sub(end));
         end = run.len;
         rest = &rest[run.count..];
     }
     end
 }
 
-/// Writes the text of a datagram to the front of an area, and says how long it is (RFC 1055).
+/// Writes the text of a datagram to the start of an area, and returns its length in bytes (RFC 1055).
 pub fn text_into(out: &mut [u8], datagram: &[u8]) -> usize
     requires { 2 * length datagram.now + 2 ≤ length out.old }
     ensures long { length out.new ≡ length out.old }

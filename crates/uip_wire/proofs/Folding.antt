@@ -57,24 +57,24 @@ folded_differs s x y p q n e =
       | inr a ↦ elim (folded_cases (s + y)) [ inl b ↦ omega arith | inr b ↦ omega arith ]
     ]
 
--- a byte counts as it stands in its word
-place_sum : (front back : List ℕ)
-    → ((x : ℕ) → word_sum (front ++ x ∷ back) ≡ word_sum (front ++ 0 ∷ back) + x)
-    ⊎ ((x : ℕ) → word_sum (front ++ x ∷ back) ≡ word_sum (front ++ 0 ∷ back) + 256 * x)
+-- a byte counts by its position in its word
+place_sum : (prefix back : List ℕ)
+    → ((x : ℕ) → word_sum (prefix ++ x ∷ back) ≡ word_sum (prefix ++ 0 ∷ back) + x)
+    ⊎ ((x : ℕ) → word_sum (prefix ++ x ∷ back) ≡ word_sum (prefix ++ 0 ∷ back) + 256 * x)
 place_sum [] [] = inr (λ x. omega arith)
 place_sum [] (b ∷ back) = inr (λ x. omega arith)
 place_sum (a ∷ []) back = inl (λ x. omega arith)
-place_sum (a ∷ b ∷ front) back =
-    elim (place_sum front back) [ inl h ↦ inl (λ x. omega (arith, h x)) | inr h ↦ inr (λ x. omega (arith, h x)) ]
+place_sum (a ∷ b ∷ prefix) back =
+    elim (place_sum prefix back) [ inl h ↦ inl (λ x. omega (arith, h x)) | inr h ↦ inr (λ x. omega (arith, h x)) ]
 
 same_sum : (a b : List ℕ) → checksum_of a ≡ checksum_of b → folded (word_sum a) ≡ folded (word_sum b)
 same_sum a b e = omega (arith, folded_most (word_sum a), folded_most (word_sum b))
 
 pub one_byte : OneByteTells
-one_byte front back one other p q n e =
-    let same = same_sum (front ++ one ∷ back) (front ++ other ∷ back) e in
-    let base : ℕ = word_sum (front ++ 0 ∷ back) in
-    elim (place_sum front back) [
+one_byte prefix back one other p q n e =
+    let same = same_sum (prefix ++ one ∷ back) (prefix ++ other ∷ back) e in
+    let base : ℕ = word_sum (prefix ++ 0 ∷ back) in
+    elim (place_sum prefix back) [
       | inl h ↦ folded_differs base one other (omega arith) (omega arith) n (sym (ap folded (h one)) ∙ same ∙ ap folded (h other))
       | inr h ↦ folded_differs base (256 * one) (256 * other) (omega arith) (omega arith) (λ m. n (omega arith))
           (sym (ap folded (h one)) ∙ same ∙ ap folded (h other))

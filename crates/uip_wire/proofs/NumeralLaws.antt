@@ -85,7 +85,7 @@ digit_at text i inside all =
       | false ↦ λ e. absurd (cc (list_all_at is_ascii_digit text i 0 inside e, all))
     ] refl
 
--- the value behind one digit more
+-- the value after one more digit
 pub value_more : (text : List ℕ) (i : ℕ) → i < length text → list_all is_ascii_digit text ≡ true
     → digits_value 10 (take (i + 1) text) ≡ digits_value 10 (take i text) * 10 + (get_or text i 0 - 48)
 value_more text i inside all = omega (arith, digits_value_more 10 text i inside, digit_at text i inside all)

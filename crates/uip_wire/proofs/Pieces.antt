@@ -1,4 +1,4 @@
--- The sum of bytes that come in pieces.
+-- The sum of bytes that are added in pieces.
 use Rattle.std.proofs.Common.{◌≡◌, ℕ, ◌+◌, ◌*◌, ◌%◌, ◌≤◌, ◌⊎◌, inl, inr, Bool, true, not, ◌==◌, if◌then◌else◌, List, [], ◌∷◌, ◌++◌, length, drop, slice_index, sym, ap, ◌∙◌, refl, arith, length-append, add_comm}
 use mathlib.Core.Bool.{beq}
 use Rattle.uip_wire.specs.Checksum.{folded, word_sum}

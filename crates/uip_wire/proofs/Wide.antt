@@ -22,7 +22,7 @@ eight_words s a b c d more =
       | inr h ↦ same_folded _ _ (4295032833 * a + 65537 * b + c) (omega arith) h
     ]
 
--- what holds of four numbers and of what stands behind them holds of every list that has four
+-- what holds for four numbers and what follows them holds for every list that has four
 by_four : (P : List ℕ → Type 0) → ((a b c d : ℕ) (more : List ℕ) → P (a ∷ b ∷ c ∷ d ∷ more)) → (list : List ℕ) → 4 ≤ length list → P list
 by_four P holds [] h = absurd (omega arith)
 by_four P holds (a ∷ []) h = absurd (omega arith)
@@ -56,7 +56,7 @@ next_four sum =
     ∙ eight_words sum 0 0 (c + 256 * d) (a + 256 * b) (swapped_sum rest)
     ∙ ap folded (omega arith))
 
--- eight bytes behind a place
+-- eight bytes after an offset
 eight_at : (sum k : ℕ) (bytes : List ℕ) → k + 8 ≤ length bytes
     → folded (sum + little_number 8 (drop k bytes) + swapped_sum (drop (k + 8) bytes)) ≡ folded (sum + swapped_sum (drop k bytes))
 eight_at sum k bytes h =

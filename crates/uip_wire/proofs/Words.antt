@@ -1,4 +1,4 @@
--- The sum of words that stand before other bytes.
+-- The sum of words before other bytes.
 use Rattle.std.proofs.Common.{◌≡◌, ℕ, ◌+◌, ◌*◌, ◌/◌, ◌%◌, List, [], ◌∷◌, ◌++◌, length, refl, arith}
 use Rattle.uip_wire.specs.Checksum.{word_sum}
 use Rattle.uip_wire.specs.Fields.{bytes_of}

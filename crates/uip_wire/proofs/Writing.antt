@@ -4,8 +4,8 @@ use Rattle.std.proofs.lemmas.List.{take_rest, drop_all, drop-drop}
 use borrow.Rule.Slice.PartMut.{put_mid}
 use Rattle.uip_wire.specs.Fields.{word_bytes, long_bytes, written}
 
-joined : (front part tail ys post : List ℕ) → ys ≡ part ++ tail → post ≡ [] → front ++ (ys ++ post) ≡ front ++ part ++ tail
-joined front part tail ys post e p = rw (e, p, append-nil, append_assoc) refl
+joined : (prefix part tail ys post : List ℕ) → ys ≡ part ++ tail → post ≡ [] → prefix ++ (ys ++ post) ≡ prefix ++ part ++ tail
+joined prefix part tail ys post e p = rw (e, p, append-nil, append_assoc) refl
 
 deeper : (n at : ℕ) (xs : List ℕ) → drop n (drop at xs) ≡ drop (at + n) xs
 deeper n at xs = drop-drop n at xs

@@ -1,8 +1,8 @@
--- Addresses in a header (RFC 791, section 3.1), and as dotted quads in words.
+-- Addresses in a header (RFC 791, section 3.1), and as dotted quads in text.
 use Rattle.std.specs.Prelude.{ℕ, ◌+◌, ◌==◌, nat_lt, if◌then◌else◌, List, [], ◌∷◌, ◌++◌, Option, None, Some, codes, decimal, option_map, position, take, drop, slice_index}
 use Rattle.uip_wire.specs.Numerals.{numeral}
 
--- the four bytes at a place
+-- The four bytes at an offset.
 abbrev pub address_at : List ℕ → ℕ → List ℕ
 address_at bytes at = slice_index bytes at ∷ slice_index bytes (at + 1) ∷ slice_index bytes (at + 2) ∷ slice_index bytes (at + 3) ∷ []
 
@@ -11,17 +11,17 @@ abbrev pub ◌>>=◌ : {A B : Type 0} → Option A → (A → Option B) → Opti
 (Some x) >>= f = f x
 None >>= f = None
 
--- a number from 0 to 255 in decimal digits, without a leading zero
+-- A number from 0 to 255 in decimal digits, without a leading zero.
 abbrev pub part_number : List ℕ → Option ℕ
 part_number text = do
   n ← numeral text
   if nat_lt n 256 then Some n else None
 
--- the part before the first dot, and the part after it
+-- The part before the first dot, and the part after it.
 abbrev pub cut_at_dot : List ℕ → Option (List ℕ × List ℕ)
 cut_at_dot text = option_map (λ dot. (take dot text, drop (dot + 1) text)) (position (λ c. c == 46) text)
 
--- the four numbers of a dotted quad
+-- The four numbers of a dotted quad.
 unfoldable pub quad_of : List ℕ → Option (List ℕ)
 quad_of text = do
   first ← cut_at_dot text
@@ -33,7 +33,7 @@ quad_of text = do
   d ← part_number third.1
   Some (a ∷ b ∷ c ∷ d ∷ [])
 
--- an address as a dotted quad
+-- An address as a dotted quad.
 abbrev pub quad_text : List ℕ → List ℕ
 quad_text address =
     decimal (slice_index address 0) ++ codes "." ++ decimal (slice_index address 1) ++ codes "."

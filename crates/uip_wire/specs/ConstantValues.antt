@@ -1,4 +1,4 @@
--- The constants of the code that definitions cite, with their values: a definition that names one says this number.
+-- The constants of the code that definitions cite, with their values.
 use Rattle.std.specs.Prelude.{◌≡◌}
 use Rattle.uip_wire.specs.declared.sizes.TheConstants.{LARGEST_DATAGRAM, OWN_MSS}
 use Rattle.uip_wire.specs.declared.port.TheConstants.{WEB_PORT}

@@ -1,3 +1,5 @@
+//! Internet addresses, in headers and as dotted quads.
+
 ghost use Rattle.std.specs.List.{position_or_len};
 ghost use Rattle.std.specs.Prelude.{◌≡◌, ◌==◌, ◌+◌, ◌≤◌, length, option_map};
 ghost use Rattle.uip_wire.specs.Addr.{address_at, cut_at_dot, part_number, quad_of};
@@ -10,7 +12,7 @@ use crate::numerals::numeral;
 pub struct Addr(pub [u8; 4]);
 
 impl Addr {
-    /// The address that a dotted quad spells: four numbers from 0 to 255 without leading zeros, with dots between them.
+    /// Parses a dotted quad: four numbers from 0 to 255 without leading zeros, with dots between them. Any other text is `None`.
     #[tactic(auto, unfolding(crate::specs::Addr::quad_of))]
     pub fn parse(text: &[u8]) -> Option<Addr>
         ensures { option_map (λ a. a.0) result ≡ quad_of text.now }
@@ -26,7 +28,7 @@ impl Addr {
         ]))
     }
 
-    /// The address that stands at a place of a header.
+    /// Returns the address at an offset of a header.
     pub fn get(bytes: &[u8], at: usize) -> Addr
         requires { at + 4 ≤ length bytes.now }
         ensures { result.0 ≡ address_at bytes.now at }
@@ -34,7 +36,7 @@ impl Addr {
         Addr([bytes[at], bytes[at + 1], bytes[at + 2], bytes[at + 3]])
     }
 
-    /// Writes the address at a place of a header, and leaves all other bytes.
+    /// Writes the address at an offset of a header. All other bytes are unchanged.
     pub fn put(self, bytes: &mut [u8], at: usize)
         requires { at + 4 ≤ length bytes.old }
         ensures { bytes.new ≡ written bytes.old at self.0 }
@@ -43,7 +45,7 @@ impl Addr {
     }
 }
 
-/// The part before the first dot, and the part after it.
+/// Returns the part before the first dot, and the part after it.
 fn cut_at_dot(text: &[u8]) -> Option<(&[u8], &[u8])>
     ensures { option_map (λ p. (p.0.now, p.1.now)) result ≡ cut_at_dot text.now }
 {
@@ -55,7 +57,7 @@ fn cut_at_dot(text: &[u8]) -> Option<(&[u8], &[u8])>
     }
 }
 
-/// The place of the first dot, or the length.
+/// Returns the offset of the first dot, or the length.
 fn first_dot(text: &[u8]) -> usize
     ensures { result ≡ position_or_len (λ c. c == 46) text.now }
 {
@@ -67,7 +69,7 @@ fn first_dot(text: &[u8]) -> usize
     text.len()
 }
 
-/// A number from 0 to 255 in decimal digits, without a leading zero.
+/// Returns the number from 0 to 255 that decimal digits without a leading zero write.
 fn number(text: &[u8]) -> Option<u8>
     ensures { result ≡ part_number text.now }
 {

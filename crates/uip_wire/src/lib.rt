@@ -1,8 +1,9 @@
-//! The plain matter of the Internet protocols: addresses, ports, sequence numbers, big-endian fields, and the checksum.
-//! Every layer above reads and writes a header through these calls, and speaks of it in the definitions of `specs/`.
+//! The basic data of the Internet protocols: addresses, ports, sequence numbers, big-endian fields, decimal numerals, and the checksum.
+//! Every layer above reads and writes headers through these calls, and is specified by the definitions in `specs/`.
 #![tactic(auto)]
 
 mod addr;
+mod copying;
 mod fields;
 mod laws;
 mod numerals;
@@ -13,6 +14,7 @@ mod summer;
 mod sums;
 
 pub use addr::Addr;
+pub use copying::copy_bytes;
 pub use fields::{get16, get32, put16, put32};
 pub use laws::constant_values;
 pub use numerals::{is_numeral, numeral, numerals_print};

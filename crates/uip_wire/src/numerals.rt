@@ -6,7 +6,7 @@ ghost use Rattle.std.specs.List.{list_all};
 ghost use Rattle.std.specs.Str.Parse.{digits_value};
 ghost use Rattle.uip_wire.specs.Numerals.{NumeralsPrint, is_numeral as has_form, leads_badly as bad_lead, numeral as number_meant};
 
-/// The number below 2^64 whose numeral the bytes are.
+/// Returns the number below 2^64 whose numeral the bytes are; `None` if they are none.
 pub fn numeral(text: &[u8]) -> Option<u64>
     ensures { result ≡ number_meant text.now }
 {
@@ -16,7 +16,7 @@ pub fn numeral(text: &[u8]) -> Option<u64>
     value(text)
 }
 
-/// Whether the bytes are decimal digits without a leading zero, but for 0 itself.
+/// Returns whether the bytes are decimal digits without a leading zero; 0 itself is allowed.
 pub fn is_numeral(text: &[u8]) -> bool
     ensures { result ≡ has_form text.now }
 {
@@ -26,7 +26,7 @@ pub fn is_numeral(text: &[u8]) -> bool
     all_digits(text)
 }
 
-/// Whether there is nothing, or a zero in front of something.
+/// Returns whether there is nothing, or a zero before something.
 fn leads_badly(text: &[u8]) -> bool
     ensures { result ≡ bad_lead text.now }
 {
@@ -43,7 +43,7 @@ fn all_digits(text: &[u8]) -> bool
     text.iter().all(|byte| byte.is_ascii_digit())
 }
 
-/// The number that digits write, if it has at most 64 bits.
+/// Returns the number that digits write, if it has at most 64 bits.
 fn value(text: &[u8]) -> Option<u64>
     requires { list_all is_ascii_digit text.now ≡ true }
     ensures { result ≡ (if nat_lt (digits_value 10 text.now) (2 ^ 64) then Some (digits_value 10 text.now) else None) }
@@ -59,7 +59,7 @@ fn value(text: &[u8]) -> Option<u64>
     Some(number)
 }
 
-/// A text is read as a number exactly where the number is printed so.
+/// A text is parsed as a number exactly if the number is printed as that text.
 pub fn numerals_print()
     ensures { NumeralsPrint }
 {}

@@ -6,14 +6,14 @@ ghost use Rattle.uip_wire.specs.Numbers.{wrap};
 pub struct Seq(pub u32);
 
 impl Seq {
-    /// The number that stands `count` further on.
+    /// Returns the number `count` further on.
     pub fn add(self, count: u32) -> Seq
         ensures { result.0 ≡ wrap (self.0 + count) }
     {
         Seq(self.0.wrapping_add(count))
     }
 
-    /// How far on from `from` this number stands.
+    /// Returns how far after `from` this number is.
     pub fn distance(self, from: Seq) -> u32
         ensures { wrap (from.0 + result) ≡ self.0 }
     {

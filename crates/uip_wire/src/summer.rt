@@ -5,7 +5,7 @@ ghost use Rattle.uip_wire.specs.Sums.{sum_of};
 use crate::sums::{ones_add, ones_sum};
 use std::marker::Model;
 
-/// The checksum of bytes that come in pieces, cut anywhere.
+/// The checksum of bytes that are added in pieces, cut anywhere.
 #[derive(Drop)]
 pub struct Summer {
     sum: u16,
@@ -21,7 +21,7 @@ impl Model for Summer {
 }
 
 impl Summer {
-    /// The sum of no bytes.
+    /// Returns the sum of no bytes.
     #[inline(always)]
     pub fn new() -> Summer
         ensures { result ≡ sum_of [] }
@@ -32,7 +32,7 @@ impl Summer {
         }
     }
 
-    /// Takes the next piece.
+    /// Adds the next piece.
     #[inline(always)]
     pub fn add(&mut self, piece: &[u8])
         ensures { (bytes : List ℕ) → self.old ≡ sum_of bytes → self.new ≡ sum_of (bytes ++ piece.now) }
@@ -41,7 +41,7 @@ impl Summer {
         self.is_odd = self.is_odd != (piece.len() % 2 == 1);
     }
 
-    /// The checksum of all pieces so far, joined.
+    /// Returns the checksum of all pieces so far, joined.
     #[inline(always)]
     pub fn finish(&self) -> u16
         ensures { (bytes : List ℕ) → self.now ≡ sum_of bytes → result ≡ checksum_of bytes }
@@ -50,8 +50,8 @@ impl Summer {
     }
 }
 
-/// The one's complement sum that a piece adds to an even or an odd number of bytes before it: after an odd number its first
-/// byte is a low one.
+/// Returns the one's complement sum that a piece adds after an even or an odd number of bytes. After an odd number its first byte is a low
+/// one.
 #[inline(always)]
 fn sum_after(piece: &[u8], is_odd: bool) -> u16
     ensures { result ≡ folded (if is_odd then word_sum (0 ∷ piece.now) else word_sum piece.now) }

@@ -1,10 +1,12 @@
+//! The checksum of RFC 791, computed eight bytes at a time (RFC 1071, section 2).
+
 ghost use Rattle.std.specs.Prelude.{◌≡◌, ◌+◌, ◌-◌, ◌*◌, ◌^◌, ◌<◌, ◌≤◌, ℕ, drop, length};
 ghost use Rattle.uip_wire.specs.Checksum.{OneByteTells, checksum_of, folded, word_sum};
 ghost use Rattle.uip_wire.specs.Sums.{swapped_sum};
 
 use byteorder::{ByteOrder, LittleEndian};
 
-/// The checksum of RFC 791: the one's complement of the one's complement sum of the big-endian 16-bit words.
+/// Returns the checksum of RFC 791: the one's complement of the one's complement sum of the big-endian 16-bit words.
 #[inline(always)]
 pub fn checksum(bytes: &[u8]) -> u16
     ensures { result ≡ checksum_of bytes.now }
@@ -12,13 +14,13 @@ pub fn checksum(bytes: &[u8]) -> u16
     65535 - ones_sum(bytes)
 }
 
-/// Of two lists of bytes of one length that differ in exactly one byte, at most one has a given checksum.
+/// Two lists of bytes of the same length that differ in exactly one byte have different checksums.
 pub fn one_byte_tells()
     ensures { OneByteTells }
 {}
 
-/// The one's complement sum of the words. It is that of the words with their bytes exchanged, with its own exchanged, so no word has to be
-/// turned round (RFC 1071, section 2 (B)).
+/// Returns the one's complement sum of the words. It is that of the words with their bytes exchanged, with its own bytes exchanged, so no
+/// word has to be swapped (RFC 1071, section 2 (B)).
 #[inline(always)]
 pub(crate) fn ones_sum(bytes: &[u8]) -> u16
     ensures { result ≡ folded (word_sum bytes.now) }
@@ -27,7 +29,7 @@ pub(crate) fn ones_sum(bytes: &[u8]) -> u16
     swapped % 256 * 256 + swapped / 256
 }
 
-/// The one's complement sum of two numbers.
+/// Returns the one's complement sum of two numbers.
 #[inline(always)]
 pub(crate) fn ones_add(one: u16, other: u16) -> u16
     ensures { result ≡ folded (one + other) }
@@ -40,8 +42,8 @@ pub(crate) fn ones_add(one: u16, other: u16) -> u16
     }
 }
 
-/// The sum of the words with their bytes exchanged, whose carries are still to be added back: eight bytes are added as one number, since
-/// 2^16, 2^32 and 2^48 leave 1 when divided by 65535 (RFC 1071, section 2). A long piece goes by 32 bytes.
+/// Returns the sum of the words with their bytes exchanged, before its carries are added back. Eight bytes are added as one number, since
+/// 2^16, 2^32 and 2^48 are 1 modulo 65535 (RFC 1071, section 2). A long piece goes by 32 bytes.
 #[inline(always)]
 fn wide_sum(bytes: &[u8]) -> u128
     ensures fits { result ≤ 2 ^ 61 * length bytes.now }
@@ -60,7 +62,7 @@ fn wide_sum(bytes: &[u8]) -> u128
     sum + tail_sum(rest)
 }
 
-/// The first four of less than eight bytes as one number, where there are as many, and the rest.
+/// Returns the first four of fewer than eight bytes as one number, if there are as many, and the rest.
 #[inline(always)]
 fn first_four(bytes: &[u8]) -> (u128, &[u8])
     requires { length bytes.now < 8 }
@@ -75,7 +77,7 @@ fn first_four(bytes: &[u8]) -> (u128, &[u8])
     (0, bytes)
 }
 
-/// The sum of less than eight bytes: of the first four as one number, and of the rest.
+/// Returns the sum of fewer than eight bytes: of the first four as one number, and of the rest.
 #[inline(always)]
 fn tail_sum(bytes: &[u8]) -> u128
     requires { length bytes.now < 8 }
@@ -86,7 +88,7 @@ fn tail_sum(bytes: &[u8]) -> u128
     first + last_sum(rest)
 }
 
-/// The sum of less than four bytes.
+/// Returns the sum of fewer than four bytes.
 #[inline(always)]
 fn last_sum(bytes: &[u8]) -> u128
     requires { length bytes.now < 4 }
@@ -101,7 +103,7 @@ fn last_sum(bytes: &[u8]) -> u128
     }
 }
 
-/// The sum of the first four numbers of eight bytes each.
+/// Returns the sum of the first four numbers of eight bytes each.
 #[inline(always)]
 fn block_sum(bytes: &[u8]) -> u128
     requires { 32 ≤ length bytes.now }

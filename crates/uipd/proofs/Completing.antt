@@ -1,4 +1,5 @@
 -- A run that nothing outside disturbs does what is due for its words.
+-- [add: command] The result of a command that nothing disturbs.
 use Rattle.std.proofs.Common.{◌≡◌, ℕ, ◌-◌, ◌^◌, ◌<◌, ◌≤◌, List, Option, None, Some, Ok, Err, refl, sym, ap, subst, ◌∙◌, inl, inr, arith}
 use Rattle.std.specs.Prelude.{◌⊎◌, ⊤}
 use Rattle.site_image.specs.Files.{File}
@@ -14,7 +15,7 @@ use Rattle.link_replay.specs.Laws.{WroteDue}
 use Rattle.link_replay.specs.declared.replay_end.ReplayEnd.{ReplayEnd}
 use Rattle.link_replay.specs.declared.replay_end.ReplayEnd.TheVariants as replays
 use Rattle.link_replay.proofs.Undisturbed.{as_due}
-use Rattle.uip_edge.specs.Told.{LineTold, LineUnfailed, Outside, WorkTold, WorkUnfailed, line_in, work_in}
+use Rattle.uip_edge.specs.Views.{LineView, LineUnfailed, Outside, WorkView, WorkUnfailed, line_in, work_in}
 use Rattle.trace.specs.Converting.{Converts}
 use Rattle.trace.specs.Telling.{TellsLine}
 use Rattle.trace.specs.declared.slip_end.SlipEnd.{SlipEnd}
@@ -26,7 +27,7 @@ use Rattle.uip_edge.specs.declared.serve_end.ServeEnd.{ServeEnd}
 use Rattle.uip_edge.specs.declared.serve_end.ServeEnd.TheVariants as serves
 use Rattle.uipd.specs.Completeness.{CaptureDone, Completes, ImageDone, LacksFor, LineDone, OrShort, ReplayDone, RunIsComplete, ServingDone}
 use Rattle.web_pages.specs.Serving.{no_hits}
-use Rattle.uipd.specs.Output.{meaning_of, output_of, ports_of}
+use Rattle.uipd.specs.Output.{app_spec_of, output_of, ports_of}
 use Rattle.uipd.specs.Running.{TaskRuns}
 use Rattle.uipd.specs.Serving.{ServeRuns, ServesBy}
 use Rattle.uipd.specs.SiteServing.{IsUndisturbed, SiteServes}
@@ -45,13 +46,13 @@ calm old new u = record { shelf = u.shelf; sink = u.line.sink }
 
 -- ---- a line
 
-line_done : (text : List Item → List ℕ) (n : ℕ) (old new : LineTold) (result : Status) (end : ServeEnd) → LineUnfailed old new → result ≡ status_of_serving end → TellsLine text n old new end → LineDone text n old new result
+line_done : (text : List Item → List ℕ) (n : ℕ) (old new : LineView) (result : Status) (end : ServeEnd) → LineUnfailed old new → result ≡ status_of_serving end → TellsLine text n old new end → LineDone text n old new result
 line_done text n old new result serves.End u e t = record { taken = t.taken; consumed = t.consumed; written = t.wrote; ends = inl (e, t.ends.0, t.ends.1) }
 line_done text n old new result serves.Budget u e t = record { taken = t.taken; consumed = t.consumed; written = t.wrote; ends = inr (e, t.ends.0) }
 line_done text n old new result serves.LinkFault u e t = absurd (stayed old.link.faults new.link.faults u.link.same u.link.below t.ends.1)
 line_done text n old new result serves.WriteFault u e t = absurd (stayed old.sink.faults new.sink.faults u.sink.same u.sink.below t.ends.2)
 
-served : (files : List File) (line : ServedLine) (old new : LineTold) (result : Status) (end : ServeEnd) → LineUnfailed old new → result ≡ status_of_serving end → ServesBy (meaning_of line.application files) (ports_of line.application) (no_hits files) line old new end
+served : (files : List File) (line : ServedLine) (old new : LineView) (result : Status) (end : ServeEnd) → LineUnfailed old new → result ≡ status_of_serving end → ServesBy (app_spec_of line.application files) (ports_of line.application) (no_hits files) line old new end
     → LineDone (output_of files line) line.limits.items old new result
 served files line old new result serves.End u e t = record { taken = t.taken; consumed = t.consumed; written = t.written; ends = inl (e, t.ends.0, t.ends.1) }
 served files line old new result serves.Budget u e t = record { taken = t.taken; consumed = t.consumed; written = t.written; ends = inr (e, t.ends.0) }

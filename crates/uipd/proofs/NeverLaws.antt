@@ -1,4 +1,4 @@
--- Only words without a form are told to have none.
+-- Only words without a form are reported to have none.
 use Rattle.std.proofs.Common.{◌≡◌, ℕ, List, Option, sym, ◌∙◌, inl, inr}
 use Rattle.uip_edge.specs.declared.serve_end.ServeEnd.{ServeEnd}
 use Rattle.uip_edge.specs.declared.serve_end.ServeEnd.TheVariants as serves
@@ -13,7 +13,7 @@ use Rattle.uipd.specs.Statuses.{RunsAs, status_of_fault, status_of_replay, statu
 use Rattle.uipd.specs.declared.words.ServedLine.{ServedLine}
 use Rattle.uipd.specs.declared.status.Status.{Status}
 use Rattle.uipd.specs.declared.status.Status.TheVariants.{BadWords}
-use Rattle.uip_edge.specs.Told.{Outside}
+use Rattle.uip_edge.specs.Views.{Outside}
 
 serving_has_words : (end : ServeEnd) → status_of_serving end ≡ BadWords → ⊥
 serving_has_words serves.End e = cc

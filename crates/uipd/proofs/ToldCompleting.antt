@@ -1,8 +1,9 @@
 -- A run that nothing outside disturbs does what is due for its words, those of `resolve` too.
+-- [add: told-command] The result of a run that nothing disturbs.
 use Rattle.std.proofs.Common.{◌≡◌, ℕ, List, Option, None, Some, inl, inr}
 use Rattle.udp_resolver.specs.Resolving.{Resolves}
 use Rattle.udp_resolver.specs.Streams.{Streams, StreamsUnfailed}
-use Rattle.uip_edge.specs.Told.{Outside}
+use Rattle.uip_edge.specs.Views.{Outside}
 use Rattle.uip_edge.specs.declared.serve_end.ServeEnd.{ServeEnd}
 use Rattle.uip_edge.specs.declared.serve_end.ServeEnd.TheVariants as ends
 use Rattle.uipd.specs.Completeness.{LacksFor, OrShort}

@@ -30,7 +30,7 @@ few_for_ether f (a ∷ b ∷ c ∷ words) h = absurd (omega arith)
 abbrev pub is_tty : Option (List ℕ) → Bool
 is_tty word = option_map_or (λ text. bytes_eq text (codes "tty")) word false
 
--- the last word says whether the line is a terminal
+-- the last word states whether the line is a terminal
 pub last_told : (words : List (String Global)) (found : Option (String Global)) → found ≡ slice_get words (length words - 1) → is_tty (option_map string_bytes found) ≡ says_tty (map string_bytes words)
 last_told words found is =
     ap (λ o. is_tty (option_map string_bytes o)) is

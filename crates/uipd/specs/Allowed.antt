@@ -1,4 +1,5 @@
--- What a command is never made without: the content types that it gives are allowed ones, and a schedule is made for 1 to 64 clients.
+-- What every command satisfies: the content types in it are allowed ones, and a schedule is made for 1 to 64 clients.
+-- [add: command] What the words of a command always satisfy.
 use Rattle.std.specs.Prelude.{◌≤◌, All, IsTrue, string_bytes, ⊤}
 use Rattle.site_image.specs.Names.{is_kind}
 use Rattle.uipd.specs.declared.words.Command.{Command}

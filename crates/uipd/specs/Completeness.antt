@@ -1,4 +1,4 @@
--- What a run comes to where nothing outside disturbs it: no count rises, and no file that the words ask for is missing.
+-- The result of a run that nothing disturbs: no fault counter rises, and no file that the words name is missing.
 use Rattle.std.specs.Prelude.{◌≡◌, ◌<◌, ◌⊎◌, ℕ, List, length, Option, None, Some, Err, Ok, ⊤}
 use Rattle.std.specs.Io.KnownBytes.{Appends}
 use Rattle.file_tree.specs.Opening.{FindsInFiles, LacksFile, site_read}
@@ -14,7 +14,7 @@ use Rattle.trace.specs.DumpText.{dump_text}
 use Rattle.trace.specs.declared.slip_end.SlipEnd.{SlipEnd}
 use Rattle.trace.specs.declared.slip_end.SlipEnd.TheVariants as slips
 use Rattle.uip_edge.specs.Coming.{Consumes, TookAll}
-use Rattle.uip_edge.specs.Told.{LineTold, Outside, line_in}
+use Rattle.uip_edge.specs.Views.{LineView, Outside, line_in}
 use Rattle.uip_edge.specs.Shelving.{Files}
 use Rattle.uip_edge.specs.declared.item.Item.{Item}
 use Rattle.uipd.specs.Output.{output_of}
@@ -26,7 +26,8 @@ use Rattle.uipd.specs.declared.status.Status.{Status}
 use Rattle.uipd.specs.declared.status.Status.TheVariants as status
 use Rattle.uipd.specs.declared.words.ServedLine.{ServedLine}
 
--- a shelf that tells its files lacks one that the words ask for
+-- The shelf is known to lack a file that the words name.
+-- [add: command] An arm: the file that the task lacks.
 abbrev pub LacksFor : Option Task → Option Files → Type 0
 LacksFor None held = ⊥
 LacksFor (Some (Serves site line)) held = LacksFile (site_read site) held
@@ -41,21 +42,21 @@ LacksFor (Some (Captures n)) held = ⊥
 LacksFor (Some (PlaysBack n)) held = ⊥
 LacksFor (Some (ShowsText text)) held = ⊥
 
--- The line ended before n items, or n were taken, and all that is due for the items was written.
-pub record LineDone (text : List Item → List ℕ) (n : ℕ) (old new : LineTold) (result : Status) : Type 0 where
+-- The line ended before n items, or n were consumed, and the output due for the items was written.
+pub record LineDone (text : List Item → List ℕ) (n : ℕ) (old new : LineView) (result : Status) : Type 0 where
   pub taken : List Item
   pub consumed : Consumes old.link.coming new.link.coming taken
   pub written : Appends old.sink.written new.sink.written (text taken)
   pub ends : ((result ≡ status.Done) × TookAll old.link.coming taken × (length taken < n)) ⊎ ((result ≡ status.Budget) × (length taken ≡ n))
 
--- the line was served with the files of the site, or the site is bad
+-- The line was served with the files of the site, or the site is bad.
 abbrev pub ServingDone : List ℕ → ServedLine → Outside → Outside → Status → Type 0
 ServingDone site line old new result =
     ((files : List File) × FindsInFiles (site_read site) old.shelf.held (Ok files)
     × LineDone (output_of files line) line.limits.items (line_in old) (line_in new) result)
     ⊎ ((error : SiteError) × FindsInFiles (site_read site) old.shelf.held (Err error) × (result ≡ status.BadSite error))
 
--- the text that is due for the shelf's files was written, and the answer is the one that goes with it
+-- The text due for the files was written, and the result is the one that belongs to it.
 abbrev pub ImageDone : (Files → Option Due) → Outside → Outside → Status → Type 0
 ImageDone due old new result = (made : Due) × FindsInFiles due old.shelf.held made
     × Appends old.sink.written new.sink.written made.text × (result ≡ status_of_site (end_of made.fault))
@@ -76,11 +77,12 @@ abbrev pub CaptureDone : ℕ → Outside → Outside → Status → Type 0
 CaptureDone n old new result =
     (end : SlipEnd) × IsFaultless end × Converts n (line_in old) (line_in new) end × (result ≡ status_of_slip end)
 
--- or memory was short
+-- Memory ran out instead.
 abbrev pub OrShort : Status → Type 0 → Type 0
 OrShort result Done = (result ≡ status.NoMemory) ⊎ Done
 
--- what is due was done, by what the words ask for
+-- What is due was done, by the task that the words name.
+-- [add: command] An arm: the result if nothing disturbs it.
 abbrev pub Completes : Option Task → Outside → Outside → Status → Type 0
 Completes None old new result = result ≡ status.BadWords
 Completes (Some (Serves site line)) old new result = OrShort result (ServingDone site line old new result)
@@ -97,7 +99,7 @@ Completes (Some (Captures n)) old new result = LineDone capture_file n (line_in 
 Completes (Some (PlaysBack n)) old new result = CaptureDone n old new result
 Completes (Some (ShowsText text)) old new result = Appends old.sink.written new.sink.written text × (result ≡ status.Done)
 
--- A run is complete: where no count rose and no file is missing, what is due for the words was done.
+-- A run is complete: if no fault counter rose and no file is missing, what is due for the words was done.
 abbrev pub RunIsComplete : Type 0
 RunIsComplete =
     (words : List (List ℕ)) (old new : Outside) (result : Status) → Runs words old new result → IsUndisturbed old new

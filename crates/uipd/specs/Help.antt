@@ -1,7 +1,7 @@
--- The texts that the program writes of itself.
+-- The texts about the program itself.
 use Rattle.std.specs.Prelude.{ℕ, List, ◌++◌, [], ◌∷◌, codes}
 use Rattle.std.specs.List.{flat_map}
-use Rattle.uip_edge.specs.Told.{SinkTold}
+use Rattle.uip_edge.specs.Views.{SinkView}
 use Rattle.uip_edge.specs.Writing.{WritesEnd}
 use Rattle.uipd.specs.declared.status.Status.{Status}
 use Rattle.uipd.specs.declared.status.Status.TheVariants as status
@@ -37,8 +37,8 @@ help_text =
 
 -- what `--version` writes
 abbrev pub version_text : List ℕ
-version_text = codes "uipd 1.0\n"
+version_text = codes "uipd 1.1\n"
 
--- a text was written whole, or a front of it where the output failed
-abbrev pub Shows : List ℕ → SinkTold → SinkTold → Status → Type 0
+-- The whole text was written, or a prefix of it if the output failed.
+abbrev pub Shows : List ℕ → SinkView → SinkView → Status → Type 0
 Shows text old new result = WritesEnd status.Done status.WriteFault old new text result

@@ -1,4 +1,5 @@
 -- The words of `resolve`.
+-- [add: told-command] A file as this one for its words.
 use Rattle.std.specs.Prelude.{ℕ, ◌-◌, ◌&&◌, nat_le, if◌then◌else◌, Bool, List, [], ◌∷◌, Option, None, Some, codes, length, take}
 use Rattle.std.specs.List.{list_all}
 use Rattle.std.specs.Str.{bytes_eq}
@@ -8,7 +9,7 @@ use Rattle.dns_message.specs.Names.{is_domain}
 use Rattle.udp_resolver.specs.declared.TheConstants.{MOST_NAMES}
 use Rattle.uipd.specs.Words.{all_items, number_within, optionally, says_tty}
 
--- what the words ask for: to ask a server at an address for names, the first of them under this id, up to so many items
+-- The task of the words: ask a server for names, the first of them with this id, up to a number of items.
 pub record Resolving : Type 0 where
   pub own : Addr
   pub server : Addr
@@ -16,7 +17,7 @@ pub record Resolving : Type 0 where
   pub names : List (List ℕ)
   pub items : ℕ
 
--- the words in front of a last `tty`, which says only what a read of nothing means
+-- the words before a last `tty`, which only defines what an empty read means
 abbrev pub without_tty : List (List ℕ) → List (List ℕ)
 without_tty words = if says_tty words then take (length words - 1) words else words
 
@@ -25,7 +26,7 @@ abbrev pub names_of : List (List ℕ) → Option (List (List ℕ))
 names_of words =
     if nat_le 1 (length words) && nat_le (length words) MOST_NAMES && list_all is_domain words then Some words else None
 
--- `OWN SERVER ID`, where the id is a number below 65536, the number of items, and the words behind it
+-- `OWN SERVER ID`, with an id below 65536, then the number of items, and the words after it
 abbrev pub asked_at : List ℕ → List ℕ → List ℕ → ℕ → List (List ℕ) → Option Resolving
 asked_at own server id items words = do
   own ← quad_of own
@@ -43,7 +44,7 @@ abbrev pub resolve_words : List (List ℕ) → Option Resolving
 resolve_words (own ∷ server ∷ id ∷ words) = asked_by own server id words
 resolve_words words = None
 
--- what words ask for that begin with `resolve`
+-- the task of words that begin with `resolve`
 abbrev pub resolving_of : List (List ℕ) → Option Resolving
 resolving_of [] = None
 resolving_of (command ∷ words) = if bytes_eq command (codes "resolve") then resolve_words words else None

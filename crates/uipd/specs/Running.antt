@@ -1,4 +1,4 @@
--- What a run does to the outside, by what the words ask for.
+-- What a run does to its environment, by the task that the words name.
 use Rattle.std.specs.Prelude.{◌≡◌, ℕ, List, Option, None, Some}
 use Rattle.site_commands.specs.Due.{check_due, page_due, pack_due, upgrade_due}
 use Rattle.site_commands.specs.Ending.{Ends}
@@ -12,18 +12,19 @@ use Rattle.uipd.specs.declared.status.Status.TheVariants.{BadWords}
 use Rattle.uipd.specs.Help.{Shows}
 use Rattle.uipd.specs.SiteServing.{SiteServes}
 use Rattle.uipd.specs.Statuses.{RunsAs, status_of_replay, status_of_serving, status_of_site, status_of_slip}
-use Rattle.uip_edge.specs.Told.{LineTold, Outside, WorkTold, line_in, work_in}
+use Rattle.uip_edge.specs.Views.{LineView, Outside, WorkView, line_in, work_in}
 use Rattle.uipd.specs.Words.{Task, Serves, Checks, Pages, Packs, Upgrades, Replays, Loads, Dumps, Captures, PlaysBack, ShowsText, task_of}
 
--- work on files, which leaves the line alone
-abbrev pub FileWorks : {E : Type 0} → (E → Status) → (WorkTold → WorkTold → E → Type 0) → Outside → Outside → Status → Type 0
+-- work on files, which leaves the line unchanged
+abbrev pub FileWorks : {E : Type 0} → (E → Status) → (WorkView → WorkView → E → Type 0) → Outside → Outside → Status → Type 0
 FileWorks status_of Ends old new result = RunsAs status_of (Ends (work_in old) (work_in new)) result × (new.link ≡ old.link)
 
--- work on a line, which leaves the shelf alone
-abbrev pub LineWorks : {E : Type 0} → (E → Status) → (LineTold → LineTold → E → Type 0) → Outside → Outside → Status → Type 0
+-- work on a line, which leaves the shelf unchanged
+abbrev pub LineWorks : {E : Type 0} → (E → Status) → (LineView → LineView → E → Type 0) → Outside → Outside → Status → Type 0
 LineWorks status_of Ends old new result = RunsAs status_of (Ends (line_in old) (line_in new)) result × (new.shelf ≡ old.shelf)
 
--- words without a form are told, and only they; other words are done
+-- Words without a form are reported, and only these; all other words are carried out.
+-- [add: command] An arm: what a run of the task does.
 abbrev pub TaskRuns : Option Task → Outside → Outside → Status → Type 0
 TaskRuns None old new result = result ≡ BadWords
 TaskRuns (Some (Serves site line)) old new result = SiteServes site line old new result
@@ -38,6 +39,6 @@ TaskRuns (Some (Captures n)) old new result = LineWorks status_of_serving (Tells
 TaskRuns (Some (PlaysBack n)) old new result = LineWorks status_of_slip (Converts n) old new result
 TaskRuns (Some (ShowsText text)) old new result = Shows text old.sink new.sink result × (new.shelf ≡ old.shelf) × (new.link ≡ old.link)
 
--- the headline of a run
+-- the top statement about a run
 abbrev pub Runs : List (List ℕ) → Outside → Outside → Status → Type 0
 Runs words old new result = TaskRuns (task_of words) old new result

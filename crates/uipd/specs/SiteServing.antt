@@ -6,21 +6,21 @@ use Rattle.file_tree.specs.declared.load_fault.LoadFault.{LoadFault}
 use Rattle.file_tree.specs.Opening.{FailsToOpen, FindsInFiles, site_read}
 use Rattle.uip_edge.specs.Shelving.{Files}
 use Rattle.uip_edge.specs.Causes.{IsUnfailed}
-use Rattle.uip_edge.specs.Told.{LineUnfailed, Outside, line_in}
+use Rattle.uip_edge.specs.Views.{LineUnfailed, Outside, line_in}
 use Rattle.uipd.specs.Serving.{ServeRuns}
 use Rattle.uipd.specs.Statuses.{status_of_fault}
 use Rattle.uipd.specs.declared.words.ServedLine.{ServedLine}
 use Rattle.uipd.specs.declared.status.Status.{Status}
 use Rattle.uipd.specs.declared.status.Status.TheVariants as status
 
--- the site under the name was opened, and this was done with its files
+-- The site with the name was opened, and this was done with its files.
 pub record WithSite (site : List ℕ) (old new : Outside) (Done : List File → Type 0) : Type 0 where
   pub files : List File
   pub read : FindsInFiles (site_read site) old.shelf.held (Ok files)
   pub shelf : new.shelf ≡ old.shelf
   pub done : Done files
 
--- there is no site under the name, for this reason; the line and its output were left alone
+-- There is no site with the name, for this reason; the line and its output are unchanged.
 pub record WithoutSite (site : List ℕ) (old new : Outside) (result : Status) : Type 0 where
   pub fault : LoadFault
   pub told : result ≡ status_of_fault fault
@@ -28,7 +28,7 @@ pub record WithoutSite (site : List ℕ) (old new : Outside) (result : Status) :
   pub held : new.shelf.held ≡ old.shelf.held
   pub line : line_in new ≡ line_in old
 
--- the line is served with the site under a name
+-- The line is served with the site of a name.
 abbrev pub SiteServes : List ℕ → ServedLine → Outside → Outside → Status → Type 0
 SiteServes site line old new result =
     WithSite site old new (λ files. ServeRuns files line (line_in old) (line_in new) result) ⊎ WithoutSite site old new result

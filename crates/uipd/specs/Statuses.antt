@@ -1,4 +1,5 @@
--- The status of a run by how its work ended, and what the process exits with.
+-- The status of a run by the end of its work, and the exit status of the process.
+-- [add: command] The statuses by which the work of a command ends.
 use Rattle.std.specs.Prelude.{◌≡◌, ℕ}
 use Rattle.uip_edge.specs.declared.serve_end.ServeEnd.{ServeEnd}
 use Rattle.uip_edge.specs.declared.serve_end.ServeEnd.TheVariants as serves
@@ -13,18 +14,18 @@ use Rattle.trace.specs.declared.slip_end.SlipEnd.TheVariants as slips
 use Rattle.uipd.specs.declared.status.Status.{Status}
 use Rattle.uipd.specs.declared.status.Status.TheVariants as status
 
--- a run answers the status of the end that its work came to
+-- A run returns the status of the end of its work.
 abbrev pub RunsAs : {E : Type 0} → (E → Status) → (E → Type 0) → Status → Type 0
 RunsAs {E} status_of Ends result = (end : E) × (result ≡ status_of end) × Ends end
 
--- of serving a line
+-- after serving a line
 abbrev pub status_of_serving : ServeEnd → Status
 status_of_serving serves.End = status.Done
 status_of_serving serves.LinkFault = status.LinkFault
 status_of_serving serves.WriteFault = status.WriteFault
 status_of_serving serves.Budget = status.Budget
 
--- of reading a capture file
+-- after reading a capture file
 abbrev pub status_of_slip : SlipEnd → Status
 status_of_slip slips.End = status.Done
 status_of_slip slips.LinkFault = status.LinkFault
@@ -32,13 +33,13 @@ status_of_slip slips.WriteFault = status.WriteFault
 status_of_slip slips.Budget = status.Budget
 status_of_slip (slips.Bad number why) = status.BadCapture number why
 
--- of a site that could not be opened
+-- after a site could not be opened
 abbrev pub status_of_fault : LoadFault → Status
 status_of_fault loads.Shelf = status.ShelfFault
 status_of_fault (loads.Bad error) = status.BadSite error
 status_of_fault loads.NoMemory = status.NoMemory
 
--- of work on an image
+-- after work on an image
 abbrev pub status_of_site : SiteEnd → Status
 status_of_site ends.Done = status.Done
 status_of_site ends.ShelfFault = status.ShelfFault
@@ -46,7 +47,7 @@ status_of_site ends.WriteFault = status.WriteFault
 status_of_site (ends.Bad error) = status.BadSite error
 status_of_site ends.NoMemory = status.NoMemory
 
--- of a replay
+-- after a replay
 abbrev pub status_of_replay : ReplayEnd → Status
 status_of_replay replays.Done = status.Done
 status_of_replay replays.ShelfFault = status.ShelfFault
@@ -55,7 +56,8 @@ status_of_replay (replays.BadSite error) = status.BadSite error
 status_of_replay (replays.BadSchedule line why) = status.BadSchedule line why
 status_of_replay replays.NoMemory = status.NoMemory
 
--- what the process exits with
+-- the exit status of the process
+-- [add: status] An arm with its number, and the definition of its end, as `status_of_site`.
 abbrev pub exit_code_of : Status → ℕ
 exit_code_of status.Done = 0
 exit_code_of status.BadWords = 1

@@ -1,9 +1,10 @@
--- What a run that may tell something comes to where nothing outside disturbs it, `resolve` among the words.
+-- The result of a run that nothing disturbs, `resolve` included, which has a second output.
+-- [add: told-command] Its result if nothing disturbs it.
 use Rattle.std.specs.Prelude.{◌≡◌, ℕ, List, Option, None, Some}
 use Rattle.udp_resolver.specs.Resolving.{WroteAll}
 use Rattle.udp_resolver.specs.Streams.{Streams, StreamsUnfailed}
 use Rattle.uip_edge.specs.Coming.{Consumes}
-use Rattle.uip_edge.specs.Told.{Outside}
+use Rattle.uip_edge.specs.Views.{Outside}
 use Rattle.uip_edge.specs.declared.item.Item.{Item}
 use Rattle.uip_edge.specs.declared.serve_end.ServeEnd.{ServeEnd}
 use Rattle.uipd.specs.Completeness.{Completes, LacksFor, OrShort}
@@ -14,7 +15,7 @@ use Rattle.uipd.specs.ToldRunning.{ToldRuns, questions_of}
 use Rattle.uipd.specs.Words.{task_of}
 use Rattle.uipd.specs.declared.status.Status.{Status}
 
--- The names were asked for, until all were settled, the line ended or so many items were taken, and what became of each was told.
+-- The names were asked for until all were settled, the line ended, or the number of items was consumed. The result of each was written.
 pub record ResolvingDone (r : Resolving) (old new : Streams) (result : Status) : Type 0 where
   pub taken : List Item
   pub consumed : Consumes old.line.link.coming new.line.link.coming taken
@@ -22,12 +23,12 @@ pub record ResolvingDone (r : Resolving) (old new : Streams) (result : Status) :
   pub wrote : WroteAll (questions_of r) r.items old new taken end
   pub answer : result ≡ status_of_serving end
 
--- what is due for the words was done
+-- What is due for the words was done.
 abbrev pub ToldCompletes : Option Resolving → List (List ℕ) → Outside → Outside → Streams → Streams → Status → Type 0
 ToldCompletes None words old new before after result = Completes (task_of words) old new result
 ToldCompletes (Some r) words old new before after result = OrShort result (ResolvingDone r before after result)
 
--- A run is complete whatever its words ask for: where no count rose and no file is missing, what is due was done.
+-- A run is complete for any words: if no fault counter rose and no file is missing, what is due was done.
 abbrev pub ToldIsComplete : Type 0
 ToldIsComplete =
     (words : List (List ℕ)) (old new : Outside) (before after : Streams) (result : Status)

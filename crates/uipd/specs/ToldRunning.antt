@@ -1,4 +1,5 @@
--- What a run does that may also tell something beside its output.
+-- What a run does that may also write to a second output.
+-- [add: told-command] What a run of it does.
 use Rattle.std.specs.Prelude.{◌≡◌, ◌⊎◌, ℕ, List, Option, None, Some}
 use Rattle.udp_resolver.specs.Fates.{Question, questions}
 use Rattle.udp_resolver.specs.Resolving.{Resolves}
@@ -6,20 +7,20 @@ use Rattle.udp_resolver.specs.Streams.{Streams}
 use Rattle.uipd.specs.ResolveWords.{Resolving, resolving_of}
 use Rattle.uipd.specs.Running.{Runs}
 use Rattle.uipd.specs.Statuses.{RunsAs, status_of_serving}
-use Rattle.uip_edge.specs.Told.{Outside}
+use Rattle.uip_edge.specs.Views.{Outside}
 use Rattle.uipd.specs.declared.status.Status.{Status}
 use Rattle.uipd.specs.declared.status.Status.TheVariants.{NoMemory}
 
--- the questions that are asked
+-- the questions asked
 abbrev pub questions_of : Resolving → List Question
 questions_of r = questions (record { own = r.own; server = r.server; id = r.id }) r.names
 
--- a run of `resolve` ends as the asking does, or had not enough memory and left all as it was
+-- A run of `resolve` ends as the resolver does, or memory ran out and everything is unchanged.
 abbrev pub ResolveRuns : Resolving → Streams → Streams → Status → Type 0
 ResolveRuns r old new result =
     RunsAs status_of_serving (Resolves (questions_of r) r.items old new) result ⊎ ((result ≡ NoMemory) × (new ≡ old))
 
--- the words of `resolve` are done here, and all others as `run` does them
+-- The words of `resolve` are carried out here, and all others as `run` does.
 abbrev pub ToldBy : Option Resolving → List (List ℕ) → Outside → Outside → Streams → Streams → Status → Type 0
 ToldBy None words old new before after result = Runs words old new result
 ToldBy (Some r) words old new before after result = ResolveRuns r before after result

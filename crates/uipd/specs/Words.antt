@@ -1,4 +1,6 @@
 -- The words of the command line.
+-- [add: application] Application: its words.
+-- [add: line-kind] Kind of line: its words.
 use Rattle.std.specs.Prelude.{ℕ, ◌-◌, ◌^◌, ◌==◌, ◌&&◌, nat_le, nat_lt, if◌then◌else◌, Bool, true, false, List, [], ◌∷◌, Option, None, Some, option_map, codes, length, map, slice_get, string_bytes}
 use Rattle.std.specs.Option.{option_map_or}
 use Rattle.std.specs.List.{list_all, list_any, before_first, after_first}
@@ -20,9 +22,10 @@ use Rattle.uipd.specs.declared.words.LineKind.{LineKind}
 use Rattle.uipd.specs.declared.words.LineKind.TheVariants.{Ethernet, Serial}
 use Rattle.uipd.specs.declared.words.ServedLine.{ServedLine}
 
--- what the words ask for: to serve a line with a site; to look at the image of a site, or at a page of it, to pack files into one, and to
--- upgrade one; to play a schedule by a site, and to show its datagrams; to play the schedule that a seed makes for so many clients; to dump
--- a line, up to so many items, to capture it, and to make a capture a line again; to show a text of the program's own
+-- The task of the words. A line is served with a site, or a site is checked, or one of its pages is written. An image is packed or
+-- upgraded. A schedule is replayed, shown or not, or one that a seed makes for a number of clients. A line is dumped or captured, or made
+-- from a capture. A text about the program is shown.
+-- [add: command] A task with its values, `task_meant` and `task_of`.
 pub data Task : Type 0 where
   Serves : (site : List ℕ) (line : ServedLine) → Task
   Checks : (site : List ℕ) → Task
@@ -36,31 +39,31 @@ pub data Task : Type 0 where
   PlaysBack : (items : ℕ) → Task
   ShowsText : (text : List ℕ) → Task
 
--- a word of two parts, around its first `=`
+-- a word of two parts, split at its first `=`
 abbrev pub is_equals : ℕ → Bool
 is_equals b = b == 61
 
 abbrev pub has_parts : List ℕ → Bool
 has_parts word = list_any is_equals word
 
-abbrev pub front_part : List ℕ → List ℕ
-front_part word = before_first is_equals word
+abbrev pub prefix_slice : List ℕ → List ℕ
+prefix_slice word = before_first is_equals word
 
 abbrev pub back_part : List ℕ → List ℕ
 back_part word = after_first is_equals word
 
 -- `NAME=FILE`
 abbrev pub named_file : List ℕ → NamedContent
-named_file word = record { name = front_part word; file = back_part word }
+named_file word = record { name = prefix_slice word; file = back_part word }
 
 -- `NAME=TYPE`, where TYPE is a content type that is not empty
 abbrev pub is_kind_word : List ℕ → Bool
 is_kind_word word = has_parts word && nat_lt 0 (length (back_part word)) && is_kind (back_part word)
 
 abbrev pub kind_word : List ℕ → KindContent
-kind_word word = record { name = front_part word; kind = back_part word }
+kind_word word = record { name = prefix_slice word; kind = back_part word }
 
--- what a command of the code asks for
+-- the task of a command of the code
 abbrev pub task_meant : Command → Task
 task_meant (Serve site line) = Serves site.now line
 task_meant (Check site) = Checks site.now
@@ -74,35 +77,35 @@ task_meant (Pcap items) = Captures items
 task_meant (Slip items) = PlaysBack items
 task_meant (Show text) = ShowsText text.now
 
--- the greatest number of items, where the words name none
+-- the greatest number of items, if the words state none
 abbrev pub all_items : ℕ
 all_items = 2 ^ 64 - 1
 
--- the last word is `tty`, which says what a read of nothing means
+-- The last word is `tty`, which defines what an empty read means.
 abbrev pub says_tty : List (List ℕ) → Bool
 says_tty words = option_map_or (λ word. bytes_eq word (codes "tty")) (slice_get words (length words - 1)) false
 
--- no more words, or `tty` alone, which says only what a read of nothing means
+-- no more words, or only `tty`, which defines what an empty read means
 abbrev pub ends_here : List (List ℕ) → Bool
 ends_here [] = true
 ends_here (word ∷ []) = bytes_eq word (codes "tty")
 ends_here words = false
 
--- optionally this word and a number behind it, which without them is another; and then further words
+-- optionally this word and a number after it, with a default; then further words
 abbrev pub optionally : {X : Type 0} → List ℕ → ℕ → (ℕ → List (List ℕ) → Option X) → List (List ℕ) → Option X
 optionally name otherwise further (word ∷ number ∷ words) =
     if bytes_eq word name then (numeral number >>= λ n. further n words) else further otherwise (word ∷ number ∷ words)
 optionally name otherwise further words = further otherwise words
 
--- at a pace so many items, and no further words but `tty`
+-- a pace and a number of items; no further words except `tty`
 abbrev pub limited : ℕ → ℕ → List (List ℕ) → Option Limits
 limited pace items words = if ends_here words then Some (record { pace = pace; items = items }) else None
 
--- behind the pace: optionally `items N`, then the end
+-- after the pace: optionally `items N`, then the end
 abbrev pub limits_at : ℕ → List (List ℕ) → Option Limits
 limits_at pace words = optionally (codes "items") all_items (limited pace) words
 
--- optionally `pace K`, then what stands behind the pace, which is 0 without these words
+-- optionally `pace K`, which is 0 by default; then the words after the pace
 abbrev pub limits_of : List (List ℕ) → Option Limits
 limits_of words = optionally (codes "pace") 0 limits_at words
 
@@ -142,17 +145,17 @@ abbrev pub page_words : List (List ℕ) → Option Task
 page_words (site ∷ target ∷ []) = Some (Pages site target)
 page_words words = None
 
--- `SITE SCHEDULE`, and optionally `show`
+-- `SITE SCHEDULE`, optionally `show`
 abbrev pub replay_words : List (List ℕ) → Option Task
 replay_words (site ∷ schedule ∷ []) = Some (Replays site schedule false)
 replay_words (site ∷ schedule ∷ word ∷ []) = if bytes_eq word (codes "show") then Some (Replays site schedule true) else None
 replay_words words = None
 
--- a number of a range
+-- a number within a range
 abbrev pub number_within : ℕ → ℕ → List ℕ → Option ℕ
 number_within low high word = numeral word >>= λ n. if nat_le low n && nat_le n high then Some n else None
 
--- `SITE SEED CLIENTS`, where a schedule is made for 1 to 64 clients
+-- `SITE SEED CLIENTS`, with 1 to 64 clients
 abbrev pub load_words : List (List ℕ) → Option Task
 load_words (site ∷ seed ∷ clients ∷ []) = do
   seed ← numeral seed
@@ -164,7 +167,7 @@ load_words words = None
 abbrev pub items_named : List (List ℕ) → Option ℕ
 items_named words = option_map (λ limits. limits.items) (limits_at 0 words)
 
--- a capture is made a line again, with no further words
+-- a capture is turned into a line again; no further words
 abbrev pub plays_back : ℕ → List (List ℕ) → Option Task
 plays_back items words = if length words == 0 then Some (PlaysBack items) else None
 
@@ -177,7 +180,7 @@ abbrev pub shown : List ℕ → List (List ℕ) → Option Task
 shown text [] = Some (ShowsText text)
 shown text words = None
 
--- by the command in front
+-- by the first word, which is the command
 abbrev pub task_of : List (List ℕ) → Option Task
 task_of [] = None
 task_of (command ∷ words) =

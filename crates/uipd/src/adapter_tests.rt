@@ -10,7 +10,7 @@ use std::io::Read;
 use std::test::Fail;
 use uip_edge::{Got, Link, MemShelf, Sink};
 
-/// A reader that gives one byte and then fails at every call.
+/// A reader that returns one byte and then fails at every call.
 #[derive(Drop)]
 struct Failing {
     given: bool,
@@ -27,7 +27,7 @@ impl Read for Failing {
     }
 }
 
-/// A reader that gives nothing at its first call, fails at its second, and then gives a byte at each.
+/// A reader that returns nothing at its first call, fails at its second, and then returns a byte at each.
 #[derive(Drop)]
 struct Halting {
     calls: u8,
@@ -107,7 +107,7 @@ fn run_on(
     run_over(alloc, words, &mut shelf, input, room, errors)
 }
 
-// Two reads of nothing are two silences of a terminal, and so the 31st and the 32nd item; a file ends at the first.
+// Two empty reads are two silences of a terminal, and so the 31st and the 32nd item; a file ends at the first.
 #[test]
 fn the_last_word_makes_the_reader_a_terminal(rt: HostRuntime) -> Result<(), Fail> {
     let alloc = rt.alloc();

@@ -14,8 +14,8 @@ use std::io;
 use std::io::{Read, Write};
 use uip_edge::{Failed, Got, Link, Shelf, Sink};
 
-/// A line that is read from any reader. A read of nothing is its end, or with `tty` a silence, as a terminal gives after a
-/// time without a byte.
+/// A line that is read from any reader. An empty read is its end, or with `tty` a silence, as a terminal returns after a time
+/// without a byte.
 #[derive(Drop)]
 pub struct ReaderLink<R: Read> {
     inner: R,
@@ -24,6 +24,7 @@ pub struct ReaderLink<R: Read> {
 }
 
 impl<R: Read> ReaderLink<R> {
+    /// Wraps the reader as it is: nothing is read.
     pub fn new(inner: R, tty: bool) -> ReaderLink<R>
         ensures inner { result.inner ≡ inner }
         ensures tty { result.tty ≡ tty }
@@ -37,7 +38,7 @@ impl<R: Read> ReaderLink<R> {
     }
 }
 
-/// What a read answers.
+/// Returns what a read gives.
 fn got_of(read: io::Result<usize>, tty: bool) -> Result<Got, Failed>
     ensures { IsGot tty read result }
 {
@@ -62,12 +63,12 @@ impl<R: Read> Link for ReaderLink<R> {
         ensures end { IsAtEnd result (items_left self.old.tty (R.remaining self.old.inner)) }
         ensures cause { HasCause self.old.faults self.new.faults result }
 
-        // A read of nothing is a silence with `tty`, and else the end.
+        // An empty read is a silence with `tty`, and else the end.
         ensures silence { self.old.tty ≡ true → IfOk result (λ got. got ≢ End) }
         ensures no_silence { self.old.tty ≡ false → IfOk result (λ got. got ≢ Quiet) }
         ensures kept { self.new.tty ≡ self.old.tty }
 
-        // With `tty` too it gives what the reader lost.
+        // With `tty` too it returns what the reader lost.
         ensures reads { GivesRead (R.remaining self.old.inner) (R.remaining self.new.inner) result buf.new }
     {
         let got = got_of(self.inner.read(buf), self.tty);
@@ -78,7 +79,7 @@ impl<R: Read> Link for ReaderLink<R> {
     }
 }
 
-/// A sink over any writer. A write that takes nothing of a piece is a fault.
+/// A sink over any writer. A write that consumes nothing of a piece is a fault.
 #[derive(Drop)]
 pub struct WriterSink<W: Write> {
     inner: W,
@@ -86,6 +87,7 @@ pub struct WriterSink<W: Write> {
 }
 
 impl<W: Write> WriterSink<W> {
+    /// Wraps the writer as it is: nothing is written.
     pub fn new(inner: W) -> WriterSink<W>
         ensures inner { result.inner ≡ inner }
         ensures faults { result.faults ≡ 0 }
@@ -110,8 +112,8 @@ impl<W: Write> Sink for WriterSink<W> {
     }
 }
 
-/// Does what the words say over a line that is read and an output that is written; what is told beside the output is written to
-/// `errors`. The last word says whether the reader is a terminal.
+/// Does what the words ask for, over a line that is read and an output that is written. What is reported beside the output is
+/// written to `errors`. The last word states whether the reader is a terminal.
 pub fn run_over<H: Shelf, R: Read + Drop, W: Write + Drop, E: Write + Drop>(
     alloc: Global,
     words: &[String],

@@ -1,5 +1,6 @@
 // Lines of Ethernet frames, over a link and a sink in memory, with the items cut in every way.
-use crate::harness::{Talk, Trial, both_of, bytes_of, check_bad_words, check_talks, front};
+// [add: line-kind] A file as this one: exchanges through `run`.
+use crate::harness::{Session, Trial, both_of, bytes_of, check_bad_words, check_sessions, prefix};
 use crate::status::Status;
 use std::test::Fail;
 
@@ -32,7 +33,7 @@ const ANSWER: &str = "\
     002A 020000000001 020000000002 0806 \
     0001 0800 0604 0002 020000000002 0A000002 020000000001 0A000001";
 
-// The echo request with 18 bytes behind it.
+// The echo request with 18 bytes after it.
 const PADDED_PING: &str = "\
     003C 020000000001 020000000002 0800 \
     4500001C 00010000 400166DE 0A000002 0A000001 0800F7FD 00010001 000000000000000000000000000000000000";
@@ -56,7 +57,7 @@ const CUT_REQUEST: &str = "\
 
 #[test]
 fn answers_frames(rt: HostRuntime) -> Result<(), Fail> {
-    let talks: [Talk; 10] = [
+    let sessions: [Session; 10] = [
         (&[REQUEST], &[REPLY]),
         (&[PING], &[QUESTION]),
         (&[REQUEST, PING], &[REPLY, PONG]),
@@ -68,7 +69,7 @@ fn answers_frames(rt: HostRuntime) -> Result<(), Fail> {
         (&[CUT_REQUEST], &[""]),
         (&[RUNT], &[""]),
     ];
-    check_talks(&rt, rt.alloc(), &ETHER, &talks)
+    check_sessions(&rt, rt.alloc(), &ETHER, &sessions)
 }
 
 #[test]
@@ -80,14 +81,14 @@ fn drops_a_long_frame(rt: HostRuntime) -> Result<(), Fail> {
     input.extend_from_slice(&bytes_of(alloc, &[REQUEST])?)?;
     let reply = bytes_of(alloc, &[REPLY])?;
     Trial::new(&ETHER, &input, &reply).check_cuts(&rt, alloc)?;
-    Trial::new(&ETHER, front(&cut, 1000), &[]).check(&rt, alloc, 4096)
+    Trial::new(&ETHER, prefix(&cut, 1000), &[]).check(&rt, alloc, 4096)
 }
 
 #[test]
 fn counts_all_bytes(rt: HostRuntime) -> Result<(), Fail> {
     let alloc = rt.alloc();
     let (asked, known) = both_of(alloc, &[REQUEST, PING], &[REPLY, PONG])?;
-    // At each byte a tick: behind 2400 more the address is forgotten.
+    // Each byte is a tick: after 2400 more the address is forgotten.
     let request = bytes_of(alloc, &[REQUEST])?;
     let mut later = request.clone()?;
     later.extend_from_slice(&[0; 2400])?;
@@ -124,5 +125,5 @@ fn knows_its_words(rt: HostRuntime) -> Result<(), Fail> {
     ];
     check_bad_words(&rt, alloc, REQUEST, &bad)?;
     let upper = ["ether", "-", "10.0.0.1", "02:00:00:00:00:01", "tty"];
-    check_talks(&rt, alloc, &upper, &[(&[REQUEST], &[REPLY])])
+    check_sessions(&rt, alloc, &upper, &[(&[REQUEST], &[REPLY])])
 }

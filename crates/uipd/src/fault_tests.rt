@@ -1,5 +1,5 @@
-// Each call of the shelf, of the link and of the sink fails in turn, from the first on until none fails, and what a datagram is
-// answered with is written before anything more is asked of the line.
+// Each call of the shelf, of the link and of the sink fails in turn, from the first one until none fails. The answer to a
+// datagram is written before the link is read again.
 use crate::ether_tests::{ETHER, REPLY, REQUEST};
 use crate::harness::{IMAGE, Trial, both_of, bytes_of, words_of};
 use crate::run::run;
@@ -15,7 +15,7 @@ const PAGE: &[u8] =
     b"client 10.0.0.2 1025 0 536 get /\nopen 1\nround\nround\nround\nround\nround\nround\nround\nround\nround\n\
     round\nround\nround\n";
 
-/// Whether a run with a call that fails did what is due, and wrote a front of what it writes where none fails.
+/// Checks that a run with a call that fails did what is due, and wrote a prefix of what it writes if none fails.
 fn check(rt: &impl Abort, alloc: Global, trial: &Trial<'_, '_>) -> Result<(), Fail> {
     let ran = trial.run(alloc, 1)?;
     assert_eq!(rt; ran.status, trial.status);
@@ -33,6 +33,7 @@ fn due(call: u64, calls: u64, status: Status) -> Status {
     if call <= calls { status } else { Status::Done }
 }
 
+/// [add: command] A trial of a command, of which each call fails in turn.
 #[test]
 fn each_call_fails_in_turn(rt: HostRuntime) -> Result<(), Fail> {
     let alloc = rt.alloc();
@@ -47,7 +48,7 @@ fn each_call_fails_in_turn(rt: HostRuntime) -> Result<(), Fail> {
         )
     };
     let checked: &[u8] = b"/index.html 86\nfiles 1\n";
-    // What is done, and how many calls of shelf, link and sink are made then.
+    // What is done, and how many calls of shelf, link and sink are made for it.
     let rows = [
         (Trial::new(&SERVE, &ping, &pong), 0, 35, 1),
         (
@@ -97,7 +98,7 @@ fn each_call_fails_in_turn(rt: HostRuntime) -> Result<(), Fail> {
     Ok(())
 }
 
-/// A line, a byte a call, that counts how often it was asked.
+/// A line, a byte a call, that counts its reads.
 #[derive(Drop)]
 struct Counting<'a> {
     line: &'a [u8],
@@ -124,7 +125,7 @@ impl<'a> Link for Counting<'a> {
     }
 }
 
-/// A sink that keeps how often the line had been asked at the first write and at the last.
+/// A sink that stores how often the line had been read at the first write and at the last.
 #[derive(Drop)]
 struct Noting<'a> {
     asked: &'a Cell<usize>,

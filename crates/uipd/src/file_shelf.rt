@@ -10,13 +10,13 @@ use std::io::Read;
 use std::rt::Files;
 use uip_edge::{Failed, Shelf};
 
-/// The size of the block that what stands before a place is read by.
+/// The size of the block by which what is before an offset is read, in bytes.
 const BLOCK: usize = 4096;
 
-/// The most bytes of a name: no path of the system is longer (PATH_MAX).
+/// The greatest length of a name, in bytes: no path of the system is longer (PATH_MAX).
 const LONGEST_NAME: usize = 4096;
 
-/// A file that is being read, and how far.
+/// A file that is being read, and its offset.
 #[derive(Drop)]
 struct OpenFile<F> {
     name: ArrayVec<u8, LONGEST_NAME>,
@@ -24,8 +24,8 @@ struct OpenFile<F> {
     at: u64,
 }
 
-/// The files of the system, by their paths. The last one stays open and goes on where the next call reads on; else the file
-/// is opened anew and read up to the place. A name that is no text is a fault, and so is a file that is not there. No call takes
+/// The files of the system, by their paths. The last one stays open, and continues if the next call reads on. Else the file is
+/// opened again and read up to the offset. A name that is not text is a fault, and so is a missing file. No call allocates
 /// memory.
 #[derive(Drop)]
 pub struct FileShelf<'a, R: Files> {
@@ -35,6 +35,7 @@ pub struct FileShelf<'a, R: Files> {
 }
 
 impl<'a, R: Files> FileShelf<'a, R> {
+    /// Returns the shelf, with no file open.
     pub fn new(rt: &'a R) -> FileShelf<'a, R>
         ensures faults { result.faults ≡ 0 }
     {
@@ -56,7 +57,7 @@ impl<'a, R: Files> Shelf for FileShelf<'a, R> {
         ensures within { IfOk result (λ n. n ≤ length buf.new) }
         ensures cause { HasShelfCause self.old.faults self.new.faults None name.now result }
 
-        // What it reads is what a file at the place lost, where an open file tells what it has left.
+        // What it reads is what a file at the offset lost, if an open file's content is known.
         ensures bytes { IfOk result (λ n. ReadsOn R.File.remaining self.old.last self.new.last name.now at n buf.new) }
     {
         match read_on(self.rt, &mut self.last, name, at, buf) {
@@ -69,7 +70,7 @@ impl<'a, R: Files> Shelf for FileShelf<'a, R> {
     }
 }
 
-/// Reads on in the last file, if the place is its own, else in the file anew.
+/// Reads on in the last file, if the offset is its own; else opens the file again.
 fn read_on<R: Files>(
     rt: &R,
     last: &mut Option<OpenFile<R::File>>,
@@ -92,7 +93,7 @@ fn read_on<R: Files>(
     Some(count)
 }
 
-/// Opens a file and reads up to the place.
+/// Opens a file and reads up to the offset.
 fn open_at<R: Files>(rt: &R, name: &[u8], at: u64) -> Option<OpenFile<R::File>>
     ensures place { IfSome result (λ file. (file.name.items ≡ name.now) × (file.at ≡ at)) }
     ensures passed { IfSome result (λ file. (opened : R.File) × Passes (R.File.remaining opened) (R.File.remaining file.file) at) }
@@ -109,7 +110,7 @@ fn open_at<R: Files>(rt: &R, name: &[u8], at: u64) -> Option<OpenFile<R::File>>
     })
 }
 
-/// Reads so many bytes and drops them, as far as there are any.
+/// Reads this number of bytes and discards them, as far as there are any.
 fn pass<F: Read>(file: &mut F, bytes: u64) -> Option<()>
     ensures { IfSome result (λ _. Passes (F.remaining file.old) (F.remaining file.new) bytes) }
 {

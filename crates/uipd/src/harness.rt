@@ -1,4 +1,4 @@
-// One run of the program: its files, its line and its sinks in memory, and what has to come of it.
+// One run of the program: its files, its line and its sinks in memory, and its expected result.
 use crate::run_told::run_told;
 use crate::status::Status;
 use site_commands::{SiteError, SiteWhy};
@@ -10,7 +10,7 @@ use uip_edge::{Held, Item, MemLink, MemShelf, MemSink};
 /// The image of a site of one file.
 pub const IMAGE: &[u8] = b"UIPSITE1\0\x01\x0b/index.html\0\0\0\x06hello\n";
 
-/// The bytes of texts in hex digits, one behind the other.
+/// Returns the bytes of texts in hex digits, one after the other.
 pub fn bytes_of(alloc: Global, texts: &[&str]) -> Result<Vec<u8>, Fail> {
     let mut digits = String::new(alloc);
     for text in texts {
@@ -25,23 +25,23 @@ pub fn bytes_of(alloc: Global, texts: &[&str]) -> Result<Vec<u8>, Fail> {
     )
 }
 
-/// The bytes of two such lists, mostly of what comes and of what is written for it.
+/// Returns the bytes of two such lists, mostly the input and the output.
 pub fn both_of(alloc: Global, one: &[&str], other: &[&str]) -> Result<(Vec<u8>, Vec<u8>), Fail> {
     Ok((bytes_of(alloc, one)?, bytes_of(alloc, other)?))
 }
 
-/// So many bytes of the front of a text.
-pub fn front(text: &[u8], len: usize) -> &[u8] {
+/// Returns a prefix of a text, of this length.
+pub fn prefix(text: &[u8], len: usize) -> &[u8] {
     &text[..len.min(text.len())]
 }
 
-/// The answer to a bad image.
+/// Returns the status for a bad image.
 pub fn bad(why: SiteWhy, entry: u32) -> Status {
     Status::BadSite(SiteError { why, entry })
 }
 
-/// A run over the files `h` and `i` and a line: the calls of the shelf, of the link and of the sink that fail, the sink's room,
-/// and what it has to write, to tell and to answer.
+/// A run over the files `h` and `i` and a line: the calls of the shelf, of the link and of the sink that fail, the sink's room
+/// in bytes, and what it has to write, report and return.
 #[derive(Clone, Copy, Drop)]
 pub struct Trial<'w, 'a> {
     pub words: &'w [&'w str],
@@ -59,7 +59,7 @@ pub struct Trial<'w, 'a> {
     pub status: Status,
 }
 
-/// What came of a run.
+/// The result of a run.
 #[derive(Drop)]
 pub struct Ran {
     pub status: Status,
@@ -74,6 +74,7 @@ fn held(alloc: Global, name: &[u8], content: &[u8]) -> Result<Held, AllocError> 
     })
 }
 
+/// Returns the words of a command line.
 pub fn words_of(alloc: Global, words: &[&str]) -> Result<Vec<String>, AllocError> {
     let mut list = Vec::new(alloc);
     for word in words {
@@ -90,7 +91,7 @@ fn sink(alloc: Global, room: usize, fails: &[u64]) -> Result<MemSink, Fail> {
 }
 
 impl<'w, 'a> Trial<'w, 'a> {
-    /// Words that are done: what comes over the line, and what is written.
+    /// Returns a trial of words that are done: its input over the line, and its output.
     pub fn new(words: &'w [&'w str], input: &'a [u8], output: &'a [u8]) -> Trial<'w, 'a> {
         Trial {
             words,
@@ -108,7 +109,7 @@ impl<'w, 'a> Trial<'w, 'a> {
         }
     }
 
-    /// Words over the file `h` and no line.
+    /// Returns a trial of words over the file `h` and no line.
     pub fn over(
         words: &'w [&'w str],
         h: &'a [u8],
@@ -121,7 +122,7 @@ impl<'w, 'a> Trial<'w, 'a> {
         }
     }
 
-    /// The same with another answer.
+    /// Returns the same trial with another status.
     pub fn ending(self, status: Status) -> Trial<'w, 'a> {
         Trial { status, ..self }
     }
@@ -144,7 +145,7 @@ impl<'w, 'a> Trial<'w, 'a> {
         Ok(MemLink::new(items, most.max(1), self.link_fails.to_vec(alloc)?))
     }
 
-    /// Runs with so many bytes a call of the link.
+    /// Runs with at most `most` bytes per read of the link.
     pub fn run(&self, alloc: Global, most: usize) -> Result<Ran, Fail> {
         let words = words_of(alloc, self.words)?;
         let mut shelf = self.shelf(alloc)?;
@@ -155,6 +156,7 @@ impl<'w, 'a> Trial<'w, 'a> {
         Ok(Ran { status, out, tell })
     }
 
+    /// Runs with at most `most` bytes per read of the link, and checks the result.
     pub fn check(&self, rt: &impl Abort, alloc: Global, most: usize) -> Result<(), Fail> {
         let ran = self.run(alloc, most)?;
         assert_eq!(rt; ran.status, self.status);
@@ -171,7 +173,7 @@ impl<'w, 'a> Trial<'w, 'a> {
         Ok(())
     }
 
-    /// Whether what is written has this line.
+    /// Returns whether the output has this line.
     pub fn shows(&self, alloc: Global, line: &str) -> Result<bool, Fail> {
         let ran = self.run(alloc, 1)?;
         match str::from_utf8(ran.out.written()) {
@@ -189,24 +191,24 @@ pub fn check_all(rt: &impl Abort, alloc: Global, trials: &[Trial<'_, '_>]) -> Re
     Ok(())
 }
 
-/// What comes over a line, and what is sent, each in pieces in hex digits.
-pub type Talk<'a> = (&'a [&'a str], &'a [&'a str]);
+/// The input of a line, and what is sent, each in pieces in hex digits.
+pub type Session<'a> = (&'a [&'a str], &'a [&'a str]);
 
-/// Does a run with these words for each talk, with its items cut in every way.
-pub fn check_talks<'w>(
+/// Runs these words for each session, with its items cut in every way.
+pub fn check_sessions<'w>(
     rt: &impl Abort,
     alloc: Global,
     words: &'w [&'w str],
-    talks: &[Talk<'_>],
+    sessions: &[Session<'_>],
 ) -> Result<(), Fail> {
-    for (heard, sent) in talks {
+    for (heard, sent) in sessions {
         let (heard, sent) = both_of(alloc, heard, sent)?;
         Trial::new(words, &heard, &sent).check_cuts(rt, alloc)?;
     }
     Ok(())
 }
 
-/// Words that no command has do nothing, whatever comes over the line.
+/// Checks that words that no command has do nothing, whatever the line brings.
 pub fn check_bad_words(
     rt: &impl Abort,
     alloc: Global,

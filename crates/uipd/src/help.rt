@@ -1,10 +1,12 @@
-ghost use Rattle.uip_edge.specs.Telling.{sink_told};
+//! The texts of the program.
+
+ghost use Rattle.uip_edge.specs.ViewsOf.{sink_view};
 ghost use Rattle.uipd.specs.Help.{Shows};
 
 use crate::status::Status;
 use uip_edge::Sink;
 
-/// What `--help` writes: each command in a line, the statuses, and where more stands.
+/// The text of `--help`: each command in a line, the statuses, and where to read more.
 pub(crate) const HELP: &[u8] = b"\
 uipd: ping and web pages over a serial line (SLIP), from one small stack
 
@@ -33,12 +35,12 @@ Exit status: 0 done, 1 no such words, 2 a file failed, 3 the line failed, 4 the 
 Read more: man uipd, README.md, docs/FORMATS.md, docs/LIMITS.md
 ";
 
-/// What `--version` writes.
-pub(crate) const VERSION: &[u8] = b"uipd 1.0\n";
+/// The text of `--version`.
+pub(crate) const VERSION: &[u8] = b"uipd 1.1\n";
 
-/// Writes a text of the program's own.
+/// Writes a text of the program.
 pub(crate) fn show<K: Sink>(text: &[u8], out: &mut K) -> Status
-    ensures { Shows text.now (sink_told K.Sink out.old) (sink_told K.Sink out.new) result }
+    ensures { Shows text.now (sink_view K.Sink out.old) (sink_view K.Sink out.new) result }
 {
     match out.write_whole(text) {
         Ok(()) => Status::Done,

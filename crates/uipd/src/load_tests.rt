@@ -1,4 +1,4 @@
-// The schedules that seeds make, played by the site of the file `h`. The line of the first was worked out apart from this code.
+// The schedules of seeds, played by the site of the file `h`. The first one's line was worked out without this code.
 use crate::harness::{IMAGE, Trial, bad, check_all, check_bad_words};
 use crate::status::Status;
 use crate::tests::PING;

@@ -1,6 +1,6 @@
-//! The program `uipd`: it serves a line, works on the images of sites and plays schedules. It reads its words, and reaches its files,
-//! its line and its output through the traits of `uip_edge` alone, so that everything it does is said of `run_told`.
-//! This file only makes the real adapters and turns the answer of `run_told` into the process's status.
+//! The program `uipd`: it serves a line, works on images of sites and plays schedules. It reads its words, and reaches its
+//! files, its line and its output only through the traits of `uip_edge`, so the contracts of `run_told` cover all that it does.
+//! This file makes the real adapters and turns the result of `run_told` into the process's exit status.
 #![tactic(auto)]
 
 #[cfg(test)]
@@ -42,8 +42,8 @@ use status::Status;
 use std::process::ExitCode;
 use std::{env, io};
 
-/// Reads the words behind the program's name and does what they say, over the files of the system, standard input, standard output,
-/// and standard error for what is told beside the output.
+/// Reads the words after the program's name and does what they ask for, over the files of the system, standard input, standard
+/// output, and standard error for what is reported beside the output.
 fn run_words(rt: HostRuntime) -> io::Result<Status> {
     let mut words = Vec::new(rt.alloc());
     for word in env::args(&rt)?.skip(1) {
@@ -60,7 +60,7 @@ fn run_words(rt: HostRuntime) -> io::Result<Status> {
     ))
 }
 
-/// The status where the words could not be read: words that are not text are no words of the program.
+/// Returns the status if the words could not be read: words that are not text are none of the program's.
 fn unread(error: &io::Error) -> Status {
     match error.kind() {
         io::ErrorKind::OutOfMemory => Status::NoMemory,

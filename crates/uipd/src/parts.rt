@@ -1,14 +1,16 @@
+//! Words of two parts, `NAME=FILE` and `NAME=TYPE`.
+
 ghost use Rattle.std.specs.Prelude.{◌≡◌, map, string_bytes, IfOk};
 ghost use Rattle.std.specs.List.{list_all};
-ghost use Rattle.uipd.specs.Words.{back_part, front_part, has_parts as has_two, is_kind_word as kind_form, kind_word as kind_meant, named_file as file_meant};
+ghost use Rattle.uipd.specs.Words.{back_part, prefix_slice, has_parts as has_two, is_kind_word as kind_form, kind_word as kind_meant, named_file as file_meant};
 
 use site_commands::{KindWord, NamedFile};
 use site_image::is_kind;
 use std::alloc::{AllocError, Global};
 
-/// The parts of a word around its first `=`; without one they are the whole word and nothing.
+/// Returns the parts of a word around its first `=`; without one, the whole word and nothing.
 fn parts(word: &str) -> (&str, &str)
-    ensures front { result.0.now ≡ front_part word.now }
+    ensures prefix { result.0.now ≡ prefix_slice word.now }
     ensures back { result.1.now ≡ back_part word.now }
 {
     match word.split_once('=') {
@@ -17,14 +19,14 @@ fn parts(word: &str) -> (&str, &str)
     }
 }
 
-/// Whether the word has two parts.
+/// Returns whether the word has two parts.
 fn has_parts(word: &str) -> bool
     ensures { result ≡ has_two word.now }
 {
     word.as_bytes().contains(&b'=')
 }
 
-/// Whether each word has two parts.
+/// Returns whether each word has two parts.
 pub fn have_parts(words: &[String]) -> bool
     ensures { result ≡ list_all has_two (map string_bytes words.now) }
 {
@@ -36,7 +38,7 @@ pub fn have_parts(words: &[String]) -> bool
     true
 }
 
-/// Whether the word is `NAME=TYPE`.
+/// Returns whether the word is `NAME=TYPE`.
 fn is_kind_word(word: &str) -> bool
     ensures { result ≡ kind_form word.now }
 {
@@ -44,7 +46,7 @@ fn is_kind_word(word: &str) -> bool
     has_parts(word) && !kind.is_empty() && is_kind(kind.as_bytes())
 }
 
-/// Whether each word is `NAME=TYPE`.
+/// Returns whether each word is `NAME=TYPE`.
 pub fn are_kind_words(words: &[String]) -> bool
     ensures { result ≡ list_all kind_form (map string_bytes words.now) }
 {
@@ -56,7 +58,7 @@ pub fn are_kind_words(words: &[String]) -> bool
     true
 }
 
-/// The file that a word names.
+/// Returns the file that a word names.
 fn named_file(alloc: Global, word: &str) -> Result<NamedFile, AllocError>
     ensures { IfOk result (λ file. file ≡ file_meant word.now) }
 {
@@ -67,7 +69,7 @@ fn named_file(alloc: Global, word: &str) -> Result<NamedFile, AllocError>
     })
 }
 
-/// The files that the words name.
+/// Returns the files that the words name.
 pub fn named_files(alloc: Global, words: &[String]) -> Result<Vec<NamedFile>, AllocError>
     ensures { IfOk result (λ files. files.items ≡ map file_meant (map string_bytes words.now)) }
 {
@@ -78,7 +80,7 @@ pub fn named_files(alloc: Global, words: &[String]) -> Result<Vec<NamedFile>, Al
     Ok(files)
 }
 
-/// The content type that a word gives.
+/// Returns the content type that a word gives.
 fn kind_word(alloc: Global, word: &str) -> Result<KindWord, AllocError>
     ensures { IfOk result (λ kind. kind ≡ kind_meant word.now) }
 {
@@ -89,7 +91,7 @@ fn kind_word(alloc: Global, word: &str) -> Result<KindWord, AllocError>
     })
 }
 
-/// The content types that the words give.
+/// Returns the content types that the words give.
 pub fn kind_words(alloc: Global, words: &[String]) -> Result<Vec<KindWord>, AllocError>
     ensures { IfOk result (λ kinds. kinds.items ≡ map kind_meant (map string_bytes words.now)) }
 {

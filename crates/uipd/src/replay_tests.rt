@@ -6,7 +6,7 @@ use link_replay::Why;
 use site_commands::SiteWhy;
 use std::test::Fail;
 
-// A client gets a page.
+// A client receives a page.
 const PAGE: &[u8] =
     b"client 10.0.0.2 1025 0 536 get /\nopen 1\nround\nround\nround\nround\nround\nround\nround\nround\nround\n\
     round\nround\nround\n";
@@ -25,7 +25,7 @@ const RAW: &[u8] =
     b"client 10.0.0.2 1025 0 1 raw 504f5354202f20\nopen 1\nround\nround\nround\nround\nround\nround\nround\nround\n\
     round\nround\nround\nround\nround\nround\n";
 
-// The SYN comes again when the connection is long gone.
+// The SYN arrives again long after the connection has ended.
 const LATE_SYN: &[u8] =
     b"client 10.0.0.2 1025 0 536 get /\nclient 10.0.0.3 1025 0 536 get /\nopen 1\nround\nround\nround\nround\n\
     round\nround\nround\nround\nround\nround\nround\nround\ntick 120\ngive 1\n";
@@ -35,7 +35,7 @@ const SHRUNK_WINDOW: &[u8] =
     b"client 10.0.0.2 1025 0 536 get /\nopen 1\nround\nround\nround\nround\nround\nlose\nwindow 1 40\nagain 1\n\
     round\ntick 4\nround\nround\nround\nround\nround\nround\nround\n";
 
-// The counters change before their text is sent again.
+// The counters change before their text is retransmitted.
 const GENERATOR_AGAIN: &[u8] =
     b"client 10.0.0.2 1025 0 536 get /s.shtml\nopen 1\nround\nround\nround\nround\nround\nlose\nping 10.0.0.9\n\
     ping 10.0.0.9\nround\ntick 4\nround\nround\nround\nround\nround\nround\nround\n";
@@ -49,7 +49,7 @@ const FULL_TABLE: &[u8] =
     open 6\nopen 7\nopen 8\nopen 9\nopen 10\nopen 11\nround\nround\ngive 22\ngive 32\ngive 33\ngive 34\ngive 35\n\
     give 36\ngive 37\ngive 38\ngive 39\ngive 40\n";
 
-// A segment and an acknowledgement come again.
+// A segment and an acknowledgement arrive again.
 const REPEATS: &[u8] =
     b"client 10.0.0.2 1025 0 536 get /\nopen 1\nround\nround\nround\nround\ngive 4\nround\nround\nround\ngive 5\n\
     round\nround\nround\nround\nround\n";
@@ -64,7 +64,7 @@ const CLIENT_FIRST: &[u8] =
     b"client 10.0.0.2 1025 0 536 get /\nopen 1\nround\nround\nround\nround\nclose 1\ngive 6\ngive 7\ngive 8\n\
     give 9\ngive 10\ngive 11\ngive 12\n";
 
-// The page is damaged, and sent again.
+// The page is damaged, and retransmitted.
 const DAMAGED: &[u8] =
     b"client 10.0.0.2 1025 0 536 get /\nopen 1\nround\nround\nround\ndamage 4 45 1\nlose\ntick 4\nround\nround\n\
     round\nround\nround\n";
@@ -79,11 +79,12 @@ const TWO: &[u8] =
     round\nround\nround\nround\nround\nround\nround\nround\nround\nround\nround\nround\nopen 2\nround\nround\nround\n\
     round\nround\nround\nround\nround\nround\nround\nround\nround\nround\nround\n";
 
+/// A site whose page has all counters, twice. [add: counter]
 const STATISTICS: &[u8] = b"UIPSITE1\0\x01\x08/s.shtml\0\0\0\x1a%! net-stats\n%! net-stats\n";
 
 const CONNECTIONS: &[u8] = b"UIPSITE1\0\x01\x08/t.shtml\0\0\0\x13%! tcp-connections\n";
 
-// The front of the image of a site of 1000 bytes.
+// The start of the image of a site of 1000 bytes.
 const LARGE_FRONT: &[u8] = b"UIPSITE1\0\x01\x0b/index.html\0\0\x03\xe8";
 
 const FULL_TABLE_REPORT: &[u8] =
@@ -108,6 +109,7 @@ fn refused<'a>(schedule: &'a [u8], told: &'a [u8], line: u32, why: Why) -> Trial
     replaying(IMAGE, schedule, told).ending(Status::BadSchedule { line, why })
 }
 
+/// [add: schedule-line] A schedule with the line, and its report.
 #[test]
 fn replays_a_page(rt: HostRuntime) -> Result<(), Fail> {
     let closed: &[u8] = b"client 1 closed 86 clean\nticks 0 datagrams 8\n";
@@ -164,7 +166,7 @@ fn replays_a_page(rt: HostRuntime) -> Result<(), Fail> {
     check_all(&rt, rt.alloc(), &rows)
 }
 
-// The eleventh SYN takes the slot of a connection in TIME-WAIT, and a late datagram of that connection comes.
+// The eleventh SYN gets the slot of a connection in TIME-WAIT, and a late datagram of that connection arrives.
 const ELEVENTH: &[u8] =
     b"client 10.0.0.2 1025 0 536 get /\nclient 10.0.0.2 1026 0 536 get /\nclient 10.0.0.2 1027 0 536 get /\n\
     client 10.0.0.2 1028 0 536 get /\nclient 10.0.0.2 1029 0 536 get /\nclient 10.0.0.2 1030 0 536 get /\n\
@@ -178,7 +180,7 @@ const ELEVENTH_REPORT: &[u8] =
     client 5 closed 86 clean\nclient 6 closed 86 clean\nclient 7 closed 86 clean\nclient 8 closed 86 clean\n\
     client 9 closed 86 clean\nclient 10 closed 86 clean\nclient 11 closed 86 clean\nticks 0 datagrams 89\n";
 
-// The client gives up, and what it sent before comes later.
+// The client gives up, and what it sent before arrives later.
 const GIVEN_UP: &[u8] =
     b"client 10.0.0.2 1025 0 536 get /\nopen 1\nround\nround\nround\nabort 1\ngive 5\ngive 4\n";
 
@@ -243,7 +245,7 @@ fn shows_a_line_of_the_report(rt: HostRuntime) -> Result<(), Fail> {
     Ok(())
 }
 
-// Where every number is used, one more datagram is refused.
+// If every number is used, one more datagram is refused.
 #[test]
 fn refuses_what_has_no_number(rt: HostRuntime) -> Result<(), Fail> {
     let alloc = rt.alloc();

@@ -1,7 +1,9 @@
+//! `replay` and `load`.
+
 ghost use Rattle.std.specs.Prelude.{◌≡◌, ◌≤◌};
 ghost use Rattle.link_replay.specs.Ending.{LoadEnds, ReplayEnds};
 ghost use Rattle.uipd.specs.Statuses.{RunsAs, status_of_replay};
-ghost use Rattle.uip_edge.specs.Telling.{work_told};
+ghost use Rattle.uip_edge.specs.ViewsOf.{work_view};
 
 use crate::status::Status;
 use link_replay::{load, replay};
@@ -17,8 +19,8 @@ pub fn replay_site<H: Shelf, K: Sink>(
     shelf: &mut H,
     out: &mut K,
 ) -> Status
-    ensures runs { RunsAs status_of_replay (ReplayEnds site.now schedule.now show (work_told H.Shelf K.Sink shelf.old out.old)
-        (work_told H.Shelf K.Sink shelf.new out.new)) result }
+    ensures runs { RunsAs status_of_replay (ReplayEnds site.now schedule.now show (work_view H.Shelf K.Sink shelf.old out.old)
+        (work_view H.Shelf K.Sink shelf.new out.new)) result }
     ensures kept { H.held shelf.new ≡ H.held shelf.old }
 {
     Status::from(replay(
@@ -31,7 +33,7 @@ pub fn replay_site<H: Shelf, K: Sink>(
     ))
 }
 
-/// Plays the schedule that the seed makes by the web server of the site, and writes what it came to; `-` is the site without files.
+/// Plays the schedule of the seed by the web server of the site, and writes its result; `-` is the site without files.
 pub fn load_site<H: Shelf, K: Sink>(
     alloc: Global,
     site: &str,
@@ -42,8 +44,8 @@ pub fn load_site<H: Shelf, K: Sink>(
 ) -> Status
     requires some { 1 ≤ clients }
     requires few { clients ≤ 64 }
-    ensures runs { RunsAs status_of_replay (LoadEnds site.now seed clients (work_told H.Shelf K.Sink shelf.old out.old)
-        (work_told H.Shelf K.Sink shelf.new out.new)) result }
+    ensures runs { RunsAs status_of_replay (LoadEnds site.now seed clients (work_view H.Shelf K.Sink shelf.old out.old)
+        (work_view H.Shelf K.Sink shelf.new out.new)) result }
     ensures kept { H.held shelf.new ≡ H.held shelf.old }
 {
     Status::from(load(alloc, site.as_bytes(), seed, clients, shelf, out))

@@ -6,7 +6,7 @@ use std::alloc::Global;
 use std::test::Fail;
 use uip_edge::{MemLink, MemShelf, MemSink};
 
-// The frame of the query for a.b from 10.0.0.1 to 10.0.0.2 under the id 1, and that of a reply with the address 192.0.2.7.
+// The frame of the query for a.b from 10.0.0.1 to 10.0.0.2 with the id 1, and that of a reply with the address 192.0.2.7.
 pub const QUERY: &str = "\
     C0 45000031 00010000 401166B9 0A000001 0A000002 10000035 001DD5B7 \
     00010100 00010000 00000000 01610162 00000100 01 C0";
@@ -26,7 +26,7 @@ fn tells_the_address_for_every_cut(rt: HostRuntime) -> Result<(), Fail> {
         ..Trial::new(&WORDS, &reply, &query)
     };
     good.check_cuts(&rt, alloc)?;
-    // A reply under the id 2.
+    // A reply with the id 2.
     let mut other = reply.clone()?;
     if let Some(id) = other.get_mut(30) {
         *id = 2;
@@ -39,7 +39,7 @@ fn tells_the_address_for_every_cut(rt: HostRuntime) -> Result<(), Fail> {
     ignored.check_cuts(&rt, alloc)
 }
 
-/// The frames of the query under the identifications 1 to 9.
+/// Returns the frames of the query with the identifications 1 to 9.
 fn nine_queries(alloc: Global) -> Result<Vec<u8>, Fail> {
     let mut frames = Vec::new(alloc);
     for at in 0..9u8 {

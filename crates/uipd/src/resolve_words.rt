@@ -1,3 +1,5 @@
+//! The words of `resolve`.
+
 ghost use Rattle.std.specs.Prelude.{◌≡◌, map, option_map, string_bytes};
 ghost use Rattle.uipd.specs.ResolveWords as meant;
 
@@ -7,8 +9,9 @@ use std::marker::Model;
 use udp_resolver::{MOST_NAMES, Name};
 use uip_wire::Addr;
 
-/// What the words of `resolve` ask for: to ask a server at an address for names, the first of them under this id, up to so many
-/// items.
+/// What the words of `resolve` ask for: to query a server at an address for names, the first of them with this id. At most
+/// `items` items are consumed.
+/// [add: told-command] What its words ask for.
 #[derive(Drop)]
 pub struct Resolving {
     pub own: Addr,
@@ -26,7 +29,7 @@ impl Model for Resolving {
     ghost view = { λ r. record { own = r.own; server = r.server; id = r.id; names = r.names.items; items = r.items } };
 }
 
-/// What words ask for that begin with `resolve`, if they have its form.
+/// Parses words that begin with `resolve`, if they have its form.
 pub fn resolving_of(words: &[String]) -> Option<Resolving>
     ensures { result ≡ meant.resolving_of (map string_bytes words.now) }
 {
@@ -36,7 +39,7 @@ pub fn resolving_of(words: &[String]) -> Option<Resolving>
     }
 }
 
-/// The words behind `resolve`: `OWN SERVER ID`, and further words.
+/// Parses the words after `resolve`: `OWN SERVER ID`, and further words.
 fn resolve_words(words: &[String]) -> Option<Resolving>
     ensures { result ≡ meant.resolve_words (map string_bytes words.now) }
 {
@@ -46,7 +49,7 @@ fn resolve_words(words: &[String]) -> Option<Resolving>
     }
 }
 
-/// Optionally `items N`, then the names, then optionally `tty`.
+/// Parses optionally `items N`, then the names, then optionally `tty`.
 fn asked_by(own: &str, server: &str, id: &str, words: &[String]) -> Option<Resolving>
     ensures { result ≡ meant.asked_by own.now server.now id.now (map string_bytes words.now) }
 {
@@ -61,7 +64,7 @@ fn asked_by(own: &str, server: &str, id: &str, words: &[String]) -> Option<Resol
     }
 }
 
-/// The addresses, the id, the number of items and the words behind it.
+/// Parses the addresses, the id, the number of items and the words after it.
 fn asked_at(own: &str, server: &str, id: &str, items: u64, words: &[String]) -> Option<Resolving>
     ensures { result ≡ meant.asked_at own.now server.now id.now items (map string_bytes words.now) }
 {
@@ -74,7 +77,7 @@ fn asked_at(own: &str, server: &str, id: &str, items: u64, words: &[String]) -> 
     })
 }
 
-/// The words in front of a last `tty`, at which `main` looks.
+/// Returns the words before a last `tty`, which `main` reads.
 fn without_tty(words: &[String]) -> &[String]
     ensures { map string_bytes result.now ≡ meant.without_tty (map string_bytes words.now) }
 {
@@ -85,7 +88,7 @@ fn without_tty(words: &[String]) -> &[String]
     }
 }
 
-/// One to four names.
+/// Parses one to four names.
 fn names_of(words: &[String]) -> Option<ArrayVec<Name, MOST_NAMES>>
     ensures { option_map (λ names. names.items) result ≡ meant.names_of (map string_bytes words.now) }
 {

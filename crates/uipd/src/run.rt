@@ -1,7 +1,9 @@
+//! The commands, but `resolve`.
+
 ghost use Rattle.std.specs.Prelude.{◌≡◌, map, string_bytes};
 ghost use Rattle.uipd.specs.Completeness.{RunIsComplete};
 ghost use Rattle.uipd.specs.Running.{Runs};
-ghost use Rattle.uip_edge.specs.Telling.{outside};
+ghost use Rattle.uip_edge.specs.ViewsOf.{outside};
 ghost use Rattle.uipd.specs.declared.status.Status.TheVariants.{BadWords};
 
 use crate::help::show;
@@ -14,7 +16,8 @@ use std::alloc::Global;
 use trace::{dump, pcap, slip};
 use uip_edge::{Link, Shelf, Sink};
 
-/// Does what the words say.
+/// Does what the words ask for, and returns how it ended.
+/// [add: command] An arm that calls its work; the work is in a file of its own, or in a crate below.
 pub fn run<H: Shelf, L: Link, K: Sink>(
     alloc: Global,
     words: &[String],
@@ -48,7 +51,7 @@ pub fn run<H: Shelf, L: Link, K: Sink>(
     }
 }
 
-/// Where no count rose and no file is missing, what is due for the words was done, or memory was short.
+/// If no fault count rises and no file is missing, what is due for the words was done, or memory ran out.
 pub fn run_is_complete()
     ensures { RunIsComplete }
 {}

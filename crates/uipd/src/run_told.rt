@@ -1,10 +1,12 @@
+//! All commands, with `resolve`.
+
 ghost use Rattle.std.specs.Prelude.{◌≡◌, None, map, string_bytes};
 ghost use Rattle.udp_resolver.specs.Streams.{streams};
 ghost use Rattle.uipd.specs.ResolveWords.{resolving_of};
 ghost use Rattle.uipd.specs.ToldCompleteness.{ToldIsComplete};
 ghost use Rattle.uipd.specs.ToldRunning.{ResolveRuns, ToldRuns};
 ghost use Rattle.uipd.specs.declared.status.Status.TheVariants.{BadWords};
-ghost use Rattle.uip_edge.specs.Telling.{outside};
+ghost use Rattle.uip_edge.specs.ViewsOf.{outside};
 
 use crate::resolve_words::{Resolving, resolving_of};
 use crate::run::run;
@@ -15,7 +17,8 @@ use udp_resolver::resolve;
 use uip_edge::{Link, Shelf, Sink};
 use uip_wire::LARGEST_DATAGRAM;
 
-/// Does what the words say, those of `resolve` too. What became of the names is told at a sink of its own.
+/// Does what the words ask for, those of `resolve` too. The fate of each name is reported at a sink of its own.
+/// [add: told-command] Its arm.
 pub fn run_told<H: Shelf, L: Link, K: Sink, T: Sink>(
     alloc: Global,
     words: &[String],
@@ -40,7 +43,7 @@ pub fn run_told<H: Shelf, L: Link, K: Sink, T: Sink>(
     }
 }
 
-/// Asks for names. Memory is taken before the first query alone.
+/// Resolves names. Allocates only before the first query.
 fn resolve_names<L: Link, K: Sink, T: Sink>(
     alloc: Global,
     resolving: &Resolving,
@@ -69,8 +72,8 @@ fn resolve_names<L: Link, K: Sink, T: Sink>(
     }
 }
 
-/// Where no count rose and no file is missing, what is due for the words was done, those of `resolve` among them, or memory was
-/// short.
+/// If no fault count rises and no file is missing, what is due for the words was done, those of `resolve` included, or memory
+/// ran out.
 pub fn run_told_is_complete()
     ensures { ToldIsComplete }
 {}

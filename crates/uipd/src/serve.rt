@@ -7,7 +7,7 @@ ghost use Rattle.file_tree.specs.Site.{IsLoaded, files_of};
 ghost use Rattle.web_pages.specs.Serving.{no_hits};
 ghost use Rattle.uipd.specs.Serving.{RunsBy, ServeRuns};
 ghost use Rattle.uipd.specs.SiteServing.{SiteServes};
-ghost use Rattle.uip_edge.specs.Telling.{line_told, outside};
+ghost use Rattle.uip_edge.specs.ViewsOf.{line_view, outside};
 
 use crate::status::Status;
 use crate::words::{Application, Limits, LineKind, ServedLine};
@@ -22,8 +22,8 @@ use uip_edge::{Link, Shelf, Sink};
 use uip_node::Node;
 use uip_wire::Addr;
 
-/// Serves the line by the application that it names, with the site that the shelf holds under the name; `-` is the site without
-/// files. Memory is taken before the first item alone.
+/// Serves the line by its application, with the site that the shelf holds under the name; `-` is the site without files.
+/// Allocates only before the first item.
 pub fn serve<H: Shelf, L: Link, K: Sink>(
     alloc: Global,
     name: &[u8],
@@ -51,8 +51,8 @@ fn serve_site<L: Link, K: Sink>(
     link: &mut L,
     out: &mut K,
 ) -> Status
-    ensures { ServeRuns (files_of site) line (line_told L.Link K.Sink link.old out.old)
-        (line_told L.Link K.Sink link.new out.new) result }
+    ensures { ServeRuns (files_of site) line (line_view L.Link K.Sink link.old out.old)
+        (line_view L.Link K.Sink link.new out.new) result }
 {
     see_loaded(&site);
     match Web::new(alloc, site) {
@@ -61,7 +61,7 @@ fn serve_site<L: Link, K: Sink>(
     }
 }
 
-/// What is kept by every site.
+/// States what holds for every site.
 fn see_loaded(site: &Site)
     ensures loaded { IsLoaded site.now }
     ensures bytes { All IsByte site.now.image }
@@ -69,19 +69,20 @@ fn see_loaded(site: &Site)
     see_bytes(&site.image);
 }
 
-/// A text is bytes.
+/// States that a text is bytes.
 fn see_bytes(text: &[u8])
     ensures { All IsByte text.now }
 {}
 
-/// An address is four bytes.
+/// States that an address is four bytes.
 fn see_addr(addr: Addr)
     ensures { IsAddr addr }
 {
     let [_first, _second, _third, _fourth] = addr.0;
 }
 
-/// Serves the line with a site of which no file was asked for.
+/// Serves the line with a site of which no file was requested.
+/// [add: application] The arm that makes its node.
 fn serve_web<L: Link, K: Sink>(
     alloc: Global,
     web: Web,
@@ -92,8 +93,8 @@ fn serve_web<L: Link, K: Sink>(
     requires hits { web.hits ≡ no_hits (files_of web.site) }
     requires loaded { IsLoaded web.site }
     requires bytes { All IsByte web.site.image }
-    ensures { ServeRuns (files_of web.site) line (line_told L.Link K.Sink link.old out.old)
-        (line_told L.Link K.Sink link.new out.new) result }
+    ensures { ServeRuns (files_of web.site) line (line_view L.Link K.Sink link.old out.old)
+        (line_view L.Link K.Sink link.new out.new) result }
 {
     see_addr(line.own);
     match line.application {
@@ -102,8 +103,8 @@ fn serve_web<L: Link, K: Sink>(
     }
 }
 
-/// Serves the line by a node with an application. It is a call of its own also when built, so that what it keeps has no place in
-/// the frame of `run`.
+/// Serves the line by a node with an application. It is not inlined, so that the frame of `run` does not hold what it stores.
+/// [add: line-kind] The arm that makes its medium.
 #[inline(never)]
 fn serve_by<A: App, L: Link, K: Sink>(
     alloc: Global,
@@ -112,8 +113,8 @@ fn serve_by<A: App, L: Link, K: Sink>(
     link: &mut L,
     out: &mut K,
 ) -> Status
-    ensures { RunsBy (A.meaning (A.kept shared)) A.served (A.numbers shared) line (line_told L.Link K.Sink link.old out.old)
-        (line_told L.Link K.Sink link.new out.new) result }
+    ensures { RunsBy (A.app_spec (A.config shared)) A.served (A.numbers shared) line (line_view L.Link K.Sink link.old out.old)
+        (line_view L.Link K.Sink link.new out.new) result }
 {
     let Limits { pace, items } = line.limits;
     match Node::<A>::new(alloc, line.own, shared) {

@@ -24,7 +24,7 @@ fn checking<'a>(h: &'a [u8], output: &'a [u8], status: Status) -> Trial<'static,
 }
 
 #[test]
-fn checks_each_front_of_an_image(rt: HostRuntime) -> Result<(), Fail> {
+fn checks_each_prefix_of_an_image(rt: HostRuntime) -> Result<(), Fail> {
     for len in 0..=IMAGE.len() {
         let (output, status): (&[u8], Status) = match len {
             0..=7 => (b"bad site magic 0\n", bad(SiteWhy::Magic, 0)),
@@ -137,7 +137,7 @@ fn checks_images(rt: HostRuntime) -> Result<(), Fail> {
     check_all(&rt, alloc, &trials)
 }
 
-/// What `check` tells of the image with the byte at a place changed by its highest bit.
+/// Returns the report of `check` on the image with the highest bit of the byte at an offset changed.
 fn told_of_damage(place: usize) -> (&'static [u8], Status) {
     match place {
         0..=7 => (b"bad site magic 0\n", bad(SiteWhy::Magic, 0)),
@@ -162,7 +162,7 @@ fn checks_damaged_images(rt: HostRuntime) -> Result<(), Fail> {
     Ok(())
 }
 
-/// The next of some bytes without order.
+/// Returns the next of some pseudo-random bytes.
 fn next_byte(state: &mut u32) -> u8 {
     *state = state.wrapping_mul(1_664_525).wrapping_add(1_013_904_223);
     (*state >> 24) as u8
@@ -301,7 +301,7 @@ fn upgrades_images(rt: HostRuntime) -> Result<(), Fail> {
     check_all(&rt, rt.alloc(), &rows)
 }
 
-/// Reads up to four bytes from a place on.
+/// Reads up to four bytes from an offset on.
 fn read_at<H: Shelf>(shelf: &mut H, name: &[u8], at: u64, expected: Option<&[u8]>) -> bool {
     let mut buf = [0; 4];
     match (shelf.read(name, at, &mut buf), expected) {

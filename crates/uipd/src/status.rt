@@ -10,9 +10,10 @@ use trace::{CaptureWhy, SlipEnd};
 use uip_edge::ServeEnd;
 
 /// How a run ends.
+/// [add: status] A variant, its number in `exit_code`, and the `From` of the end that causes it.
 #[derive(Clone, Copy, Debug, PartialEq, Eq)]
 pub enum Status {
-    /// All that was asked for was done, and written.
+    /// All that was asked for was done and written.
     Done,
     /// The words have no form that the program knows.
     BadWords,
@@ -22,20 +23,20 @@ pub enum Status {
     LinkFault,
     /// A call of the sink failed.
     WriteFault,
-    /// As many items as were allowed were taken.
+    /// The permitted number of items was consumed.
     Budget,
-    /// The image, or the list that is to be made into one, has this first fault.
+    /// The image, or the list from which one is to be made, has this first fault.
     BadSite(SiteError),
     /// This line of the schedule is the first bad one, for this reason.
     BadSchedule { line: u32, why: Why },
-    /// There was not enough memory.
+    /// Memory ran out.
     NoMemory,
-    /// The capture file is at fault in the record with this number, counted from 1; its header has number 0.
+    /// The capture file has a fault in the record with this number, counted from 1; its header has number 0.
     BadCapture { number: u64, why: CaptureWhy },
 }
 
 impl Status {
-    /// The status that the process exits with.
+    /// Returns the exit status of the process.
     pub fn exit_code(self) -> u8
         ensures { result ≡ exit_code_of self }
     {
@@ -54,7 +55,7 @@ impl Status {
     }
 }
 
-/// Serving a line came to this end.
+/// The end of serving a line.
 impl From<ServeEnd> for Status {
     ghost from_gives = { λ end status. status ≡ status_of_serving end };
 
@@ -68,7 +69,7 @@ impl From<ServeEnd> for Status {
     }
 }
 
-/// Reading a capture file came to this end.
+/// The end of reading a capture file.
 impl From<SlipEnd> for Status {
     ghost from_gives = { λ end status. status ≡ status_of_slip end };
 
@@ -83,7 +84,7 @@ impl From<SlipEnd> for Status {
     }
 }
 
-/// A site could not be opened for this reason.
+/// Why a site could not be opened.
 impl From<LoadFault> for Status {
     ghost from_gives = { λ fault status. status ≡ status_of_fault fault };
 
@@ -96,7 +97,7 @@ impl From<LoadFault> for Status {
     }
 }
 
-/// Work on an image came to this end.
+/// The end of a command for an image.
 impl From<SiteEnd> for Status {
     ghost from_gives = { λ end status. status ≡ status_of_site end };
 
@@ -111,7 +112,7 @@ impl From<SiteEnd> for Status {
     }
 }
 
-/// A replay came to this end.
+/// The end of a replay.
 impl From<ReplayEnd> for Status {
     ghost from_gives = { λ end status. status ≡ status_of_replay end };
 

@@ -1,6 +1,6 @@
 // The worked exchanges, over a line in memory, with the items cut in every way.
 use crate::harness::{
-    Talk, Trial, bad, both_of, bytes_of, check_all, check_bad_words, check_talks, front,
+    Session, Trial, bad, both_of, bytes_of, check_all, check_bad_words, check_sessions, prefix,
 };
 use crate::help::{HELP, VERSION};
 use crate::status::Status;
@@ -36,7 +36,7 @@ const STRAY_PONG: &str = "\
     C0 4500001D 00010000 400166DD 0A000001 0A000002 0000BEFD 00010001 \
     41 C0";
 
-// Two bytes behind the datagram's total length.
+// Two bytes after the datagram's total length.
 const PADDED_PING: &str = "\
     C0 4500001C 00010000 400166DE 0A000002 0A000001 0800F7FD 00010001 \
     9999 C0";
@@ -94,7 +94,7 @@ const PING_RECORD: &str = "00000000 00000000 0000001C 0000001C";
 
 #[test]
 fn answers_each_datagram(rt: HostRuntime) -> Result<(), Fail> {
-    let talks: [Talk; 10] = [
+    let sessions: [Session; 10] = [
         (&[PING], &[PONG]),
         (&[""], &[""]),
         (&["C0"], &[""]),
@@ -107,10 +107,10 @@ fn answers_each_datagram(rt: HostRuntime) -> Result<(), Fail> {
         (&[STRAY_SYN], &[REFUSAL]),
         (&[RESET], &[""]),
     ];
-    check_talks(&rt, rt.alloc(), &SERVE, &talks)
+    check_sessions(&rt, rt.alloc(), &SERVE, &sessions)
 }
 
-/// A datagram of 1500 bytes, all of which but its headers are 0.
+/// Returns a datagram of 1500 bytes that are 0, except for its headers.
 fn largest(alloc: Global, head: &str) -> Result<Vec<u8>, Fail> {
     let mut datagram = bytes_of(alloc, &[head])?;
     datagram.extend_from_slice(&[0; 1472])?;
@@ -136,7 +136,7 @@ fn takes_the_largest_frame(rt: HostRuntime) -> Result<(), Fail> {
 #[test]
 fn serves_a_connection(rt: HostRuntime) -> Result<(), Fail> {
     let alloc = rt.alloc();
-    check_talks(&rt, alloc, &SERVE, &[(&[SYN, REQUEST], &[SYN_ACK, TAKEN])])?;
+    check_sessions(&rt, alloc, &SERVE, &[(&[SYN, REQUEST], &[SYN_ACK, TAKEN])])?;
     let (syn, answered) = both_of(alloc, &[SYN], &[SYN_ACK])?;
     let again = bytes_of(alloc, &[SYN_ACK, SENT_AGAIN])?;
     // 186 bytes without a frame: with the 62 of the SYN four times as many.
@@ -171,7 +171,7 @@ fn serves_a_site(rt: HostRuntime) -> Result<(), Fail> {
         .ending(Status::ShelfFault)
         .check(&rt, alloc, 4096)?;
     let cut = Trial {
-        h: front(served.h, 20),
+        h: prefix(served.h, 20),
         output: &[],
         status: bad(SiteWhy::Cut, 1),
         ..served
@@ -221,7 +221,7 @@ fn knows_its_words(rt: HostRuntime) -> Result<(), Fail> {
         "18446744073709551615",
         "tty",
     ];
-    check_talks(&rt, alloc, &greatest, &[(&[PING], &[PONG])])
+    check_sessions(&rt, alloc, &greatest, &[(&[PING], &[PONG])])
 }
 
 #[test]
@@ -233,7 +233,7 @@ fn shows_its_own_texts(rt: HostRuntime) -> Result<(), Fail> {
         shown.check(&rt, alloc, 4096)?;
         let full = Trial {
             room: 4,
-            output: front(text, 4),
+            output: prefix(text, 4),
             status: Status::WriteFault,
             ..shown
         };
@@ -261,7 +261,7 @@ fn stops_as_asked(rt: HostRuntime) -> Result<(), Fail> {
     let full = Trial {
         room: 10,
         status: Status::WriteFault,
-        ..Trial::new(&SERVE, &ping, front(&pong, 10))
+        ..Trial::new(&SERVE, &ping, prefix(&pong, 10))
     };
     full.check_cuts(&rt, alloc)?;
     let failing = Trial {
@@ -289,14 +289,19 @@ fn tells_a_line(rt: HostRuntime) -> Result<(), Fail> {
         (
             &["dump", "items", "60", "tty"],
             &line,
-            front(lines, 64),
+            prefix(lines, 64),
             stopped,
         ),
         (&["pcap", "tty"], &ping, &capture, Status::Done),
-        (&["pcap", "items", "0"], &ping, front(&capture, 24), stopped),
+        (
+            &["pcap", "items", "0"],
+            &ping,
+            prefix(&capture, 24),
+            stopped,
+        ),
         (&["slip"], &capture, &ping, Status::Done),
         (&["slip", "items", "68"], &capture, &ping, stopped),
-        (&["slip"], front(&capture, 67), &[], cut),
+        (&["slip"], prefix(&capture, 67), &[], cut),
     ];
     for (words, input, output, status) in rows {
         Trial::new(words, input, output)

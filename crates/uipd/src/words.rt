@@ -1,10 +1,12 @@
+//! Parses the words of the command line.
+
 ghost use Rattle.std.specs.Prelude.{◌≡◌, ◌≤◌, Option, Some, map, option_map, string_bytes, IfSome};
 ghost use Rattle.uipd.specs.Words.{task_meant, task_of, check_words as words_of_check, pack_words as words_of_pack, serve_words as words_of_serve, ether_words as words_of_ether};
 ghost use Rattle.uipd.specs.Words.{upgrade_words as words_of_upgrade};
 ghost use Rattle.uipd.specs.Words.{load_words as words_of_load, page_words as words_of_page, replay_words as words_of_replay};
 ghost use Rattle.uipd.specs.Words.{Captures, Dumps, slip_words as words_of_slip, plays_back as played_back, number_within as number_meant_within, items_named as items_spelled};
 ghost use Rattle.uipd.specs.Words.{shown as text_asked};
-ghost use Rattle.uipd.specs.Words.{ends_here as no_more, limited as limits_meant, limits_at as limits_behind, limits_of as limits_spelled, says_tty as terminal_told};
+ghost use Rattle.uipd.specs.Words.{ends_here as no_more, limited as limits_meant, limits_at as limits_after, limits_of as limits_spelled, says_tty as terminal_told};
 ghost use Rattle.uipd.specs.Allowed.{IsAllowed};
 ghost use Rattle.uip_wire.specs.Numerals.{numeral as number_meant};
 
@@ -13,23 +15,25 @@ use crate::parts::{are_kind_words, have_parts};
 use ethernet_arp::Mac;
 use uip_wire::{Addr, numeral};
 
-/// At which pace the bytes of a line make ticks, where this is above 0, and how many items are taken of it at most.
+/// The pace at which the bytes of a line make ticks, if it is above 0, and the greatest number of items that are consumed.
 #[derive(Clone, Copy, Debug, PartialEq, Eq)]
 pub struct Limits {
     pub pace: u64,
     pub items: u64,
 }
 
-/// How datagrams stand on a line.
+/// How a line carries datagrams.
+/// [add: line-kind] A variant with what its words give.
 #[derive(Clone, Copy, Debug, PartialEq, Eq)]
 pub enum LineKind {
     /// A serial line (RFC 1055).
     Serial,
-    /// Ethernet frames, each behind its length in two bytes, of a host at this hardware address.
+    /// Ethernet frames of a host with this hardware address, each after its length in two bytes.
     Ethernet(Mac),
 }
 
-/// What speaks on the connections of a node.
+/// The application on the connections of a node.
+/// [add: application] A variant with its ports.
 #[derive(Clone, Copy, Debug, PartialEq, Eq)]
 pub enum Application {
     /// The web server, at port 80.
@@ -48,35 +52,37 @@ pub struct ServedLine {
 }
 
 /// What the words ask for.
+/// [add: command] A variant with its words.
 #[derive(Clone, Copy, Debug, PartialEq, Eq)]
 pub enum Command<'a> {
-    /// `serve SITE ADDR`, `desk SITE ADDR` or `ether SITE ADDR MAC`, and further words: the web server of a site serves the line, at a
-    /// desk beside the shell.
+    /// `serve SITE ADDR`, `desk SITE ADDR` or `ether SITE ADDR MAC`, and further words: serves the line by the web server of a
+    /// site, at a desk beside the shell.
     Serve(&'a str, ServedLine),
-    /// `check SITE`: the files of an image are told, with the greatest lengths of their pages.
+    /// `check SITE`: reports the files of an image, with the greatest lengths of their pages.
     Check(&'a str),
-    /// `pack NAME=FILE ..`: files are packed into an image.
+    /// `pack NAME=FILE ..`: packs files into an image.
     Pack(&'a [String]),
-    /// `upgrade SITE NAME=TYPE ..`: an image is upgraded to the version that gives each file a content type.
+    /// `upgrade SITE NAME=TYPE ..`: upgrades an image to version 2, which gives each file a content type.
     Upgrade(&'a str, &'a [String]),
-    /// `page SITE TARGET`: the page of a target is written, as a node says it at which nothing has happened.
+    /// `page SITE TARGET`: writes the page of a target, as a node sends it before anything has happened.
     Page(&'a str, &'a str),
-    /// `replay SITE SCHEDULE`, and optionally `show`: a schedule is played by the web server of a site, and the report is written.
+    /// `replay SITE SCHEDULE`, and optionally `show`: plays a schedule by the web server of a site, and writes the report.
     Replay(&'a str, &'a str, bool),
-    /// `load SITE SEED CLIENTS`: the schedule that a seed makes for 1 to 64 clients is played by the web server of a site, and what it
-    /// came to is written in one line.
+    /// `load SITE SEED CLIENTS`: plays the schedule of a seed for 1 to 64 clients by the web server of a site, and writes one
+    /// line.
     Load(&'a str, u64, u8),
-    /// `dump`, and further words: a line of text is written for each frame of the line, up to so many items.
+    /// `dump`, and further words: writes a line of text for each frame of the line, up to a number of items.
     Dump(u64),
-    /// `pcap`, and further words: a capture file is written of the line's datagrams, up to so many items.
+    /// `pcap`, and further words: writes a capture file of the line's datagrams, up to a number of items.
     Pcap(u64),
-    /// `slip`, and optionally `items N`: a capture file that comes over the line is made a serial line, up to so many items.
+    /// `slip`, and optionally `items N`: converts a capture file to a serial line, up to a number of items.
     Slip(u64),
-    /// `--help` or `--version`: a text of the program's own is written.
+    /// `--help` or `--version`: writes a text of the program.
     Show(&'a [u8]),
 }
 
-/// The command that the words spell, if they have a form.
+/// Parses the words, if they have a form.
+/// [add: command] An arm for its first word.
 pub fn command_of(words: &[String]) -> Option<Command<'_>>
     ensures task { option_map task_meant result ≡ task_of (map string_bytes words.now) }
     ensures allowed { IfSome result IsAllowed }
@@ -105,7 +111,7 @@ pub fn command_of(words: &[String]) -> Option<Command<'_>>
     }
 }
 
-/// The words behind `serve` and `desk`: `SITE ADDR`, and further words.
+/// Parses the words after `serve` and `desk`: `SITE ADDR`, and further words.
 fn serve_words(application: Application, words: &[String]) -> Option<Command<'_>>
     ensures { option_map task_meant result ≡ words_of_serve application (map string_bytes words.now) }
 {
@@ -123,7 +129,7 @@ fn serve_words(application: Application, words: &[String]) -> Option<Command<'_>
     }
 }
 
-/// The words behind `ether`: `SITE ADDR MAC`, and further words.
+/// Parses the words after `ether`: `SITE ADDR MAC`, and further words.
 fn ether_words(words: &[String]) -> Option<Command<'_>>
     ensures { option_map task_meant result ≡ words_of_ether (map string_bytes words.now) }
 {
@@ -141,7 +147,7 @@ fn ether_words(words: &[String]) -> Option<Command<'_>>
     }
 }
 
-/// The further words of a line: optionally `pace K`, then optionally `items N`, then optionally `tty`.
+/// Parses the further words of a line: optionally `pace K`, then optionally `items N`, then optionally `tty`.
 fn limits_of(words: &[String]) -> Option<Limits>
     ensures { result ≡ limits_spelled (map string_bytes words.now) }
 {
@@ -156,9 +162,9 @@ fn limits_of(words: &[String]) -> Option<Limits>
     }
 }
 
-/// The words behind the pace.
+/// Parses the words after the pace.
 fn limits_at(pace: u64, words: &[String]) -> Option<Limits>
-    ensures { result ≡ limits_behind pace (map string_bytes words.now) }
+    ensures { result ≡ limits_after pace (map string_bytes words.now) }
 {
     match words {
         [word, number, rest @ ..] => {
@@ -181,7 +187,7 @@ fn limited(pace: u64, items: u64, words: &[String]) -> Option<Limits>
     }
 }
 
-/// Whether the last word is `tty`: then a read of nothing is a silence.
+/// Returns whether the last word is `tty`: then an empty read is a silence.
 pub fn says_tty(words: &[String]) -> bool
     ensures { result ≡ terminal_told (map string_bytes words.now) }
 {
@@ -191,7 +197,7 @@ pub fn says_tty(words: &[String]) -> bool
     }
 }
 
-/// Whether there are no more words, or `tty` alone.
+/// Returns whether there are no more words, or `tty` alone.
 fn ends_here(words: &[String]) -> bool
     ensures { result ≡ no_more (map string_bytes words.now) }
 {
@@ -202,7 +208,7 @@ fn ends_here(words: &[String]) -> bool
     }
 }
 
-/// The words behind `check`.
+/// Parses the words after `check`.
 fn check_words(words: &[String]) -> Option<Command<'_>>
     ensures { option_map task_meant result ≡ words_of_check (map string_bytes words.now) }
 {
@@ -212,7 +218,7 @@ fn check_words(words: &[String]) -> Option<Command<'_>>
     }
 }
 
-/// The words behind `pack`, of which there is at least one.
+/// Parses the words after `pack`, at least one.
 fn pack_words(words: &[String]) -> Option<Command<'_>>
     ensures { option_map task_meant result ≡ words_of_pack (map string_bytes words.now) }
 {
@@ -222,7 +228,7 @@ fn pack_words(words: &[String]) -> Option<Command<'_>>
     Some(Command::Pack(words))
 }
 
-/// The words behind `upgrade`: the site, and words that each give a file a content type.
+/// Parses the words after `upgrade`: the site, and words that each give a file a content type.
 fn upgrade_words(words: &[String]) -> Option<Command<'_>>
     ensures task { option_map task_meant result ≡ words_of_upgrade (map string_bytes words.now) }
     ensures allowed { IfSome result IsAllowed }
@@ -233,7 +239,7 @@ fn upgrade_words(words: &[String]) -> Option<Command<'_>>
     }
 }
 
-/// The words behind `page`.
+/// Parses the words after `page`.
 fn page_words(words: &[String]) -> Option<Command<'_>>
     ensures { option_map task_meant result ≡ words_of_page (map string_bytes words.now) }
 {
@@ -243,7 +249,7 @@ fn page_words(words: &[String]) -> Option<Command<'_>>
     }
 }
 
-/// The words behind `replay`: the site and the schedule, and optionally `show`.
+/// Parses the words after `replay`: the site and the schedule, and optionally `show`.
 fn replay_words(words: &[String]) -> Option<Command<'_>>
     ensures { option_map task_meant result ≡ words_of_replay (map string_bytes words.now) }
 {
@@ -256,7 +262,7 @@ fn replay_words(words: &[String]) -> Option<Command<'_>>
     }
 }
 
-/// The words behind `load`: the site, the seed, and the number of clients, from 1 to 64.
+/// Parses the words after `load`: the site, the seed, and the number of clients, from 1 to 64.
 fn load_words(words: &[String]) -> Option<Command<'_>>
     ensures task { option_map task_meant result ≡ words_of_load (map string_bytes words.now) }
     ensures allowed { IfSome result IsAllowed }
@@ -270,28 +276,28 @@ fn load_words(words: &[String]) -> Option<Command<'_>>
     }
 }
 
-/// The words behind `dump`.
+/// Parses the words after `dump`.
 fn dump_words(words: &[String]) -> Option<Command<'_>>
     ensures { option_map task_meant result ≡ option_map Dumps (items_spelled (map string_bytes words.now)) }
 {
     Some(Command::Dump(items_of(words)?))
 }
 
-/// The words behind `pcap`.
+/// Parses the words after `pcap`.
 fn pcap_words(words: &[String]) -> Option<Command<'_>>
     ensures { option_map task_meant result ≡ option_map Captures (items_spelled (map string_bytes words.now)) }
 {
     Some(Command::Pcap(items_of(words)?))
 }
 
-/// How many items are taken of a line at most: optionally `items N`, then optionally `tty`.
+/// Parses the greatest number of items of a line: optionally `items N`, then optionally `tty`.
 fn items_of(words: &[String]) -> Option<u64>
     ensures { result ≡ items_spelled (map string_bytes words.now) }
 {
     Some(limits_at(0, words)?.items)
 }
 
-/// The words behind `slip`: optionally `items N`. A file has no silences, so `tty` has no place.
+/// Parses the words after `slip`: optionally `items N`. A file has no silences, so `tty` is not allowed.
 fn slip_words(words: &[String]) -> Option<Command<'_>>
     ensures { option_map task_meant result ≡ words_of_slip (map string_bytes words.now) }
 {
@@ -313,7 +319,7 @@ fn plays_back<'a>(items: u64, words: &[String]) -> Option<Command<'a>>
     }
 }
 
-/// A text of the program's own, where no words stand behind the one that asks for it.
+/// Returns a text of the program, if no words follow the one that asks for it.
 fn shown<'a>(text: &'a [u8], words: &[String]) -> Option<Command<'a>>
     ensures task { option_map task_meant result ≡ text_asked text.now (map string_bytes words.now) }
     ensures allowed { IfSome result IsAllowed }
@@ -324,7 +330,7 @@ fn shown<'a>(text: &'a [u8], words: &[String]) -> Option<Command<'a>>
     }
 }
 
-/// A number of a range.
+/// Parses a number of a range.
 pub(crate) fn within(low: u64, high: u64, text: &str) -> Option<u64>
     ensures number { result ≡ number_meant_within low high text.now }
     ensures range { IfSome result (λ n. (low ≤ n) × (n ≤ high)) }
@@ -337,7 +343,7 @@ pub(crate) fn within(low: u64, high: u64, text: &str) -> Option<u64>
     }
 }
 
-/// The number below 2^64 whose numeral a word is.
+/// Parses a decimal number below 2^64.
 pub(crate) fn number_of(text: &str) -> Option<u64>
     ensures { result ≡ number_meant text.now }
 {

@@ -1,4 +1,5 @@
 -- How long a page can be.
+-- [add: function] The greatest length of its text.
 use Rattle.std.specs.List.{All}
 use Rattle.std.proofs.Common.{◌≡◌, ℕ, ◌+◌, ◌-◌, ◌≤◌, inl, inr, Bool, true, false, List, [], ◌∷◌, ◌++◌, length, map, drop, Option, Some, None, refl, sym, ap, subst, arith, length-append, length-take, if◌then◌else◌, lit<, lit≤}
 use Rattle.std.specs.Prelude.{sum_by, slice_range, codes}
@@ -20,14 +21,14 @@ use Rattle.site_image.specs.Names.{is_script}
 use Rattle.site_image.specs.Files.{File, file_named, kind_of}
 use Rattle.site_image.specs.Pages.{piece_length_by, body_length_by, page_length_by}
 use Rattle.generators.specs.Giving.{Giving, AreShort}
-use Rattle.app_events.specs.Part.{Moment}
-use Rattle.app_events.specs.Pages.{IsMoment, IsWord}
+use Rattle.app_events.specs.AppSpec.{Snapshot}
+use Rattle.app_events.specs.Pages.{IsSnapshot, IsU32}
 use Rattle.web_pages.specs.Pieces.{Say, says, bytes_or, body_by, found_reply_by, kind_line}
 use Rattle.web_pages.specs.Pieces.Say.{Plain, Made}
 use Rattle.web_pages.specs.Pages.{made_by, hits_of, place_of, text_by}
 use Rattle.web_pages.specs.Lemmas.Growing.{silent_text, stopped_text, made_first}
 
--- the greatest length of what is said
+-- the greatest length of the text
 abbrev pub most_said : {F : Type 0} → Calling F → Say F → ℕ
 most_said c (Plain text) = length text
 most_said c (Made function argument) = c.length_at_most function
@@ -37,23 +38,23 @@ all_said c says = sum_by (most_said c) says
 
 -- ---- a call
 
-word_at : (numbers : List ℕ) (place : Option ℕ) → All IsWord numbers → IsWord (option_map_or (λ at. slice_index_or numbers at 0) place 0)
+word_at : (numbers : List ℕ) (place : Option ℕ) → All IsU32 numbers → IsU32 (option_map_or (λ at. slice_index_or numbers at 0) place 0)
 word_at numbers None all = lit< tt
 word_at numbers (Some place) all =
     elim (cases_lt place (length numbers)) [
-      | inl h ↦ All-get_or IsWord numbers place 0 h all
-      | inr h ↦ subst IsWord (sym (get_or_past numbers place 0 h)) (lit< tt)
+      | inl h ↦ All-get_or IsU32 numbers place 0 h all
+      | inr h ↦ subst IsU32 (sym (get_or_past numbers place 0 h)) (lit< tt)
     ]
 
-made_short : {F : Type 0} (g : Giving F) → AreShort g → (files : List File) (function : F) (argument : List ℕ) (moment : Moment) → IsMoment moment
-    → length (made_by g files function argument moment) ≤ g.calling.length_at_most function
-made_short g short files function argument moment is =
-    short function argument (hits_of files moment.numbers argument) (drop (length files) moment.numbers) moment.now
-    (word_at moment.numbers (place_of files argument) is.numbers) is.now
+made_short : {F : Type 0} (g : Giving F) → AreShort g → (files : List File) (function : F) (argument : List ℕ) (snapshot : Snapshot) → IsSnapshot snapshot
+    → length (made_by g files function argument snapshot) ≤ g.calling.length_at_most function
+made_short g short files function argument snapshot is =
+    short function argument (hits_of files snapshot.numbers argument) (drop (length files) snapshot.numbers) snapshot.now
+    (word_at snapshot.numbers (place_of files argument) is.numbers) is.now
 
 -- ---- the pieces
 
--- of uIP, a call that takes no capture says nothing
+-- for uIP, a call that takes no capture has no text
 pub silent_none : (function : Function) → takes_capture function ≡ false → length_at_most function ≡ 0
 silent_none FileStats e = absurd cc
 silent_none TcpConnections e = absurd cc
@@ -61,7 +62,7 @@ silent_none NetStats e = absurd cc
 silent_none Ticks e = absurd cc
 silent_none Unknown e = refl
 
-pub text_bound : {F : Type 0} (g : Giving F) → AreShort g → (files : List File) (says : List (Say F)) (captures : List Moment) → All IsMoment captures → length (text_by g files says captures) ≤ all_said g.calling says
+pub text_bound : {F : Type 0} (g : Giving F) → AreShort g → (files : List File) (says : List (Say F)) (captures : List Snapshot) → All IsSnapshot captures → length (text_by g files says captures) ≤ all_said g.calling says
 text_bound g short files [] captures all = lit≤ tt
 text_bound g short files (Plain text ∷ more) captures all =
     let rest = text_bound g short files more captures all in
@@ -79,8 +80,8 @@ text_bound g short files (Made function argument ∷ more) (capture ∷ later) a
     elim (g.calling.takes_capture function) as (λ b. g.calling.takes_capture function ≡ b
     → length (text_by g files (Made function argument ∷ more) (capture ∷ later)) ≤ all_said g.calling (Made function argument ∷ more)) [
       | true ↦ λ e.
-          let rest = text_bound g short files more later (All-tail IsMoment capture later all) in
-          let one = made_short g short files function argument capture (All-head IsMoment capture later all) in
+          let rest = text_bound g short files more later (All-tail IsSnapshot capture later all) in
+          let one = made_short g short files function argument capture (All-head IsSnapshot capture later all) in
           omega (
             arith,
             ap length (made_first g files function argument more capture later e),
@@ -130,10 +131,10 @@ body_bound c files file = by_script (is_script file.name)
 line_length : (kind : List ℕ) → length (kind_line kind) ≡ 18 + length kind
 line_length kind =
     let ends : length (codes "\r\n\r\n") ≡ 4 = refl in
-    let front : length (codes "Content-type: ") ≡ 14 = refl in
+    let prefix : length (codes "Content-type: ") ≡ 14 = refl in
     omega (arith, length-append (codes "Content-type: " ++ kind) (codes "\r\n\r\n"), length-append (codes "Content-type: ") kind)
 
--- what is said of a file that is found is at most as long as its greatest length
+-- the text of a file that is found is at most as long as its greatest length
 pub found_bound : {F : Type 0} (c : Calling F) (files : List File) (file : File) → all_said c (found_reply_by c.named files file) ≤ page_length_by c files file
 found_bound c files file =
     let body = body_bound c files file in

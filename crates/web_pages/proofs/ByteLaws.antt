@@ -1,4 +1,5 @@
 -- The pages of a site of bytes are bytes.
+-- [add: content-type] The type is bytes.
 use Rattle.std.specs.List.{All}
 use Rattle.std.proofs.Common.{◌≡◌, ℕ, ◌+◌, ◌-◌, ◌==◌, Bool, true, false, List, [], ◌∷◌, ◌++◌, length, map, drop, Option, Some, None, refl, sym, subst, ◌∙◌, if◌then◌else◌}
 use Rattle.std.specs.Prelude.{codes, option_map, slice_get, slice_range, nat_eq}
@@ -16,7 +17,7 @@ use Rattle.site_image.specs.Places.{file_in}
 use Rattle.file_tree.specs.Site.{SiteContent, files_of}
 use Rattle.generators.specs.Giving.{Giving, AreBytes, uip}
 use Rattle.generators.specs.Lemmas.Bytes.{literal_bytes, either_bytes, texts_bytes}
-use Rattle.app_events.specs.Part.{Moment}
+use Rattle.app_events.specs.AppSpec.{Snapshot}
 use Rattle.app_events.specs.Pages.{IsByte}
 use Rattle.web_pages.specs.Requests.{Wanted, wanted}
 use Rattle.web_pages.specs.Requests.Wanted.{NotYet, Refused, Name}
@@ -36,12 +37,12 @@ abbrev AreSaid : {F : Type 0} → List (Say F) → Type 0
 AreSaid [] = Unit {0}
 AreSaid (say ∷ more) = IsSaid say × AreSaid more
 
-made_bytes : {F : Type 0} (g : Giving F) → AreBytes g.said → (files : List File) (function : F) (argument : List ℕ) (moment : Moment)
-    → All IsByte (made_by g files function argument moment)
-made_bytes g bytes files function argument moment =
-    bytes function argument (hits_of files moment.numbers argument) (drop (length files) moment.numbers) moment.now
+made_bytes : {F : Type 0} (g : Giving F) → AreBytes g.output → (files : List File) (function : F) (argument : List ℕ) (snapshot : Snapshot)
+    → All IsByte (made_by g files function argument snapshot)
+made_bytes g bytes files function argument snapshot =
+    bytes function argument (hits_of files snapshot.numbers argument) (drop (length files) snapshot.numbers) snapshot.now
 
-text_bytes : {F : Type 0} (g : Giving F) → AreBytes g.said → (files : List File) (said : List (Say F)) (captures : List Moment) → AreSaid said → All IsByte (text_by g files said captures)
+text_bytes : {F : Type 0} (g : Giving F) → AreBytes g.output → (files : List File) (output : List (Say F)) (captures : List Snapshot) → AreSaid output → All IsByte (text_by g files output captures)
 text_bytes g bytes files [] captures all = All-nil IsByte
 text_bytes g bytes files (Plain text ∷ more) captures all =
     All-append IsByte text (text_by g files more captures) all.0 (text_bytes g bytes files more captures all.1)
@@ -134,15 +135,15 @@ reply_bytes named files name (Some file) all e =
     let of = all there.place file there.at in
     (literal_bytes found_head refl, (line_bytes (kind_of file) (kind_bytes file of), body_bytes named files file all of))
 
-bytes_by : {F : Type 0} (g : Giving F) → AreBytes g.said → (files : List File) (asked : Wanted) (captures : List Moment) → AreOfBytes files
+bytes_by : {F : Type 0} (g : Giving F) → AreBytes g.output → (files : List File) (asked : Wanted) (captures : List Snapshot) → AreOfBytes files
     → All IsByte (page_for_by g files asked captures)
 bytes_by g bytes files NotYet captures all = All-nil IsByte
 bytes_by g bytes files Refused captures all = All-nil IsByte
 bytes_by g bytes files (Name name) captures all =
     text_bytes g bytes files (reply_pieces_by g.calling.named files name) captures (reply_bytes g.calling.named files name (file_named files name) all refl)
 
-pub made_of_bytes_by : {F : Type 0} (g : Giving F) → AreBytes g.said → IsMadeOfBytesBy g
-made_of_bytes_by g bytes site all request captures moments = bytes_by g bytes (files_of site) (wanted request) captures (files_bytes site all)
+pub made_of_bytes_by : {F : Type 0} (g : Giving F) → AreBytes g.output → IsMadeOfBytesBy g
+made_of_bytes_by g bytes site all request captures snapshots = bytes_by g bytes (files_of site) (wanted request) captures (files_bytes site all)
 
 pub made_of_bytes : IsMadeOfBytes
 made_of_bytes = made_of_bytes_by uip texts_bytes

@@ -10,7 +10,7 @@ use Rattle.std.proofs.lemmas.Slice.Eq.{bytes_eq-Decides}
 use Rattle.site_image.specs.Files.{File, file_named}
 use Rattle.file_tree.specs.Site.{AreApart, AreGood}
 
--- a file of the name stands somewhere among the files
+-- a file of the name is among the files
 pub record IsThere (files : List File) (name : List ℕ) (file : File) : Type 0 where
   pub place : ℕ
   pub at : slice_get files place ≡ Some file
@@ -62,7 +62,7 @@ long_missing files good name long = by_found (file_named files name) refl
     by_found (Some file) e =
         let there = found_there files name file e in
         let is = (good there.place file there.at).0 in
-        let front = and_parts (nat_le 1 (length file.name) && nat_le (length file.name) 64 && (slice_index file.name 0 == 0x2F)) (list_all is_name_byte file.name) is in
-        let sizes = and_parts (nat_le 1 (length file.name) && nat_le (length file.name) 64) (slice_index file.name 0 == 0x2F) front.0 in
+        let prefix = and_parts (nat_le 1 (length file.name) && nat_le (length file.name) 64 && (slice_index file.name 0 == 0x2F)) (list_all is_name_byte file.name) is in
+        let sizes = and_parts (nat_le 1 (length file.name) && nat_le (length file.name) 64) (slice_index file.name 0 == 0x2F) prefix.0 in
         let short = leb-true (length file.name) 64 (and_parts (nat_le 1 (length file.name)) (nat_le (length file.name) 64) sizes.0).1 in
         absurd (omega (arith, ap length there.named))

@@ -22,8 +22,8 @@ use Rattle.site_image.specs.Faults.{◌>>=◌, refuse, image_head, entries, scri
 use Rattle.site_image.proofs.ImageLaws.{AreSound, bind_ok, scripts-sound}
 use Rattle.file_tree.specs.Site.{SiteContent, IsLoaded, HasSoundScripts, files_of, image_files}
 use Rattle.file_tree.proofs.KindLemmas.{kind-short}
-use Rattle.app_events.specs.Part.{Moment}
-use Rattle.app_events.specs.Pages.{IsMoment}
+use Rattle.app_events.specs.AppSpec.{Snapshot}
+use Rattle.app_events.specs.Pages.{IsSnapshot}
 use Rattle.web_pages.specs.Requests.{Wanted, wanted}
 use Rattle.web_pages.specs.Requests.Wanted.{NotYet, Refused, Name}
 use Rattle.generators.specs.Giving.{Giving, AreShort, uip}
@@ -35,7 +35,7 @@ use Rattle.web_pages.specs.Claims.{IsAtMostGreatest, IsAtMostGreatestBy}
 use Rattle.web_pages.proofs.Found.{found_there, found_itself}
 use Rattle.web_pages.proofs.Bounds.{all_said, most_said, text_bound, found_bound}
 
--- ---- what a loaded site tells of its files
+-- ---- the greatest lengths of a loaded site's files
 
 ok_is : {T : Type 0} (x y : T) → ◌≡◌ {A = Result T SiteError} (Ok x) (Ok y) → x ≡ y
 ok_is x y e = cc
@@ -145,20 +145,20 @@ reply_bound c site is sound name None e = missing_bound c site is
 reply_bound c site is sound name (Some file) e =
     let there = found_there (files_of site) name file e in
     let short = greatest_short c site is sound there.place file there.at in
-    let said = found_bound c (files_of site) file in
+    let output = found_bound c (files_of site) file in
     omega arith
 
 short_by : {F : Type 0} (g : Giving F) → AreShort g → (site : SiteContent) → IsLoaded site → HasSoundScripts g.calling (files_of site)
-    → (asked : Wanted) (captures : List Moment) → All IsMoment captures → length (page_for_by g (files_of site) asked captures) < 1073741824
+    → (asked : Wanted) (captures : List Snapshot) → All IsSnapshot captures → length (page_for_by g (files_of site) asked captures) < 1073741824
 short_by g short site is sound NotYet captures all = lit< tt
 short_by g short site is sound Refused captures all = lit< tt
 short_by g short site is sound (Name name) captures all =
     let text = text_bound g short (files_of site) (reply_pieces_by g.calling.named (files_of site) name) captures all in
-    let said = reply_bound g.calling site is sound name (file_named (files_of site) name) refl in
+    let output = reply_bound g.calling site is sound name (file_named (files_of site) name) refl in
     omega arith
 
 pub page_short : {F : Type 0} (g : Giving F) → AreShort g → (site : SiteContent) → IsLoaded site → HasSoundScripts g.calling (files_of site)
-    → (request : List ℕ) (captures : List Moment) → All IsMoment captures → length (page_by g (files_of site) request captures) < 1073741824
+    → (request : List ℕ) (captures : List Snapshot) → All IsSnapshot captures → length (page_by g (files_of site) request captures) < 1073741824
 page_short g short site is sound request captures all = short_by g short site is sound (wanted request) captures all
 
 -- the page of a file is at most as long as its greatest length
@@ -169,7 +169,7 @@ at_most_greatest_by g short site is id file s request captures asked all =
     let same : page_by g files request captures ≡ text_by g files (found_reply_by g.calling.named files file) captures =
     ap (λ w. page_for_by g files w captures) asked ∙ ap (λ found. text_by g files (reply_to_by g.calling.named files found) captures) itself in
     let text = text_bound g short files (found_reply_by g.calling.named files file) captures all in
-    let said = found_bound g.calling files file in
+    let output = found_bound g.calling files file in
     omega (arith, ap length same)
 
 -- ---- the functions of uIP

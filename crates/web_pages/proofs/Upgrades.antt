@@ -1,4 +1,4 @@
--- An upgrade in which no word names a file keeps every page.
+-- If no word of an upgrade names a file, every page stays the same.
 use Rattle.std.proofs.Common.{◌≡◌, ℕ, zero, suc, ◌-◌, ◌+◌, ◌==◌, not, Bool, true, false, List, [], ◌∷◌, ◌++◌, length, get_or, map, Option, Some, None, refl, sym, ap, ◌∙◌, arith, true≢false, if◌then◌else◌}
 use Rattle.std.specs.Prelude.{find, slice_get, option_map, unwrap_or, nat_lt, reverse, slice_range, codes}
 use Rattle.std.specs.List.{position_or_len, slice_index_or}
@@ -18,7 +18,7 @@ use Rattle.site_image.specs.Files.{File, has_name, file_named, kind_of}
 use Rattle.file_tree.specs.Upgrading.{KindContent, chosen, retyped, upgraded}
 use Rattle.generators.specs.Captures.{capture_of}
 use Rattle.generators.specs.Text.{capture_text}
-use Rattle.app_events.specs.Part.{Moment}
+use Rattle.app_events.specs.AppSpec.{Snapshot}
 use Rattle.web_pages.specs.Requests.{Wanted, wanted}
 use Rattle.web_pages.specs.Requests.Wanted.{NotYet, Refused, Name}
 use Rattle.web_pages.specs.Pieces.{Say, says, bytes_or, body_of, missing_head, found_head, kind_line, reply_to, reply_pieces}
@@ -59,7 +59,7 @@ missing_upgraded : (words : List KindContent) (file : Option File) → bytes_or 
 missing_upgraded words None = refl
 missing_upgraded words (Some file) = refl
 
--- ---- what is said
+-- ---- the text
 
 says_upgraded : (words : List KindContent) (files : List File) (script : List ℕ) (piece : PieceOf Function) → says (upgraded words files) script piece ≡ says files script piece
 says_upgraded words files script (Text at len) = refl
@@ -152,12 +152,12 @@ reply_upgraded words files name none =
 
 -- ---- the text
 
-made_upgraded : (words : List KindContent) (files : List File) (function : Function) (argument : List ℕ) (moment : Moment)
-    → made_text (upgraded words files) function argument moment ≡ made_text files function argument moment
-made_upgraded words files function argument moment =
-    ap (λ place. capture_text (capture_of function (option_map_or (λ at. slice_index_or moment.numbers at 0) place 0) moment.now)) (place_upgraded words files argument)
+made_upgraded : (words : List KindContent) (files : List File) (function : Function) (argument : List ℕ) (snapshot : Snapshot)
+    → made_text (upgraded words files) function argument snapshot ≡ made_text files function argument snapshot
+made_upgraded words files function argument snapshot =
+    ap (λ place. capture_text (capture_of function (option_map_or (λ at. slice_index_or snapshot.numbers at 0) place 0) snapshot.now)) (place_upgraded words files argument)
 
-text_upgraded : (words : List KindContent) (files : List File) (said : List (Say Function)) (captures : List Moment) → page_text (upgraded words files) said captures ≡ page_text files said captures
+text_upgraded : (words : List KindContent) (files : List File) (output : List (Say Function)) (captures : List Snapshot) → page_text (upgraded words files) output captures ≡ page_text files output captures
 text_upgraded words files [] captures = refl
 text_upgraded words files (Plain text ∷ more) captures = ap (λ rest. text ++ rest) (text_upgraded words files more captures)
 text_upgraded words files (Made function argument ∷ more) [] =
@@ -166,14 +166,14 @@ text_upgraded words files (Made function argument ∷ more) (capture ∷ later) 
     λ i. if takes_capture function then made_upgraded words files function argument capture i ++ text_upgraded words files more later i
     else text_upgraded words files more (capture ∷ later) i
 
-kept_by : (words : List KindContent) (files : List File) (asked : Wanted) (captures : List Moment) → NameNone files words
+kept_by : (words : List KindContent) (files : List File) (asked : Wanted) (captures : List Snapshot) → NameNone files words
     → (page_for (upgraded words files) asked captures ≡ page_for files asked captures) × (whole_for (upgraded words files) asked captures ≡ whole_for files asked captures)
 kept_by words files NotYet captures none = (refl, refl)
 kept_by words files Refused captures none = (refl, refl)
 kept_by words files (Name name) captures none =
     let reply = reply_upgraded words files name none in (
-      text_upgraded words files (reply_pieces (upgraded words files) name) captures ∙ ap (λ said. page_text files said captures) reply,
-      ap (λ said. reach_end said captures) reply,
+      text_upgraded words files (reply_pieces (upgraded words files) name) captures ∙ ap (λ output. page_text files output captures) reply,
+      ap (λ output. reach_end output captures) reply,
     )
 
 pub upgrade_keeps_pages : UpgradeKeepsPages

@@ -1,4 +1,4 @@
--- The two words of a request, as they are kept while they are heard.
+-- The two words of a request, as they are stored while they are received.
 use Rattle.std.proofs.Common.{◌≡◌, ℕ, ◌<◌, ◌≤◌, ◌&&◌, ◌==◌, Bool, true, false, not, List, [], ◌∷◌, length, take, refl, sym, ap, subst, ◌∙◌, arith, length-take, if◌then◌else◌}
 use Rattle.std.specs.Prelude.{codes, nat_lt, nat_eq}
 use Rattle.std.specs.List.{before_first, list_any, starts_with, concat, fold}
@@ -9,7 +9,7 @@ use Rattle.std.proofs.lemmas.List.{take_all}
 use Rattle.std.proofs.lemmas.List.Sums.{take_while-cons}
 use Rattle.std.proofs.lemmas.Slice.Eq.{bytes_eq-Decides}
 use Rattle.protosocket.specs.declared.stops.Stops.TheVariants.{Space, SpaceOrLine}
-use Rattle.protosocket.specs.Line.{Line, is_query_mark, after, fresh, heard}
+use Rattle.protosocket.specs.Line.{Line, is_query_mark, after, fresh, delivered}
 use Rattle.protosocket.specs.Lemmas.Hearing.{none_at_all}
 use Rattle.protosocket.proofs.Pieces.{hears_in_pieces}
 use Rattle.web_pages.specs.Requests.{Wanted, wanted, wanted_by, has_ended, method_of, after_method, target_of, name_in}
@@ -37,21 +37,21 @@ is_get_word word =
 
 -- ---- the target
 
-abbrev pub front : List ℕ → List ℕ
-front target = before_first is_query_mark target
+abbrev pub prefix : List ℕ → List ℕ
+prefix target = before_first is_query_mark target
 
-front_here : (x : ℕ) (xs : List ℕ) → is_query_mark x ≡ true → front (x ∷ xs) ≡ []
-front_here x xs e = take_while-cons (λ b. not (is_query_mark b)) x xs ∙ ap (λ b. if not b then x ∷ front xs else []) e
+prefix_here : (x : ℕ) (xs : List ℕ) → is_query_mark x ≡ true → prefix (x ∷ xs) ≡ []
+prefix_here x xs e = take_while-cons (λ b. not (is_query_mark b)) x xs ∙ ap (λ b. if not b then x ∷ prefix xs else []) e
 
-front_later : (x : ℕ) (xs : List ℕ) → is_query_mark x ≡ false → front (x ∷ xs) ≡ x ∷ front xs
-front_later x xs e = take_while-cons (λ b. not (is_query_mark b)) x xs ∙ ap (λ b. if not b then x ∷ front xs else []) e
+prefix_later : (x : ℕ) (xs : List ℕ) → is_query_mark x ≡ false → prefix (x ∷ xs) ≡ x ∷ prefix xs
+prefix_later x xs e = take_while-cons (λ b. not (is_query_mark b)) x xs ∙ ap (λ b. if not b then x ∷ prefix xs else []) e
 
-front_again : (target : List ℕ) → front (front target) ≡ front target
-front_again [] = refl
-front_again (x ∷ xs) =
-    elim (is_query_mark x) as (λ b. is_query_mark x ≡ b → front (front (x ∷ xs)) ≡ front (x ∷ xs)) [
-      | true ↦ λ e. ap front (front_here x xs e) ∙ sym (front_here x xs e)
-      | false ↦ λ e. ap front (front_later x xs e) ∙ front_later x (front xs) e ∙ ap (λ ys. x ∷ ys) (front_again xs) ∙ sym (front_later x xs e)
+prefix_again : (target : List ℕ) → prefix (prefix target) ≡ prefix target
+prefix_again [] = refl
+prefix_again (x ∷ xs) =
+    elim (is_query_mark x) as (λ b. is_query_mark x ≡ b → prefix (prefix (x ∷ xs)) ≡ prefix (x ∷ xs)) [
+      | true ↦ λ e. ap prefix (prefix_here x xs e) ∙ sym (prefix_here x xs e)
+      | false ↦ λ e. ap prefix (prefix_later x xs e) ∙ prefix_later x (prefix xs) e ∙ ap (λ ys. x ∷ ys) (prefix_again xs) ∙ sym (prefix_later x xs e)
     ] refl
 
 begins_slash : List ℕ → Bool
@@ -60,38 +60,38 @@ begins_slash target = starts_with nat_eq target (codes "/")
 mark_no_slash : (x : ℕ) → is_query_mark x ≡ true → (47 == x) ≡ false
 mark_no_slash x e = ap (λ y. 47 == y) (eqb-true x 63 e)
 
-pub slash_front : (target : List ℕ) → starts_with nat_eq (front target) (codes "/") ≡ starts_with nat_eq target (codes "/")
-slash_front [] = refl
-slash_front (x ∷ xs) =
-    elim (is_query_mark x) as (λ b. is_query_mark x ≡ b → starts_with nat_eq (front (x ∷ xs)) (codes "/") ≡ starts_with nat_eq (x ∷ xs) (codes "/")) [
-      | true ↦ λ e. ap (λ ys. starts_with nat_eq ys (codes "/")) (front_here x xs e) ∙ sym (ap (λ b. b && true) (mark_no_slash x e))
-      | false ↦ λ e. ap (λ ys. starts_with nat_eq ys (codes "/")) (front_later x xs e)
+pub slash_prefix : (target : List ℕ) → starts_with nat_eq (prefix target) (codes "/") ≡ starts_with nat_eq target (codes "/")
+slash_prefix [] = refl
+slash_prefix (x ∷ xs) =
+    elim (is_query_mark x) as (λ b. is_query_mark x ≡ b → starts_with nat_eq (prefix (x ∷ xs)) (codes "/") ≡ starts_with nat_eq (x ∷ xs) (codes "/")) [
+      | true ↦ λ e. ap (λ ys. starts_with nat_eq ys (codes "/")) (prefix_here x xs e) ∙ sym (ap (λ b. b && true) (mark_no_slash x e))
+      | false ↦ λ e. ap (λ ys. starts_with nat_eq ys (codes "/")) (prefix_later x xs e)
     ] refl
 
-wanted_front : (target : List ℕ) → wanted_by (front target) ≡ wanted_by target
-wanted_front target = λ i. if slash_front target i then Name (if bytes_eq (front_again target i) (codes "/") then codes "/index.html" else front_again target i) else Refused
+wanted_prefix : (target : List ℕ) → wanted_by (prefix target) ≡ wanted_by target
+wanted_prefix target = λ i. if slash_prefix target i then Name (if bytes_eq (prefix_again target i) (codes "/") then codes "/index.html" else prefix_again target i) else Refused
 
-kept_front : (target : List ℕ) → nat_lt 64 (length (front target)) ≡ false → wanted_by (take 64 (front target)) ≡ wanted_by target
-kept_front target e = ap wanted_by (take_all 64 (front target) (ltb-false 64 (length (front target)) e)) ∙ wanted_front target
+kept_prefix : (target : List ℕ) → nat_lt 64 (length (prefix target)) ≡ false → wanted_by (take 64 (prefix target)) ≡ wanted_by target
+kept_prefix target e = ap wanted_by (take_all 64 (prefix target) (ltb-false 64 (length (prefix target)) e)) ∙ wanted_prefix target
 
 -- ---- both
 
-pub told_by_heard : (request : List ℕ) → (heard SpaceOrLine (after_method request)).over ≡ false
-    → wanted request ≡ told_so_far (heard Space request) (heard SpaceOrLine (after_method request))
+pub told_by_heard : (request : List ℕ) → (delivered SpaceOrLine (after_method request)).over ≡ false
+    → wanted request ≡ told_so_far (delivered Space request) (delivered SpaceOrLine (after_method request))
 told_by_heard request e =
     λ i. if not (has_ended Space request) then NotYet
     else (if not (is_get_word (method_of request) i) then Refused
-    else (if not (has_ended SpaceOrLine (after_method request)) then NotYet else sym (kept_front (target_of request) e) i))
+    else (if not (has_ended SpaceOrLine (after_method request)) then NotYet else sym (kept_prefix (target_of request) e) i))
 
 pub told_in_pieces : ToldInPieces
 told_in_pieces pieces later rest e =
-    let method : fold after (fresh Space) pieces ≡ heard Space (concat pieces) = hears_in_pieces Space pieces in
-    let target : fold after (fresh SpaceOrLine) later ≡ heard SpaceOrLine (after_method (concat pieces)) =
-    hears_in_pieces SpaceOrLine later ∙ ap (heard SpaceOrLine) (sym rest) in
+    let method : fold after (fresh Space) pieces ≡ delivered Space (concat pieces) = hears_in_pieces Space pieces in
+    let target : fold after (fresh SpaceOrLine) later ≡ delivered SpaceOrLine (after_method (concat pieces)) =
+    hears_in_pieces SpaceOrLine later ∙ ap (delivered SpaceOrLine) (sym rest) in
     told_by_heard (concat pieces) (sym (ap (λ (line : Line). line.over) target) ∙ e) ∙ sym (λ i. told_so_far (method i) (target i))
 
 -- a long name is the name that is asked for
-pub named_by : (target name : List ℕ) → 64 < length (front target) → wanted_by target ≡ Name name → 64 < length name
+pub named_by : (target name : List ℕ) → 64 < length (prefix target) → wanted_by target ≡ Name name → 64 < length name
 named_by target name long e = by_slash (starts_with nat_eq target (codes "/")) e
   where
     name_of : Wanted → List ℕ
@@ -99,15 +99,15 @@ named_by target name long e = by_slash (starts_with nat_eq target (codes "/")) e
     name_of Refused = []
     name_of (Name n) = n
 
-    by_short : (b : Bool) → bytes_eq (front target) (codes "/") ≡ b → 64 < length (if b then codes "/index.html" else front target)
-    by_short true s = absurd (omega (arith, ap length ((bytes_eq-Decides (front target) (codes "/")).0 s), (let one : length (codes "/") ≡ 1 = refl in one)))
+    by_short : (b : Bool) → bytes_eq (prefix target) (codes "/") ≡ b → 64 < length (if b then codes "/index.html" else prefix target)
+    by_short true s = absurd (omega (arith, ap length ((bytes_eq-Decides (prefix target) (codes "/")).0 s), (let one : length (codes "/") ≡ 1 = refl in one)))
     by_short false s = long
 
     by_slash : (b : Bool) → (if b then Name (name_in target) else Refused) ≡ Name name → 64 < length name
-    by_slash true h = subst (λ n. 64 < length n) (ap name_of h) (by_short (bytes_eq (front target) (codes "/")) refl)
+    by_slash true h = subst (λ n. 64 < length n) (ap name_of h) (by_short (bytes_eq (prefix target) (codes "/")) refl)
     by_slash false h = absurd cc
 
-long_by : (a b c : Bool) (target name : List ℕ) → 64 < length (front target) → by_tests a b c target ≡ Name name → 64 < length name
+long_by : (a b c : Bool) (target name : List ℕ) → 64 < length (prefix target) → by_tests a b c target ≡ Name name → 64 < length name
 long_by false b c target name long e = absurd cc
 long_by true false c target name long e = absurd cc
 long_by true true false target name long e = absurd cc
@@ -116,6 +116,6 @@ long_by true true true target name long e = named_by target name long e
 pub long_names : LongNames
 long_names pieces later rest name over e =
     let request = concat pieces in
-    let target : fold after (fresh SpaceOrLine) later ≡ heard SpaceOrLine (after_method request) = hears_in_pieces SpaceOrLine later ∙ ap (heard SpaceOrLine) (sym rest) in
-    let long = ltb-true 64 (length (front (target_of request))) (sym (ap (λ (line : Line). line.over) target) ∙ over) in
+    let target : fold after (fresh SpaceOrLine) later ≡ delivered SpaceOrLine (after_method request) = hears_in_pieces SpaceOrLine later ∙ ap (delivered SpaceOrLine) (sym rest) in
+    let long = ltb-true 64 (length (prefix (target_of request))) (sym (ap (λ (line : Line). line.over) target) ∙ over) in
     long_by (has_ended Space request) (bytes_eq (method_of request) (codes "GET")) (has_ended SpaceOrLine (after_method request)) (target_of request) name long e

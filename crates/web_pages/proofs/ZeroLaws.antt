@@ -1,4 +1,5 @@
--- The page of a target at which each call is given the zero record of its kind.
+-- The page of a target in which each call has the zero record of its kind.
+-- [add: function] Its text if nothing has happened yet.
 use Rattle.std.proofs.Common.{◌≡◌, ℕ, zero, suc, ◌≤◌, true, false, List, [], ◌∷◌, ◌++◌, length, replicate, Option, Some, None, refl, sym, ap, ◌∙◌, arith, append-nil}
 use Rattle.std.specs.List.{flat_map, list_any}
 use Rattle.std.proofs.lemmas.Bool.{or_right}
@@ -19,14 +20,14 @@ use Rattle.web_pages.specs.Pieces.{Say, reply_pieces}
 use Rattle.web_pages.specs.Pieces.Say.{Plain, Made}
 use Rattle.script_lang.specs.Functions.{takes_capture}
 use Rattle.web_pages.specs.Pages.{place_of, made_text, page_text, page_for}
-use Rattle.web_pages.specs.ZeroPages.{zero_moment, zero_said, zero_reply, request_for, zero_page, most_captures}
+use Rattle.web_pages.specs.ZeroPages.{zero_snapshot, zero_said, zero_reply, request_for, zero_page, most_captures}
 use Rattle.generators.specs.Giving.{uip}
 use Rattle.web_pages.specs.Lemmas.Growing.{silent_text, made_first}
 use Rattle.web_pages.specs.Lemmas.Deciding.{decided_by_target}
 
 -- ---- the text
 
-no_number : (place : Option ℕ) → option_map_or (λ at. slice_index_or zero_moment.numbers at 0) place 0 ≡ 0
+no_number : (place : Option ℕ) → option_map_or (λ at. slice_index_or zero_snapshot.numbers at 0) place 0 ≡ 0
 no_number None = refl
 no_number (Some place) = refl
 
@@ -37,23 +38,23 @@ silent_zero NetStats argument e = absurd cc
 silent_zero Ticks argument e = absurd cc
 silent_zero Unknown argument e = refl
 
-made_zero : (files : List File) (function : Function) (argument : List ℕ) → made_text files function argument zero_moment ≡ zero_said (Made function argument)
-made_zero files function argument = ap (λ hits. capture_text (capture_of function hits zero_moment.now)) (no_number (place_of files argument))
+made_zero : (files : List File) (function : Function) (argument : List ℕ) → made_text files function argument zero_snapshot ≡ zero_said (Made function argument)
+made_zero files function argument = ap (λ hits. capture_text (capture_of function hits zero_snapshot.now)) (no_number (place_of files argument))
 
-pub zero_text : (files : List File) (says : List (Say Function)) (n : ℕ) → length says ≤ n → page_text files says (replicate n zero_moment) ≡ flat_map zero_said says
+pub zero_text : (files : List File) (says : List (Say Function)) (n : ℕ) → length says ≤ n → page_text files says (replicate n zero_snapshot) ≡ flat_map zero_said says
 zero_text files [] n h = refl
 zero_text files (Plain text ∷ more) n h = ap (λ rest. text ++ rest) (zero_text files more n (omega arith))
 zero_text files (Made function argument ∷ more) zero h = absurd (omega arith)
 zero_text files (Made function argument ∷ more) (suc n) h =
     elim (takes_capture function) as (λ b. takes_capture function ≡ b
-    → page_text files (Made function argument ∷ more) (replicate (suc n) zero_moment) ≡ zero_said (Made function argument) ++ flat_map zero_said more) [
+    → page_text files (Made function argument ∷ more) (replicate (suc n) zero_snapshot) ≡ zero_said (Made function argument) ++ flat_map zero_said more) [
       | true ↦ λ e.
-          made_first uip files function argument more zero_moment (replicate n zero_moment) e
+          made_first uip files function argument more zero_snapshot (replicate n zero_snapshot) e
           ∙ (λ i. made_zero files function argument i ++ zero_text files more n (omega arith) i)
       | false ↦ λ e.
-          silent_text uip files function argument more (replicate (suc n) zero_moment) e
+          silent_text uip files function argument more (replicate (suc n) zero_snapshot) e
           ∙ zero_text files more (suc n) (omega arith)
-          ∙ ap (λ front. front ++ flat_map zero_said more) (sym (silent_zero function argument e))
+          ∙ ap (λ prefix. prefix ++ flat_map zero_said more) (sym (silent_zero function argument e))
     ] refl
 
 -- ---- the target
@@ -79,7 +80,7 @@ zero_for files NotYet = []
 zero_for files Refused = []
 zero_for files (Name name) = zero_reply files (file_named files name)
 
-page_for_zero : (files : List File) (asked : Wanted) → page_for files asked (replicate (most_captures files asked) zero_moment) ≡ zero_for files asked
+page_for_zero : (files : List File) (asked : Wanted) → page_for files asked (replicate (most_captures files asked) zero_snapshot) ≡ zero_for files asked
 page_for_zero files NotYet = refl
 page_for_zero files Refused = refl
 page_for_zero files (Name name) = zero_text files (reply_pieces files name) (length (reply_pieces files name)) (omega arith)

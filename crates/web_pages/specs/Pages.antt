@@ -1,5 +1,5 @@
--- The page of a request: its pieces joined, each call that takes a capture made from the next one. It stops before the first
--- such call that has none left, and it is whole where nothing stopped it.
+-- The page of a request: its concatenated pieces, where each call that takes a snapshot is made from the next one. The page stops before
+-- the first such call without a snapshot. It is complete if nothing stopped it.
 use Rattle.std.specs.Prelude.{ℕ, Bool, true, false, List, [], ◌∷◌, ◌++◌, drop, length, if◌then◌else◌, Option, position}
 use Rattle.std.specs.List.{slice_index_or}
 use Rattle.std.specs.Option.{option_map_or}
@@ -7,28 +7,28 @@ use Rattle.std.specs.Str.{bytes_eq}
 use Rattle.script_lang.specs.declared.function.Function.{Function}
 use Rattle.site_image.specs.Files.{File}
 use Rattle.generators.specs.Giving.{Giving, uip}
-use Rattle.app_events.specs.Part.{Moment}
+use Rattle.app_events.specs.AppSpec.{Snapshot}
 use Rattle.app_events.specs.Pages.{Pages}
 use Rattle.web_pages.specs.Requests.{Wanted, wanted}
 use Rattle.web_pages.specs.Requests.Wanted.{NotYet, Refused, Name}
 use Rattle.web_pages.specs.Pieces.{Say, reply_pieces_by}
 use Rattle.web_pages.specs.Pieces.Say.{Plain, Made}
 
--- where the file of a name stands among the files
+-- the index of the file with a name
 abbrev pub place_of : List File → List ℕ → Option ℕ
 place_of files name = position (λ file. bytes_eq file.name name) files
 
--- the hit count of the file that the argument names, 0 where there is no such file
+-- the hit count of the file that the argument names, 0 if there is no such file
 abbrev pub hits_of : List File → List ℕ → List ℕ → ℕ
 hits_of files hits argument = option_map_or (λ place. slice_index_or hits place 0) (place_of files argument) 0
 
--- What a call says at a moment. The numbers behind the hits are the own state.
-abbrev pub made_by : {F : Type 0} → Giving F → List File → F → List ℕ → Moment → List ℕ
-made_by g files function argument moment =
-    g.said function argument (hits_of files moment.numbers argument) (drop (length files) moment.numbers) moment.now
+-- The text of a call with a snapshot. The counters after the hits are the application's own.
+abbrev pub made_by : {F : Type 0} → Giving F → List File → F → List ℕ → Snapshot → List ℕ
+made_by g files function argument snapshot =
+    g.output function argument (hits_of files snapshot.numbers argument) (drop (length files) snapshot.numbers) snapshot.now
 
--- the text of pieces, as far as the captures reach
-abbrev pub text_by : {F : Type 0} → Giving F → List File → List (Say F) → List Moment → List ℕ
+-- the text of pieces, as far as the snapshots reach
+abbrev pub text_by : {F : Type 0} → Giving F → List File → List (Say F) → List Snapshot → List ℕ
 text_by g files [] captures = []
 text_by g files (Plain text ∷ more) captures = text ++ text_by g files more captures
 text_by g files (Made function argument ∷ more) [] = if g.calling.takes_capture function then [] else text_by g files more []
@@ -36,55 +36,55 @@ text_by g files (Made function argument ∷ more) (capture ∷ later) =
     if g.calling.takes_capture function then made_by g files function argument capture ++ text_by g files more later
     else text_by g files more (capture ∷ later)
 
--- nothing stops the pieces
-abbrev pub reach_by : {F : Type 0} → Giving F → List (Say F) → List Moment → Bool
+-- Nothing stops the pieces.
+abbrev pub reach_by : {F : Type 0} → Giving F → List (Say F) → List Snapshot → Bool
 reach_by g [] captures = true
 reach_by g (Plain text ∷ more) captures = reach_by g more captures
 reach_by g (Made function argument ∷ more) [] = if g.calling.takes_capture function then false else reach_by g more []
 reach_by g (Made function argument ∷ more) (capture ∷ later) =
     if g.calling.takes_capture function then reach_by g more later else reach_by g more (capture ∷ later)
 
-abbrev pub page_for_by : {F : Type 0} → Giving F → List File → Wanted → List Moment → List ℕ
+abbrev pub page_for_by : {F : Type 0} → Giving F → List File → Wanted → List Snapshot → List ℕ
 page_for_by g files (Name name) captures = text_by g files (reply_pieces_by g.calling.named files name) captures
 page_for_by g files _ captures = []
 
-abbrev pub whole_for_by : {F : Type 0} → Giving F → List File → Wanted → List Moment → Bool
+abbrev pub whole_for_by : {F : Type 0} → Giving F → List File → Wanted → List Snapshot → Bool
 whole_for_by g files NotYet captures = false
 whole_for_by g files Refused captures = true
 whole_for_by g files (Name name) captures = reach_by g (reply_pieces_by g.calling.named files name) captures
 
--- the page of a request and captures
-abbrev pub page_by : {F : Type 0} → Giving F → List File → List ℕ → List Moment → List ℕ
+-- the page of a request and snapshots
+abbrev pub page_by : {F : Type 0} → Giving F → List File → List ℕ → List Snapshot → List ℕ
 page_by g files request captures = page_for_by g files (wanted request) captures
 
--- and whether it is whole
-abbrev pub is_whole_by : {F : Type 0} → Giving F → List File → List ℕ → List Moment → Bool
+-- whether it is complete
+abbrev pub is_whole_by : {F : Type 0} → Giving F → List File → List ℕ → List Snapshot → Bool
 is_whole_by g files request captures = whole_for_by g files (wanted request) captures
 
 -- the pages of a site
 abbrev pub pages_by : {F : Type 0} → Giving F → List File → Pages
 pages_by g files = record { text = page_by g files; whole = is_whole_by g files }
 
--- Where the functions are those of uIP.
-abbrev pub made_text : List File → Function → List ℕ → Moment → List ℕ
+-- With the functions of uIP.
+abbrev pub made_text : List File → Function → List ℕ → Snapshot → List ℕ
 made_text = made_by uip
 
-abbrev pub page_text : List File → List (Say Function) → List Moment → List ℕ
+abbrev pub page_text : List File → List (Say Function) → List Snapshot → List ℕ
 page_text = text_by uip
 
-abbrev pub reach_end : List (Say Function) → List Moment → Bool
+abbrev pub reach_end : List (Say Function) → List Snapshot → Bool
 reach_end = reach_by uip
 
-abbrev pub page_for : List File → Wanted → List Moment → List ℕ
+abbrev pub page_for : List File → Wanted → List Snapshot → List ℕ
 page_for = page_for_by uip
 
-abbrev pub whole_for : List File → Wanted → List Moment → Bool
+abbrev pub whole_for : List File → Wanted → List Snapshot → Bool
 whole_for = whole_for_by uip
 
-abbrev pub page : List File → List ℕ → List Moment → List ℕ
+abbrev pub page : List File → List ℕ → List Snapshot → List ℕ
 page = page_by uip
 
-abbrev pub is_page_whole : List File → List ℕ → List Moment → Bool
+abbrev pub is_page_whole : List File → List ℕ → List Snapshot → Bool
 is_page_whole = is_whole_by uip
 
 abbrev pub pages_of : List File → Pages

@@ -1,4 +1,5 @@
 -- The pieces of a reply: its head, the line of its content type, and its body.
+-- [add: piece] The piece in the list of pieces of a reply.
 use Rattle.std.specs.Prelude.{ℕ, ◌+◌, List, [], ◌∷◌, ◌++◌, map, codes, slice_range, if◌then◌else◌, Option}
 use Rattle.std.specs.Option.{option_map_or}
 use Rattle.script_lang.specs.declared.function.Function.{Function}
@@ -9,7 +10,7 @@ use Rattle.script_lang.specs.Pieces.{pieces_by}
 use Rattle.site_image.specs.Names.{is_script}
 use Rattle.site_image.specs.Files.{File, file_named, kind_of}
 
--- Bytes that stand in the site, or a call of a function whose text is made.
+-- Bytes of the site, or a call of a function that generates text.
 pub data Say (F : Type 0) : Type 0 where
   Plain : (text : List ℕ) → Say F
   Made : (function : F) (argument : List ℕ) → Say F
@@ -25,27 +26,27 @@ missing_head = codes "HTTP/1.0 404 Not found\r\nServer: uIP/1.0\r\nConnection: c
 abbrev pub kind_line : List ℕ → List ℕ
 kind_line kind = codes "Content-type: " ++ kind ++ codes "\r\n\r\n"
 
--- the bytes of a file, or these where there is no file
+-- the bytes of a file, or these if there is no file
 abbrev pub bytes_or : List ℕ → Option File → List ℕ
 bytes_or bytes found = option_map_or (λ file. file.content) found bytes
 
--- what a piece of a script says: a text run its bytes, an include the bytes of the file that it names, as they are
+-- A piece of a script: a text run is its bytes, an include is the bytes of the file that it names, unchanged.
 abbrev pub says : {F : Type 0} → List File → List ℕ → PieceOf F → Say F
 says files script (Text at len) = Plain (slice_range script at (at + len))
 says files script (Include at len) = Plain (bytes_or [] (file_named files (slice_range script at (at + len))))
 says files script (Call function at len) = Made function (slice_range script at (at + len))
 
--- the pieces of a file's body, with the functions of these names: those of a script, or its bytes
+-- the pieces of the body of a file, with the functions of these names: those of a script, or its bytes
 abbrev pub body_by : {F : Type 0} → (List ℕ → F) → List File → File → List (Say F)
 body_by named files file =
     if is_script file.name then map (λ found. says files file.content found.piece) (pieces_by named file.content 0)
     else Plain file.content ∷ []
 
--- the reply of a file that is found
+-- the reply with a file that is found
 abbrev pub found_reply_by : {F : Type 0} → (List ℕ → F) → List File → File → List (Say F)
 found_reply_by named files file = Plain found_head ∷ Plain (kind_line (kind_of file)) ∷ body_by named files file
 
--- the reply where no file has the name: its body is the bytes of `/404.html`, as they are, or a short text
+-- the reply if no file has the name: its body is the bytes of `/404.html`, unchanged, or a short text
 abbrev pub missing_reply : {F : Type 0} → List File → List (Say F)
 missing_reply files =
     Plain missing_head ∷ Plain (kind_line (codes "text/html"))
@@ -58,7 +59,7 @@ reply_to_by named files found = option_map_or (found_reply_by named files) found
 abbrev pub reply_pieces_by : {F : Type 0} → (List ℕ → F) → List File → List ℕ → List (Say F)
 reply_pieces_by named files name = reply_to_by named files (file_named files name)
 
--- Where the functions are those of uIP.
+-- With the functions of uIP.
 abbrev pub body_of : List File → File → List (Say Function)
 body_of = body_by function_named
 

@@ -1,4 +1,4 @@
--- What a request asks for (RFC 1945, sections 5 and 5.1). A request is the list of all bytes that came on one connection.
+-- What a request names (RFC 1945, sections 5 and 5.1). A request is the list of all bytes received on one connection.
 use Rattle.std.specs.Prelude.{ℕ, ◌+◌, Bool, not, List, length, drop, codes, nat_eq, if◌then◌else◌}
 use Rattle.std.specs.List.{before_first, list_any, starts_with}
 use Rattle.std.specs.Str.{bytes_eq}
@@ -6,7 +6,7 @@ use Rattle.protosocket.specs.declared.stops.Stops.{Stops}
 use Rattle.protosocket.specs.declared.stops.Stops.TheVariants.{Space, SpaceOrLine}
 use Rattle.protosocket.specs.Line.{is_stop, is_query_mark, word_of}
 
--- Nothing is decided yet, the request is refused, or the file of a name is asked for.
+-- Nothing is decided yet, the request is refused, or the file with a name is requested.
 pub data Wanted : Type 0 where
   NotYet : Wanted
   Refused : Wanted
@@ -20,7 +20,7 @@ has_ended stops bytes = list_any (is_stop stops) bytes
 abbrev pub method_of : List ℕ → List ℕ
 method_of request = word_of Space request
 
--- what stands behind the first word and its space
+-- the bytes after the first word and its space
 abbrev pub after_method : List ℕ → List ℕ
 after_method request = drop (length (method_of request) + 1) request
 
@@ -28,16 +28,16 @@ after_method request = drop (length (method_of request) + 1) request
 abbrev pub target_of : List ℕ → List ℕ
 target_of request = word_of SpaceOrLine (after_method request)
 
--- the name in a target: what stands before its first '?'; `/` is short for `/index.html`
+-- the name in a target: the bytes before its first '?'; `/` is short for `/index.html`
 abbrev pub name_in : List ℕ → List ℕ
 name_in target =
     if bytes_eq (before_first is_query_mark target) (codes "/") then codes "/index.html" else before_first is_query_mark target
 
--- a target that has ended: it begins with `/`
+-- a target that has ended; it must begin with `/`
 abbrev pub wanted_by : List ℕ → Wanted
 wanted_by target = if starts_with nat_eq target (codes "/") then Name (name_in target) else Refused
 
--- what a request asks for; more bytes do not change what is decided
+-- what a request names; more bytes do not change a decision
 abbrev pub wanted : List ℕ → Wanted
 wanted request =
     if not (has_ended Space request) then NotYet

@@ -1,9 +1,9 @@
--- What each call does to a connection of the web server. Its text is the page of the bytes that were heard and of the captures
--- that were taken. The numbers are the hits of the files, in their order.
+-- The transitions of a connection of the web server. Its output is the page of the delivered bytes and the captured snapshots. The
+-- counters are the hits of the files, in their order.
 use Rattle.std.specs.Prelude.{ℕ, ◌+◌, ◌-◌, ◌%◌, ◌^◌, ◌==◌, Bool, ◌&&◌, false, not, List, [], ◌∷◌, ◌++◌, length, min, nat_lt, slice_set, if◌then◌else◌, Option}
 use Rattle.std.specs.List.{slice_index_or}
 use Rattle.std.specs.Option.{option_map_or}
-use Rattle.app_events.specs.Part.{Part, Meaning}
+use Rattle.app_events.specs.AppSpec.{AppState, AppSpec}
 use Rattle.app_events.specs.declared.want.Want.{Want}
 use Rattle.app_events.specs.declared.want.Want.TheVariants.{Nothing, Send, Close, Abort}
 use Rattle.site_image.specs.Files.{File}
@@ -13,50 +13,50 @@ use Rattle.generators.specs.Giving.{Giving, uip}
 use Rattle.web_pages.specs.Pages.{page_by, is_whole_by, place_of}
 use Rattle.web_pages.specs.declared.TheConstants.{MOST_POLLS, LARGEST_SEGMENT}
 
--- a hit of the file at a place: its count rises by one modulo 2^32
+-- A hit of the file with an index: its count rises by one, modulo 2^32.
 abbrev pub hit_at : List ℕ → Option ℕ → List ℕ
 hit_at hits found = option_map_or (λ place. slice_set hits place ((slice_index_or hits place 0 + 1) % 2 ^ 32)) found hits
 
--- the hits where what is decided was open before: the file that is asked for is hit
+-- the hits after delivery: if the request was undecided and now names a file, that file is hit
 abbrev pub hits_by : List File → List ℕ → Wanted → Wanted → List ℕ
 hits_by files hits NotYet (Name name) = hit_at hits (place_of files name)
 hits_by files hits _ _ = hits
 
--- all of the page so far is acknowledged
-abbrev pub is_acknowledged_by : {F : Type 0} → Giving F → List File → Part → Bool
-is_acknowledged_by g files part = part.acked == length (page_by g files part.heard part.captures)
+-- The whole page so far is acknowledged.
+abbrev pub is_acknowledged_by : {F : Type 0} → Giving F → List File → AppState → Bool
+is_acknowledged_by g files part = part.acked == length (page_by g files part.delivered part.captures)
 
--- a call that has no capture stops the page of a request that is decided
-abbrev pub waits_for_capture_by : {F : Type 0} → Giving F → List File → Wanted → Part → Bool
-waits_for_capture_by g files (Name name) part = not (is_whole_by g files part.heard part.captures)
+-- A call without a snapshot stops the page of a decided request.
+abbrev pub waits_for_capture_by : {F : Type 0} → Giving F → List File → Wanted → AppState → Bool
+waits_for_capture_by g files (Name name) part = not (is_whole_by g files part.delivered part.captures)
 waits_for_capture_by g files _ part = false
 
--- what is left of the page so far
-abbrev pub left_of_by : {F : Type 0} → Giving F → List File → Part → ℕ
-left_of_by g files part = length (page_by g files part.heard part.captures) - part.acked
+-- the number of bytes of the page so far that are not acknowledged
+abbrev pub left_of_by : {F : Type 0} → Giving F → List File → AppState → ℕ
+left_of_by g files part = length (page_by g files part.delivered part.captures) - part.acked
 
--- It gives up after so many ticks with nothing to send, closes when the whole page is acknowledged, and sends what is left of the
--- page so far.
-abbrev pub web_want_by : {F : Type 0} → Giving F → List File → Part → Want
+-- It aborts after `MOST_POLLS` ticks with nothing to send. It closes when the whole page is acknowledged. Otherwise it sends the rest of
+-- the page so far.
+abbrev pub web_want_by : {F : Type 0} → Giving F → List File → AppState → Want
 web_want_by g files part =
     if part.polls == MOST_POLLS then Abort
-    else if is_whole_by g files part.heard part.captures && is_acknowledged_by g files part then Close
+    else if is_whole_by g files part.delivered part.captures && is_acknowledged_by g files part then Close
     else if nat_lt 0 (left_of_by g files part) then Send (min LARGEST_SEGMENT (left_of_by g files part))
     else Nothing
 
-abbrev pub web_meaning_by : {F : Type 0} → Giving F → List File → Meaning
-web_meaning_by g files = record {
-  said = λ part. page_by g files part.heard part.captures;
+abbrev pub web_spec_by : {F : Type 0} → Giving F → List File → AppSpec
+web_spec_by g files = record {
+  output = λ part. page_by g files part.delivered part.captures;
   connected = λ hits port. record {
-    part = record { port = port; heard = []; captures = []; acked = 0; polls = 0; own = 0 };
+    part = record { port = port; delivered = []; captures = []; acked = 0; polls = 0; own = 0 };
     numbers = hits;
   };
   newdata = λ hits part piece. record {
-    part = record part { heard = part.heard ++ piece; polls = 0 };
-    numbers = hits_by files hits (wanted part.heard) (wanted (part.heard ++ piece));
+    part = record part { delivered = part.delivered ++ piece; polls = 0 };
+    numbers = hits_by files hits (wanted part.delivered) (wanted (part.delivered ++ piece));
   };
   prepare = λ hits part now.
-      if is_acknowledged_by g files part && waits_for_capture_by g files (wanted part.heard) part
+      if is_acknowledged_by g files part && waits_for_capture_by g files (wanted part.delivered) part
       then record part { captures = part.captures ++ record { numbers = hits; now = now } ∷ [] }
       else part;
   want = λ hits part. web_want_by g files part;
@@ -65,18 +65,18 @@ web_meaning_by g files = record {
   ended = λ hits part how. hits;
 }
 
--- Where the functions are those of uIP.
-abbrev pub is_acknowledged : List File → Part → Bool
+-- With the functions of uIP.
+abbrev pub is_acknowledged : List File → AppState → Bool
 is_acknowledged = is_acknowledged_by uip
 
-abbrev pub waits_for_capture : List File → Wanted → Part → Bool
+abbrev pub waits_for_capture : List File → Wanted → AppState → Bool
 waits_for_capture = waits_for_capture_by uip
 
-abbrev pub left_of : List File → Part → ℕ
+abbrev pub left_of : List File → AppState → ℕ
 left_of = left_of_by uip
 
-abbrev pub web_want : List File → Part → Want
+abbrev pub web_want : List File → AppState → Want
 web_want = web_want_by uip
 
-abbrev pub web_meaning : List File → Meaning
-web_meaning = web_meaning_by uip
+abbrev pub web_spec : List File → AppSpec
+web_spec = web_spec_by uip

@@ -1,4 +1,4 @@
--- What is asked for, told by what is kept of the two words as they are heard: of each name the first 64 bytes before a '?'.
+-- What a request names, determined by what is kept of its first two words: the first 64 bytes of each before a '?'.
 use Rattle.std.specs.Prelude.{◌≡◌, ◌<◌, ℕ, Bool, ◌&&◌, false, true, not, List, length, codes, if◌then◌else◌}
 use Rattle.std.specs.List.{concat, fold}
 use Rattle.std.specs.Str.{bytes_eq}
@@ -18,15 +18,15 @@ told_so_far method target =
     else if not target.done then NotYet
     else wanted_by target.name
 
--- In whatever pieces the request came, and what follows its method, the two words tell what is asked for, unless more of the
--- target's name came than is kept.
+-- The two words determine what a request names, however it is split and whatever follows its method. Exception: the name in its target is
+-- longer than what is kept.
 abbrev pub ToldInPieces : Type 0
 ToldInPieces =
     (pieces later : List (List ℕ)) → after_method (concat pieces) ≡ concat later
     → (fold after (fresh SpaceOrLine) later).over ≡ false
     → wanted (concat pieces) ≡ told_so_far (fold after (fresh Space) pieces) (fold after (fresh SpaceOrLine) later)
 
--- Where more came, the name that is asked for is longer than any file's.
+-- If the name is longer, it is longer than the name of any file.
 abbrev pub LongNames : Type 0
 LongNames =
     (pieces later : List (List ℕ)) → after_method (concat pieces) ≡ concat later → (name : List ℕ) →

@@ -1,7 +1,8 @@
--- Pages worked by hand: their bytes, with the captures of a node at which nothing has happened yet.
+-- Pages worked by hand: their bytes, with the snapshots of a node at which nothing has happened yet.
+-- [add: counter] The number of zeros.
 use Rattle.std.specs.Prelude.{◌≡◌, ℕ, true, false, List, [], ◌∷◌, ◌++◌, codes, length, replicate}
 use Rattle.site_image.specs.Files.{File}
-use Rattle.app_events.specs.Part.{Moment}
+use Rattle.app_events.specs.AppSpec.{Snapshot}
 use Rattle.web_pages.specs.Pages.{page, is_page_whole}
 use Rattle.web_pages.specs.ZeroPages.{zero_page}
 
@@ -30,15 +31,15 @@ corner_site = file (codes "/a.shtml") (codes "x%y%!:/e.txt\n%! nosuch\nz%! ticks
 abbrev pub include_site : List File
 include_site = file (codes "/b.shtml") (codes "a%!:/c.txt\nb") ∷ file (codes "/c.txt") (codes "%!x") ∷ []
 
--- a script that tells its own hits
+-- a script that shows its own hits
 abbrev pub hits_site : List File
 hits_site = file (codes "/h.shtml") (codes "%! file-stats /h.shtml\n") ∷ []
 
--- a script that tells the hits of a file that is not there
+-- a script that shows the hits of a file that does not exist
 abbrev pub other_site : List File
 other_site = file (codes "/o.shtml") (codes "%! file-stats /nosuch") ∷ []
 
--- a page of its own where no file has the name
+-- a page of its own if no file has the name
 abbrev pub missing_site : List File
 missing_site = file (codes "/404.html") (codes "gone") ∷ []
 
@@ -46,13 +47,13 @@ missing_site = file (codes "/404.html") (codes "gone") ∷ []
 abbrev pub typed_site : List File
 typed_site = record { name = codes "/f"; kind = codes "text/x"; content = codes "y" } ∷ []
 
--- calls of which each takes one capture, but for the unknown one
+-- calls that each take one snapshot, except the unknown one
 abbrev pub calls_site : List File
 calls_site = file (codes "/s.shtml") (codes "a%! ticks\nb%! nosuch\nc%! ticks\nd") ∷ []
 
--- a moment with a hit count for the first file, and a tick count
-abbrev pub moment_at : ℕ → ℕ → Moment
-moment_at hits ticks = record { numbers = hits ∷ []; now = record { ticks = ticks; net = replicate 20 0; rows = [] } }
+-- a snapshot with a hit count for the first file, and a tick count
+abbrev pub snapshot_at : ℕ → ℕ → Snapshot
+snapshot_at hits ticks = record { numbers = hits ∷ []; now = record { ticks = ticks; net = replicate 20 0; rows = [] } }
 
 abbrev pub get : List ℕ → List ℕ
 get target = codes "GET " ++ target ++ codes " HTTP/1.0\r\n\r\n"
@@ -64,7 +65,7 @@ pub record AreWorkedPages : Type 0 where
   pub query : zero_page hello_site (codes "/?a=b") ≡ ok ++ as_html ++ codes "hello\n"
   pub not_yet : page hello_site (codes "GET /") [] ≡ []
   pub not_yet_open : is_page_whole hello_site (codes "GET /") [] ≡ false
-  -- a request that is refused has the empty page, and it is whole
+  -- a request that is refused has the empty page, and it is complete
   pub refused : zero_page hello_site (codes "x") ≡ []
   pub refused_whole : is_page_whole hello_site (get (codes "x")) [] ≡ true
   -- no file has the name
@@ -81,13 +82,13 @@ pub record AreWorkedPages : Type 0 where
   pub raw : zero_page include_site (codes "/c.txt") ≡ ok ++ codes "Content-type: text/plain\r\n\r\n%!x"
   pub hits : zero_page hits_site (codes "/h.shtml") ≡ ok ++ as_html ++ codes "         0"
   pub hits_length : length (zero_page hits_site (codes "/h.shtml")) ≡ 90
-  pub second_hit : page hits_site (get (codes "/h.shtml")) (moment_at 2 7 ∷ []) ≡ ok ++ as_html ++ codes "         2"
-  pub no_hits : page other_site (get (codes "/o.shtml")) (moment_at 2 7 ∷ []) ≡ ok ++ as_html ++ codes "         0"
+  pub second_hit : page hits_site (get (codes "/h.shtml")) (snapshot_at 2 7 ∷ []) ≡ ok ++ as_html ++ codes "         2"
+  pub no_hits : page other_site (get (codes "/o.shtml")) (snapshot_at 2 7 ∷ []) ≡ ok ++ as_html ++ codes "         0"
   pub own_type : zero_page typed_site (codes "/f") ≡ ok ++ codes "Content-type: text/x\r\n\r\ny"
-  -- the page goes as far as its captures reach; a call of an unknown function takes none
+  -- the page reaches as far as its snapshots; a call of an unknown function takes none
   pub no_capture : page calls_site (get (codes "/s.shtml")) [] ≡ ok ++ as_html ++ codes "a"
-  pub one_capture : page calls_site (get (codes "/s.shtml")) (moment_at 0 7 ∷ []) ≡ ok ++ as_html ++ codes "a         7bc"
-  pub one_capture_open : is_page_whole calls_site (get (codes "/s.shtml")) (moment_at 0 7 ∷ []) ≡ false
-  pub two_captures : page calls_site (get (codes "/s.shtml")) (moment_at 0 7 ∷ moment_at 0 12 ∷ [])
+  pub one_capture : page calls_site (get (codes "/s.shtml")) (snapshot_at 0 7 ∷ []) ≡ ok ++ as_html ++ codes "a         7bc"
+  pub one_capture_open : is_page_whole calls_site (get (codes "/s.shtml")) (snapshot_at 0 7 ∷ []) ≡ false
+  pub two_captures : page calls_site (get (codes "/s.shtml")) (snapshot_at 0 7 ∷ snapshot_at 0 12 ∷ [])
       ≡ ok ++ as_html ++ codes "a         7bc        12d"
-  pub two_captures_whole : is_page_whole calls_site (get (codes "/s.shtml")) (moment_at 0 7 ∷ moment_at 0 12 ∷ []) ≡ true
+  pub two_captures_whole : is_page_whole calls_site (get (codes "/s.shtml")) (snapshot_at 0 7 ∷ snapshot_at 0 12 ∷ []) ≡ true

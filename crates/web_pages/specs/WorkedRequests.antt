@@ -1,12 +1,12 @@
--- Requests worked by hand: what each asks for.
+-- Requests worked by hand: what each names.
 use Rattle.std.specs.Prelude.{◌≡◌, ℕ, ◌+◌, List, [], ◌∷◌, ◌++◌, codes, map, replicate, take, length}
 use Rattle.std.specs.List.{range_with_len}
 use Rattle.web_pages.specs.Requests.{Wanted, wanted}
 use Rattle.web_pages.specs.Requests.Wanted.{NotYet, Refused, Name}
 
--- what is asked for by each front of a request, the empty one first
-abbrev pub wanted_by_fronts : List ℕ → List Wanted
-wanted_by_fronts request = map (λ count. wanted (take count request)) (range_with_len 0 (length request + 1))
+-- what each prefix of a request names, the empty one first
+abbrev pub wanted_by_prefixs : List ℕ → List Wanted
+wanted_by_prefixs request = map (λ count. wanted (take count request)) (range_with_len 0 (length request + 1))
 
 pub record AreWorkedRequests : Type 0 where
   -- a word that has no end yet
@@ -36,15 +36,15 @@ pub record AreWorkedRequests : Type 0 where
   pub at_space : wanted (codes "GET /a.html HTTP/1.0\r\n") ≡ Name (codes "/a.html")
   pub at_cr : wanted (codes "GET /a.html\r\n") ≡ Name (codes "/a.html")
   pub at_lf : wanted (codes "GET /a.html\n") ≡ Name (codes "/a.html")
-  -- what stands before its first '?' is the name, and `/` alone is short for `/index.html`
+  -- the bytes before its first '?' are the name, and only `/` is short for `/index.html`
   pub query : wanted (codes "GET /a.html?b=c HTTP/1.0\r\n") ≡ Name (codes "/a.html")
   pub two_marks : wanted (codes "GET /a?b?c ") ≡ Name (codes "/a")
   pub short : wanted (codes "GET / HTTP/1.0\r\n") ≡ Name (codes "/index.html")
   pub short_query : wanted (codes "GET /?a=b\n") ≡ Name (codes "/index.html")
   pub no_short : wanted (codes "GET // ") ≡ Name (codes "//")
-  -- a name may be longer than any file's
+  -- a name may be longer than that of any file
   pub long_name : wanted (codes "GET /" ++ replicate 199 113 ++ 10 ∷ []) ≡ Name (codes "/" ++ replicate 199 113)
-  -- every front of a request: what is decided stays, whatever follows
-  pub fronts : wanted_by_fronts (codes "GET /a b\r\nPOST ") ≡ replicate 7 NotYet ++ replicate 9 (Name (codes "/a"))
-  pub refused_fronts : wanted_by_fronts (codes "PUT GET / ") ≡ replicate 4 NotYet ++ replicate 7 Refused
-  pub refused_target_fronts : wanted_by_fronts (codes "GET x /") ≡ replicate 6 NotYet ++ replicate 2 Refused
+  -- every prefix of a request: a decision stays, whatever follows
+  pub prefixs : wanted_by_prefixs (codes "GET /a b\r\nPOST ") ≡ replicate 7 NotYet ++ replicate 9 (Name (codes "/a"))
+  pub refused_prefixs : wanted_by_prefixs (codes "PUT GET / ") ≡ replicate 4 NotYet ++ replicate 7 Refused
+  pub refused_target_prefixs : wanted_by_prefixs (codes "GET x /") ≡ replicate 6 NotYet ++ replicate 2 Refused

@@ -1,7 +1,8 @@
--- The page of a target at which each call is given the zero record of its kind: hits 0, ticks 0, twenty zeros, no rows.
+-- The page of a target in which each call has the zero record of its kind: hits 0, ticks 0, twenty zeros, no rows.
+-- [add: counter] The number of zeros.
 use Rattle.std.specs.Prelude.{ℕ, List, [], ◌++◌, codes, length, replicate, Option}
 use Rattle.std.specs.List.{flat_map}
-use Rattle.app_events.specs.Part.{Moment}
+use Rattle.app_events.specs.AppSpec.{Snapshot}
 use Rattle.generators.specs.Captures.{capture_of}
 use Rattle.generators.specs.Text.{capture_text}
 use Rattle.site_image.specs.Files.{File}
@@ -12,26 +13,26 @@ use Rattle.web_pages.specs.Pieces.{Say, reply_to, reply_pieces}
 use Rattle.web_pages.specs.Pieces.Say.{Plain, Made}
 use Rattle.web_pages.specs.Pages.{page}
 
-abbrev pub zero_moment : Moment
-zero_moment = record { numbers = []; now = record { ticks = 0; net = replicate 20 0; rows = [] } }
+abbrev pub zero_snapshot : Snapshot
+zero_snapshot = record { numbers = []; now = record { ticks = 0; net = replicate 20 0; rows = [] } }
 
 -- the shortest request for a target
 abbrev pub request_for : List ℕ → List ℕ
 request_for target = codes "GET " ++ target ++ codes "\n"
 
--- no page takes more captures than it has pieces
+-- no page takes more snapshots than it has pieces
 abbrev pub most_captures : List File → Wanted → ℕ
 most_captures files (Name name) = length (reply_pieces files name)
 most_captures files _ = 0
 
 abbrev pub zero_page : List File → List ℕ → List ℕ
-zero_page files target = page files (request_for target) (replicate (most_captures files (wanted (request_for target))) zero_moment)
+zero_page files target = page files (request_for target) (replicate (most_captures files (wanted (request_for target))) zero_snapshot)
 
--- what a piece says at the zero record of its kind
+-- the text of a piece with the zero record of its kind
 abbrev pub zero_said : Say Function → List ℕ
 zero_said (Plain text) = text
-zero_said (Made function argument) = capture_text (capture_of function 0 zero_moment.now)
+zero_said (Made function argument) = capture_text (capture_of function 0 zero_snapshot.now)
 
--- what a reply says
+-- the text of a reply
 abbrev pub zero_reply : List File → Option File → List ℕ
 zero_reply files found = flat_map zero_said (reply_to files found)

@@ -1,4 +1,4 @@
-//! What holds of the pages of every site.
+//! What holds for the pages of every site.
 
 ghost use Rattle.web_pages.specs.Claims.{DecisionStays, KeepsPageLaws, KeepsPageLawsBy, IsAtMostGreatest, IsAtMostGreatestBy, IsMadeOfBytes, IsMadeOfBytesBy, UpgradeKeepsPages};
 ghost use Rattle.generators.specs.Giving.{gives};
@@ -9,47 +9,47 @@ ghost use Rattle.web_pages.specs.ConstantValues.{ConstantValues};
 
 use generators::Record;
 
-/// Requests that were worked by hand are read as the definition reads them.
+/// The definition reads the requests as they were worked by hand.
 #[tactic(auto, using(crate::proofs::WorkedRequests::worked))]
 pub fn worked_requests()
     ensures { AreWorkedRequests }
 {}
 
-/// Pages that were worked by hand have the bytes that the definition gives.
+/// The definition gives the pages that were worked by hand.
 #[tactic(auto, using(crate::proofs::WorkedPages::worked))]
 pub fn worked_pages()
     ensures { AreWorkedPages }
 {}
 
-/// The web server of a site keeps the laws of pages, from which it follows what a client receives: more request bytes and more
-/// captures only append to a page, a page is shorter than 2^30 bytes, and each call does to a connection what these laws ask.
+/// The web server of a site satisfies the laws of pages, from which follows what a client receives. More request bytes and more
+/// snapshots only append to a page, a page is shorter than 2^30 bytes, and each call changes the connection as these laws need.
 #[tactic(auto, using(crate::proofs::PageLaws::keeps_page_laws))]
 pub fn page_laws()
     ensures { KeepsPageLaws }
 {}
 
-/// A page of a file is at most as long as the greatest length that the site tells for it.
+/// A page of a file is at most as long as the file's greatest length.
 #[tactic(auto, using(crate::proofs::Limits::at_most_greatest))]
 pub fn pages_within_greatest()
     ensures { IsAtMostGreatest }
 {}
 
-/// The same of every kind of calls, where no script of the site has a fault by them: the laws of pages, that a page is at most
-/// as long as its greatest length, and that it is bytes.
+/// The same for any functions, if no script of the site has a fault by them: the laws of pages, that a page is at most as long
+/// as its greatest length, and that it is bytes.
 pub fn pages_of_any_calls<R: Record>()
-    ensures laws { KeepsPageLawsBy (gives R.Function.calling R.said) }
-    ensures greatest { IsAtMostGreatestBy (gives R.Function.calling R.said) }
-    ensures bytes { IsMadeOfBytesBy (gives R.Function.calling R.said) }
+    ensures laws { KeepsPageLawsBy (gives R.Function.calling R.output) }
+    ensures greatest { IsAtMostGreatestBy (gives R.Function.calling R.output) }
+    ensures bytes { IsMadeOfBytesBy (gives R.Function.calling R.output) }
 {}
 
-/// What is decided of a request stays, whatever bytes follow.
+/// What a request names stays the same, whatever bytes follow.
 #[tactic(auto, using(crate::specs::Lemmas::Deciding::stays_wanted))]
 pub fn decisions_stay()
     ensures { DecisionStays }
 {}
 
-/// What a request asks for is told by its two words, in whatever pieces they were heard; where a target's name is cut, the name
-/// that is asked for is longer than any file's.
+/// Two words determine what a request names, in whatever pieces they were received. If the name in a target is cut, it is
+/// longer than any file's.
 #[tactic(auto, using(crate::proofs::WordLaws::told_in_pieces, crate::proofs::WordLaws::long_names))]
 pub fn told_by_words()
     ensures told { ToldInPieces }
@@ -61,12 +61,12 @@ pub fn pages_are_bytes()
     ensures { IsMadeOfBytes }
 {}
 
-/// An upgrade in which no word names a file keeps every page.
+/// If no word of an upgrade names a file, every page stays the same.
 pub fn upgrade_keeps_pages()
     ensures { UpgradeKeepsPages }
 {}
 
-/// The numbers that the definitions name by the code's constants.
+/// The constants have the values that the definitions name.
 pub fn constant_values()
     ensures { ConstantValues }
 {}

@@ -1,5 +1,5 @@
-//! The pages of a site, as definitions: what a request asks for, the pieces of a reply, the page of a request and captures, and
-//! what each call does to a connection of the web server. The code that says these pages, byte for byte, stands in `httpd`.
+//! The pages of a site, as definitions: what a request names, the pieces of a reply, the page of a request and its snapshots,
+//! and what each call does to a connection of the web server. `httpd` has the code that sends these pages, byte for byte.
 #![tactic(auto)]
 
 mod laws;
@@ -9,8 +9,8 @@ pub use laws::{
     pages_within_greatest, told_by_words, upgrade_keeps_pages, worked_pages, worked_requests,
 };
 
-/// After so many ticks with nothing outstanding and no other event between them the connection is given up.
+/// After this number of ticks with nothing outstanding and no other event between them, the connection is given up.
 pub const MOST_POLLS: u8 = 20;
 
-/// The most bytes that are offered to be sent at once, the node's own maximum segment size.
+/// The greatest number of bytes that are offered to be sent at once, the node's own maximum segment size.
 pub const LARGEST_SEGMENT: usize = 1460;

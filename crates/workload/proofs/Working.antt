@@ -1,4 +1,4 @@
--- Lines one after another, and what words make happen.
+-- Lines one after another, and the events of words.
 use Rattle.std.proofs.Common.{◌≡◌, ℕ, suc, zero, ◌+◌, ◌/◌, ◌%◌, ◌<◌, List, [], ◌∷◌, ◌++◌, length, take, get_or, refl, sym, ap, arith, ◌∙◌, append_assoc}
 use Rattle.std.specs.Prelude.{flat_map}
 use Rattle.std.proofs.lemmas.List.{take_more}
@@ -23,15 +23,15 @@ pub length-numbered : (a : ℕ) (es : List Event) → length (numbered_from a es
 length-numbered a [] = refl
 length-numbered a (e ∷ es) = ap suc (length-numbered (a + 1) es)
 
-pub length-front : (xs : List Event) (i : ℕ) → i < length xs → length (take i xs) ≡ i
-length-front [] i lt = absurd (omega (arith, lt))
-length-front (x ∷ xs) zero lt = refl
-length-front (x ∷ xs) (suc i) lt = ap suc (length-front xs i (omega (arith, lt)))
+pub length-prefix : (xs : List Event) (i : ℕ) → i < length xs → length (take i xs) ≡ i
+length-prefix [] i lt = absurd (omega (arith, lt))
+length-prefix (x ∷ xs) zero lt = refl
+length-prefix (x ∷ xs) (suc i) lt = ap suc (length-prefix xs i (omega (arith, lt)))
 
 pub numbered_more : (a i : ℕ) (xs : List Event) (x : Event) → i < length xs → get_or xs i x ≡ x → numbered_from a (take (i + 1) xs) ≡ numbered_from a (take i xs) ++ line_with (a + i) x ∷ []
 numbered_more a i xs x lt at =
     let more : take (i + 1) xs ≡ take i xs ++ x ∷ [] = take_more xs i x lt ∙ ap (λ (y : Event). take i xs ++ y ∷ []) at in
-    ap (numbered_from a) more ∙ numbered_push a (a + i) (take i xs) x (ap (λ n. a + n) (length-front xs i lt))
+    ap (numbered_from a) more ∙ numbered_push a (a + i) (take i xs) x (ap (λ n. a + n) (length-prefix xs i lt))
 
 drawn_more : (f : ℕ → List Event) (k : ℕ) (s : Lcg) → flat_map f (first_words pcg32 (suc k) s) ≡ f (pcg32 s).0 ++ flat_map f (first_words pcg32 k (pcg32 s).1)
 unfolding first_words

@@ -1,4 +1,4 @@
-//! What happens in the schedule that a number makes.
+//! The events of a workload.
 
 ghost use Rattle.std.specs.Prelude.{◌≡◌, ◌≤◌, ◌/◌, ◌%◌, ◌+◌, ◌++◌, ◌∷◌, [], OnOk, IfOk, flat_map, length, map, replicate};
 ghost use Rattle.std.specs.List.{range_with_len};
@@ -13,7 +13,7 @@ use rand_pcg::Pcg32;
 use std::alloc::Global;
 use uip_edge::NoMemory;
 
-/// What a word makes happen.
+/// Returns the event that a word selects.
 fn event_by(rest: u32, client: u8) -> Event
     ensures { result ≡ event_meant rest client }
 {
@@ -32,7 +32,7 @@ fn event_by(rest: u32, client: u8) -> Event
         .unwrap_or(Event::Again(client))
 }
 
-/// One event more.
+/// Appends an event.
 fn push(events: &mut Vec<Event>, event: Event) -> Result<(), NoMemory>
     ensures { OnOk result (events.new.items ≡ events.old.items ++ event ∷ []) }
 {
@@ -42,7 +42,7 @@ fn push(events: &mut Vec<Event>, event: Event) -> Result<(), NoMemory>
     Ok(())
 }
 
-/// Each client opens.
+/// Appends an opening of each client.
 pub(crate) fn push_opens(events: &mut Vec<Event>, clients: u8) -> Result<(), NoMemory>
     requires { clients ≤ 64 }
     ensures { OnOk result (events.new.items ≡ events.old.items ++ map (λ k. Opens k) (range_with_len 1 clients)) }
@@ -53,7 +53,7 @@ pub(crate) fn push_opens(events: &mut Vec<Event>, clients: u8) -> Result<(), NoM
     Ok(())
 }
 
-/// What the next words make happen, so many.
+/// Appends the events that the next `left` random words select.
 pub(crate) fn push_drawn(
     events: &mut Vec<Event>,
     clients: u8,
@@ -73,7 +73,7 @@ pub(crate) fn push_drawn(
     push_drawn(events, clients, words, left - 1)
 }
 
-/// The client that a word names.
+/// Returns the client that a word selects.
 fn client_by(clients: u8, word: u32) -> u8
     requires some { 1 ≤ clients }
     requires few { clients ≤ 64 }
@@ -82,7 +82,7 @@ fn client_by(clients: u8, word: u32) -> u8
     1 + (word / 8 % u32::from(clients)) as u8
 }
 
-/// Rounds that let the link come to rest.
+/// Appends the rounds at the end of a workload.
 pub(crate) fn push_rounds(events: &mut Vec<Event>) -> Result<(), NoMemory>
     ensures { OnOk result (events.new.items ≡ events.old.items ++ replicate 40 RoundEvent) }
 {
@@ -92,7 +92,7 @@ pub(crate) fn push_rounds(events: &mut Vec<Event>) -> Result<(), NoMemory>
     Ok(())
 }
 
-/// A line with its number.
+/// Returns a line with its number.
 fn line_at(number: u32, event: &Event) -> Line
     ensures { result ≡ record { at = number; event = event.now } }
 {
@@ -102,7 +102,7 @@ fn line_at(number: u32, event: &Event) -> Line
     }
 }
 
-/// The lines of what happens, from a number on.
+/// Returns the lines of the events, numbered from `first` on.
 pub(crate) fn lines_from(alloc: Global, first: u32, events: &[Event]) -> Result<Vec<Line>, NoMemory>
     requires { first + length events.now ≤ 4294967295 }
     ensures { IfOk result (λ lines. lines.items ≡ numbered_from first events.now) }

@@ -1,8 +1,8 @@
-//! What the definition of a workload says where it was worked by hand.
+//! What the definition of a workload gives, for parts worked by hand.
 
 ghost use Rattle.workload.specs.WorkedWorkload.{AreWorkedWorkloads};
 
-/// Parts of workloads that were worked by hand are what the definition says.
+/// The definition gives the parts of workloads that were worked by hand.
 #[tactic(auto, using(crate::proofs::WorkedWorkload::worked))]
 pub fn worked_workloads()
     ensures { AreWorkedWorkloads }

@@ -1,4 +1,4 @@
-//! The schedule that a number makes: work for a replay.
+//! Schedules from a seed: work for a replay.
 #![tactic(auto)]
 
 mod events;

@@ -1,3 +1,5 @@
+//! Makes the schedule of a seed.
+
 ghost use Rattle.std.specs.Prelude.{◌≡◌, ◌≤◌, IfOk, codes, if◌then◌else◌, map};
 ghost use Rattle.std.specs.List.{range_with_len};
 ghost use Rattle.workload.specs.Workload.{client_of as client_meant, workload_of};
@@ -9,7 +11,7 @@ use std::alloc::Global;
 use uip_edge::NoMemory;
 use uip_wire::{Addr, Port};
 
-/// The schedule that a number makes, with so many clients.
+/// Makes the schedule of a seed, for this number of clients.
 pub fn make(alloc: Global, seed: u64, clients: u8) -> Result<Schedule, NoMemory>
     requires some { 1 ≤ clients }
     requires few { clients ≤ 64 }
@@ -24,7 +26,7 @@ pub fn make(alloc: Global, seed: u64, clients: u8) -> Result<Schedule, NoMemory>
     Ok(Schedule { clients, lines })
 }
 
-/// The clients in order.
+/// Returns the clients in order.
 fn clients_of(alloc: Global, clients: u8) -> Result<Vec<ClientPlan>, NoMemory>
     requires { clients ≤ 64 }
     ensures { IfOk result (λ plans. plans.items ≡ map client_meant (range_with_len 1 clients)) }
@@ -39,7 +41,7 @@ fn clients_of(alloc: Global, clients: u8) -> Result<Vec<ClientPlan>, NoMemory>
     Ok(plans)
 }
 
-/// The client with a number.
+/// Returns the client with a number.
 fn client_of(alloc: Global, number: u8) -> Result<ClientPlan, NoMemory>
     requires { number ≤ 64 }
     ensures { IfOk result (λ plan. plan ≡ client_meant number) }
@@ -57,7 +59,7 @@ fn client_of(alloc: Global, number: u8) -> Result<ClientPlan, NoMemory>
     })
 }
 
-/// The page that a client asks for.
+/// Returns the request of a client.
 fn request_by(odd: bool) -> &'static [u8]
     ensures { result.now ≡ (if odd then codes "GET / HTTP/1.0\r\n\r\n" else codes "GET /stats.shtml HTTP/1.0\r\n\r\n") }
 {
@@ -68,7 +70,7 @@ fn request_by(odd: bool) -> &'static [u8]
     }
 }
 
-/// The segment size that a client tells.
+/// Returns the segment size that a client advertises, in bytes.
 fn mss_by(odd: bool) -> u16
     ensures { result ≡ (if odd then 0 else 200) }
 {

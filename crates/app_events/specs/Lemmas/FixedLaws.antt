@@ -2,9 +2,9 @@
 use Rattle.std.specs.Prelude.{ℕ, ◌≡◌, ◌<◌, ◌-◌, List, [], ◌∷◌, ◌++◌, length, drop, true, false, if◌then◌else◌, nat_lt}
 use Rattle.std.proofs.Common.{refl, arith, sym, ◌∙◌, append-nil}
 use Rattle.std.proofs.lemmas.Bool.{ltb-true}
-use Rattle.app_events.specs.Part.{Part, text_left}
+use Rattle.app_events.specs.AppSpec.{AppState, text_left}
 use Rattle.app_events.specs.Laws.{IsLawful, StartsAnew, IsPrefixOf, CanSend}
-use Rattle.app_events.specs.FixedMeaning.{fixed_meaning, fixed_text, hello, some_heard, fixed_want, FixedStands}
+use Rattle.app_events.specs.FixedSpec.{fixed_spec, fixed_text, hello, some_heard, fixed_want, FixedRepresents}
 use Rattle.app_events.specs.declared.fixed.Fixed.{Fixed}
 use Rattle.app_events.specs.declared.want.Want.TheVariants.{Send, Close}
 
@@ -21,16 +21,16 @@ can_send (x ∷ xs) acked =
       | false ↦ λ e. tt
     ] refl
 
-pub fixed_lawful : (a : Fixed) → IsLawful fixed_meaning (FixedStands a)
+pub fixed_lawful : (a : Fixed) → IsLawful fixed_spec (FixedRepresents a)
 fixed_lawful a = record {
-  newdata_grows = λ ns p piece s. record { text = more_heard p.heard piece; offset = refl };
-  prepare_grows = λ ns p now s. record { text = record { rest = []; joined = append-nil (fixed_text p.heard) }; offset = refl };
+  newdata_grows = λ ns p piece s. record { text = more_heard p.delivered piece; offset = refl };
+  prepare_grows = λ ns p now s. record { text = record { rest = []; joined = append-nil (fixed_text p.delivered) }; offset = refl };
   acked_moves = λ ns p n s h. (refl, refl);
   polled_keeps = λ ns p s. (refl, refl);
-  sends = λ ns p s. can_send p.heard p.acked;
+  sends = λ ns p s. can_send p.delivered p.acked;
 }
 
-pub fixed_starts : StartsAnew fixed_meaning
+pub fixed_starts : StartsAnew fixed_spec
 fixed_starts ns port = (refl, refl)
 
 same_text : (xs ys : List ℕ) → some_heard xs ≡ some_heard ys → fixed_text xs ≡ fixed_text ys
@@ -39,8 +39,8 @@ same_text (x ∷ xs) (y ∷ ys) e = refl
 same_text [] (y ∷ ys) e = cc
 same_text (x ∷ xs) [] e = cc
 
-pub fixed_same_left : (a : Fixed) (p q : Part) → FixedStands a p → FixedStands a q → text_left fixed_meaning p ≡ text_left fixed_meaning q
+pub fixed_same_left : (a : Fixed) (p q : AppState) → FixedRepresents a p → FixedRepresents a q → text_left fixed_spec p ≡ text_left fixed_spec q
 fixed_same_left a p q s t =
     let e : p.acked ≡ q.acked = sym s.at ∙ t.at in
-    let f : fixed_text p.heard ≡ fixed_text q.heard = same_text p.heard q.heard (sym s.heard ∙ t.heard) in
+    let f : fixed_text p.delivered ≡ fixed_text q.delivered = same_text p.delivered q.delivered (sym s.delivered ∙ t.delivered) in
     cc

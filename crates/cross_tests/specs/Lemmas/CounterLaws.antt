@@ -1,13 +1,13 @@
--- `Counter` keeps the laws of an application.
+-- `Counter` satisfies the laws of an application.
 use Rattle.std.specs.Prelude.{ℕ, ◌≡◌, ◌<◌, ◌-◌, List, [], ◌∷◌, ◌++◌, length, drop, true, false, if◌then◌else◌, nat_lt}
 use Rattle.std.proofs.Common.{refl, arith, sym, ◌∙◌, append-nil, length-drop, ap}
 use Rattle.std.proofs.lemmas.Bool.{ltb-true}
-use Rattle.app_events.specs.Part.{Part, text_left}
-use Rattle.app_events.specs.FixedMeaning.{fixed_want, some_heard}
+use Rattle.app_events.specs.AppSpec.{AppState, text_left}
+use Rattle.app_events.specs.FixedSpec.{fixed_want, some_heard}
 use Rattle.app_events.specs.Laws.{IsLawful, StartsAnew, IsPrefixOf, CanSend}
 use Rattle.app_events.specs.declared.want.Want.TheVariants.{Send, Close}
 use Rattle.cross_tests.specs.declared.counting.Counter.{Counter}
-use Rattle.cross_tests.specs.CounterMeaning.{CounterStands, counter_meaning, counter_text, number_after}
+use Rattle.cross_tests.specs.CounterSpec.{CounterRepresents, counter_spec, counter_text, number_after}
 
 more_heard : (ns : List ℕ) (n : ℕ) (xs ys : List ℕ) → IsPrefixOf (counter_text n xs) (counter_text (number_after ns xs ys n) (xs ++ ys))
 more_heard ns n [] [] = record { rest = []; joined = refl }
@@ -24,16 +24,16 @@ can_send n (x ∷ xs) acked =
       | false ↦ λ e. tt
     ] refl
 
-pub counter_lawful : (a : Counter) → IsLawful counter_meaning (CounterStands a)
+pub counter_lawful : (a : Counter) → IsLawful counter_spec (CounterRepresents a)
 counter_lawful a = record {
-  newdata_grows = λ ns p piece s. record { text = more_heard ns p.own p.heard piece; offset = refl };
-  prepare_grows = λ ns p now s. record { text = record { rest = []; joined = append-nil (counter_text p.own p.heard) }; offset = refl };
+  newdata_grows = λ ns p piece s. record { text = more_heard ns p.own p.delivered piece; offset = refl };
+  prepare_grows = λ ns p now s. record { text = record { rest = []; joined = append-nil (counter_text p.own p.delivered) }; offset = refl };
   acked_moves = λ ns p n s h. (refl, refl);
   polled_keeps = λ ns p s. (refl, refl);
-  sends = λ ns p s. can_send p.own p.heard p.acked;
+  sends = λ ns p s. can_send p.own p.delivered p.acked;
 }
 
-pub counter_starts : StartsAnew counter_meaning
+pub counter_starts : StartsAnew counter_spec
 counter_starts ns port = (refl, refl)
 
 same_text : (n : ℕ) (xs ys : List ℕ) → some_heard xs ≡ some_heard ys → counter_text n xs ≡ counter_text n ys
@@ -42,11 +42,11 @@ same_text n (x ∷ xs) (y ∷ ys) e = refl
 same_text n [] (y ∷ ys) e = cc
 same_text n (x ∷ xs) [] e = cc
 
-pub counter_same_left : (a : Counter) (p q : Part) → CounterStands a p → CounterStands a q
-    → text_left counter_meaning p ≡ text_left counter_meaning q
+pub counter_same_left : (a : Counter) (p q : AppState) → CounterRepresents a p → CounterRepresents a q
+    → text_left counter_spec p ≡ text_left counter_spec q
 counter_same_left a p q s t =
     let e : p.acked ≡ q.acked = sym s.at ∙ t.at in
     let n : p.own ≡ q.own = sym s.number ∙ t.number in
-    let f : counter_text p.own p.heard ≡ counter_text q.own q.heard =
-    ap (λ k. counter_text k p.heard) n ∙ same_text q.own p.heard q.heard (sym s.heard ∙ t.heard) in
+    let f : counter_text p.own p.delivered ≡ counter_text q.own q.delivered =
+    ap (λ k. counter_text k p.delivered) n ∙ same_text q.own p.delivered q.delivered (sym s.delivered ∙ t.delivered) in
     cc

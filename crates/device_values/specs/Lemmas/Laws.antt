@@ -1,4 +1,4 @@
--- What a word of a device's script gives is short, and bytes.
+-- The text of a word of a device's script is short, and consists of bytes.
 use Rattle.std.specs.List.{All}
 use Rattle.std.proofs.Common.{◌≡◌, ℕ, ◌+◌, ◌*◌, ◌/◌, ◌%◌, ◌<◌, ◌≤◌, ◌==◌, Bool, true, false, List, [], ◌∷◌, ◌++◌, length, map, min, take, flat_map, refl, arith, length-append, length-take, if◌then◌else◌, Option, Some, None, lit≤}
 use Rattle.std.specs.Prelude.{codes, nat_lt, slice_range}

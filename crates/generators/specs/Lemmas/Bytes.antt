@@ -1,4 +1,6 @@
 -- Generated text is bytes.
+-- [add: function] Function: its text is bytes.
+-- [add: state] State: its name is bytes.
 use Rattle.std.specs.List.{All}
 use Rattle.std.proofs.Common.{◌≡◌, ℕ, zero, suc, ◌+◌, ◌-◌, ◌/◌, ◌%◌, ◌==◌, Bool, true, false, List, [], ◌∷◌, length, replicate, decimal, flat_map, slice_index, refl, arith, if◌then◌else◌, lit<}
 use Rattle.std.specs.Prelude.{codes, nat_lt}

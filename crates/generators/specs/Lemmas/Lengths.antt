@@ -1,11 +1,13 @@
 -- How long generated text is.
+-- [add: function] Function: the greatest length of its text.
+-- [add: state] State: the length of its name.
 use Rattle.std.specs.List.{All}
 use Rattle.std.proofs.Common.{◌≡◌, ℕ, ◌+◌, ◌-◌, ◌*◌, ◌%◌, ◌^◌, ◌<◌, ◌≤◌, Bool, true, false, List, [], ◌∷◌, length, decimal, replicate, flat_map, slice_index, refl, ap, ◌∙◌, arith, length-append, lit<, lit≤}
 use Rattle.std.specs.List.{concat}
 use Rattle.std.proofs.lemmas.Fmt.{decimal_by_steps, length-decimal-le}
 use Rattle.std.proofs.lemmas.List.{length-replicate}
 use Rattle.std.proofs.lemmas.List.Elements.{All-get_or, All-head, All-tail}
-use Rattle.app_events.specs.Pages.{IsByte, IsWord, IsRow}
+use Rattle.app_events.specs.Pages.{IsByte, IsU32, IsRow}
 use Rattle.app_events.specs.declared.row.Row.{Row}
 use Rattle.app_events.specs.declared.state.State.{State}
 use Rattle.app_events.specs.declared.state.State.TheVariants.{Closed, SynRcvd, Established, CloseWait, FinWait1, FinWait2, Closing, TimeWait, LastAck}
@@ -22,11 +24,11 @@ in_ten n h =
 pub line_long : (n : ℕ) → n < 4294967296 → length (counter_line n) ≡ 11
 line_long n h = omega (arith, length-append (in_ten_places n) (10 ∷ []), in_ten n h)
 
-counters_long : (ns : List ℕ) → All IsWord ns → length (flat_map counter_line ns) ≡ 11 * length ns
+counters_long : (ns : List ℕ) → All IsU32 ns → length (flat_map counter_line ns) ≡ 11 * length ns
 counters_long [] all = refl
 counters_long (n ∷ ns) all =
-    let one : length (counter_line n) ≡ 11 = line_long n (All-head IsWord n ns all) in
-    omega (arith, length-append (counter_line n) (flat_map counter_line ns), one, counters_long ns (All-tail IsWord n ns all))
+    let one : length (counter_line n) ≡ 11 = line_long n (All-head IsU32 n ns all) in
+    omega (arith, length-append (counter_line n) (flat_map counter_line ns), one, counters_long ns (All-tail IsU32 n ns all))
 
 -- a number of two digits or more, and of three or more
 digits_least : (n : ℕ) → n < 2 ^ 64 → (0 < length (decimal n)) × (10 ≤ n → 2 ≤ length (decimal n)) × (100 ≤ n → 3 ≤ length (decimal n))

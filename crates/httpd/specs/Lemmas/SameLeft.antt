@@ -1,8 +1,8 @@
--- What is left to be said is the same in all parts of a value.
+-- The text that is left is the same for all states of a value.
 use Rattle.std.specs.Prelude.{ℕ, ◌≡◌, List, [], drop}
 use Rattle.std.proofs.Common.{refl, sym, ap, ◌∙◌, append-nil}
 use Rattle.std.proofs.Math.Seq.{drop-nil}
-use Rattle.app_events.specs.Part.{Part, text_left}
+use Rattle.app_events.specs.AppSpec.{AppState, text_left}
 use Rattle.site_image.specs.Files.{File}
 use Rattle.file_tree.specs.Site.{SiteContent, files_of}
 use Rattle.web_pages.specs.Requests.{Wanted, wanted}
@@ -11,16 +11,16 @@ use Rattle.generators.specs.Giving.{Giving, uip}
 use Rattle.generators.specs.Text.{capture_text}
 use Rattle.web_pages.specs.Pieces.{reply_pieces_by}
 use Rattle.web_pages.specs.Pages.{page_for_by, text_by}
-use Rattle.web_pages.specs.WebMeaning.{web_meaning, web_meaning_by}
+use Rattle.web_pages.specs.WebMeaning.{web_spec, web_spec_by}
 use Rattle.httpd.specs.declared.stage.Stage.{Stage}
 use Rattle.httpd.specs.declared.stage.Stage.TheVariants as stage
 use Rattle.httpd.specs.First.{Httpd}
 use Rattle.httpd.specs.declared.httpd.Pages.{Pages}
 use Rattle.httpd.specs.Reply.{left_from, reply_by}
-use Rattle.httpd.specs.HttpdStands.{HttpdStands, PagesStand, StandsIn}
+use Rattle.httpd.specs.HttpdRepresents.{HttpdRepresents, PagesRepresent, StandsIn}
 use Rattle.web_pages.specs.Lemmas.Deciding.{method_open, target_open}
 
--- what a value has left to say
+-- the text that a value has left
 abbrev pub left_in : {F R : Type 0} → Giving F → (R → List ℕ) → Pages R → SiteContent → Stage → List ℕ
 left_in g text a site stage.Method = []
 left_in g text a site stage.Target = []
@@ -30,24 +30,24 @@ left_in g text a site (stage.Reply found) = text_by g (files_of site) (left_from
 drop_none : (n : ℕ) → drop {A = ℕ} n [] ≡ []
 drop_none n = drop-nil n
 
-nothing_left : {F : Type 0} (g : Giving F) (files : List File) (part : Part) (w : Wanted) → wanted part.heard ≡ w
+nothing_left : {F : Type 0} (g : Giving F) (files : List File) (part : AppState) (w : Wanted) → wanted part.delivered ≡ w
     → page_for_by g files w part.captures ≡ []
-    → text_left (web_meaning_by g files) part ≡ []
+    → text_left (web_spec_by g files) part ≡ []
 nothing_left g files part w e none =
     ap (λ v. drop part.acked (page_for_by g files v part.captures)) e
     ∙ ap (λ xs. drop part.acked xs) none
     ∙ drop_none part.acked
 
--- what a part has left to say
-abbrev left_at : {F : Type 0} → Giving F → SiteContent → Part → List ℕ
-left_at g site part = text_left (web_meaning_by g (files_of site)) part
+-- the text that a state has left
+abbrev left_at : {F : Type 0} → Giving F → SiteContent → AppState → List ℕ
+left_at g site part = text_left (web_spec_by g (files_of site)) part
 
-left_by : {F R : Type 0} (g : Giving F) (text : R → List ℕ) (a : Pages R) (site : SiteContent) (part : Part) (s : Stage)
+left_by : {F R : Type 0} (g : Giving F) (text : R → List ℕ) (a : Pages R) (site : SiteContent) (part : AppState) (s : Stage)
     → StandsIn g text a site part s → left_at g site part ≡ left_in g text a site s
 left_by g text a site part stage.Method (hears, nothing) =
-    nothing_left g (files_of site) part NotYet (method_open part.heard hears.goes_on) refl
+    nothing_left g (files_of site) part NotYet (method_open part.delivered hears.goes_on) refl
 left_by g text a site part stage.Target (hears, nothing) =
-    nothing_left g (files_of site) part NotYet (target_open part.heard hears.method_ended hears.method hears.goes_on) refl
+    nothing_left g (files_of site) part NotYet (target_open part.delivered hears.method_ended hears.method hears.goes_on) refl
 left_by g text a site part stage.Refused (refused, nothing) = nothing_left g (files_of site) part Refused refused refl
 left_by g text a site part (stage.Reply found) (name, is) =
     ap (λ w. drop part.acked (page_for_by g (files_of site) w part.captures)) is.wanted
@@ -55,18 +55,18 @@ left_by g text a site part (stage.Reply found) (name, is) =
     (sym (append-nil part.captures))
     ∙ sym (is.left.text [])
 
--- the text that is left, told by the value alone
-pub left_of_value : {F R : Type 0} (g : Giving F) (text : R → List ℕ) (a : Pages R) (site : SiteContent) (part : Part)
-    → PagesStand g text a site part
-    → text_left (web_meaning_by g (files_of site)) part ≡ left_in g text a site a.stage
+-- the text that is left, by the value alone
+pub left_of_value : {F R : Type 0} (g : Giving F) (text : R → List ℕ) (a : Pages R) (site : SiteContent) (part : AppState)
+    → PagesRepresent g text a site part
+    → text_left (web_spec_by g (files_of site)) part ≡ left_in g text a site a.stage
 left_of_value g text a site part s = left_by g text a site part a.stage s.stands
 
-pub same_left_by : {F R : Type 0} (g : Giving F) (text : R → List ℕ) (a : Pages R) (site : SiteContent) (p q : Part)
-    → PagesStand g text a site p → PagesStand g text a site q
-    → text_left (web_meaning_by g (files_of site)) p ≡ text_left (web_meaning_by g (files_of site)) q
+pub same_left_by : {F R : Type 0} (g : Giving F) (text : R → List ℕ) (a : Pages R) (site : SiteContent) (p q : AppState)
+    → PagesRepresent g text a site p → PagesRepresent g text a site q
+    → text_left (web_spec_by g (files_of site)) p ≡ text_left (web_spec_by g (files_of site)) q
 same_left_by g text a site p q s t = left_of_value g text a site p s ∙ sym (left_of_value g text a site q t)
 
 -- where the functions are those of uIP
-pub same_left : (a : Httpd) (site : SiteContent) (p q : Part) → HttpdStands a site p → HttpdStands a site q
-    → text_left (web_meaning (files_of site)) p ≡ text_left (web_meaning (files_of site)) q
+pub same_left : (a : Httpd) (site : SiteContent) (p q : AppState) → HttpdRepresents a site p → HttpdRepresents a site q
+    → text_left (web_spec (files_of site)) p ≡ text_left (web_spec (files_of site)) q
 same_left = same_left_by uip capture_text

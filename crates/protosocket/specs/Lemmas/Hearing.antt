@@ -1,4 +1,4 @@
--- The laws of hearing a word: pieces that are joined are heard as the pieces in turn.
+-- The laws of receiving a word: receiving joined pieces is receiving the pieces in turn.
 use Rattle.std.proofs.Common.{◌≡◌, ℕ, ◌+◌, ◌≤◌, ◌||◌, Bool, true, false, not, cond, List, [], ◌∷◌, ◌++◌, length, take, nat_lt, refl, sym, ap, ◌∙◌, inl, inr, arith, if◌then◌else◌, append_assoc, append-nil, length-append, length-take, true≢false, add-zero}
 use Rattle.std.specs.List.{before_first, list_any}
 use Rattle.std.proofs.lemmas.Bool.{or_parts, cases_lt, lt-ltb, le-ltb}
@@ -8,7 +8,7 @@ use Rattle.std.proofs.lemmas.List.Sums.{take_while-cons}
 use Rattle.std.proofs.Math.Bool.{or_assoc}
 use Rattle.protosocket.specs.Line.{Line, is_stop, is_query_mark, word_of, name_part, with_word, after, part_taken}
 
--- what stands before the first element that passes
+-- what is before the first element that passes
 first_here : (p : ℕ → Bool) (x : ℕ) (xs : List ℕ) → p x ≡ true → before_first p (x ∷ xs) ≡ []
 first_here p x xs e = take_while-cons (λ b. not (p b)) x xs ∙ ap (λ b. cond (not b) (x ∷ before_first p xs) []) e
 
@@ -56,7 +56,7 @@ name_parts false a b =
     elim (list_any is_query_mark a) as
     (λ m. list_any is_query_mark a ≡ m → before_first is_query_mark (a ++ b) ≡ before_first is_query_mark a ++ name_part m b) [
       | true ↦ λ h. one_before is_query_mark a b h ∙ sym (append-nil (before_first is_query_mark a))
-      | false ↦ λ h. none_before is_query_mark a b h ∙ ap (λ front. front ++ before_first is_query_mark b)
+      | false ↦ λ h. none_before is_query_mark a b h ∙ ap (λ prefix. prefix ++ before_first is_query_mark b)
           (sym (none_at_all is_query_mark a h))
     ] refl
 
@@ -67,7 +67,7 @@ kept_in_turn n a b =
           take-append-le n (take n a) b (omega (arith, length-take n a))
           ∙ take-take n n a (omega arith)
           ∙ sym (take-append-le n a b (omega arith))
-      | inr h ↦ ap (λ front. take n (front ++ b)) (take_all n a h)
+      | inr h ↦ ap (λ prefix. take n (prefix ++ b)) (take_all n a h)
     ]
 
 over_in_turn : (n : ℕ) (a b : List ℕ) → nat_lt n (length (a ++ b)) ≡ (nat_lt n (length a) || nat_lt n (length (take n a ++ b)))
@@ -77,7 +77,7 @@ over_in_turn n a b =
           lt-ltb n (length (a ++ b)) (omega (arith, length-append a b))
           ∙ sym (ap (λ more. more || nat_lt n (length (take n a ++ b))) (lt-ltb n (length a) h))
       | inr h ↦
-          ap (λ front. nat_lt n (length (front ++ b))) (sym (take_all n a h))
+          ap (λ prefix. nat_lt n (length (prefix ++ b))) (sym (take_all n a h))
           ∙ sym (ap (λ more. more || nat_lt n (length (take n a ++ b))) (le-ltb n (length a) h))
     ]
 
@@ -103,8 +103,8 @@ with_words line a b =
 abbrev open_after : Line → List ℕ → Line
 open_after line piece = record (with_word line (word_of line.stops piece)) { done = list_any (is_stop line.stops) piece }
 
-pub takes_front : (line : Line) (piece : List ℕ) → part_taken line piece ≤ length piece
-takes_front line piece =
+pub takes_prefix : (line : Line) (piece : List ℕ) → part_taken line piece ≤ length piece
+takes_prefix line piece =
     elim line.done as (λ d.
     (if d then 0 else length (word_of line.stops piece) + (if list_any (is_stop line.stops) piece then 1 else 0)) ≤ length piece) [
       | true ↦ omega arith
@@ -138,7 +138,7 @@ takes_all line piece e =
           ∙ ap length (none_at_all (is_stop line.stops) piece none)
     ] refl
 
--- the two equations of hearing joined pieces
+-- the two equations of receiving joined pieces
 abbrev Joins : Line → List ℕ → List ℕ → Type 0
 Joins line xs ys = (after line (xs ++ ys) ≡ after (after line xs) ys)
     × (part_taken line (xs ++ ys) ≡ part_taken line xs + part_taken (after line xs) ys)
@@ -160,7 +160,7 @@ stopped line xs ys h m =
 goes_on : (line : Line) (xs ys : List ℕ) → line.done ≡ false → list_any (is_stop line.stops) xs ≡ false → Joins line xs ys
 goes_on line xs ys h m =
     let word : word_of line.stops (xs ++ ys) ≡ word_of line.stops xs ++ word_of line.stops ys =
-    none_before (is_stop line.stops) xs ys m ∙ ap (λ front. front ++ word_of line.stops ys) (sym (none_at_all (is_stop line.stops) xs m)) in
+    none_before (is_stop line.stops) xs ys m ∙ ap (λ prefix. prefix ++ word_of line.stops ys) (sym (none_at_all (is_stop line.stops) xs m)) in
     let stop : list_any (is_stop line.stops) (xs ++ ys) ≡ list_any (is_stop line.stops) ys =
     list_any-append (is_stop line.stops) xs ys ∙ ap (λ d. d || list_any (is_stop line.stops) ys) m in
     let first : after line xs ≡ open_after line xs = opened line xs h in
@@ -171,7 +171,7 @@ goes_on line xs ys h m =
     let all : open_taken line (xs ++ ys) ≡ length (word_of line.stops xs ++ word_of line.stops ys)
     + (if list_any (is_stop line.stops) ys then 1 else 0) =
     λ i. length (word i) + (if stop i then 1 else 0) in
-    let front : open_taken line xs ≡ length (word_of line.stops xs) + 0 =
+    let prefix : open_taken line xs ≡ length (word_of line.stops xs) + 0 =
     ap (λ d. length (word_of line.stops xs) + (if d then 1 else 0)) m in (
       opened line (xs ++ ys) h ∙ both ∙ sym (opened (open_after line xs) ys m) ∙ ap (λ l. after l ys) (sym first),
       omega (
@@ -179,7 +179,7 @@ goes_on line xs ys h m =
         took line (xs ++ ys) h,
         all,
         took line xs h,
-        front,
+        prefix,
         length-append (word_of line.stops xs) (word_of line.stops ys),
         took (open_after line xs) ys m,
         ap (λ l. part_taken l ys) first,

@@ -1,12 +1,12 @@
 -- More bytes only append commands, and more commands and captures only append to the transcript.
 use Rattle.std.proofs.Common.{◌≡◌, ℕ, Bool, true, false, List, [], ◌∷◌, ◌++◌, ◌==◌, if◌then◌else◌, refl, sym, ap, ◌∙◌, append_assoc}
-use Rattle.app_events.specs.Part.{Moment}
+use Rattle.app_events.specs.AppSpec.{Snapshot}
 use Rattle.app_events.specs.Laws.{IsPrefixOf}
 use Rattle.telnet_shell.specs.declared.command.Command.{Command}
 use Rattle.telnet_shell.specs.Reading.{Awaits, Token, tokens, told, next_awaits, awaits_after, commands, command_of, line_after, is_quit, until_quit, has_quit, commands_in}
 use Rattle.telnet_shell.specs.Reading.Awaits.{Text}
 use Rattle.telnet_shell.specs.Reading.Token.{Byte, Answer}
-use Rattle.telnet_shell.specs.Transcript.{transcript, needs_capture, said_plainly, said_at}
+use Rattle.telnet_shell.specs.Transcript.{transcript, needs_capture, said_plainly, sent_at}
 
 pub tokens_joined : (awaits : Awaits) (xs ys : List ℕ) → tokens awaits (xs ++ ys) ≡ tokens awaits xs ++ tokens (awaits_after awaits xs) ys
 tokens_joined awaits [] ys = refl
@@ -14,7 +14,7 @@ tokens_joined awaits (x ∷ xs) ys =
     ap (λ (ts : List Token). told awaits x ++ ts) (tokens_joined (next_awaits awaits x) xs ys)
     ∙ sym (append_assoc (told awaits x) (tokens (next_awaits awaits x) xs) (tokens (awaits_after (next_awaits awaits x) xs) ys))
 
--- a byte of the text behind which the rest is joined, whatever the line is
+-- a byte of the text to which the rest is joined, whatever the line is
 byte_joined : (line : List ℕ) (byte : ℕ) (ts us : List Token) (ends drops : Bool)
     → ((l : List ℕ) → commands l (ts ++ us) ≡ commands l ts ++ commands (line_after l ts) us)
     → (if ends then command_of line ∷ commands [] (ts ++ us)
@@ -44,44 +44,44 @@ until_quit_joined (c ∷ cs) ds = quit_joined c cs ds (is_quit c) (until_quit_jo
 
 -- the commands that further bytes bring
 abbrev pub further : List ℕ → List ℕ → List Command
-further heard more =
-    if has_quit (commands [] (tokens Text heard)) then []
-    else until_quit (commands (line_after [] (tokens Text heard)) (tokens (awaits_after Text heard) more))
+further delivered more =
+    if has_quit (commands [] (tokens Text delivered)) then []
+    else until_quit (commands (line_after [] (tokens Text delivered)) (tokens (awaits_after Text delivered) more))
 
-pub commands_grow : (heard more : List ℕ) → commands_in (heard ++ more) ≡ commands_in heard ++ further heard more
-commands_grow heard more =
-    ap (λ (ts : List Token). until_quit (commands [] ts)) (tokens_joined Text heard more)
-    ∙ ap (λ (cs : List Command). until_quit cs) (commands_joined [] (tokens Text heard) (tokens (awaits_after Text heard) more))
-    ∙ until_quit_joined (commands [] (tokens Text heard))
-    (commands (line_after [] (tokens Text heard)) (tokens (awaits_after Text heard) more))
+pub commands_grow : (delivered more : List ℕ) → commands_in (delivered ++ more) ≡ commands_in delivered ++ further delivered more
+commands_grow delivered more =
+    ap (λ (ts : List Token). until_quit (commands [] ts)) (tokens_joined Text delivered more)
+    ∙ ap (λ (cs : List Command). until_quit cs) (commands_joined [] (tokens Text delivered) (tokens (awaits_after Text delivered) more))
+    ∙ until_quit_joined (commands [] (tokens Text delivered))
+    (commands (line_after [] (tokens Text delivered)) (tokens (awaits_after Text delivered) more))
 
 -- ---- the transcript
 
-behind : (front xs ys : List ℕ) → IsPrefixOf xs ys → IsPrefixOf (front ++ xs) (front ++ ys)
-behind front xs ys p = record { rest = p.rest; joined = append_assoc front xs p.rest ∙ ap (λ (zs : List ℕ). front ++ zs) p.joined }
+behind : (prefix xs ys : List ℕ) → IsPrefixOf xs ys → IsPrefixOf (prefix ++ xs) (prefix ++ ys)
+behind prefix xs ys p = record { rest = p.rest; joined = append_assoc prefix xs p.rest ∙ ap (λ (zs : List ℕ). prefix ++ zs) p.joined }
 
-none_left : (b : Bool) (said xs ys : List ℕ) → IsPrefixOf xs ys → IsPrefixOf (if b then [] else said ++ xs) (if b then [] else said ++ ys)
-none_left true said xs ys p = record { rest = []; joined = refl }
-none_left false said xs ys p = behind said xs ys p
+none_left : (b : Bool) (output xs ys : List ℕ) → IsPrefixOf xs ys → IsPrefixOf (if b then [] else output ++ xs) (if b then [] else output ++ ys)
+none_left true output xs ys p = record { rest = []; joined = refl }
+none_left false output xs ys p = behind output xs ys p
 
-one_more : (b : Bool) (said other xs ys zs : List ℕ) → IsPrefixOf xs ys
-    → IsPrefixOf (if b then [] else said ++ xs) (if b then other ++ zs else said ++ ys)
-one_more true said other xs ys zs p = record { rest = other ++ zs; joined = refl }
-one_more false said other xs ys zs p = behind said xs ys p
+one_more : (b : Bool) (output other xs ys zs : List ℕ) → IsPrefixOf xs ys
+    → IsPrefixOf (if b then [] else output ++ xs) (if b then other ++ zs else output ++ ys)
+one_more true output other xs ys zs p = record { rest = other ++ zs; joined = refl }
+one_more false output other xs ys zs p = behind output xs ys p
 
-one_each : (b : Bool) (other said ws zs xs ys : List ℕ) → IsPrefixOf ws zs → IsPrefixOf xs ys
-    → IsPrefixOf (if b then other ++ ws else said ++ xs) (if b then other ++ zs else said ++ ys)
-one_each true other said ws zs xs ys p q = behind other ws zs p
-one_each false other said ws zs xs ys p q = behind said xs ys q
+one_each : (b : Bool) (other output ws zs xs ys : List ℕ) → IsPrefixOf ws zs → IsPrefixOf xs ys
+    → IsPrefixOf (if b then other ++ ws else output ++ xs) (if b then other ++ zs else output ++ ys)
+one_each true other output ws zs xs ys p q = behind other ws zs p
+one_each false other output ws zs xs ys p q = behind output xs ys q
 
-pub transcript_grows : (cs ds : List Command) (ks ls : List Moment) → IsPrefixOf (transcript cs ks) (transcript (cs ++ ds) (ks ++ ls))
+pub transcript_grows : (cs ds : List Command) (ks ls : List Snapshot) → IsPrefixOf (transcript cs ks) (transcript (cs ++ ds) (ks ++ ls))
 transcript_grows [] ds ks ls = record { rest = transcript ds (ks ++ ls); joined = refl }
 transcript_grows (c ∷ cs) ds [] [] =
     none_left (needs_capture c) (said_plainly c) (transcript cs []) (transcript (cs ++ ds) []) (transcript_grows cs ds [] [])
 transcript_grows (c ∷ cs) ds [] (l ∷ ls) =
-    one_more (needs_capture c) (said_plainly c) (said_at c l) (transcript cs []) (transcript (cs ++ ds) (l ∷ ls)) (transcript (cs ++ ds) ls)
+    one_more (needs_capture c) (said_plainly c) (sent_at c l) (transcript cs []) (transcript (cs ++ ds) (l ∷ ls)) (transcript (cs ++ ds) ls)
     (transcript_grows cs ds [] (l ∷ ls))
 transcript_grows (c ∷ cs) ds (k ∷ ks) ls =
-    one_each (needs_capture c) (said_at c k) (said_plainly c) (transcript cs ks) (transcript (cs ++ ds) (ks ++ ls)) (transcript cs (k ∷ ks))
+    one_each (needs_capture c) (sent_at c k) (said_plainly c) (transcript cs ks) (transcript (cs ++ ds) (ks ++ ls)) (transcript cs (k ∷ ks))
     (transcript (cs ++ ds) (k ∷ (ks ++ ls)))
     (transcript_grows cs ds ks ls) (transcript_grows cs ds (k ∷ ks) ls)

@@ -1,7 +1,7 @@
 -- The shell keeps the laws of an application, at every offset.
 use Rattle.std.proofs.Common.{◌≡◌, ℕ, ◌≤◌, ◌==◌, min, Bool, true, false, ◌||◌, List, [], ◌∷◌, ◌++◌, length, drop, nat_lt, refl, sym, ap, subst, ◌∙◌, arith, append-nil, append_assoc, length-drop, if◌then◌else◌}
 use Rattle.std.proofs.lemmas.Bool.{ltb-true}
-use Rattle.app_events.specs.Part.{Part, Moment}
+use Rattle.app_events.specs.AppSpec.{AppState, Snapshot}
 use Rattle.app_events.specs.Laws.{IsLawful, StartsAnew, IsPrefixOf, Grows, CanSend}
 use Rattle.app_events.specs.declared.want.Want.TheVariants.{Nothing, Send, Close, Abort}
 use Rattle.web_pages.specs.declared.TheConstants.{LARGEST_SEGMENT}
@@ -10,13 +10,13 @@ use Rattle.telnet_shell.specs.declared.TheConstants.{MOST_SILENT_POLLS, MOST_COM
 use Rattle.telnet_shell.specs.Reading.{commands_in}
 use Rattle.telnet_shell.specs.Transcript.{transcript}
 use Rattle.telnet_shell.specs.Lemmas.Growing.{commands_grow, further, transcript_grows}
-use Rattle.telnet_shell.specs.ShellMeaning.{talk, waiting, with_byte, hear_byte, hear_all, is_stopped, talk_has_ended, left_of_talk, shell_want, shell_meaning}
+use Rattle.telnet_shell.specs.ShellMeaning.{session, waiting, with_byte, hear_byte, hear_all, is_stopped, session_has_ended, left_of_session, shell_want, shell_spec}
 
 same_prefix : (xs : List ℕ) → IsPrefixOf xs xs
 same_prefix xs = record { rest = []; joined = append-nil xs }
 
-same_grows : (p : Part) → Grows shell_meaning p p
-same_grows p = record { text = same_prefix (talk p); offset = refl }
+same_grows : (p : AppState) → Grows shell_spec p p
+same_grows p = record { text = same_prefix (session p); offset = refl }
 
 prefix_of_prefix : (xs ys zs : List ℕ) → IsPrefixOf xs ys → IsPrefixOf ys zs → IsPrefixOf xs zs
 prefix_of_prefix xs ys zs p q = record {
@@ -24,61 +24,61 @@ prefix_of_prefix xs ys zs p q = record {
   joined = sym (append_assoc xs p.rest q.rest) ∙ ap (λ (ws : List ℕ). ws ++ q.rest) p.joined ∙ q.joined;
 }
 
-grows_on : (p q r : Part) → Grows shell_meaning p q → Grows shell_meaning q r → Grows shell_meaning p r
-grows_on p q r g h = record { text = prefix_of_prefix (talk p) (talk q) (talk r) g.text h.text; offset = h.offset ∙ g.offset }
+grows_on : (p q r : AppState) → Grows shell_spec p q → Grows shell_spec q r → Grows shell_spec p r
+grows_on p q r g h = record { text = prefix_of_prefix (session p) (session q) (session r) g.text h.text; offset = h.offset ∙ g.offset }
 
-byte_grows : (p : Part) (byte : ℕ) → Grows shell_meaning p (with_byte p byte)
+byte_grows : (p : AppState) (byte : ℕ) → Grows shell_spec p (with_byte p byte)
 byte_grows p byte =
-    let t : IsPrefixOf (transcript (commands_in p.heard) p.captures)
-    (transcript (commands_in p.heard ++ further p.heard (byte ∷ [])) (p.captures ++ [])) =
-    transcript_grows (commands_in p.heard) (further p.heard (byte ∷ [])) p.captures [] in
+    let t : IsPrefixOf (transcript (commands_in p.delivered) p.captures)
+    (transcript (commands_in p.delivered ++ further p.delivered (byte ∷ [])) (p.captures ++ [])) =
+    transcript_grows (commands_in p.delivered) (further p.delivered (byte ∷ [])) p.captures [] in
     record {
       text = record {
         rest = t.rest;
         joined = t.joined
-            ∙ ap (λ (ks : List Moment). transcript (commands_in p.heard ++ further p.heard (byte ∷ [])) ks) (append-nil p.captures)
-            ∙ ap (λ (cs : List Command). transcript cs p.captures) (sym (commands_grow p.heard (byte ∷ [])));
+            ∙ ap (λ (ks : List Snapshot). transcript (commands_in p.delivered ++ further p.delivered (byte ∷ [])) ks) (append-nil p.captures)
+            ∙ ap (λ (cs : List Command). transcript cs p.captures) (sym (commands_grow p.delivered (byte ∷ [])));
       };
       offset = refl;
     }
 
-heard_grows : (p : Part) (byte : ℕ) (lost full : Bool)
-    → Grows shell_meaning p (if lost then p else if full then record p { own = 1 } else with_byte p byte)
+heard_grows : (p : AppState) (byte : ℕ) (lost full : Bool)
+    → Grows shell_spec p (if lost then p else if full then record p { own = 1 } else with_byte p byte)
 heard_grows p byte true full = same_grows p
-heard_grows p byte false true = record { text = same_prefix (talk p); offset = refl }
+heard_grows p byte false true = record { text = same_prefix (session p); offset = refl }
 heard_grows p byte false false = byte_grows p byte
 
-pub all_grows : (p : Part) (piece : List ℕ) → Grows shell_meaning p (hear_all p piece)
+pub all_grows : (p : AppState) (piece : List ℕ) → Grows shell_spec p (hear_all p piece)
 all_grows p [] = same_grows p
 all_grows p (byte ∷ more) =
     grows_on p (hear_byte p byte) (hear_all (hear_byte p byte) more)
     (heard_grows p byte (p.own == 1) (nat_lt MOST_COMMANDS (length (waiting (with_byte p byte)))))
     (all_grows (hear_byte p byte) more)
 
-unpolled_grows : (p : Part) (piece : List ℕ) → Grows shell_meaning p (hear_all (record p { polls = 0 }) piece)
+unpolled_grows : (p : AppState) (piece : List ℕ) → Grows shell_spec p (hear_all (record p { polls = 0 }) piece)
 unpolled_grows p piece =
-    let g : Grows shell_meaning (record p { polls = 0 }) (hear_all (record p { polls = 0 }) piece) =
+    let g : Grows shell_spec (record p { polls = 0 }) (hear_all (record p { polls = 0 }) piece) =
     all_grows (record p { polls = 0 }) piece in
     record { text = g.text; offset = g.offset }
 
-capture_grows : (p : Part) (k : Moment) → Grows shell_meaning p (record p { captures = p.captures ++ k ∷ [] })
+capture_grows : (p : AppState) (k : Snapshot) → Grows shell_spec p (record p { captures = p.captures ++ k ∷ [] })
 capture_grows p k =
-    let t : IsPrefixOf (transcript (commands_in p.heard) p.captures) (transcript (commands_in p.heard ++ []) (p.captures ++ k ∷ [])) =
-    transcript_grows (commands_in p.heard) [] p.captures (k ∷ []) in
+    let t : IsPrefixOf (transcript (commands_in p.delivered) p.captures) (transcript (commands_in p.delivered ++ []) (p.captures ++ k ∷ [])) =
+    transcript_grows (commands_in p.delivered) [] p.captures (k ∷ []) in
     record {
       text = record {
         rest = t.rest;
-        joined = t.joined ∙ ap (λ (cs : List Command). transcript cs (p.captures ++ k ∷ [])) (append-nil (commands_in p.heard));
+        joined = t.joined ∙ ap (λ (cs : List Command). transcript cs (p.captures ++ k ∷ [])) (append-nil (commands_in p.delivered));
       };
       offset = refl;
     }
 
-either_grows : (p : Part) (k : Moment) (takes : Bool)
-    → Grows shell_meaning p (if takes then record p { captures = p.captures ++ k ∷ [] } else p)
+either_grows : (p : AppState) (k : Snapshot) (takes : Bool)
+    → Grows shell_spec p (if takes then record p { captures = p.captures ++ k ∷ [] } else p)
 either_grows p k true = capture_grows p k
 either_grows p k false = same_grows p
 
--- ---- what it wants
+-- ---- what it requests
 
 some_left : (most left : ℕ) → 1 ≤ most → nat_lt 0 left ≡ true → (1 ≤ min most left) × (min most left ≤ left)
 some_left most left one e =
@@ -95,14 +95,14 @@ sends_by left true ends = tt
 sends_by left false true = tt
 sends_by left false false = sends_left left (nat_lt 0 left) refl
 
-pub can_send : (p : Part) → CanSend (shell_want p) (length (drop p.acked (talk p)))
+pub can_send : (p : AppState) → CanSend (shell_want p) (length (drop p.acked (session p)))
 can_send p =
-    subst (λ (left : ℕ). CanSend (shell_want p) left) (sym (length-drop p.acked (talk p)))
-    (sends_by (left_of_talk p) ((p.own == 1) || (p.polls == MOST_SILENT_POLLS)) (talk_has_ended p))
+    subst (λ (left : ℕ). CanSend (shell_want p) left) (sym (length-drop p.acked (session p)))
+    (sends_by (left_of_session p) ((p.own == 1) || (p.polls == MOST_SILENT_POLLS)) (session_has_ended p))
 
 -- ---- the laws
 
-pub shell_lawful : (stands : Part → Type 0) → IsLawful shell_meaning stands
+pub shell_lawful : (stands : AppState → Type 0) → IsLawful shell_spec stands
 shell_lawful stands = record {
   newdata_grows = λ numbers p piece s. unpolled_grows p piece;
   prepare_grows = λ numbers p now s. either_grows p (record { numbers = numbers; now = now }) (is_stopped p);
@@ -111,5 +111,5 @@ shell_lawful stands = record {
   sends = λ numbers p s. can_send p;
 }
 
-pub shell_starts : StartsAnew shell_meaning
+pub shell_starts : StartsAnew shell_spec
 shell_starts numbers port = (refl, refl)

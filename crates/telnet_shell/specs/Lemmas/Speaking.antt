@@ -1,4 +1,4 @@
--- What was said before the queue, and what the queue says.
+-- What was sent before the queue, and the text of the queue.
 use Rattle.std.proofs.Common.{◌≡◌, ℕ, ◌+◌, ◌-◌, ◌≤◌, ◌<◌, Bool, true, false, ◌&&◌, not, List, [], ◌∷◌, ◌++◌, codes, length, if◌then◌else◌, refl, sym, ap, subst, ◌∙◌, arith, append_assoc, append-nil, length-append, true≢false, drop, take, min, inl, inr}
 use Rattle.std.proofs.lemmas.List.{drop-append-le, take-append-le, take_all}
 use Rattle.std.proofs.Math.Seq.{take-append-add}
@@ -7,12 +7,12 @@ use Rattle.generators.specs.Captures.{capture_of}
 use Rattle.generators.specs.Text.{capture_text}
 use Rattle.generators.specs.declared.capture.Capture.{Capture}
 use Rattle.generators.specs.declared.capture.Capture.TheVariants.{Empty}
-use Rattle.app_events.specs.Part.{Part, Moment}
+use Rattle.app_events.specs.AppSpec.{AppState, Snapshot}
 use Rattle.telnet_shell.specs.declared.command.Command.{Command}
 use Rattle.telnet_shell.specs.declared.command.Command.TheVariants.{Refuse, Help, Stats, Conns, Ticks, Quit, Blank, Other}
-use Rattle.telnet_shell.specs.Transcript.{behind, function_of, needs_capture, said_with, said_plainly, said_at, transcript, unfinished}
-use Rattle.telnet_shell.specs.Saying.{is_taken, stops_at, left_said, IsInFront, Shows, needed, IsBehind}
-use Rattle.telnet_shell.specs.ShellMeaning.{talk, waiting}
+use Rattle.telnet_shell.specs.Transcript.{behind, function_of, needs_capture, said_with, said_plainly, sent_at, transcript, unfinished}
+use Rattle.telnet_shell.specs.Saying.{is_taken, stops_at, left_said, IsLeading, Shows, needed, IsTrailing}
+use Rattle.telnet_shell.specs.ShellMeaning.{session, waiting}
 
 none_split : (b : Bool) (s u x y w : List ℕ) (n : ℕ) → 0 ≡ (if b then n + 1 else n) → (0 ≡ n → u ≡ x ++ y)
     → (if b then w else s ++ u) ≡ (if b then [] else s ++ x) ++ y
@@ -25,10 +25,10 @@ each_split : (b : Bool) (r u x s v z y : List ℕ) (len l n : ℕ) → l ≡ len
 each_split true r u x s v z y len l n d e f g = ap (λ (t : List ℕ). r ++ t) (f (omega (arith, d, e))) ∙ sym (append_assoc r x y)
 each_split false r u x s v z y len l n d e f g = ap (λ (t : List ℕ). s ++ t) (g e) ∙ sym (append_assoc s z y)
 
-one_longer : (k : Moment) (ks : List Moment) → length (k ∷ ks) ≡ length ks + 1
+one_longer : (k : Snapshot) (ks : List Snapshot) → length (k ∷ ks) ≡ length ks + 1
 one_longer k ks = omega arith
 
-pub split : (before q : List Command) (spoken later : List Moment) → length spoken ≡ needed before
+pub split : (before q : List Command) (spoken later : List Snapshot) → length spoken ≡ needed before
     → transcript (before ++ q) (spoken ++ later) ≡ transcript before spoken ++ transcript q later
 split [] q [] later e = refl
 split [] q (k ∷ ks) later e = absurd (omega (arith, e))
@@ -37,10 +37,10 @@ split (c ∷ cs) q [] [] e =
     (λ f. split cs q [] [] f)
 split (c ∷ cs) q [] (l ∷ ls) e =
     none_split (needs_capture c) (said_plainly c) (transcript (cs ++ q) (l ∷ ls)) (transcript cs []) (transcript q (l ∷ ls))
-    (said_at c l ++ transcript (cs ++ q) ls) (needed cs) e
+    (sent_at c l ++ transcript (cs ++ q) ls) (needed cs) e
     (λ f. split cs q [] (l ∷ ls) f)
 split (c ∷ cs) q (k ∷ ks) later e =
-    each_split (needs_capture c) (said_at c k) (transcript (cs ++ q) (ks ++ later)) (transcript cs ks) (said_plainly c)
+    each_split (needs_capture c) (sent_at c k) (transcript (cs ++ q) (ks ++ later)) (transcript cs ks) (said_plainly c)
     (transcript (cs ++ q) (k ∷ (ks ++ later))) (transcript cs (k ∷ ks)) (transcript q later)
     (length ks) (length (k ∷ ks)) (needed cs) (one_longer k ks) e (λ f. split cs q ks later f) (λ f. split cs q (k ∷ ks) later f)
 
@@ -74,7 +74,7 @@ each_past : (b : Bool) (t x s z : List ℕ) (at len l n : ℕ) (gone go : ℕ �
 each_past true t x s z at len l n gone go stay r d e f g = past_said t x at gone stay ∙ f (omega (arith, d, e))
 each_past false t x s z at len l n gone go stay r d e f g = past_said s z at go stay ∙ g e
 
-pub passed : (before q : List Command) (spoken later : List Moment) (at : ℕ) → length spoken ≡ needed before
+pub passed : (before q : List Command) (spoken later : List Snapshot) (at : ℕ) → length spoken ≡ needed before
     → unfinished (before ++ q) (spoken ++ later) (length (transcript before spoken) + at) ≡ unfinished q later at
 passed [] q [] later at e = ap (λ (n : ℕ). unfinished q later n) (let e : 0 + at ≡ at = omega arith in e)
 passed [] q (k ∷ ks) later at e = absurd (omega (arith, e))
@@ -83,17 +83,17 @@ passed (c ∷ cs) q [] [] at e =
     (c ∷ (cs ++ q)) (unfinished q [] at) e
     (λ f. passed cs q [] [] at f)
 passed (c ∷ cs) q [] (l ∷ ls) at e =
-    none_past_with (needs_capture c) (said_plainly c) (said_at c l) (transcript cs []) at (needed cs) (λ n. unfinished (cs ++ q) (l ∷ ls) n)
+    none_past_with (needs_capture c) (said_plainly c) (sent_at c l) (transcript cs []) at (needed cs) (λ n. unfinished (cs ++ q) (l ∷ ls) n)
     (λ n. unfinished (cs ++ q) ls n) (c ∷ (cs ++ q)) (unfinished q (l ∷ ls) at) e
     (λ f. passed cs q [] (l ∷ ls) at f)
 passed (c ∷ cs) q (k ∷ ks) later at e =
-    each_past (needs_capture c) (said_at c k) (transcript cs ks) (said_plainly c) (transcript cs (k ∷ ks)) at (length ks) (length (k ∷ ks))
+    each_past (needs_capture c) (sent_at c k) (transcript cs ks) (said_plainly c) (transcript cs (k ∷ ks)) at (length ks) (length (k ∷ ks))
     (needed cs)
     (λ n. unfinished (cs ++ q) (ks ++ later) n) (λ n. unfinished (cs ++ q) (k ∷ (ks ++ later)) n) (c ∷ (cs ++ q)) (unfinished q later at)
     (one_longer k ks) e
     (λ f. passed cs q ks later at f) (λ f. passed cs q (k ∷ ks) later at f)
 
--- ---- the front
+-- ---- the first command
 
 pub said_some : (c : Command) (capture : Capture) → 1 ≤ length (said_with c capture)
 said_some (Refuse verb option) capture = omega arith
@@ -105,7 +105,7 @@ said_some Quit capture = omega arith
 said_some Blank capture = omega arith
 said_some Other capture = omega arith
 
-taken_is : (c : Command) (k : Moment) → needs_capture c ≡ true → is_taken (capture_of (function_of c) 0 k.now) ≡ true
+taken_is : (c : Command) (k : Snapshot) → needs_capture c ≡ true → is_taken (capture_of (function_of c) 0 k.now) ≡ true
 taken_is Stats k e = refl
 taken_is Conns k e = refl
 taken_is Ticks k e = refl
@@ -115,8 +115,8 @@ taken_is Quit k e = elim (true≢false (sym e)) [ ]
 taken_is Blank k e = elim (true≢false (sym e)) [ ]
 taken_is Other k e = elim (true≢false (sym e)) [ ]
 
--- a front whose capture is held does not stop
-pub held_goes : (c : Command) (k : Moment) (capture : Capture) → needs_capture c ≡ true → capture ≡ capture_of (function_of c) 0 k.now
+-- a first command whose capture is held does not stop
+pub held_goes : (c : Command) (k : Snapshot) (capture : Capture) → needs_capture c ≡ true → capture ≡ capture_of (function_of c) 0 k.now
     → stops_at c capture ≡ false
 held_goes c k capture e f =
     ap (λ (b : Bool). b && not (is_taken capture)) e ∙ ap (λ (b : Bool). not b) (ap (λ (d : Capture). is_taken d) f ∙ taken_is c k e)
@@ -129,21 +129,21 @@ empty_stops c capture e = ap (λ (d : Capture). stops_at c d) e ∙ by_need (nee
     by_need true = refl
     by_need false = refl
 
-pub front_left : (q : List Command) (capture : Capture) (front : List Moment) → Shows q capture front
-    → transcript q front ≡ left_said q capture
-front_left [] capture [] s = refl
-front_left [] capture (k ∷ ks) s = absurd s
-front_left (c ∷ cs) capture [] s =
+pub prefix_left : (q : List Command) (capture : Capture) (prefix : List Snapshot) → Shows q capture prefix
+    → transcript q prefix ≡ left_said q capture
+prefix_left [] capture [] s = refl
+prefix_left [] capture (k ∷ ks) s = absurd s
+prefix_left (c ∷ cs) capture [] s =
     ap (λ (d : Capture). if needs_capture c then [] else said_with c d ++ transcript cs []) (sym s)
     ∙ ap (λ (b : Bool). if b then [] else said_with c capture ++ transcript cs []) (sym (empty_stops c capture s))
-front_left (c ∷ cs) capture (k ∷ ks) s =
-    ap (λ (ls : List Moment). transcript (c ∷ cs) (k ∷ ls)) s.0
-    ∙ ap (λ (b : Bool). if b then said_at c k ++ transcript cs [] else said_plainly c ++ transcript cs (k ∷ [])) s.1
+prefix_left (c ∷ cs) capture (k ∷ ks) s =
+    ap (λ (ls : List Snapshot). transcript (c ∷ cs) (k ∷ ls)) s.0
+    ∙ ap (λ (b : Bool). if b then sent_at c k ++ transcript cs [] else said_plainly c ++ transcript cs (k ∷ [])) s.1
     ∙ ap (λ (d : Capture). said_with c d ++ transcript cs []) (sym s.2)
     ∙ ap (λ (b : Bool). if b then [] else said_with c capture ++ transcript cs []) (sym (held_goes c k capture s.1 s.2))
 
--- the front is not wholly acknowledged
-stays_plain : (c : Command) (cs go : List Command) (capture : Capture) (at : ℕ) → capture ≡ Empty → IsInFront (c ∷ cs) capture at
+-- the first command is not wholly acknowledged
+stays_plain : (c : Command) (cs go : List Command) (capture : Capture) (at : ℕ) → capture ≡ Empty → IsLeading (c ∷ cs) capture at
     → (b : Bool) → needs_capture c ≡ b
     → (if b then c ∷ cs else behind (said_plainly c) at (λ n. go) (c ∷ cs)) ≡ c ∷ cs
 stays_plain c cs go capture at s i true e = refl
@@ -152,39 +152,39 @@ stays_plain c cs go capture at s i false e =
     let small : at < length (said_plainly c) = subst (λ (d : Capture). at < length (said_with c d)) s short in
     ap (λ (b : Bool). if b then go else c ∷ cs) (lt-leb (length (said_plainly c)) at small)
 
-pub stays : (q : List Command) (capture : Capture) (front : List Moment) (at : ℕ) → Shows q capture front → IsInFront q capture at
-    → unfinished q front at ≡ q
+pub stays : (q : List Command) (capture : Capture) (prefix : List Snapshot) (at : ℕ) → Shows q capture prefix → IsLeading q capture at
+    → unfinished q prefix at ≡ q
 stays [] capture [] at s i = refl
 stays [] capture (k ∷ ks) at s i = absurd s
 stays (c ∷ cs) capture [] at s i = stays_plain c cs (unfinished cs [] (at - length (said_plainly c))) capture at s i (needs_capture c) refl
 stays (c ∷ cs) capture (k ∷ ks) at s i =
     let short : at < length (said_with c capture) = i.1 (held_goes c k capture s.1 s.2) in
-    let small : at < length (said_at c k) = subst (λ (d : Capture). at < length (said_with c d)) s.2 short in
-    ap (λ (b : Bool). if b then behind (said_at c k) at (λ n. unfinished cs ks n) (c ∷ cs)
+    let small : at < length (sent_at c k) = subst (λ (d : Capture). at < length (said_with c d)) s.2 short in
+    ap (λ (b : Bool). if b then behind (sent_at c k) at (λ n. unfinished cs ks n) (c ∷ cs)
     else behind (said_plainly c) at (λ n. unfinished cs (k ∷ ks) n) (c ∷ cs)) s.1
-    ∙ ap (λ (b : Bool). if b then unfinished cs ks (at - length (said_at c k)) else c ∷ cs) (lt-leb (length (said_at c k)) at small)
+    ∙ ap (λ (b : Bool). if b then unfinished cs ks (at - length (sent_at c k)) else c ∷ cs) (lt-leb (length (sent_at c k)) at small)
 
--- ---- behind what was said before
+-- ---- after what was sent before
 
-pub talk_is : (q : List Command) (capture : Capture) (at : ℕ) (p : Part) (b : IsBehind q capture at p)
-    → talk p ≡ transcript b.before b.spoken ++ left_said q capture
-talk_is q capture at p b =
+pub session_is : (q : List Command) (capture : Capture) (at : ℕ) (p : AppState) (b : IsTrailing q capture at p)
+    → session p ≡ transcript b.before b.spoken ++ left_said q capture
+session_is q capture at p b =
     ap (λ (cs : List Command). transcript cs p.captures) b.commands
-    ∙ ap (λ (ks : List Moment). transcript (b.before ++ q) ks) b.captures
-    ∙ split b.before q b.spoken b.front b.took
-    ∙ ap (λ (xs : List ℕ). transcript b.before b.spoken ++ xs) (front_left q capture b.front b.shows)
+    ∙ ap (λ (ks : List Snapshot). transcript (b.before ++ q) ks) b.captures
+    ∙ split b.before q b.spoken b.prefix b.took
+    ∙ ap (λ (xs : List ℕ). transcript b.before b.spoken ++ xs) (prefix_left q capture b.prefix b.shows)
 
-pub waiting_is : (q : List Command) (capture : Capture) (at : ℕ) (p : Part) → IsBehind q capture at p → IsInFront q capture at
+pub waiting_is : (q : List Command) (capture : Capture) (at : ℕ) (p : AppState) → IsTrailing q capture at p → IsLeading q capture at
     → waiting p ≡ q
 waiting_is q capture at p b i =
     ap (λ (cs : List Command). unfinished cs p.captures p.acked) b.commands
-    ∙ ap (λ (ks : List Moment). unfinished (b.before ++ q) ks p.acked) b.captures
-    ∙ ap (λ (n : ℕ). unfinished (b.before ++ q) (b.spoken ++ b.front) n) b.acked
-    ∙ passed b.before q b.spoken b.front at b.took
-    ∙ stays q capture b.front at b.shows i
+    ∙ ap (λ (ks : List Snapshot). unfinished (b.before ++ q) ks p.acked) b.captures
+    ∙ ap (λ (n : ℕ). unfinished (b.before ++ q) (b.spoken ++ b.prefix) n) b.acked
+    ∙ passed b.before q b.spoken b.prefix at b.took
+    ∙ stays q capture b.prefix at b.shows i
 
-pub from_front : (n at : ℕ) (s t : List ℕ) → at ≤ length s → take n (drop at (s ++ t)) ≡ take n (drop at s ++ t)
-from_front n at s t h = ap (λ (xs : List ℕ). take n xs) (drop-append-le at s t h)
+pub from_prefix : (n at : ℕ) (s t : List ℕ) → at ≤ length s → take n (drop at (s ++ t)) ≡ take n (drop at s ++ t)
+from_prefix n at s t h = ap (λ (xs : List ℕ). take n xs) (drop-append-le at s t h)
 
 pub two_parts : (d t x y : List ℕ) (n m a b : ℕ) → m ≡ min (length d) n → a ≡ m → b + m ≡ n → x ≡ take a d → y ≡ take b t
     → x ++ y ≡ take n (d ++ t)

@@ -29,7 +29,7 @@ after_more request more e =
     ap (λ word. drop (length word + 1) (request ++ more)) (word_more Space request more e)
     ∙ drop-append-le (length (method_of request) + 1) request more fits
 
--- what is wanted, by the answers of the three tests and the target
+-- what is requested, by the answers of the three tests and the target
 abbrev pub by_tests : Bool → Bool → Bool → List ℕ → Wanted
 by_tests method is_get target word =
     if not method then NotYet else if not is_get then Refused else if not target then NotYet else wanted_by word
@@ -56,7 +56,7 @@ stays_wanted request more decided =
     ))
     decided
 
--- the same by cases of what is wanted before
+-- the same by cases of what was requested before
 pub more_by : (before : Wanted) (request more : List ℕ) → wanted request ≡ before → before ≢ NotYet → wanted (request ++ more) ≡ before
 more_by before request more e decided = stays_wanted request more (λ none. decided (sym e ∙ none)) ∙ e
 
@@ -66,7 +66,7 @@ refused_stays request more e = more_by Refused request more e (λ f. cc)
 pub name_stays : (request more name : List ℕ) → wanted request ≡ Name name → wanted (request ++ more) ≡ Name name
 name_stays request more name e = more_by (Name name) request more e (λ f. cc)
 
--- ---- what is wanted, by the words
+-- ---- what is requested, by the words
 
 pub method_open : (request : List ℕ) → has_ended Space request ≡ false → wanted request ≡ NotYet
 method_open request e =

@@ -1,7 +1,7 @@
 -- More request bytes and more captures only append to a page, and leave a whole one.
 use Rattle.std.proofs.Common.{◌≡◌, ◌≢◌, ℕ, true, false, List, [], ◌∷◌, ◌++◌, refl, sym, ap, ◌∙◌, append_assoc, append-nil, true≢false, if◌then◌else◌}
 use Rattle.site_image.specs.Files.{File}
-use Rattle.app_events.specs.Part.{Moment}
+use Rattle.app_events.specs.AppSpec.{Snapshot}
 use Rattle.app_events.specs.Laws.{IsPrefixOf}
 use Rattle.web_pages.specs.Requests.{Wanted, wanted}
 use Rattle.web_pages.specs.Requests.Wanted.{NotYet, Refused, Name}
@@ -14,7 +14,7 @@ use Rattle.web_pages.specs.Lemmas.Deciding.{more_by}
 -- ---- a call, by whether it takes a capture
 
 pub silent_text : {F : Type 0} (g : Giving F) (files : List File) (function : F) (argument : List ℕ) (more : List (Say F))
-    (captures : List Moment)
+    (captures : List Snapshot)
     → g.calling.takes_capture function ≡ false
     → text_by g files (Made function argument ∷ more) captures ≡ text_by g files more captures
 silent_text g files function argument more [] e = ap (λ b. if b then [] else text_by g files more []) e
@@ -22,7 +22,7 @@ silent_text g files function argument more (capture ∷ later) e =
     ap (λ b. if b then made_by g files function argument capture ++ text_by g files more later else text_by g files more (capture ∷ later))
     e
 
-pub silent_end : {F : Type 0} (g : Giving F) (function : F) (argument : List ℕ) (more : List (Say F)) (captures : List Moment)
+pub silent_end : {F : Type 0} (g : Giving F) (function : F) (argument : List ℕ) (more : List (Say F)) (captures : List Snapshot)
     → g.calling.takes_capture function ≡ false
     → reach_by g (Made function argument ∷ more) captures ≡ reach_by g more captures
 silent_end g function argument more [] e = ap (λ b. if b then false else reach_by g more []) e
@@ -39,7 +39,7 @@ pub stopped_end : {F : Type 0} (g : Giving F) (function : F) (argument : List �
 stopped_end g function argument more e = ap (λ b. if b then false else reach_by g more []) e
 
 pub made_first : {F : Type 0} (g : Giving F) (files : List File) (function : F) (argument : List ℕ) (more : List (Say F))
-    (capture : Moment) (later : List Moment)
+    (capture : Snapshot) (later : List Snapshot)
     → g.calling.takes_capture function ≡ true
     → text_by g files (Made function argument ∷ more) (capture ∷ later)
     ≡ made_by g files function argument capture ++ text_by g files more later
@@ -47,15 +47,15 @@ made_first g files function argument more capture later e =
     ap (λ b. if b then made_by g files function argument capture ++ text_by g files more later else text_by g files more (capture ∷ later))
     e
 
-pub made_end : {F : Type 0} (g : Giving F) (function : F) (argument : List ℕ) (more : List (Say F)) (capture : Moment) (later : List Moment)
+pub made_end : {F : Type 0} (g : Giving F) (function : F) (argument : List ℕ) (more : List (Say F)) (capture : Snapshot) (later : List Snapshot)
     → g.calling.takes_capture function ≡ true
     → reach_by g (Made function argument ∷ more) (capture ∷ later) ≡ reach_by g more later
 made_end g function argument more capture later e = ap (λ b. if b then reach_by g more later else reach_by g more (capture ∷ later)) e
 
 -- ---- prefixes
 
-pub prefix_behind : (front : List ℕ) (xs ys : List ℕ) → IsPrefixOf xs ys → IsPrefixOf (front ++ xs) (front ++ ys)
-prefix_behind front xs ys p = record { rest = p.rest; joined = append_assoc front xs p.rest ∙ ap (λ zs. front ++ zs) p.joined }
+pub prefix_after : (prefix : List ℕ) (xs ys : List ℕ) → IsPrefixOf xs ys → IsPrefixOf (prefix ++ xs) (prefix ++ ys)
+prefix_after prefix xs ys p = record { rest = p.rest; joined = append_assoc prefix xs p.rest ∙ ap (λ zs. prefix ++ zs) p.joined }
 
 pub prefix_along : (xs xs' ys ys' : List ℕ) → xs ≡ xs' → ys ≡ ys' → IsPrefixOf xs' ys' → IsPrefixOf xs ys
 prefix_along xs xs' ys ys' e f p = record { rest = p.rest; joined = ap (λ zs. zs ++ p.rest) e ∙ p.joined ∙ sym f }
@@ -68,11 +68,11 @@ same_prefix xs ys e = record { rest = []; joined = append-nil xs ∙ sym e }
 
 -- ---- the text of pieces
 
-pub text_grows : {F : Type 0} (g : Giving F) (files : List File) (says : List (Say F)) (captures later : List Moment)
+pub text_grows : {F : Type 0} (g : Giving F) (files : List File) (says : List (Say F)) (captures later : List Snapshot)
     → IsPrefixOf (text_by g files says captures) (text_by g files says (captures ++ later))
 text_grows g files [] captures later = nothing_prefix []
 text_grows g files (Plain text ∷ more) captures later =
-    prefix_behind text (text_by g files more captures) (text_by g files more (captures ++ later)) (text_grows g files more captures later)
+    prefix_after text (text_by g files more captures) (text_by g files more (captures ++ later)) (text_grows g files more captures later)
 text_grows g files (Made function argument ∷ more) [] later =
     elim (g.calling.takes_capture function) as (λ b. g.calling.takes_capture function ≡ b
     → IsPrefixOf (text_by g files (Made function argument ∷ more) []) (text_by g files (Made function argument ∷ more) later)) [
@@ -90,7 +90,7 @@ text_grows g files (Made function argument ∷ more) (capture ∷ rest) later =
       | true ↦ λ e.
           prefix_along _ _ _ _ (made_first g files function argument more capture rest e)
           (made_first g files function argument more capture (rest ++ later) e)
-          (prefix_behind (made_by g files function argument capture) (text_by g files more rest) (text_by g files more (rest ++ later))
+          (prefix_after (made_by g files function argument capture) (text_by g files more rest) (text_by g files more (rest ++ later))
           (text_grows g files more rest later))
       | false ↦ λ e.
           prefix_along _ _ _ _ (silent_text g files function argument more (capture ∷ rest) e)
@@ -99,12 +99,12 @@ text_grows g files (Made function argument ∷ more) (capture ∷ rest) later =
     ] refl
 
 -- where nothing stops the pieces, more captures change nothing
-abbrev Stays : {F : Type 0} → Giving F → List File → List (Say F) → List Moment → List Moment → Type 0
+abbrev Stays : {F : Type 0} → Giving F → List File → List (Say F) → List Snapshot → List Snapshot → Type 0
 Stays g files says captures later =
     reach_by g says captures ≡ true
     → (text_by g files says (captures ++ later) ≡ text_by g files says captures) × (reach_by g says (captures ++ later) ≡ true)
 
-pub text_stays : {F : Type 0} (g : Giving F) (files : List File) (says : List (Say F)) (captures later : List Moment)
+pub text_stays : {F : Type 0} (g : Giving F) (files : List File) (says : List (Say F)) (captures later : List Snapshot)
     → Stays g files says captures later
 text_stays g files [] captures later whole = (refl, refl)
 text_stays g files (Plain text ∷ more) captures later whole =
@@ -151,7 +151,7 @@ refused_open e = cc
 name_open : (name : List ℕ) → Name name ≢ NotYet
 name_open name e = cc
 
-grows_by : {F : Type 0} (g : Giving F) (files : List File) (before : Wanted) (request more : List ℕ) (captures later : List Moment)
+grows_by : {F : Type 0} (g : Giving F) (files : List File) (before : Wanted) (request more : List ℕ) (captures later : List Snapshot)
     → wanted request ≡ before
     → IsPrefixOf (page_for_by g files before captures) (page_by g files (request ++ more) (captures ++ later))
 grows_by g files NotYet request more captures later e = nothing_prefix (page_by g files (request ++ more) (captures ++ later))
@@ -160,11 +160,11 @@ grows_by g files (Name name) request more captures later e =
     prefix_along _ _ _ _ refl (ap (λ w. page_for_by g files w (captures ++ later)) (more_by (Name name) request more e (name_open name)))
     (text_grows g files (reply_pieces_by g.calling.named files name) captures later)
 
-pub page_grows : {F : Type 0} (g : Giving F) (files : List File) (request more : List ℕ) (captures later : List Moment)
+pub page_grows : {F : Type 0} (g : Giving F) (files : List File) (request more : List ℕ) (captures later : List Snapshot)
     → IsPrefixOf (page_by g files request captures) (page_by g files (request ++ more) (captures ++ later))
 page_grows g files request more captures later = grows_by g files (wanted request) request more captures later refl
 
-stays_by : {F : Type 0} (g : Giving F) (files : List File) (before : Wanted) (request more : List ℕ) (captures later : List Moment)
+stays_by : {F : Type 0} (g : Giving F) (files : List File) (before : Wanted) (request more : List ℕ) (captures later : List Snapshot)
     → wanted request ≡ before
     → whole_for_by g files before captures ≡ true
     → (page_by g files (request ++ more) (captures ++ later) ≡ page_for_by g files before captures)
@@ -178,7 +178,7 @@ stays_by g files (Name name) request more captures later e whole =
     let rest = text_stays g files (reply_pieces_by g.calling.named files name) captures later whole in
     (ap (λ w. page_for_by g files w (captures ++ later)) same ∙ rest.0, ap (λ w. whole_for_by g files w (captures ++ later)) same ∙ rest.1)
 
-pub page_stays : {F : Type 0} (g : Giving F) (files : List File) (request more : List ℕ) (captures later : List Moment)
+pub page_stays : {F : Type 0} (g : Giving F) (files : List File) (request more : List ℕ) (captures later : List Snapshot)
     → is_whole_by g files request captures ≡ true
     → (page_by g files (request ++ more) (captures ++ later) ≡ page_by g files request captures)
     × (is_whole_by g files (request ++ more) (captures ++ later) ≡ true)

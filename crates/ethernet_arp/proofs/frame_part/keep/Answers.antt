@@ -6,7 +6,7 @@ pub returns-then-at-lt-LARGEST_FRAME : goal.returns-then-at-lt-LARGEST_FRAME
 returns-then-at-lt-LARGEST_FRAME c = λ frame len kept.
     let room = c.split_at_mut-room.ensures in
     kept_more c.args.area.now frame c.args.bytes.now c.split_at_mut-room.result.1.now _ c.args.at c.min-count.result (omega arith) len (omega arith) kept
-    room.back c.min-count.ensures (ap (λ l. l ++ c.put_front.new.out) room.front ∙ ap (λ l. take c.args.at c.args.area.now ++ l) c.put_front.ensures)
+    room.back c.min-count.ensures (ap (λ l. l ++ c.put_prefix.new.out) room.front ∙ ap (λ l. take c.args.at c.args.area.now ++ l) c.put_prefix.ensures)
 
 pub returns-else-at-lt-LARGEST_FRAME : goal.returns-else-at-lt-LARGEST_FRAME
 returns-else-at-lt-LARGEST_FRAME c = λ frame len kept.

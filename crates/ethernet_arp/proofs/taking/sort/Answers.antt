@@ -7,8 +7,8 @@ use Rattle.ethernet_arp.specs.Table.{host_of}
 use Rattle.ethernet_arp.specs.Taking.{came_of}
 use Rattle.ethernet_arp.proofs.taking.sort.Goals as goal
 
-pub returns-then-is_for-clause-brings : goal.returns-then-is_for-clause-brings
-returns-then-is_for-clause-brings c =
+pub returns-then-is_for-clause-decodes : goal.returns-then-is_for-clause-decodes
+returns-then-is_for-clause-decodes c =
     let k = host_of c.args.arp.now in
     let payload = drop 14 c.args.frame.now in
     let rest : take (length c.args.frame.now - 14) payload ≡ payload = take_rest c.args.frame.now 14 in
@@ -17,4 +17,4 @@ returns-then-is_for-clause-brings c =
     ap (λ l. bytes_eq l k.mac || bytes_eq l broadcast) (sym c.get.ensures) ∙ sym c.is_for.ensures ∙ c.if-is_for.true in
     ap (λ v. if v then payload_brings k (word_at c.args.frame.now 12) payload else []) test
     ∙ ap (λ n. payload_brings k n payload) (sym c.get16.ensures)
-    ∙ subst (λ (l : List ℕ). payload_brings k c.get16.result l ≡ came_of l c.sort_payload.result) rest (c.sort_payload.ensures.brings k.mac)
+    ∙ subst (λ (l : List ℕ). payload_brings k c.get16.result l ≡ came_of l c.sort_payload.result) rest (c.sort_payload.ensures.decodes k.mac)

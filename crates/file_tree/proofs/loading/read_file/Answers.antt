@@ -11,7 +11,7 @@ returns-clause-bytes g c =
     let bytes = c.loop-block.bytes.items in
     elim c.loop-block-test.branch [
       | else-loop-block-test w ↦
-          loading-full c.args.limit held c.args.name.now bytes c.loop-block.invariant.front
+          loading-full c.args.limit held c.args.name.now bytes c.loop-block.invariant.prefix
           (omega (arith, short, w.loop-block-test.false, c.len.ensures, c.loop-block.bytes.ok.0))
       | then-loop-block-test+in-Ok+then-count-eq0 w ↦
           loading-stops c.args.limit held (g.H.Shelf.held c.loop-block.shelf) (g.H.Shelf.faults c.args.shelf.now) (g.H.Shelf.faults c.loop-block.shelf) c.args.name.now bytes w.read.new.buf

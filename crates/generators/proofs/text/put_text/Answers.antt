@@ -1,4 +1,5 @@
 -- The text of each kind of record.
+-- [add: function] The arm of its capture record.
 use Rattle.std.proofs.Common.{[]}
 use Rattle.generators.proofs.text.put_text.Goals as goal
 

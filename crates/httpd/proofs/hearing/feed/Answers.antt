@@ -1,6 +1,6 @@
 use Rattle.std.proofs.Common.{◌≤◌, length, sym, subst}
-use Rattle.protosocket.specs.Lemmas.Hearing.{takes_front}
+use Rattle.protosocket.specs.Lemmas.Hearing.{takes_prefix}
 use Rattle.httpd.proofs.hearing.feed.Goals as goal
 
 pub returns-clause-within : goal.returns-clause-within
-returns-clause-within c = subst (λ n. n ≤ length c.args.piece.now) (sym c.feed.ensures.taken) (takes_front c.args.line.now c.args.piece.now)
+returns-clause-within c = subst (λ n. n ≤ length c.args.piece.now) (sym c.feed.ensures.taken) (takes_prefix c.args.line.now c.args.piece.now)

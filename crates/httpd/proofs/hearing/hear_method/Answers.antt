@@ -1,7 +1,7 @@
 use Rattle.std.proofs.Common.{◌++◌, sym, ap, ◌∙◌, subst}
 use Rattle.std.proofs.lemmas.List.{take_rest}
 use Rattle.httpd.specs.Hearing.{HearsTarget, HearsTo}
-use Rattle.httpd.proofs.Words.{front_of}
+use Rattle.httpd.proofs.Words.{prefix_of}
 use Rattle.httpd.proofs.Requesting.{method_goes_on, method_refused, target_begins}
 use Rattle.httpd.proofs.hearing.hear_method.Goals as goal
 
@@ -19,5 +19,5 @@ returns c = λ request is.
     let begins = target_begins c.args.line.now c.feed-count.new.line request c.args.piece.now c.feed-count.result is c.feed-count.ensures.after c.feed-count.ensures.taken
     (sym c.done.ensures ∙ c.if-not-done.false) (sym c.is_get.ensures ∙ c.if-not-is_get.false) in
     subst (λ bytes. HearsTo c.hear_target.result c.hear_target.new.line bytes)
-    (ap (λ rest. (request ++ front_of c.args.piece.now) ++ rest) (take_rest c.args.piece.now c.feed-count.result) ∙ begins.joined)
-    (c.hear_target.ensures (request ++ front_of c.args.piece.now) (subst (λ l. HearsTarget l (request ++ front_of c.args.piece.now)) (sym c.new.ensures) begins.hears))
+    (ap (λ rest. (request ++ prefix_of c.args.piece.now) ++ rest) (take_rest c.args.piece.now c.feed-count.result) ∙ begins.joined)
+    (c.hear_target.ensures (request ++ prefix_of c.args.piece.now) (subst (λ l. HearsTarget l (request ++ prefix_of c.args.piece.now)) (sym c.new.ensures) begins.hears))

@@ -19,7 +19,7 @@ rest_of-requires-clause-within g c = subst (λ xs. c.args.at ≤ length xs) (sym
 pub returns-clause-sees : goal.returns-clause-sees
 unfolding Fits left_from
 returns-clause-sees g c =
-    let r = reply_by (gives g.R.Function.Calls.calling g.R.Record.said) g.R.Record.text c.args.site.now c.args.found c.args.capture.now in
+    let r = reply_by (gives g.R.Function.Calls.calling g.R.Record.output) g.R.Record.text c.args.site.now c.args.found c.args.capture.now in
     let plain = sym c.is_scripted.ensures ∙ c.if-is_scripted.false in
     subst (λ ps. Sees g.R.Record.text r ps (record { span = c.rest_of.result; here = Body c.args.at; next = End })) (sym (plain_from r c.args.at plain))
     (plain_seen g.R.Record.text r c.args.at c.rest_of.result plain c.requires.fits.within (subst (λ xs. length xs ≤ 16777216) c.body_of.ensures.text c.body_of.ensures.short)

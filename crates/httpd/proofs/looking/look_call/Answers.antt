@@ -11,7 +11,7 @@ use Rattle.httpd.proofs.looking.look_call.Goals as goal
 pub returns-then-not-takes_capture-clause-sees : goal.returns-then-not-takes_capture-clause-sees
 unfolding left_from Fits
 returns-then-not-takes_capture-clause-sees g c =
-    let r = reply_by (gives g.R.Function.Calls.calling g.R.Record.said) g.R.Record.text c.args.site.now c.args.found c.args.capture.now in
+    let r = reply_by (gives g.R.Function.Calls.calling g.R.Record.output) g.R.Record.text c.args.site.now c.args.found c.args.capture.now in
     let more = body_from r c.args.next in
     let silent = sym c.takes_capture.ensures ∙ c.if-not-takes_capture.true in
     nothing_seen g.R.Record.text r (Made c.args.function c.args.argument.now) more c.look_nothing.result c.look_nothing.ensures.nothing

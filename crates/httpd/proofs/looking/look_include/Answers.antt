@@ -20,13 +20,13 @@ look_inside-requires-clause-fits g c = (
 pub returns-clause-sees : goal.returns-clause-sees
 unfolding left_from
 returns-clause-sees g c =
-    let r = reply_by (gives g.R.Function.Calls.calling g.R.Record.said) g.R.Record.text c.args.site.now c.args.found c.args.capture.now in
+    let r = reply_by (gives g.R.Function.Calls.calling g.R.Record.output) g.R.Record.text c.args.site.now c.args.found c.args.capture.now in
     subst (λ o. Sees g.R.Record.text r (Plain (bytes_or [] o) ∷ body_from r c.args.next) c.look_inside.result) c.in-Some.ensures.file c.look_inside.ensures.sees
 
 pub returns-in_default-clause-sees : goal.returns-in_default-clause-sees
 unfolding left_from Fits
 returns-in_default-clause-sees g c =
-    let r = reply_by (gives g.R.Function.Calls.calling g.R.Record.said) g.R.Record.text c.args.site.now c.args.found c.args.capture.now in
+    let r = reply_by (gives g.R.Function.Calls.calling g.R.Record.output) g.R.Record.text c.args.site.now c.args.found c.args.capture.now in
     let more = body_from r c.args.next in
     subst (λ o. Sees g.R.Record.text r (Plain (bytes_or [] o) ∷ more) c.look_nothing.result) c.in_default.ensures.file
     (nothing_seen g.R.Record.text r (Plain []) more c.look_nothing.result c.look_nothing.ensures.nothing
@@ -36,7 +36,7 @@ returns-in_default-clause-sees g c =
 
 pub returns-clause-kept : goal.returns-clause-kept
 returns-clause-kept g c =
-    let r = reply_by (gives g.R.Function.Calls.calling g.R.Record.said) g.R.Record.text c.args.site.now c.args.found c.args.capture.now in
+    let r = reply_by (gives g.R.Function.Calls.calling g.R.Record.output) g.R.Record.text c.args.site.now c.args.found c.args.capture.now in
     keeps_all r (Inside c.args.next c.in-Some.file 0) c.look_inside.result.here c.look_inside.ensures.here (λ captures. record {
       name = c.args.name.now;
       directive = c.requires.directive;

@@ -10,7 +10,7 @@ use Rattle.httpd.proofs.looking.look_kind.Goals as goal
 pub returns-clause-sees : goal.returns-clause-sees
 unfolding Fits
 returns-clause-sees g c =
-    let r = reply_by (gives g.R.Function.Calls.calling g.R.Record.said) g.R.Record.text c.args.site.now c.args.found c.args.capture.now in
+    let r = reply_by (gives g.R.Function.Calls.calling g.R.Record.output) g.R.Record.text c.args.site.now c.args.found c.args.capture.now in
     kind_seen g.R.Record.text r c.args.at (span.Line c.kind_of.result c.args.at) c.requires.fits (subst (λ xs. length xs ≤ 64) c.kind_of.ensures.text c.kind_of.ensures.short)
     (record {
       plain = tt;

@@ -9,7 +9,7 @@ use Rattle.httpd.proofs.looking.look_making.Goals as goal
 pub returns-clause-sees : goal.returns-clause-sees
 unfolding Fits
 returns-clause-sees g c =
-    let r = reply_by (gives g.R.Function.Calls.calling g.R.Record.said) g.R.Record.text c.args.site.now c.args.found c.args.capture.now in
+    let r = reply_by (gives g.R.Function.Calls.calling g.R.Record.output) g.R.Record.text c.args.site.now c.args.found c.args.capture.now in
     let size = c.text_len-end.ensures.length in
     let bound = c.text_len-end.ensures.short in
     making_seen g.R.Record.text r c.args.next c.args.at (span.Made c.args.capture c.args.at c.text_len-end.result) c.requires.0 c.requires.1 (omega (arith, size, bound))

@@ -6,7 +6,7 @@ use Rattle.httpd.proofs.saying.due_call.Goals as goal
 
 pub loop-seen-preserved : goal.loop-seen-preserved
 loop-seen-preserved g c =
-    let r = reply_by (gives g.R.Function.Calls.calling g.R.Record.said) g.R.Record.text c.args.site.now c.args.found c.args.capture.now in
+    let r = reply_by (gives g.R.Function.Calls.calling g.R.Record.output) g.R.Record.text c.args.site.now c.args.found c.args.capture.now in
     let text = text_unless c.look-seen.result.span c.in_default.not-Call c.in_default.not-End in
     walks_to r c.args.thread c.look-seen.result.next (0 + c.span_len-len.result) 0 (omega arith)
     (walks_on g.R.Record.text r c.args.thread c.loop-seen.place 0 c.span_len-len.result c.look-seen.result c.loop-seen.invariant

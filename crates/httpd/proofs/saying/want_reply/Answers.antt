@@ -8,7 +8,7 @@ use Rattle.httpd.proofs.saying.want_reply.Goals as goal
 
 pub returns-in-Call : goal.returns-in-Call
 returns-in-Call g c =
-    let r = reply_by (gives g.R.Function.Calls.calling g.R.Record.said) g.R.Record.text c.args.site.now c.args.found c.args.capture.now in
+    let r = reply_by (gives g.R.Function.Calls.calling g.R.Record.output) g.R.Record.text c.args.site.now c.args.found c.args.capture.now in
     let call = call_seen g.R.Record.text r (left_from r c.loop-ready.place) c.look-seen.result c.in-Call.function c.in-Call.argument c.in-Call.is c.look-seen.ensures.sees in
     let stops = call_stops r (left_from r c.loop-ready.place) c.in-Call.function c.in-Call.argument.now c.look-seen.result.next call in
     c.sent_or.ensures
@@ -16,7 +16,7 @@ returns-in-Call g c =
 
 pub returns-in-End : goal.returns-in-End
 returns-in-End g c =
-    let r = reply_by (gives g.R.Function.Calls.calling g.R.Record.said) g.R.Record.text c.args.site.now c.args.found c.args.capture.now in
+    let r = reply_by (gives g.R.Function.Calls.calling g.R.Record.output) g.R.Record.text c.args.site.now c.args.found c.args.capture.now in
     let end = end_reached g.R.Record.text r (left_from r c.loop-ready.place) c.look-seen.result c.in-End.is c.look-seen.ensures.sees in
     c.sent_or-in-End.ensures
     ∙ want_at r c.args.thread c.loop-ready.place c.loop-ready.ready Close true c.loop-ready.invariant.0 c.loop-ready.invariant.1 c.loop-ready-test.true
@@ -24,13 +24,13 @@ returns-in-End g c =
 
 pub loop-ready-preserved : goal.loop-ready-preserved
 loop-ready-preserved g c =
-    let r = reply_by (gives g.R.Function.Calls.calling g.R.Record.said) g.R.Record.text c.args.site.now c.args.found c.args.capture.now in
+    let r = reply_by (gives g.R.Function.Calls.calling g.R.Record.output) g.R.Record.text c.args.site.now c.args.found c.args.capture.now in
     ready_on g.R.Record.text r c.args.thread c.loop-ready.place c.loop-ready.ready c.span_len-ready.result c.look-seen.result c.loop-ready.invariant.0 c.loop-ready.invariant.1
     (text_unless c.look-seen.result.span c.in_default.not-Call c.in_default.not-End) c.look-seen.ensures.sees c.span_len-ready.ensures.length
 
 pub loop-ready-smaller : goal.loop-ready-smaller
 loop-ready-smaller g c =
-    let r = reply_by (gives g.R.Function.Calls.calling g.R.Record.said) g.R.Record.text c.args.site.now c.args.found c.args.capture.now in
+    let r = reply_by (gives g.R.Function.Calls.calling g.R.Record.output) g.R.Record.text c.args.site.now c.args.found c.args.capture.now in
     let some =
     plain_seen g.R.Record.text r (left_from r c.loop-ready.place) c.look-seen.result (text_unless c.look-seen.result.span c.in_default.not-Call c.in_default.not-End) c.look-seen.ensures.sees in
     less_by _ _ c.span_len-ready.result _ _ some.no_more (λ none. some.fewer (sym c.span_len-ready.ensures.length ∙ none)) (omega arith) (λ len. omega arith) (omega arith)

@@ -1,5 +1,5 @@
 use Rattle.std.proofs.Common.{ap, sym, ◌∙◌}
-use Rattle.file_tree.specs.Site.{SiteContent, files_of}
+use Rattle.file_tree.specs.Site.{files_of}
 use Rattle.uip_edge.proofs.Writes.{writes_by}
 use Rattle.web_pages.specs.ZeroPages.{zero_page}
 use Rattle.httpd.proofs.ZeroWriting.{asked_some}
@@ -8,6 +8,5 @@ use Rattle.httpd.proofs.zero.page_zero.Goals as goal
 pub returns-in-Some : goal.returns-in-Some
 returns-in-Some g c =
     writes_by _ _ _ _ _
-    (ap (λ (site : SiteContent). zero_page (files_of site) c.args.target.now) (sym c.tree-tree.ensures)
-    ∙ sym (asked_some (files_of c.tree-tree.result) c.args.target.now c.in-Some.found c.in-Some.ensures))
+    (sym (asked_some (files_of c.args.site.now) c.args.target.now c.in-Some.found c.in-Some.ensures))
     c.write_reply.ensures

@@ -1,10 +1,10 @@
 use Rattle.httpd.specs.Reply.{reply_in}
 use Rattle.httpd.proofs.ZeroWriting.{Saying, zero_size}
-use Rattle.uip_edge.specs.Telling.{sink_told}
+use Rattle.uip_edge.specs.ViewsOf.{sink_view}
 use Rattle.httpd.proofs.zero.write_reply.Given as goal
 
 abbrev pub invariant-loop-function : goal.invariant-loop-function
-invariant-loop-function g l = Saying (reply_in l.site l.found l.capture) l.thread (sink_told g.K.Sink l.initial.sink) (sink_told g.K.Sink l.sink)
+invariant-loop-function g l = Saying (reply_in l.site l.found l.capture) l.thread (sink_view g.K.Sink l.initial.sink) (sink_view g.K.Sink l.sink)
 
 abbrev pub decreases-loop-function : goal.decreases-loop-function
 decreases-loop-function g l = zero_size (reply_in l.site l.found l.capture) l.thread

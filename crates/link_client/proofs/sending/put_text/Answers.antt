@@ -1,4 +1,4 @@
--- The text stands at its place, and all behind it stays.
+-- The text is at its offset, and all after it is unchanged.
 use Rattle.std.proofs.Common.{ℕ, ◌≡◌, ◌+◌, ◌-◌, ◌≤◌, List, ◌++◌, take, drop, length, slice_range, ap, ◌∙◌, arith}
 use Rattle.std.proofs.lemmas.List.{drop_at, length-take-le}
 use Rattle.std.proofs.lemmas.Slice.{drop-put_mid}

@@ -1,7 +1,7 @@
 use Rattle.std.proofs.Common.{length, refl, ◌∙◌}
 use Rattle.std.proofs.lemmas.Option.{slice_get_read}
 use Rattle.std.proofs.lemmas.Result.{err_from_is_err_and}
-use Rattle.link_replay.specs.Stands.{SentStands}
+use Rattle.link_replay.specs.Represents.{SentRepresents}
 use Rattle.link_replay.proofs.Readable.{read_at, sent_at}
 use Rattle.link_replay.specs.Report.{line_of_datagram}
 use Rattle.link_replay.proofs.Listing.{texts_end, texts_more, texts_stop}
@@ -15,7 +15,7 @@ returns-in_err-write_datagram-clause-wrote g c = λ m served w same stands home 
     let p = err_from_is_err_and c.from_residual.result c.from_residual.ensures.1 in
     let matched = stands.sent in
     let at = slice_get_read xs (length xs) place c.index-sent-place.result refl c.loop-place-test.true c.index-sent-place.is in
-    texts_stop (SentStands w) xs w.sent line_of_datagram matched place c.index-sent-place.result _ _ _ c.in_err-write_datagram.field-0.0 p.0 c.from_residual.result p.1 at
+    texts_stop (SentRepresents w) xs w.sent line_of_datagram matched place c.index-sent-place.result _ _ _ c.in_err-write_datagram.field-0.0 p.0 c.from_residual.result p.1 at
     (c.loop-place.invariant.saying m served w same stands home reached)
     (λ e here st. c.in_err-write_datagram.ensures.wrote w e c.args.sent.now same stands home st (read_at m served w reached place e here) (sent_at m served w reached place e here))
 
@@ -27,7 +27,7 @@ loop-place-preserved g c =
     record {
       saying = λ m served w same stands home reached.
           (let matched = stands.sent in
-          texts_more (SentStands w) xs w.sent line_of_datagram matched place c.index-sent-place.result _ _ _ c.in_ok-write_datagram.field-0 at
+          texts_more (SentRepresents w) xs w.sent line_of_datagram matched place c.index-sent-place.result _ _ _ c.in_ok-write_datagram.field-0 at
           (c.loop-place.invariant.saying m served w same stands home reached)
           (λ e here st. c.in_ok-write_datagram.ensures.wrote w e c.args.sent.now same stands home st (read_at m served w reached place e here) (sent_at m served w reached place e here)));
       some = more_shown _ _ _ c.loop-place.invariant.some c.in_ok-write_datagram.ensures.some;
@@ -38,7 +38,7 @@ pub returns-clause-wrote : goal.returns-clause-wrote
 returns-clause-wrote g c = λ m served w same stands home reached.
     let xs = c.args.sent.now in
     let matched = stands.sent in
-    texts_end (SentStands w) xs w.sent line_of_datagram matched c.loop-place.place _ _ tt c.loop-place-test.false
+    texts_end (SentRepresents w) xs w.sent line_of_datagram matched c.loop-place.place _ _ tt c.loop-place-test.false
     (c.loop-place.invariant.saying m served w same stands home reached)
 
 pub returns-in_err-write_datagram-clause-some : goal.returns-in_err-write_datagram-clause-some

@@ -1,8 +1,8 @@
 use Rattle.std.proofs.Common.{◌≡◌, ℕ, Bool, true, ◌+◌, drop}
-use Rattle.app_events.specs.Part.{Meaning}
+use Rattle.app_events.specs.AppSpec.{AppSpec}
 use Rattle.link_world.specs.World.{World}
 use Rattle.link_replay.specs.Reaching.{IsAt}
-use Rattle.link_replay.specs.Stands.{IsLink, LinkStands}
+use Rattle.link_replay.specs.Represents.{IsLink, LinkRepresents}
 use Rattle.link_replay.specs.Shown.{AppendsShown}
 use Rattle.link_replay.specs.State.{link_of}
 use Rattle.link_replay.specs.Report.{line_of_datagram, numbered_texts}
@@ -11,7 +11,7 @@ use Rattle.link_replay.proofs.datagrams.write_datagrams.Given as goal
 
 abbrev pub invariant-loop-place : goal.invariant-loop-place
 invariant-loop-place g l = record {
-  saying : (m : Meaning) (served : ℕ → Bool) (w : World) → l.addr ≡ w.node.addr → LinkStands (link_of l.sides l.sent) w → IsLink w.node.addr (link_of l.sides l.sent) → IsAt m served w
+  saying : (m : AppSpec) (served : ℕ → Bool) (w : World) → l.addr ≡ w.node.addr → LinkRepresents (link_of l.sides l.sent) w → IsLink w.node.addr (link_of l.sides l.sent) → IsAt m served w
       → Saying (g.K.Sink.written l.fn.sink) (g.K.Sink.written l.sink) (numbered_texts line_of_datagram 1 w.sent)
       (numbered_texts line_of_datagram (l.place + 1) (drop l.place w.sent));
   some : AppendsShown true (g.K.Sink.written l.fn.sink) (g.K.Sink.written l.sink);

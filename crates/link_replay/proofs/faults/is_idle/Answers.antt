@@ -1,7 +1,7 @@
 use Rattle.std.proofs.Common.{◌≡◌, ◌<◌, ◌-◌, ℕ, Some, slice_get, sym, ap, ◌∙◌, arith}
 use Rattle.link_client.specs.Client.{AbstractClient}
 use Rattle.link_world.specs.Acts.{is_idle, state_at}
-use Rattle.link_replay.specs.Stands.{SideStands}
+use Rattle.link_replay.specs.Represents.{SideRepresents}
 use Rattle.link_replay.specs.Plain.{CodeSide}
 use Rattle.link_replay.proofs.Pairs.{there_is, numbered_at, partner}
 use Rattle.link_replay.proofs.faults.is_idle.Goals as goal
@@ -13,7 +13,7 @@ returns c = λ ss m.
     let same : c.args.number - 1 ≡ n - 1 = omega arith in
     let at : slice_get c.args.sides.now (n - 1) ≡ Some c.index-sides-place.result
     = there_is c.args.sides.now (n - 1) c.index-sides-place.result c.index-sides-place.is (omega arith) in
-    let p = partner SideStands c.args.sides.now ss (n - 1) c.index-sides-place.result m at in
+    let p = partner SideRepresents c.args.sides.now ss (n - 1) c.index-sides-place.result m at in
     c.is_idle_client.ensures
     ∙ ap (λ (x : CodeSide). is_idle x.client.state) c.side.view_is
     ∙ ap (λ (k : AbstractClient). is_idle k.state) p.pair.client

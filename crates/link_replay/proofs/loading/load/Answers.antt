@@ -3,20 +3,20 @@ use Rattle.file_tree.specs.Opening.{Opens}
 use Rattle.file_tree.specs.Site.{files_of}
 use Rattle.file_tree.specs.declared.load_fault.LoadFault.{LoadFault}
 use Rattle.link_replay.proofs.Told.{load_ends, load_image_ends}
-use Rattle.uip_edge.specs.Told.{WorkTold}
-use Rattle.uip_edge.specs.Telling.{work_told}
+use Rattle.uip_edge.specs.Views.{WorkView}
+use Rattle.uip_edge.specs.ViewsOf.{work_view}
 use Rattle.link_replay.proofs.loading.load.Goals as goal
 
 pub returns-in-Ok-clause-ends : goal.returns-in-Ok-clause-ends
 returns-in-Ok-clause-ends g c =
     load_ends c.args.site.now c.args.seed c.args.clients
-    (work_told g.H.Shelf g.K.Sink c.args.shelf.now c.args.out.now)
-    (work_told g.H.Shelf g.K.Sink c.open.new.shelf c.load_site.new.out)
+    (work_view g.H.Shelf g.K.Sink c.args.shelf.now c.args.out.now)
+    (work_view g.H.Shelf g.K.Sink c.open.new.shelf c.load_site.new.out)
     c.in-Ok.ensures.kept c.in-Ok.ensures.opens.1 (files_of c.in-Ok.site) c.load_site.result c.in-Ok.ensures.opens.0 c.load_site.ensures
 
 pub returns-in-Err-Bad-clause-ends : goal.returns-in-Err-Bad-clause-ends
 returns-in-Err-Bad-clause-ends g c =
-    let old : WorkTold = work_told g.H.Shelf g.K.Sink c.args.shelf.now c.args.out.now in
-    let new : WorkTold = work_told g.H.Shelf g.K.Sink c.open.new.shelf c.tell_site.new.out in
+    let old : WorkView = work_view g.H.Shelf g.K.Sink c.args.shelf.now c.args.out.now in
+    let new : WorkView = work_view g.H.Shelf g.K.Sink c.open.new.shelf c.tell_site.new.out in
     let opens = subst (λ (f : LoadFault). Opens c.args.site.now old.shelf.held old.shelf.faults new.shelf.faults (Err f)) c.in-Err-Bad.field-0-is c.in-Err-Bad.ensures.opens in
     load_image_ends c.args.site.now c.args.seed c.args.clients old new c.in-Err-Bad.ensures.kept opens.1 c.in-Err-Bad.error c.tell_site.result opens.0 c.tell_site.ensures

@@ -1,7 +1,7 @@
 use Rattle.std.proofs.Common.{◌≡◌, ℕ, ◌-◌, suc, Some, Option, slice_get, set, refl, sym, ap, ◌∙◌, arith, subst}
 use Rattle.link_client.specs.Calls.{FitsRequest}
 use Rattle.link_world.specs.World.{Side, marked, numbered, with_side}
-use Rattle.link_replay.specs.Stands.{LinkStands, SideStands}
+use Rattle.link_replay.specs.Represents.{LinkRepresents, SideRepresents}
 use Rattle.link_replay.specs.State.{Link, link_of}
 use Rattle.link_replay.specs.Telling.{sees}
 use Rattle.link_replay.specs.Plain.{CodeSide}
@@ -18,11 +18,11 @@ returns-clause-stands c = λ w e sent h q.
     let new : CodeSide = c.see.new.self in
     let after : Link = record link { sides = set link.sides n new } in
     let at : slice_get link.sides n ≡ Some old = there_is link.sides n old c.index_mut.ensures.value (omega arith) in
-    let p = partner SideStands link.sides w.sides n old h.sides at in
-    let put : LinkStands after (with_side w (suc n) (marked p.other c.args.number e))
+    let p = partner SideRepresents link.sides w.sides n old h.sides at in
+    let put : LinkRepresents after (with_side w (suc n) (marked p.other c.args.number e))
     = side_put link w n new p.other (marked p.other c.args.number e) h p.get refl (c.see.ensures.stands p.other e p.pair q) in
-    subst (λ (x : Option Side). LinkStands after (sees w c.args.client c.args.number e x)) (sym (ap (numbered w.sides) is ∙ p.get))
-    (subst (λ k. LinkStands after (with_side w k (marked p.other c.args.number e))) (sym is) put)
+    subst (λ (x : Option Side). LinkRepresents after (sees w c.args.client c.args.number e x)) (sym (ap (numbered w.sides) is ∙ p.get))
+    (subst (λ k. LinkRepresents after (with_side w k (marked p.other c.args.number e))) (sym is) put)
 
 pub returns-clause-kept : goal.returns-clause-kept
 returns-clause-kept c = λ addr sent h.

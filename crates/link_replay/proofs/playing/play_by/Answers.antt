@@ -2,13 +2,13 @@ use Rattle.std.specs.List.{list_all}
 use Rattle.std.proofs.Common.{◌≡◌, ℕ, List, Some, sym, subst, length, map, slice_get, Ok, Err, true}
 use Rattle.link_schedule.specs.Kept.{event_in_range}
 use Rattle.link_schedule.specs.Clients.{Plan}
-use Rattle.link_schedule.specs.Stands.{content_of}
+use Rattle.link_schedule.specs.Represents.{content_of}
 use Rattle.link_schedule.specs.declared.line.Line.{Line}
 use Rattle.link_world.specs.Schedule.{plays}
 use Rattle.link_world.specs.History.{IsPlanned, Planned}
 use Rattle.link_replay.specs.Opening.{opening_for, plan_from}
 use Rattle.link_replay.specs.Playing.{PlaysSchedule, event_at}
-use Rattle.link_replay.specs.Stands.{WorldStands}
+use Rattle.link_replay.specs.Represents.{WorldRepresents}
 use Rattle.link_replay.proofs.Played.{handed_on, same_refusal, whole_schedule}
 use Rattle.link_replay.proofs.playing.play_by.Goals as goal
 
@@ -22,13 +22,13 @@ play_lines-requires g c = record {
 pub returns-in_err-play_lines-clause-plays : goal.returns-in_err-play_lines-clause-plays
 returns-in_err-play_lines-clause-plays g c = rw (← c.schedule.view_is) (λ pages lawful bytes words.
     let a = g.A.App in
-    let m = a.meaning (a.kept c.args.shared) in
+    let m = a.app_spec (a.config c.args.shared) in
     let schedule = content_of c.schedule.inside.clients.items c.schedule.inside.lines.items in
     let end = plays m a.served (map event_at schedule.lines) (opening_for (a.numbers c.args.shared) schedule.clients) in
-    subst (λ r. PlaysSchedule m a.served (a.numbers c.args.shared) schedule (WorldStands a) r)
+    subst (λ r. PlaysSchedule m a.served (a.numbers c.args.shared) schedule (WorldRepresents a) r)
     (sym (handed_on c.from_residual.result c.in_err-play_lines.field-0.0 c.from_residual.ensures.0 c.from_residual.ensures.1))
-    (same_refusal m a.served (λ (done : Unit {0}). WorldStands a c.play_lines.new.world) (WorldStands a) schedule.lines end c.in_err-play_lines.field-0.0
-    (whole_schedule a c.in-Ok.world (WorldStands a c.play_lines.new.world) c.args.shared schedule
+    (same_refusal m a.served (λ (done : Unit {0}). WorldRepresents a c.play_lines.new.world) (WorldRepresents a) schedule.lines end c.in_err-play_lines.field-0.0
+    (whole_schedule a c.in-Ok.world (WorldRepresents a c.play_lines.new.world) c.args.shared schedule
     c.as_slice.result.now c.as_slice-2.result.now (Err c.in_err-play_lines.field-0.0) c.schedule.invariant c.as_slice.ensures.value c.as_slice-2.ensures.value c.in-Ok.ensures.shared
     c.in-Ok.ensures.planned c.in-Ok.ensures.stands c.in_err-play_lines.ensures.played pages lawful bytes words)))
 
@@ -40,6 +40,6 @@ returns-clause-planned g c = rw (← c.schedule.view_is)
 pub returns-clause-plays : goal.returns-clause-plays
 returns-clause-plays g c = rw (← c.schedule.view_is)
     (let a = g.A.App in
-    whole_schedule a c.in-Ok.world (WorldStands a c.play_lines.new.world) c.args.shared (content_of c.schedule.inside.clients.items c.schedule.inside.lines.items)
+    whole_schedule a c.in-Ok.world (WorldRepresents a c.play_lines.new.world) c.args.shared (content_of c.schedule.inside.clients.items c.schedule.inside.lines.items)
     c.as_slice.result.now c.as_slice-2.result.now (Ok c.in_ok-play_lines.field-0) c.schedule.invariant c.as_slice.ensures.value c.as_slice-2.ensures.value c.in-Ok.ensures.shared
     c.in-Ok.ensures.planned c.in-Ok.ensures.stands c.in_ok-play_lines.ensures.played)

@@ -3,16 +3,16 @@ use Rattle.link_world.specs.Schedule.{plays}
 use Rattle.link_world.specs.World.{World}
 use Rattle.link_replay.specs.Playing.{event_at}
 use Rattle.link_replay.specs.Reaching.{IsAt}
-use Rattle.link_replay.specs.Stands.{WorldStands}
+use Rattle.link_replay.specs.Represents.{WorldRepresents}
 use Rattle.link_replay.proofs.Played.{AmidLines}
 use Rattle.link_replay.proofs.playing.play_lines.Given as goal
 
 abbrev pub invariant-loop-line : goal.invariant-loop-line
 invariant-loop-line g l =
     let a = g.A.App in
-    let m = a.meaning (a.kept l.fn.world.node.shared) in
+    let m = a.app_spec (a.config l.fn.world.node.shared) in
     record {
-      same : a.kept l.world.node.shared ≡ a.kept l.fn.world.node.shared;
-      so_far : (w : World) → IsAt m a.served w → WorldStands a l.fn.world w
-          → AmidLines m a.served (WorldStands a l.world) l.line-index (drop l.line-index l.lines) (plays m a.served (map event_at l.lines) w);
+      same : a.config l.world.node.shared ≡ a.config l.fn.world.node.shared;
+      so_far : (w : World) → IsAt m a.served w → WorldRepresents a l.fn.world w
+          → AmidLines m a.served (WorldRepresents a l.world) l.line-index (drop l.line-index l.lines) (plays m a.served (map event_at l.lines) w);
     }

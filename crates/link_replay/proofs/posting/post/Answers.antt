@@ -1,7 +1,7 @@
 use Rattle.std.proofs.Common.{◌≡◌, ◌∷◌, [], ◌++◌, sym, refl, rules, tests, subst, List}
 use Rattle.link_world.specs.World.{posts}
 use Rattle.link_replay.specs.Matched.{Matched}
-use Rattle.link_replay.specs.Stands.{SentStands}
+use Rattle.link_replay.specs.Represents.{SentRepresents}
 use Rattle.link_replay.specs.Plain.{CodeSent}
 use Rattle.link_replay.proofs.Places.{posted}
 use Rattle.link_replay.proofs.posting.post.Goals as goal
@@ -12,6 +12,6 @@ returns-clause-posted c = λ w content h t b.
     let items : c.push.new.self.items ≡ c.args.sent.now.items ++ x ∷ [] = search (rules, tests) in
     record {
       sides = h.sides;
-      sent = subst (λ (xs : List CodeSent). Matched (SentStands (posts w c.args.who c.args.again content)) xs (posts w c.args.who c.args.again content).sent) (sym items)
+      sent = subst (λ (xs : List CodeSent). Matched (SentRepresents (posts w c.args.who c.args.again content)) xs (posts w c.args.who c.args.again content).sent) (sym items)
           (posted w c.args.sent.now.items x c.args.who c.args.again content h.sent record { who = refl; tick = t; epoch = c.epoch_of-epoch.ensures w.sides h.sides; again = refl; bytes = b });
     }

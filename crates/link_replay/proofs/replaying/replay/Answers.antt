@@ -4,17 +4,17 @@ use Rattle.uip_edge.specs.Shelving.{Files}
 use Rattle.file_tree.specs.Opening.{FindsInFiles, Opens, site_read}
 use Rattle.link_replay.specs.Ending.{ReplayEnds}
 use Rattle.link_replay.proofs.Told.{same_work}
-use Rattle.uip_edge.specs.Told.{WorkTold}
-use Rattle.uip_edge.specs.Telling.{work_told}
+use Rattle.uip_edge.specs.Views.{WorkView}
+use Rattle.uip_edge.specs.ViewsOf.{work_view}
 use Rattle.link_replay.proofs.replaying.replay.Goals as goal
 
 pub returns-in-Err-Bad-clause-ends : goal.returns-in-Err-Bad-clause-ends
 returns-in-Err-Bad-clause-ends g c =
-    let old : WorkTold = work_told g.H.Shelf g.K.Sink c.args.shelf.now c.args.out.now in
-    let amid : WorkTold = work_told g.H.Shelf g.K.Sink c.open.new.shelf c.args.out.now in
-    let new : WorkTold = work_told g.H.Shelf g.K.Sink c.refuse_site.new.shelf c.refuse_site.new.out in
+    let old : WorkView = work_view g.H.Shelf g.K.Sink c.args.shelf.now c.args.out.now in
+    let amid : WorkView = work_view g.H.Shelf g.K.Sink c.open.new.shelf c.args.out.now in
+    let new : WorkView = work_view g.H.Shelf g.K.Sink c.refuse_site.new.shelf c.refuse_site.new.out in
     let error = c.in-Err-Bad.error in
     let opens = subst (λ (f : LoadFault). Opens c.args.site.now old.shelf.held old.shelf.faults amid.shelf.faults (Err f)) c.in-Err-Bad.field-0-is c.in-Err-Bad.ensures.opens in
     let kept = c.in-Err-Bad.ensures.kept in
-    subst (λ (d : WorkTold). ReplayEnds c.args.site.now c.args.schedule.now c.args.show d new c.refuse_site.result) (same_work old amid kept refl opens.1)
+    subst (λ (d : WorkView). ReplayEnds c.args.site.now c.args.schedule.now c.args.show d new c.refuse_site.result) (same_work old amid kept refl opens.1)
     (c.refuse_site.ensures.ends c.args.site.now c.args.show (subst (λ (h : Option Files). FindsInFiles (site_read c.args.site.now) h (Err error)) (sym kept) opens.0))

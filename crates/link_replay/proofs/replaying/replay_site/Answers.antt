@@ -2,15 +2,15 @@ use Rattle.std.proofs.Common.{ℕ, List, subst}
 use Rattle.file_tree.specs.Site.{files_of}
 use Rattle.link_replay.specs.Due.{WritesDue, IsTextDue}
 use Rattle.link_replay.proofs.Told.{schedule_ends}
-use Rattle.uip_edge.specs.Telling.{work_told, sink_told}
+use Rattle.uip_edge.specs.ViewsOf.{work_view, sink_view}
 use Rattle.link_replay.proofs.replaying.replay_site.Goals as goal
 
 pub returns-in-Ok-clause-ends : goal.returns-in-Ok-clause-ends
 returns-in-Ok-clause-ends g c = λ name read.
     schedule_ends name c.args.schedule.now c.args.show
-    (work_told g.H.Shelf g.K.Sink c.args.shelf.now c.args.out.now)
-    (work_told g.H.Shelf g.K.Sink c.read_file.new.shelf c.play_text.new.out)
+    (work_view g.H.Shelf g.K.Sink c.args.shelf.now c.args.out.now)
+    (work_view g.H.Shelf g.K.Sink c.read_file.new.shelf c.play_text.new.out)
     c.in-Ok.ensures.kept c.in-Ok.ensures.cause (files_of c.args.site) c.in-Ok.text.items c.play_text.result read c.in-Ok.ensures.bytes
     (subst
-    (λ (bytes : List ℕ). WritesDue (IsTextDue (files_of c.args.site) bytes c.args.show) (sink_told g.K.Sink c.args.out.now) (sink_told g.K.Sink c.play_text.new.out) c.play_text.result)
+    (λ (bytes : List ℕ). WritesDue (IsTextDue (files_of c.args.site) bytes c.args.show) (sink_view g.K.Sink c.args.out.now) (sink_view g.K.Sink c.play_text.new.out) c.play_text.result)
     c.deref.ensures.value c.play_text.ensures)

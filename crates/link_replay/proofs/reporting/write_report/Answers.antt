@@ -3,7 +3,7 @@ use Rattle.std.specs.Prelude.{OnOk}
 use Rattle.std.proofs.lemmas.Result.{err_from_is_err_and}
 use Rattle.link_replay.specs.Plain.{CodeSent, CodeSide}
 use Rattle.link_replay.specs.Shown.{EndsReport, code_side_shown}
-use Rattle.link_replay.specs.Stands.{IsLink, LinkStands}
+use Rattle.link_replay.specs.Represents.{IsLink, LinkRepresents}
 use Rattle.link_replay.specs.State.{Link, link_of}
 use Rattle.text_room.specs.Words.{word_if}
 use Rattle.link_replay.specs.Report.{counts_line, line_of_datagram, lines_of_client, numbered_texts, side_shown}
@@ -16,23 +16,23 @@ use Rattle.link_replay.proofs.reporting.write_report.Goals as goal
 
 pub returns-in_err-write_shown-clause-wrote : goal.returns-in_err-write_shown-clause-wrote
 returns-in_err-write_shown-clause-wrote g c = rw (← c.world.view_is) (λ m served w stands reached.
-    let read : LinkStands (link_of c.as_slice-sides.result.now c.as_slice-sent.result.now) w × IsLink w.node.addr (link_of c.as_slice-sides.result.now c.as_slice-sent.result.now)
-    = link_read (λ (l : Link). LinkStands l w × IsLink w.node.addr l) _ _ _ _ c.as_slice-sides.ensures.value c.as_slice-sent.ensures.value (stands.link, stands.home) in
+    let read : LinkRepresents (link_of c.as_slice-sides.result.now c.as_slice-sent.result.now) w × IsLink w.node.addr (link_of c.as_slice-sides.result.now c.as_slice-sent.result.now)
+    = link_read (λ (l : Link). LinkRepresents l w × IsLink w.node.addr l) _ _ _ _ c.as_slice-sides.ensures.value c.as_slice-sent.ensures.value (stands.link, stands.home) in
     let show = c.args.show in
     let p = err_from_is_err_and c.from_residual.result c.from_residual.ensures.1 in
     let shown = word_if show (numbered_texts line_of_datagram 1 w.sent) in
     let clients = numbered_texts (lines_of_client show) 1 (map side_shown w.sides) in
-    let last = counts_line (ticks_of w.node.past) (length w.sent) in
+    let last = counts_line (ticks_of w.node.history) (length w.sent) in
     wrote_stop _ _ shown (clients ++ last)
     c.in_err-write_shown.field-0.0 p.0 c.from_residual.result p.1 (c.in_err-write_shown.ensures.wrote m served w (c.addr.ensures ∙ stands.node.addr) read.0 read.1 reached))
 
 pub returns-in_err-write_clients-clause-wrote : goal.returns-in_err-write_clients-clause-wrote
 returns-in_err-write_clients-clause-wrote g c = rw (← c.world.view_is) (λ m served w stands reached.
-    let read : LinkStands (link_of c.as_slice-sides.result.now c.as_slice-sent.result.now) w × IsLink w.node.addr (link_of c.as_slice-sides.result.now c.as_slice-sent.result.now)
-    = link_read (λ (l : Link). LinkStands l w × IsLink w.node.addr l) _ _ _ _ c.as_slice-sides.ensures.value c.as_slice-sent.ensures.value (stands.link, stands.home) in
+    let read : LinkRepresents (link_of c.as_slice-sides.result.now c.as_slice-sent.result.now) w × IsLink w.node.addr (link_of c.as_slice-sides.result.now c.as_slice-sent.result.now)
+    = link_read (λ (l : Link). LinkRepresents l w × IsLink w.node.addr l) _ _ _ _ c.as_slice-sides.ensures.value c.as_slice-sent.ensures.value (stands.link, stands.home) in
     let show = c.args.show in
     let clients = numbered_texts (lines_of_client show) 1 (map side_shown w.sides) in
-    let last = counts_line (ticks_of w.node.past) (length w.sent) in
+    let last = counts_line (ticks_of w.node.history) (length w.sent) in
     let r = c.from_residual-in_err-write_clients.result in
     let p = err_from_is_err_and r c.from_residual-in_err-write_clients.ensures.1 in
     let shown = word_if show (numbered_texts line_of_datagram 1 w.sent) in
@@ -42,12 +42,12 @@ returns-in_err-write_clients-clause-wrote g c = rw (← c.world.view_is) (λ m s
 
 pub returns-clause-wrote : goal.returns-clause-wrote
 returns-clause-wrote g c = rw (← c.world.view_is) (λ m served w stands reached.
-    let read : LinkStands (link_of c.as_slice-sides.result.now c.as_slice-sent.result.now) w × IsLink w.node.addr (link_of c.as_slice-sides.result.now c.as_slice-sent.result.now)
-    = link_read (λ (l : Link). LinkStands l w × IsLink w.node.addr l) _ _ _ _ c.as_slice-sides.ensures.value c.as_slice-sent.ensures.value (stands.link, stands.home) in
+    let read : LinkRepresents (link_of c.as_slice-sides.result.now c.as_slice-sent.result.now) w × IsLink w.node.addr (link_of c.as_slice-sides.result.now c.as_slice-sent.result.now)
+    = link_read (λ (l : Link). LinkRepresents l w × IsLink w.node.addr l) _ _ _ _ c.as_slice-sides.ensures.value c.as_slice-sent.ensures.value (stands.link, stands.home) in
     let show = c.args.show in
     let shown = word_if show (numbered_texts line_of_datagram 1 w.sent) in
     let clients = numbered_texts (lines_of_client show) 1 (map side_shown w.sides) in
-    let last = counts_line (ticks_of w.node.past) (length w.sent) in
+    let last = counts_line (ticks_of w.node.history) (length w.sent) in
     let r = c.write_word.result in
     let count : ℕ = length c.as_slice-sent.result.now in
     let text = counts_line c.ticks.result count in

@@ -2,10 +2,10 @@ use Rattle.std.proofs.Common.{◌∙◌, List, Some, set, sym, ap, subst, arith}
 use Rattle.std.specs.List.{Any}
 use Rattle.uip_edge.proofs.Told.{on_err}
 use Rattle.std.proofs.lemmas.List.Edits.{map_over_more}
-use Rattle.link_world.specs.World.{buries}
+use Rattle.link_world.specs.World.{retires}
 use Rattle.link_replay.specs.Epochs.{IsAtLast, buried}
 use Rattle.link_replay.specs.Matched.{Matched}
-use Rattle.link_replay.specs.Stands.{SideStands}
+use Rattle.link_replay.specs.Represents.{SideRepresents}
 use Rattle.link_replay.specs.Plain.{CodeSide as Side}
 use Rattle.link_replay.proofs.Epochs.{all_buried, all_done, kept_more, last_found}
 use Rattle.link_replay.proofs.sides.bury.Goals as goal
@@ -29,5 +29,5 @@ loop-side-preserved c = record {
 
 pub returns-clause-stands : goal.returns-clause-stands
 returns-clause-stands c = λ ss g e h.
-    subst (λ (l : List Side). Matched SideStands l (buries (Some g) ss)) (sym (all_done c.args.gone c.args.sides.now c.loop-side.sides c.loop-side.side-index c.loop-side-test.false c.loop-side.invariant.so_far))
+    subst (λ (l : List Side). Matched SideRepresents l (retires (Some g) ss)) (sym (all_done c.args.gone c.args.sides.now c.loop-side.sides c.loop-side.side-index c.loop-side-test.false c.loop-side.invariant.so_far))
     (all_buried c.args.gone g c.args.sides.now ss e h)

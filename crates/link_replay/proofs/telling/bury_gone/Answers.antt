@@ -1,7 +1,7 @@
 use Rattle.std.proofs.Common.{List, ap, length, sym, ◌∙◌, subst}
 use Rattle.link_replay.specs.Epochs.{OnlyEpoch}
 use Rattle.link_replay.specs.Matched.{Matched}
-use Rattle.link_replay.specs.Stands.{SideStands}
+use Rattle.link_replay.specs.Represents.{SideRepresents}
 use Rattle.link_replay.specs.State.{link_of}
 use Rattle.link_replay.specs.Plain.{CodeSide as Side}
 use Rattle.link_replay.proofs.Answered.{link_buried, none_gone, one_gone}
@@ -18,7 +18,7 @@ returns-in_ok-bury-clause-kept c = λ addr sent h.
 pub returns-in_ok-bury-clause-buried : goal.returns-in_ok-bury-clause-buried
 returns-in_ok-bury-clause-buried c = λ sent w node gone p e h.
     one_gone c.args.sides.now sent w node gone c.in-Some.pair c.bury.new.sides (ap length (sym c.as_mut_slice.ensures.value) ∙ c.bury.ensures.kept.same_length) (sym c.in-Some.is ∙ p) e h
-    (λ ss g q m. c.in_ok-bury.ensures.stands ss g q (subst (λ (xs : List Side). Matched SideStands xs ss) (sym c.as_mut_slice.ensures.value) m))
+    (λ ss g q m. c.in_ok-bury.ensures.stands ss g q (subst (λ (xs : List Side). Matched SideRepresents xs ss) (sym c.as_mut_slice.ensures.value) m))
 
 pub returns-in_default-clause-buried : goal.returns-in_default-clause-buried
 returns-in_default-clause-buried c = λ sent w node gone p e h. none_gone (link_of c.args.sides.now.items sent) w node gone (sym c.in_default.is ∙ p) e h

@@ -1,6 +1,6 @@
 use Rattle.std.proofs.Common.{◌≡◌, ap, sym, ◌∙◌, subst}
 use Rattle.link_world.specs.World.{World}
-use Rattle.link_replay.specs.Stands.{LinkStands}
+use Rattle.link_replay.specs.Represents.{LinkRepresents}
 use Rattle.link_replay.specs.State.{link_of}
 use Rattle.link_replay.specs.Telling.{IsTo}
 use Rattle.link_replay.proofs.Answered.{IsNumber, answer_posted, meant_for, meant_nothing, meant_to_none, meant_to_one, number_of_none, number_of_some}
@@ -25,6 +25,6 @@ returns-clause-posted c = λ w reply t k a d h.
         | else-number-eq0-via-else-number-eq0 e ↦ meant_to_one number to datagram e.if-number-eq0.false
       ])
     ] in
-    answer_posted (λ (v : World). LinkStands (link_of c.args.sides.now c.post.new.sent.items) v) w reply c.args.sides.now to number c.args.again datagram c.in-Ok.bytes.items
+    answer_posted (λ (v : World). LinkRepresents (link_of c.args.sides.now c.post.new.sent.items) v) w reply c.args.sides.now to number c.args.again datagram c.in-Ok.bytes.items
     (subst (λ o. IsTo o reply) same t) a d h.sides numbered (c.in-Ok.ensures.items_if_clones_equal (λ x y e. e) ∙ meant)
     (λ content bytes. c.in_ok-post.ensures.posted w content h k bytes)

@@ -1,16 +1,16 @@
 use Rattle.std.specs.Prelude.{⊤}
-use Rattle.link_replay.specs.Stands.{WorldStands}
+use Rattle.link_replay.specs.Represents.{WorldRepresents}
 use Rattle.link_replay.proofs.PlayedText.{played_due, refused_due}
-use Rattle.uip_edge.specs.Telling.{sink_told}
+use Rattle.uip_edge.specs.ViewsOf.{sink_view}
 use Rattle.link_replay.proofs.text_playing.play_schedule.Goals as goal
 
 pub returns-in-Ok : goal.returns-in-Ok
 returns-in-Ok g c =
-    played_due c.args.site c.see_loaded.ensures.loaded c.args.schedule.now c.args.telling (sink_told g.K.Sink c.args.out.now)
-    (sink_told g.K.Sink c.tell.new.out) c.tell.result c.see_loaded.ensures.bytes (WorldStands _ c.in-Ok.world) c.in-Ok.ensures.planned
+    played_due c.args.site c.see_loaded.ensures.loaded c.args.schedule.now c.args.telling (sink_view g.K.Sink c.args.out.now)
+    (sink_view g.K.Sink c.tell.new.out) c.tell.result c.see_loaded.ensures.bytes (WorldRepresents _ c.in-Ok.world) c.in-Ok.ensures.planned
     c.in-Ok.ensures.plays c.tell.ensures
 
 pub returns-in-Err : goal.returns-in-Err
 returns-in-Err g c =
-    refused_due c.args.site c.see_loaded.ensures.loaded c.args.schedule.now c.args.telling (sink_told g.K.Sink c.args.out.now)
-    (sink_told g.K.Sink c.refuse.new.out) c.refuse.result (λ (x : ⊤) w. ⊤) c.in-Err.fault c.in-Err.ensures.plays c.refuse.ensures
+    refused_due c.args.site c.see_loaded.ensures.loaded c.args.schedule.now c.args.telling (sink_view g.K.Sink c.args.out.now)
+    (sink_view g.K.Sink c.refuse.new.out) c.refuse.result (λ (x : ⊤) w. ⊤) c.in-Err.fault c.in-Err.ensures.plays c.refuse.ensures

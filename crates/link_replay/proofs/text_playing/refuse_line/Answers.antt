@@ -1,6 +1,6 @@
 use Rattle.std.proofs.Common.{ℕ, List, subst, inl, ◌∙◌}
 use Rattle.uip_edge.specs.Writing.{WritesEnd}
-use Rattle.uip_edge.specs.Telling.{sink_told}
+use Rattle.uip_edge.specs.ViewsOf.{sink_view}
 use Rattle.link_replay.specs.declared.replay_end.ReplayEnd.TheVariants as ends
 use Rattle.link_replay.proofs.text_playing.refuse_line.Goals as goal
 
@@ -8,5 +8,5 @@ pub returns-in-Ok : goal.returns-in-Ok
 returns-in-Ok g c =
     inl
     (subst
-    (λ (text : List ℕ). WritesEnd (ends.BadSchedule c.args.line c.args.why) ends.WriteFault (sink_told g.K.Sink c.args.out.now) (sink_told g.K.Sink c.write_text.new.out) text c.write_text.result)
+    (λ (text : List ℕ). WritesEnd (ends.BadSchedule c.args.line c.args.why) ends.WriteFault (sink_view g.K.Sink c.args.out.now) (sink_view g.K.Sink c.write_text.new.out) text c.write_text.result)
     (c.deref.ensures.value ∙ c.in-Ok.ensures) c.write_text.ensures)

@@ -1,10 +1,10 @@
 use Rattle.std.proofs.Common.{◌≡◌, ◌≤◌, ◌+◌, drop, map, vec_len, Bor, List, ℕ}
 use Rattle.link_schedule.specs.Reading.{nothing_yet, read_lines}
-use Rattle.link_schedule.specs.Stands.{content_of}
+use Rattle.link_schedule.specs.Represents.{content_of}
 use Rattle.link_schedule.proofs.whole_text.read_lines.Given as goal
 
 abbrev pub invariant-loop-at : goal.invariant-loop-at
 invariant-loop-at l =
     (vec_len l.clients ≤ 64)
-    × (read_lines (l.at + 1) (content_of l.clients.items l.said.items) (map (λ (line : Bor (List ℕ)). line.now) (drop l.at l.lines))
+    × (read_lines (l.at + 1) (content_of l.clients.items l.output.items) (map (λ (line : Bor (List ℕ)). line.now) (drop l.at l.lines))
     ≡ read_lines 1 nothing_yet (map (λ (line : Bor (List ℕ)). line.now) l.lines))

@@ -1,4 +1,4 @@
--- What is left of two texts after a front of both.
+-- What is left of two texts after a prefix of both.
 use Rattle.std.proofs.Common.{◌∙◌, ap, min}
 use Rattle.protothread.proofs.both.advance_both.Goals as goal
 use Rattle.protothread.proofs.Splits.{drop_split}

@@ -2,7 +2,7 @@ use Rattle.std.proofs.Common.{◌==◌, ◌+◌, ◌∙◌, ap, arith, length, s
 use Rattle.std.proofs.lemmas.Bool.{le-ltb}
 use Rattle.script_lang.specs.Directives.{is_directive_mark}
 use Rattle.script_lang.specs.Pieces.{run_end}
-use Rattle.script_lang.proofs.PlaceLemmas.{first_place-is, past-front}
+use Rattle.script_lang.proofs.PlaceLemmas.{first_place-is, history-prefix}
 use Rattle.script_lang.proofs.scan.runs_past.Goals as goal
 
 pub returns-then-text-at : goal.returns-then-text-at
@@ -14,6 +14,6 @@ pub returns : goal.returns
 returns c =
     let last = c.args.at + c.args.count in
     ap (λ r. r == last + 1) c.mark_from.ensures.place
-    ∙ past-front (is_directive_mark c.args.text.now) c.args.at last (length c.args.text.now) _ _ (omega arith) (omega arith)
+    ∙ history-prefix (is_directive_mark c.args.text.now) c.args.at last (length c.args.text.now) _ _ (omega arith) (omega arith)
     (first_place-is (is_directive_mark c.args.text.now) c.args.at (last + 1) (omega arith))
     (first_place-is (is_directive_mark c.args.text.now) c.args.at (length c.args.text.now) (omega arith))

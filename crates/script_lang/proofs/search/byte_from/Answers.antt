@@ -1,13 +1,13 @@
 use Rattle.std.proofs.Common.{◌≤◌, ◌∙◌, ◌+◌, arith}
 use Rattle.script_lang.specs.Places.{is_byte}
-use Rattle.script_lang.proofs.PlaceLemmas.{first_place-behind, first_place-front, first_place-is}
+use Rattle.script_lang.proofs.PlaceLemmas.{first_place-behind, first_place-prefix, first_place-is}
 use Rattle.script_lang.proofs.search.byte_from.Goals as goal
 
 pub returns-then-place-at-clause-place : goal.returns-then-place-at-clause-place
 returns-then-place-at-clause-place c =
     let found = c.byte_in_lanes-place.ensures in
     found
-    ∙ first_place-front (is_byte c.args.text.now c.args.byte) c.loop-at.at (c.loop-at.at + 32) c.args.to
+    ∙ first_place-prefix (is_byte c.args.text.now c.args.byte) c.loop-at.at (c.loop-at.at + 32) c.args.to
     (omega arith) (omega (arith, c.loop-at-test.true)) (omega (arith, found, c.if-place-at.true))
     ∙ c.loop-at.invariant.2
 

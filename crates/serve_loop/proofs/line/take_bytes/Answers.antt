@@ -2,24 +2,24 @@ use Rattle.std.proofs.Common.{◌≡◌, ◌++◌, [], ◌∙◌, List, ℕ, len
 use Rattle.std.proofs.lemmas.Bool.{eqb-true}
 use Rattle.uip_edge.proofs.Told.{moved_on, on_err}
 use Rattle.serve_loop.specs.Turns.{HasTaken}
-use Rattle.serve_loop.proofs.FrontLaws.{all_in_front, behind_broke, behind_wrote}
+use Rattle.serve_loop.proofs.PrefixLaws.{all_in_prefix, after_broke, after_wrote}
 use Rattle.serve_loop.proofs.RunLaws.{wrote_none}
 use Rattle.serve_loop.proofs.line.take_bytes.Goals as goal
 
 pub loop-rest-init : goal.loop-rest-init
 loop-rest-init g c = record {
-  front = [];
+  prefix = [];
   pieces = refl;
   same = refl;
   taken = λ k pace before h. rw append-nil h;
-  wrote = λ k pace before h m own. wrote_none m g.A.App.served (g.M.Medium.way k) own _ _ _ (λ n p. p);
+  wrote = λ k pace before h m own. wrote_none m g.A.App.served (g.M.Medium.spec k) own _ _ _ (λ n p. p);
   calm = refl;
 }
 
 pub returns-in_err-count-clause-err : goal.returns-in_err-count-clause-err
 returns-in_err-count-clause-err g c =
     let inv = c.loop-rest.invariant in
-    on_err _ (behind_broke g.M.Medium.way g.A.App.served _ (λ k before. g.M.Medium.fed c.loop-rest.medium k before) _ _ inv.front inv.taken _ _ _ _ _ _ inv.wrote c.args.bytes.now c.loop-rest.rest.now inv.pieces c.in_err-count.ensures.err)
+    on_err _ (after_broke g.M.Medium.spec g.A.App.served _ (λ k before. g.M.Medium.fed c.loop-rest.medium k before) _ _ inv.prefix inv.taken _ _ _ _ _ _ inv.wrote c.args.bytes.now c.loop-rest.rest.now inv.pieces c.in_err-count.ensures.err)
 
 pub loop-rest-preserved : goal.loop-rest-preserved
 loop-rest-preserved g c =
@@ -28,11 +28,11 @@ loop-rest-preserved g c =
     let n = c.in_ok-count.count in
     let told = c.in_ok-count.ensures in
     record {
-      front = inv.front ++ take n rest;
-      pieces = moved_on _ inv.front rest n inv.pieces;
+      prefix = inv.prefix ++ take n rest;
+      pieces = moved_on _ inv.prefix rest n inv.pieces;
       same = told.same ∙ inv.same;
-      taken = λ k pace before h. rw (← append_assoc before inv.front (take n rest)) (told.taken k pace (before ++ inv.front) (inv.taken k pace before h));
-      wrote = behind_wrote g.M.Medium.way g.A.App.served _ (λ k before. g.M.Medium.fed c.loop-rest.medium k before) _ _ inv.front inv.taken _ _ _ _ _ _ inv.wrote (take n rest) told.ok;
+      taken = λ k pace before h. rw (← append_assoc before inv.prefix (take n rest)) (told.taken k pace (before ++ inv.prefix) (inv.taken k pace before h));
+      wrote = after_wrote g.M.Medium.spec g.A.App.served _ (λ k before. g.M.Medium.fed c.loop-rest.medium k before) _ _ inv.prefix inv.taken _ _ _ _ _ _ inv.wrote (take n rest) told.ok;
       calm = told.cause.same ∙ inv.calm;
     }
 
@@ -40,4 +40,4 @@ pub returns-clause-taken : goal.returns-clause-taken
 returns-clause-taken g c = λ k pace before h.
     let inv = c.loop-rest.invariant in
     let none : length c.loop-rest.rest.now ≡ 0 = eqb-true _ _ (sym c.loop-rest-test.ensures) in
-    subst (λ (l : List ℕ). HasTaken pace (before ++ l) (g.M.Medium.fed c.loop-rest.medium k) c.loop-rest.pacer) (sym (all_in_front _ _ _ inv.pieces none)) (inv.taken k pace before h)
+    subst (λ (l : List ℕ). HasTaken pace (before ++ l) (g.M.Medium.fed c.loop-rest.medium k) c.loop-rest.pacer) (sym (all_in_prefix _ _ _ inv.pieces none)) (inv.taken k pace before h)

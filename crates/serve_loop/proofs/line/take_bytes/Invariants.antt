@@ -1,20 +1,20 @@
 use Rattle.std.proofs.Common.{◌≡◌, ◌++◌, List, ℕ, length, map}
-use Rattle.app_events.specs.Part.{Meaning}
+use Rattle.app_events.specs.AppSpec.{AppSpec}
 use Rattle.uip_edge.specs.declared.item.Item.TheVariants.{Byte}
 use Rattle.uip_wire.specs.declared.addr.Addr.{Addr}
-use Rattle.serve_loop.specs.LineDeeds.{deeds_behind}
-use Rattle.serve_loop.specs.DeedRuns.{AllSaid}
+use Rattle.serve_loop.specs.LineStationEvents.{station_events_after}
+use Rattle.serve_loop.specs.StationRuns.{AllSaid}
 use Rattle.serve_loop.specs.Turns.{HasTaken, IsHere}
 use Rattle.serve_loop.proofs.line.take_bytes.Given as goal
 
 abbrev pub invariant-loop-rest : goal.invariant-loop-rest
 invariant-loop-rest g l = record {
-  front : List ℕ;
-  pieces : l.bytes ≡ front ++ l.rest;
-  same : g.A.App.kept l.node.shared ≡ g.A.App.kept l.fn.node.shared;
-  taken : (k : g.M.Medium.Set) (pace : ℕ) (before : List ℕ) → HasTaken pace before (g.M.Medium.fed l.fn.medium k) l.fn.pacer → HasTaken pace (before ++ front) (g.M.Medium.fed l.medium k) l.pacer;
-  wrote : (k : g.M.Medium.Set) (pace : ℕ) (before : List ℕ) → HasTaken pace before (g.M.Medium.fed l.fn.medium k) l.fn.pacer
-      → (m : Meaning) (own : Addr) → AllSaid m g.A.App.served (g.M.Medium.way k) own (deeds_behind (g.M.Medium.way k) own pace before (map Byte front))
+  prefix : List ℕ;
+  pieces : l.bytes ≡ prefix ++ l.rest;
+  same : g.A.App.config l.node.shared ≡ g.A.App.config l.fn.node.shared;
+  taken : (k : g.M.Medium.Config) (pace : ℕ) (before : List ℕ) → HasTaken pace before (g.M.Medium.fed l.fn.medium k) l.fn.pacer → HasTaken pace (before ++ prefix) (g.M.Medium.fed l.medium k) l.pacer;
+  wrote : (k : g.M.Medium.Config) (pace : ℕ) (before : List ℕ) → HasTaken pace before (g.M.Medium.fed l.fn.medium k) l.fn.pacer
+      → (m : AppSpec) (own : Addr) → AllSaid m g.A.App.served (g.M.Medium.spec k) own (station_events_after (g.M.Medium.spec k) own pace before (map Byte prefix))
       (IsHere g.A.App (g.M.Medium.did l.fn.medium k) m own l.fn.node)
       (IsHere g.A.App (g.M.Medium.did l.medium k) m own l.node) (g.K.Sink.written l.fn.sink) (g.K.Sink.written l.sink);
   calm : g.K.Sink.faults l.sink ≡ g.K.Sink.faults l.fn.sink;

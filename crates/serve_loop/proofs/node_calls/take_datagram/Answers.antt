@@ -2,7 +2,7 @@ use Rattle.std.proofs.Common.{subst}
 use Rattle.uip_wire.specs.declared.addr.Addr.{Addr}
 use Rattle.uip_node.specs.Edge.{event_of}
 use Rattle.uip_node.specs.Node.{step}
-use Rattle.uip_node.specs.StandsFor.{Steps}
+use Rattle.uip_node.specs.Represents.{Steps}
 use Rattle.serve_loop.proofs.NodeLaws.{call_told}
 use Rattle.serve_loop.proofs.node_calls.take_datagram.Goals as goal
 
@@ -11,8 +11,8 @@ returns g c =
     let old = c.args.node.now in
     let new = c.input-sent.new.self in
     let shown = g.M.Medium.shown c.args.medium.now in
-    let m = g.A.App.meaning (g.A.App.kept old.shared) in
-    let told = call_told g.A.App c.write_sent.result g.M.Medium.way (λ k acts. g.M.Medium.did c.args.medium.now k acts) (λ k acts. g.M.Medium.did c.write_sent.new.medium k acts)
+    let m = g.A.App.app_spec (g.A.App.config old.shared) in
+    let told = call_told g.A.App c.write_sent.result g.M.Medium.spec (λ k acts. g.M.Medium.did c.args.medium.now k acts) (λ k acts. g.M.Medium.did c.write_sent.new.medium k acts)
     old new c.input-sent.result (λ own. event_of own shown) (g.K.Sink.written c.args.sink.now) (g.K.Sink.written c.write_sent.new.sink)
     c.input-sent.ensures.same
     (λ m' own n p. subst (λ (a : Addr). Steps g.A.App new c.input-sent.result (step m g.A.App.served n (event_of a shown))) p.address

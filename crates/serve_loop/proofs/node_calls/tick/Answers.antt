@@ -1,8 +1,8 @@
 use Rattle.std.proofs.Common.{◌∷◌, ◌++◌, [], refl, ap, arith, ◌≡◌, ◌∙◌, append-nil, map}
 use Rattle.uip_edge.proofs.Told.{on_err}
 use Rattle.uip_node.specs.Events.Event.{Periodic}
-use Rattle.serve_loop.specs.DeedRuns.{Does, Happens}
-use Rattle.serve_loop.proofs.NodeLaws.{acts_wrote, calls, calls_behind, slots_broke}
+use Rattle.serve_loop.specs.StationRuns.{OfMedium, OfNode}
+use Rattle.serve_loop.proofs.NodeLaws.{acts_wrote, calls, calls_after, slots_broke}
 use Rattle.serve_loop.proofs.RunLaws.{wrote_by, wrote_then}
 use Rattle.serve_loop.proofs.node_calls.tick.Goals as goal
 
@@ -11,15 +11,15 @@ loop-slot-init g c = record {
   same = refl;
   fed = c.tick.ensures.fed;
   wrote = λ k m own.
-      wrote_by m g.A.App.served (g.M.Medium.way k) own _ _ _ _ _ _ (append-nil (map Does (g.M.Medium.way k).at_tick))
-      (acts_wrote m g.A.App.served (g.M.Medium.way k) own (g.M.Medium.way k).at_tick _ _ _ (c.tick.ensures.silent k)
+      wrote_by m g.A.App.served (g.M.Medium.spec k) own _ _ _ _ _ _ (append-nil (map OfMedium (g.M.Medium.spec k).at_tick))
+      (acts_wrote m g.A.App.served (g.M.Medium.spec k) own (g.M.Medium.spec k).at_tick _ _ _ (c.tick.ensures.silent k)
       (λ s p. record { stands = p.stands; acted = c.tick.ensures.did k s.acts p.acted }));
   calm = refl;
 }
 
 pub returns-in_err-call_slot-clause-err : goal.returns-in_err-call_slot-clause-err
 returns-in_err-call_slot-clause-err g c =
-    on_err _ (slots_broke g.A.App.served g.M.Medium.way (λ k. map Does (g.M.Medium.way k).at_tick) _ _ _ _ _ _ c.loop-slot.slot (omega arith) c.loop-slot.invariant.wrote c.in_err-call_slot.ensures.err)
+    on_err _ (slots_broke g.A.App.served g.M.Medium.spec (λ k. map OfMedium (g.M.Medium.spec k).at_tick) _ _ _ _ _ _ c.loop-slot.slot (omega arith) c.loop-slot.invariant.wrote c.in_err-call_slot.ensures.err)
 
 pub loop-slot-preserved : goal.loop-slot-preserved
 loop-slot-preserved g c =
@@ -30,13 +30,13 @@ loop-slot-preserved g c =
       same = told.same ∙ inv.same;
       fed = λ k before p. told.fed k before (inv.fed k before p);
       wrote = λ k m own.
-          let acts = map Does (g.M.Medium.way k).at_tick in
-          wrote_by m g.A.App.served (g.M.Medium.way k) own _ _ _ _ _ _ (calls_behind acts slot)
-          (wrote_then m g.A.App.served (g.M.Medium.way k) own (acts ++ calls slot) (Happens (Periodic slot) ∷ []) _ _ _ _ _ _ (inv.wrote k m own) (told.ok k m own));
+          let acts = map OfMedium (g.M.Medium.spec k).at_tick in
+          wrote_by m g.A.App.served (g.M.Medium.spec k) own _ _ _ _ _ _ (calls_after acts slot)
+          (wrote_then m g.A.App.served (g.M.Medium.spec k) own (acts ++ calls slot) (OfNode (Periodic slot) ∷ []) _ _ _ _ _ _ (inv.wrote k m own) (told.ok k m own));
       calm = told.cause.same ∙ inv.calm;
     }
 
 pub returns-clause-ok : goal.returns-clause-ok
 returns-clause-ok g c = λ k m own.
     let all : 10 ≡ c.loop-slot.slot = omega arith in
-    wrote_by m g.A.App.served (g.M.Medium.way k) own _ _ _ _ _ _ (ap (λ i. map Does (g.M.Medium.way k).at_tick ++ calls i) all) (c.loop-slot.invariant.wrote k m own)
+    wrote_by m g.A.App.served (g.M.Medium.spec k) own _ _ _ _ _ _ (ap (λ i. map OfMedium (g.M.Medium.spec k).at_tick ++ calls i) all) (c.loop-slot.invariant.wrote k m own)

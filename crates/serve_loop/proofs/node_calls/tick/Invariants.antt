@@ -1,16 +1,16 @@
 use Rattle.std.proofs.Common.{◌≡◌, ◌++◌, ℕ, List, map}
-use Rattle.app_events.specs.Part.{Meaning}
+use Rattle.app_events.specs.AppSpec.{AppSpec}
 use Rattle.uip_wire.specs.declared.addr.Addr.{Addr}
-use Rattle.serve_loop.specs.DeedRuns.{AllSaid, Does}
+use Rattle.serve_loop.specs.StationRuns.{AllSaid, OfMedium}
 use Rattle.serve_loop.specs.Turns.{IsHere}
 use Rattle.serve_loop.proofs.NodeLaws.{calls}
 use Rattle.serve_loop.proofs.node_calls.tick.Given as goal
 
 abbrev pub invariant-loop-slot : goal.invariant-loop-slot
 invariant-loop-slot g l = record {
-  same : g.A.App.kept l.node.shared ≡ g.A.App.kept l.fn.node.shared;
-  fed : (k : g.M.Medium.Set) (before : List ℕ) → g.M.Medium.fed l.fn.medium k before → g.M.Medium.fed l.medium k before;
-  wrote : (k : g.M.Medium.Set) (m : Meaning) (own : Addr) → AllSaid m g.A.App.served (g.M.Medium.way k) own (map Does (g.M.Medium.way k).at_tick ++ calls l.slot)
+  same : g.A.App.config l.node.shared ≡ g.A.App.config l.fn.node.shared;
+  fed : (k : g.M.Medium.Config) (before : List ℕ) → g.M.Medium.fed l.fn.medium k before → g.M.Medium.fed l.medium k before;
+  wrote : (k : g.M.Medium.Config) (m : AppSpec) (own : Addr) → AllSaid m g.A.App.served (g.M.Medium.spec k) own (map OfMedium (g.M.Medium.spec k).at_tick ++ calls l.slot)
       (IsHere g.A.App (g.M.Medium.did l.fn.medium k) m own l.fn.node)
       (IsHere g.A.App (g.M.Medium.did l.medium k) m own l.node) (g.K.Sink.written l.fn.sink) (g.K.Sink.written l.sink);
   calm : g.K.Sink.faults l.sink ≡ g.K.Sink.faults l.fn.sink;

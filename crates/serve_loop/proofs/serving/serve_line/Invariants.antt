@@ -1,30 +1,30 @@
 use Rattle.std.specs.List.{All}
 use Rattle.std.proofs.Common.{◌≡◌, ◌+◌, [], List, ℕ, length}
-use Rattle.app_events.specs.Part.{Meaning}
+use Rattle.app_events.specs.AppSpec.{AppSpec}
 use Rattle.uip_edge.specs.declared.item.Item.{Item}
 use Rattle.uip_edge.specs.Coming.{Consumes, bytes_among}
-use Rattle.uip_edge.specs.Telling.{line_told}
-use Rattle.uip_edge.specs.Told.{IsCalm}
+use Rattle.uip_edge.specs.ViewsOf.{line_view}
+use Rattle.uip_edge.specs.Views.{IsCalm}
 use Rattle.uip_wire.specs.declared.addr.Addr.{Addr}
 use Rattle.serve_loop.specs.Items.{IsItem}
-use Rattle.serve_loop.specs.LineDeeds.{line_deeds}
-use Rattle.serve_loop.specs.DeedRuns.{AllSaid}
+use Rattle.serve_loop.specs.LineStationEvents.{station_events_of_line}
+use Rattle.serve_loop.specs.StationRuns.{AllSaid}
 use Rattle.serve_loop.specs.Turns.{HasTaken, IsHere}
 use Rattle.serve_loop.proofs.serving.serve_line.Given as goal
 
 abbrev pub invariant-loop-left : goal.invariant-loop-left
 invariant-loop-left g l = record {
-  same : g.A.App.kept l.node.shared ≡ g.A.App.kept l.fn.node.shared;
-  served : (k : g.M.Medium.Set) (pace : ℕ) → HasTaken pace [] (g.M.Medium.fed l.fn.medium k) l.fn.pacer → record {
+  same : g.A.App.config l.node.shared ≡ g.A.App.config l.fn.node.shared;
+  served : (k : g.M.Medium.Config) (pace : ℕ) → HasTaken pace [] (g.M.Medium.fed l.fn.medium k) l.fn.pacer → record {
     taken : List Item;
     are : All IsItem taken;
     consumed : Consumes (g.L.Link.coming l.fn.link) (g.L.Link.coming l.link) taken;
     number : length taken + l.left ≡ l.items;
     at : HasTaken pace (bytes_among taken) (g.M.Medium.fed l.medium k) l.pacer;
-    wrote : (m : Meaning) (own : Addr) → AllSaid m g.A.App.served (g.M.Medium.way k) own (line_deeds (g.M.Medium.way k) own pace taken)
+    wrote : (m : AppSpec) (own : Addr) → AllSaid m g.A.App.served (g.M.Medium.spec k) own (station_events_of_line (g.M.Medium.spec k) own pace taken)
         (IsHere g.A.App (g.M.Medium.did l.fn.medium k) m own l.fn.node)
         (IsHere g.A.App (g.M.Medium.did l.medium k) m own l.node) (g.K.Sink.written l.fn.sink) (g.K.Sink.written l.sink);
-    calm : IsCalm (line_told g.L.Link g.K.Sink l.fn.link l.fn.sink) (line_told g.L.Link g.K.Sink l.link l.sink);
+    calm : IsCalm (line_view g.L.Link g.K.Sink l.fn.link l.fn.sink) (line_view g.L.Link g.K.Sink l.link l.sink);
   };
 }
 

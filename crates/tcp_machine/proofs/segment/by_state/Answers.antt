@@ -1,9 +1,10 @@
 -- The rows of the states.
+-- [add: state] Its row.
 use Rattle.std.proofs.Common.{Bool, true, sym, subst}
 use Rattle.app_events.specs.declared.state.State.TheVariants.{SynRcvd, CloseWait, FinWait1, FinWait2, Closing, LastAck}
 use Rattle.tcp_machine.specs.OnSegment.{by_state}
-use Rattle.tcp_machine.specs.Stands.{plain}
-use Rattle.tcp_machine.specs.Takes.{Takes}
+use Rattle.tcp_machine.specs.Represents.{plain}
+use Rattle.tcp_machine.specs.Refines.{Refines}
 use Rattle.tcp_machine.proofs.Unspoken.{row_alone, row_spoken}
 use Rattle.tcp_machine.proofs.segment.by_state.Goals as goal
 
@@ -11,7 +12,7 @@ pub returns-then-acked : goal.returns-then-acked
 returns-then-acked g c =
     let s = plain c.args.seg.now c.args.piece.now in
     let t = row_spoken g.A.App c.args.shared.now c.connects.new.shared c.args.conn.now c.connects.new.conn c.connects.result true s SynRcvd c.in-SynRcvd.is (c.connects.ensures s) in
-    subst (λ (b : Bool). Takes g.A.App (λ m a ns. by_state m a.state b a ns s) c.args.conn.now c.args.shared.now c.connects.new.conn c.connects.new.shared c.connects.result) (sym c.if-acked.true) t
+    subst (λ (b : Bool). Refines g.A.App (λ m a ns. by_state m a.state b a ns s) c.args.conn.now c.args.shared.now c.connects.new.conn c.connects.new.shared c.connects.result) (sym c.if-acked.true) t
 
 pub returns-in-CloseWait : goal.returns-in-CloseWait
 returns-in-CloseWait g c =

@@ -1,6 +1,6 @@
--- What was said can still be said.
+-- The outstanding text can still be generated.
 use Rattle.std.proofs.Common.{rules, ap, ◌∙◌}
-use Rattle.tcp_machine.specs.Stands.{is_open}
+use Rattle.tcp_machine.specs.Represents.{is_open}
 use Rattle.tcp_machine.proofs.segment.in_close_wait.Goals as goal
 
 pub returns-then-acked : goal.returns-then-acked
@@ -8,7 +8,7 @@ returns-then-acked g c = λ s. record {
   same = search rules;
   sound = record {
     numbers = search rules;
-    says = λ _. rw (c.set_window.ensures.kept.app, c.set_window.ensures.kept.len) (c.take_ack.ensures.sound.says (ap is_open (c.take_ack.ensures.state ∙ c.requires.state)));
+    says = λ _. rw (c.set_window.ensures.kept.app, c.set_window.ensures.kept.len) (c.ack_received.ensures.sound.says (ap is_open (c.ack_received.ensures.state ∙ c.requires.state)));
   };
   place = search rules;
   fits = search rules;

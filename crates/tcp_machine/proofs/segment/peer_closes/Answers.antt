@@ -1,7 +1,7 @@
--- What was heard can still be said.
+-- After a delivery the outstanding text can still be generated.
 use Rattle.std.proofs.Common.{rules, ap, ◌∙◌}
 use Rattle.tcp_machine.specs.OnSegment.{peer_closes}
-use Rattle.tcp_machine.specs.Stands.{is_open}
+use Rattle.tcp_machine.specs.Represents.{is_open}
 use Rattle.tcp_machine.proofs.segment.peer_closes.Goals as goal
 
 pub returns : goal.returns
@@ -10,7 +10,7 @@ returns g c = record {
   same = search rules;
   sound = record {
     numbers = search rules;
-    says = λ _. rw (c.enter.ensures.kept.app, c.enter.ensures.kept.len) (c.absorb.ensures.sound.says (ap is_open (c.absorb.ensures.state ∙ c.requires.state)));
+    says = λ _. rw (c.enter.ensures.kept.app, c.enter.ensures.kept.len) (c.receive_text.ensures.sound.says (ap is_open (c.receive_text.ensures.state ∙ c.requires.state)));
   };
   place = search rules;
   fits = search rules;

@@ -3,5 +3,5 @@ use Rattle.tcp_segment.proofs.headers.put_headers.Goals as goal
 
 pub returns : goal.returns
 returns c =
-    headers_put c.args.out.now c.args.area.now c.header-header.result c.copy_from_slice.new.self c.put_head.new.out c.args.total
-    c.requires.least c.requires.fits c.header-header.ensures c.copy_from_slice.ensures.after c.put_head.ensures
+    headers_put c.args.out.now c.args.area.now c.put_fields.new.header c.put16.new.bytes c.put_head.new.out c.args.total c.segment_sum-sum.result
+    c.requires.least c.requires.fits c.put_fields.ensures c.segment_sum-sum.ensures c.put16.ensures c.put_head.ensures

@@ -3,7 +3,7 @@ use Rattle.std.proofs.lemmas.List.{length-take-le}
 use Rattle.uip_edge.proofs.Told.{Consumes-none, Consumes-then}
 use Rattle.uip_edge.proofs.Turns.{calm_then, counted as bytes_counted}
 use Rattle.uip_edge.specs.declared.item.Item.TheVariants.{Byte, Quiet}
-use Rattle.uip_edge.specs.Telling.{line_told}
+use Rattle.uip_edge.specs.ViewsOf.{line_view}
 use Rattle.trace.proofs.LineLaws.{stops_read}
 use Rattle.trace.proofs.line_reading.read_line.Goals as goal
 
@@ -43,9 +43,9 @@ returns-in_err-take_bytes-in-Ok-Bytes g c = λ k h.
     search (
       rules,
       stops_read g.R.LineReader k c.args.items inv.taken (take n buf)
-          (line_told g.L.Link g.K.Sink c.args.link.now c.args.sink.now)
-          (line_told g.L.Link g.K.Sink c.loop-left.link c.loop-left.sink)
-          (line_told g.L.Link g.K.Sink c.next.new.self c.take_bytes.new.sink)
+          (line_view g.L.Link g.K.Sink c.args.link.now c.args.sink.now)
+          (line_view g.L.Link g.K.Sink c.loop-left.link c.loop-left.sink)
+          (line_view g.L.Link g.K.Sink c.next.new.self c.take_bytes.new.sink)
           c.take_bytes.new.reader c.in_err-take_bytes-in-Ok-Bytes.field-0.0 inv.consumed told.items
           (omega (arith, size, told.count.1, c.next.auto.buf, room, inv.number)) (omega (arith, size, told.count.1, c.next.auto.buf, room)) inv.calm told.cause.same
           (c.in_err-take_bytes-in-Ok-Bytes.ensures.stopped k inv.taken (inv.took k h)),

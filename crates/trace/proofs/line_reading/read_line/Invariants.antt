@@ -1,8 +1,8 @@
 use Rattle.std.proofs.Common.{◌≡◌, ◌≤◌, ◌+◌, [], List, length}
 use Rattle.uip_edge.specs.Coming.{Consumes}
 use Rattle.uip_edge.specs.declared.item.Item.{Item}
-use Rattle.uip_edge.specs.Telling.{line_told}
-use Rattle.uip_edge.specs.Told.{IsCalm}
+use Rattle.uip_edge.specs.ViewsOf.{line_view}
+use Rattle.uip_edge.specs.Views.{IsCalm}
 use Rattle.trace.proofs.line_reading.read_line.Given as goal
 
 abbrev pub invariant-loop-left : goal.invariant-loop-left
@@ -12,9 +12,9 @@ invariant-loop-left g l = record {
   taken : List Item;
   consumed : Consumes (g.L.Link.coming l.fn.link) (g.L.Link.coming l.link) taken;
   number : length taken + l.left ≡ l.items;
-  took : (k : g.R.LineReader.Set) → g.R.LineReader.took l.fn.reader k [] (g.K.Sink.written l.fn.sink)
+  took : (k : g.R.LineReader.Config) → g.R.LineReader.took l.fn.reader k [] (g.K.Sink.written l.fn.sink)
       → g.R.LineReader.took l.reader k taken (g.K.Sink.written l.sink);
-  calm : IsCalm (line_told g.L.Link g.K.Sink l.fn.link l.fn.sink) (line_told g.L.Link g.K.Sink l.link l.sink);
+  calm : IsCalm (line_view g.L.Link g.K.Sink l.fn.link l.fn.sink) (line_view g.L.Link g.K.Sink l.link l.sink);
 }
 
 abbrev pub decreases-loop-left : goal.decreases-loop-left

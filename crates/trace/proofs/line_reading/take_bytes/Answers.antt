@@ -7,7 +7,7 @@ use Rattle.trace.proofs.line_reading.take_bytes.Goals as goal
 
 pub loop-rest-init : goal.loop-rest-init
 loop-rest-init g c = record {
-  front = [];
+  prefix = [];
   pieces = refl;
   ready = c.requires.ready;
   counted = omega arith;
@@ -22,13 +22,13 @@ loop-rest-preserved g c =
     let n = c.in_ok-count.count in
     let told = c.in_ok-count.ensures in
     record {
-      front = inv.front ++ take n rest;
-      pieces = moved_on _ inv.front rest n inv.pieces;
+      prefix = inv.prefix ++ take n rest;
+      pieces = moved_on _ inv.prefix rest n inv.pieces;
       ready = told.ready;
-      counted = omega (arith, told.counted, told.count.1, inv.counted, length-append inv.front (take n rest), length-take-le n rest told.count.1);
+      counted = omega (arith, told.counted, told.count.1, inv.counted, length-append inv.prefix (take n rest), length-take-le n rest told.count.1);
       took = λ k before h.
-          subst (λ (l : List Item). g.R.LineReader.took c.take_front.new.self k l (g.K.Sink.written c.take_front.new.sink))
-          (append_assoc before (map Byte inv.front) (map Byte (take n rest)) ∙ ap (λ l. before ++ l) (sym (map-append Byte inv.front (take n rest))))
-          (told.took k (before ++ map Byte inv.front) (inv.took k before h));
+          subst (λ (l : List Item). g.R.LineReader.took c.take_prefix.new.self k l (g.K.Sink.written c.take_prefix.new.sink))
+          (append_assoc before (map Byte inv.prefix) (map Byte (take n rest)) ∙ ap (λ l. before ++ l) (sym (map-append Byte inv.prefix (take n rest))))
+          (told.took k (before ++ map Byte inv.prefix) (inv.took k before h));
       calm = told.calm ∙ inv.calm;
     }

@@ -1,13 +1,13 @@
 use Rattle.std.proofs.Common.{refl}
-use Rattle.trace.proofs.TellLaws.{told_behind}
+use Rattle.trace.proofs.TellLaws.{reported_after}
 use Rattle.trace.proofs.TextLaws.{capture_is}
-use Rattle.uip_edge.specs.Telling.{line_told}
+use Rattle.uip_edge.specs.ViewsOf.{line_view}
 use Rattle.trace.proofs.telling.pcap.Goals as goal
 
 pub returns-in-Ok : goal.returns-in-Ok
 returns-in-Ok g c =
-    told_behind _ _ _ c.args.items
-    (line_told g.L.Link g.K.Sink c.args.link.now c.args.sink.now)
-    (line_told g.L.Link g.K.Sink c.args.link.now c.write_whole.new.self)
-    (line_told g.L.Link g.K.Sink c.watch_line.new.link c.watch_line.new.sink)
+    reported_after _ _ _ c.args.items
+    (line_view g.L.Link g.K.Sink c.args.link.now c.args.sink.now)
+    (line_view g.L.Link g.K.Sink c.args.link.now c.write_whole.new.self)
+    (line_view g.L.Link g.K.Sink c.watch_line.new.link c.watch_line.new.sink)
     _ capture_is refl refl c.in-Ok.ensures.cause.same c.in-Ok.ensures.whole c.watch_line.ensures

@@ -1,5 +1,5 @@
 use Rattle.std.proofs.Common.{◌++◌, [], ap, arith, length, length-append, map}
-use Rattle.uip_edge.proofs.Breaking.{breaks_front}
+use Rattle.uip_edge.proofs.Breaking.{breaks_prefix}
 use Rattle.uip_edge.proofs.Told.{prefix_by}
 use Rattle.uip_edge.specs.declared.item.Item.TheVariants.{Byte}
 use Rattle.trace.specs.Watching.{text_after}
@@ -26,6 +26,6 @@ returns-in-Err g c =
       taken = r.before ++ map Byte r.bytes;
       consumed = r.consumed;
       ends = (r.within, r.calm, r.stopped.rose);
-      wrote = prefix_by _ _ _ _ both (breaks_front _ _ _ _ r.stopped.broke);
+      wrote = prefix_by _ _ _ _ both (breaks_prefix _ _ _ _ r.stopped.broke);
       some = λ is. (let some = r.stopped.broke.some in omega (arith, some, ap (λ l. length l) both, length-append (text_after c.args.form [] r.before) (text_after c.args.form r.before (map Byte r.bytes))));
     }

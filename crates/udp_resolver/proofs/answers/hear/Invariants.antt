@@ -6,8 +6,8 @@ use Rattle.udp_resolver.proofs.answers.hear.Given as goal
 
 abbrev pub invariant-loop-at : goal.invariant-loop-at
 invariant-loop-at l = record {
-  front : List (Option Answer);
-  size : length front ≡ l.at;
-  answers : l.answers ≡ front ++ drop l.at l.fn.answers;
-  heard : heard_now l.datagram (questions l.fn.asking l.names) l.fn.answers ≡ front ++ heard_now l.datagram (questions l.asking (drop l.at l.names)) (drop l.at l.fn.answers);
+  prefix : List (Option Answer);
+  size : length prefix ≡ l.at;
+  answers : l.answers ≡ prefix ++ drop l.at l.fn.answers;
+  heard : heard_now l.datagram (questions l.fn.asking l.names) l.fn.answers ≡ prefix ++ heard_now l.datagram (questions l.asking (drop l.at l.names)) (drop l.at l.fn.answers);
 }

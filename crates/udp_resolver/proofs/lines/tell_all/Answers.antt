@@ -1,6 +1,6 @@
 use Rattle.std.proofs.Common.{◌≡◌, ◌+◌, ◌++◌, ◌∙◌, None, sym, ap, drop, get_or}
 use Rattle.uip_edge.proofs.Told.{Appends-then, appends_by, on_err}
-use Rattle.uip_edge.specs.Telling.{sink_told}
+use Rattle.uip_edge.specs.ViewsOf.{sink_view}
 use Rattle.uip_edge.proofs.Writes.{writes_broken, writes_by}
 use Rattle.udp_resolver.specs.Fates.{fate_by}
 use Rattle.udp_resolver.specs.Lines.{line_of}
@@ -15,9 +15,9 @@ loop-at-preserved g c =
     let one = line_of name (fate_by (get_or c.args.answers.now c.loop-at.at None) c.args.is_over) in
     let text : c.bytes.result.now ≡ one = c.bytes.ensures ∙ c.line_of.ensures ∙ ap (λ f. line_of name f) c.fate_by.ensures in
     record {
-      front = inv.front ++ one;
-      whole = line_moves _ _ name _ _ _ inv.front c.requires c.loop-at-test.true c.index-names-at.is inv.whole;
-      wrote = Appends-then _ _ _ inv.front one inv.wrote (appends_by _ _ c.bytes.result.now one (sym text) c.in_ok-write_whole.ensures.whole);
+      prefix = inv.prefix ++ one;
+      whole = line_moves _ _ name _ _ _ inv.prefix c.requires c.loop-at-test.true c.index-names-at.is inv.whole;
+      wrote = Appends-then _ _ _ inv.prefix one inv.wrote (appends_by _ _ c.bytes.result.now one (sym text) c.in_ok-write_whole.ensures.whole);
       calm = c.in_ok-write_whole.ensures.cause.same ∙ inv.calm;
     }
 
@@ -31,10 +31,10 @@ returns-in_err-write_whole g c =
     let text : c.bytes.result.now ≡ one = c.bytes.ensures ∙ c.line_of.ensures ∙ ap (λ f. line_of name f) c.fate_by.ensures in
     let later = lines_by (drop (at + 1) c.args.names.now) (drop (at + 1) c.args.answers.now) c.args.is_over in
     let all = lines_by c.args.names.now c.args.answers.now c.args.is_over in
-    let whole = line_moves _ _ name at _ _ inv.front c.requires c.loop-at-test.true c.index-names-at.is inv.whole in
+    let whole = line_moves _ _ name at _ _ inv.prefix c.requires c.loop-at-test.true c.index-names-at.is inv.whole in
     record {
       writes = writes_broken c.from_residual.result c.from_residual.ensures.0 c.in_err-write_whole.field-0.0
-          (sink_told g.T.Sink c.args.tell.now) (sink_told g.T.Sink c.loop-at.tell) (sink_told g.T.Sink c.write_whole.new.self)
-          inv.front one later all (sym whole) inv.wrote inv.calm (writes_by _ _ _ c.bytes.result.now one (sym text) c.in_err-write_whole.ensures);
-      some = on_err _ (some_moves inv.front one later all whole (line_some name fate));
+          (sink_view g.T.Sink c.args.tell.now) (sink_view g.T.Sink c.loop-at.tell) (sink_view g.T.Sink c.write_whole.new.self)
+          inv.prefix one later all (sym whole) inv.wrote inv.calm (writes_by _ _ _ c.bytes.result.now one (sym text) c.in_err-write_whole.ensures);
+      some = on_err _ (some_moves inv.prefix one later all whole (line_some name fate));
     }

@@ -5,8 +5,8 @@ use Rattle.udp_resolver.proofs.lines.tell_all.Given as goal
 
 abbrev pub invariant-loop-at : goal.invariant-loop-at
 invariant-loop-at g l = record {
-  front : List ℕ;
-  whole : lines_by l.names l.answers l.is_over ≡ front ++ lines_by (drop l.at l.names) (drop l.at l.answers) l.is_over;
-  wrote : Appends (g.T.Sink.written l.fn.tell) (g.T.Sink.written l.tell) front;
+  prefix : List ℕ;
+  whole : lines_by l.names l.answers l.is_over ≡ prefix ++ lines_by (drop l.at l.names) (drop l.at l.answers) l.is_over;
+  wrote : Appends (g.T.Sink.written l.fn.tell) (g.T.Sink.written l.tell) prefix;
   calm : g.T.Sink.faults l.tell ≡ g.T.Sink.faults l.fn.tell;
 }

@@ -22,5 +22,5 @@ returns-in-Err-clause-resolves g c =
     let new = streams g.L.Link g.K.Sink g.T.Sink c.ask-end.new.link c.ask-end.new.out c.tell_all.new.tell in
     subst (λ (l : List (List ℕ)). Resolves (questions asking l) c.args.items old new _) c.as_slice-names.ensures.value
     (names_part asking c.as_slice-names.result.now c.args.items c.ask-end.new.run old new c.as_slice.result.now c.as_slice.ensures.value c.ask-end.result
-    c.in_default.not-LinkFault c.in_default.not-WriteFault c.ask-end.ensures.asks c.in-Err.ensures.writes.cause.failed c.in-Err.ensures.writes.front
+    c.in_default.not-LinkFault c.in_default.not-WriteFault c.ask-end.ensures.asks c.in-Err.ensures.writes.cause.failed c.in-Err.ensures.writes.prefix
     c.in-Err.ensures.some)

@@ -4,7 +4,7 @@ use Rattle.uip_edge.proofs.Turns.{calm_then}
 use Rattle.udp_resolver.specs.Fates.{all_settled, questions}
 use Rattle.udp_resolver.specs.LineEvents.{events}
 use Rattle.udp_resolver.proofs.AskLaws.{added, open_by_test, stopped}
-use Rattle.uip_edge.specs.Telling.{line_told}
+use Rattle.uip_edge.specs.ViewsOf.{line_view}
 use Rattle.udp_resolver.proofs.run.ask.Goals as goal
 
 pub loop-asking-preserved : goal.loop-asking-preserved
@@ -38,8 +38,8 @@ returns-in-Ended-clause-asks g c =
     let turn = c.in-Ended.ensures.turns inv.taken is_open inv.knows in
     let room = length-take c.min-room.result c.loop-asking.buf in
     stopped asked c.args.items inv.taken turn.more c.turn.new.self
-    (line_told g.L.Link g.K.Sink c.args.link.now c.args.out.now)
-    (line_told g.L.Link g.K.Sink c.loop-asking.link c.loop-asking.out)
-    (line_told g.L.Link g.K.Sink c.turn.new.link c.turn.new.out)
+    (line_view g.L.Link g.K.Sink c.args.link.now c.args.out.now)
+    (line_view g.L.Link g.K.Sink c.loop-asking.link c.loop-asking.out)
+    (line_view g.L.Link g.K.Sink c.turn.new.link c.turn.new.out)
     _ c.in-Ended.end is_open inv.consumed turn.consumed (omega (arith, inv.number, c.if-left-eq0.false)) turn.within (omega (arith, inv.number, room))
     inv.calm inv.needed inv.wrote turn.cause turn.by

@@ -3,8 +3,8 @@ use Rattle.std.specs.Io.KnownBytes.{Appends}
 use Rattle.rexmit_timer.specs.declared.timer.TheConstants.{TEXT_LIMIT}
 use Rattle.uip_edge.specs.Coming.{Consumes}
 use Rattle.uip_edge.specs.declared.item.Item.{Item}
-use Rattle.uip_edge.specs.Telling.{line_told}
-use Rattle.uip_edge.specs.Told.{IsCalm}
+use Rattle.uip_edge.specs.ViewsOf.{line_view}
+use Rattle.uip_edge.specs.Views.{IsCalm}
 use Rattle.uip_wire.specs.declared.sizes.TheConstants.{LARGEST_DATAGRAM}
 use Rattle.udp_resolver.specs.Asked.{line_text}
 use Rattle.udp_resolver.specs.Fates.{questions}
@@ -24,7 +24,7 @@ invariant-loop-asking g l = record {
   needed : (taken ≡ []) ⊎ LastAsked (questions l.asking l.names) taken;
   knows : Knows (questions l.asking l.names) taken l.run;
   wrote : Appends (g.K.Sink.written l.fn.out) (g.K.Sink.written l.out) (line_text (questions l.asking l.names) (events taken));
-  calm : IsCalm (line_told g.L.Link g.K.Sink l.fn.link l.fn.out) (line_told g.L.Link g.K.Sink l.link l.out);
+  calm : IsCalm (line_view g.L.Link g.K.Sink l.fn.link l.fn.out) (line_view g.L.Link g.K.Sink l.link l.out);
 }
 
 abbrev pub decreases-loop-asking : goal.decreases-loop-asking

@@ -4,7 +4,7 @@ use Rattle.packet_buffer.specs.Buffer.{datagram_in}
 use Rattle.uip_slip.specs.Frames.{Datagram, Frame, Overlong, frames}
 use Rattle.uip_node.specs.Edge.{event_of}
 use Rattle.uip_node.specs.Events.Event.{Overlong as OverlongFrame}
-use Rattle.serve_loop.specs.LineEvents.{events_behind}
+use Rattle.serve_loop.specs.LineEvents.{events_after}
 use Rattle.serve_loop.specs.Texts.{text_of}
 use Rattle.uip_device.specs.Handing.{text_to_come}
 use Rattle.uip_device.proofs.FrameLaws.{told_events}
@@ -15,51 +15,51 @@ pub returns-in-More-clause-stops : goal.returns-in-More-clause-stops
 returns-in-More-clause-stops g c = inl (c.feed_run-run.ensures.whole c.in-More.is)
 
 pub returns-in-Overlong-clause-stops : goal.returns-in-Overlong-clause-stops
-returns-in-Overlong-clause-stops g c = inr (rw c.in-Overlong.is at c.feed_run-run.ensures.front.end)
+returns-in-Overlong-clause-stops g c = inr (rw c.in-Overlong.is at c.feed_run-run.ensures.prefix.end)
 
 pub returns-in-Datagram-clause-stops : goal.returns-in-Datagram-clause-stops
-returns-in-Datagram-clause-stops g c = inr (rw c.in-Datagram.is at c.feed_run-run.ensures.front.end)
+returns-in-Datagram-clause-stops g c = inr (rw c.in-Datagram.is at c.feed_run-run.ensures.prefix.end)
 
 pub returns-in-More-clause-one : goal.returns-in-More-clause-one
 returns-in-More-clause-one g c = λ before fed.
-    let told = rw c.in-More.is at c.feed_run-run.ensures.front.frames in
+    let told = rw c.in-More.is at c.feed_run-run.ensures.prefix.frames in
     omega (arith, ap (λ (l : List Frame). length l) (told before fed).1, length-append (frames before) [])
 
 pub returns-in-Overlong-clause-one : goal.returns-in-Overlong-clause-one
 returns-in-Overlong-clause-one g c = λ before fed.
-    let told = rw c.in-Overlong.is at c.feed_run-run.ensures.front.frames in
+    let told = rw c.in-Overlong.is at c.feed_run-run.ensures.prefix.frames in
     omega (arith, ap (λ (l : List Frame). length l) (told before fed).1, length-append (frames before) (Overlong ∷ []))
 
 pub returns-in-Datagram-clause-one : goal.returns-in-Datagram-clause-one
 returns-in-Datagram-clause-one g c = λ before fed.
-    let told = rw c.in-Datagram.is at c.feed_run-run.ensures.front.frames in
+    let told = rw c.in-Datagram.is at c.feed_run-run.ensures.prefix.frames in
     omega (arith, ap (λ (l : List Frame). length l) (told before fed).1, length-append (frames before) (Datagram c.feed_run-run.new.self.bytes ∷ []))
 
 pub returns-in-More-clause-sends : goal.returns-in-More-clause-sends
 returns-in-More-clause-sends g c = λ before fed.
-    let told = rw c.in-More.is at c.feed_run-run.ensures.front.frames in
+    let told = rw c.in-More.is at c.feed_run-run.ensures.prefix.frames in
     let bytes = take c.feed_run-run.result.count c.args.bytes.now in
     rw c.nothing-written.ensures (
-    sends_none g.A.App (λ own. events_behind own 0 before (map Byte bytes)) c.args.node.now (λ own replies. text_of own replies ≡ [])
+    sends_none g.A.App (λ own. events_after own 0 before (map Byte bytes)) c.args.node.now (λ own replies. text_of own replies ≡ [])
     (λ own. told_events own before bytes [] (told before fed).1) (λ own. refl))
 
 pub returns-in-Overlong-clause-sends : goal.returns-in-Overlong-clause-sends
 returns-in-Overlong-clause-sends g c = λ before fed.
-    let told = rw c.in-Overlong.is at c.feed_run-run.ensures.front.frames in
+    let told = rw c.in-Overlong.is at c.feed_run-run.ensures.prefix.frames in
     let bytes = take c.feed_run-run.result.count c.args.bytes.now in
     let new = c.count_overlong.new.self in
     rw c.nothing-written-in-Overlong.ensures (
-    sends_by g.A.App (λ own. OverlongFrame ∷ []) (λ own. events_behind own 0 before (map Byte bytes)) c.args.node.now new (λ own replies. text_of own replies ≡ [])
+    sends_by g.A.App (λ own. OverlongFrame ∷ []) (λ own. events_after own 0 before (map Byte bytes)) c.args.node.now new (λ own replies. text_of own replies ≡ [])
     (λ own. told_events own before bytes (Overlong ∷ []) (told before fed).1)
     (sends_overlong g.A.App c.args.node.now new (λ own replies. text_of own replies ≡ []) c.count_overlong.ensures.same c.count_overlong.ensures.step (λ own. refl)))
 
 pub returns-in-Datagram-clause-sends : goal.returns-in-Datagram-clause-sends
 returns-in-Datagram-clause-sends g c = λ before fed.
-    let told = rw c.in-Datagram.is at c.feed_run-run.ensures.front.frames in
+    let told = rw c.in-Datagram.is at c.feed_run-run.ensures.prefix.frames in
     let bytes = take c.feed_run-run.result.count c.args.bytes.now in
     let shown = c.feed_run-run.new.self.bytes in
     let new = c.answer-written.new.node in
-    sends_by g.A.App (λ own. event_of own shown ∷ []) (λ own. events_behind own 0 before (map Byte bytes)) c.args.node.now new
+    sends_by g.A.App (λ own. event_of own shown ∷ []) (λ own. events_after own 0 before (map Byte bytes)) c.args.node.now new
     (λ own replies. text_of own replies ≡ take c.answer-written.result.wrote c.answer-written.new.out ++ text_to_come (datagram_in new.packet) c.answer-written.result.left)
     (λ own. told_events own before bytes (Datagram shown ∷ []) (told before fed).1)
     (rw c.bytes.ensures at c.answer-written.ensures.sends)

@@ -2,7 +2,7 @@ use Rattle.std.proofs.Common.{◌++◌, ◌∙◌, ◌-◌, arith, drop, length,
 use Rattle.std.proofs.lemmas.List.{take-append-drop, take_rest}
 use Rattle.uip_edge.proofs.Told.{moved_on}
 use Rattle.uip_device.specs.Handing.{rest_text}
-use Rattle.uip_device.proofs.HandLaws.{front_put}
+use Rattle.uip_device.proofs.HandLaws.{prefix_put}
 use Rattle.uip_device.proofs.handing.write_on.Goals as goal
 
 pub loop-out-init : goal.loop-out-init
@@ -11,7 +11,7 @@ loop-out-init c =
     let at = c.args.at in
     let rest = take_rest whole at in
     record {
-      front = take at whole;
+      prefix = take at whole;
       pieces = sym (ap (λ l. take at whole ++ l) rest ∙ take-append-drop at whole);
       made = ap (λ l. take c.args.len c.args.out.now ++ rest_text l) rest;
       long = refl;
@@ -29,9 +29,9 @@ loop-out-preserved c =
     let later = take (length rest - n) (drop n rest) in
     let parts = sym (ap (λ l. take n rest ++ l) (take_rest rest n) ∙ take-append-drop n rest) in
     record {
-      front = inv.front ++ take n rest;
-      pieces = moved_on _ inv.front rest n inv.pieces;
-      made = front_put (take c.loop-out.end c.loop-out.out) _ rest (take n rest) later run.text parts ∙ inv.made;
+      prefix = inv.prefix ++ take n rest;
+      pieces = moved_on _ inv.prefix rest n inv.pieces;
+      made = prefix_put (take c.loop-out.end c.loop-out.out) _ rest (take n rest) later run.text parts ∙ inv.made;
       long = run.long ∙ inv.long;
       fits = run.fits;
       grows = omega (arith, inv.grows, run.grows);

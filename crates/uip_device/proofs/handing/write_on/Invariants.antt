@@ -4,8 +4,8 @@ use Rattle.uip_device.proofs.handing.write_on.Given as goal
 
 abbrev pub invariant-loop-out : goal.invariant-loop-out
 invariant-loop-out l = record {
-  front : List ℕ;
-  pieces : l.datagram ≡ front ++ l.rest;
+  prefix : List ℕ;
+  pieces : l.datagram ≡ prefix ++ l.rest;
   made : take l.end l.out ++ rest_text l.rest ≡ take l.len l.fn.out ++ rest_text (drop l.at l.datagram);
   long : length l.out ≡ length l.fn.out;
   fits : l.end ≤ length l.out;

@@ -1,4 +1,5 @@
--- The counters place by place.
+-- The counters, index by index.
+-- [add: counter] The number of counters.
 use Rattle.std.proofs.Common.{◌≡◌, ◌≢◌, ℕ, ◌+◌, ◌<◌, ◌==◌, ◌||◌, Bool, if◌then◌else◌, length, get_or, get_or-set_other, get_or-set_same, length-set, below_more, false, sym, ap, ◌∙◌, arith}
 use Rattle.uip_wire.specs.Numbers.{wrap}
 use Rattle.uip_node.specs.Raising.{marks}

@@ -1,4 +1,5 @@
--- The counters stand for the longer past.
+-- The counters represent the longer history.
+-- [add: counter] A call that raises the counter: a folder as this one.
 use Rattle.std.proofs.Common.{refl}
 use Rattle.uip_node.specs.Events.Event.{EchoAsked}
 use Rattle.uip_node.specs.Events.Answer.{EchoReplied}
@@ -6,6 +7,6 @@ use Rattle.uip_node.proofs.Twice.{counted, second}
 use Rattle.uip_node.proofs.counts.echo.Goals as goal
 
 pub returns : goal.returns
-returns c = λ past request h.
-    second (EchoAsked request) EchoReplied past 1 11 20 c.raised-asked.result c.raised.result (record { apart = refl; both = refl })
-    (counted (EchoAsked request) past c.args.net.now c.raised-asked.result h c.raised-asked.ensures) c.raised.ensures
+returns c = λ history request h.
+    second (EchoAsked request) EchoReplied history 1 11 20 c.raised-asked.result c.raised.result (record { apart = refl; both = refl })
+    (counted (EchoAsked request) history c.args.net.now c.raised-asked.result h c.raised-asked.ensures) c.raised.ensures

@@ -1,7 +1,7 @@
--- The counters stand for the longer past.
+-- The counters represent the longer history.
 use Rattle.uip_node.specs.Events.Event.{Overlong}
 use Rattle.uip_node.proofs.Twice.{counted}
 use Rattle.uip_node.proofs.counts.overlong.Goals as goal
 
 pub returns : goal.returns
-returns c = λ past h. counted Overlong past c.args.net.now c.raised.result h c.raised.ensures
+returns c = λ history h. counted Overlong history c.args.net.now c.raised.result h c.raised.ensures

@@ -1,4 +1,4 @@
--- The counters stand for the longer past.
+-- The counters represent the longer history.
 use Rattle.std.proofs.Common.{ℕ, ap, ◌∙◌}
 use Rattle.uip_node.specs.Raising.{marks, raise}
 use Rattle.uip_node.specs.Events.Event.{TcpRefused}
@@ -6,5 +6,5 @@ use Rattle.uip_node.proofs.Twice.{counted}
 use Rattle.uip_node.proofs.counts.refuse_tcp.Goals as goal
 
 pub returns : goal.returns
-returns c = λ past h. counted (TcpRefused c.args.fate) past c.args.net.now c.raised.result h
+returns c = λ history h. counted (TcpRefused c.args.fate) history c.args.net.now c.raised.result h
     (c.raised.ensures ∙ ap (λ (p : ℕ). raise (marks 0 14 p) c.args.net.now) c.tcp_place.ensures)

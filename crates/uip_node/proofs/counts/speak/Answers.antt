@@ -1,4 +1,4 @@
--- The counters stand for the longer past.
+-- The counters represent the longer history.
 use Rattle.std.proofs.Common.{ℕ, ap, ◌∙◌}
 use Rattle.uip_node.specs.Counted.{again_place}
 use Rattle.uip_node.specs.Events.Answer.{Spoke}
@@ -7,6 +7,6 @@ use Rattle.uip_node.proofs.Twice.{second, speaks}
 use Rattle.uip_node.proofs.counts.speak.Goals as goal
 
 pub returns : goal.returns
-returns c = λ past event h.
-    second event (Spoke c.args.again) past 1 15 (again_place c.args.again) c.args.net.now c.raised.result (speaks c.args.again event) h
+returns c = λ history event h.
+    second event (Spoke c.args.again) history 1 15 (again_place c.args.again) c.args.net.now c.raised.result (speaks c.args.again event) h
     (c.raised.ensures ∙ ap (λ (p : ℕ). raise (marks 1 15 p) c.args.net.now) c.again_place.ensures)

@@ -2,51 +2,51 @@
 use Rattle.std.proofs.Common.{ap, sym, ◌∙◌, length, length-set, subst}
 use Rattle.tcp_table.specs.Connections.{Connections}
 use Rattle.tcp_machine.proofs.Saying.{open_lives}
-use Rattle.tcp_machine.specs.Ask.{ask}
+use Rattle.tcp_machine.specs.Ask.{ask_prepared}
 use Rattle.tcp_machine.specs.Fits.{StepFits}
 use Rattle.uip_node.specs.Slots.{AllSound, OthersRest}
-use Rattle.uip_node.proofs.Naming.{ask_same, live_named, named_after}
+use Rattle.uip_node.proofs.Naming.{asked_same, live_named, named_after}
 use Rattle.uip_node.proofs.Places.{is_in_after, meets_viewed}
 use Rattle.uip_node.proofs.Settling.{kept_after, rests_of}
 use Rattle.uip_node.proofs.Tables.{at_inside, at_viewed, table_keeps}
 use Rattle.uip_node.proofs.deliver.ask_in.Goals as goal
 
-pub ask-requires-clause-asked : goal.ask-requires-clause-asked
-ask-requires-clause-asked g c =
+pub ask_prepared-requires-clause-asked : goal.ask_prepared-requires-clause-asked
+ask_prepared-requires-clause-asked g c =
     c.requires.asked c.index_mut-conn.result.now (at_viewed _ _ c.args.slot c.index_mut-conn.result.now c.table.view_is c.requires.within c.index_mut-conn.ensures.value)
 
-pub ask-requires-clause-sound : goal.ask-requires-clause-sound
-ask-requires-clause-sound g c =
+pub ask_prepared-requires-clause-sound : goal.ask_prepared-requires-clause-sound
+ask_prepared-requires-clause-sound g c =
     c.requires.sound c.args.slot c.index_mut-conn.result.now (at_viewed _ _ c.args.slot c.index_mut-conn.result.now c.table.view_is c.requires.within c.index_mut-conn.ensures.value)
 
 pub invariant_of-table : goal.invariant_of-table
 invariant_of-table g c =
     let at = at_viewed _ _ c.args.slot c.index_mut-conn.result.now c.table.view_is c.requires.within c.index_mut-conn.ensures.value in
-    table_keeps c.table.inside.conns.items c.args.slot c.index_mut-conn.result.now c.ask.new.conn c.table.invariant
+    table_keeps c.table.inside.conns.items c.args.slot c.index_mut-conn.result.now c.ask_prepared.new.conn c.table.invariant
     (at_inside _ _ c.args.slot c.index_mut-conn.result.now c.table.view_is c.requires.within c.index_mut-conn.ensures.value)
-    (open_lives c.index_mut-conn.result.now.state (c.requires.asked _ at).open_to_it) c.ask.ensures.takes.place
+    (open_lives c.index_mut-conn.result.now.state (c.requires.asked _ at).open_to_it) c.ask_prepared.ensures.takes.place
 
 pub returns-clause-kept : goal.returns-clause-kept
 returns-clause-kept g c =
-    let k = g.A.App.kept c.args.shared.now in
-    kept_after g.A.App k c.table.inside.conns.items c.args.slot c.ask.new.conn
+    let k = g.A.App.config c.args.shared.now in
+    kept_after g.A.App k c.table.inside.conns.items c.args.slot c.ask_prepared.new.conn
     (subst (λ (t : Connections g.row.A.Denot). AllSound g.A.App k t.conns) (sym c.table.view_is) c.requires.sound)
     (subst (λ (t : Connections g.row.A.Denot). OthersRest c.args.slot t.conns) (sym c.table.view_is) c.requires.others)
-    (record { sound = c.ask.ensures.takes.sound; busy = rests_of c.ask.new.conn c.ask.result c.ask.ensures.answer c.ask.ensures.fits })
+    (record { sound = c.ask_prepared.ensures.takes.sound; busy = rests_of c.ask_prepared.new.conn c.ask_prepared.result c.ask_prepared.ensures.answer c.ask_prepared.ensures.fits })
 
 pub returns-clause-text : goal.returns-clause-text
-returns-clause-text g c = is_in_after (λ d. StepFits d c.ask.result) c.table.inside.conns.items c.args.slot c.ask.new.conn c.ask.ensures.fits
+returns-clause-text g c = is_in_after (λ d. StepFits d c.ask_prepared.result) c.table.inside.conns.items c.args.slot c.ask_prepared.new.conn c.ask_prepared.ensures.fits
 
 pub returns-clause-meets : goal.returns-clause-meets
 returns-clause-meets g c =
-    let k = g.A.App.kept c.args.shared.now in
+    let k = g.A.App.config c.args.shared.now in
     let at = at_viewed _ _ c.args.slot c.index_mut-conn.result.now c.table.view_is c.requires.within c.index_mut-conn.ensures.value in
-    meets_viewed g.A.App k _ c.args.table.now c.args.slot c.index_mut-conn.result.now c.ask.new.conn (g.A.App.numbers c.args.shared.now) c.ask.result
-    (λ a. ask (g.A.App.meaning k) c.args.now.now c.args.fresh a (g.A.App.numbers c.args.shared.now)) c.table.view_is at c.ask.ensures.takes.meets
-    (λ a stands speaks. named_after c.index_mut-conn.result.now c.ask.new.conn a _
+    meets_viewed g.A.App k _ c.args.table.now c.args.slot c.index_mut-conn.result.now c.ask_prepared.new.conn (g.A.App.numbers c.args.shared.now) c.ask_prepared.result
+    (λ a. ask_prepared (g.A.App.app_spec k) c.args.fresh a (g.A.App.numbers c.args.shared.now)) c.table.view_is at c.ask_prepared.ensures.takes.meets
+    (λ a stands speaks. named_after c.index_mut-conn.result.now c.ask_prepared.new.conn a _
     (live_named g.A.App k c.index_mut-conn.result.now a stands (open_lives c.index_mut-conn.result.now.state (c.requires.asked _ at).open_to_it))
-    c.ask.ensures.takes.place c.ask.ensures.same_numbers (ask_same (g.A.App.meaning k) c.args.now.now c.args.fresh a (g.A.App.numbers c.args.shared.now)))
+    c.ask_prepared.ensures.takes.place c.ask_prepared.ensures.same_numbers (asked_same (g.A.App.app_spec k) c.args.fresh a (g.A.App.numbers c.args.shared.now)))
 
 pub returns-clause-long : goal.returns-clause-long
 returns-clause-long g c =
-    length-set c.table.inside.conns.items c.args.slot c.ask.new.conn ∙ ap (λ (t : Connections g.row.A.Denot). length t.conns) c.table.view_is
+    length-set c.table.inside.conns.items c.args.slot c.ask_prepared.new.conn ∙ ap (λ (t : Connections g.row.A.Denot). length t.conns) c.table.view_is

@@ -2,7 +2,7 @@
 use Rattle.std.proofs.Common.{ap, sym, ◌∙◌}
 use Rattle.app_events.specs.States.{is_live}
 use Rattle.tcp_machine.specs.OnSegment.{on_segment}
-use Rattle.tcp_machine.specs.Stands.{plain}
+use Rattle.tcp_machine.specs.Represents.{plain}
 use Rattle.uip_node.proofs.Naming.{segment_named}
 use Rattle.uip_node.proofs.Places.{meets_viewed, took_step}
 use Rattle.uip_node.proofs.Tables.{at_inside, at_viewed, table_keeps}
@@ -20,13 +20,13 @@ invariant_of-table g c =
 
 pub returns-clause-took : goal.returns-clause-took
 returns-clause-took g c =
-    took_step g.A.App (g.A.App.kept c.args.shared.now) _ c.args.table.now c.args.slot c.index_mut-conn.result.now c.on_segment.new.conn c.on_segment.result c.table.view_is
+    took_step g.A.App (g.A.App.config c.args.shared.now) _ c.args.table.now c.args.slot c.index_mut-conn.result.now c.on_segment.new.conn c.on_segment.result c.table.view_is
     (at_viewed _ _ c.args.slot c.index_mut-conn.result.now c.table.view_is c.requires.within c.index_mut-conn.ensures.value) c.requires.kept c.on_segment.ensures.sound c.on_segment.ensures.fits
 
 pub returns-clause-meets : goal.returns-clause-meets
 returns-clause-meets g c =
-    let k = g.A.App.kept c.args.shared.now in
-    let m = g.A.App.meaning k in
+    let k = g.A.App.config c.args.shared.now in
+    let m = g.A.App.app_spec k in
     let seg = plain c.args.seg.now c.args.piece.now in
     let at = at_viewed _ _ c.args.slot c.index_mut-conn.result.now c.table.view_is c.requires.within c.index_mut-conn.ensures.value in
     meets_viewed g.A.App k _ c.args.table.now c.args.slot c.index_mut-conn.result.now c.on_segment.new.conn (g.A.App.numbers c.on_segment.new.shared) c.on_segment.result

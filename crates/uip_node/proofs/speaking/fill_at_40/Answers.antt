@@ -2,7 +2,7 @@
 use Rattle.std.proofs.Common.{ℕ, ◌≡◌, ◌+◌, ◌-◌, ◌≤◌, List, ◌++◌, take, drop, length, slice_range, sym, ap, ◌∙◌, subst, arith, length-take, length-drop}
 use Rattle.std.proofs.lemmas.List.{drop_at, length-take-le}
 use Rattle.std.proofs.Math.Seq.{take-append_seam}
-use Rattle.app_events.specs.Part.{CanSay, text_left}
+use Rattle.app_events.specs.AppSpec.{CanSay, text_left}
 use borrow.Rule.Slice.PartMut.{post_of, put_mid}
 use Rattle.uip_node.proofs.speaking.fill_at_40.Goals as goal
 
@@ -18,11 +18,11 @@ put area text len fits long =
 
 pub fill-requires : goal.fill-requires
 fill-requires g c =
-    subst (λ (n : ℕ). CanSay g.A.App.meaning g.A.App.stands_for c.args.app.now (g.A.App.kept c.args.shared.now) n) (sym (cut c.args.area.now c.args.len c.requires.fits)) c.requires.says
+    subst (λ (n : ℕ). CanSay g.A.App.app_spec g.A.App.represents c.args.app.now (g.A.App.config c.args.shared.now) n) (sym (cut c.args.area.now c.args.len c.requires.fits)) c.requires.says
 
 pub returns-clause-text : goal.returns-clause-text
 returns-clause-text g c = λ p s.
     let long = cut c.args.area.now c.args.len c.requires.fits in
-    let said = c.fill.ensures p s in
+    let output = c.fill.ensures p s in
     put c.args.area.now c.fill.new.out c.args.len c.requires.fits (omega (arith, long, c.fill.auto.out))
-    ∙ said ∙ ap (λ (n : ℕ). take n (text_left (g.A.App.meaning (g.A.App.kept c.args.shared.now)) p)) long
+    ∙ output ∙ ap (λ (n : ℕ). take n (text_left (g.A.App.app_spec (g.A.App.config c.args.shared.now)) p)) long

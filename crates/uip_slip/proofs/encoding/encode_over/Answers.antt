@@ -1,6 +1,6 @@
 use Rattle.std.proofs.Common.{◌≡◌, ◌++◌, ◌∷◌, [], ◌∙◌, refl, sym, ap, arith, length, append-nil, length-append}
 use Rattle.uip_slip.specs.Text.{escaped, slip_text}
-use Rattle.uip_edge.specs.Telling.{sink_told}
+use Rattle.uip_edge.specs.ViewsOf.{sink_view}
 use Rattle.uip_edge.proofs.Told.{Appends-none, Appends-then, appends_by}
 use Rattle.uip_edge.proofs.Writes.{writes_broken, writes_by, writes_then}
 use Rattle.uip_slip.proofs.TextLaws.{gathered, text_parts, split_pieces, whole_text, escaped-bound}
@@ -12,20 +12,20 @@ returns-in_err-write_whole g c =
     let part = c.split_at.result.0.now in
     let others = c.split_at.result.1.now in
     let text = c.put_escaped.new.self in
-    let pieces = split_pieces c.args.datagram.now inv.front c.loop-rest.rest.now part others 1500 inv.pieces c.split_at.ensures.front c.split_at.ensures.back in
-    let made : inv.sent ++ text ≡ 192 ∷ escaped (inv.front ++ part) = gathered inv.sent c.loop-rest.text text inv.front part inv.made c.put_escaped.ensures in
+    let pieces = split_pieces c.args.datagram.now inv.prefix c.loop-rest.rest.now part others 1500 inv.pieces c.split_at.ensures.front c.split_at.ensures.back in
+    let made : inv.sent ++ text ≡ 192 ∷ escaped (inv.prefix ++ part) = gathered inv.sent c.loop-rest.text text inv.prefix part inv.made c.put_escaped.ensures in
     let whole : (inv.sent ++ text) ++ (escaped others ++ 192 ∷ []) ≡ slip_text c.args.datagram.now =
-    ap (λ l. l ++ (escaped others ++ 192 ∷ [])) made ∙ text_parts c.args.datagram.now inv.front part others pieces in
-    writes_broken _ c.from_residual.ensures.0 c.in_err-write_whole.field-0.0 (sink_told g.K.Sink c.args.sink.now) (sink_told g.K.Sink c.loop-rest.sink)
-    (sink_told g.K.Sink c.write_whole.new.self) inv.sent text (escaped others ++ 192 ∷ []) (slip_text c.args.datagram.now) whole inv.written inv.same
-    (writes_by _ (sink_told g.K.Sink c.loop-rest.sink) (sink_told g.K.Sink c.write_whole.new.self) c.bytes.result.now text (sym c.bytes.ensures)
+    ap (λ l. l ++ (escaped others ++ 192 ∷ [])) made ∙ text_parts c.args.datagram.now inv.prefix part others pieces in
+    writes_broken _ c.from_residual.ensures.0 c.in_err-write_whole.field-0.0 (sink_view g.K.Sink c.args.sink.now) (sink_view g.K.Sink c.loop-rest.sink)
+    (sink_view g.K.Sink c.write_whole.new.self) inv.sent text (escaped others ++ 192 ∷ []) (slip_text c.args.datagram.now) whole inv.written inv.same
+    (writes_by _ (sink_view g.K.Sink c.loop-rest.sink) (sink_view g.K.Sink c.write_whole.new.self) c.bytes.result.now text (sym c.bytes.ensures)
     c.in_err-write_whole.ensures)
 
 pub loop-rest-init : goal.loop-rest-init
 loop-rest-init g c =
     let made : c.push.new.self ≡ 192 ∷ [] = c.push.ensures ∙ ap (λ l. l ++ 192 ∷ []) c.clear.ensures in
     record {
-      front = [];
+      prefix = [];
       sent = [];
       pieces = refl;
       made = made;
@@ -41,11 +41,11 @@ loop-rest-preserved g c =
     let text = c.put_escaped.new.self in
     let told = c.in_ok-write_whole.ensures in
     record {
-      front = inv.front ++ part;
+      prefix = inv.prefix ++ part;
       sent = inv.sent ++ text;
-      pieces = split_pieces c.args.datagram.now inv.front c.loop-rest.rest.now part c.split_at.result.1.now 1500 inv.pieces c.split_at.ensures.front c.split_at.ensures.back;
+      pieces = split_pieces c.args.datagram.now inv.prefix c.loop-rest.rest.now part c.split_at.result.1.now 1500 inv.pieces c.split_at.ensures.front c.split_at.ensures.back;
       made = ap (λ l. (inv.sent ++ text) ++ l) c.clear-in-loop-rest.ensures ∙ append-nil (inv.sent ++ text)
-          ∙ gathered inv.sent c.loop-rest.text text inv.front part inv.made c.put_escaped.ensures;
+          ∙ gathered inv.sent c.loop-rest.text text inv.prefix part inv.made c.put_escaped.ensures;
       room = (let none : length c.clear-in-loop-rest.new.self ≡ 0 = ap (λ l. length l) c.clear-in-loop-rest.ensures in omega (arith, none));
       written = Appends-then _ _ _ inv.sent text inv.written (appends_by _ _ _ text (sym c.bytes.ensures) told.whole);
       same = told.cause.same ∙ inv.same;
@@ -61,8 +61,8 @@ pub returns : goal.returns
 returns g c =
     let inv = c.loop-rest.invariant in
     let full = c.push-2.new.self in
-    let whole = whole_text c.args.datagram.now inv.sent c.loop-rest.text c.put_escaped-2.new.self full inv.front c.loop-rest.rest.now inv.made
+    let whole = whole_text c.args.datagram.now inv.sent c.loop-rest.text c.put_escaped-2.new.self full inv.prefix c.loop-rest.rest.now inv.made
     c.put_escaped-2.ensures c.push-2.ensures inv.pieces in
     writes_by _ _ _ (inv.sent ++ full) _ (sym whole)
-    (writes_then _ (sink_told g.K.Sink c.args.sink.now) (sink_told g.K.Sink c.loop-rest.sink) (sink_told g.K.Sink c.write_whole-2.new.self) inv.sent full inv.written inv.same
+    (writes_then _ (sink_view g.K.Sink c.args.sink.now) (sink_view g.K.Sink c.loop-rest.sink) (sink_view g.K.Sink c.write_whole-2.new.self) inv.sent full inv.written inv.same
     (writes_by _ _ _ c.bytes-2.result.now full (sym c.bytes-2.ensures) c.write_whole-2.ensures))

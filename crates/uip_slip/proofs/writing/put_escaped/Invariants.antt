@@ -4,9 +4,9 @@ use Rattle.uip_slip.proofs.writing.put_escaped.Given as goal
 
 abbrev pub invariant-loop-rest : goal.invariant-loop-rest
 invariant-loop-rest l = record {
-  front : List ℕ;
-  pieces : l.piece ≡ front ++ l.rest;
-  made : take l.end l.out ≡ take l.len l.fn.out ++ escaped front;
+  prefix : List ℕ;
+  pieces : l.piece ≡ prefix ++ l.rest;
+  made : take l.end l.out ≡ take l.len l.fn.out ++ escaped prefix;
   long : length l.out ≡ length l.fn.out;
   bound : l.end + 2 * length l.rest ≤ l.len + 2 * length l.piece;
 }

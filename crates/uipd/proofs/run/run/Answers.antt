@@ -1,3 +1,4 @@
+-- [add: command] The arm of a command.
 use Rattle.uipd.proofs.NeverLaws.{replay_never, serving_never, site_never}
 use Rattle.uipd.proofs.run.run.Goals as goal
 

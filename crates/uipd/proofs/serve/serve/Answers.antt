@@ -1,6 +1,6 @@
 use Rattle.std.proofs.Common.{refl, inl, inr}
 use Rattle.file_tree.specs.Site.{files_of}
-use Rattle.uip_edge.specs.Telling.{shelf_told}
+use Rattle.uip_edge.specs.ViewsOf.{shelf_view}
 use Rattle.uip_edge.proofs.Told.{same_shelf}
 use Rattle.uipd.proofs.serve.serve.Goals as goal
 
@@ -9,7 +9,7 @@ returns-in-Ok-clause-runs g c =
     inl (record {
       files = files_of c.in-Ok.site;
       read = c.in-Ok.ensures.opens.0;
-      shelf = same_shelf (shelf_told g.H.Shelf c.args.shelf.now) (shelf_told g.H.Shelf c.open.new.shelf) c.in-Ok.ensures.kept c.in-Ok.ensures.opens.1;
+      shelf = same_shelf (shelf_view g.H.Shelf c.args.shelf.now) (shelf_view g.H.Shelf c.open.new.shelf) c.in-Ok.ensures.kept c.in-Ok.ensures.opens.1;
       done = c.serve_site.ensures;
     })
 

@@ -1,3 +1,4 @@
+-- [add: command] Words of a command: a folder for each function that reads them, as this one.
 use Rattle.std.proofs.Common.{◌∙◌, string_bytes}
 use Rattle.std.specs.Prelude.{codes}
 use Rattle.uipd.specs.Words.{limits_at}

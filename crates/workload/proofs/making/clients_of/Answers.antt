@@ -9,8 +9,8 @@ pub loop-place-preserved : goal.loop-place-preserved
 loop-place-preserved c =
     let place = c.loop-place.place in
     let plan = c.in_ok-plan.plan in
-    let front = c.loop-place.plans.items in
-    let items : c.push.new.self.items ≡ front ++ plan ∷ [] = search (rules, tests) in
+    let prefix = c.loop-place.plans.items in
+    let items : c.push.new.self.items ≡ prefix ++ plan ∷ [] = search (rules, tests) in
     items
     ∙ ap (λ (l : List Plan). l ++ plan ∷ []) c.loop-place.invariant
     ∙ ap (λ (p : Plan). map client_of (range_with_len 1 place) ++ p ∷ []) c.in_ok-plan.ensures

@@ -1,15 +1,16 @@
-use Rattle.std.proofs.Common.{◌+◌, sym, subst}
-use Rattle.app_events.specs.Part.{CanSay}
+use Rattle.std.proofs.Common.{ap, ◌+◌, sym, subst}
+use Rattle.app_events.specs.AppSpec.{CanSay}
 use Rattle.file_tree.specs.Site.{SiteContent, files_of}
-use Rattle.web_pages.specs.WebMeaning.{web_meaning}
-use Rattle.httpd.specs.HttpdStands.{HttpdStands}
+use Rattle.web_pages.specs.WebMeaning.{web_spec}
+use Rattle.httpd.specs.Web.{WebContent}
+use Rattle.httpd.specs.HttpdRepresents.{HttpdRepresents}
 use Rattle.httpd.proofs.httpd.HttpdApp.acked.Goals as goal
 
 pub pass-requires : goal.pass-requires
 pass-requires c =
-    subst (λ (site : SiteContent). CanSay (λ site. web_meaning (files_of site)) HttpdStands c.args.self.now site c.args.count) (sym c.tree.ensures) c.requires
+    subst (λ (site : SiteContent). CanSay (λ site. web_spec (files_of site)) HttpdRepresents c.args.self.now site c.args.count) (sym (ap (λ (w : WebContent). w.site) c.shared.view_is)) c.requires
 
 pub returns-clause-part : goal.returns-clause-part
 returns-clause-part c = λ p s.
-    subst (λ (site : SiteContent). HttpdStands c.pass.new.self site (record p { acked = p.acked + c.args.count; polls = 0 })) c.tree.ensures
-    (c.pass.ensures p (subst (λ (site : SiteContent). HttpdStands c.args.self.now site p) (sym c.tree.ensures) s))
+    subst (λ (site : SiteContent). HttpdRepresents c.pass.new.self site (record p { acked = p.acked + c.args.count; polls = 0 })) (ap (λ (w : WebContent). w.site) c.shared.view_is)
+    (c.pass.ensures p (subst (λ (site : SiteContent). HttpdRepresents c.args.self.now site p) (sym (ap (λ (w : WebContent). w.site) c.shared.view_is)) s))

@@ -1,17 +1,17 @@
 use Rattle.std.proofs.Common.{ℕ, List, [], ◌++◌, append-nil, ap, sym, subst, ◌∙◌}
-use Rattle.app_events.specs.Part.{HasPart}
+use Rattle.app_events.specs.AppSpec.{IsRepresented}
 use Rattle.file_tree.specs.Site.{SiteContent, files_of}
-use Rattle.web_pages.specs.WebMeaning.{web_meaning}
+use Rattle.web_pages.specs.WebMeaning.{web_spec}
 use Rattle.httpd.specs.Web.{WebContent}
-use Rattle.httpd.specs.HttpdStands.{HttpdStands}
+use Rattle.httpd.specs.HttpdRepresents.{HttpdRepresents}
 use Rattle.httpd.proofs.httpd.HttpdApp.prepare.Goals as goal
 
 pub prepare_at-requires-clause-part : goal.prepare_at-requires-clause-part
-prepare_at-requires-clause-part c = subst (λ (site : SiteContent). HasPart HttpdStands c.args.self.now site) (sym c.tree.ensures) c.requires
+prepare_at-requires-clause-part c = subst (λ (site : SiteContent). IsRepresented HttpdRepresents c.args.self.now site) (sym (ap (λ (w : WebContent). w.site) c.shared.view_is)) c.requires
 
 pub returns : goal.returns
 returns c = λ p s.
     let hits = append-nil c.deref.result.now ∙ c.deref.ensures.value ∙ ap (λ (w : WebContent). w.hits) c.shared.view_is in
-    subst (λ (numbers : List ℕ). HttpdStands c.prepare_at.new.self c.args.shared.now.site ((web_meaning (files_of c.args.shared.now.site)).prepare numbers p c.args.now.now)) hits
-    (subst (λ (site : SiteContent). HttpdStands c.prepare_at.new.self site ((web_meaning (files_of site)).prepare (c.deref.result.now ++ []) p c.args.now.now)) c.tree.ensures
-    (c.prepare_at.ensures p (subst (λ (site : SiteContent). HttpdStands c.args.self.now site p) (sym c.tree.ensures) s)))
+    subst (λ (numbers : List ℕ). HttpdRepresents c.prepare_at.new.self c.args.shared.now.site ((web_spec (files_of c.args.shared.now.site)).prepare numbers p c.args.now.now)) hits
+    (subst (λ (site : SiteContent). HttpdRepresents c.prepare_at.new.self site ((web_spec (files_of site)).prepare (c.deref.result.now ++ []) p c.args.now.now)) (ap (λ (w : WebContent). w.site) c.shared.view_is)
+    (c.prepare_at.ensures p (subst (λ (site : SiteContent). HttpdRepresents c.args.self.now site p) (sym (ap (λ (w : WebContent). w.site) c.shared.view_is)) s)))

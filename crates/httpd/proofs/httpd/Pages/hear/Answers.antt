@@ -5,18 +5,18 @@ use Rattle.httpd.proofs.httpd.Pages.hear.Goals as goal
 
 pub returns-in-Method-clause-part : goal.returns-in-Method-clause-part
 returns-in-Method-clause-part g c = λ p s.
-    let heard = method_heard (gives g.R.Function.Calls.calling g.R.Record.said) g.R.Record.text c.args.self.now c.args.site.now p c.in-Method.is s in
-    heard_stands (gives g.R.Function.Calls.calling g.R.Record.said) g.R.Record.text c.args.self.now _ c.args.site.now p c.args.piece.now heard.1 refl refl
-    (c.decide-self.ensures.stage (p.heard ++ c.args.piece.now) (c.hear_method-heard.ensures p.heard heard.0))
+    let delivered = method_heard (gives g.R.Function.Calls.calling g.R.Record.output) g.R.Record.text c.args.self.now c.args.site.now p c.in-Method.is s in
+    heard_stands (gives g.R.Function.Calls.calling g.R.Record.output) g.R.Record.text c.args.self.now _ c.args.site.now p c.args.piece.now delivered.1 refl refl
+    (c.decide-self.ensures.stage (p.delivered ++ c.args.piece.now) (c.hear_method-delivered.ensures p.delivered delivered.0))
 
 pub returns-in-Target-clause-part : goal.returns-in-Target-clause-part
 returns-in-Target-clause-part g c = λ p s.
-    let heard = target_heard (gives g.R.Function.Calls.calling g.R.Record.said) g.R.Record.text c.args.self.now c.args.site.now p c.in-Target.is s in
-    heard_stands (gives g.R.Function.Calls.calling g.R.Record.said) g.R.Record.text c.args.self.now _ c.args.site.now p c.args.piece.now heard.1 refl refl
-    (c.decide-self-in-Target.ensures.stage (p.heard ++ c.args.piece.now) (c.hear_target-heard.ensures p.heard heard.0))
+    let delivered = target_heard (gives g.R.Function.Calls.calling g.R.Record.output) g.R.Record.text c.args.self.now c.args.site.now p c.in-Target.is s in
+    heard_stands (gives g.R.Function.Calls.calling g.R.Record.output) g.R.Record.text c.args.self.now _ c.args.site.now p c.args.piece.now delivered.1 refl refl
+    (c.decide-self-in-Target.ensures.stage (p.delivered ++ c.args.piece.now) (c.hear_target-delivered.ensures p.delivered delivered.0))
 
 pub returns-in-Reply-clause-part : goal.returns-in-Reply-clause-part
-returns-in-Reply-clause-part g c = λ p s. reply_stays (gives g.R.Function.Calls.calling g.R.Record.said) g.R.Record.text c.args.self.now c.args.site.now p c.args.piece.now c.in-Reply.found c.in-Reply.is s
+returns-in-Reply-clause-part g c = λ p s. reply_stays (gives g.R.Function.Calls.calling g.R.Record.output) g.R.Record.text c.args.self.now c.args.site.now p c.args.piece.now c.in-Reply.found c.in-Reply.is s
 
 pub returns-in-Refused-clause-part : goal.returns-in-Refused-clause-part
-returns-in-Refused-clause-part g c = λ p s. refused_stays (gives g.R.Function.Calls.calling g.R.Record.said) g.R.Record.text c.args.self.now c.args.site.now p c.args.piece.now c.in-Refused.is s
+returns-in-Refused-clause-part g c = λ p s. refused_stays (gives g.R.Function.Calls.calling g.R.Record.output) g.R.Record.text c.args.self.now c.args.site.now p c.args.piece.now c.in-Refused.is s

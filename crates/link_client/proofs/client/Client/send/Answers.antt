@@ -1,14 +1,14 @@
--- The datagram is put over its text, and behind it the area stays.
+-- The datagram is written around its text, and the area after it is unchanged.
 use Rattle.std.proofs.Common.{◌≡◌, ℕ, ◌+◌, ◌-◌, ◌*◌, ◌≤◌, List, ◌++◌, length, drop, IsSome, Option, Some, None, refl, sym, ap, ◌∙◌, arith, length-append, length-drop}
 use Rattle.std.proofs.lemmas.List.{drop-drop, drop_at}
 use Rattle.tcp_segment.specs.Segments.{offset_of}
 use Rattle.link_client.proofs.client.Client.send.Goals as goal
 
--- what was put in front stays in front
-behind_front : (front area new : List ℕ) (n : ℕ) → n ≤ length area → new ≡ front ++ drop n area → length new ≡ length area → drop n new ≡ drop n area
-behind_front front area new n fits is same =
-    let long : length front ≡ n = omega (arith, fits, same, ap (λ (l : List ℕ). length l) is, length-append front (drop n area), length-drop n area) in
-    ap (drop n) is ∙ drop_at front (drop n area) n long
+-- what was written at the start stays there
+after_front : (prefix area new : List ℕ) (n : ℕ) → n ≤ length area → new ≡ prefix ++ drop n area → length new ≡ length area → drop n new ≡ drop n area
+after_front prefix area new n fits is same =
+    let long : length prefix ≡ n = omega (arith, fits, same, ap (λ (l : List ℕ). length l) is, length-append prefix (drop n area), length-drop n area) in
+    ap (drop n) is ∙ drop_at prefix (drop n area) n long
 
 further : (k m : ℕ) (xs ys : List ℕ) → k ≤ m → drop k xs ≡ drop k ys → drop m xs ≡ drop m ys
 further k m xs ys le same =
@@ -30,7 +30,7 @@ returns-clause-behind c =
     let area : List ℕ = c.put_text.new.area in
     let new : List ℕ = c.put_in.new.area in
     let fits : n ≤ length area = omega (arith, at_most c.args.heading.mss len c.requires.fits c.requires.no_text, c.requires.room, c.put_text.auto.area) in
-    let kept : drop n new ≡ drop n area = behind_front _ area new n fits c.put_in.ensures.written c.put_in.auto.area in
+    let kept : drop n new ≡ drop n area = after_front _ area new n fits c.put_in.ensures.written c.put_in.auto.area in
     let whole : drop n new ≡ drop n c.args.area.now
     = kept ∙ further (40 + len) n area c.args.area.now (at_least c.args.heading.mss len) c.put_text.ensures.behind in
     ap (λ i. drop i new) c.put_in.ensures.length ∙ whole ∙ ap (λ i. drop i c.args.area.now) (sym c.put_in.ensures.length)

@@ -1,6 +1,6 @@
 -- The text is taken, and an answer goes out.
 use Rattle.std.proofs.Common.{◌++◌, true, sym, ap, ◌∙◌, subst}
-use Rattle.tcp_machine.specs.Stands.{plain}
+use Rattle.tcp_machine.specs.Represents.{plain}
 use Rattle.link_client.specs.Calls.{Did, received_with, standing}
 use Rattle.link_client.specs.Client.{ClientStep, sends_next, takes_in_order}
 use Rattle.link_client.specs.declared.steps.Heard.{Heard}
@@ -16,7 +16,7 @@ returns-then-is_next-clause-step c = λ received.
     let taken =
     takes_next (standing c.args.self.now request received) (plain c.args.segment.now piece)
     (sym c.has_syn.ensures ∙ c.if-has_syn.false)
-    (sym c.has_place.ensures ∙ c.if-not-has_place.false)
+    (sym c.occupies_sequence_space.ensures ∙ c.if-not-occupies_sequence_space.false)
     (sym c.is_next.ensures ∙ c.if-is_next.true)
     ∙ ap (sends_next true) (c.take_text.ensures.taken request received) in
     subst (λ (h : Heard). Did (takes_in_order (standing c.args.self.now request received) (plain c.args.segment.now piece)) (standing client request (received_with h.took_text received piece)) h.sent area) (sym c.with_text.ensures)

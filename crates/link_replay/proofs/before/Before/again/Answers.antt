@@ -8,5 +8,5 @@ use Rattle.link_replay.proofs.before.Before.again.Goals as goal
 pub returns : goal.returns
 returns g c = rw (← c.node.view_is) (λ m served n event before stands.
     ap (λ (x : ℕ). not (nat_eq x c.resent_of.result)) before.resent
-    ∙ ap (λ (x : ℕ). not (nat_eq (resent n.past) x)) (c.resent_of.ensures (step m served n event).node.past stands.counts.net)
+    ∙ ap (λ (x : ℕ). not (nat_eq (resent n.history) x)) (c.resent_of.ensures (step m served n event).node.history stands.counts.net)
     ∙ resent_differs m served n event)

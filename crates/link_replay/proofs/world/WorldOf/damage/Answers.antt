@@ -9,7 +9,7 @@ use Rattle.link_world.proofs.Doing.{damaged}
 use Rattle.link_world.specs.Bytes.{sent_bytes, changed}
 use Rattle.link_world.specs.World.{World, Sent}
 use Rattle.link_world.specs.declared.who.Who.{Who}
-use Rattle.link_replay.specs.Stands.{SentStands, WorldStands}
+use Rattle.link_replay.specs.Represents.{SentRepresents, WorldRepresents}
 use Rattle.link_replay.specs.Plain.{CodeSent}
 use Rattle.link_replay.specs.State.{link_of}
 use Rattle.link_replay.specs.Telling.{AnswersTo}
@@ -33,20 +33,20 @@ hand-requires g c = record {
 pub returns-then-place-eq0-clause-damaged : goal.returns-then-place-eq0-clause-damaged
 returns-then-place-eq0-clause-damaged g c = λ w h f s.
     let a = g.A.App in
-    let t = subst (λ x. WorldStands a x w) (sym c.self.view_is) s in
+    let t = subst (λ x. WorldRepresents a x w) (sym c.self.view_is) s in
     let many : length c.self.inside.sent.items ≡ length w.sent = t.link.sent.same_length in
     let out : (c.args.number ≡ 0) ⊎ (length w.sent < c.args.number) = grind (arith, common_steps) in
-    subst (λ (x : Option Sent). WorldStands a c.args.self.now (damaged (a.meaning (a.kept c.args.self.now.node.shared)) a.served w c.args.at c.args.mask x)) (sym (none_numbered w.sent c.args.number out)) s
+    subst (λ (x : Option Sent). WorldRepresents a c.args.self.now (damaged (a.app_spec (a.config c.args.self.now.node.shared)) a.served w c.args.at c.args.mask x)) (sym (none_numbered w.sent c.args.number out)) s
 
 pub returns-clause-damaged : goal.returns-clause-damaged
 returns-clause-damaged g c = λ w h f s.
     let a = g.A.App in
-    let t = subst (λ x. WorldStands a x w) (sym c.self.view_is) s in
-    let m = a.meaning (a.kept c.args.self.now.node.shared) in
+    let t = subst (λ x. WorldRepresents a x w) (sym c.self.view_is) s in
+    let m = a.app_spec (a.config c.args.self.now.node.shared) in
     let p = sent_there (link_of c.self.inside.sides.items c.self.inside.sent.items) w c.args.number c.index-sent.result.now (omega arith) c.index-sent.ensures (omega arith) t.link in
     let e : Sent = p.other in
-    let shown : SentStands w (record { who = c.sent.inside.who; tick = c.sent.inside.tick; epoch = c.sent.inside.epoch; again = c.sent.inside.again; bytes = c.sent.inside.bytes.items }) e
-    = subst (λ (x : CodeSent). SentStands w x e) (sym c.sent.view_is) p.pair in
+    let shown : SentRepresents w (record { who = c.sent.inside.who; tick = c.sent.inside.tick; epoch = c.sent.inside.epoch; again = c.sent.inside.again; bytes = c.sent.inside.bytes.items }) e
+    = subst (λ (x : CodeSent). SentRepresents w x e) (sym c.sent.view_is) p.pair in
     let items : c.in-Ok.bytes.items ≡ c.as_slice.result.now = search (rules, tests) in
     let old : c.as_mut_slice.result.now ≡ sent_bytes w e = c.as_mut_slice.ensures.value ∙ items ∙ c.as_slice.ensures.value ∙ shown.bytes in
     let whole = area_is c.change.new.bytes c.in-Ok.bytes.items c.in-Ok.bytes.len (c.change.auto.bytes ∙ ap length c.as_mut_slice.ensures.value) (sym c.as_mut_slice.ensures.len ∙ ap length c.as_mut_slice.ensures.value) in
@@ -63,4 +63,4 @@ returns-clause-damaged g c = λ w h f s.
     = ap (λ (b : List ℕ). hands_over m a.served w b c.sent.inside.who) bytes
     ∙ ap (λ (who : Who). hands_over m a.served w (changed (sent_bytes w e) c.args.at c.args.mask) who) shown.who
     ∙ sym (ap (λ (x : Option Sent). damaged m a.served w c.args.at c.args.mask x) p.there) in
-    subst (λ (u : World). WorldStands a c.hand.new.self u) same (c.in_ok-hand.ensures.handed w s answers)
+    subst (λ (u : World). WorldRepresents a c.hand.new.self u) same (c.in_ok-hand.ensures.handed w s answers)

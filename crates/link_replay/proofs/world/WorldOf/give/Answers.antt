@@ -10,7 +10,7 @@ use Rattle.link_world.specs.declared.act.Act.{Act}
 use Rattle.link_world.specs.Bytes.{sent_bytes}
 use Rattle.link_world.specs.World.{World, Sent, delivers, numbered}
 use Rattle.link_world.specs.declared.who.Who.{Who}
-use Rattle.link_replay.specs.Stands.{LinkStands, SentStands, WorldStands}
+use Rattle.link_replay.specs.Represents.{LinkRepresents, SentRepresents, WorldRepresents}
 use Rattle.link_replay.specs.State.{Link, link_of}
 use Rattle.link_replay.specs.Telling.{AnswersTo, client_told, sees}
 use Rattle.link_replay.specs.Plain.{CodeSent}
@@ -35,20 +35,20 @@ hand-requires g c = record {
 pub returns-then-place-eq0-clause-given : goal.returns-then-place-eq0-clause-given
 returns-then-place-eq0-clause-given g c = λ w h s.
     let a = g.A.App in
-    let m = a.meaning (a.kept c.args.self.now.node.shared) in
-    let t = subst (λ x. WorldStands a x w) (sym c.self.view_is) s in
+    let m = a.app_spec (a.config c.args.self.now.node.shared) in
+    let t = subst (λ x. WorldRepresents a x w) (sym c.self.view_is) s in
     let many : length c.self.inside.sent.items ≡ length w.sent = t.link.sent.same_length in
     let out : (c.args.number ≡ 0) ⊎ (length w.sent < c.args.number) = grind (arith, common_steps) in
-    subst (λ (x : Option Sent). WorldStands a c.args.self.now (option_map_or (λ d. delivers m a.served w c.args.number d d.who d.content) x w)) (sym (none_numbered w.sent c.args.number out)) s
+    subst (λ (x : Option Sent). WorldRepresents a c.args.self.now (option_map_or (λ d. delivers m a.served w c.args.number d d.who d.content) x w)) (sym (none_numbered w.sent c.args.number out)) s
 
 pub returns-clause-given : goal.returns-clause-given
 returns-clause-given g c = rw (← c.self.view_is) (λ w h s.
     let a = g.A.App in
-    let m = a.meaning (a.kept c.self.inside.node.shared) in
+    let m = a.app_spec (a.config c.self.inside.node.shared) in
     let p = sent_there (link_of c.self.inside.sides.items c.self.inside.sent.items) w c.args.number c.index-sent.result.now (omega arith) c.index-sent.ensures (omega arith) s.link in
     let e : Sent = p.other in
-    let shown : SentStands w (record { who = c.sent.inside.who; tick = c.sent.inside.tick; epoch = c.sent.inside.epoch; again = c.sent.inside.again; bytes = c.sent.inside.bytes.items }) e
-    = subst (λ (x : CodeSent). SentStands w x e) (sym c.sent.view_is) p.pair in
+    let shown : SentRepresents w (record { who = c.sent.inside.who; tick = c.sent.inside.tick; epoch = c.sent.inside.epoch; again = c.sent.inside.again; bytes = c.sent.inside.bytes.items }) e
+    = subst (λ (x : CodeSent). SentRepresents w x e) (sym c.sent.view_is) p.pair in
     let items : c.in-Ok.bytes.items ≡ c.as_slice.result.now = search (rules, tests) in
     let bytes : c.as_slice-2.result.now ≡ sent_bytes w e = c.as_slice-2.ensures.value ∙ items ∙ c.as_slice.ensures.value ∙ shown.bytes in
     let client : c.client_of.result ≡ client_told e.who = c.client_of.ensures ∙ ap client_told shown.who in
@@ -56,9 +56,9 @@ returns-clause-given g c = rw (← c.self.view_is) (λ w h s.
     let facts = hands m a.served w c.args.number e (speaks_to (link_of c.self.inside.sides.items c.self.inside.sent.items) w s.link s.home) e.who e.content (sent_bytes w e) (read_at m a.served w h (c.args.number - 1) e p.get) (sent_at m a.served w h (c.args.number - 1) e p.get) in
     let sent : List CodeSent = c.self.inside.sent.items in
     let link : Link = link_of c.see.new.sides.items sent in
-    let stands : WorldStands a (record { node = c.self.inside.node; link = link; mark = c.self.inside.mark; spent = c.self.inside.spent; area = c.self.inside.area.items }) v
+    let stands : WorldRepresents a (record { node = c.self.inside.node; link = link; mark = c.self.inside.mark; spent = c.self.inside.spent; area = c.self.inside.area.items }) v
     = seen a _ link w (client_told e.who) c.args.number e (numbered w.sides (client_told e.who)) s
-    (subst (λ k. LinkStands link (sees w k c.args.number e (numbered w.sides k))) client (c.see.ensures.stands w e sent s.link shown.epoch)) (c.see.ensures.kept w.node.addr sent s.home) in
+    (subst (λ k. LinkRepresents link (sees w k c.args.number e (numbered w.sides k))) client (c.see.ensures.stands w e sent s.link shown.epoch)) (c.see.ensures.kept w.node.addr sent s.home) in
     let answer : Option Reply = (step m a.served v.node (event_of v.node.addr c.as_slice-2.result.now)).sent in
     let answers : AnswersTo v c.sent.inside.who answer
     = subst (λ (who : Who). AnswersTo v who answer) (sym shown.who)
@@ -69,4 +69,4 @@ returns-clause-given g c = rw (← c.self.view_is) (λ w h s.
     ∙ ap (λ (who : Who). hands_over m a.served v (sent_bytes w e) who) shown.who
     ∙ facts.same
     ∙ sym (ap (λ (x : Option Sent). option_map_or (λ d. delivers m a.served w c.args.number d d.who d.content) x w) p.there) in
-    subst (λ (u : World). WorldStands a c.hand.new.self u) same (c.in_ok-hand.ensures.handed v stands answers))
+    subst (λ (u : World). WorldRepresents a c.hand.new.self u) same (c.in_ok-hand.ensures.handed v stands answers))

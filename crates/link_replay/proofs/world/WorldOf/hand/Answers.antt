@@ -1,7 +1,7 @@
 use Rattle.std.proofs.Common.{◌∙◌, sym, subst}
 use Rattle.link_world.specs.Acts.{hands_over}
 use Rattle.link_world.specs.declared.who.Who.{Who}
-use Rattle.link_replay.specs.Stands.{WorldStands}
+use Rattle.link_replay.specs.Represents.{WorldRepresents}
 use Rattle.link_replay.specs.State.{link_of}
 use Rattle.link_replay.proofs.Handling.{handed_done, still_linked}
 use Rattle.link_replay.proofs.world.WorldOf.hand.Goals as goal
@@ -15,9 +15,9 @@ invariant_of-self-in-FromNode g c = record { link = still_linked _ _ c.self-in-F
 pub returns-in_ok-hear-in-FromNode-clause-handed : goal.returns-in_ok-hear-in-FromNode-clause-handed
 returns-in_ok-hear-in-FromNode-clause-handed g c = rw (← c.self-in-FromNode.view_is) (λ w s to.
     let a = g.A.App in
-    let m = a.meaning (a.kept c.self-in-FromNode.inside.node.shared) in
+    let m = a.app_spec (a.config c.self-in-FromNode.inside.node.shared) in
     let number = c.in-FromNode.client in
     let link = link_of c.hear.new.sides.items c.hear.new.sent.items in
-    subst (λ (who : Who). WorldStands a (record { node = c.self-in-FromNode.inside.node; link = link; mark = c.self-in-FromNode.inside.mark; spent = c.self-in-FromNode.inside.spent; area = c.hear.new.area.items }) (hands_over m a.served w c.args.bytes.now who)) (sym c.in-FromNode.is)
+    subst (λ (who : Who). WorldRepresents a (record { node = c.self-in-FromNode.inside.node; link = link; mark = c.self-in-FromNode.inside.mark; spent = c.self-in-FromNode.inside.spent; area = c.hear.new.area.items }) (hands_over m a.served w c.args.bytes.now who)) (sym c.in-FromNode.is)
     (handed_done a _ link c.hear.new.area.items w number c.args.bytes.now s
-    (c.in_ok-hear-in-FromNode.ensures.heard w s.link (c.ticks-tick.ensures ∙ s.node.counts.ticks)) (c.hear.ensures.kept w.node.addr s.home)))
+    (c.in_ok-hear-in-FromNode.ensures.delivered w s.link (c.ticks-tick.ensures ∙ s.node.counts.ticks)) (c.hear.ensures.kept w.node.addr s.home)))

@@ -8,10 +8,10 @@ invariant_of-self g c = record { link = still_linked _ _ c.self.invariant.link c
 pub invariant_of-self-2 : goal.invariant_of-self-2
 invariant_of-self-2 g c = record { link = still_linked _ _ c.self.invariant.link c.tell.ensures.kept; room = c.self.invariant.room }
 
-pub returns-clause-heard : goal.returns-clause-heard
-returns-clause-heard g c = rw (← c.self.view_is) (λ w s to.
+pub returns-clause-delivered : goal.returns-clause-delivered
+returns-clause-delivered g c = rw (← c.self.view_is) (λ w s to.
     let a = g.A.App in
-    let m = a.meaning (a.kept c.self.inside.node.shared) in
+    let m = a.app_spec (a.config c.self.inside.node.shared) in
     let did = c.input-answer.ensures.step w.node s.node in
     handled a m a.served (event_of w.node.addr c.args.bytes.now) _ w did.stands
     (c.in_ok-tell.ensures.told m a.served w (event_of w.node.addr c.args.bytes.now) (c.of-before.ensures w.node s.node) to did.stands did.sent s.link)

@@ -11,7 +11,7 @@ invariant_of-self-2 g c = record { link = still_linked _ _ c.self.invariant.link
 pub returns-clause-ticked : goal.returns-clause-ticked
 returns-clause-ticked g c = rw (← c.self.view_is) (λ w s.
     let a = g.A.App in
-    let m = a.meaning (a.kept c.self.inside.node.shared) in
+    let m = a.app_spec (a.config c.self.inside.node.shared) in
     let did = c.periodic-answer.ensures.step w.node s.node in
     handled a m a.served (Periodic c.args.slot) _ w did.stands
     (c.in_ok-tell.ensures.told m a.served w (Periodic c.args.slot) (c.of-before.ensures w.node s.node) (periodic_to m a.served w.node c.args.slot c.pair-to.result (c.pair-to.ensures w.node (c.of-before.ensures w.node s.node))) did.stands did.sent s.link)

@@ -1,16 +1,16 @@
 use Rattle.std.proofs.Common.{drop}
 use Rattle.link_world.specs.World.{World}
 use Rattle.link_replay.specs.Reaching.{IsAt}
-use Rattle.link_replay.specs.Stands.{Follows, WorldStands}
+use Rattle.link_replay.specs.Represents.{Follows, WorldRepresents}
 use Rattle.link_replay.proofs.Reaching.{Gone}
 use Rattle.link_replay.proofs.world.WorldOf.run.Given as goal
 
 abbrev pub invariant-loop-act : goal.invariant-loop-act
 invariant-loop-act g l =
     let a = g.A.App in
-    let m = a.meaning (a.kept l.fn.self.node.shared) in
+    let m = a.app_spec (a.config l.fn.self.node.shared) in
     record {
       follows : Follows a l.fn.self l.self;
-      gone : (w : World) → IsAt m a.served w → WorldStands a l.fn.self w
-          → Gone m a.served (WorldStands a l.self) w l.acts (drop l.act-index l.acts);
+      gone : (w : World) → IsAt m a.served w → WorldRepresents a l.fn.self w
+          → Gone m a.served (WorldRepresents a l.self) w l.acts (drop l.act-index l.acts);
     }

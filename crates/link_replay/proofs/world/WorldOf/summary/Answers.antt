@@ -23,7 +23,7 @@ returns-clause-shows g c = rw (← c.self.view_is) (
     ∙ ap (λ (xs : List CodeSide). shown xs c.as_slice-2.result.now) c.as_slice.ensures.value
     ∙ ap (λ (ys : List CodeSent). shown sides ys) c.as_slice-2.ensures.value in
     wrote_by _ _ c.write_whole.result c.bytes.result.now (tally_line (shown sides sent)) (made ∙ ap (λ (t : Tally). tally_line t) same)
-    (record { whole = c.write_whole.ensures.whole; front = c.write_whole.ensures.front }))
+    (record { whole = c.write_whole.ensures.whole; prefix = c.write_whole.ensures.prefix }))
 
 pub returns-clause-ok : goal.returns-clause-ok
 returns-clause-ok g c =
@@ -37,4 +37,4 @@ returns-clause-err g c =
     on_err_weaker c.write_whole.result
     (λ wrote w stands. subst (λ (t : Tally). AppendsPrefix (g.K.Sink.written c.args.sink.now) (g.K.Sink.written c.write_whole.new.self) (tally_line t))
     (tally_told c.args.self.now.link w stands.link) wrote)
-    (returns-clause-shows g c).front
+    (returns-clause-shows g c).prefix

@@ -2,15 +2,15 @@ use Rattle.std.proofs.Common.{◌≡◌, drop}
 use Rattle.uip_node.specs.Events.{tick}
 use Rattle.link_world.specs.Acts.{handles_all}
 use Rattle.link_world.specs.World.{World}
-use Rattle.link_replay.specs.Stands.{Follows, WorldStands}
+use Rattle.link_replay.specs.Represents.{Follows, WorldRepresents}
 use Rattle.link_replay.proofs.world.WorldOf.tick.Given as goal
 
 abbrev pub invariant-loop-slot : goal.invariant-loop-slot
 invariant-loop-slot g l =
     let a = g.A.App in
-    let m = a.meaning (a.kept l.fn.self.node.shared) in
+    let m = a.app_spec (a.config l.fn.self.node.shared) in
     record {
       follows : Follows a l.fn.self l.self;
-      so_far : (w : World) → WorldStands a l.fn.self w
-          → (v : World) × WorldStands a l.self v × (handles_all m a.served (drop l.slot tick) v ≡ handles_all m a.served tick w);
+      so_far : (w : World) → WorldRepresents a l.fn.self w
+          → (v : World) × WorldRepresents a l.self v × (handles_all m a.served (drop l.slot tick) v ≡ handles_all m a.served tick w);
     }

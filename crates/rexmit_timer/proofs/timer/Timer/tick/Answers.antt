@@ -1,4 +1,4 @@
--- The beat of an age, from the table of ages.
+-- The result of a tick at an age, from the table of ages.
 use Rattle.std.proofs.Common.{arith}
 use Rattle.rexmit_timer.proofs.timer.Timer.tick.Goals as goal
 use Rattle.rexmit_timer.proofs.AgeTable.{waits, repeats}

@@ -1,5 +1,5 @@
 use Rattle.std.proofs.Common.{refl}
-use Rattle.telnet_shell.proofs.Opened.{opened_behind, opened_place}
+use Rattle.telnet_shell.proofs.Opened.{opened_after, opened_place}
 use Rattle.telnet_shell.proofs.shell.Shell.new.Goals as goal
 
 pub returns : goal.returns
@@ -7,7 +7,7 @@ returns c = λ port. record {
   polls = refl;
   lost = refl;
   done = refl;
-  hears = λ e. record { awaits = refl; line = record { front = c.new.ensures; more = refl } };
-  behind = opened_behind c.new-2.result.items port c.new-2.ensures;
+  hears = λ e. record { awaits = refl; line = record { prefix = c.new.ensures; more = refl } };
+  behind = opened_after c.new-2.result.items port c.new-2.ensures;
   place = opened_place c.new-2.result.items c.new-2.ensures;
 }

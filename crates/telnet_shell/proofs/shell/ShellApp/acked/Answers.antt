@@ -1,4 +1,4 @@
-use Rattle.telnet_shell.proofs.Opened.{room, acked_behind}
+use Rattle.telnet_shell.proofs.Opened.{room, acked_after}
 use Rattle.std.proofs.Common.{refl, ◌+◌, ◌≤◌, length, sym, subst}
 use Rattle.telnet_shell.specs.State.{Shell}
 use Rattle.telnet_shell.specs.Saying.{left_said}
@@ -14,6 +14,6 @@ returns-clause-part c = rw (← c.self.view_is) (λ p s. record {
   lost = s.lost;
   done = s.done;
   hears = s.hears;
-  behind = c.advance-self-inside.ensures.behind (record p { acked = p.acked + c.args.count; polls = 0 }) (acked_behind c.self.inside.queue.items c.self.inside.capture c.self.inside.at c.args.count p s.behind);
+  behind = c.advance-self-inside.ensures.behind (record p { acked = p.acked + c.args.count; polls = 0 }) (acked_after c.self.inside.queue.items c.self.inside.capture c.self.inside.at c.args.count p s.behind);
   place = c.advance-self-inside.ensures.place;
 })

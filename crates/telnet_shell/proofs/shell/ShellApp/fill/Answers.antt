@@ -1,15 +1,15 @@
 use Rattle.std.proofs.Common.{◌+◌, ◌≤◌, ℕ, List, length, take, drop, sym, ap, subst, ◌∙◌}
 use Rattle.telnet_shell.specs.declared.command.Command.{Command}
 use Rattle.telnet_shell.specs.State.{Shell}
-use Rattle.telnet_shell.specs.Saying.{left_said, front_size}
+use Rattle.telnet_shell.specs.Saying.{left_said, prefix_size}
 use Rattle.telnet_shell.specs.Lemmas.SameLeft.{left_of_value}
 use Rattle.telnet_shell.proofs.Opened.{place_of, room}
 use Rattle.telnet_shell.proofs.shell.ShellApp.fill.Goals as goal
 
 pub fill_left-requires-clause-place : goal.fill_left-requires-clause-place
 fill_left-requires-clause-place c =
-    subst (λ (q : List Command). c.self.inside.at ≤ front_size q c.self.inside.capture) (sym c.as_slice.ensures.value)
-    (subst (λ (a : Shell). a.at ≤ front_size a.queue a.capture) (sym c.self.view_is) (place_of c.args.self.now c.args._shared.now.site (length c.args.out.now) c.requires))
+    subst (λ (q : List Command). c.self.inside.at ≤ prefix_size q c.self.inside.capture) (sym c.as_slice.ensures.value)
+    (subst (λ (a : Shell). a.at ≤ prefix_size a.queue a.capture) (sym c.self.view_is) (place_of c.args.self.now c.args._shared.now.site (length c.args.out.now) c.requires))
 
 pub fill_left-requires-clause-enough : goal.fill_left-requires-clause-enough
 fill_left-requires-clause-enough c =

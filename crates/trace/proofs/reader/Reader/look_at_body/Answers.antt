@@ -11,7 +11,7 @@ returns-in_err-encode-clause-broke g c =
     let is : IsBody c.args.order c.args.self.now.part =
     record { some = omega (arith, wants.0, full); size = full ∙ wants.3; fits = omega (arith, wants.1, wants.3) } in
     on_err _ (broke_all _ _ c.args.self.now.stage c.args.self.now.number c.args.self.now.part _ c.args.order is c.requires.stage
-    (ap (λ l. slip_text l) (body_part c.bytes.result.now c.args.self.now.part c.bytes.ensures)) c.in_err-encode.ensures.front)
+    (ap (λ l. slip_text l) (body_part c.bytes.result.now c.args.self.now.part c.bytes.ensures)) c.in_err-encode.ensures.prefix)
 
 pub returns-clause-at : goal.returns-clause-at
 returns-clause-at g c = λ start bytes at.

@@ -1,4 +1,4 @@
-use Rattle.trace.proofs.FrontLaws.{silence_watched}
+use Rattle.trace.proofs.PrefixLaws.{silence_watched}
 use Rattle.trace.proofs.watch.WatchLineReader.silence.Goals as goal
 
 pub returns-clause-took : goal.returns-clause-took

@@ -1,7 +1,7 @@
 use Rattle.std.proofs.Common.{◌∙◌, ◌∷◌, [], length, refl, ap, sym}
 use Rattle.udp_resolver.specs.Fates.{questions}
 use Rattle.udp_resolver.specs.Steps.{heard_now}
-use Rattle.uip_slip.specs.Decoding.{told_by}
+use Rattle.uip_slip.specs.Decoding.{reported_by}
 use Rattle.uip_slip.specs.Frames.{Datagram}
 use Rattle.udp_resolver.proofs.ItemLaws.{by_told}
 use Rattle.udp_resolver.proofs.RunLaws.{heard-length, knows_byte, knows_came, questions-length, refill_same, told_none}
@@ -28,6 +28,6 @@ returns-in_default c = record {
   knows = λ items e k.
       let told = c.feed.ensures.frames (bytes_among items) k.fed in
       knows_byte (questions c.args.asking c.args.names.now) items c.args.byte c.args.self.now _ k told.0
-      (sym (by_told (bytes_among items) c.args.byte (told_by c.feed.result c.feed.new.self) told.1) ∙ told_none c.feed.result c.feed.new.self c.in_default.not-Datagram)
+      (sym (by_told (bytes_among items) c.args.byte (reported_by c.feed.result c.feed.new.self) told.1) ∙ told_none c.feed.result c.feed.new.self c.in_default.not-Datagram)
       refl refl refl;
 }

@@ -37,7 +37,7 @@ returns-in-Err-tick-clause-turns g c = λ items is_open k.
     let failed = c.in-Err-tick.ensures in
     let e = not_given_up (events items) asked is_open in
     let written = failed.writes items e k in
-    let front = written.writes.front in
+    let prefix = written.writes.prefix in
     record {
       more = Quiet ∷ [];
       consumed = told.items;
@@ -47,7 +47,7 @@ returns-in-Err-tick-clause-turns g c = λ items is_open k.
         once = inl refl;
         text = query_texts c.args.self.now.sender.ident (asked_next asked (events items));
         adds = adds_quiet asked items c.args.self.now k;
-        broke = record { some = written.some; front = front.0; rest = front.1; cut = front.2; written = front.3 };
+        broke = record { some = written.some; prefix = prefix.0; rest = prefix.1; cut = prefix.2; written = prefix.3 };
       };
     }
 

@@ -1,6 +1,6 @@
 use Rattle.std.proofs.Common.{◌≡◌, ◌+◌, ◌++◌, ◌∙◌, None, refl, sym, ap, drop, get_or}
 use Rattle.uip_edge.proofs.Told.{Appends-then, appends_by, on_err}
-use Rattle.uip_edge.specs.Telling.{sink_told}
+use Rattle.uip_edge.specs.ViewsOf.{sink_view}
 use Rattle.uip_edge.proofs.Writes.{writes_broken}
 use Rattle.udp_resolver.specs.Asked.{last_ident, query_texts}
 use Rattle.udp_resolver.specs.Fates.{next_asking, questions}
@@ -15,12 +15,12 @@ loop-at-preserved g c =
     let start = c.args.self.now.ident in
     let sent = c.in_ok-send_unless.ensures in
     record {
-      front = inv.front ++ one;
+      prefix = inv.prefix ++ one;
       area = sent.area;
-      whole = question_moves _ _ _ _ c.index-names-at.result _ _ inv.front c.requires.each c.loop-at-test.true c.index-names-at.is c.next_asking-asking.ensures inv.whole;
-      ident = sent.ident ∙ ap (λ k. last_ident k one) inv.ident ∙ sym (last_ident-append start inv.front one);
-      wrote = appends_by _ _ (query_texts start inv.front ++ query_texts c.loop-at.self.ident one) _ (query_texts-moves start c.loop-at.self.ident inv.front one inv.ident)
-          (Appends-then _ _ _ (query_texts start inv.front) (query_texts c.loop-at.self.ident one) inv.wrote sent.writes.writes.whole);
+      whole = question_moves _ _ _ _ c.index-names-at.result _ _ inv.prefix c.requires.each c.loop-at-test.true c.index-names-at.is c.next_asking-asking.ensures inv.whole;
+      ident = sent.ident ∙ ap (λ k. last_ident k one) inv.ident ∙ sym (last_ident-append start inv.prefix one);
+      wrote = appends_by _ _ (query_texts start inv.prefix ++ query_texts c.loop-at.self.ident one) _ (query_texts-moves start c.loop-at.self.ident inv.prefix one inv.ident)
+          (Appends-then _ _ _ (query_texts start inv.prefix) (query_texts c.loop-at.self.ident one) inv.wrote sent.writes.writes.whole);
       calm = sent.writes.writes.cause.same ∙ inv.calm;
     }
 
@@ -31,15 +31,15 @@ returns-in_err-send_unless-clause-writes g c =
     let one = unless_answered (record { asking = c.loop-at.asking; text = c.index-names-at.result }) (get_or c.args.answers.now at None) in
     let start = c.args.self.now.ident in
     let later = unanswered (questions (next_asking c.loop-at.asking) (drop (at + 1) c.args.names.now)) (drop (at + 1) c.args.answers.now) in
-    let whole = question_moves _ (next_asking c.loop-at.asking) _ _ c.index-names-at.result at _ inv.front c.requires.each c.loop-at-test.true c.index-names-at.is refl inv.whole in
-    let rest = query_texts (last_ident start (inv.front ++ one)) later in
+    let whole = question_moves _ (next_asking c.loop-at.asking) _ _ c.index-names-at.result at _ inv.prefix c.requires.each c.loop-at-test.true c.index-names-at.is refl inv.whole in
+    let rest = query_texts (last_ident start (inv.prefix ++ one)) later in
     let all = query_texts start (unanswered (questions c.args.asking c.args.names.now) c.args.answers.now) in
-    let parts : all ≡ (query_texts start inv.front ++ query_texts c.loop-at.self.ident one) ++ rest =
-    ap (λ l. query_texts start l) whole ∙ query_texts-append start (inv.front ++ one) later
-    ∙ ap (λ l. l ++ rest) (query_texts-moves start c.loop-at.self.ident inv.front one inv.ident) in
+    let parts : all ≡ (query_texts start inv.prefix ++ query_texts c.loop-at.self.ident one) ++ rest =
+    ap (λ l. query_texts start l) whole ∙ query_texts-append start (inv.prefix ++ one) later
+    ∙ ap (λ l. l ++ rest) (query_texts-moves start c.loop-at.self.ident inv.prefix one inv.ident) in
     record {
       writes = writes_broken c.from_residual.result c.from_residual.ensures.0 c.in_err-send_unless.field-0.0
-          (sink_told g.K.Sink c.args.out.now) (sink_told g.K.Sink c.loop-at.out) (sink_told g.K.Sink c.send_unless.new.out)
-          (query_texts start inv.front) (query_texts c.loop-at.self.ident one) rest all (sym parts) inv.wrote inv.calm c.in_err-send_unless.ensures.writes.writes;
-      some = on_err _ (some_moves (query_texts start inv.front) (query_texts c.loop-at.self.ident one) rest all parts c.in_err-send_unless.ensures.writes.some);
+          (sink_view g.K.Sink c.args.out.now) (sink_view g.K.Sink c.loop-at.out) (sink_view g.K.Sink c.send_unless.new.out)
+          (query_texts start inv.prefix) (query_texts c.loop-at.self.ident one) rest all (sym parts) inv.wrote inv.calm c.in_err-send_unless.ensures.writes.writes;
+      some = on_err _ (some_moves (query_texts start inv.prefix) (query_texts c.loop-at.self.ident one) rest all parts c.in_err-send_unless.ensures.writes.some);
     }

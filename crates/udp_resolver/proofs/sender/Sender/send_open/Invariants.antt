@@ -8,10 +8,10 @@ use Rattle.udp_resolver.proofs.sender.Sender.send_open.Given as goal
 
 abbrev pub invariant-loop-at : goal.invariant-loop-at
 invariant-loop-at g l = record {
-  front : List Question;
+  prefix : List Question;
   area : length l.packet.area ≡ LARGEST_DATAGRAM;
-  whole : unanswered (questions l.fn.asking l.names) l.answers ≡ front ++ unanswered (questions l.asking (drop l.at l.names)) (drop l.at l.answers);
-  ident : l.self.ident ≡ last_ident l.fn.self.ident front;
-  wrote : Appends (g.K.Sink.written l.fn.out) (g.K.Sink.written l.out) (query_texts l.fn.self.ident front);
+  whole : unanswered (questions l.fn.asking l.names) l.answers ≡ prefix ++ unanswered (questions l.asking (drop l.at l.names)) (drop l.at l.answers);
+  ident : l.self.ident ≡ last_ident l.fn.self.ident prefix;
+  wrote : Appends (g.K.Sink.written l.fn.out) (g.K.Sink.written l.out) (query_texts l.fn.self.ident prefix);
   calm : g.K.Sink.faults l.out ≡ g.K.Sink.faults l.fn.out;
 }

@@ -1,4 +1,4 @@
--- `into_alloc` by hand, since it opens a struct that owns memory, though here it owns none.
+-- Proves `into_alloc` by hand, since it opens a struct that owns memory, though here it owns none.
 use Rattle.std.proofs.Common.{◌≡◌, List, [], ◌∷◌, ◌++◌, refl, sym, subst}
 use mir.Val.{Val}
 use base.Logic.{SProp, ent, emp, id⊢}

@@ -1,4 +1,4 @@
--- `into_parts` by hand, since it opens a struct that owns memory and makes another.
+-- Proves `into_parts` by hand, since it opens a struct that owns memory and makes another.
 use Rattle.std.proofs.Common.{◌≡◌, List, [], ◌∷◌, ◌++◌, refl, sym, subst}
 use mir.Raw.{raw as bare}
 use mir.Val.{Val, vptr}

@@ -1,4 +1,4 @@
--- `none` by hand, since it makes a struct that owns memory, though here it owns none.
+-- Proves `none` by hand, since it makes a struct that owns memory, though here it owns none.
 use Rattle.std.proofs.Common.{◌≡◌, List, [], ◌∷◌, ◌++◌, refl, sym, subst, lit<}
 use mir.Val.{Val}
 use base.Logic.{SProp, ent, emp, id⊢}

@@ -1,5 +1,6 @@
--- `of` by hand, since it makes a struct that owns memory: the parts of the box are opened, and the handle takes them with
--- the fact that the device is sound.
+-- Proves `of` by hand, since it makes a struct that owns memory: the parts of the box are opened, and the handle takes them with the fact
+-- that the device is sound.
+-- [add: c-application] A handle: proofs as those of this folder.
 use Rattle.std.proofs.Common.{◌≡◌, List, [], ◌∷◌, ◌++◌, refl, sym, subst}
 use mir.Val.{Val, vptr}
 use base.Logic.{SProp, ent, emp, id⊢}

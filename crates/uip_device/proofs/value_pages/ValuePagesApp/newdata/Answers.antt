@@ -1,7 +1,7 @@
 use Rattle.std.proofs.Common.{◌++◌, ap, sym, ◌∙◌}
 use Rattle.file_tree.specs.Site.{files_of}
 use Rattle.web_pages.specs.Requests.{wanted}
-use Rattle.web_pages.proofs.OwnState.{hits_by_front}
+use Rattle.web_pages.proofs.OwnState.{hits_by_prefix}
 use Rattle.uip_device.proofs.value_pages.ValuePagesApp.newdata.Goals as goal
 
 pub returns-clause-numbers : goal.returns-clause-numbers
@@ -9,4 +9,4 @@ returns-clause-numbers c = λ p s.
     let web = c.args.shared.now.web in
     let values = c.args.shared.now.values.bytes in
     ap (λ hits. hits ++ values) (c.hear.ensures.hits p s)
-    ∙ sym (hits_by_front (files_of web.site) web.hits values (wanted p.heard) (wanted (p.heard ++ c.args.piece.now)) c.see_counted.ensures)
+    ∙ sym (hits_by_prefix (files_of web.site) web.hits values (wanted p.delivered) (wanted (p.delivered ++ c.args.piece.now)) c.see_counted.ensures)

@@ -1,4 +1,4 @@
--- Ten CLOSED connections and no past.
+-- Ten CLOSED connections and an empty history.
 use Rattle.std.proofs.Common.{ℕ, length, ap, ◌∙◌, refl}
 use Rattle.std.proofs.lemmas.List.{length-replicate}
 use Rattle.packet_buffer.specs.Buffer.{Buffer}
@@ -8,13 +8,13 @@ use Rattle.uip_node.proofs.node.Node.new.Goals as goal
 pub invariant_of-result : goal.invariant_of-result
 invariant_of-result g c = record {
   size = ap (λ (b : Buffer). length b.area) c.in_ok-packet.ensures ∙ length-replicate {A = ℕ} 1500 0;
-  kept = all_kept g.A.App (g.A.App.kept c.args.shared) c.in_ok-table.table.conns c.in_ok-table.ensures.closed;
+  kept = all_kept g.A.App (g.A.App.config c.args.shared) c.in_ok-table.table.conns c.in_ok-table.ensures.closed;
 }
 
 pub returns-clause-stands : goal.returns-clause-stands
 returns-clause-stands g c = record {
   addr = refl;
-  slots = all_stand g.A.App (g.A.App.kept c.args.shared) c.in_ok-table.table.conns c.in_ok-table.ensures.closed c.count_slots.ensures.all;
+  slots = all_stand g.A.App (g.A.App.config c.args.shared) c.in_ok-table.table.conns c.in_ok-table.ensures.closed c.count_slots.ensures.all;
   iss = c.in_ok-table.ensures.iss;
   numbers_stand = refl;
   counts = record { net = refl; ticks = refl; ident = refl };

@@ -3,30 +3,30 @@ use Rattle.std.proofs.Common.{ℕ, arith, ap, length, ◌∙◌, subst, refl}
 use Rattle.std.specs.Prelude.{slice_set}
 use Rattle.tcp_machine.specs.Connection.{Connection}
 use Rattle.tcp_machine.specs.OnSegment.{accept, accepted}
-use Rattle.tcp_machine.specs.Stands.{plain}
+use Rattle.tcp_machine.specs.Represents.{plain}
 use Rattle.uip_node.specs.Counted.{seen}
 use Rattle.uip_node.specs.Counters.{initial_number}
 use Rattle.uip_node.specs.Edge.{sockets_of}
-use Rattle.uip_node.specs.Slots.{SlotsStand}
+use Rattle.uip_node.specs.Slots.{SlotsRepresent}
 use Rattle.uip_node.proofs.Naming.{like_named}
 use Rattle.uip_node.proofs.Settling.{get_set}
 use Rattle.uip_node.proofs.node.Node.open.Goals as goal
 
 pub invariant_of-self : goal.invariant_of-self
-invariant_of-self g c = record { size = c.self.invariant.size; kept = c.open_in-step.ensures.kept (g.A.App.kept c.self.inside.shared) c.self.invariant.kept }
+invariant_of-self g c = record { size = c.self.invariant.size; kept = c.open_in-step.ensures.kept (g.A.App.config c.self.inside.shared) c.self.invariant.kept }
 
-pub say-requires-clause-within : goal.say-requires-clause-within
-say-requires-clause-within g c = omega (arith, c.open_in-step.ensures.long, c.requires.within, ap (λ x. length x.table.conns) c.self.view_is)
+pub send_step-requires-clause-within : goal.send_step-requires-clause-within
+send_step-requires-clause-within g c = omega (arith, c.open_in-step.ensures.long, c.requires.within, ap (λ x. length x.table.conns) c.self.view_is)
 
 pub returns-clause-step : goal.returns-clause-step
 returns-clause-step g c = rw (← c.self.view_is) (λ n event old text h within.
     let now = c.self.inside in
-    let k = g.A.App.kept now.shared in
+    let k = g.A.App.config now.shared in
     let app = g.A.App in
-    let b : Connection = accepted (initial_number (seen event n.past)) (sockets_of c.args.peer c.args.seg.now) (plain c.args.seg.now text) in
-    let slots = subst (λ (i : ℕ). SlotsStand app k c.open_in-step.new.table.conns (slice_set n.connections c.args.slot (accepted i (sockets_of c.args.peer c.args.seg.now) (plain c.args.seg.now text)))) h.iss
+    let b : Connection = accepted (initial_number (seen event n.history)) (sockets_of c.args.peer c.args.seg.now) (plain c.args.seg.now text) in
+    let slots = subst (λ (i : ℕ). SlotsRepresent app k c.open_in-step.new.table.conns (slice_set n.connections c.args.slot (accepted i (sockets_of c.args.peer c.args.seg.now) (plain c.args.seg.now text)))) h.iss
     (c.open_in-step.ensures.stands k n.connections text h.slots) in
-    c.say.ensures.step n event old (accept (initial_number (seen event n.past)) (sockets_of c.args.peer c.args.seg.now) (plain c.args.seg.now text) n.numbers) h.addr within (c.open_in-step.ensures.iss ∙ h.iss) h.counts
+    c.send_step.ensures.step n event old (accept (initial_number (seen event n.history)) (sockets_of c.args.peer c.args.seg.now) (plain c.args.seg.now text) n.numbers) h.addr within (c.open_in-step.ensures.iss ∙ h.iss) h.counts
     (record {
       slots = slots;
       counted = h.numbers_stand;

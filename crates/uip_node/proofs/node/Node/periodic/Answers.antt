@@ -1,4 +1,4 @@
--- A CLOSED connection does nothing, and any other takes its tick.
+-- A CLOSED connection does nothing, and any other counts its tick.
 use Rattle.std.proofs.Common.{rules, ℕ, ◌≡◌, ◌+◌, ◌%◌, ◌<◌, List, Some, arith, ap, sym, ◌∙◌, subst, length, false}
 use Rattle.std.specs.Prelude.{slice_get}
 use Rattle.std.proofs.lemmas.Option.{slice_get-get_or}
@@ -9,10 +9,10 @@ use Rattle.tcp_machine.specs.Connection.{Connection, closed}
 use Rattle.tcp_machine.specs.OnTick.{on_tick}
 use Rattle.uip_node.specs.Events.{Event}
 use Rattle.uip_node.specs.Events.Event.{Periodic}
-use Rattle.uip_node.specs.Node.{connection_in, happened, moment}
-use Rattle.uip_node.specs.Slots.{AllKept, MeetsAt, SlotsStand}
-use Rattle.uip_node.specs.StandsFor.{Steps}
-use Rattle.uip_node.specs.Counted.{CountsStand, seen}
+use Rattle.uip_node.specs.Node.{connection_in, happened, snapshot}
+use Rattle.uip_node.specs.Slots.{AllWellFormed, MeetsAt, SlotsRepresent}
+use Rattle.uip_node.specs.Represents.{Steps}
+use Rattle.uip_node.specs.Counted.{CountsRepresent, seen}
 use Rattle.uip_node.specs.State.{Counts}
 use Rattle.uip_node.proofs.Finishing.{finished}
 use Rattle.uip_node.proofs.Stepping.{next_first, rests_at, slice_get-element}
@@ -23,8 +23,8 @@ returns-then-not-is_live_in g c = rw (← c.self.view_is) (record {
   same = search rules;
   step = λ n h.
       let now = c.self.inside in
-      let k = g.A.App.kept now.shared in
-      let m = g.A.App.meaning k in
+      let k = g.A.App.config now.shared in
+      let m = g.A.App.app_spec k in
       let app = g.A.App in
       let slot = c.args.slot in
       let a : Connection = connection_in slot n in
@@ -37,23 +37,23 @@ returns-then-not-is_live_in g c = rw (← c.self.view_is) (record {
       let dead : is_live a.state ≡ false = sym (ap is_live stand.numbers.state) ∙ (sym (c.is_live_in.ensures at.0 here) ∙ c.if-not-is_live_in.true) in
       let counts : Counts = record { net = now.net; ticks = c.ticks_at-self-inside.result; ident = now.ident } in
       rests_at app m (record { addr = now.addr; packet = now.packet; table = c.next_iss.new.self; counts = counts; shared = now.shared }) n slot h.addr
-      (subst (λ (cs : List (Conn g.row.A.Denot)). SlotsStand app k cs n.connections) (sym c.next_iss.ensures.conns) h.slots)
-      (c.next_iss.ensures.iss ∙ ap (λ (i : ℕ). (i + 1) % 4294967296) h.iss ∙ next_first n.past slot)
-      h.numbers_stand (record { net = h.counts.net; ticks = c.ticks_at-self-inside.ensures n.past h.counts.ticks; ident = h.counts.ident }) there dead;
+      (subst (λ (cs : List (Conn g.row.A.Denot)). SlotsRepresent app k cs n.connections) (sym c.next_iss.ensures.conns) h.slots)
+      (c.next_iss.ensures.iss ∙ ap (λ (i : ℕ). (i + 1) % 4294967296) h.iss ∙ next_first n.history slot)
+      h.numbers_stand (record { net = h.counts.net; ticks = c.ticks_at-self-inside.ensures n.history h.counts.ticks; ident = h.counts.ident }) there dead;
 })
 
 pub invariant_of-self : goal.invariant_of-self
 invariant_of-self g c = record {
   size = c.self.invariant.size;
-  kept = subst (λ (cs : List (Conn g.row.A.Denot)). AllKept g.A.App (g.A.App.kept c.self.inside.shared) cs) (sym c.next_iss.ensures.conns) c.self.invariant.kept;
+  kept = subst (λ (cs : List (Conn g.row.A.Denot)). AllWellFormed g.A.App (g.A.App.config c.self.inside.shared) cs) (sym c.next_iss.ensures.conns) c.self.invariant.kept;
 }
 
 pub take_tick-step-requires-clause-kept : goal.take_tick-step-requires-clause-kept
 take_tick-step-requires-clause-kept g c =
-    subst (λ (cs : List (Conn g.row.A.Denot)). AllKept g.A.App (g.A.App.kept c.self.inside.shared) cs) (sym c.next_iss.ensures.conns) c.self.invariant.kept
+    subst (λ (cs : List (Conn g.row.A.Denot)). AllWellFormed g.A.App (g.A.App.config c.self.inside.shared) cs) (sym c.next_iss.ensures.conns) c.self.invariant.kept
 
-pub settle-answer-requires-clause-others : goal.settle-answer-requires-clause-others
-settle-answer-requires-clause-others g c = λ j d other h.
+pub ask_app-answer-requires-clause-others : goal.ask_app-answer-requires-clause-others
+ask_app-answer-requires-clause-others g c = λ j d other h.
     (c.self.invariant.kept j d (subst (λ (cs : List (Conn g.row.A.Denot)). slice_get cs j ≡ Some d) c.next_iss.ensures.conns (c.take_tick-step.ensures.took.others j d other h))).busy
 
 pub returns : goal.returns
@@ -61,26 +61,26 @@ returns g c = rw (← c.self.view_is) (record {
   same = search rules;
   step = λ n h.
       let now = c.self.inside in
-      let k = g.A.App.kept now.shared in
-      let m = g.A.App.meaning k in
+      let k = g.A.App.config now.shared in
+      let m = g.A.App.app_spec k in
       let app = g.A.App in
       let slot = c.args.slot in
       let step = c.take_tick-step in
-      let answer = c.settle-answer in
+      let answer = c.ask_app-answer in
       let counts : Counts = record { net = now.net; ticks = c.ticks_at-self-inside.result; ident = now.ident } in
       let a : Connection = connection_in slot n in
       let within : slot < length n.connections = omega (arith, c.requires.within, c.count_slots.ensures.all, h.slots.same_length) in
       let there : slice_get n.connections slot ≡ Some a = slice_get-get_or n.connections slot closed within in
       let event : Event = Periodic slot in
       let o : Outcome = on_tick m a n.numbers in
-      let slots = subst (λ (cs : List (Conn g.row.A.Denot)). SlotsStand app k cs n.connections) (sym c.next_iss.ensures.conns) h.slots in
+      let slots = subst (λ (cs : List (Conn g.row.A.Denot)). SlotsRepresent app k cs n.connections) (sym c.next_iss.ensures.conns) h.slots in
       let one = step.ensures.meets n.connections a slots there in
       let two = subst (λ (ns : List ℕ). MeetsAt app k step.new.table.conns (g.A.App.numbers step.new.shared) step.result n.connections slot (on_tick m a ns)) h.numbers_stand one in
-      let three = subst (λ (j : g.A.App.Kept). MeetsAt app j step.new.table.conns (g.A.App.numbers step.new.shared) step.result n.connections slot o) (sym step.ensures.same) two in
-      let stand : CountsStand counts (seen event n.past) = record { net = h.counts.net; ticks = c.ticks_at-self-inside.ensures n.past h.counts.ticks; ident = h.counts.ident } in
-      let four = finished app (g.A.App.kept step.new.shared) (g.A.App.meaning (g.A.App.kept step.new.shared)) answer.new.table.conns (g.A.App.numbers step.new.shared) answer.result n event slot o counts stand
+      let three = subst (λ (j : g.A.App.Config). MeetsAt app j step.new.table.conns (g.A.App.numbers step.new.shared) step.result n.connections slot o) (sym step.ensures.same) two in
+      let stand : CountsRepresent counts (seen event n.history) = record { net = h.counts.net; ticks = c.ticks_at-self-inside.ensures n.history h.counts.ticks; ident = h.counts.ident } in
+      let four = finished app (g.A.App.config step.new.shared) (g.A.App.app_spec (g.A.App.config step.new.shared)) answer.new.table.conns (g.A.App.numbers step.new.shared) answer.result n event slot o counts stand
       (answer.ensures.meets n.connections o within three) in
-      subst (λ (j : g.A.App.Kept). Steps app c.say.new.self c.say.result (happened (g.A.App.meaning j) n event slot a (asked (g.A.App.meaning j) (moment n event slot) o))) step.ensures.same
-      (c.say.ensures.step n event a (asked (g.A.App.meaning (g.A.App.kept step.new.shared)) (moment n event slot) o) h.addr within
-      (answer.ensures.iss ∙ step.ensures.took.iss ∙ c.next_iss.ensures.iss ∙ ap (λ (i : ℕ). (i + 1) % 4294967296) h.iss ∙ next_first n.past slot) stand four);
+      subst (λ (j : g.A.App.Config). Steps app c.send_step.new.self c.send_step.result (happened (g.A.App.app_spec j) n event slot a (asked (g.A.App.app_spec j) (snapshot n event slot) o))) step.ensures.same
+      (c.send_step.ensures.step n event a (asked (g.A.App.app_spec (g.A.App.config step.new.shared)) (snapshot n event slot) o) h.addr within
+      (answer.ensures.iss ∙ step.ensures.took.iss ∙ c.next_iss.ensures.iss ∙ ap (λ (i : ℕ). (i + 1) % 4294967296) h.iss ∙ next_first n.history slot) stand four);
 })

@@ -1,7 +1,7 @@
 -- The reset.
 use Rattle.std.proofs.Common.{ℕ, List, Some, ap, ◌∙◌, length, false}
-use Rattle.tcp_machine.specs.Segments.{reset_to_none}
-use Rattle.tcp_machine.specs.Stands.{plain}
+use Rattle.tcp_machine.specs.Segments.{reset_for_no_connection}
+use Rattle.tcp_machine.specs.Represents.{plain}
 use Rattle.tcp_segment.specs.Segments.{datagram_bytes}
 use Rattle.uip_node.specs.Edge.{datagram_to, sockets_of}
 use Rattle.uip_node.specs.Events.{Event}
@@ -15,9 +15,9 @@ returns-clause-step g c = rw (← c.self.view_is) (λ n text h.
     let now = c.self.inside in
     let counts : Counts = record { net = now.net; ticks = now.ticks; ident = now.ident } in
     let event : Event = Arrived (sockets_of c.args.peer c.args.seg.now) (plain c.args.seg.now text) in
-    let e = c.put_reset-len.ensures.bytes text ∙ ap (λ (i : ℕ). datagram_bytes (datagram_to now.addr (sockets_of c.args.peer c.args.seg.now) i (reset_to_none (plain c.args.seg.now text)))) (next_ident counts event false n.past h.counts) in
+    let e = c.put_reset-len.ensures.bytes text ∙ ap (λ (i : ℕ). datagram_bytes (datagram_to now.addr (sockets_of c.args.peer c.args.seg.now) i (reset_for_no_connection (plain c.args.seg.now text)))) (next_ident counts event false n.history h.counts) in
     record {
-      stands = record { addr = h.addr; slots = h.slots; iss = h.iss; numbers_stand = h.numbers_stand; counts = said_counted counts event false n.past c.speak.new.net h.counts (c.speak.ensures n.past event h.counts.net) };
+      stands = record { addr = h.addr; slots = h.slots; iss = h.iss; numbers_stand = h.numbers_stand; counts = said_counted counts event false n.history c.speak.new.net h.counts (c.speak.ensures n.history event h.counts.net) };
       sent = record {
         answer = ap (λ (k : ℕ). Some k) (c.put_reset-len.ensures.length ∙ ap (λ (xs : List ℕ). length xs) e);
         datagram = e;

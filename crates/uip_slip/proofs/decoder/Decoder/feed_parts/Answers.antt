@@ -1,30 +1,30 @@
 use Rattle.std.proofs.Common.{◌∙◌, ◌++◌, ◌-◌, ap, append-nil, arith, drop, length, length-drop, length-take, rules, subst}
 use Rattle.uip_slip.proofs.DecoderLaws.{ends_on, fed_on}
-use Rattle.uip_slip.specs.Decoding.{Leaves, told_by}
+use Rattle.uip_slip.specs.Decoding.{Leaves, reported_by}
 use Rattle.uip_slip.specs.Frames.{frames}
 use Rattle.uip_slip.proofs.decoder.Decoder.feed_parts.Goals as goal
 
-pub returns-in_default-clause-front : goal.returns-in_default-clause-front
-returns-in_default-clause-front c = record {
+pub returns-in_default-clause-prefix : goal.returns-in_default-clause-prefix
+returns-in_default-clause-prefix c = record {
   some = search rules;
   within = search rules;
   frames = λ before f.
-      fed_on before c.args.bytes.now c.loop-count.count c.feed_part-front.result.count c.loop-count.self c.feed_part-front.new.self _
-      (c.loop-count.invariant.frames before f) c.feed_part-front.ensures.frames;
+      fed_on before c.args.bytes.now c.loop-count.count c.feed_part-prefix.result.count c.loop-count.self c.feed_part-prefix.new.self _
+      (c.loop-count.invariant.frames before f) c.feed_part-prefix.ensures.frames;
   leaves = search rules;
-  end = ends_on c.args.bytes.now c.loop-count.count c.feed_part-front.result.count c.feed_part-front.result.fed c.feed_part-front.ensures.some
-      c.feed_part-front.ensures.within c.feed_part-front.ensures.end;
+  end = ends_on c.args.bytes.now c.loop-count.count c.feed_part-prefix.result.count c.feed_part-prefix.result.fed c.feed_part-prefix.ensures.some
+      c.feed_part-prefix.ensures.within c.feed_part-prefix.ensures.end;
 }
 
 pub loop-count-preserved : goal.loop-count-preserved
 loop-count-preserved c =
-    let s = c.feed_part-front.new.self in
-    let front = c.feed_part-front.ensures in
+    let s = c.feed_part-prefix.new.self in
+    let prefix = c.feed_part-prefix.ensures in
     record {
-      within = omega (arith, front.within, length-take (length c.args.bytes.now - c.loop-count.count) (drop c.loop-count.count c.args.bytes.now), length-drop c.loop-count.count c.args.bytes.now, c.loop-count.invariant.within);
-      leaves = λ _. subst (λ x. Leaves x s) c.in-More.is front.leaves;
+      within = omega (arith, prefix.within, length-take (length c.args.bytes.now - c.loop-count.count) (drop c.loop-count.count c.args.bytes.now), length-drop c.loop-count.count c.args.bytes.now, c.loop-count.invariant.within);
+      leaves = λ _. subst (λ x. Leaves x s) c.in-More.is prefix.leaves;
       frames = λ before f.
           let so_far = c.loop-count.invariant.frames before f in
-          let both = fed_on before c.args.bytes.now c.loop-count.count c.feed_part-front.result.count c.loop-count.self s _ so_far front.frames in
-          (both.0, both.1 ∙ ap (λ x. frames before ++ told_by x s) c.in-More.is ∙ append-nil (frames before));
+          let both = fed_on before c.args.bytes.now c.loop-count.count c.feed_part-prefix.result.count c.loop-count.self s _ so_far prefix.frames in
+          (both.0, both.1 ∙ ap (λ x. frames before ++ reported_by x s) c.in-More.is ∙ append-nil (frames before));
     }

@@ -4,8 +4,8 @@ use Rattle.uip_slip.specs.Decoding.{WasFed}
 use Rattle.uip_slip.specs.Frames.{frames}
 use Rattle.uip_slip.proofs.decoder.Decoder.feed_run.Goals as goal
 
-pub returns-in-More-clause-front : goal.returns-in-More-clause-front
-returns-in-More-clause-front c = record {
+pub returns-in-More-clause-prefix : goal.returns-in-More-clause-prefix
+returns-in-More-clause-prefix c = record {
   some = search rules;
   within = search rules;
   frames = λ before f.
@@ -14,8 +14,8 @@ returns-in-More-clause-front c = record {
       ap (λ l. before ++ l) (take_first c.args.bytes.now c.requires) in
       fed_on before c.args.bytes.now 1 c.feed_parts-parts.result.count c.feed.new.self c.feed_parts-parts.new.self _
       (subst (λ l. WasFed l c.feed.new.self) (sym whole) one.0, ap frames whole ∙ one.1 ∙ append-nil (frames before))
-      c.feed_parts-parts.ensures.front.frames;
+      c.feed_parts-parts.ensures.prefix.frames;
   leaves = search rules;
-  end = ends_on c.args.bytes.now 1 c.feed_parts-parts.result.count c.feed_parts-parts.result.fed c.feed_parts-parts.ensures.front.some
-      c.feed_parts-parts.ensures.front.within c.feed_parts-parts.ensures.front.end;
+  end = ends_on c.args.bytes.now 1 c.feed_parts-parts.result.count c.feed_parts-parts.result.fed c.feed_parts-parts.ensures.prefix.some
+      c.feed_parts-parts.ensures.prefix.within c.feed_parts-parts.ensures.prefix.end;
 }

@@ -1,0 +1,129 @@
+-- Frames of Ethernet: what brings them, and what they are beside those of a line.
+use Rattle.std.proofs.Math.Seq.{take-append_seam}
+use Rattle.std.proofs.Common.{◌⊎◌, inl, inr, ◌≡◌, ℕ, ◌+◌, ◌<◌, ◌==◌, ◌&&◌, Bool, true, false, if◌then◌else◌, nat_lt, List, [], ◌∷◌, ◌++◌, Option, None, Some, drop, length, map, take, refl, sym, ap, ◌∙◌, subst, arith, append-nil, length-append}
+use Rattle.std.specs.Prelude.{◌||◌, ⊤}
+use Rattle.std.specs.Str.{bytes_eq}
+use Rattle.app_events.specs.AppSpec.{AppSpec}
+use Rattle.uip_wire.specs.Addr.{address_at}
+use Rattle.uip_wire.specs.Fields.{word_at, word_bytes, written}
+use Rattle.uip_wire.specs.declared.addr.Addr.{Addr}
+use Rattle.uip_node.proofs.Basics.{choose}
+use Rattle.uip_node.specs.Edge.{reply_bytes}
+use Rattle.uip_node.specs.Events.{Reply}
+use Rattle.uip_node.specs.Events.Event.{Periodic}
+use Rattle.uip_node.specs.Node.{step}
+use Rattle.line_medium.specs.Media.{MediumInput, Datagram, Overlong, Own}
+use Rattle.serve_loop.specs.StationRuns.{StationEvent, OfMedium, OfNode, Station, station_after, output, output_of_event, reply_text}
+use Rattle.serve_loop.specs.LineStationEvents.{station_event_by}
+use Rattle.ethernet_arp.specs.EtherWay.{ether_text, ether_medium, is_taken, says_at}
+use Rattle.ethernet_arp.specs.Frames.{Host, arp_brings, arp_packet, broadcast, frame_brings, frame_with, framed, is_arp, is_arp_for, is_datagram, is_sendable, mac_at, no_mac, payload_brings, arp_reply, sender_of, wrapped, wrapped_to}
+use Rattle.ethernet_arp.specs.Learning.{Act, Asked, Pair, Replied, Ticked, known}
+use Rattle.frame_device.specs.FrameSpecs.{IsSilent, as_medium}
+use Rattle.frame_device.specs.FrameCalls.{CallsSlot, DoesNothing, FrameCall, InputsFrame, station_events_by}
+use Rattle.frame_device.specs.EtherFrames.{SentAsOnLine, ether_frames, on_line}
+
+-- what was written in front is read
+pub prefix_of : (old part : List ℕ) → take (length part) (written old 0 part) ≡ part
+prefix_of old part = take-append_seam part (drop (0 + length part) old)
+
+-- a frame that teaches, or brings nothing
+pub is_silent : (k : Host) (cs : List (MediumInput Act)) → (cs ≡ []) ⊎ ((pair : Pair) × (cs ≡ Own (Replied pair) ∷ [])) → IsSilent (ether_frames k) cs
+is_silent k cs (inl e) = inl e
+is_silent k cs (inr p) = inr (Replied p.0, p.1, refl)
+
+-- of a frame that brings a datagram that is the payload
+abbrev IsPayload : List ℕ → List (MediumInput Act) → Type 0
+IsPayload payload [] = ⊤
+IsPayload payload (Datagram d ∷ cs) = d ≡ payload
+IsPayload payload (Overlong ∷ cs) = ⊤
+IsPayload payload (Own a ∷ cs) = ⊤
+
+arp_is : (payload : List ℕ) (operation : ℕ) (sender : Pair) → IsPayload payload (arp_brings operation sender)
+arp_is payload operation sender =
+    choose (λ (l : List (MediumInput Act)). IsPayload payload l) (operation == 1) _ _ (λ e. tt)
+    (λ e. choose (λ (l : List (MediumInput Act)). IsPayload payload l) (operation == 2) _ _ (λ f. tt) (λ f. tt))
+
+payload_is : (k : Host) (kind : ℕ) (payload : List ℕ) → IsPayload payload (payload_brings k kind payload)
+payload_is k kind payload =
+    choose (λ (l : List (MediumInput Act)). IsPayload payload l) (is_datagram kind && nat_lt 0 (length payload)) _ _ (λ e. refl)
+    (λ e. choose (λ (l : List (MediumInput Act)). IsPayload payload l) (is_arp kind && is_arp_for k.addr payload) _ _ (λ f. arp_is payload (word_at payload 6) (sender_of payload)) (λ f. tt))
+
+frame_is : (k : Host) (frame : List ℕ) → IsPayload (drop 14 frame) (frame_brings k frame)
+frame_is k frame =
+    choose (λ (l : List (MediumInput Act)). IsPayload (drop 14 frame) l) (bytes_eq (mac_at frame 0) k.mac || bytes_eq (mac_at frame 0) broadcast) _ _
+    (λ e. payload_is k (word_at frame 12) (drop 14 frame)) (λ e. tt)
+
+pub brings_payload : (k : Host) (frame d : List ℕ) → frame_brings k frame ≡ Datagram d ∷ [] → d ≡ drop 14 frame
+brings_payload k frame d e = subst (λ (l : List (MediumInput Act)). IsPayload (drop 14 frame) l) e (frame_is k frame)
+
+-- ---- beside a line
+
+some_on_line : (xs : List ℕ) → 0 < length xs → on_line xs ≡ framed xs
+some_on_line [] some = absurd (omega (arith, some))
+some_on_line (x ∷ xs) some = refl
+
+module _ (k : Host) where
+  frame_some : (to payload : List ℕ) (kind : ℕ) → 0 < length (frame_with to k.mac kind payload)
+  frame_some to payload kind =
+      omega (arith, length-append to k.mac, length-append (to ++ k.mac) (word_bytes kind), length-append (to ++ k.mac ++ word_bytes kind) payload)
+
+  wrapped_some : (acts : List Act) (d : List ℕ) (o : Option (List ℕ)) → 0 < length (wrapped_to k o d)
+  wrapped_some acts d None = frame_some broadcast (arp_packet 1 k.mac k.addr no_mac (address_at d 16)) 2054
+  wrapped_some acts d (Some mac) = frame_some mac d 2048
+
+  text_on_line : (acts : List Act) (d : List ℕ) → on_line ((ether_frames k).text acts d) ≡ ether_text k acts d
+  text_on_line acts d =
+      elim (is_sendable d) as (λ v. on_line (if v then wrapped k acts d else []) ≡ (if v then framed (wrapped k acts d) else [])) [
+        | true ↦ some_on_line (wrapped k acts d) (wrapped_some acts d (known acts (address_at d 16)))
+        | false ↦ refl
+      ]
+
+  says_on_line : (act : Act) → on_line ((ether_frames k).says act) ≡ says_at k act
+  says_on_line (Asked pair) = some_on_line (arp_reply k pair) (frame_some pair.mac (arp_packet 2 k.mac k.addr pair.mac pair.addr) 2054)
+  says_on_line (Replied pair) = refl
+  says_on_line Ticked = refl
+
+  module _ (m : AppSpec) (served : ℕ → Bool) (own : Addr) where
+    reply_on_line : (acts : List Act) (o : Option Reply) → on_line (reply_text (as_medium (ether_frames k)) acts own o) ≡ reply_text (ether_medium k) acts own o
+    reply_on_line acts None = refl
+    reply_on_line acts (Some reply) = text_on_line acts (reply_bytes own reply)
+
+    station_event_on_line : (d : StationEvent Act) (s : Station Act) → on_line (output_of_event m served (as_medium (ether_frames k)) own s d) ≡ output_of_event m served (ether_medium k) own s d
+    station_event_on_line (OfMedium act) s = says_on_line act
+    station_event_on_line (OfNode e) s = reply_on_line s.acts (step m served s.node e).sent
+
+    one_on_line : (d : StationEvent Act) (s : Station Act) → on_line (output m served (as_medium (ether_frames k)) own (d ∷ []) s) ≡ output m served (ether_medium k) own (d ∷ []) s
+    one_on_line d s =
+        ap (λ l. on_line l) (append-nil (output_of_event m served (as_medium (ether_frames k)) own s d)) ∙ station_event_on_line d s
+        ∙ sym (append-nil (output_of_event m served (ether_medium k) own s d))
+
+    abbrev IsOnLine : Station Act → List (StationEvent Act) → Type 0
+    IsOnLine s station_events = on_line (output m served (as_medium (ether_frames k)) own station_events s) ≡ output m served (ether_medium k) own station_events s
+
+    abbrev CameOnLine : Station Act → List (MediumInput Act) → Type 0
+    CameOnLine s cs = IsOnLine s (map (station_event_by own) cs)
+
+    arp_on_line : (s : Station Act) (operation : ℕ) (sender : Pair) → CameOnLine s (arp_brings operation sender)
+    arp_on_line s operation sender =
+        choose (λ (l : List (MediumInput Act)). CameOnLine s l) (operation == 1) _ _ (λ e. one_on_line (OfMedium (Asked sender)) s)
+        (λ e. choose (λ (l : List (MediumInput Act)). CameOnLine s l) (operation == 2) _ _ (λ f. one_on_line (OfMedium (Replied sender)) s) (λ f. refl))
+
+    payload_on_line : (s : Station Act) (kind : ℕ) (payload : List ℕ) → CameOnLine s (payload_brings k kind payload)
+    payload_on_line s kind payload =
+        choose (λ (l : List (MediumInput Act)). CameOnLine s l) (is_datagram kind && nat_lt 0 (length payload)) _ _ (λ e. one_on_line (station_event_by own (Datagram payload)) s)
+        (λ e. choose (λ (l : List (MediumInput Act)). CameOnLine s l) (is_arp kind && is_arp_for k.addr payload) _ _ (λ f. arp_on_line s (word_at payload 6) (sender_of payload)) (λ f. refl))
+
+    frame_on_line : (s : Station Act) (frame : List ℕ) → CameOnLine s (frame_brings k frame)
+    frame_on_line s frame =
+        choose (λ (l : List (MediumInput Act)). CameOnLine s l) (bytes_eq (mac_at frame 0) k.mac || bytes_eq (mac_at frame 0) broadcast) _ _
+        (λ e. payload_on_line s (word_at frame 12) (drop 14 frame)) (λ e. refl)
+
+    call_on_line : (call : FrameCall) (s : Station Act) → IsOnLine s (station_events_by (ether_frames k) own call)
+    call_on_line (InputsFrame frame) s = choose (λ (l : List (MediumInput Act)). CameOnLine s l) (is_taken frame) _ _ (λ e. frame_on_line s frame) (λ e. refl)
+    call_on_line (CallsSlot slot) s =
+        choose (λ (acts : List Act). IsOnLine s (map OfMedium acts ++ OfNode (Periodic slot) ∷ [])) (slot == 0) (Ticked ∷ []) []
+        (λ e. one_on_line (OfNode (Periodic slot)) (station_after m served s (OfMedium Ticked))) (λ e. one_on_line (OfNode (Periodic slot)) s)
+    call_on_line DoesNothing s = refl
+
+pub as_on_line : SentAsOnLine
+as_on_line m served k own call s = call_on_line k m served own call s

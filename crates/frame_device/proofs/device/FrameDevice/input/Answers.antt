@@ -1,0 +1,37 @@
+use Rattle.std.proofs.Common.{ℕ, ◌+◌, ◌-◌, ◌∷◌, ◌∙◌, [], ap, arith, refl, drop, take}
+use Rattle.line_medium.specs.Media.{Datagram}
+use Rattle.frame_device.proofs.HereLaws.{brings_datagram, brings_own, brings_silent}
+use Rattle.frame_device.proofs.device.FrameDevice.input.Goals as goal
+
+pub returns-in-Nothing-clause-answers : goal.returns-in-Nothing-clause-answers
+returns-in-Nothing-clause-answers g c = record {
+  kept = refl;
+  each = λ k m own s here.
+      brings_silent g.A.App (g.M.Frames.spec k) m own s (λ acts. g.M.Frames.did c.take.new.self k acts) c.args.self.now.node
+      ((g.M.Frames.spec k).decodes (take c.args.len c.args.buf.now)) (rw c.in-Nothing.is at (c.take.ensures.told k s.acts here.acted)) here.stands
+      (c.take.ensures.did k s.acts here.acted);
+}
+
+pub returns-in-Own-clause-answers : goal.returns-in-Own-clause-answers
+returns-in-Own-clause-answers g c = record {
+  kept = refl;
+  each = λ k m own s here.
+      let told = rw c.in-Own.is at (c.take.ensures.told k s.acts here.acted) in
+      brings_own g.A.App (g.M.Frames.spec k) m own s (λ acts. g.M.Frames.did c.take.new.self k acts) c.args.self.now.node
+      ((g.M.Frames.spec k).decodes (take c.args.len c.args.buf.now)) told.0 _ told.1 told.2 here.stands (c.take.ensures.did k s.acts here.acted);
+}
+
+pub returns-in-Datagram-clause-answers : goal.returns-in-Datagram-clause-answers
+returns-in-Datagram-clause-answers g c =
+    let at = c.in-Datagram.at in
+    let len = c.in-Datagram.len in
+    let datagram = λ (n : ℕ). take n (drop at c.take.new.buf) in
+    record {
+      kept = c.input-sent.ensures.same;
+      each = λ k m own s here.
+          let told = rw c.in-Datagram.is at (c.take.ensures.told k s.acts here.acted) in
+          brings_datagram g.A.App (g.M.Frames.spec k) m own s (λ acts. g.M.Frames.did c.take.new.self k acts) c.args.self.now.node c.input-sent.new.self c.input-sent.result
+          ((g.M.Frames.spec k).decodes (take c.args.len c.args.buf.now)) (datagram (at + len - at)) (take c.write_sent.result c.write_sent.new.out)
+          (told ∙ ap (λ n. Datagram (datagram n) ∷ []) (omega arith)) c.input-sent.ensures.same c.input-sent.ensures.step
+          (λ acts reply did is. c.write_sent.ensures.text k acts own reply did is) here.stands (c.take.ensures.did k s.acts here.acted);
+    }

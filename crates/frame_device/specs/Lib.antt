@@ -1,0 +1,5 @@
+pub mod FrameSpecs
+pub mod FrameCalls
+pub mod FrameKeeping
+pub mod EtherFrames
+pub mod EtherBytes

@@ -1,0 +1,105 @@
+//! Ethernet with ARP.
+
+ghost use Rattle.std.specs.Prelude.{◌≡◌, ◌≤◌, ◌++◌, List, length, take};
+ghost use Rattle.uip_wire.specs.Fields.{written};
+ghost use Rattle.line_medium.specs.Media.{acts_among};
+ghost use Rattle.ethernet_arp.specs.Frames.{frame_brings};
+ghost use Rattle.ethernet_arp.specs.Learning.{Act};
+ghost use Rattle.ethernet_arp.specs.Table.{Knows, host_of};
+ghost use Rattle.frame_device.specs.EtherFrames.{ether_frames};
+ghost use Rattle.frame_device.specs.FrameSpecs.{FitsFrame, ReportsFrame};
+
+use crate::frames::{Decoded, Frames, LARGEST_OUT};
+use ethernet_arp::{ARP_FRAME, Arp, LARGEST_FRAME, Mac, SMALLEST_FRAME, Taken, take, wrap};
+use uip_wire::Addr;
+
+/// The length of the shortest datagram that is sent, a header alone, in bytes.
+const SMALLEST_DATAGRAM: usize = 20;
+
+/// Ethernet as one host uses it: its addresses and its table of ARP.
+#[derive(Drop)]
+pub struct Ethernet {
+    pub arp: Arp,
+}
+
+impl Ethernet {
+    ghost use Rattle.std.specs.Prelude.{◌≡◌, []};
+
+    /// Makes the Ethernet of a host that has learned nothing.
+    pub fn new(own: Addr, mac: Mac) -> Ethernet
+        ensures host { host_of result.arp ≡ record { addr = own.0; mac = mac.0 } }
+        ensures knows { Knows result.arp [] }
+    {
+        Ethernet {
+            arp: Arp::new(own, mac),
+        }
+    }
+}
+
+/// Copies a part to the start of a buffer.
+fn put_prefix(buf: &mut [u8], part: &[u8])
+    requires { length part.now ≤ length buf.old }
+    ensures { buf.new ≡ written buf.old 0 part.now }
+{
+    buf[..part.len()].copy_from_slice(part);
+}
+
+/// Receives a frame of 14 to 1514 bytes.
+fn take_whole(arp: &mut Arp, buf: &mut [u8], len: usize) -> Decoded
+    requires least { SMALLEST_FRAME ≤ len }
+    requires most { len ≤ LARGEST_FRAME }
+    requires room { LARGEST_OUT ≤ length buf.old }
+    ensures long { length buf.new ≡ length buf.old }
+    ensures fits { FitsFrame (length buf.new) result }
+    ensures host { host_of arp.new ≡ host_of arp.old }
+    ensures told { ReportsFrame (ether_frames (host_of arp.old)) buf.new result (frame_brings (host_of arp.old) (take len buf.old)) }
+    ensures knows { (acts : List Act) → Knows arp.old acts
+        → Knows arp.new (acts ++ acts_among (frame_brings (host_of arp.old) (take len buf.old))) }
+{
+    let mut reply = [0; ARP_FRAME];
+    match take(arp, &buf[..len], &mut reply) {
+        Taken::Nothing => Decoded::Nothing,
+        Taken::Reply(len) => {
+            put_prefix(buf, &reply[..len]);
+            Decoded::Own(len)
+        }
+        Taken::Datagram { at, len } => Decoded::Datagram { at, len },
+    }
+}
+
+impl Frames for Ethernet {
+    ghost use Rattle.std.specs.Prelude.{◌≡◌, List};
+    ghost use Rattle.ethernet_arp.specs.Frames.{Host};
+    ghost use Rattle.ethernet_arp.specs.Learning.{Act as EtherAct};
+    ghost use Rattle.ethernet_arp.specs.Table.{Knows, host_of};
+    ghost use Rattle.frame_device.specs.EtherFrames.{ether_frames};
+    ghost use Rattle.frame_device.specs.EtherBytes.{ether_brings_bytes};
+
+    ghost Act = { EtherAct };
+
+    ghost Config = { Host };
+
+    ghost spec = { ether_frames };
+
+    ghost did = { λ s k acts. (host_of s.arp ≡ k) × Knows s.arp acts };
+
+    fn take(&mut self, buf: &mut [u8], len: usize) -> Decoded {
+        if len < SMALLEST_FRAME || len > LARGEST_FRAME {
+            return Decoded::Nothing;
+        }
+        take_whole(&mut self.arp, buf, len)
+    }
+
+    fn tick(&mut self) {
+        self.arp.tick();
+    }
+
+    fn wrap(&self, datagram: &[u8], out: &mut [u8]) -> usize {
+        if datagram.len() < SMALLEST_DATAGRAM {
+            return 0;
+        }
+        wrap(&self.arp, datagram, out)
+    }
+
+    ghost bytes = { ether_brings_bytes };
+}

@@ -1,0 +1,50 @@
+//! What the moves of a caller write in turn: calls, and values that it sets between them.
+
+ghost use Rattle.std.specs.Prelude.{◌≡◌, ℕ, List, []};
+ghost use Rattle.std.specs.List.{All};
+ghost use Rattle.app_events.specs.Pages.{IsAddr, IsPaged, IsU32, Pages};
+ghost use Rattle.app_events.specs.AppSpec.{AppSpec};
+ghost use Rattle.uip_node.specs.Laws.{HasBytes};
+ghost use Rattle.uip_wire.specs.declared.addr.Addr.{Addr};
+ghost use Rattle.frame_device.specs.declared.device.FrameDevice.{FrameDevice as AnyDevice};
+ghost use Rattle.frame_device.specs.EtherFrames.{FramesGoHome, SentAsOnLine};
+ghost use Rattle.frame_device.specs.FrameCalls.{Answered, AnswersAll, FromFresh, IsFresh, RepresentsStation, Writing};
+ghost use Rattle.frame_device.specs.FrameCalls.{frames_sent, handed_of, moves_of, station_after_moves};
+ghost use Rattle.serve_loop.specs.LineOutput.{initial_station};
+ghost use Rattle.frame_device.specs.FrameKeeping.{IsOfBytes, FramesConform, KeepsU32};
+
+use crate::frames::Frames;
+use app_events::App;
+
+/// Holds for any calls of a fresh device in turn, and any values that are set between them. Each call writes exactly the frame that the
+/// initial node and its link send for its events, or none. The device represents the node and link after all moves. The configuration of its
+/// application stays.
+pub fn frame_calls_are_exact<A: App, M: Frames>()
+    ensures frames { FromFresh A.App M.Frames (λ k m gives numbers own all old new.
+        handed_of all ≡ frames_sent m A.served (M.spec k) gives own (moves_of all) (initial_station own numbers)) }
+    ensures stands { FromFresh A.App M.Frames (λ k m gives numbers own all old new.
+        RepresentsStation A.App M.Frames k m own new (station_after_moves m A.served (M.spec k) gives own (moves_of all) (initial_station own numbers))) }
+    ensures kept { FromFresh A.App M.Frames (λ k m gives numbers own all old new. A.config new.node.shared ≡ A.config old.node.shared) }
+{}
+
+/// Holds for any frames of bytes and any other calls of a fresh device in turn, and any values that are set between them, if the text of its
+/// application is a page of bytes. Each call writes the frame of what is sent in trace entries of its own events, or of the link's own event,
+/// and the trace conforms.
+pub fn frame_calls_keep_the_promise<A: App, M: Frames>()
+    ensures { (k : M.Config) (m : AppSpec) (pages : Pages) → IsPaged m pages → HasBytes pages → (gives : Writing) → KeepsU32 gives
+        → (numbers : List ℕ) → All IsU32 numbers → (own : Addr) → IsAddr own
+        → (all : List Answered) → All IsOfBytes (moves_of all) → (old new : AnyDevice A M A.Shared)
+        → IsFresh A.App M.Frames k m numbers own old → AnswersAll A.App M.Frames gives all old new
+        → FramesConform (M.spec k) pages A.served own all }
+{}
+
+/// Over Ethernet a call writes what `ether_medium` sends on a line for the same events, without the length before the frame.
+pub fn ether_frames_are_of_the_line()
+    ensures { SentAsOnLine }
+{}
+
+/// Over Ethernet each frame with a datagram goes to the hardware address that its target taught last.
+#[tactic(auto, using(crate::proofs::HomeLaws::frames_go_home))]
+pub fn ether_frames_go_home()
+    ensures { FramesGoHome }
+{}

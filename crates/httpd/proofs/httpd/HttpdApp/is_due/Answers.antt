@@ -1,0 +1,18 @@
+use Rattle.std.proofs.Common.{◌≡◌, ap, sym, subst}
+use Rattle.app_events.specs.AppSpec.{IsRepresented}
+use Rattle.file_tree.specs.Site.{SiteContent, files_of}
+use Rattle.web_pages.specs.WebMeaning.{web_spec}
+use Rattle.httpd.specs.Web.{WebContent}
+use Rattle.httpd.specs.HttpdRepresents.{HttpdRepresents}
+use Rattle.httpd.proofs.httpd.HttpdApp.is_due.Goals as goal
+
+pub is_due_at-requires : goal.is_due_at-requires
+is_due_at-requires c = subst (λ (site : SiteContent). IsRepresented HttpdRepresents c.args.self.now site) (sym (ap (λ (w : WebContent). w.site) c.shared.view_is)) c.requires
+
+pub returns : goal.returns
+returns c = record {
+  not_due = λ e p now s.
+      let same = ap (λ (w : WebContent). w.site) c.shared.view_is in
+      subst (λ (site : SiteContent). (web_spec (files_of site)).prepare c.args.shared.now.hits p now ≡ p) same
+      (c.is_due_at.ensures.not_due e c.args.shared.now.hits p now (subst (λ (site : SiteContent). HttpdRepresents c.args.self.now site p) (sym same) s));
+}

@@ -1,0 +1,66 @@
+-- The states that a connection of the web server represents.
+use Rattle.std.specs.Prelude.{◌≡◌, ◌≤◌, ◌+◌, ℕ, List, [], ◌++◌, length, drop, Option}
+use Rattle.app_events.specs.AppSpec.{Snapshot, AppState}
+use Rattle.file_tree.specs.declared.file_id.FileId.{FileId}
+use Rattle.file_tree.specs.Site.{SiteContent, files_of}
+use Rattle.site_image.specs.Files.{file_named}
+use Rattle.web_pages.specs.Requests.{wanted}
+use Rattle.web_pages.specs.Requests.Wanted.{Refused, Name}
+use Rattle.generators.specs.Giving.{Giving, uip}
+use Rattle.generators.specs.Text.{capture_text}
+use Rattle.web_pages.specs.Pieces.{Say, reply_pieces_by}
+use Rattle.web_pages.specs.Pages.{reach_by, text_by}
+use Rattle.httpd.specs.declared.stage.Stage.{Stage}
+use Rattle.httpd.specs.declared.stage.Stage.TheVariants as stage
+use Rattle.httpd.specs.First.{Httpd}
+use Rattle.httpd.specs.declared.httpd.Pages.{Pages}
+use Rattle.httpd.specs.declared.thread.Thread.{Thread}
+use Rattle.httpd.specs.Reply.{FileReply, calls_in, found_file, left_from, reply_by}
+use Rattle.httpd.specs.Places.{IsFound, Fits}
+use Rattle.httpd.specs.Kept.{KeepsDirective}
+use Rattle.httpd.specs.Hearing.{HearsMethod, HearsTarget}
+
+-- the pieces of the page of a name
+abbrev pub page_pieces : {F : Type 0} → FileReply F → List ℕ → List (Say F)
+page_pieces reply name = reply_pieces_by reply.gives.calling.named reply.files name
+
+-- For any further snapshots: what the thread still sends with them is the page of the name after the acknowledged offset. It reaches the
+-- end if the page does. The reply has passed as many calls as there are snapshots.
+pub record IsLeft {F : Type 0} (reply : FileReply F) (thread : Thread) (name : List ℕ) (part : AppState) : Type 0 where
+  pub text : (later : List Snapshot) → text_by reply.gives reply.files (left_from reply thread) later
+      ≡ drop part.acked (text_by reply.gives reply.files (page_pieces reply name) (part.captures ++ later))
+  pub whole : (later : List Snapshot) → reach_by reply.gives (left_from reply thread) later
+      ≡ reach_by reply.gives (page_pieces reply name) (part.captures ++ later)
+  pub calls : length part.captures + calls_in reply.gives.calling (left_from reply thread)
+      ≡ calls_in reply.gives.calling (page_pieces reply name)
+  pub within : part.acked ≤ length (text_by reply.gives reply.files (page_pieces reply name) part.captures)
+
+-- A reply to a request for the name is being sent.
+pub record IsReplying {F R : Type 0} (g : Giving F) (text : R → List ℕ) (a : Pages R) (site : SiteContent)
+    (name : List ℕ) (found : Option FileId) (part : AppState) : Type 0 where
+  pub wanted : wanted part.delivered ≡ Name name
+  pub there : IsFound (files_of site) found
+  pub file : found_file (files_of site) found ≡ file_named (files_of site) name
+  pub fits : Fits (reply_by g text site found a.capture) a.thread
+  pub kept : KeepsDirective (reply_by g text site found a.capture) part.captures a.thread
+  pub left : IsLeft (reply_by g text site found a.capture) a.thread name part
+
+-- Nothing was sent, captured or acknowledged.
+pub record SaysNothing (part : AppState) : Type 0 where
+  pub captures : part.captures ≡ []
+  pub acked : part.acked ≡ 0
+
+-- The state by the stage of the request.
+abbrev pub StandsIn : {F R : Type 0} → Giving F → (R → List ℕ) → Pages R → SiteContent → AppState → Stage → Type 0
+StandsIn g text a site part stage.Method = HearsMethod a.line part.delivered × SaysNothing part
+StandsIn g text a site part stage.Target = HearsTarget a.line part.delivered × SaysNothing part
+StandsIn g text a site part (stage.Reply found) = (name : List ℕ) × IsReplying g text a site name found part
+StandsIn g text a site part stage.Refused = (wanted part.delivered ≡ Refused) × SaysNothing part
+
+pub record PagesRepresent {F R : Type 0} (g : Giving F) (text : R → List ℕ) (a : Pages R) (site : SiteContent) (part : AppState) : Type 0 where
+  pub polls : a.polls ≡ part.polls
+  pub stands : StandsIn g text a site part a.stage
+
+-- with the functions of uIP
+abbrev pub HttpdRepresents : Httpd → SiteContent → AppState → Type 0
+HttpdRepresents = PagesRepresent uip capture_text

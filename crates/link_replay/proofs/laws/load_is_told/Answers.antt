@@ -1,5 +1,0 @@
-use Rattle.link_replay.proofs.Undisturbed.{load_is_told}
-use Rattle.link_replay.proofs.laws.load_is_told.Goals as goal
-
-pub returns : goal.returns
-returns c = load_is_told

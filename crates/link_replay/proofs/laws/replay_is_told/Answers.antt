@@ -1,5 +1,0 @@
-use Rattle.link_replay.proofs.Undisturbed.{replay_is_told}
-use Rattle.link_replay.proofs.laws.replay_is_told.Goals as goal
-
-pub returns : goal.returns
-returns c = replay_is_told

@@ -1,0 +1,5 @@
+use Rattle.node_laws.proofs.laws.every_trace_conforms.Goals as goal
+use Rattle.node_laws.proofs.EveryTraceConforms.{every_trace_conforms}
+
+pub returns : goal.returns
+returns c = every_trace_conforms

@@ -1,5 +1,0 @@
-use Rattle.trace.proofs.RoundTrip.{surely}
-use Rattle.trace.proofs.laws.slip_end_is_told.Goals as goal
-
-pub returns : goal.returns
-returns c = surely

@@ -1,5 +1,0 @@
-use Rattle.udp_resolver.proofs.EndLaws.{budget_told}
-use Rattle.udp_resolver.proofs.laws.budget_is_told.Goals as goal
-
-pub returns : goal.returns
-returns c = budget_told

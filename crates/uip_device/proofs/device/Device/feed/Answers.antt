@@ -1,0 +1,22 @@
+use Rattle.std.proofs.Common.{map, take}
+use Rattle.uip_edge.specs.declared.item.Item.TheVariants.{Byte}
+use Rattle.packet_buffer.specs.Buffer.{datagram_in}
+use Rattle.serve_loop.specs.LineEvents.{events_after}
+use Rattle.uip_device.specs.Devices.{left_text_of}
+use Rattle.uip_device.specs.Handing.{text_to_come}
+use Rattle.uip_device.proofs.AnswerLaws.{none_left}
+use Rattle.uip_device.proofs.SendLaws.{on_line}
+use Rattle.uip_device.proofs.device.Device.feed.Goals as goal
+
+pub returns-clause-answers : goal.returns-clause-answers
+returns-clause-answers g c =
+    let old = c.args.self.now in
+    let taken = c.take-taken.result in
+    let new = c.take-taken.new.node in
+    record {
+      delivered = c.take-taken.ensures.fed;
+      sends = λ before fed.
+          on_line g.A.App (λ own. events_after own 0 before (map Byte (take taken.count c.args.bytes.now))) old.node new (left_text_of old)
+          (take taken.written.wrote c.take-taken.new.out) (text_to_come (datagram_in new.packet) taken.written.left) (none_left old c.requires.none)
+          (c.take-taken.ensures.sends before fed);
+    }

@@ -1,0 +1,10 @@
+use Rattle.std.proofs.Common.{◌≡◌, ◌<◌, ◌-◌, ℕ, false}
+use Rattle.std.specs.Prelude.{slice_index}
+use Rattle.uip_slip.specs.Frames.{is_mark}
+use Rattle.uip_slip.proofs.marks.plain_after.Given as goal
+
+abbrev pub invariant-loop-at : goal.invariant-loop-at
+invariant-loop-at l = (k : ℕ) → k < l.at → is_mark (slice_index l.bytes k) ≡ false
+
+abbrev pub decreases-loop-at : goal.decreases-loop-at
+decreases-loop-at l = l.last - l.at

@@ -1,0 +1,202 @@
+"""Compares the documents with the sources, and wraps the prose of Markdown pages."""
+import os
+import re
+import subprocess
+import sys
+
+import add
+import calls
+import words
+from repository import TOP, read, tracked
+
+MOST_IN_A_CHAIN = 8
+WIDTH = 100
+# Names in documents that no source has: words of the kit, of std and of the system.
+OUTSIDE = set("""
+    rt rattle python3 valgrind qemu-system-aarch64 tshark dnsmasq telnet inetutils curl stty strace node chromium git
+    main clang gcc g++ cc man sh make ip qemu Linux std core alloc usize u8 u16 u32 u64 i32 true false main()
+    arping slipif once_cell memchr2 cC nC mps2-an386
+""".split())
+# Folders that a build makes, folders of the kit, and content types are not paths of the repository.
+NO_PATH = re.compile(r"(.*/)?out/.*|rattle/.*|(text|image|application)/.*|[A-Z]+(/[A-Z]+)+|\d+(/\d+)+")
+KIT = re.compile(r"rattle-kit-\w+")
+# Files whose words name nothing: pages, data, and the stored counts of words.
+NO_SOURCE = (".md", ".png", ".img", ".slip", ".xz", ".pcap", ".wasm", "docs/words.txt")
+
+
+class Documents:
+    """The Markdown pages and the words of all sources."""
+
+    def __init__(self, crates):
+        self.crates, self.faults = crates, []
+        self.files = tracked()
+        self.pages = [it for it in self.files if it.endswith(".md")]
+        self.stems = {os.path.splitext(os.path.basename(it))[0] for it in self.files}
+        self.names = {os.path.basename(it) for it in self.files} | self.stems
+        self.places = set(self.files) | {"/".join(it.split("/")[:n]) for it in self.files for n in range(1, it.count("/") + 1)}
+        self.words = set()
+        for path in self.files:
+            if not path.endswith(NO_SOURCE):
+                self.words.update(re.findall(r"[A-Za-z_][\w'-]*|\w+", read(path)))
+        self.words |= {part for it in self.words for part in re.split(r"[-']", it)}
+
+    def fault(self, page, number, text):
+        self.faults.append(f"{page}:{number}: {text}")
+
+    def is_path(self, page, text, crates):
+        """Whether the repository has a path: at the top, beside the page, in docs/, or in one of these crates. A page of no crate may
+        name a folder that each crate has. A source may lack its ending, and its folder after the crate's name, as in `uip_slip/Frames`."""
+        text = text.rstrip("/").split("#")[0]
+        crate, _, rest = text.partition("/")
+        if crate in ("specs", "src", "proofs", "must-fail") and not page.startswith("crates/"):
+            crates = self.crates.below
+        paths = [os.path.join(at, text) for at in ("", os.path.dirname(page), "docs", "crates", *(f"crates/{it}" for it in crates))]
+        paths += [f"crates/{crate}/{part}/{rest}" for part in ("specs", "src", "proofs")]
+        return any(os.path.normpath(it) + end in self.places for it in paths for end in ("", ".antt", ".rt", ".edit", ".md"))
+
+    def is_name(self, text):
+        """Whether each part of a name as `Type::call` or `Module.name` is a word of a source."""
+        parts = [it for it in re.split(r"::|\.|\(\)|[<>,&]", text) if it]
+        return all(it in self.words or it in self.names or it in OUTSIDE or it.isdigit() or KIT.fullmatch(it) for it in parts)
+
+    def see_names(self, page, number, line, crates):
+        """Compares the names and paths in back quotes with the sources; a path of a crate is a path of one of these crates."""
+        for text in re.findall(r"`([^`]+)`", line):
+            if re.search(r"NAME|CRATE|FILE|FUNCTION|TYPE|[*]|^/", text):
+                continue
+            if re.fullmatch(r"[\w.-]+(/[\w.-]+)+/?", text):
+                if not NO_PATH.fullmatch(text) and not self.is_path(page, text, crates):
+                    self.fault(page, number, f"there is no {text}")
+            elif re.fullmatch(r"[A-Za-z_][\w'-]*((::|\.)[A-Za-z_][\w'-]*)*(\(\))?", text) and not self.is_name(text):
+                self.fault(page, number, f"no source has the name {text}")
+        for target in re.findall(r"\]\(([^)\s]+)\)", line):
+            if not re.match(r"[a-z]+:|#", target) and not os.path.exists(os.path.join(TOP, os.path.dirname(page), target.split("#")[0])):
+                self.fault(page, number, f"the link to {target} has no target")
+
+    def crates_in(self, text):
+        return {it for it in re.findall(r"\w+", text) if it in self.crates.below}
+
+    def see_page(self, page):
+        in_code = in_list = False
+        lines = read(page).splitlines()
+        about = self.crates_in(page) | self.crates_in(" ".join(lines[:12]))
+        latest = set()
+        for number, line in enumerate(lines, 1):
+            latest = self.crates_in(line) or latest
+            for mark in re.findall(r"<!-- list: (.*?) -->", line):
+                for it in mark.split():
+                    if it not in self.crates.below and not self.is_path(page, it, ()):
+                        self.fault(page, number, f"the list has {it}, which is neither a crate nor a file of a crate")
+            in_code ^= line.startswith("```")
+            in_list = (in_list or line.startswith("<!-- ")) and not line.startswith("<!-- end")
+            if in_code or line.startswith(("    ", "```")):
+                continue
+            if not in_list:
+                self.see_names(page, number, line, latest | about)
+                if len(line) > WIDTH and not line.startswith(("|", "#")) and " " in line.strip()[:WIDTH] and "](" not in line:
+                    self.fault(page, number, f"{len(line)} columns; at most {WIDTH} are allowed")
+            timed = re.search(r"\b\d+( to \d+)? (s|seconds)\b.*\bcheck|\bcheck\w*\b[^.]*\b\d+( to \d+)? (s|seconds)\b", line)
+            if timed and "easured:" not in line:
+                self.fault(page, number, "seconds of a check are printed by dev.py, and not written by hand")
+
+    def see_crates(self):
+        table = read("docs/ARCHITECTURE.md")
+        for name in self.crates.below:
+            page = f"crates/{name}/README.md"
+            if page not in self.places:
+                self.fault(page, 1, "the crate has no page")
+                continue
+            if not re.search(rf"^\| \[`{name}`\]\(\.\./crates/{name}/README\.md\)", table, re.M):
+                self.fault("docs/ARCHITECTURE.md", 1, f"the table of crates has no row for {name}")
+            sources = [it for it in self.files if it.startswith(f"crates/{name}/src/")]
+            has_tests = any("#[test]" in read(it) for it in sources)
+            for number, line in enumerate(read(page).splitlines(), 1):
+                speaks = re.search(r"\b(own tests|crate's (own )?tests|its tests|src/tests)\b", line) and "cross_tests" not in line
+                if speaks and not has_tests:
+                    self.fault(page, number, "it mentions the crate's tests, but the crate has none")
+        for name in sorted({it.split("/")[1] for it in self.files if it.startswith("crates/")} - set(self.crates.below)):
+            self.fault("crates.txt", 1, f"crates/{name} is not listed")
+        chain = self.crates.longest_chain()
+        if len(chain) > MOST_IN_A_CHAIN:
+            self.fault("crates.txt", 1, f"a chain of {len(chain)} crates; at most {MOST_IN_A_CHAIN} are allowed: {' '.join(chain)}")
+
+    def see_all(self):
+        for page in self.pages:
+            self.see_page(page)
+        self.see_crates()
+
+
+def wrapped(text):
+    """A Markdown text with its prose wrapped: paragraphs and items of lists, each item with its own indent."""
+    out, block, indent = [], [], ""
+
+    def flush():
+        if block:
+            words = re.findall(r"(?:`[^`]*`|\[[^\]]*\]\([^)]*\)|<!--.*?<!-- end -->|\S)+", " ".join(block))
+            line = block[0][:len(block[0]) - len(block[0].lstrip())] + words[0]
+            for word in words[1:]:
+                if len(line) + 1 + len(word) > WIDTH and not re.match(r"[-*+#|>]$|\d+\.$", word):
+                    out.append(line)
+                    line = indent + word
+                else:
+                    line += " " + word
+            out.append(line)
+            block.clear()
+
+    in_fence = in_mark = False
+    for line in text.split("\n"):
+        fence, mark = line.lstrip().startswith("```"), re.match(r"<!-- (\w+)", line)
+        item = re.match(r"(\s*)(?:[-*+]|\d+\.) ", line)
+        stays = re.match(r"\s*[|#>]|!\[|<", line) or (re.match(r" {4}|\t", line) and not block)
+        if in_fence or in_mark or fence or mark or not line.strip() or stays:
+            flush()
+            out.append(line)
+            in_fence ^= fence
+            if mark and not in_fence:
+                in_mark = mark.group(1) != "end" and "<!-- end -->" not in line
+            continue
+        if item:
+            flush()
+            indent = " " * len(item.group(0))
+        elif not block:
+            indent = re.match(r"\s*", line).group(0)
+        block.append(line.rstrip() if not block else line.strip())
+    flush()
+    return "\n".join(out)
+
+
+def wrap(pages):
+    for page in pages:
+        with open(page, encoding="utf8") as file:
+            text = file.read()
+        if wrapped(text) != text:
+            with open(page, "w", encoding="utf8") as file:
+                file.write(wrapped(text))
+            print(f"wrapped {page}")
+
+
+def see_kit():
+    """Warns if `rt version` prints a kit that CONTRIBUTING.md does not name: by its whole name, or by its number with its letter."""
+    try:
+        done = subprocess.run(["rt", "version"], stdout=subprocess.PIPE, stderr=subprocess.DEVNULL, text=True, timeout=60, check=False)
+    except (OSError, subprocess.TimeoutExpired):
+        return
+    kit = KIT.search(done.stdout)
+    named = set(re.findall(r"[\w-]+", read("CONTRIBUTING.md")))
+    if kit and not named.intersection((kit[0], kit[0].removeprefix("rattle-kit-"))):
+        print(f"warning: the kit here is {kit[0]}, which CONTRIBUTING.md does not name")
+
+
+def docs(crates):
+    documents = Documents(crates)
+    documents.see_all()
+    faults = documents.faults + add.faults(crates) + calls.faults(crates) + words.faults()
+    for line in faults:
+        print(line)
+    failed = bool(faults)
+    for command in (["docs/trusted.py"], ["docs/trusted.py", "names"], ["examples/image.py"]):
+        failed |= subprocess.run([sys.executable, *command], cwd=TOP, check=False).returncode != 0
+    see_kit()
+    if not failed:
+        print("the documents agree with the sources")
+    return int(failed)

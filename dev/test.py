@@ -1,0 +1,184 @@
+#!/usr/bin/env python3
+"""Tests dev.py on a small repository of its own, in which faults are planted: each has to be found, and nothing else.
+
+    python3 dev/test.py
+"""
+import os
+import shutil
+import subprocess
+import sys
+import tempfile
+
+HERE = os.path.dirname(os.path.abspath(__file__))
+TABLE = "# Architecture\n\n## How to add something\n\n| thing | places |\n|---|---|\n| a counter | `python3 dev.py add counter` |\n"
+FILES = {
+    "crates.txt": "# the wire\nlow:\n# above\nhigh: low\n",
+    "README.md": "# A page\n\nIt sends what it has.\n\n    it tells and says and hears\n\n```\nit stands\n```\n\nAlso `it tells`.\n",
+    "CONTRIBUTING.md": "The kit is rattle-kit-13 with the letters 13b and 13y.\n",
+    "docs/ARCHITECTURE.md": TABLE,
+    "docs/page.1": ".TH PAGE\n.SH NAME\nIt \\fBtells\\fP it.\n.B says\n.nf\nit stands\n.fi\nIt was said once.\n",
+    "crates/low/README.md": "# `low`\n",
+    "crates/low/src/lib.rt": "mod low;\n\npub use low::{Low, free, lost};\n",
+    "crates/low/src/low.rt": """/// The numbers that were handed over.
+pub struct Low {
+    /// The counters.   [add: counter]
+    pub net: [u32; 2],
+}
+
+impl Low {
+    pub fn used(&self) -> u32 {
+        self.net[0]
+    }
+
+    pub fn edited(&self) -> u32 {
+        self.net[1]
+    }
+
+    pub fn unused(&self) -> u32 {
+        self.inner()
+    }
+
+    pub fn inner(&self) -> u32 {
+        self.net[0] + 1
+    }
+
+    fn private(&self) -> u32 {
+        1
+    }
+}
+
+pub fn free() -> u32 {
+    1
+}
+
+pub fn lost() -> u32 {
+    let url = "http://tell/";   // it is told
+    2
+}
+""",
+    "crates/low/specs/Low.antt": "-- what was said so far\n-- of the counter   [add: counter]\nlow : N\n",
+    "crates/low/must-fail/wrong.edit": "file: src/low.rt\nold:         self.net[1]\nnew:         self.net[0]\n",
+    "crates/high/README.md": "# `high`\n",
+    "crates/high/src/lib.rt": "use low::{Low, free};\n\nfn go(low: &Low) -> u32 {\n    low.used() + free()\n}\n",
+}
+RT = """#!/usr/bin/env python3
+import os, subprocess, sys, tempfile
+if sys.argv[1] == "version":
+    print("rattle-kit-13x logic")
+elif sys.argv[1] == "ci":
+    busy = "import time\\nwhile time.process_time() < 1.5: pass"
+    for words, place in ((["low"], "crates/low"), (["high", "--test"], "crates/high"), (["low"], tempfile.mkdtemp(prefix="rt-edit-"))):
+        subprocess.run([sys.executable, "-c", busy, "check", "--crate-name", *words], cwd=place)
+    print("2 passed, 1 failed")
+    sys.exit(7)
+"""
+
+
+class Trial:
+    """A repository in a folder of its own, and how many expectations failed."""
+
+    def __init__(self, room):
+        self.room, self.failed, self.count = os.path.join(room, "repository"), 0, 0
+        for path, text in FILES.items():
+            self.write(path, text)
+        shutil.copytree(HERE, os.path.join(self.room, "dev"), ignore=shutil.ignore_patterns("__pycache__"))
+        shutil.copy(os.path.join(HERE, "../dev.py"), self.room)
+        bin_folder = os.path.join(room, "bin")
+        os.makedirs(bin_folder)
+        with open(os.path.join(bin_folder, "rt"), "w", encoding="utf8") as file:
+            file.write(RT)
+        os.chmod(os.path.join(bin_folder, "rt"), 0o755)
+        self.environment = {**os.environ, "PATH": f"{bin_folder}:{os.environ['PATH']}"}
+        for words in (["init", "-q"], ["add", "-A"], ["-c", "user.name=a", "-c", "user.email=a@b", "commit", "-qm", "first"]):
+            subprocess.run(["git", *words], cwd=self.room, check=True)
+
+    def write(self, path, text):
+        full = os.path.join(self.room, path)
+        os.makedirs(os.path.dirname(full), exist_ok=True)
+        with open(full, "w", encoding="utf8") as file:
+            file.write(text)
+
+    def run(self, *words):
+        done = subprocess.run([sys.executable, "dev.py", *words], cwd=self.room, env=self.environment, capture_output=True, text=True, check=False)
+        return done.returncode, done.stdout, done.stderr
+
+    def see(self, is_good, text):
+        self.count += 1
+        if not is_good:
+            self.failed += 1
+            print(f"WRONG: {text}")
+
+
+def words(trial):
+    status, out, _ = trial.run("words")
+    trial.see(status == 1 and "no counts are stored" in out, f"words without a store: {out}")
+    status, out, _ = trial.run("words", "write")
+    stored = open(os.path.join(trial.room, "docs/words.txt"), encoding="utf8").read()
+    rows = [line for line in stored.splitlines() if not line.startswith("#") and not line.startswith(("dev", "dev.py"))]
+    trial.see(rows == ["crates/low: 1 handed, 1 say, 1 tell", "docs/page.1: 1 say"], f"the stored counts are {rows}")
+    trial.see(status == 0 and trial.run("words")[0] == 0, "words after a store")
+    trial.write("README.md", FILES["README.md"] + "\nIt has told it, and what comes to it.\n")
+    status, out, _ = trial.run("words")
+    trial.see(status == 1 and 'README.md: "tell" 1 times' in out and '"comes to" 1 times' in out and out.count("before: write") == 2,
+              f"words after a rise: {out}")
+    trial.write("README.md", FILES["README.md"])
+    trial.see(trial.run("words")[0] == 0, "words after the fall")
+
+
+def tags(trial):
+    status, out, _ = trial.run("add", "counter")
+    expected = ("crates/low/src/low.rt:3: The counters.\n    pub net: [u32; 2],\n"
+                "crates/low/specs/Low.antt:2: what was said so far of the counter\n    low : N\n")
+    trial.see((status, out) == (0, expected), f"add counter: {out}")
+    trial.see("[add: nothing]" in trial.run("add", "nothing")[2], "add of no tag")
+    trial.write("docs/ARCHITECTURE.md", TABLE.replace("add counter", "add state"))
+    out = trial.run("docs")[1]
+    trial.see("docs/ARCHITECTURE.md:7: no source has the tag [add: state]" in out and "does not name `dev.py add counter`" in out, f"docs: {out}")
+    trial.write("docs/ARCHITECTURE.md", TABLE)
+    trial.see("[add:" not in trial.run("docs")[1], "docs with its tags")
+
+
+def calls(trial):
+    lines = [line for line in trial.run("calls")[1].splitlines() if "exception" not in line]
+    names = [line.split()[1] for line in lines]
+    trial.see(names == ["low::Low::unused", "low::lost"], f"unused calls: {names}")
+    text = FILES["crates/high/src/lib.rt"]
+    trial.write("crates/high/src/lib.rt", text.replace("free()", "free() + lost() + low.unused()"))
+    trial.see(not [line for line in trial.run("calls")[1].splitlines() if "neither" in line], "calls that are used")
+    trial.write("crates/high/src/lib.rt", text)
+
+
+def gate(trial):
+    status, out, said = trial.run("ci")
+    trial.see(status == 7 and "2 passed, 1 failed" in out, f"the status of the gate is {status}")
+    rows = {line.split()[1]: [float(it) for it in line.split()[2:]] for line in said.splitlines() if line.startswith(("gate: low", "gate: high"))}
+    good = set(rows) == {"low", "high"} and all(abs(seen - wanted) < 0.012 for name, wanted_row in
+           (("low", [0.025, 0, 0.025, 0, 0.05]), ("high", [0, 0.025, 0, 0, 0.025])) for seen, wanted in zip(rows[name], wanted_row))
+    trial.see(good, f"the minutes are {rows}")
+    trial.see(trial.run("gate")[1].count("low") == 1, "the table of the last run")
+    trial.write("log", "rt: low proved\nrt: must-fail low/wrong.edit: refused\n")
+    out = trial.run("gate", "log")[1]
+    trial.see("1 of 2 crates proved, 1 edits tried" in out and "no times" in out, f"a log without times: {out}")
+
+
+def further(trial):
+    trial.see("the kit here is rattle-kit-13x" in trial.run("docs")[1], "a kit that is not named")
+    trial.write("CONTRIBUTING.md", "The letters are 13b and 13x.\n")
+    trial.see("the kit here" not in trial.run("docs")[1], "a kit that is named")
+    status, _, said = trial.run("flash")
+    trial.see(status == 1 and "the board is not built" in said, f"flash without a board: {said}")
+    trial.see(trial.run("check", "none")[2] == "dev.py: crates.txt has no crate none\n", "a crate that is not listed")
+    trial.see(trial.run("above", "low")[1].split()[0::4] == ["low", "high"], "the crates above")
+    trial.see(trial.run("frobnicate")[0] == 2 and trial.run("--help")[0] == 0, "the words of dev.py")
+
+
+def main():
+    with tempfile.TemporaryDirectory() as room:
+        trial = Trial(room)
+        for part in (words, tags, calls, gate, further):
+            part(trial)
+    print(f"dev.py: {trial.count} expectations, {trial.failed} failed")
+    sys.exit(1 if trial.failed else 0)
+
+
+main()

@@ -1,0 +1,31 @@
+// The ring that the receive interrupt fills, the count of ticks, and the sleep between events: the same for every board. If the ring is
+// full, the interrupt is turned off, and the port's own queue keeps further bytes until there is room.
+#include "ring.h"
+
+unsigned char ring[RING];
+volatile unsigned ring_received, ring_taken, ring_ticks;
+unsigned port_lost;
+
+port_bytes port_waiting(void) {
+    unsigned len = ring_received - ring_taken, at = ring_taken % RING;
+    return (port_bytes){ring + at, len < RING - at ? len : RING - at};
+}
+
+void port_taken(size_t len) {
+    ring_taken += (unsigned)len;
+    port_receives(1);
+}
+
+void port_send(void *to, const unsigned char *bytes, size_t len) {
+    (void)to;
+    for (; len; len--) port_put(*bytes++);
+}
+
+unsigned clock_ticks(void) { return ring_ticks; }
+
+// An interrupt between the test and the wait ends the wait: it is held back and not lost.
+void board_sleep(unsigned ticks) {
+    interrupts(0);
+    if (ring_received == ring_taken && ring_ticks == ticks) wait_for_interrupt();
+    interrupts(1);
+}

@@ -1,0 +1,131 @@
+#!/bin/sh
+# Builds the library, and a firmware with it, for another processor from the proved module, and tests both.
+#
+#     sh ports/run.sh TARGET                       builds the library and the firmware, and prints what flash and memory they need
+#     sh ports/run.sh TARGET fetch                 runs the firmware under qemu; Linux's TCP fetches every file of the site
+#     sh ports/run.sh TARGET usage                 the same, and prints what memory that run used
+#     sh ports/run.sh TARGET state                 the same for the firmware of a device with a state (examples/board/state.c)
+#     sh ports/run.sh TARGET same [CALLS [SEED]]   makes CALLS random calls of the library for this machine and of this one: every
+#                                                  status, number, byte and call of the heap must be the same
+#     sh ports/run.sh TARGET speed                 counts the instructions of a ping and of a small file (not for wasm)
+#     sh ports/run.sh TARGET planted [CALLS]       plants faults in the conversion of the module: each must be found
+#     sh ports/run.sh TARGET library               builds the library alone: ports/out/TARGET/libuip_c.a
+#     sh ports/run.sh targets                      lists the targets
+#
+# TARGET is m0 (Cortex-M0+), m4, m7, m33, rv32 (rv32imac), rv64 (rv64imac), aarch64-small (compiled for size, beside the library of `rt lib`)
+# or wasm (WebAssembly of 32 bits, for a browser or node).
+# `sh ports/run.sh --toolchain DIR TARGET ..` compiles with the programs of DIR/bin: clang, ld.lld, wasm-ld, llvm-ar, llvm-nm and llvm-objdump
+# of LLVM 22; without it with those of the kit.
+#
+# Variables: OPT holds the optimization words for clang; VECTORS=1 keeps the functions with vectors (scalar.py); CHECKED=1 compiles the
+# run-time checks of retarget.py; FLOAT names another floating-point ABI than -mfloat-abi=soft; SITE another image; TO another folder.
+#
+# The first run proves the library (module.sh). Needs python3 and the kit of `rt`; for fetch, usage and state qemu-system-arm or
+# qemu-system-misc, `ip` and /dev/net/tun; for same and planted qemu-user and a C compiler for this machine; for wasm node.
+case "$1" in -h|--help|"") sed -n '2,29s/^# \{0,1\}//p' "$0"; exit 0;; esac
+ports=$(cd "$(dirname "$0")" && pwd)
+top=$(cd "$ports/.." && pwd)
+example=$top/examples/board
+out=$ports/out
+fail() { echo "ports: $1" >&2; exit 1; }
+# shellcheck source=/dev/null
+for part in targets.sh wasm.sh same/run.sh; do . "$ports/$part"; done
+if [ "$1" = --toolchain ]; then
+    [ -x "$2/bin/clang" ] || fail "no bin/clang in the toolchain $2"
+    toolchain=$(cd "$2/bin" && pwd)
+    shift 2
+fi
+[ "$1" != targets ] || { echo "$TARGETS"; exit 0; }
+target=$1
+choose_target "$target"
+work=${2:-build}
+case "$work" in build|library|fetch|usage|state|same|speed|planted) ;; *) fail "no work $work; --help lists what there is";; esac
+
+# ---- the module and the tools
+
+if [ ! -f "$out/uip_c.ll" ] || [ -n "$(find "$top/crates" -name '*.rt' -newer "$out/uip_c.ll" | head -1)" ]; then
+    sh "$ports/module.sh" || exit 1
+fi
+mkdir -p "$out/tools"
+if [ -z "$toolchain" ]; then
+    real=$(readlink -f "$out/kit/toolchain/bin/ld.lld") || exit 1
+    for tool in clang ld.lld wasm-ld llvm-ar llvm-nm llvm-objdump; do ln -sf "$real" "$out/tools/$tool"; done
+    toolchain=$out/tools
+fi
+PATH=$toolchain:$PATH
+to=${TO:-$out/$target${VECTORS:+-vectors}${CHECKED:+-checked}}
+mkdir -p "$to"
+
+# ---- the library
+
+opt=${OPT:--Os -mllvm -force-attribute=optsize}    # a module has no attribute of its own that asks for small code
+sections="-ffunction-sections -fdata-sections -fomit-frame-pointer"
+# shellcheck disable=SC2086
+c_code() {
+    clang $words $c_words -ffreestanding -fno-builtin $sections -Wall -Wextra -I"$top/include" -I"$to" -I"$ports/same" \
+        -I"$example" -idirafter "$example/fallback" -c "$@" || fail "clang failed"
+}
+# shellcheck disable=SC2086
+library() {
+    clang $words -S -emit-llvm -x c /dev/null -o "$to/layout.ll" || fail "clang failed"
+    module=$out/uip_c.ll
+    if [ -z "$VECTORS" ]; then
+        python3 "$ports/scalar.py" "$module" "$top/crates" "$to/scalar.ll" || exit 1
+        module=$to/scalar.ll
+    fi
+    python3 "${RETARGET:-$ports/retarget.py}" "$module" "$to/layout.ll" "$to/module.ll" "$to/calls.h" ${CHECKED:+--checked} \
+        || fail "the module was not converted"
+    clang $words $opt -ffreestanding -fno-builtin $sections -c -x ir "$to/module.ll" -o "$to/module.o" || fail "clang failed"
+    c_code -Os "$ports/uip_calls.c" -o "$to/uip_calls.o"
+    rm -f "$to/libuip_c.a"
+    llvm-ar rcsD "$to/libuip_c.a" "$to/module.o" "$to/uip_calls.o" || fail "llvm-ar failed"
+}
+library
+
+[ "$work" != library ] || [ "$target" = wasm ] || exit 0
+
+# ---- the firmware, or the node of the page
+
+case "$work" in state) main=state site=$top/examples/state.img;; *) main=main site=$top/examples/site.img;; esac
+site=${SITE:-$site}
+firmware() {
+    heap="-DUIP_HEAP_SIZE=UIP_MEMORY($(od -An -j8 -N2 -tu1 "$site" | awk '{ print $1 * 256 + $2 }'))"
+    for file in "$example/ring.c" "$example/runtime.c" "$ports/boards/$board.c" "$example/$main.c"; do
+        c_code -Os "$file" -o "$to/$(basename "$file" .c).o"
+    done
+    c_code -Os "$heap" "$top/examples/heap.c" -o "$to/heap.o"
+    c_code -DSITE="\"$site\"" "$example/site.S" -o "$to/site.o"
+    set -- -T "$example/link.ld" --defsym "flash_at=$flash" --defsym "ram_at=$ram" --discard-locals --gc-sections \
+        "$to/$board.o" "$to/ring.o" "$to/$main.o" "$to/heap.o" "$to/site.o" "$to/runtime.o" "$to/libuip_c.a"
+    ld.lld -Map="$to/board.map" -o "$to/board.elf" "$@" && ld.lld --oformat binary -o "$to/board.bin" "$@" || fail "ld.lld failed"
+    case "$board" in
+    riscv) run=$to/flash.bin; cp "$to/board.bin" "$run" && truncate -s 32M "$run";;    # the size of the board's flash
+    *) run=$to/board.elf;;
+    esac
+}
+usage() { python3 "$example/usage.py" "$to/board" "$@" || exit 1; }
+# The firmware under qemu, with a client beside it.
+browse() {
+    command -v "${machine%% *}" >/dev/null || fail "no ${machine%% *} here: it is in qemu-system-arm or qemu-system-misc"
+    python3 "$top/examples/browse.py" --board "$run" --machine "$machine" --memory-at "$memory_at" --memory "$to/memory" -- python3 "$@" || exit 1
+}
+
+case "$work" in
+same) same "${3:-1000000}" "${4:-1}"; exit;;
+speed) speed; exit;;
+planted) exec python3 "$ports/planted.py" "$target" "${3:-1000000}";;
+esac
+case "$target" in
+wasm) wasm "$work"; exit;;
+aarch64-small)
+    case "$work" in build) words=build;; state) words="state -- python3 $top/examples/state.py 200";; *) words=usage;; esac
+    # shellcheck disable=SC2086
+    LIBRARY=$to/libuip_c.a exec sh "$example/run.sh" $words;;
+esac
+firmware
+case "$work" in
+build) usage; exit;;
+fetch|usage) browse "$top/examples/fetch.py";;
+state) browse "$top/examples/state.py" 200;;
+esac
+[ "$work" = fetch ] || usage "$to/memory"

@@ -1,0 +1,180 @@
+// Linked into the fuzzer by --wrap: writes each call of the library and its result to descriptor 3, for replay.c.
+#include <stdio.h>
+#include <stdlib.h>
+#include <string.h>
+#include "fuzz.h"
+#include "stream.h"
+
+enum { BLOCKS = 64 };
+static const uip_device *devices[DEVICES];
+static struct { void *at; uint64_t number; } blocks[BLOCKS];
+static uint64_t heap, allocated;
+static FILE *to;
+
+static _Noreturn void stop(const char *why) {
+    fprintf(stderr, "record: %s\n", why);
+    exit(3);
+}
+
+static uint64_t index_of(const uip_device *device) {
+    for (unsigned k = 0; k < DEVICES; k++) {
+        if (!devices[k]) devices[k] = device;
+        if (devices[k] == device) return k;
+    }
+    stop("too many devices");
+}
+
+static void put(const record *r, const void *before, size_t before_len, const void *in, const void *out) {
+    if (!to) to = fdopen(3, "wb");
+    if (!to) stop("no descriptor 3");
+    fwrite(r, sizeof *r, 1, to);
+    fwrite(before, before_len, 1, to);
+    fwrite(in, r->in_len - before_len, 1, to);
+    if (fwrite(out, 1, r->out_len, to) != r->out_len) exit(3);
+}
+
+// ---- the heap
+
+uip_block __real_rattle_alloc(size_t len, size_t align);
+uip_block __wrap_rattle_alloc(size_t len, size_t align) {
+    uip_block b = __real_rattle_alloc(len, align);
+    heap = mixed(mixed(mixed(heap, len), align), b.ok);
+    if (!b.ok) return b;
+    for (unsigned k = 0; k < BLOCKS; k++) {
+        if (blocks[k].at) continue;
+        blocks[k].at = b.block;
+        blocks[k].number = ++allocated;
+        return b;
+    }
+    stop("too many blocks");
+}
+
+void __real_rattle_dealloc(void *block);
+void __wrap_rattle_dealloc(void *block) {
+    for (unsigned k = 0; k < BLOCKS; k++) {
+        if (blocks[k].at != block) continue;
+        heap = mixed(heap, blocks[k].number);
+        blocks[k].at = 0;
+        break;
+    }
+    __real_rattle_dealloc(block);
+}
+
+// ---- the sites: every third one begins with a file so long that the other files start beyond 64 kB
+
+void __real_make_site(site *s, const calls_of *has);
+void __wrap_make_site(site *s, const calls_of *has) {
+    static byte room[1 << 20];
+    __real_make_site(s, has);
+    size_t len = between(66000, 300000), head = (size_t)(s->is_two ? 11 : 10), more = head + len;
+    if (!chance(33) || s->count == MOST_FILES || s->len + more > sizeof room) return;
+    memcpy(room, s->image, 10);
+    memcpy(room + 10 + more, s->image + 10, s->len - 10);
+    room[8] = (byte)((s->count + 1) >> 8);
+    room[9] = (byte)(s->count + 1);
+    memcpy(room + 10, "\005/long\0", head - 4);
+    for (unsigned at = 0; at < 4; at++) room[6 + head + at] = (byte)(len >> (24 - 8 * at));
+    random_bytes(room + 10 + head, len);
+    memmove(s->files + 1, s->files, s->count * sizeof *s->files);
+    for (unsigned k = 1; k <= s->count; k++) s->files[k].content = room + more + (s->files[k].content - s->image);
+    s->files[0] = (file){.name = "/long", .name_len = 5, .content = room + 10 + head, .len = len};
+    s->image = room;
+    s->len += more;
+    s->count++;
+}
+
+// ---- the calls
+
+// 2^32 - 1 replaces every number that 32 bits cannot hold: both are too large for the call.
+static uint64_t fitted(size_t number) { return number > 0xffffffff ? 0xffffffff : number; }
+
+static record begun(uint64_t op, const uip_device *device, size_t number, size_t in_len, const unsigned char *out, size_t room) {
+    if (in_len > MOST_INPUT - 4 || room > MOST_ROOM) stop("too long");
+    return (record){.op = op, .device = index_of(device), .number = fitted(number), .in_len = in_len, .room = room,
+                    .fill = room ? out[0] : 0, .refuses = heap_refuses};
+}
+
+static uip_result ended(record *r, uip_result result, const void *in, const unsigned char *out) {
+    size_t least = r->room < COMPARED ? r->room : COMPARED;
+    r->status = result.status;
+    r->pending = result.pending;
+    r->consumed = result.consumed;
+    r->written = result.written;
+    r->heap = heap;
+    r->out_len = result.written > least ? result.written : least;
+    put(r, 0, 0, in, out);
+    return result;
+}
+
+// A call that returns numbers; they are recorded as a status and `pending`.
+static void returned(record *r, unsigned status, uint64_t number, const void *in, const void *out, size_t out_len) {
+    r->status = status;
+    r->pending = number;
+    r->heap = heap;
+    r->out_len = out_len;
+    put(r, 0, 0, in, out);
+}
+
+uip_opened __real_uip_open(uip_device *d, const unsigned char *image, size_t len, const unsigned char own[4]);
+uip_opened __wrap_uip_open(uip_device *d, const unsigned char *image, size_t len, const unsigned char own[4]) {
+    record r = begun(OPEN, d, 0, len, 0, 0);
+    uip_opened opened = __real_uip_open(d, image, len, own);
+    r.status = opened.status;
+    r.heap = heap;
+    r.in_len = len + 4;
+    r.out_len = sizeof opened;
+    put(&r, own, 4, image, &opened);
+    return opened;
+}
+
+#define RESULTS(name, op, parameters, arguments, which, in, in_len) \
+    uip_result __real_##name parameters; \
+    uip_result __wrap_##name parameters { \
+        record r = begun(op, d, which, in_len, out, room); \
+        return ended(&r, __real_##name arguments, in, out); \
+    }
+RESULTS(uip_feed, FEED, (uip_device *d, const unsigned char *bytes, size_t len, unsigned char *out, size_t room),
+        (d, bytes, len, out, room), 0, bytes, len)
+RESULTS(uip_periodic, PERIODIC, (uip_device *d, size_t slot, unsigned char *out, size_t room), (d, slot, out, room), slot, 0, 0)
+RESULTS(uip_drain, DRAIN, (uip_device *d, unsigned char *out, size_t room), (d, out, room), 0, 0, 0)
+RESULTS(uip_input, INPUT, (uip_device *d, const unsigned char *datagram, size_t len, unsigned char *out, size_t room),
+        (d, datagram, len, out, room), 0, datagram, len)
+RESULTS(uip_periodic_datagram, PERIODIC_DATAGRAM, (uip_device *d, size_t slot, unsigned char *out, size_t room),
+        (d, slot, out, room), slot, 0, 0)
+
+#define NUMBERS(name, op, parameters, arguments, which, in, in_len) \
+    uip_number __real_##name parameters; \
+    uip_number __wrap_##name parameters { \
+        record r = begun(op, d, which, in_len, 0, 0); \
+        uip_number n = __real_##name arguments; \
+        returned(&r, n.status, n.number, in, 0, 0); \
+        return n; \
+    }
+NUMBERS(uip_ticks, TICKS, (uip_device *d), (d), 0, 0, 0)
+NUMBERS(uip_counter, COUNTER, (uip_device *d, size_t number), (d, number), number, 0, 0)
+NUMBERS(uip_is_idle, IS_IDLE, (uip_device *d), (d), 0, 0, 0)
+NUMBERS(uip_hits, HITS, (uip_device *d, const void *name, size_t len), (d, name, len), 0, name, len)
+
+uip_row __real_uip_connection(uip_device *d, size_t slot);
+uip_row __wrap_uip_connection(uip_device *d, size_t slot) {
+    record r = begun(CONNECTION, d, slot, 0, 0, 0);
+    uip_row row = __real_uip_connection(d, slot);
+    returned(&r, row.status, 0, 0, &row, sizeof row);
+    return row;
+}
+
+unsigned __real_uip_set_value(uip_device *d, size_t number, const void *text, size_t len);
+unsigned __wrap_uip_set_value(uip_device *d, size_t number, const void *text, size_t len) {
+    record r = begun(SET_VALUE, d, number, len, 0, 0);
+    unsigned status = __real_uip_set_value(d, number, text, len);
+    returned(&r, status, 0, text, 0, 0);
+    return status;
+}
+
+unsigned __real_uip_close(uip_device *d);
+unsigned __wrap_uip_close(uip_device *d) {
+    record r = begun(CLOSE, d, 0, 0, 0, 0);
+    unsigned status = __real_uip_close(d);
+    returned(&r, status, 0, 0, 0, 0);
+    return status;
+}

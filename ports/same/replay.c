@@ -1,0 +1,163 @@
+// Makes the recorded calls again with the library that it is linked with, and compares each status, number, byte and call of the heap. It
+// needs no C library: it runs under qemu's user mode for any processor, and under node.
+#include "stream.h"
+#include "system.h"
+#include "uip.h"
+
+// ---- the report
+
+static uint64_t calls, successful, bytes_in, bytes_out, of_op[OPS];
+
+static void print(const char *text) {
+    long len = 0;
+    while (text[len]) len++;
+    system_call(WRITE, 2, (long)text, len);
+}
+
+static void print_number(uint64_t number) {
+    char digits[24], *at = digits + 23;
+    *at = 0;
+    do *--at = (char)('0' + number % 10); while (number /= 10);
+    print(at);
+}
+
+static _Noreturn void differ(const char *what, uint64_t is, uint64_t was) {
+    print("DIFFERS: "), print(what), print(" is "), print_number(is), print(" and was "), print_number(was);
+    print(", call "), print_number(calls), print("\n");
+    for (;;) system_call(EXIT, 1, 0, 0);
+}
+
+static void same(const char *what, uint64_t is, uint64_t was) {
+    if (is != was) differ(what, is, was);
+}
+
+static void report(void) {
+    print("same: "), print_number(calls), print(" calls ("), print_number(successful), print(" successful), ");
+    print_number(bytes_in), print(" bytes of input, "), print_number(bytes_out), print(" bytes compared; by kind:");
+    for (unsigned op = OPEN; op < OPS; op++) print(" "), print_number(of_op[op]);
+    print("\n");
+}
+
+// ---- the input: reads `len` bytes, and returns 0 at its end
+
+static unsigned char buffer[1 << 16];
+static long from, to;
+static int take(void *where, uint64_t len) {
+    for (unsigned char *w = where; len;) {
+        if (from == to) from = 0, to = system_call(READ, 0, (long)buffer, sizeof buffer);
+        if (to <= 0) return 0;
+        uint64_t part = (uint64_t)(to - from) < len ? (uint64_t)(to - from) : len;
+        __builtin_memcpy(w, buffer + from, (size_t)part);
+        w += part;
+        from += (long)part;
+        len -= part;
+    }
+    return 1;
+}
+
+// ---- the heap: each block has a place of its own, with marks on both sides
+
+enum { BLOCKS = 64, PLACE = 1 << 16, MARGIN = 64, MARK = 0xa7 };
+static _Alignas(16) unsigned char places[BLOCKS][PLACE];
+static struct { size_t len; uint64_t number; } blocks[BLOCKS];
+static uint64_t heap, allocated;
+static unsigned refuses;
+
+uip_block rattle_alloc(size_t len, size_t align) {
+    int ok = !(refuses && --refuses == 0);
+    heap = mixed(mixed(mixed(heap, len), align), (uint64_t)ok);
+    if (!ok) return (uip_block){0, (void *)0x10};
+    if (len == 0) len = align;
+    for (unsigned k = 0; k < BLOCKS; k++) {
+        if (blocks[k].len) continue;
+        if (len > PLACE - 2 * MARGIN) differ("a block's length", len, PLACE - 2 * MARGIN);
+        __builtin_memset(places[k], MARK, len + 2 * MARGIN);
+        blocks[k].len = len;
+        blocks[k].number = ++allocated;
+        return (uip_block){1, places[k] + MARGIN};
+    }
+    differ("the number of blocks", BLOCKS, BLOCKS);
+}
+
+uip_block rattle_realloc(void *block, size_t kept, size_t len, size_t align) {
+    (void)block, (void)kept, (void)len, (void)align;
+    differ("rattle_realloc", 1, 0);
+}
+
+void rattle_dealloc(void *block) {
+    for (unsigned k = 0; k < BLOCKS; k++) {
+        if (block != places[k] + MARGIN || !blocks[k].len) continue;
+        for (size_t at = 0; at < MARGIN; at++) {
+            same("a byte before a block", places[k][at], MARK);
+            same("a byte after a block", places[k][MARGIN + blocks[k].len + at], MARK);
+        }
+        heap = mixed(heap, blocks[k].number);
+        blocks[k].len = 0;
+        return;
+    }
+    differ("a freed block", 0, 1);
+}
+
+// ---- the calls
+
+static uip_device devices[DEVICES];
+static unsigned char images[DEVICES + 1][MOST_INPUT], in[MOST_INPUT], out[MOST_ROOM + COMPARED], was[MOST_ROOM];
+static uip_opened opened;
+static uip_row row;
+
+static uip_result of_number(uip_number n) { return (uip_result){n.status, n.number, 0, 0}; }
+static uip_result of_status(unsigned status) { return (uip_result){status, 0, 0, 0}; }
+
+// Makes a call, and sets `left` to the bytes that it left.
+static uip_result call(const record *r, const unsigned char *input, const unsigned char **left) {
+    uip_device *d = &devices[r->device];
+    size_t len = (size_t)r->in_len, room = (size_t)r->room, number = (size_t)r->number;
+    switch (r->op) {
+    case OPEN: opened = uip_open(d, input + 4, len - 4, input); *left = (unsigned char *)&opened; return of_status(opened.status);
+    case FEED: return uip_feed(d, input, len, out, room);
+    case PERIODIC: return uip_periodic(d, number, out, room);
+    case DRAIN: return uip_drain(d, out, room);
+    case INPUT: return uip_input(d, input, len, out, room);
+    case PERIODIC_DATAGRAM: return uip_periodic_datagram(d, number, out, room);
+    case TICKS: return of_number(uip_ticks(d));
+    case COUNTER: return of_number(uip_counter(d, number));
+    case IS_IDLE: return of_number(uip_is_idle(d));
+    case CONNECTION: row = uip_connection(d, number); *left = (unsigned char *)&row; return of_status(row.status);
+    case SET_VALUE: return of_status(uip_set_value(d, number, input, len));
+    case HITS: return of_number(uip_hits(d, input, len));
+    case CLOSE: return of_status(uip_close(d));
+    default: differ("the kind of a call", r->op, 0);
+    }
+}
+
+static void compare(const record *r, uip_result result, const unsigned char *left) {
+    same("the status", result.status, r->status);
+    same("the number, or whether output is pending", result.pending, r->pending);
+    same("the number of consumed bytes", result.consumed, r->consumed);
+    same("the number of written bytes", result.written, r->written);
+    same("the calls of the heap", heap, r->heap);
+    for (size_t at = 0; at < r->out_len; at++) same("a byte", left[at], was[at]);
+    for (size_t at = 0; at < COMPARED; at++) same("a byte after the room", out[r->room + at], MARK);
+}
+
+int main(void) {
+    record r;
+    while (take(&r, sizeof r)) {
+        // An image stays where it is while its device is open.
+        unsigned char *input = r.op != OPEN ? in : images[r.status == UIP_HAS_DEVICE ? DEVICES : r.device];
+        const unsigned char *left = out;
+        calls++;
+        bytes_in += r.in_len;
+        bytes_out += r.out_len;
+        if (!take(input, r.in_len) || !take(was, r.out_len)) differ("the end of the record", 0, 1);
+        __builtin_memset(out, (int)r.fill, r.room < COMPARED ? (size_t)r.room : COMPARED);
+        __builtin_memset(out + r.room, MARK, COMPARED);
+        refuses = (unsigned)r.refuses;
+        uip_result result = call(&r, input, &left);
+        compare(&r, result, left);
+        of_op[r.op]++;
+        successful += r.status == UIP_OK;
+    }
+    report();
+    return 0;
+}

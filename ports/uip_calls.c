@@ -1,0 +1,135 @@
+// The calls of uip.h over those of the module (calls.h, which retarget.py writes). There every number has 64 bits, a pointer in a struct
+// takes 8 bytes, and a struct is returned through memory at a multiple of 8. Each call copies C's handle in and out.
+#include "uip.h"
+#include "calls.h"
+
+typedef struct { uint32_t is_open, padding; uint64_t at; } module_device;
+typedef struct { uint32_t status, pending; uint64_t consumed, written; } module_result;
+typedef struct { uint64_t ok, block; } module_block;
+
+_Static_assert(sizeof(module_device) == 16 && sizeof(module_result) == 24 && sizeof(module_block) == 16, "the structs of the module");
+_Static_assert(sizeof(uip_opened) == 16 && sizeof(uip_number) == 8 && sizeof(uip_row) == 28, "the structs of uip.h");
+_Static_assert(sizeof(void *) == sizeof(size_t), "the numbers of uip.h");
+
+static module_device of_device(const uip_device *device) {
+    return (module_device){device->is_open, 0, (uintptr_t)device->at};
+}
+
+static void put_device(uip_device *device, const module_device *from) {
+    device->is_open = from->is_open;
+    device->at = (void *)(uintptr_t)from->at;
+}
+
+static uip_result of_result(const module_result *from) {
+    return (uip_result){from->status, from->pending, (size_t)from->consumed, (size_t)from->written};
+}
+
+static uip_number of_number(uint64_t both) { return (uip_number){(uint32_t)both, (uint32_t)(both >> 32)}; }
+
+uip_opened uip_open(uip_device *device, const unsigned char *image, size_t len, const unsigned char own[4]) {
+    module_device d = of_device(device);
+    _Alignas(8) uip_opened opened;
+    port_uip_open(&opened, &d, (void *)image, len, (void *)own);
+    put_device(device, &d);
+    return opened;
+}
+
+uip_result uip_feed(uip_device *device, const unsigned char *bytes, size_t len, unsigned char *out, size_t room) {
+    module_device d = of_device(device);
+    module_result result;
+    port_uip_feed(&result, &d, (void *)bytes, len, out, room);
+    put_device(device, &d);
+    return of_result(&result);
+}
+
+uip_result uip_periodic(uip_device *device, size_t slot, unsigned char *out, size_t room) {
+    module_device d = of_device(device);
+    module_result result;
+    port_uip_periodic(&result, &d, slot, out, room);
+    put_device(device, &d);
+    return of_result(&result);
+}
+
+uip_result uip_drain(uip_device *device, unsigned char *out, size_t room) {
+    module_device d = of_device(device);
+    module_result result;
+    port_uip_drain(&result, &d, out, room);
+    put_device(device, &d);
+    return of_result(&result);
+}
+
+uip_result uip_input(uip_device *device, const unsigned char *datagram, size_t len, unsigned char *out, size_t room) {
+    module_device d = of_device(device);
+    module_result result;
+    port_uip_input(&result, &d, (void *)datagram, len, out, room);
+    put_device(device, &d);
+    return of_result(&result);
+}
+
+uip_result uip_periodic_datagram(uip_device *device, size_t slot, unsigned char *out, size_t room) {
+    module_device d = of_device(device);
+    module_result result;
+    port_uip_periodic_datagram(&result, &d, slot, out, room);
+    put_device(device, &d);
+    return of_result(&result);
+}
+
+uip_number uip_ticks(uip_device *device) {
+    module_device d = of_device(device);
+    uint64_t both = port_uip_ticks(&d);
+    put_device(device, &d);
+    return of_number(both);
+}
+
+uip_number uip_counter(uip_device *device, size_t number) {
+    module_device d = of_device(device);
+    uint64_t both = port_uip_counter(&d, number);
+    put_device(device, &d);
+    return of_number(both);
+}
+
+uip_number uip_is_idle(uip_device *device) {
+    module_device d = of_device(device);
+    uint64_t both = port_uip_is_idle(&d);
+    put_device(device, &d);
+    return of_number(both);
+}
+
+uip_row uip_connection(uip_device *device, size_t slot) {
+    module_device d = of_device(device);
+    _Alignas(8) uip_row row;
+    port_uip_connection(&row, &d, slot);
+    put_device(device, &d);
+    return row;
+}
+
+unsigned uip_set_value(uip_device *device, size_t number, const void *text, size_t len) {
+    module_device d = of_device(device);
+    unsigned status = (unsigned)port_uip_set_value(&d, number, (void *)text, len);
+    put_device(device, &d);
+    return status;
+}
+
+uip_number uip_hits(uip_device *device, const void *name, size_t len) {
+    module_device d = of_device(device);
+    uint64_t both = port_uip_hits(&d, (void *)name, len);
+    put_device(device, &d);
+    return of_number(both);
+}
+
+unsigned uip_close(uip_device *device) {
+    module_device d = of_device(device);
+    unsigned status = (unsigned)port_uip_close(&d);
+    put_device(device, &d);
+    return status;
+}
+
+static void put_block(void *to, uip_block from) { *(module_block *)to = (module_block){from.ok, (uintptr_t)from.block}; }
+
+void port_rattle_alloc(void *to, uint64_t len, uint64_t align) { put_block(to, rattle_alloc((size_t)len, (size_t)align)); }
+
+void port_rattle_realloc(void *to, void *old, uint64_t kept, uint64_t len, uint64_t align) {
+    put_block(to, rattle_realloc(old, (size_t)kept, (size_t)len, (size_t)align));
+}
+
+void port_rattle_dealloc(void *old) { rattle_dealloc(old); }

@@ -1,0 +1,249 @@
+#!/usr/bin/env python3
+"""Packs a folder into the image of a site, and checks images, without the program.
+
+    python3 tools/pack.py FOLDER OUT [/NAME=TYPE ..]      packs every file of FOLDER; the named ones get a content type of their own
+    python3 tools/pack.py list OUT /NAME=FILE ..          packs these files in this order, as `uipd pack` does
+    python3 tools/pack.py check IMAGE                     prints what `uipd check` prints
+
+OUT is an image, or C source if its name ends with .h or .c: then it defines site_image[] and SITE_IMAGE_LEN. Files and folders whose name begins
+with a dot are left out. The names are sorted. If a list or an image is bad, nothing is written, and the first fault is printed as
+`bad site WHY ENTRY`; the status is then 6. docs/FORMATS.md defines images and faults.
+"""
+import os
+import sys
+
+LONGEST_IMAGE, MOST_FILES, LONGEST_NAME, LONGEST_TYPE, LONGEST_PAGE = 1 << 24, 1024, 64, 64, (1 << 30) - 1
+MAGICS = {b"UIPSITE1": 1, b"UIPSITE2": 2}
+HEAD = 53                             # bytes of a reply before its content type
+TYPE_HEAD = len("Content-type: ") + len("\r\n\r\n")
+TYPES = {".html": "text/html", ".shtml": "text/html", ".txt": "text/plain", ".css": "text/css", ".png": "image/png", ".gif": "image/gif",
+         ".jpg": "image/jpeg"}
+CALLS = {b"file-stats": 10, b"tcp-connections": 1030, b"net-stats": 220, b"ticks": 10}    # the greatest lengths of their text
+BAD_SITE = 6
+
+
+class Fault(Exception):
+    """The first fault: its word and the number of the entry, from 1; 0 for the whole image."""
+
+    def __init__(self, why, entry=0):
+        super().__init__(f"bad site {why} {entry}")
+        self.why, self.entry = why, entry
+
+
+class File:
+    def __init__(self, name, content, kind=b""):
+        self.name, self.content, self.kind = name, content, kind
+
+    def is_script(self):
+        return self.name.endswith(b".shtml")
+
+    def type_length(self):
+        if self.kind:
+            return len(self.kind)
+        ends = (kind for end, kind in TYPES.items() if self.name.endswith(end.encode()))
+        return len(next(ends, "application/octet-stream"))
+
+
+def require(is_so, why, entry=0):
+    if not is_so:
+        raise Fault(why, entry)
+
+
+def is_name(name):
+    return 1 <= len(name) <= LONGEST_NAME and name[:1] == b"/" and all(0x21 <= byte <= 0x7E and byte != 0x3F for byte in name)
+
+
+def is_type(kind):
+    return len(kind) <= LONGEST_TYPE and all(0x20 <= byte <= 0x7E for byte in kind)
+
+
+# ---- scripts
+
+def directives(script):
+    """The inner part of each directive of a script, and the bytes of all text between them."""
+    inner, text, at = [], 0, 0
+    while (start := script.find(b"%!", at)) >= 0:
+        text += start - at
+        end = script.find(b"\n", start)
+        end, at = (len(script), len(script)) if end < 0 else (end, end + 1)
+        part = script[start + 2:end]
+        inner.append(part[:-1] if part.endswith(b"\r") else part)
+    return inner, text + len(script) - at
+
+
+def first_word(text):
+    return next((word for word in text.split(b" ") if word), b"")
+
+
+def page_length(file, contents, entry):
+    """The greatest length of a file's page."""
+    length = HEAD + TYPE_HEAD + file.type_length()
+    if not file.is_script():
+        return length + len(file.content)
+    parts, text = directives(file.content)
+    length += text
+    includes = [first_word(part[1:]) for part in parts if part.startswith(b":")]
+    for name in includes:
+        require(name in contents, "include", entry)
+        length += len(contents[name])
+    length += sum(CALLS.get(first_word(part), 0) for part in parts if not part.startswith(b":"))
+    require(length <= LONGEST_PAGE, "page", entry)
+    return length
+
+
+def page_lengths(files):
+    contents = {file.name: file.content for file in files}
+    return [page_length(file, contents, entry) for entry, file in enumerate(files, 1)]
+
+
+# ---- images
+
+def entry_bytes(file, version):
+    kind = bytes([len(file.kind)]) + file.kind if version == 2 else b""
+    return bytes([len(file.name)]) + file.name + kind + len(file.content).to_bytes(4, "big") + file.content
+
+
+def pack(files):
+    """The image of a list, of version 2 if a file has a type of its own, or the list's first fault."""
+    version = 2 if any(file.kind for file in files) else 1
+    size = 10 + sum((5 if version == 1 else 6 + len(file.kind)) + len(file.name) + len(file.content) for file in files)
+    require(size <= LONGEST_IMAGE, "long")
+    require(len(files) <= MOST_FILES, "many")
+    earlier = set()
+    for entry, file in enumerate(files, 1):
+        require(is_name(file.name), "name", entry)
+        require(file.name not in earlier, "twice", entry)
+        require(is_type(file.kind), "kind", entry)
+        earlier.add(file.name)
+    page_lengths(files)
+    image = b"UIPSITE%d" % version + len(files).to_bytes(2, "big")
+    return image + b"".join(entry_bytes(file, version) for file in files)
+
+
+class Reader:
+    """What remains of an image."""
+
+    def __init__(self, image):
+        self.image, self.at = image, 0
+
+    def take(self, count, entry):
+        require(self.at + count <= len(self.image), "cut", entry)
+        self.at += count
+        return self.image[self.at - count:self.at]
+
+    def number(self, count, entry):
+        return int.from_bytes(self.take(count, entry), "big")
+
+
+def read_entry(reader, version, entry, earlier):
+    length = reader.number(1, entry)
+    require(1 <= length <= LONGEST_NAME, "name", entry)
+    name = reader.take(length, entry)
+    require(is_name(name), "name", entry)
+    require(name not in earlier, "twice", entry)
+    kind = b""
+    if version == 2:
+        length = reader.number(1, entry)
+        require(length <= LONGEST_TYPE, "kind", entry)
+        kind = reader.take(length, entry)
+        require(is_type(kind), "kind", entry)
+    return File(name, reader.take(reader.number(4, entry), entry), kind)
+
+
+def read(image):
+    """The files of an image, or its first fault."""
+    require(len(image) <= LONGEST_IMAGE, "long")
+    require(image[:8] in MAGICS, "magic")
+    reader = Reader(image)
+    version = MAGICS[reader.take(8, 0)]
+    count = reader.number(2, 0)
+    require(count <= MOST_FILES, "many")
+    files, names = [], set()
+    for entry in range(1, count + 1):
+        files.append(read_entry(reader, version, entry, names))
+        names.add(files[-1].name)
+    require(reader.at == len(image), "rest")
+    page_lengths(files)
+    return files
+
+
+# ---- the command
+
+def names_in(folder):
+    names = []
+    for place, folders, files in os.walk(folder):
+        folders[:] = [name for name in folders if not name.startswith(".")]
+        names += [os.path.relpath(os.path.join(place, name), folder).replace(os.sep, "/") for name in files if not name.startswith(".")]
+    return sorted(names)
+
+
+def read_file(path):
+    with open(path, "rb") as file:
+        return file.read()
+
+
+def files_of(pairs):
+    """The files of a list of names and paths. Reading stops with a fault when there are more bytes than an image may have."""
+    files, total = [], 0
+    for name, path in pairs:
+        files.append(File(os.fsencode(name), read_file(path)))
+        total += len(files[-1].content)
+        require(total <= LONGEST_IMAGE, "long")
+    return files
+
+
+def source(image):
+    """C source that defines the image."""
+    rows = [" ".join(f"{byte}," for byte in image[at:at + 24]) for at in range(0, len(image), 24)]
+    return "\n".join(["/* The image of a site, written by tools/pack.py. */", f"enum {{ SITE_IMAGE_LEN = {len(image)} }};",
+                      "static const unsigned char site_image[SITE_IMAGE_LEN] = {", *(f"    {row}" for row in rows), "};", ""])
+
+
+def write(path, files):
+    image = pack(files)
+    with open(path, "wb") as file:
+        file.write(source(image).encode() if path.endswith((".h", ".c")) else image)
+    print(f"{path}: {len(files)} files, an image of {len(image)} bytes")
+
+
+def pack_folder(folder, out, words):
+    if not os.path.isdir(folder):
+        sys.exit(f"pack.py: no folder {folder}")
+    kinds = dict(word.split("=", 1) for word in words if "=" in word)
+    names = names_in(folder)
+    unknown = [word for word in words if word.split("=", 1)[0] not in {f"/{name}" for name in names} or "=" not in word]
+    if unknown:
+        sys.exit(f"pack.py: {unknown[0]} is not /NAME=TYPE of a file in {folder}")
+    files = files_of((f"/{name}", os.path.join(folder, name)) for name in names)
+    for file in files:
+        file.kind = os.fsencode(kinds.get(os.fsdecode(file.name), ""))
+    write(out, files)
+
+
+def check(path):
+    files = read(read_file(path))
+    for file, length in zip(files, page_lengths(files)):
+        print(file.name.decode(), length)
+    print(f"files {len(files)}")
+
+
+def main():
+    words = sys.argv[1:]
+    if len(words) < 2 or words[0] in ("-h", "--help"):
+        sys.exit(__doc__ if words[:1] not in (["-h"], ["--help"]) else print(__doc__))
+    try:
+        if words[0] == "check" and len(words) == 2:
+            check(words[1])
+        elif words[0] == "list":
+            write(words[1], files_of(word.partition("=")[::2] for word in words[2:]))
+        else:
+            pack_folder(words[0], words[1], words[2:])
+    except Fault as fault:
+        print(fault)
+        sys.exit(BAD_SITE)
+    except OSError as error:
+        sys.exit(f"pack.py: {error.filename}: {error.strerror}")
+
+
+if __name__ == "__main__":
+    main()

@@ -1,0 +1,230 @@
+#!/usr/bin/env python3
+"""Tests tools/pack.py: by the definition in docs/FORMATS.md, by the images that the program packed, by the library and by the program.
+
+    python3 tools/pack_test.py [CASES]      CASES random damaged images (3,000)
+
+The library (`rt lib` in crates/uip_c) opens every random image, and the program (`rt run` in crates/uipd) checks every hundredth and packs
+lists; what is not built is skipped, and the test prints it. Then faults are planted in pack.py: the tests by the definition must find each.
+The status is 0 if everything was as expected.
+"""
+import os
+import random
+import subprocess
+import sys
+import tempfile
+import types
+
+HERE = os.path.dirname(os.path.abspath(__file__))
+TOP = os.path.join(HERE, "..")
+LIBRARY = os.path.join(TOP, "crates/uip_c/out/libuip_c.a")
+UIPD = os.path.join(TOP, "crates/uipd/out/uipd")
+HELLO = bytes.fromhex("55495053495445310001" "0b2f696e6465782e68746d6c" "00000006" "68656c6c6f0a")
+HELLO_2 = bytes.fromhex("55495053495445320001" "0b2f696e6465782e68746d6c" "00" "00000006" "68656c6c6f0a")
+SITE = ["index.html", "stats.shtml", "footer.html", "style.css", "logo.png", "404.html"]
+STATE = ["index.html", "state.shtml", "now.shtml", "lamp-on.html", "lamp-off.html", "style.css"]
+STATE_TYPES = ["text/html", "application/json", "text/html", "text/html", "text/html", "text/css"]
+BIG = 1 << 22
+
+
+def load(change=lambda source: source):
+    """pack.py as a module, perhaps with a planted fault."""
+    with open(os.path.join(HERE, "pack.py")) as file:
+        source = file.read()
+    module = types.ModuleType("pack")
+    exec(compile(change(source), "pack.py", "exec"), module.__dict__)
+    return module
+
+
+def read(*path):
+    with open(os.path.join(TOP, "examples", *path), "rb") as file:
+        return file.read()
+
+
+def answer(pack, action):
+    """`good`, or the first fault."""
+    try:
+        action()
+        return "good"
+    except pack.Fault as fault:
+        return str(fault)
+
+
+def verdict(pack, image):
+    return answer(pack, lambda: pack.read(image))
+
+
+def listed(pack, files):
+    return answer(pack, lambda: pack.pack([pack.File(*file) for file in files]))
+
+
+# ---- by the definition: each row has what is expected
+
+IMAGES = [
+    *((HELLO[:length], "bad site magic 0") for length in range(8)),
+    *((HELLO[:length], "bad site cut 0") for length in (8, 9)),
+    *((HELLO[:length], "bad site cut 1") for length in range(10, 32)),
+    (HELLO, "good"), (HELLO_2, "good"), (b"UIPSITE1\0\0", "good"), (HELLO + b"x", "bad site rest 0"),
+    (b"UIPSITE3" + HELLO[8:], "bad site magic 0"), (b"UIPSITE1\x04\x01", "bad site many 0"), (b"UIPSITE1\x04\x00", "bad site cut 1"),
+    (b"UIPSITE1\0\1\0", "bad site name 1"), (b"UIPSITE1\0\1\x41", "bad site name 1"), (b"UIPSITE1\0\1\x40", "bad site cut 1"),
+    (b"UIPSITE1\0\1\1x\0\0\0\0", "bad site name 1"), (b"UIPSITE1\0\1\3/a?\0\0\0\0", "bad site name 1"),
+    (b"UIPSITE1\0\1\3/a \0\0\0\0", "bad site name 1"), (b"UIPSITE1\0\1\3/a\x7f\0\0\0\0", "bad site name 1"),
+    (b"UIPSITE1\0\1\2/~\0\0\0\0", "good"), (b"UIPSITE1\0\1\1/\0\0\0\0", "good"),
+    (b"UIPSITE1\0\2\2/x\0\0\0\0\2/x", "bad site twice 2"), (b"UIPSITE1\0\2\2/x\0\0\0\0\2/y\0\0\0\1", "bad site cut 2"),
+    (b"UIPSITE2\0\1\2/x\x41", "bad site kind 1"), (b"UIPSITE2\0\1\2/x\2\x1fa\0\0\0\0", "bad site kind 1"),
+    (b"UIPSITE2\0\1\2/x\2a\x7f\0\0\0\0", "bad site kind 1"), (b"UIPSITE2\0\1\2/x", "bad site cut 1"),
+    (b"UIPSITE2\0\1\2/x\2a", "bad site cut 1"), (b"UIPSITE2\0\1\2/x\2 ~\0\0\0\0", "good"),
+    (b"UIPSITE2\0\2\2/x\0\0\0\0\0\2/x\x41", "bad site twice 2"),
+    (b"UIPSITE1\0\1\x08/a.shtml\0\0\0\6%!:/x\n", "bad site include 1"), (b"UIPSITE1\0\1\x08/a.shtml\0\0\0\x0b%!:/a.shtml", "good"),
+    (b"UIPSITE1\0\1\x08/a.shtml\0\0\0\4%!:\n", "bad site include 1"), (b"UIPSITE1\0\1\x08/a.shtml\0\0\0\5%! /x", "good"),
+    (b"UIPSITE1\0\1\x08/a.shtml\0\0\0\7%!:  /\r", "bad site include 1"), (b"UIPSITE1\0\1\5/a.sh\0\0\0\5%!:/x", "good"),
+    (b"\0" * ((1 << 24) + 1), "bad site long 0"), (b"\0" * (1 << 24), "bad site magic 0"),
+]
+LISTS = [
+    ([], "good"), ([(b"/x", b"")], "good"), ([(b"x", b"")], "bad site name 1"), ([(b"/x", b""), (b"", b"")], "bad site name 2"),
+    ([(b"/" + b"x" * 63, b"")], "good"), ([(b"/" + b"x" * 64, b"")], "bad site name 1"),
+    ([(b"/x", b""), (b"/y", b""), (b"/x", b""), (b"", b"")], "bad site twice 3"),
+    ([(b"/%d" % k, b"") for k in range(1024)], "good"), ([(b"/%d" % k, b"") for k in range(1025)], "bad site many 0"),
+    ([(b"", b"")] * 1025, "bad site many 0"), ([(b"", b"x" * (1 << 24))], "bad site long 0"),
+    ([(b"/x", b"x" * ((1 << 24) - 17))], "good"), ([(b"/x", b"x" * ((1 << 24) - 16))], "bad site long 0"),
+    ([(b"/x", b"", b"x" * 64)], "good"), ([(b"/x", b"", b"x" * 65)], "bad site kind 1"), ([(b"/x", b"", b"\n")], "bad site kind 1"),
+    ([(b"/a.shtml", b"%!:/b\n"), (b"", b"")], "bad site name 2"), ([(b"/b.shtml", b""), (b"/a.shtml", b"%!:/c")], "bad site include 2"),
+    ([(b"/a.shtml", b"%!:/b\r\n%!:/b\r"), (b"/b", b"")], "good"), ([(b"/a.shtml", b"%!:/b\r\r\n"), (b"/b", b"")], "bad site include 1"),
+    ([(b"/a.shtml", b"%!:/b\n" * 255), (b"/b", b"x" * BIG)], "good"),
+    ([(b"/a.shtml", b"%!:/b\n" * 256), (b"/b", b"x" * BIG)], "bad site page 1"),
+    ([(b"/a.shtml", b"%!:/b\n" * 256 + b"%!:/c"), (b"/b", b"x" * BIG)], "bad site include 1"),
+]
+PAGES = [    # the greatest length of a page: the texts are in docs/FORMATS.md
+    ((b"/index.html", b"hello\n"), 86), ((b"/index.html", b"hello\n", b"text/html; charset=utf-8"), 101), ((b"/x", b""), 95),
+    ((b"/a.shtml", b"a%!ticks\nb%!  net-stats  x\r\n%!tcp-connections\n%!file-stats /x\n%!value 1\n%!\n%a"), 80 + 4 + 10 + 220 + 1030 + 10),
+]
+
+
+def by_definition(pack):
+    """The expectations that do not hold."""
+    wrong = [f"an image of {len(image)} bytes: {is_so}, expected {expected}" for image, expected in IMAGES
+             if (is_so := verdict(pack, image)) != expected]
+    wrong += [f"a list of {len(files)}: {is_so}, expected {expected}" for files, expected in LISTS
+              if (is_so := listed(pack, files)) != expected]
+    wrong += [f"a page of {file[0]!r}: {is_so}, expected {expected}" for file, expected in PAGES
+              if (is_so := pack.page_lengths([pack.File(*file)])) != [expected]]
+    site = [pack.File(f"/{name}".encode(), read("site", name)) for name in SITE]
+    state = [pack.File(f"/{name}".encode(), read("state", name), kind.encode()) for name, kind in zip(STATE, STATE_TYPES)]
+    wrong += [f"examples/{name} is another image" for name, files in (("site.img", site), ("state.img", state)) if pack.pack(files) != read(name)]
+    if pack.pack([pack.File(b"/index.html", b"hello\n")]) != HELLO:
+        wrong.append("the image of one file is another")
+    return wrong
+
+
+# ---- by the library and the program: random images
+
+def script(rng):
+    words = [b"%!:", b"/a", b"/b.shtml", b" ", b"\n", b"\r\n", b"%! ", b"ticks", b"%", b"!", b"net-stats", b"text"]
+    return b"".join(rng.choice(words) for _ in range(rng.randrange(12)))
+
+
+def random_image(rng, pack):
+    """The image of a random list, mostly damaged at some place."""
+    is_two = rng.random() < 0.5
+    files = []
+    for _ in range(rng.randrange(5)):
+        name = rng.choice([b"/a", b"/b.shtml", b"/c.shtml", b"/d", b"/e.css", b"/%d" % rng.randrange(5), b"/" + b"n" * rng.randrange(65), b"?"])
+        kind = b"k" * rng.choice([0, 0, 1, 64, 65]) if is_two else b""
+        files.append(pack.File(name, script(rng), kind))
+    image = b"UIPSITE%d" % (1 + is_two) + len(files).to_bytes(2, "big") + b"".join(pack.entry_bytes(it, 1 + is_two) for it in files)
+    for _ in range(rng.choice([0, 0, 1, 1, 2])):
+        at, how = rng.randrange(len(image) + 1), rng.randrange(4)
+        byte = bytes([rng.choice([0, 1, 2, 32, 47, 63, 64, 65, 126, 127, 255, rng.randrange(256)])])
+        image = (image[:at], image[:at] + byte + image[at + 1:], image[:at] + byte + image[at:], image[:at] + image[at + 1:])[how]
+    return image
+
+
+def by_library(images, expected):
+    """The disagreements with uip_open, or None if the library or a compiler is missing."""
+    if not os.path.exists(LIBRARY):
+        return None
+    with tempfile.TemporaryDirectory() as folder:
+        program = os.path.join(folder, "open_images")
+        words = [os.environ.get("CC", "cc"), "-O2", f"-I{TOP}/include", f"{HERE}/open_images.c", f"{TOP}/examples/linux-c/heap.c", LIBRARY]
+        if subprocess.run([*words, "-o", program]).returncode:
+            sys.exit("pack_test.py: no program with the library was built")
+        data = b"".join(len(image).to_bytes(4, "big") + image for image in images)
+        lines = subprocess.run([program], input=data, stdout=subprocess.PIPE, check=True).stdout.decode().splitlines()
+    return [f"{image!r}: {is_so}, uip_open: {line}" for image, is_so, line in zip(images, expected, lines, strict=True) if is_so != line]
+
+
+def by_program(pack, images, expected):
+    """The disagreements with `uipd check` and `uipd pack`, or None if the program is missing."""
+    if not os.access(UIPD, os.X_OK):
+        return None
+    wrong = []
+    with tempfile.TemporaryDirectory() as folder:
+        path = os.path.join(folder, "image")
+        for image, is_so in list(zip(images, expected))[::100]:
+            with open(path, "wb") as file:
+                file.write(image)
+            run = subprocess.run([UIPD, "check", path], stdout=subprocess.PIPE, text=True)
+            reported = "good" if run.returncode == 0 else run.stdout.strip()
+            if reported != is_so:
+                wrong.append(f"{image!r}: {is_so}, uipd check: {reported}")
+        with open(path, "wb") as file:
+            file.write(b"%!:/x\n")
+        for names in (["/a"], ["/a", "/a"], ["a"], ["/x", "/a.shtml"], ["/a.shtml"]):
+            run = subprocess.run([UIPD, "pack", *(f"{name}={path}" for name in names)], stdout=subprocess.PIPE)
+            is_so = listed(pack, [(name.encode(), b"%!:/x\n") for name in names])
+            if (run.returncode == 0) != (is_so == "good"):
+                wrong.append(f"{names}: {is_so}, uipd pack ends with {run.returncode}")
+    return wrong
+
+
+# ---- the test of the test
+
+PLANTS = [    # a text of pack.py, and the text that replaces it
+    ("1 << 24, 1024, 64, 64", "1 << 25, 1024, 64, 64"), ("1 << 24, 1024,", "1 << 24, 1025,"), ("1024, 64, 64,", "1024, 65, 64,"),
+    ("1024, 64, 64,", "1024, 64, 65,"), ("(1 << 30) - 1", "(1 << 31) - 1"), ("HEAD = 53", "HEAD = 52"), ("byte != 0x3F", "True"),
+    ('name[:1] == b"/"', "True"), ("0x21 <= byte", "0x20 <= byte"), ("byte <= 0x7E and byte", "byte <= 0x7F and byte"),
+    ("0x20 <= byte", "0x1F <= byte"), ("<= 0x7E for", "<= 0x7F for"), ('b"ticks": 10', 'b"ticks": 9'), ('b"net-stats": 220', 'b"net-stats": 22'),
+    ('endswith(b".shtml")', 'endswith(b"shtml ")'), ('if part.endswith(b"\\r")', "if False"), ('require(reader.at == len(image), "rest")', "pass"),
+    ('require(name not in earlier, "twice", entry)', "pass"), ('require(file.name not in earlier, "twice", entry)', "pass"),
+    ('require(name in contents, "include", entry)', "contents.setdefault(name, b'')"), ('require(length <= LONGEST_PAGE, "page", entry)', "pass"),
+    ('require(is_type(kind), "kind", entry)', "pass"), ('require(is_type(file.kind), "kind", entry)', "pass"), ("+ len(script) - at", ""),
+    ("length += sum(CALLS", "length -= sum(CALLS"), ("1 <= length <= LONGEST_NAME", "2 <= length <= LONGEST_NAME"), ("enumerate(files, 1)", "enumerate(files, 2)"),
+    ('require(size <= LONGEST_IMAGE, "long")', "pass"), ('require(len(files) <= MOST_FILES, "many")', "pass"),
+]
+
+
+def missed_plants():
+    missed = []
+    for old, new in PLANTS:
+        def change(source, old=old, new=new):
+            if old not in source:
+                sys.exit(f"pack_test.py: pack.py does not contain: {old}")
+            return source.replace(old, new, 1)
+        try:
+            if not by_definition(load(change)):
+                missed.append(f"missed: {old} -> {new}")
+        except Exception:    # a fault that ends in an error was found too
+            pass
+    return missed
+
+
+def main():
+    if len(sys.argv) > 2 or not all(it.isdigit() for it in sys.argv[1:]):
+        sys.exit(__doc__)
+    pack, rng = load(), random.Random(1)
+    images = [random_image(rng, pack) for _ in range(int(sys.argv[1]) if sys.argv[1:] else 3000)]
+    expected = [verdict(pack, image) for image in images]
+    wrong = by_definition(pack)
+    print(f"by the definition: {len(IMAGES)} images, {len(LISTS)} lists, {len(PAGES)} pages; wrong: {len(wrong)}")
+    for what, found in (("library", by_library(images, expected)), ("program", by_program(pack, images, expected))):
+        print(f"skipped: the {what} is not built" if found is None else f"by the {what}: {len(images)} images; wrong: {len(found)}")
+        wrong += found or []
+    kinds = {word: sum(word in it for it in expected) for word in "good magic cut many name twice kind rest include page long".split()}
+    print("the random images:", ", ".join(f"{word} {count}" for word, count in kinds.items()))
+    missed = missed_plants()
+    print(f"planted faults: {len(PLANTS)}; missed: {len(missed)}")
+    for line in (wrong + missed)[:20]:
+        print(line)
+    sys.exit(1 if wrong or missed else 0)
+
+
+main()

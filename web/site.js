@@ -1,0 +1,88 @@
+// A site's image from files, by docs/FORMATS.md, and what an image has.
+const MAGIC = "UIPSITE2", MOST_FILES = 1024;
+// Content types that a node does not know by a name's end.
+const TYPES = { js: "text/javascript", mjs: "text/javascript", json: "application/json", svg: "image/svg+xml", webp: "image/webp",
+  ico: "image/x-icon", jpeg: "image/jpeg", htm: "text/html", md: "text/plain", woff2: "font/woff2", wasm: "application/wasm",
+  pdf: "application/pdf" };
+
+const VALUE = /%! +value(?:-json|-html)? +(0|[1-9]|1[0-5])(?=[ \r\n]|$)/g;   // docs/FORMATS.md, Scripts
+
+const ascii = text => Array.from(text, sign => sign.charCodeAt(0));
+
+const typeOf = name => TYPES[/\.(\w+)$/.exec(name)?.[1].toLowerCase()] ?? "";
+
+// Each file is { name, bytes }; a name begins with "/".
+export function pack(files) {
+  if (files.length > MOST_FILES) throw new Error(`a site has ${MOST_FILES} files at most, and these are ${files.length}`);
+  const parts = [ascii(MAGIC), [files.length >> 8, files.length & 255]];
+  for (const { name, bytes } of files) {
+    if (!/^\/[!->@-~]{0,63}$/.test(name)) throw new Error(`no name for a file of a site: ${name}`);
+    const length = bytes.length, type = typeOf(name);
+    parts.push([name.length], ascii(name), [type.length], ascii(type));
+    parts.push([length >>> 24, length >> 16 & 255, length >> 8 & 255, length & 255], bytes);
+  }
+  const image = new Uint8Array(parts.reduce((sum, part) => sum + part.length, 0));
+  let at = 0;
+  for (const part of parts) {
+    image.set(part, at);
+    at += part.length;
+  }
+  return image;
+}
+
+// The files of an image that is whole.
+export function unpack(image) {
+  const text = (at, length) => String.fromCharCode(...image.subarray(at, at + length)), files = [];
+  const isTyped = text(0, 8) === MAGIC;
+  for (let at = 10; at < image.length;) {
+    const name = text(at + 1, image[at]);
+    at += 1 + image[at];
+    if (isTyped) at += 1 + image[at];
+    const length = new DataView(image.buffer, image.byteOffset + at).getUint32(0);
+    files.push({ name, bytes: image.subarray(at + 4, at + 4 + length) });
+    at += 4 + length;
+  }
+  return files;
+}
+
+// The numbers of the values that a site's scripts show.
+export function valuesOf(files) {
+  const numbers = new Set();
+  for (const { name, bytes } of files) {
+    if (!name.endsWith(".shtml")) continue;
+    for (const [, number] of new TextDecoder().decode(bytes).matchAll(VALUE)) numbers.add(+number);
+  }
+  return [...numbers].sort((a, b) => a - b);
+}
+
+// The files that were dropped or chosen, below the folder that all of them share.
+export async function filesOf(items) {
+  const found = [];
+  async function enter(entry) {
+    if (entry.name.startsWith(".")) return;
+    if (entry.isFile) {
+      const file = await new Promise((resolve, reject) => entry.file(resolve, reject));
+      found.push({ path: entry.fullPath.split("/").slice(1), file });
+      return;
+    }
+    const reader = entry.createReader();   // which gives a hundred at a time
+    for (let some; (some = await new Promise((resolve, reject) => reader.readEntries(resolve, reject))).length;)
+      for (const it of some) await enter(it);
+  }
+  for (const item of items) {
+    if (item instanceof File) found.push({ path: (item.webkitRelativePath || item.name).split("/"), file: item });
+    else await enter(item);
+  }
+  const kept = found.filter(({ path }) => !path.some(part => part.startsWith(".")));
+  while (kept.length && kept.every(({ path }) => path.length > 1 && path[0] === kept[0].path[0])) kept.forEach(it => it.path.shift());
+  return Promise.all(kept.map(async ({ path, file }) => ({ name: `/${path.join("/")}`, bytes: new Uint8Array(await file.arrayBuffer()) })));
+}
+
+// The image of what was dropped or chosen: one that is packed already, or files.
+export async function imageOf(items) {
+  const files = await filesOf(items);
+  if (!files.length) throw new Error("no files there");
+  if (files.length === 1 && files[0].name.endsWith(".img")) return files[0].bytes;
+  if (!files.some(it => it.name === "/index.html") && files.length === 1 && files[0].name.endsWith(".html")) files[0].name = "/index.html";
+  return pack(files.sort((a, b) => a.name < b.name ? -1 : 1));
+}

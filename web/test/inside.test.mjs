@@ -1,0 +1,128 @@
+// The node inside the page (node.wasm, web/uip.js, web/inside.js) under node, without a browser and without the program: every file of
+// the site, pings, values, hits, several nodes, bad images; and what it sends for recorded lines, beside the program's own bytes.
+import test from "node:test";
+import assert from "node:assert/strict";
+import { execFileSync } from "node:child_process";
+import { existsSync, mkdtempSync, readFileSync, readdirSync, rmSync, writeFileSync } from "node:fs";
+import { tmpdir } from "node:os";
+import { join } from "node:path";
+import { Clock } from "../clock.js";
+import { Session } from "../session.js";
+import { nodeInside } from "../inside.js";
+import { Device } from "../uip.js";
+import { pack, unpack, valuesOf } from "../site.js";
+import { UIPD, noProgram, top } from "./node_process.mjs";
+
+const WASM = join(top, "web/node.wasm"), skip = existsSync(WASM) ? false : `no module at ${WASM}: examples/ports/wasm.sh builds it`;
+const code = skip || new WebAssembly.Module(readFileSync(WASM));
+const image = name => new Uint8Array(readFileSync(join(top, `examples/${name}.img`)));
+const SITE = image("site"), STATE = image("state");
+
+async function withNode({ site = SITE, faults = {}, speed = 1, own = [10, 0, 0, 1], seed = 1 }, what) {
+  const clock = new Clock(speed), { device, line, stop } = nodeInside({ code, image: site, own, clock });
+  const session = new Session(line, { clock, seed, node: own, leave: stop });
+  Object.assign(session.faults, faults);
+  try { return await what(session, device); } finally { await session.close(); }
+}
+const text = bytes => Buffer.from(bytes).toString();
+
+test("every file of the site, and pings", { skip }, () => withNode({}, async session => {
+  for (const { name, bytes } of unpack(SITE).filter(it => !it.name.endsWith(".shtml")))
+    assert.ok(Buffer.from((await session.whole(name)).bytes).equals(Buffer.from(bytes)), name);
+  assert.equal((await session.whole("/nothing")).status, 404);
+  assert.match(text((await session.whole("/stats.shtml")).bytes), /ESTABLISHED/);
+  for (const length of [0, 56, 1472]) assert.ok(await session.host.ping(length) >= 0);
+}));
+
+test("values, hits, counters and connections", { skip }, () => withNode({ site: STATE }, async (session, device) => {
+  assert.deepEqual(valuesOf(unpack(STATE)), [0, 1, 2, 3, 4]);
+  device.setValue(0, 'a "name"');
+  device.setValue(1, "7");
+  device.setValue(2, "50");
+  const now = JSON.parse(text((await session.whole("/state.shtml")).bytes));
+  assert.deepEqual(now, { name: 'a "name"', seconds: 7, level: 50, note: "", lamp: "" });
+  assert.throws(() => device.setValue(16, ""), { status: 2 });
+  assert.throws(() => device.setValue(0, "x".repeat(33)), { status: 2 });
+  const before = device.hits("/lamp-on.html");
+  await session.whole("/lamp-on.html");
+  assert.equal(device.hits("/lamp-on.html"), before + 1);
+  assert.equal(device.hits("/x".repeat(1e6)), 0);
+  assert.ok(device.counter(1) > 10);
+  assert.throws(() => device.counter(21), { status: 2 });
+  const open = session.host.connect();
+  while (open.state !== "ESTABLISHED") await new Promise(setImmediate);
+  const rows = Array.from({ length: 10 }, (_, slot) => device.connection(slot)).filter(it => it.state !== "CLOSED");
+  assert.ok(rows.some(it => it.state === "ESTABLISHED" && it.port === open.port && it.peer.join(".") === "10.0.0.2"));
+  assert.equal(device.isIdle, false);
+}));
+
+test("three nodes at once, each with its site and address", { skip }, async () => {
+  const sites = [1, 2, 3].map(n => pack([{ name: "/index.html", bytes: Buffer.from(`node ${n}`) }]));
+  await Promise.all(sites.map((site, n) => withNode({ site, own: [192, 168, 7, n + 5] }, async session => {
+    assert.equal(text((await session.whole("/")).bytes), `node ${n + 1}`);
+  })));
+});
+
+test("bad images, and a device that is closed and opened anew", { skip }, () => {
+  const device = new Device(code);
+  for (const [bytes, words] of [["UIPSITE9", /magic 0/], ["UIPSITE1\x00\x01\x02/", /cut 1/]])
+    assert.throws(() => device.open(Buffer.from(bytes, "latin1")), words);
+  const twice = pack(["/a", "/a"].map(name => ({ name, bytes: Buffer.from("x") })));
+  assert.throws(() => device.open(twice), /twice 2/);
+  for (let n = 0; n < 1000; n++) {
+    device.open(n % 2 ? SITE : STATE);
+    device.close();
+  }
+  assert.throws(() => device.ticks, { status: 1 });
+  device.open(SITE);
+  assert.throws(() => device.open(SITE), { status: 3 });
+});
+
+test("a site of 16 MB, whole", { skip, timeout: 120000 }, () => {
+  const big = new Uint8Array(16e6).map((_, n) => n * 31 >> 3), site = pack([{ name: "/big", bytes: big }]);
+  return withNode({ site }, async session => assert.ok(Buffer.from((await session.whole("/big")).bytes).equals(Buffer.from(big))));
+});
+
+test("pages at once, more than there are slots", { skip }, () => withNode({}, async session => {
+  session.atOnce = 16;
+  const { complete, wrong, truncated } = await session.fetchMany("/", 200);
+  assert.deepEqual([complete, wrong, truncated], [200, 0, 0]);
+}));
+
+test("1,000 pages, a fifth lost, a tenth repeated, reordered and damaged", { skip, timeout: 300000 }, t =>
+  withNode({ faults: { loss: 0.2, duplication: 0.1, reordering: 0.1, corruption: 0.1 }, speed: 50 }, async session => {
+    const { complete, wrong, truncated, seconds } = await session.fetchMany("/", 1000);
+    t.diagnostic(`${seconds.toFixed(1)} s, ${JSON.stringify(session.sums)}`);
+    // A node resets a connection at uIP's limits, which this number of faults can reach.
+    assert.deepEqual([complete + truncated, wrong, session.sums.different], [1000, 0, 0]);
+    assert.ok(truncated < 10);
+  }));
+
+// What a node sends for a line with a tick after every n bytes, as `uipd serve .. pace` does.
+function said(site, line, pace) {
+  const device = new Device(code), out = [], say = text => out.push(text);
+  device.open(site);
+  for (let at = 0; at < line.length; at += pace) {
+    device.feed(line.subarray(at, at + pace), say);
+    if (at + pace <= line.length) device.tick(say);
+  }
+  return Buffer.concat(out);
+}
+const LINES = join(top, "bench/lines"), xz = name => execFileSync("xz", ["-dc", join(LINES, name)], { maxBuffer: 1 << 28 });
+
+test("for every recorded line of bench/lines the bytes of the program", { skip: skip || noProgram, timeout: 120000 }, t => {
+  const folder = mkdtempSync(join(tmpdir(), "inside-test-")), file = join(folder, "site.img"), site = xz("site.img.xz");
+  writeFileSync(file, site);
+  let lines = 0, bytes = 0;
+  for (const name of readdirSync(LINES).filter(it => it.endsWith(".slip.xz"))) {
+    const line = xz(name);
+    for (const pace of [1, 7, 50, 400, 1000, 1 << 30]) {
+      const wanted = execFileSync(UIPD, ["serve", file, "10.0.0.1", "pace", String(pace)], { input: line, maxBuffer: 1 << 28 });
+      assert.ok(said(site, line, pace).equals(wanted), `${name} with pace ${pace}`);
+      lines++;
+      bytes += wanted.length;
+    }
+  }
+  rmSync(folder, { recursive: true });
+  t.diagnostic(`${lines} lines, ${bytes} bytes`);
+});

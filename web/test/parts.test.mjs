@@ -1,0 +1,86 @@
+// Parts of the page that need no browser: its verdicts, the server by uIP's rules, and images of sites.
+import test from "node:test";
+import assert from "node:assert/strict";
+import { readFileSync, readdirSync } from "node:fs";
+import { join } from "node:path";
+import { Clock } from "../clock.js";
+import { Session } from "../session.js";
+import { Device } from "../uip.js";
+import { pack, unpack, valuesOf } from "../site.js";
+import { serverByUipsRules } from "../uip_rules.js";
+import { resultOf, verdictOf } from "../verdict.js";
+import { here, top } from "./node_process.mjs";
+
+const NONE = { complete: 0, wrong: 0, truncated: 0, retransmissions: 0, different: 0 };
+
+test("each verdict has its kind and words", () => {
+  for (const [sums, kind, head, more] of [
+    [{}, "idle", "No page yet", /first copy/],
+    [{ complete: 1 }, "good", "The page is complete", /^No retransmission\.$/],
+    [{ complete: 1200, retransmissions: 1 }, "good", "All 1,200 pages complete", /^One retransmission, identical\.$/],
+    [{ complete: 2, retransmissions: 37 }, "good", "All 2 pages complete", /^37 retransmissions, all identical\.$/],
+    [{ complete: 2, wrong: 1, truncated: 1, retransmissions: 9, different: 1 }, "bad", "1 wrong page of 4", /^1 retransmission of 9 with different bytes\.$/],
+    [{ complete: 2, retransmissions: 9, different: 2 }, "bad", "One sequence number had two bytes", /^2 retransmissions of 9/],
+    [{ complete: 9, truncated: 1 }, "warn", "9 pages complete, 1 truncated", /No page is wrong/],
+  ]) {
+    const verdict = verdictOf({ ...NONE, ...sums });
+    assert.deepEqual([verdict.kind, verdict.head], [kind, head]);
+    assert.match(verdict.more, more);
+  }
+  assert.deepEqual(resultOf({ complete: 2, wrong: 0, truncated: 0 }), { kind: "good", words: "2 complete, 0 wrong, 0 truncated .." });
+  assert.deepEqual(resultOf({ complete: 8, wrong: 1, truncated: 1, seconds: 2, bytes: 4096 }), { kind: "bad", words: "8 complete, 1 wrong, 1 truncated. 4.0 pages/s, 2.0 KiB/s." });
+  assert.equal(resultOf({ complete: 8, wrong: 0, truncated: 1 }).kind, "warn");
+});
+
+// A session with the server by uIP's rules.
+async function withRules(options, what) {
+  const clock = new Clock(options.speed ?? 1), { line, stop } = serverByUipsRules({ clock }), session = new Session(line, { clock, seed: 3, leave: stop });
+  Object.assign(session.faults, options.faults);
+  try { await what(session); } finally { await session.close(); }
+}
+const reading = ({ bytes }) => /class="reading">(.*?)</.exec(Buffer.from(bytes).toString())[1];
+
+test("by uIP's rules a page is right without loss, and wrong if its reading is sent twice", () => withRules({ speed: 20 }, async session => {
+  for (let n = 0; n < 3; n++) assert.equal(reading(await session.whole("/")), "999");
+  assert.deepEqual([session.sums.complete, session.sums.wrong, session.sums.different], [3, 0, 0]);
+  const { pass } = session.faults;
+  session.faults.pass = function (datagram, isToNode, deliver) {   // the reading is lost once
+    if (isToNode || datagram.length !== 43) return pass.call(this, datagram, isToNode, deliver);
+    this.pass = pass;
+    return { words: ["lost"], go() {} };
+  };
+  assert.equal(reading(await session.whole("/")), "100");
+  assert.deepEqual([session.sums.complete, session.sums.wrong, session.sums.different, session.sums.truncated], [3, 1, 1, 0]);
+}));
+
+test("by uIP's rules 200 pages under faults end, some of them wrong", { timeout: 240000 }, () =>
+  withRules({ speed: 50, faults: { loss: 0.2, duplication: 0.1, reordering: 0.1, corruption: 0.1 } }, async session => {
+    const { complete, wrong, truncated } = await session.fetchMany("/", 200);
+    assert.ok(wrong > 10 && truncated < 5 && complete + wrong + truncated === 200, `${complete} ${wrong} ${truncated}`);
+    assert.equal(session.sums.different >= wrong, true);
+  }));
+
+test("an image is read and written as the program does", () => {
+  const names = readdirSync(join(top, "examples/state")).map(name => `/${name}`), image = new Uint8Array(readFileSync(join(top, "examples/state.img")));
+  const files = unpack(image), disk = name => readFileSync(join(top, "examples/state", name));
+  assert.deepEqual(files.map(it => it.name).sort(), names.sort());
+  for (const { name, bytes } of files) assert.ok(Buffer.from(bytes).equals(disk(name)), name);
+  assert.deepEqual(valuesOf(files), [0, 1, 2, 3, 4]);
+  const own = names.map(name => ({ name, bytes: disk(name) }));
+  assert.deepEqual(unpack(pack(own)).map(({ name, bytes }) => [name, Buffer.from(bytes).toString()]), own.map(({ name, bytes }) => [name, bytes.toString()]));
+  assert.throws(() => pack([{ name: "/a b", bytes: disk("/index.html") }]), /no name for a file/);
+  assert.throws(() => pack(Array.from({ length: 1025 }, (_, n) => ({ name: `/${n}`, bytes: [] }))), /1024 files at most/);
+});
+
+test("the ping that the program's own page has, and two in one feed", () => {
+  const [ping, pong] = ["stdin", "stdout"].map(name => readFileSync(join(top, "crates/uipd", name))), out = [];
+  const device = new Device(new WebAssembly.Module(readFileSync(join(here, "../node.wasm"))));
+  device.open(pack([]));
+  device.feed(ping, text => out.push(text));
+  assert.ok(Buffer.concat(out).equals(pong));
+  device.feed(Buffer.concat([ping, ping, ping]), text => out.push(text));
+  assert.ok(Buffer.concat(out).equals(Buffer.concat([pong, pong, pong, pong])));
+  for (let n = 0; n < 2000; n++) device.feed(ping, text => out.push(text));   // more than the area for input, in all
+  device.feed(Buffer.concat(Array.from({ length: 2000 }, () => ping)), text => out.push(text));
+  assert.ok(Buffer.concat(out).equals(Buffer.concat(Array.from({ length: 4004 }, () => pong))));
+});

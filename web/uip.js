@@ -1,0 +1,108 @@
+// The proved library as WebAssembly (node.wasm): the calls of include/uip.h for one device, which has a memory of its own.
+// It knows no document and no clock.
+const MAX_IN = 16384, MAX_OUT = 3002, SLOTS = 10, MAX_VALUE = 32, LONGEST_NAME = 64;
+const STATUSES = ["successful", "no device", "bad argument", "a device is open already", "bad image", "out of memory", "output is pending"];
+const STATES = ["CLOSED", "SYN-RCVD", "ESTABLISHED", "CLOSE-WAIT", "FIN-WAIT-1", "FIN-WAIT-2", "CLOSING", "TIME-WAIT", "LAST-ACK"];
+
+const ascii = text => Uint8Array.from(text, sign => sign.charCodeAt(0));
+
+// A status of the library other than UIP_OK.
+export class Refused extends Error {
+  constructor(status, words = STATUSES[status]) {
+    super(words);
+    this.status = status;
+  }
+}
+
+export class Device {
+  #calls;   // the exports of the module
+  #at;      // the addresses of its areas
+
+  constructor(module) {
+    this.#calls = new WebAssembly.Instance(module).exports;
+    this.#at = Object.fromEntries(["device", "in", "out", "own", "result"].map(name => [name, this.#calls[name].value]));
+  }
+
+  // Opens the device with an image (docs/FORMATS.md) and its address.
+  open(image, own = [10, 0, 0, 1]) {
+    const { uip_open, image: areaFor } = this.#calls, { device, result, own: ownAt } = this.#at, at = areaFor(image.length);
+    if (!at) throw new Refused(this.#bytes()[device] ? 3 : 5);
+    this.#bytes().set(image, at);
+    this.#bytes().set(own, ownAt);
+    uip_open(result, device, at, image.length, ownAt);
+    if (this.#word(0) === 0) return;
+    const why = String.fromCharCode(...this.#bytes().subarray(result + 8, result + 16)).replace(/\0.*/s, "");
+    throw new Refused(this.#word(0), why && `bad image: ${why} ${this.#word(1)}`);
+  }
+
+  // Feeds received serial bytes. Passes each text that the device sends to `send`.
+  feed(bytes, send) {
+    for (let from = 0; from < bytes.length; from += MAX_IN) {
+      const part = bytes.subarray(from, from + MAX_IN), { device, in: at, out } = this.#at;
+      this.#bytes().set(part, at);
+      for (let consumed = 0; consumed < part.length; consumed += this.#word(2))
+        this.#call("uip_feed", send, device, at + consumed, part.length - consumed, out, MAX_OUT);
+    }
+  }
+
+  // A tick, due twice a second: the periodic calls of all slots.
+  tick(send) {
+    for (let slot = 0; slot < SLOTS; slot++) this.#call("uip_periodic", send, this.#at.device, slot, this.#at.out, MAX_OUT);
+  }
+
+  // Sets the value of a number from 0 to 15, which scripts of the site display.
+  setValue(number, text) {
+    const bytes = new TextEncoder().encode(text), { device, in: at } = this.#at;
+    if (bytes.length > MAX_VALUE) throw new Refused(2, `a value has at most ${MAX_VALUE} bytes`);
+    this.#bytes().set(bytes, at);
+    const status = this.#calls.uip_set_value(device, number, at, bytes.length);
+    if (status !== 0) throw new Refused(status);
+  }
+
+  // How often the file of a name was requested.
+  hits(name) {
+    const bytes = ascii(name.slice(0, LONGEST_NAME + 1));
+    this.#bytes().set(bytes, this.#at.in);
+    return this.#number("uip_hits", this.#at.in, bytes.length);
+  }
+
+  get ticks() { return this.#number("uip_ticks"); }
+  get isIdle() { return this.#number("uip_is_idle") === 1; }
+  get memory() { return this.#bytes().length; }
+  counter(number) { return this.#number("uip_counter", number); }
+
+  connection(slot) {
+    const { result, device } = this.#at;
+    this.#calls.uip_connection(result, device, slot);
+    this.#check();
+    return {
+      state: STATES[this.#word(1)], peer: [...this.#bytes().subarray(result + 8, result + 12)], port: this.#word(3), tries: this.#word(4),
+      count: this.#word(5), isWaiting: this.#word(6) === 1,
+    };
+  }
+
+  get connections() { return Array.from({ length: SLOTS }, (_, slot) => this.connection(slot)); }
+
+  close() {
+    const status = this.#calls.uip_close(this.#at.device);
+    if (status !== 0) throw new Refused(status);
+  }
+
+  #bytes() { return new Uint8Array(this.#calls.memory.buffer); }   // made anew each time, since the memory may grow
+  #word(number) { return new Uint32Array(this.#calls.memory.buffer, this.#at.result, 8)[number]; }
+  #check() { if (this.#word(0) !== 0) throw new Refused(this.#word(0)); }
+
+  #number(call, ...words) {
+    this.#calls[call](this.#at.result, this.#at.device, ...words);
+    this.#check();
+    return this.#word(1);
+  }
+
+  #call(call, send, ...words) {
+    const { result, out } = this.#at;
+    this.#calls[call](result, ...words);
+    this.#check();
+    const written = this.#word(3);
+    if (written) send(this.#bytes().slice(out, out + written));
+  }
+}
