@@ -76,7 +76,8 @@
  *      name site.img it writes the image alone, for example for .incbin of an assembler. Any alignment will do.
  *   3. Compile your program, and link the library, for example
  *      arm-none-eabi-gcc -mcpu=cortex-m4 -mthumb -mfloat-abi=soft -Iinclude -Iexamples main.c .. libuip_c.a -T YOUR.ld
- *      heap.c is C11. To compile it by itself, define UIP_HEAP_SIZE for the compiler: -DUIP_HEAP_SIZE='UIP_MEMORY(8)'.
+ *      (in an archive -Iexamples/common and lib/m4/libuip_c.a). heap.c is C11. To compile it by itself, define the
+ *      macro for the compiler: -DUIP_HEAP_SIZE='UIP_MEMORY(8)'.
  *
  * FIXED SIZES. Nothing is configured. The node announces an MSS and a window of 1460 bytes. A segment that it sends has
  * at most the least of 1460 bytes, the peer's MSS (536 if it announces none) and the peer's window (a window of 0 is
