@@ -464,7 +464,10 @@ void rattle_dealloc(void *block);
 #define UIP_MEMORY(files) \
     (UIP_ROUNDED(28 * (size_t)(files)) + UIP_ROUNDED(2 * (size_t)(files)) + UIP_ROUNDED(4 * (size_t)(files)) + 6704)
 
-/* The three functions below are inline. Where C90 has no word for it they are plain static ones. */
+/*
+ * How the three functions below are inline. In a C90 without a word for it they are plain static functions; you may
+ * define the word of your compiler before.
+ */
 #ifndef UIP_INLINE
 #if defined(__cplusplus) || (defined(__STDC_VERSION__) && __STDC_VERSION__ >= 199901L)
 #define UIP_INLINE static inline
