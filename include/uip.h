@@ -87,12 +87,14 @@
  * be.
  *
  * BUFFERING. No call of the library waits. uip_feed handles at most one frame, and writes at most one: UIP_MAX_OUT
- * bytes, counted with its uip_drain calls. uip_periodic writes at most one frame too. uip_feed_all and uip_tick_all
- * wait as long as the sink does: for one frame for each received frame, and for at most ten frames (30,020 bytes) in a
- * tick. At 115,200 bits a second the longest frame takes 0.26 s, and as many bytes may arrive meanwhile. Let an
- * interrupt store them in a ring: 3,002 bytes cover one frame. Measured: 512 bytes were enough for two clients at
- * 19,200 bits a second. If bytes are lost, the node drops a frame that fails a check, and the peer's TCP sends it
- * again. Flow control (RTS) prevents the loss. After an error of the UART (overrun, framing) just go on feeding.
+ * bytes, with all its uip_drain calls. uip_periodic writes at most one frame too. uip_feed_all and uip_tick_all wait
+ * as long as the sink does: for one frame for each received frame, and for at most ten frames (30,020 bytes) in a
+ * tick. At 115,200 bits a second the longest frame takes 0.26 s. As many bytes may arrive meanwhile, so let an
+ * interrupt store them. What is lost there damages a frame; the node drops it, and the peer's TCP sends it again.
+ * After an error of the receiver feed on: no call is needed.
+ *
+ * A ring of 3,002 bytes covers one frame. Measured: 512 bytes were enough for two clients at 19,200 bits a second. Flow
+ * control (RTS) prevents the loss. An error of the receiver is an overrun or a framing error of the UART, for example.
  *
  * WHAT THE CALLER MUST KEEP. The library cannot check these rules:
  *   1. The handle is UIP_INIT (all bytes 0) before its first call. After a warm reset that keeps RAM, and without
@@ -139,11 +141,10 @@
  * counters are unchanged, and all other fields of the result are 0. Exception: for a bad image uip_open also reports
  * the fault.
  *
- * A loop with correct arguments, as those above, sees UIP_OK alone. Nothing that arrives changes that. (uip_input
- * refuses a datagram of 0 or of more than 1500 bytes: drop these yourself.) In full: after a successful uip_open a call
- * returns only
+ * A loop with correct arguments, as those above, sees UIP_OK alone. Nothing that arrives changes that. In full: after
+ * a successful uip_open a call returns only
  *   UIP_OK;
- *   UIP_BAD_ARGUMENT      if an argument is out of its range;
+ *   UIP_BAD_ARGUMENT      if an argument is out of its range (as a datagram of 0 or of more than 1500 bytes is);
  *   UIP_OUTPUT_PENDING    if output is pending and the call would make more of it (see uip_drain);
  *   UIP_NO_DEVICE         after uip_close;
  *   UIP_HAS_DEVICE        if it is another uip_open.
@@ -153,7 +154,7 @@
  *
  * PROVED for any sequence of calls, successful or not, if the caller keeps the rules: memory safety, that each call
  * returns, and that the output is exactly what the definition of the node sends. A peer receives each page from its
- * start, without gaps or changes (docs/SPECIFICATION.md of the repository).
+ * start, without gaps or changes (docs/SPECIFICATION.md).
  *
  * NOT PROVED: the stack depth, the heap that is enough, and the inline functions. The machine code for Cortex-M,
  * RISC-V and WebAssembly is made by a conversion that is tested and not proved (ports/README.md; docs/PORTS.md of an
@@ -416,11 +417,13 @@ unsigned uip_set_value(uip_device *device, size_t number, const void *text, size
 
 /*
  * Returns how often a file was requested since uip_open, modulo 2^32; 0 if no file of the site has that name. Each GET
- * of the name counts, whatever follows a `?`. Compare the number after each uip_feed. A link can be a button, but a
- * browser may follow a link by itself, or twice: let it set a state, not toggle it. A browser may also show a stored
- * copy and ask nothing: "/lamp-on.html?7" is another address to it, and the same file here.
+ * of the name counts, whatever follows a `?`. A link can be a button, but a browser may follow a link by itself, or
+ * twice: let it set a state, not toggle it.
  *
  *   name, len    the name of the file as the image has it, "/lamp-on.html", without a 0 at its end
+ *
+ * Compare the number after each call that receives. A browser may show a stored copy of a file and ask nothing:
+ * "/lamp-on.html?7" is another address to it, and the same file here.
  *
  * Status: UIP_OK, UIP_NO_DEVICE.
  */
@@ -445,10 +448,10 @@ unsigned uip_close(uip_device *device);
  *                     frees the old one. It may always fail (the library never needs it): `ok` 0, the old block stays.
  *   rattle_dealloc    frees a block.
  *
- * Measured, not proved: uip_open allocates six blocks. For a site of f files they have 28 f, 2 f, 4 f, 1500, 2880 and
- * 2312 bytes. If one fails, it frees those before it. uip_close frees all six. No other call uses the heap, and nothing
- * calls rattle_realloc. If you open one device and never close it, rattle_dealloc may do nothing. examples/heap.c reuses
- * its array when all its devices are closed.
+ * Measured, not proved: uip_open makes six allocations, for f files of 28 f, 2 f, 4 f, 1500, 2880 and 2312 bytes. If
+ * one fails, it frees those before it. uip_close frees all six. No other call uses the heap, and nothing calls
+ * rattle_realloc. If you open one device and never close it, rattle_dealloc may do nothing. examples/heap.c reuses its
+ * array when all its devices are closed.
  */
 typedef struct { size_t ok; void *block; } uip_block;
 uip_block rattle_alloc(size_t len, size_t align);
@@ -457,12 +460,13 @@ void rattle_dealloc(void *block);
 
 /*
  * The heap of one device, in bytes, for an image of `files` files, on every target: the six blocks, each rounded up to
- * a multiple of 16. For 6 files it is 6,928, for 8 files 6,976. Add what your allocator adds to each block. The length
- * of the image does not count. For several devices add theirs. Measured, not proved.
+ * a multiple of 16. Add what your allocator adds to each block. The length of the image does not count. For several
+ * devices add theirs. Measured, not proved.
  */
 #define UIP_ROUNDED(len) (((size_t)(len) + 15) / 16 * 16)
 #define UIP_MEMORY(files) \
     (UIP_ROUNDED(28 * (size_t)(files)) + UIP_ROUNDED(2 * (size_t)(files)) + UIP_ROUNDED(4 * (size_t)(files)) + 6704)
+/* For example UIP_MEMORY(6) is 6,928, and UIP_MEMORY(8) is 6,976. */
 
 /*
  * How the three functions below are inline. In a C90 without a word for it they are plain static functions; you may
