@@ -5,9 +5,12 @@
     python3 tools/pack.py list OUT /NAME=FILE ..          packs these files in this order, as `uipd pack` does
     python3 tools/pack.py check IMAGE                     prints what `uipd check` prints
 
-OUT is an image, or C source if its name ends with .h or .c: then it defines site_image[] and SITE_IMAGE_LEN. Files and folders whose name begins
-with a dot are left out. The names are sorted. If a list or an image is bad, nothing is written, and the first fault is printed as
-`bad site WHY ENTRY`; the status is then 6. docs/FORMATS.md defines images and faults.
+OUT is an image, or C source if its name ends with .h or .c: then it defines site_image[], SITE_IMAGE_LEN in bytes, and SITE_IMAGE_FILES. Files
+and folders whose name begins with a dot are left out. The names are sorted. If a list or an image is bad, nothing is written, and the first
+fault is printed as `bad site WHY ENTRY`; the status is then 6. docs/FORMATS.md defines images and faults.
+
+Three mistakes are no faults, and a warning on standard error names each: a function that no device has, words of a line that its directive
+ignores, and `%!` in a file whose name ends in .html, where it is text. The status stays 0.
 """
 import os
 import sys
@@ -19,6 +22,7 @@ TYPE_HEAD = len("Content-type: ") + len("\r\n\r\n")
 TYPES = {".html": "text/html", ".shtml": "text/html", ".txt": "text/plain", ".css": "text/css", ".png": "image/png", ".gif": "image/gif",
          ".jpg": "image/jpeg"}
 CALLS = {b"file-stats": 10, b"tcp-connections": 1030, b"net-stats": 220, b"ticks": 10}    # the greatest lengths of their text
+ARGUMENTS = {b"file-stats": 1, b"tcp-connections": 0, b"net-stats": 0, b"ticks": 0, b"value": 1, b"value-json": 1, b"value-html": 1}
 BAD_SITE = 6
 
 
@@ -60,19 +64,23 @@ def is_type(kind):
 # ---- scripts
 
 def directives(script):
-    """The inner part of each directive of a script, and the bytes of all text between them."""
-    inner, text, at = [], 0, 0
+    """The place and the inner part of each directive of a script, and the bytes of all text between them."""
+    found, text, at = [], 0, 0
     while (start := script.find(b"%!", at)) >= 0:
         text += start - at
         end = script.find(b"\n", start)
         end, at = (len(script), len(script)) if end < 0 else (end, end + 1)
         part = script[start + 2:end]
-        inner.append(part[:-1] if part.endswith(b"\r") else part)
-    return inner, text + len(script) - at
+        found.append((start, part[:-1] if part.endswith(b"\r") else part))
+    return found, text + len(script) - at
+
+
+def words_of(text):
+    return [word for word in text.split(b" ") if word]
 
 
 def first_word(text):
-    return next((word for word in text.split(b" ") if word), b"")
+    return next(iter(words_of(text)), b"")
 
 
 def page_length(file, contents, entry):
@@ -80,7 +88,8 @@ def page_length(file, contents, entry):
     length = HEAD + TYPE_HEAD + file.type_length()
     if not file.is_script():
         return length + len(file.content)
-    parts, text = directives(file.content)
+    found, text = directives(file.content)
+    parts = [part for _, part in found]
     length += text
     includes = [first_word(part[1:]) for part in parts if part.startswith(b":")]
     for name in includes:
@@ -94,6 +103,43 @@ def page_length(file, contents, entry):
 def page_lengths(files):
     contents = {file.name: file.content for file in files}
     return [page_length(file, contents, entry) for entry, file in enumerate(files, 1)]
+
+
+# ---- warnings
+
+def warning_of(part):
+    """What the inner part of a directive does that its maker may not expect, or an empty text."""
+    words = words_of(part.removeprefix(b":"))
+    if not words:
+        return ""
+    if part.startswith(b":"):
+        ignored = words[1:]
+    elif words[0] in ARGUMENTS:
+        ignored = words[1 + ARGUMENTS[words[0]]:]
+    else:
+        return f"no function is named {shown(words[0])}: the directive gives nothing"
+    return f"ignored, since a directive takes the rest of its line: {shown(b' '.join(ignored))}" if ignored else ""
+
+
+def shown(text):
+    return text.decode("utf-8", "replace")
+
+
+def warnings(file):
+    """The warnings of a file, each with the number of its line."""
+    if file.is_script():
+        found = [(at, warning_of(part)) for at, part in directives(file.content)[0]]
+    elif file.name.endswith(b".html") and b"%!" in file.content:
+        found = [(file.content.find(b"%!"), "%! is text here: the name of a script ends in .shtml")]
+    else:
+        found = []
+    return [(1 + file.content.count(b"\n", 0, at), text) for at, text in found if text]
+
+
+def print_warnings(files):
+    for file in files:
+        for line, text in warnings(file):
+            print(f"pack.py: warning: {shown(file.name)}, line {line}: {text}", file=sys.stderr)
 
 
 # ---- images
@@ -193,9 +239,9 @@ def files_of(pairs):
 
 
 def source(image):
-    """C source that defines the image."""
+    """C source that defines the image, its length and the number of its files."""
     rows = [" ".join(f"{byte}," for byte in image[at:at + 24]) for at in range(0, len(image), 24)]
-    return "\n".join(["/* The image of a site, written by tools/pack.py. */", f"enum {{ SITE_IMAGE_LEN = {len(image)} }};",
+    return "\n".join(["/* The image of a site, written by tools/pack.py. */", f"enum {{ SITE_IMAGE_LEN = {len(image)}, SITE_IMAGE_FILES = {int.from_bytes(image[8:10], 'big')} }};",
                       "static const unsigned char site_image[SITE_IMAGE_LEN] = {", *(f"    {row}" for row in rows), "};", ""])
 
 
@@ -203,6 +249,7 @@ def write(path, files):
     image = pack(files)
     with open(path, "wb") as file:
         file.write(source(image).encode() if path.endswith((".h", ".c")) else image)
+    print_warnings(files)
     print(f"{path}: {len(files)} files, an image of {len(image)} bytes")
 
 
@@ -222,6 +269,7 @@ def pack_folder(folder, out, words):
 
 def check(path):
     files = read(read_file(path))
+    print_warnings(files)
     for file, length in zip(files, page_lengths(files)):
         print(file.name.decode(), length)
     print(f"files {len(files)}")

@@ -1,5 +1,6 @@
 #!/usr/bin/env python3
-"""Tests tools/pack.py: by the definition in docs/FORMATS.md, by the images that the program packed, by the library and by the program.
+"""Tests tools/pack.py: by the definition in docs/FORMATS.md, by the images that the program packed, by a C compiler, by the library and by the
+program.
 
     python3 tools/pack_test.py [CASES]      CASES random damaged images (3,000)
 
@@ -9,6 +10,7 @@ The status is 0 if everything was as expected.
 """
 import os
 import random
+import shutil
 import subprocess
 import sys
 import tempfile
@@ -97,6 +99,16 @@ PAGES = [    # the greatest length of a page: the texts are in docs/FORMATS.md
     ((b"/index.html", b"hello\n"), 86), ((b"/index.html", b"hello\n", b"text/html; charset=utf-8"), 101), ((b"/x", b""), 95),
     ((b"/a.shtml", b"a%!ticks\nb%!  net-stats  x\r\n%!tcp-connections\n%!file-stats /x\n%!value 1\n%!\n%a"), 80 + 4 + 10 + 220 + 1030 + 10),
 ]
+WARNINGS = [    # the lines with a warning, each with what it must name
+    ((b"/a.shtml", b"<p>\n%! ticks\n%!net-stats\n%!  tcp-connections \n%! file-stats /x\n%!: /x\n"), []),
+    ((b"/a.shtml", b"%! value 3\r\n%! value-html 3\n%!value-json  15 \r\n%!\n%! "), []),
+    ((b"/a.shtml", b"It is %! value 3 &deg;C\nand %! temperature\n"), [(1, "&deg;C"), (2, "temperature")]),
+    ((b"/a.shtml", b"\n%! ticks half seconds\n\n%!:/x of it\r\n%! file-stats /x </b>"), [(2, "half seconds"), (4, "of it"), (5, "</b>")]),
+    ((b"/a.shtml", b"%! Ticks\n%!value3\n%! : /x\n%! file-stats\t/x"), [(1, "Ticks"), (2, "value3"), (3, ":"), (4, "file-stats\t/x")]),
+    ((b"/a.html", b"100%\n!\n% !\n"), []), ((b"/a.html", b"a\nb%! ticks\n%! ticks\n"), [(2, ".shtml")]), ((b"/a.txt", b"%! ticks x\n"), []),
+    ((b"/xhtml", b"%! ticks x\n"), []),
+]
+SOURCES = [(b"UIPSITE1\0\0", 10, 0), (HELLO, 32, 1), (b"UIPSITE1\1\2" + b"".join(b"\4/%03d\0\0\0\0" % k for k in range(258)), 2332, 258)]
 
 
 def by_definition(pack):
@@ -107,11 +119,46 @@ def by_definition(pack):
               if (is_so := listed(pack, files)) != expected]
     wrong += [f"a page of {file[0]!r}: {is_so}, expected {expected}" for file, expected in PAGES
               if (is_so := pack.page_lengths([pack.File(*file)])) != [expected]]
+    wrong += [f"warnings of {file[1]!r}: {is_so}, expected {expected}" for file, expected in WARNINGS
+              if not agree(is_so := pack.warnings(pack.File(*file)), expected)]
+    wrong += [f"C source of {length} bytes" for image, length, files in SOURCES
+              if f"enum {{ SITE_IMAGE_LEN = {length}, SITE_IMAGE_FILES = {files} }};" not in pack.source(image).splitlines()]
     site = [pack.File(f"/{name}".encode(), read("site", name)) for name in SITE]
     state = [pack.File(f"/{name}".encode(), read("state", name), kind.encode()) for name, kind in zip(STATE, STATE_TYPES)]
+    wrong += [f"{file.name!r} of the examples has a warning: {found}" for file in site + state if (found := pack.warnings(file))]
     wrong += [f"examples/{name} is another image" for name, files in (("site.img", site), ("state.img", state)) if pack.pack(files) != read(name)]
     if pack.pack([pack.File(b"/index.html", b"hello\n")]) != HELLO:
         wrong.append("the image of one file is another")
+    return wrong
+
+
+def agree(warnings, expected):
+    return [line for line, _ in warnings] == [line for line, _ in expected] and all(
+        named in text for (_, text), (_, named) in zip(warnings, expected))
+
+
+# ---- by a C compiler: what the C source defines
+
+PRINTER = """#include <stdio.h>
+#include "site.c"
+int main(void) { printf("%d %d ", SITE_IMAGE_LEN, SITE_IMAGE_FILES); fwrite(site_image, 1, sizeof site_image, stdout); return 0; }
+"""
+
+
+def by_compiler(pack):
+    """The sources that define another image, or None if there is no compiler."""
+    cc = os.environ.get("CC", "cc")
+    if not shutil.which(cc.split()[0]):
+        return None
+    wrong = []
+    with tempfile.TemporaryDirectory() as folder:
+        for image, length, files in [*SOURCES, (read("site.img"), len(read("site.img")), len(SITE))]:
+            for name, text in (("site.c", pack.source(image)), ("main.c", PRINTER)):
+                with open(os.path.join(folder, name), "w") as file:
+                    file.write(text)
+            subprocess.run([*cc.split(), "-std=c90", "-Wall", "-Werror", "main.c", "-o", "main"], cwd=folder, check=True)
+            if subprocess.run([os.path.join(folder, "main")], stdout=subprocess.PIPE, check=True).stdout != b"%d %d " % (length, files) + image:
+                wrong.append(f"C source of an image of {length} bytes")
     return wrong
 
 
@@ -189,6 +236,9 @@ PLANTS = [    # a text of pack.py, and the text that replaces it
     ('require(is_type(kind), "kind", entry)', "pass"), ('require(is_type(file.kind), "kind", entry)', "pass"), ("+ len(script) - at", ""),
     ("length += sum(CALLS", "length -= sum(CALLS"), ("1 <= length <= LONGEST_NAME", "2 <= length <= LONGEST_NAME"), ("enumerate(files, 1)", "enumerate(files, 2)"),
     ('require(size <= LONGEST_IMAGE, "long")', "pass"), ('require(len(files) <= MOST_FILES, "many")', "pass"),
+    ('b"value": 1', 'b"value": 2'), ('b"net-stats": 0, b"ticks": 0', 'b"net-stats": 0, b"ticks": 2'), ("ignored = words[1:]", "ignored = []"),
+    ("words[1 + ARGUMENTS", "words[2 + ARGUMENTS"), ("1 + file.content.count", "file.content.count"), ("if not words:", "if False:"),
+    ('endswith(b".html") and', 'endswith(b"html") and'), ("image[8:10]", "image[9:10]"),
 ]
 
 
@@ -215,6 +265,9 @@ def main():
     expected = [verdict(pack, image) for image in images]
     wrong = by_definition(pack)
     print(f"by the definition: {len(IMAGES)} images, {len(LISTS)} lists, {len(PAGES)} pages; wrong: {len(wrong)}")
+    sources = by_compiler(pack)
+    print("skipped: there is no C compiler" if sources is None else f"by the C compiler: {len(SOURCES) + 1} images; wrong: {len(sources)}")
+    wrong += sources or []
     for what, found in (("library", by_library(images, expected)), ("program", by_program(pack, images, expected))):
         print(f"skipped: the {what} is not built" if found is None else f"by the {what}: {len(images)} images; wrong: {len(found)}")
         wrong += found or []

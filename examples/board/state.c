@@ -1,5 +1,5 @@
-// The firmware of a device with a state: it serves as main.c does, and before each tick it gives its state as values, which the pages of
-// examples/state show. Its level stands for a sensor. Its lamp goes on and off where a page of the lamp was asked for: a link that is
+// The firmware of a device with a state. It serves as main.c does. Before each tick it sets its state as values, which the pages of
+// examples/state show. A level is in the place of a sensor. A request of a page of the lamp turns the lamp on or off: a link that is
 // followed twice does no more than once.
 #include "board.h"
 #include "uip.h"
@@ -12,7 +12,7 @@ typedef struct { char bytes[UIP_MAX_VALUE]; size_t len; } text;
 
 static uip_device device = UIP_INIT;
 static unsigned char out[32];
-static unsigned asked_on, asked_off;          // how often the pages of the lamp were asked for
+static unsigned asked_on, asked_off;          // how often the pages of the lamp had been requested
 static unsigned lamp_is_on;
 
 static void add(text *value, const char *words) {
@@ -35,7 +35,7 @@ static unsigned give_words(size_t number, const char *words) {
     return give(number, &value);
 }
 
-// The seconds since the start, and a level that goes from 0 to 100 and back in fifty ticks.
+// Sets the seconds since the start, and a level that rises from 0 to 100 and falls again in fifty ticks.
 static unsigned give_state(unsigned ticks) {
     unsigned place = ticks % 50, is_rising = place < 25, level = is_rising ? 4 * place : 4 * (50 - place);
     text seconds = {{0}, 0}, number = {{0}, 0};
@@ -50,6 +50,7 @@ static unsigned give_state(unsigned ticks) {
     return status;
 }
 
+// Turns the lamp on or off if a page of it was requested since the last call, and sets its state.
 static unsigned give_lamp(void) {
     static const char on[] = "/lamp-on.html", off[] = "/lamp-off.html";
     unsigned now_on = uip_hits(&device, on, sizeof on - 1).number, now_off = uip_hits(&device, off, sizeof off - 1).number;

@@ -1,5 +1,11 @@
-// Makes each call of the library once, fine and refused, and compares what it answers. Ends with 0 where all came as it should.
+// Makes each call of the library once, successful and refused, and compares its result. The status is 0 if each was as expected.
 // It is C99 and C++ alike, as a program of either may use the library.
+//
+// What an addition to the library needs in its header:
+// [add: counter] include/uip.h: a name in enum uip_counter_id, and UIP_COUNTERS
+// [add: state] include/uip.h: a name in enum uip_state
+// [add: c-call] include/uip.h: a declaration with its comment; here: the call, successful and refused
+// [add: c-application] include/uip.h: a call that opens a device with it
 #include <stdio.h>
 #include <string.h>
 #include "uip.h"

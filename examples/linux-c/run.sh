@@ -24,9 +24,19 @@ if [ -z "$LIBRARY" ] && { [ ! -f "$library" ] || [ -n "$(find "$top/crates" -nam
 fi
 mkdir -p "$here/out"
 strict="-pedantic -Wall -Wextra -Wconversion -Werror"
-for standard in c90 c99; do
-    echo '#include "uip.h"' | "$cc" -std=$standard $strict -I"$top/include" -x c -fsyntax-only - || fail "the header does not compile as $standard"
-done
+# The header, and a use of its inline functions, in each standard of a language.
+compiles() {
+    compiler=$1 language=$2
+    shift 2
+    for standard; do
+        printf '#include "uip.h"\nunsigned t(uip_device *d, unsigned char *o, uip_sink s);\n%s\n' \
+            'unsigned t(uip_device *d, unsigned char *o, uip_sink s) { return uip_tick_all(d, o, UIP_MIN_OUT, s, 0); }' |
+            "$compiler" "-std=$standard" $strict -I"$top/include" -x "$language" -fsyntax-only - \
+            || fail "the header does not compile as $standard"
+    done
+}
+compiles "$cc" c c90 gnu90 c99 c11 c17
+! command -v "$cxx" >/dev/null || compiles "$cxx" c++ c++98 c++11 c++14 c++17
 # build NAME HEAP OUTPUT WORDS: a program, with the words for its compiler.
 build() { "$cc" -O2 -Wall -Wextra -I"$top/include" $4 "$here/$1.c" "$2" "$library" -o "$here/out/$3" || fail "$3 was not built"; }
 build serve "$here/heap.c" uip_serve

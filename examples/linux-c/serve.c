@@ -36,7 +36,7 @@ static void hear(const unsigned char *bytes, size_t len) {
     if (uip_feed_all(&device, bytes, len, out, sizeof out, write_line, 0) != UIP_OK) stop(3, "a call was refused");
 }
 
-// Opens the device with the site of a file at an address. The library reads the image where it lies, so it stays.
+// Opens the device with the site of a file at an address. `image` stays in place: the library reads it there.
 static void open_site(const char *path, const char *address) {
     static unsigned char image[1 << 20];
     unsigned char own[4];

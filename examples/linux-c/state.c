@@ -1,7 +1,7 @@
-// Serves a serial line on standard input and output as a device with a state: the load of this machine, and a lamp that goes on and
-// off where a page of the lamp was asked for. Before each tick it gives them as values, which the pages of examples/state show.
+// Serves a serial line on standard input and output as a device with a state: the load of this machine, and a lamp. A request of a page
+// of the lamp turns it on or off. Before each tick the program sets both as values, which the pages of examples/state show.
 //     uip_state serve SITE ADDRESS
-// Further words are passed over: a tick is half a second of this machine's clock.
+// Further words are ignored: a tick is half a second of this machine's clock.
 #include <fcntl.h>
 #include <poll.h>
 #include <stdio.h>
@@ -25,7 +25,7 @@ static void need(unsigned status) {
     if (status != UIP_OK) stop(3, "a call was refused");
 }
 
-// Writes a piece of a text.
+// A uip_sink: writes a piece of output.
 static void write_line(void *to, const unsigned char *bytes, size_t len) {
     (void)to;
     for (size_t at = 0; at < len;) {
@@ -45,7 +45,7 @@ static long long clock_now(void) {
     return now - start;
 }
 
-// Gives a text, of which the first 32 bytes are kept, as a value.
+// Sets a value to a text, or to its first 32 bytes.
 static void give(size_t number, const char *value) {
     size_t len = strlen(value);
     need(uip_set_value(&device, number, value, len < UIP_MAX_VALUE ? len : UIP_MAX_VALUE));
@@ -58,7 +58,7 @@ static void give_name(void) {
     give(NAME, value);
 }
 
-// The seconds since the start; the load of the last minute, in hundredths of what the processors can do; all three loads.
+// Sets the seconds since the start, the load of the last minute in per cent of what the processors can do, and all three loads.
 static void give_load(unsigned ticks) {
     char value[100];
     double load[3] = {0, 0, 0}, processors = (double)sysconf(_SC_NPROCESSORS_ONLN);
@@ -72,7 +72,7 @@ static void give_load(unsigned ticks) {
     give(NOTE, value);
 }
 
-// How often a file was asked for.
+// Returns how often a file was requested.
 static unsigned hits(const char *name) {
     uip_number number = uip_hits(&device, name, strlen(name));
     need(number.status);
@@ -95,7 +95,7 @@ static void give_state(unsigned ticks) {
     give_lamp();
 }
 
-// Opens the device with the site of a file at an address. The library keeps a copy of the image.
+// Opens the device with the site of a file at an address. `image` stays in place: the library reads it there.
 static void open_site(const char *path, const char *address) {
     static unsigned char image[1 << 20];
     unsigned char own[4];
