@@ -67,7 +67,7 @@ class Tab {
       await new Promise(resolve => setTimeout(resolve, 50));
     }
     const told = await this.run(`return document.getElementById("notices")?.innerText`).catch(() => "");
-    throw new Error(`not in ${seconds} s: ${isSo}; the page said: ${[...this.said, told].join("; ")}`);
+    throw new Error(`not in ${seconds * PATIENCE} s: ${isSo}; the page said: ${[...this.said, told].join("; ")}`);
   }
 
   async picture(file) {
