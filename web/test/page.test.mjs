@@ -64,7 +64,8 @@ inEach("#try starts the device, and Disconnect leads back to the first screen", 
   await click(tab, "close");
   await tab.until(ends("not connected"));
   assert.deepEqual(await tab.run(`return ["start", "work", "tour"].map(id => document.getElementById(id).hidden)`), [false, true, true]);
-  await click(tab, "open-inside");
+  await tab.run(`location.hash = ""`);
+  await tab.run(`location.hash = "#try"`);
   await tab.until(COMPLETE);
 });
 
@@ -97,9 +98,40 @@ inEach("the tour: a page, 30 % loss, and the wrong page of uIP's own rules in re
   assert.notEqual(red, ground);
   await step(tab);
   await step(tab);
+  await tab.until(ends(`connected: ${DEVICE}, with a sensor and a lamp`));
+  await tab.until(shows("The device"));
+  assert.deepEqual(await tab.run(`return [document.getElementById("loss").value, document.getElementById("tour").hidden]`), ["0", true]);
+});
+
+inEach("the tour begins at its first step again", { hash: "#try" }, async tab => {
+  await tab.until(COMPLETE);
+  await step(tab);
+  await tab.run(`document.querySelector("[data-tour=close]").click()`);
+  await click(tab, "close");
+  await tab.until(ends("not connected"));
+  await click(tab, "open-inside");
   await tab.until(ends(`connected: ${DEVICE}`));
-  await tab.until(shows("Lowunbisa"));
-  assert.equal(await tab.run(`return document.getElementById("loss").value`), "0");
+  assert.equal((await step(tab))[0], "good");
+  assert.equal(await tab.run(`return document.querySelector("[aria-current]").textContent`), "1");
+});
+
+inEach("a device with a sensor and a lamp, and a firmware that sets its values", {}, async tab => {
+  await click(tab, "open-sensor");
+  await tab.until(bodyHas("Water tank"));
+  await tab.until(bodyHas("42 % full"));
+  assert.deepEqual(await tab.run(`return [...document.querySelectorAll(".value span")].map(it => it.innerText)`), ["name", "seconds", "level", "note", "lamp"]);
+  await tab.run(`const it = document.querySelectorAll(".value")[2].querySelector("[type=range]"); it.value = 80; it.dispatchEvent(new Event("input"))`);
+  await tab.until(bodyHas("80 % full"));
+  const lamp = `frames[0].document.getElementById("lamp")?.className`;
+  for (const state of ["on", "off"]) {
+    await tab.until(`${lamp} !== "${state}" && ${lamp}`);
+    await tab.run(`frames[0].document.querySelector('a[href="/lamp-${state}.html"]').click()`);
+    await tab.until(`${lamp} === "${state}"`);
+  }
+  await click(tab, "close");
+  await tab.until(ends("not connected"));
+  await tab.run(`await new Promise(resolve => setTimeout(resolve, 600))`);   // the firmware has stopped
+  assert.equal(await tab.run(`return document.getElementById("messages").hidden`), true);
 });
 
 inEach("Back stays on the page at its first entry; typed paths of each form", { hash: "#try" }, async tab => {
@@ -151,7 +183,7 @@ inEach("values are sliders and fields, hits are lamps, and the slots are shown",
   await tab.run(`self.held = node.session.host.connect()`);
   await tab.until(`document.querySelector(".slot[data-state=ESTABLISHED]")?.title.includes("10.0.0.2:" + self.held.port)`);
   assert.equal(await tab.run(`return document.querySelectorAll(".slot").length`), 10);
-  await tab.until(`/^\\d+ ticks, \\d+ KiB of memory in all$/.test(document.querySelector("[data-panel=facts]").innerText)`);
+  await tab.until(`/^\\d+ ticks, \\d+ KiB of WebAssembly memory \\(a Cortex-M4: 9 kB of RAM\\)$/.test(document.querySelector("[data-panel=facts]").innerText)`);
 });
 
 inEach("one's own site: files, an image, and a bad one", {}, async tab => {
@@ -240,6 +272,8 @@ test("the page and the one file have less than 200 kB", () => {
   const file = join(folder, "demo.html");
   execFileSync("python3", [join(web, "one_file.py"), file]);
   assert.ok(statSync(file).size < 200000, `${statSync(file).size}`);
+  const size = Math.round(statSync(join(web, "node.wasm")).size / 1000);
+  assert.ok(readFileSync(join(web, "index.html"), "utf8").includes(`as ${size}&nbsp;kB of WebAssembly`), `${size} kB`);
 });
 
 for (const browser of browsers)
@@ -253,6 +287,14 @@ for (const browser of browsers)
       for (let n = 0; n < 5; n++) await step(tab);
       await tab.until(hasText("page-verdict", "Wrong page"));
       assert.ok(await tab.run(`return document.getElementById("frame").srcdoc.includes('class="reading">100<')`));
+      await step(tab);
+      await step(tab);
+      await tab.until(ends(`connected: ${DEVICE}, with a sensor and a lamp`));
+      await tab.until(`document.getElementById("frame").srcdoc.includes("Lamp on")`);
+      await tab.run(`node.visit("/lamp-on.html")`);
+      await tab.until(`document.getElementById("target").value === "/lamp-on.html"`);
+      await tab.until(`document.getElementById("target").value === "/"`);   // as its page asks for, after a second
+      await tab.until(`document.querySelectorAll(".value input[type=text]")[4].value === "on"`);
       assert.deepEqual(await tab.run(`return performance.getEntriesByType("resource").map(it => it.name).filter(it => /^(http|ftp)/.test(it))`), []);
     });
   });
@@ -331,7 +373,7 @@ inChromium("the first screen by keyboard: each way is reached, and Enter starts 
     await tab.key("Tab");
     reached.push(await tab.run(`return document.activeElement.id`));
   }
-  for (const id of ["open-inside", "open-own", "open-image", "baud", "start-address", "open-port", "report"]) assert.ok(reached.includes(id), `${id}: ${reached}`);
+  for (const id of ["open-inside", "open-sensor", "open-own", "open-image", "baud", "start-address", "open-port"]) assert.ok(reached.includes(id), `${id}: ${reached}`);
   await tab.run(`document.getElementById("open-inside").focus()`);
   await tab.key("Enter", "Enter", "\r");
   await tab.until(COMPLETE);
@@ -377,7 +419,12 @@ withServe("an image for the device inside, which changes", async () => {
 });
 
 withServe("the page alone, and statuses in words", async () => {
-  await served(["--page"], async tab => assert.equal(await tab.run(`return document.getElementById("open-bridge").disabled`), true));
+  await served(["--page"], async tab => {
+    assert.equal(await tab.run(`return document.getElementById("open-bridge").disabled`), true);
+    const links = await tab.run(`return Promise.all([...document.querySelectorAll("[data-file]")].map(async it => [it.dataset.file, it.offsetHeight > 0, await (await fetch(it.href)).text()]))`);
+    assert.equal(links.length, 5);
+    for (const [name, isShown, text] of links) assert.deepEqual([isShown, text], [true, readFileSync(join(top, name), "utf8")]);
+  });
   const bad = join(folder, "bad.img");
   writeFileSync(bad, "no image");
   await served([UIPD, bad], tab => tab.until(ends("the line ended: the program ended with status 6: the image is bad")));

@@ -84,3 +84,8 @@ test("the ping that the program's own page has, and two in one feed", () => {
   device.feed(Buffer.concat(Array.from({ length: 2000 }, () => ping)), text => out.push(text));
   assert.ok(Buffer.concat(out).equals(Buffer.concat(Array.from({ length: 4004 }, () => pong))));
 });
+
+test("the images beside the page are those of examples/", () => {
+  for (const name of ["site.img", "state.img"])
+    assert.ok(readFileSync(join(top, "web", name)).equals(readFileSync(join(top, "examples", name))), name);
+});
