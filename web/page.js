@@ -5,7 +5,7 @@ import { Session } from "./session.js";
 import { bridge } from "./line.js";
 import { nodeInside } from "./inside.js";
 import { serverByUipsRules } from "./uip_rules.js";
-import { imageOf, unpack, valuesOf } from "./site.js";
+import { imageOf, unpack, valuesOf, warningsOf } from "./site.js";
 import { imageOfFolder, watchFolder } from "./folder.js";
 import { idOf, lastPort, openPort, portFault, segmentAt } from "./port.js";
 import { WorkerFrame } from "./frame.js";
@@ -181,6 +181,7 @@ const openInside = (image, { name = INSIDE, first = "/", names } = {}) => openBy
   const files = unpack(site), visited = begin(line, { name, first, leave: stop });
   session.device = device;
   panel.show(device, files, valuesOf(files), names);
+  for (const words of warningsOf(files)) notice(words);
   return visited;
 }, "starting the device");
 

@@ -193,6 +193,8 @@ inEach("one's own site: files, an image, and a bad one", {}, async tab => {
   assert.match(types[0], /^200.*application\/json/);
   assert.match(types[1], /^404/);
   assert.equal(await tab.run(`return document.getElementById("tour").hidden`), true);
+  await tab.run(`await node.openOwn([new File(["%! valeu 0"], "index.shtml"), new File(["<title>yours</title>"], "index.html")])`);
+  await tab.until(says('/index.shtml: there is no function "valeu"'));
   const why = await tab.run(`return node.openOwn([new File(["UIPSITE9"], "bad.img")]).catch(error => error.message)`);
   assert.equal(why, "bad image: magic 0");
   await tab.until(ends("not connected"));

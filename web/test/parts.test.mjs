@@ -6,7 +6,7 @@ import { join } from "node:path";
 import { Clock } from "../clock.js";
 import { Session } from "../session.js";
 import { Device } from "../uip.js";
-import { pack, unpack, valuesOf } from "../site.js";
+import { pack, unpack, valuesOf, warningsOf } from "../site.js";
 import { serverByUipsRules } from "../uip_rules.js";
 import { resultOf, verdictOf } from "../verdict.js";
 import { here, top } from "./node_process.mjs";
@@ -88,4 +88,19 @@ test("the ping that the program's own page has, and two in one feed", () => {
 test("the images beside the page are those of examples/", () => {
   for (const name of ["site.img", "state.img"])
     assert.ok(readFileSync(join(top, "web", name)).equals(readFileSync(join(top, "examples", name))), name);
+});
+
+test("what has no effect in a script is reported; the example sites have none", () => {
+  for (const name of ["site.img", "state.img"]) assert.deepEqual(warningsOf(unpack(new Uint8Array(readFileSync(join(top, "web", name))))), []);
+  const warnings = text => warningsOf([{ name: "/a.shtml", bytes: Buffer.from(text) }]);
+  for (const good of ["", "%", "%! ticks", "%!ticks\n", "%! value 0\r\n", "%%!  file-stats  /a \n%", "%!: /x\n", "%!:/x"]) assert.deepEqual(warnings(good), [], good);
+  for (const name of ["valeu", "constructor", "value\t0", "TICKS"])
+    assert.deepEqual(warnings(`x %! ${name} 1\nx`), [`/a.shtml: there is no function "${name}", so its directive displays nothing`]);
+  assert.match(warnings("%!")[0], /no function ""/);
+  for (const [line, rest] of [["value 0 </p>", "</p>"], ["ticks seconds", "seconds"], [": /x y", "y"], [":/x\u00a0 y z\r", "y z"]])
+    assert.deepEqual(warnings(`%!${line}\n%! ticks`), [`/a.shtml: "${rest}" follows a directive in its line, so it is not sent`]);
+  for (const [number, isGood] of [["0", 1], ["15", 1], ["16", 0], ["00", 0], ["0</p>", 0], ["", 0]])
+    assert.deepEqual(warnings(`%! value ${number}\n`), isGood ? [] : [`/a.shtml: "${number}" is no number from 0 to 15, so its directive displays nothing`]);
+  assert.deepEqual(warningsOf([{ name: "/a.html", bytes: Buffer.from("%! ticks") }, { name: "/a.css", bytes: Buffer.from("a: 5%!important") }]),
+    ["/a.html: only in a file whose name ends in .shtml is %! a directive"]);
 });
