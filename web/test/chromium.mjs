@@ -37,7 +37,7 @@ function callsOver(to, from) {
   return { call, listen: listener => listeners.push(listener) };
 }
 
-// What a message says that the page or the browser has to tell.
+// The text of a message from the page or the browser.
 function saying({ method, params }) {
   if (method === "Runtime.exceptionThrown") return params.exceptionDetails.exception?.description ?? params.exceptionDetails.text;
   if (method === "Runtime.consoleAPICalled") return params.args.map(it => it.value ?? it.description).join(" ");

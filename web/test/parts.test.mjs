@@ -9,6 +9,7 @@ import { Device } from "../uip.js";
 import { pack, unpack, valuesOf, warningsOf } from "../site.js";
 import { serverByUipsRules } from "../uip_rules.js";
 import { resultOf, verdictOf } from "../verdict.js";
+import { SlipReader, echoDatagram, read, slipText } from "../wire.js";
 import { here, top } from "./node_process.mjs";
 
 const NONE = { complete: 0, wrong: 0, truncated: 0, retransmissions: 0, different: 0 };
@@ -80,6 +81,11 @@ test("the ping that the program's own page has, and two in one feed", () => {
   assert.ok(Buffer.concat(out).equals(pong));
   device.feed(Buffer.concat([ping, ping, ping]), text => out.push(text));
   assert.ok(Buffer.concat(out).equals(Buffer.concat([pong, pong, pong, pong])));
+  const numbers = [], replies = [];
+  const pings = [1, 2].map(number => slipText(echoDatagram([10, 0, 0, 2], [10, 0, 0, 1], number, number, new Uint8Array(8).fill(number))));
+  device.feed(Buffer.concat(pings), text => replies.push(text));   // what was passed on stays as it is
+  new SlipReader().feed(Buffer.concat(replies), it => numbers.push(read(it).echo.number));
+  assert.deepEqual(numbers, [1, 2]);
   for (let n = 0; n < 2000; n++) device.feed(ping, text => out.push(text));   // more than the area for input, in all
   device.feed(Buffer.concat(Array.from({ length: 2000 }, () => ping)), text => out.push(text));
   assert.ok(Buffer.concat(out).equals(Buffer.concat(Array.from({ length: 4004 }, () => pong))));

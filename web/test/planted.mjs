@@ -11,7 +11,7 @@ import { SITE, UIPD, here, noProgram, top } from "./node_process.mjs";
 
 const LONGEST = `${40 * PATIENCE}`, IN_BROWSER = ["browser", "page"];   // seconds: a test that hangs has failed
 
-// By module: the text that stands there once, what stands in its place, the test's file, and words of its name.
+// By module: the text that occurs there once, what replaces it, the test's file, and words of its name.
 const FAULTS = {
   "wire.js": [
     [`if (checksum(datagram.subarray(0, IP_HEAD)) !== 0) return "ip checksum";`, "", "wire", "one byte was changed"],
