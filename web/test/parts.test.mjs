@@ -9,7 +9,7 @@ import { Device } from "../uip.js";
 import { pack, unpack, valuesOf, warningsOf } from "../site.js";
 import { serverByUipsRules } from "../uip_rules.js";
 import { resultOf, verdictOf } from "../verdict.js";
-import { SlipReader, echoDatagram, read, slipText } from "../wire.js";
+import { ACK, RST, SlipReader, echoDatagram, read, slipText, tcpDatagram } from "../wire.js";
 import { here, top } from "./node_process.mjs";
 
 const NONE = { complete: 0, wrong: 0, truncated: 0, retransmissions: 0, different: 0 };
@@ -53,6 +53,16 @@ test("by uIP's rules a page is right without loss, and wrong if its reading is s
   assert.equal(reading(await session.whole("/")), "100");
   assert.deepEqual([session.sums.complete, session.sums.wrong, session.sums.different, session.sums.truncated], [3, 1, 1, 0]);
 }));
+
+test("by uIP's rules a segment to no connection is answered by a reset", async () => {
+  const { line, stop } = serverByUipsRules({ clock: new Clock() }), replies = [];
+  const segment = { fromPort: 5000, toPort: 80, flags: ACK, seq: 7, ack: 9, text: [], mss: 0, window: 100 };
+  await line.writable.getWriter().write(slipText(tcpDatagram([10, 0, 0, 2], [10, 0, 0, 1], 1, segment)));
+  stop();
+  const { value } = await Promise.race([line.readable.getReader().read(), new Promise(resolve => setTimeout(resolve, 1000, {}))]);
+  new SlipReader().feed(value ?? [], it => replies.push(read(it).segment));
+  assert.deepEqual(replies.map(it => [it.flags, it.seq, it.fromPort, it.toPort]), [[RST, 9, 80, 5000]]);
+});
 
 test("by uIP's rules 200 pages under faults end, some of them wrong", { timeout: 240000 }, () =>
   withRules({ speed: 50, faults: { loss: 0.2, duplication: 0.1, reordering: 0.1, corruption: 0.1 } }, async session => {

@@ -161,7 +161,7 @@ const FAULTS = {
   "uip_rules.js": [
     [`text: text.slice(0, this.#text)`, `text`, "parts", "sent twice"],
     [`READING + this.#generated++`, `READING`, "parts", "sent twice"],
-    [`else answer({ flags: RST`, `else if (false) answer({ flags: RST`, "parts", "200 pages"],
+    [`else answer({ flags: RST`, `else if (false) answer({ flags: RST`, "parts", "answered by a reset"],
   ],
   "site.js": [
     [`length >> 16 & 255`, `0`, "inside", "16 MB"],
