@@ -192,7 +192,7 @@ async function tryHere() {
 
 // A device whose pages display values, with the firmware that sets them.
 async function openSensor() {
-  $("tour").hidden = true;
+  $("tour").hidden = true;   // it ends here
   await openInside(await beside("state.img"), { name: `${INSIDE}, with a sensor and a lamp`, names: NAMES });
   stopBeside = runFirmware(session.device, panel);
 }

@@ -70,7 +70,6 @@ export class Tour {
       const { kind = "", words = "" } = await this.deeds[this.#at]() ?? {};
       Object.assign(result.dataset, { kind });
       result.textContent = words;
-      if (this.#at >= STEPS.length) return void (this.box.hidden = true);
       this.button.dataset.next = "yes";
       this.button.textContent = this.#at + 1 < STEPS.length ? "Next step" : "Finish";
     } catch (error) {

@@ -128,9 +128,17 @@ inEach("a device with a sensor and a lamp, and a firmware that sets its values",
     await tab.run(`frames[0].document.querySelector('a[href="/lamp-${state}.html"]').click()`);
     await tab.until(`${lamp} === "${state}"`);
   }
+  const seconds = `+document.querySelectorAll(".value [type=text]")[1].value`;
+  await tab.until(`${seconds} > 2`);
   await click(tab, "close");
   await tab.until(ends("not connected"));
-  await tab.run(`await new Promise(resolve => setTimeout(resolve, 600))`);   // the firmware has stopped
+  await click(tab, "open-sensor");   // another device: the first firmware has stopped
+  await tab.until(`${seconds} < 2`);
+  const seen = await tab.run(`
+    const seen = [];
+    for (let n = 0; n < 100; n++) { seen.push(${seconds}); await new Promise(resolve => setTimeout(resolve, 10)); }
+    return seen`);
+  assert.deepEqual(seen, seen.toSorted((a, b) => a - b));
   assert.equal(await tab.run(`return document.getElementById("messages").hidden`), true);
 });
 

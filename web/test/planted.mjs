@@ -196,7 +196,6 @@ const FAULTS = {
   ],
   "tour.js": [
     [`this.#show(this.#at + 1);`, `this.#show(this.#at);`, "page", "Chromium: the tour: a page"],
-    [`if (this.#at >= STEPS.length) return void (this.box.hidden = true);`, "", "page", "Chromium: the tour: a page"],
     [`    delete this.button.dataset.next;\n`, "", "page", "Chromium: the tour begins"],
   ],
   "settings.js": [[`localStorage.setItem(KEY`, `String(KEY`, "page", "Chromium: rate, address"]],
