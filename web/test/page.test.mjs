@@ -66,6 +66,7 @@ inEach("#try starts the device, and Disconnect leads back to the first screen", 
   assert.deepEqual(await tab.run(`return ["start", "work", "tour"].map(id => document.getElementById(id).hidden)`), [false, true, true]);
   await tab.run(`location.hash = ""`);
   await tab.run(`location.hash = "#try"`);
+  await tab.until(ends(`connected: ${DEVICE}`));
   await tab.until(COMPLETE);
 });
 

@@ -280,11 +280,11 @@ const passed = new Map();   // by the test: whether it passes without an edit, o
 function found(folder, file, [old, other, suite, words]) {
   const path = join(folder, "web", file), text = readFileSync(path, "utf8"), test = `${suite} ${words}`;
   if (!passed.has(test)) passed.set(test, passes(folder, suite, words));
-  if (passed.get(test) === "skipped") return "skipped";
+  if (passed.get(test) !== true) return passed.get(test) || "not tried: its test fails without it, or takes too long";
   writeFileSync(path, text.replace(old, () => other));
   const isFailed = passes(folder, suite, words) === false;
   writeFileSync(path, text);
-  return isFailed && passed.get(test) ? "found" : "missed";
+  return isFailed ? "found" : "missed";
 }
 
 const isWanted = (word, file, [, , suite, words]) =>
@@ -294,18 +294,18 @@ function main(word = "") {
   const skipped = suite => IN_BROWSER.includes(suite) && noChromium, gone = applies();
   for (const it of gone) console.log(`does not apply: ${it}`);
   if (gone.length || word === "--check") process.exit(gone.length ? 1 : 0);
-  const folder = mkdtempSync(join(tmpdir(), "planted-")), counts = { found: 0, skipped: 0, missed: 0 };
+  const folder = mkdtempSync(join(tmpdir(), "planted-")), counts = { found: 0, skipped: 0, missed: 0, failed: 0 };
   cpSync(join(here, ".."), join(folder, "web"), { recursive: true });
   for (const it of readdirSync(top)) if (it !== "web" && !it.startsWith(".")) symlinkSync(join(top, it), join(folder, it));
   for (const [file, edits] of Object.entries(FAULTS))
     for (const edit of edits.filter(it => isWanted(word, file, it))) {
       const verdict = skipped(edit[2]) ? "skipped" : found(folder, file, edit);
-      counts[verdict]++;
+      counts[verdict in counts ? verdict : "failed"]++;
       if (verdict !== "found" || word !== "--quick") console.log(`${verdict}: ${file}: ${edit[0].split("\n")[0]} (${edit[2]}: ${edit[3]})`);
     }
   rmSync(folder, { recursive: true, force: true });
-  console.log(`planted faults: ${counts.found} found, ${counts.missed} not found, ${counts.skipped} not tried`);
-  process.exit(counts.missed ? 1 : 0);
+  console.log(`planted faults: ${counts.found} found, ${counts.missed} not found, ${counts.skipped + counts.failed} not tried`);
+  process.exit(counts.missed + counts.failed ? 1 : 0);
 }
 
 main(process.argv[2]);
