@@ -160,6 +160,8 @@ inEach("Back stays on the page at its first entry; typed paths of each form", { 
   await tab.until(shows("No such page"));
   await click(tab, "back");
   await tab.until(shows("Lowunbisa"));
+  await click(tab, "back");   // a second step goes further
+  await tab.until(shows("What it counts"));
 });
 
 inEach("the device's address", {}, async tab => {
