@@ -13,8 +13,9 @@ use Rattle.web_pages.specs.WebMeaning.{web_spec}
 use Rattle.web_pages.proofs.ByteLaws.{made_of_bytes}
 use Rattle.web_pages.proofs.PageLaws.{keeps_page_laws}
 use Rattle.node_laws.specs.Promise.OutputModel.{Paged, Interactive, Free}
-use Rattle.node_laws.specs.Speakers.{HearsPiece, IsPagedAt, IsToldAt, LeavesHeard, SendsBytes, HasOutputModel, SpeaksAt}
-use Rattle.node_laws.proofs.EveryTraceConforms.{page_bytes}
+use Rattle.node_laws.specs.Speakers.{HearsPiece, IsPagedAt, IsToldAt, LeavesHeard, HasOutputModel, SpeaksAt}
+use Rattle.uip_node.specs.Laws.{SendsBytes}
+use Rattle.uip_node.proofs.DeliveredBytes.{page_bytes}
 use Rattle.telnet_shell.specs.declared.shell.TheConstants.{TELNET_PORT}
 use Rattle.telnet_shell.specs.DeskLines.{DeskSpeaksOnLines, desk_output_model}
 use Rattle.telnet_shell.specs.DeskMeaning.{desk_spec}
@@ -100,7 +101,7 @@ module _ (site : SiteContent) (loaded : IsLoaded site) (image : All IsByte site.
 
   web_pages : IsPagedAt (desk_spec files) 80 (pages_of files)
   unfolding web_told
-  web_pages = record { told = web_told; hears_all = λ p. refl; short = web_laws.short }
+  web_pages = record { follows = web_told; hears_all = λ p. refl; short = web_laws.short }
 
   -- ---- the shell's talk at port 23
 

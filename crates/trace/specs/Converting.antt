@@ -1,4 +1,5 @@
 -- What a call that converts a capture file to a serial line has consumed and written, and how it ends.
+use Rattle.std.specs.List.{flat_map}
 use Rattle.std.specs.Prelude.{◌≡◌, ◌<◌, ◌≤◌, ℕ, List, ◌++◌, map, Option, Some, None, length, ⊤}
 use Rattle.std.specs.Io.KnownBytes.{Appends}
 use Rattle.uip_edge.specs.Coming.{Consumes, bytes_among}
@@ -7,11 +8,13 @@ use Rattle.uip_edge.specs.Writing.{AppendsPrefix}
 use Rattle.uip_edge.specs.declared.item.Item.{Item}
 use Rattle.uip_edge.specs.declared.item.Item.TheVariants.{Byte}
 use Rattle.uip_edge.specs.declared.serve_end.ServeEnd.TheVariants as line
+use Rattle.uip_slip.specs.Text.{slip_text}
+use Rattle.trace.specs.CaptureText.{capture_file, datagrams_on}
 use Rattle.trace.specs.CaptureReading.{IsReadAs, Reading, cut_in, captured_in, fault_in, lines_of}
 use Rattle.trace.specs.declared.slip_end.CaptureWhy.{CaptureWhy}
 use Rattle.trace.specs.declared.slip_end.CaptureWhy.TheVariants as whys
 use Rattle.trace.specs.declared.slip_end.SlipEnd.{SlipEnd}
-use Rattle.uip_edge.specs.Views.{LineView, IsCalm}
+use Rattle.uip_edge.specs.Views.{IsCalm, LineUnfailed, LineView}
 use Rattle.trace.specs.declared.slip_end.SlipEnd.TheVariants as ends
 
 -- The last read of the link brought the fault: what was consumed before it has none, and it has bytes alone, and no silence.
@@ -72,3 +75,10 @@ pub record IsSurely (n : ℕ) (old new : LineView) (taken : List Item) (reading 
   pub over : (all : List Item) → fault_in reading ≡ None → old.link.coming ≡ Some all
       → length all < n → Consumes old.link.coming new.link.coming taken
       → end ≡ end_by_cut (cut_in reading)
+
+-- If nothing fails, a line that has the capture file of other items is converted to the SLIP texts of their datagrams, up to its end.
+abbrev pub LinesComeBack : Type 0
+LinesComeBack =
+    (items : List Item) (n : ℕ) (old new : LineView) (end : SlipEnd) → old.link.coming ≡ Some (map Byte (capture_file items))
+    → length (capture_file items) < n → Converts n old new end → LineUnfailed old new
+    → (end ≡ ends.End) × Appends old.sink.written new.sink.written (flat_map slip_text (datagrams_on items))

@@ -1,16 +1,11 @@
 //! What the definitions of a capture file give, and what must be reported.
 
-ghost use Rattle.std.specs.Prelude.{◌≡◌, ◌<◌, List, ℕ, Some, length, map};
-ghost use Rattle.std.specs.Io.KnownBytes.{Appends};
-ghost use Rattle.std.specs.List.{flat_map};
+ghost use Rattle.std.specs.Prelude.{◌≡◌, List, ℕ};
 ghost use Rattle.uip_edge.specs.declared.item.Item.{Item};
-ghost use Rattle.uip_edge.specs.declared.item.Item.TheVariants.{Byte};
-ghost use Rattle.uip_slip.specs.Text.{slip_text};
 ghost use Rattle.trace.specs.CaptureReading.{HoldsJust, IsReadAs, Reading};
 ghost use Rattle.trace.specs.CaptureText.{capture_file, datagrams_on};
-ghost use Rattle.trace.specs.Converting.{Converts, IsSurely, SlipEndsBy};
+ghost use Rattle.trace.specs.Converting.{IsSurely, LinesComeBack, SlipEndsBy};
 ghost use Rattle.trace.specs.declared.slip_end.SlipEnd.{SlipEnd as AnyEnd};
-ghost use Rattle.trace.specs.declared.slip_end.SlipEnd.TheVariants.{End};
 ghost use Rattle.uip_edge.specs.Views.{LineView, LineUnfailed};
 ghost use Rattle.trace.specs.ConstantValues.{ConstantValues};
 
@@ -26,10 +21,7 @@ pub fn records_are_datagrams()
 
 /// What `pcap` wrote of a line, `slip` converts to the SLIP texts of the line's datagrams, and reports the end.
 pub fn lines_come_back()
-    ensures { (items : List Item) (n : ℕ) (old new : LineView) (end : AnyEnd)
-        → old.link.coming ≡ Some (map Byte (capture_file items))
-        → length (capture_file items) < n → Converts n old new end → LineUnfailed old new
-        → (end ≡ End) × Appends old.sink.written new.sink.written (flat_map slip_text (datagrams_on items)) }
+    ensures { LinesComeBack }
 {}
 
 /// If nothing failed, `slip` reports a fault of the file if there is one, else the budget, and else the end or a cut.

@@ -1,5 +1,5 @@
 -- What a run of the resolver knows of the items that it took, and what its turns add.
-use Rattle.std.specs.Prelude.{◌≡◌, ◌<◌, ◌≤◌, ◌⊎◌, ℕ, List, [], ◌++◌, length, map, OnErr, Result}
+use Rattle.std.specs.Prelude.{◌≡◌, ◌<◌, ◌≤◌, ◌⊎◌, ℕ, false, List, [], ◌++◌, length, map, OnErr, Result}
 use Rattle.std.specs.Io.KnownBytes.{Appends}
 use Rattle.uip_edge.specs.Causes.{Rose}
 use Rattle.uip_edge.specs.Coming.{Consumes, bytes_among}
@@ -12,11 +12,11 @@ use Rattle.uip_edge.specs.declared.serve_end.ServeEnd.TheVariants as ends
 use Rattle.uip_edge.specs.declared.turn.Turn.{Turn}
 use Rattle.uip_edge.specs.declared.turn.Turn.TheVariants as turns
 use Rattle.uip_slip.specs.Decoding.{WasFed}
-use Rattle.udp_resolver.specs.Asked.{last_ident, line_text, queries}
-use Rattle.udp_resolver.specs.Fates.{Question, answer_among}
+use Rattle.udp_resolver.specs.Asked.{last_ident, line_text, queries, query_texts}
+use Rattle.udp_resolver.specs.Fates.{Question, answer_among, is_given_up}
 use Rattle.udp_resolver.specs.LineEvents.{events}
 use Rattle.udp_resolver.specs.Resolving.{IsDone, IsOneAnswer, IsOpen, LastAsked}
-use Rattle.udp_resolver.specs.Steps.{IsClockAt}
+use Rattle.udp_resolver.specs.Steps.{IsClockAt, asked_next}
 use Rattle.udp_resolver.specs.declared.run.Run.{Run}
 
 -- The text was written whole, or a prefix of it if the sink failed, and then it is not empty.
@@ -30,6 +30,17 @@ pub record Knows (asked : List Question) (items : List Item) (run : Run) : Type 
   pub at : IsClockAt (events items) run.clock
   pub heard : run.answers.items ≡ map (answer_among (events items)) asked
   pub sent : run.sender.ident ≡ last_ident 0 (queries asked (events items))
+
+-- A run that knows any items without giving up knows these further items too afterwards.
+abbrev pub Learns : List Question → List Item → Run → Run → Type 0
+Learns asked more old new =
+    (items : List Item) → is_given_up (events items) ≡ false → Knows asked items old → Knows asked (items ++ more) new
+
+-- After any items of a run that has not given up, the queries due at the next silence were written.
+abbrev pub WritesNext : {T E : Type 0} → List Question → Run → SinkView → SinkView → Result T E → Type 0
+WritesNext asked run old new result =
+    (items : List Item) → is_given_up (events items) ≡ false → Knows asked items run
+    → WritesSome old new result (query_texts run.sender.ident (asked_next asked (events items)))
 
 -- What further items add to the output line.
 abbrev pub Adds : List Question → List Item → List Item → List ℕ → Type 0
@@ -70,6 +81,11 @@ pub record Turns (asked : List Question) (items : List Item) (run : Run) (old ne
   pub within : length more ≤ room
   pub cause : TurnsBy old new more turn
   pub by : AsksOn asked items more run old new turn
+
+-- A turn after any items with an open question.
+abbrev pub TurnsAfter : List Question → Run → Run → LineView → LineView → ℕ → Turn ServeEnd → Type 0
+TurnsAfter asked before run old new room turn =
+    (items : List Item) → IsOpen asked items → Knows asked items before → Turns asked items run old new room turn
 
 -- Why no more is taken, and what was written, if the line did not fail.
 pub record Done (asked : List Question) (n : ℕ) (taken : List Item) (run : Run) (old new : LineView) (end : ServeEnd) : Type 0 where

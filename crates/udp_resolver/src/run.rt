@@ -1,18 +1,17 @@
 //! A run of the resolver, turn by turn.
 
-ghost use Rattle.std.specs.Prelude.{◌≡◌, ◌≤◌, ◌<◌, ◌∷◌, ◌++◌, [], List, None, false, length, map, not, replicate, OnOk};
+ghost use Rattle.std.specs.Prelude.{◌≡◌, ◌≤◌, ◌<◌, ◌∷◌, [], List, None, length, map, not, replicate, OnOk};
 ghost use Rattle.rexmit_timer.specs.declared.timer.TheConstants.{TEXT_LIMIT};
 ghost use Rattle.uip_edge.specs.Causes.{HasCause};
 ghost use Rattle.uip_edge.specs.Turns.{TurnFits};
 ghost use Rattle.uip_edge.specs.declared.item.Item.{Item};
 ghost use Rattle.uip_edge.specs.declared.item.Item.TheVariants.{Byte, Quiet};
 ghost use Rattle.uip_slip.specs.Decoding.{WasFed};
-ghost use Rattle.udp_resolver.specs.Asked.{line_text, query_texts};
-ghost use Rattle.udp_resolver.specs.Fates.{all_settled, is_given_up, questions};
+ghost use Rattle.udp_resolver.specs.Asked.{line_text};
+ghost use Rattle.udp_resolver.specs.Fates.{all_settled, questions};
 ghost use Rattle.udp_resolver.specs.LineEvents.{events};
-ghost use Rattle.udp_resolver.specs.Resolving.{IsOpen};
-ghost use Rattle.udp_resolver.specs.Standing.{Asks, Knows, Turns, WritesSome};
-ghost use Rattle.udp_resolver.specs.Steps.{IsClockAt, asked_next};
+ghost use Rattle.udp_resolver.specs.Standing.{Asks, Knows, Learns, TurnsAfter, WritesNext, WritesSome};
+ghost use Rattle.udp_resolver.specs.Steps.{IsClockAt};
 ghost use Rattle.uip_edge.specs.ViewsOf.{line_view, sink_view};
 
 use crate::MOST_NAMES;
@@ -91,8 +90,7 @@ impl Run {
         requires { length self.old.answers.items ≡ length names.now }
         ensures each { length self.new.answers.items ≡ length names.now }
         ensures clock { self.new.clock ≡ self.old.clock }
-        ensures knows { (items : List Item) → is_given_up (events items) ≡ false
-            → Knows (questions asking names.now) items self.old → Knows (questions asking names.now) (items ++ Byte byte ∷ []) self.new }
+        ensures knows { Learns (questions asking names.now) (Byte byte ∷ []) self.old self.new }
     {
         if let Fed::Datagram(count) = self.decoder.feed(byte) {
             hear(
@@ -109,9 +107,7 @@ impl Run {
         requires { length self.old.answers.items ≡ length names.now }
         ensures each { length self.new.answers.items ≡ length names.now }
         ensures clock { self.new.clock ≡ self.old.clock }
-        ensures knows { (items : List Item) → is_given_up (events items) ≡ false
-            → Knows (questions asking names.now) items self.old
-            → Knows (questions asking names.now) (items ++ map Byte bytes.now) self.new }
+        ensures knows { Learns (questions asking names.now) (map Byte bytes.now) self.old self.new }
     {
         for byte in bytes {
             self.take_byte(asking, names, *byte);
@@ -132,12 +128,8 @@ impl Run {
         ensures tries { self.new.clock.timer.tries ≤ TEXT_LIMIT }
         ensures area { length packet.new.area ≡ LARGEST_DATAGRAM }
         ensures each { length self.new.answers.items ≡ length names.now }
-        ensures knows { OnOk result ((items : List Item) → is_given_up (events items) ≡ false
-            → Knows (questions asking names.now) items self.old → Knows (questions asking names.now) (items ++ Quiet ∷ []) self.new) }
-        ensures writes { (items : List Item) → is_given_up (events items) ≡ false
-            → Knows (questions asking names.now) items self.old
-            → WritesSome (sink_view K.Sink out.old) (sink_view K.Sink out.new) result
-            (query_texts self.old.sender.ident (asked_next (questions asking names.now) (events items))) }
+        ensures knows { OnOk result (Learns (questions asking names.now) (Quiet ∷ []) self.old self.new) }
+        ensures writes { WritesNext (questions asking names.now) self.old (sink_view K.Sink out.old) (sink_view K.Sink out.new) result }
         ensures cause { HasCause (K.faults out.old) (K.faults out.new) result }
     {
         if !self.clock.tick() {
@@ -165,8 +157,7 @@ impl Run {
         ensures area { length packet.new.area ≡ LARGEST_DATAGRAM }
         ensures each { length self.new.answers.items ≡ length names.now }
         ensures fits { TurnFits result (length buf.old) }
-        ensures turns { (items : List Item) → IsOpen (questions asking names.now) items → Knows (questions asking names.now) items self.old
-            → Turns (questions asking names.now) items self.new
+        ensures turns { TurnsAfter (questions asking names.now) self.old self.new
             (line_view L.Link K.Sink link.old out.old)
             (line_view L.Link K.Sink link.new out.new) (length buf.old) result }
     {

@@ -1,4 +1,5 @@
 pub mod Calls
+pub mod DeviceLaws
 pub mod Devices
 pub mod Handing
 pub mod Keeping

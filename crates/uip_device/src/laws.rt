@@ -1,22 +1,11 @@
 //! The laws of any sequence of moves: calls, and values that are set between them.
 
-ghost use Rattle.std.specs.Prelude.{◌≡◌, ◌++◌, ℕ, List, [], None};
-ghost use Rattle.std.specs.List.{All};
-ghost use Rattle.app_events.specs.Pages.{IsAddr, IsPaged, IsU32, Pages};
-ghost use Rattle.app_events.specs.AppSpec.{AppSpec};
-ghost use Rattle.uip_edge.specs.declared.item.Item.{Item};
-ghost use Rattle.uip_node.specs.Laws.{HasBytes};
+ghost use Rattle.std.specs.Prelude.{◌≡◌, ◌++◌, []};
 ghost use Rattle.uip_node.specs.Node.{initial_node};
-ghost use Rattle.uip_wire.specs.declared.addr.Addr.{Addr};
-ghost use Rattle.serve_loop.specs.LineOutput.{output_by};
-ghost use Rattle.serve_loop.specs.SerialMedium.{slip_medium};
 ghost use Rattle.serve_loop.specs.Turns.{IsNode};
-ghost use Rattle.uip_device.specs.declared.device.Device.{Device as AnyDevice};
-ghost use Rattle.uip_device.specs.Devices.{Answered, AnswersAll, FromFresh, IsFreshDevice, datagrams_handed, left_text_of, lefts_of};
-ghost use Rattle.uip_device.specs.Devices.{line_handed, moves_of};
+ghost use Rattle.uip_device.specs.DeviceLaws.{EveryCallConforms, EveryLineIsServed};
+ghost use Rattle.uip_device.specs.Devices.{FromFresh, datagrams_handed, left_text_of, line_handed, moves_of};
 ghost use Rattle.uip_device.specs.ConstantValues.{ConstantValues};
-ghost use Rattle.uip_device.specs.Keeping.{IsOfBytes, CallsConform, KeepsU32};
-ghost use Rattle.uip_device.specs.Moves.{Bring, Writing};
 ghost use Rattle.uip_device.specs.Output.{datagrams_sent, line_sent, node_reached};
 
 use app_events::App;
@@ -37,20 +26,13 @@ pub fn calls_are_told<A: App>()
 /// Holds for any bytes, any sequence of calls and any values set between, of a fresh device whose application's text is a page of bytes.
 /// Each call writes what is sent in the trace entries of its input, and the trace satisfies the guarantee.
 pub fn calls_keep_the_promise<A: App>()
-    ensures { (m : AppSpec) (pages : Pages) → IsPaged m pages → HasBytes pages → (gives : Writing) → KeepsU32 gives
-        → (numbers : List ℕ) → All IsU32 numbers → (own : Addr) → IsAddr own
-        → (all : List Answered) → All IsOfBytes (moves_of all) → (old new : AnyDevice A A.Shared)
-        → IsFreshDevice A.App m numbers own old → (answered : AnswersAll A.App gives all old new)
-        → CallsConform pages A.served own all (lefts_of A.App gives all old new answered) }
+    ensures { EveryCallConforms A.App }
 {}
 
 /// Holds if the calls bring the items of a line at a pace, in order, with no value set between. They write what the server of a serial line
 /// writes for these items, however the bytes are cut among the calls and the output into pieces.
 pub fn line_is_served<A: App>()
-    ensures { (m : AppSpec) (gives : Writing) (numbers : List ℕ) (own : Addr) (pace : ℕ) (items : List Item) (all : List Answered)
-        (old new : AnyDevice A A.Shared) → IsFreshDevice A.App m numbers own old → Bring pace items (moves_of all)
-        → AnswersAll A.App gives all old new → new.left ≡ None
-        → line_handed all ≡ output_by slip_medium m A.served numbers own pace items }
+    ensures { EveryLineIsServed A.App }
 {}
 
 /// The number that contracts name by the code's constant.
