@@ -1,10 +1,11 @@
 -- The words of a device's scripts: the functions of uIP, and the values.
-use Rattle.std.specs.Prelude.{ℕ, Bool, true, List, [], codes, take, if◌then◌else◌}
+use Rattle.std.specs.Prelude.{ℕ, Bool, true, List, [], codes, flat_map, take, if◌then◌else◌}
 use Rattle.std.specs.Str.{bytes_eq}
 use Rattle.script_lang.specs.Calling.{Calling}
 use Rattle.script_lang.specs.Functions.{function_named, length_at_most, takes_capture}
 use Rattle.generators.specs.Giving.{Giving, Said, gives, uip_said}
-use Rattle.generators.specs.Text.{capture_text}
+use Rattle.generators.specs.Packed.{rows_in}
+use Rattle.generators.specs.Text.{counter_line, in_ten_places, row_text}
 use Rattle.device_values.specs.declared.spelling.Spelling.TheVariants.{Plain, Json, Html}
 use Rattle.device_values.specs.declared.word.Word.{Word}
 use Rattle.device_values.specs.declared.word.Word.TheVariants as word
@@ -43,6 +44,10 @@ word_said (word.Value spelling) argument hits own now = spelled spelling (value_
 abbrev pub words : Giving Word
 words = gives word_calls word_said
 
+-- [add: function] The arm of its record.
 abbrev pub record_text : ValueCapture → List ℕ
-record_text (record_of.Uip capture) = capture_text capture
+record_text record_of.Empty = []
+record_text (record_of.Number number) = in_ten_places number
+record_text (record_of.Net counters) = flat_map counter_line counters
+record_text (record_of.Rows rows) = flat_map row_text (rows_in rows)
 record_text (record_of.Value spelling kept) = spelled spelling (take kept.len kept.bytes)

@@ -1,2 +1,4 @@
 pub mod Pasting
+pub mod Filling
+pub mod Packing
 pub mod Joining

@@ -7,8 +7,11 @@ mod cells;
 mod gives;
 mod laws;
 mod numbers;
+mod packed;
+mod packed_rows;
 mod parts;
 mod rows;
+mod slices;
 mod text;
 mod uip;
 mod written;
@@ -16,6 +19,9 @@ mod written;
 pub use capture::{Capture, take};
 pub use gives::Record;
 pub use laws::texts_are_short;
+pub use packed::pack_rows;
+pub use packed_rows::{PackedRow, PackedRows};
+pub use slices::{counters_len, fill_counters, fill_number, fill_rows, number_len, rows_len};
 pub use text::{fill_at, text_len};
 
 #[cfg(test)]

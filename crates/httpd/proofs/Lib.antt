@@ -9,5 +9,6 @@ pub mod Requesting
 pub mod Standing
 pub mod Telling
 pub mod Asking
+pub mod Compacting
 pub mod ZeroWriting
 pub mod ZeroAsking

@@ -7,5 +7,6 @@ pub mod Saying
 pub mod Web
 pub mod Hearing
 pub mod HttpdRepresents
+pub mod Compact
 pub mod Zero
 pub mod Lemmas

@@ -3,6 +3,7 @@
 //! the offset on; there is no table of its pieces.
 #![tactic(auto)]
 
+mod compact;
 mod hearing;
 mod httpd;
 mod looking;
@@ -14,6 +15,7 @@ mod thread;
 mod web;
 mod zero;
 
+pub use compact::CompactPages;
 pub use httpd::{Httpd, Pages};
 pub use stage::Stage;
 pub use thread::Thread;

@@ -3,5 +3,5 @@ use std::mem::size_of;
 
 #[test]
 fn size_of_a_connection(rt: HostRuntime) {
-    assert!(rt; size_of::<ValuePages>() <= 256);
+    assert!(rt; size_of::<ValuePages>() <= 128);
 }

@@ -4,29 +4,29 @@ ghost use Rattle.std.specs.Prelude.{◌≡◌, ◌++◌};
 ghost use Rattle.app_events.specs.AppSpec.{AppState};
 ghost use Rattle.device_values.specs.Words.{record_text, words};
 ghost use Rattle.file_tree.specs.Site.{files_of};
-ghost use Rattle.httpd.specs.HttpdRepresents.{PagesRepresent};
+ghost use Rattle.httpd.specs.Compact.{CompactRepresent};
 ghost use Rattle.web_pages.specs.Requests.{wanted};
 ghost use Rattle.web_pages.specs.WebMeaning.{hits_by};
 
 use crate::device_web::{DeviceWeb, FlashWeb, see_counted};
 use app_events::{App, Ending, Now, Want};
 use device_values::ValueCapture;
-use httpd::Pages;
+use httpd::CompactPages;
 use uip_wire::{Port, WEB_PORT};
 
 /// The pages of a device, on one connection.
 #[derive(Drop)]
 pub struct ValuePages {
-    pub pages: Pages<ValueCapture>,
+    pub pages: CompactPages<ValueCapture>,
 }
 
 /// Delivers the next bytes from the peer, and counts a hit of the file that they request.
-fn hear(pages: &mut Pages<ValueCapture>, web: &mut FlashWeb, piece: &[u8])
+fn hear(pages: &mut CompactPages<ValueCapture>, web: &mut FlashWeb, piece: &[u8])
     ensures site { web.new.site ≡ web.old.site }
-    ensures part { let stands = PagesRepresent words record_text in
+    ensures part { let stands = CompactRepresent words record_text in
         (p : AppState) → stands pages.old web.old.site p
         → stands pages.new web.old.site (record p { delivered = p.delivered ++ piece.now; polls = 0 }) }
-    ensures hits { let stands = PagesRepresent words record_text in
+    ensures hits { let stands = CompactRepresent words record_text in
         (p : AppState) → stands pages.old web.old.site p
         → web.new.hits ≡ hits_by (files_of web.old.site) web.old.hits (wanted p.delivered) (wanted (p.delivered ++ piece.now)) }
 {
@@ -39,7 +39,7 @@ impl App for ValuePages {
     ghost use Rattle.web_pages.specs.Serving.{is_served};
     ghost use Rattle.web_pages.specs.WebMeaning.{web_spec_by};
     ghost use Rattle.web_pages.specs.Lemmas.WebLaws.{web_lawful, web_starts};
-    ghost use Rattle.httpd.specs.HttpdRepresents.{PagesRepresent};
+    ghost use Rattle.httpd.specs.Compact.{CompactRepresent, pages_kept};
     ghost use Rattle.httpd.specs.Lemmas.SameLeft.{same_left_by};
     ghost use Rattle.device_values.specs.Words.{record_text, words};
 
@@ -54,7 +54,7 @@ impl App for ValuePages {
 
     ghost app_spec = { λ site. web_spec_by words (files_of site) };
 
-    ghost represents = { λ a site part. PagesRepresent words record_text a.pages site part };
+    ghost represents = { λ a site part. CompactRepresent words record_text a.pages site part };
 
     ghost served = { is_served };
 
@@ -64,12 +64,12 @@ impl App for ValuePages {
 
     fn idle() -> ValuePages {
         ValuePages {
-            pages: Pages::fresh(),
+            pages: CompactPages::fresh(),
         }
     }
 
     fn connected(&mut self, _shared: &mut DeviceWeb, _port: Port) {
-        self.pages = Pages::fresh();
+        self.pages = CompactPages::fresh();
     }
 
     fn newdata(&mut self, shared: &mut DeviceWeb, piece: &[u8]) {
@@ -109,9 +109,9 @@ impl App for ValuePages {
 
     fn ended(&mut self, _shared: &mut DeviceWeb, _how: Ending) {}
 
-    ghost lawful = { λ a site. web_lawful words (files_of site) (λ part. PagesRepresent words record_text a.pages site part) };
+    ghost lawful = { λ a site. web_lawful words (files_of site) (λ part. CompactRepresent words record_text a.pages site part) };
 
     ghost starts = { λ site. web_starts words (files_of site) };
 
-    ghost same_left = { λ a site p q s t. same_left_by words record_text a.pages site p q s t };
+    ghost same_left = { λ a site p q s t. same_left_by words (λ made. made) (pages_kept record_text a.pages) site p q s t };
 }

@@ -4,19 +4,19 @@ use Rattle.device_values.specs.Words.{record_text, words}
 use Rattle.file_tree.specs.Site.{SiteContent, files_of}
 use Rattle.web_pages.specs.WebMeaning.{web_spec_by}
 use Rattle.httpd.specs.Web.{WebContent}
-use Rattle.httpd.specs.HttpdRepresents.{PagesRepresent}
+use Rattle.httpd.specs.Compact.{CompactRepresent}
 use Rattle.uip_device.proofs.value_pages.ValuePagesApp.prepare.Goals as goal
 
 pub prepare_at-requires-clause-part : goal.prepare_at-requires-clause-part
 prepare_at-requires-clause-part c =
-    subst (λ (site : SiteContent). IsRepresented (PagesRepresent words record_text) c.args.self.now.pages site) (sym (ap (λ (w : WebContent). w.site) c.web.view_is)) c.requires
+    subst (λ (site : SiteContent). IsRepresented (CompactRepresent words record_text) c.args.self.now.pages site) (sym (ap (λ (w : WebContent). w.site) c.web.view_is)) c.requires
 
 pub returns : goal.returns
 returns c = λ p s.
     let own = c.args.shared.now.values.bytes in
     let hits = c.deref.ensures.value ∙ ap (λ (w : WebContent). w.hits) c.web.view_is in
-    subst (λ (hits : List ℕ). PagesRepresent words record_text c.prepare_at.new.self c.args.shared.now.web.site
+    subst (λ (hits : List ℕ). CompactRepresent words record_text c.prepare_at.new.self c.args.shared.now.web.site
     ((web_spec_by words (files_of c.args.shared.now.web.site)).prepare (hits ++ own) p c.args.now.now)) hits
-    (subst (λ (site : SiteContent). PagesRepresent words record_text c.prepare_at.new.self site
+    (subst (λ (site : SiteContent). CompactRepresent words record_text c.prepare_at.new.self site
     ((web_spec_by words (files_of site)).prepare (c.deref.result.now ++ own) p c.args.now.now)) (ap (λ (w : WebContent). w.site) c.web.view_is)
-    (c.prepare_at.ensures p (subst (λ (site : SiteContent). PagesRepresent words record_text c.args.self.now.pages site p) (sym (ap (λ (w : WebContent). w.site) c.web.view_is)) s)))
+    (c.prepare_at.ensures p (subst (λ (site : SiteContent). CompactRepresent words record_text c.args.self.now.pages site p) (sym (ap (λ (w : WebContent). w.site) c.web.view_is)) s)))

@@ -1,0 +1,6 @@
+use Rattle.std.proofs.Common.{◌≡◌, ◌≤◌, length, map, take}
+use Rattle.generators.specs.Packed.{row_in}
+use Rattle.generators.proofs.packed.pack_rows.Given as goal
+
+abbrev pub invariant-loop-place : goal.invariant-loop-place
+invariant-loop-place l = record { so_far : map row_in (take l.place l.list) ≡ take l.place l.items; long : length l.list ≡ 10; few : length l.items ≤ 10 }

@@ -1,0 +1,83 @@
+-- The states of compact pages, after each call.
+use Rattle.std.proofs.Common.{◌≡◌, ◌≤◌, ℕ, Bool, true, false, List, [], ◌∷◌, ◌++◌, Option, length, take, refl, sym, ap, subst, arith}
+use Rattle.app_events.specs.AppSpec.{AppState, CanSay, IsRepresented}
+use Rattle.site_image.specs.Files.{File}
+use Rattle.file_tree.specs.declared.file_id.FileId.{FileId}
+use Rattle.file_tree.specs.Site.{SiteContent, files_of}
+use Rattle.generators.specs.Giving.{Giving}
+use Rattle.protosocket.specs.Line.{Line}
+use Rattle.web_pages.specs.Requests.{wanted}
+use Rattle.web_pages.specs.Requests.Wanted.{NotYet, Refused}
+use Rattle.web_pages.specs.Lemmas.Deciding.{method_open, target_open}
+use Rattle.httpd.specs.declared.compact.CompactPages.{CompactPages}
+use Rattle.httpd.specs.declared.compact.CompactPages.TheVariants as compact
+use Rattle.httpd.specs.declared.hearing.Heard.{Heard}
+use Rattle.httpd.specs.declared.stage.Stage.{Stage}
+use Rattle.httpd.specs.declared.stage.Stage.TheVariants as stage
+use Rattle.httpd.specs.declared.thread.Thread.{Thread}
+use Rattle.httpd.specs.declared.thread.Thread.TheVariants.{Head}
+use Rattle.httpd.specs.Compact.{CompactRepresent, HearsWord, pages_kept, word_stage}
+use Rattle.httpd.specs.Hearing.{HearsTo, IsFileAsked}
+use Rattle.httpd.specs.HttpdRepresents.{PagesRepresent, SaysNothing}
+use Rattle.httpd.specs.Places.{Fits, IsFound}
+use Rattle.httpd.specs.Reply.{left_from, reply_by}
+use Rattle.httpd.specs.Saying.{left_text}
+use Rattle.httpd.proofs.Standing.{can_say, means, reply_fits, reply_found, some_part}
+use Rattle.httpd.proofs.Telling.{decided_stands, with_more}
+
+-- ---- what is received
+
+pub heard_as : (d e : Heard) (l m : Line) (request : List ℕ) → d ≡ e → l ≡ m → HearsTo e m request → HearsTo d l request
+heard_as d e l m request same_d same_l is = subst (λ x. HearsTo x l request) (sym same_d) (subst (λ x. HearsTo e x request) (sym same_l) is)
+
+-- while a word is received it is kept, and nothing was sent
+pub word_heard : {F R : Type 0} (g : Giving F) (text : R → List ℕ) (site : SiteContent) (p : AppState) (polls : ℕ) (target : Bool) (line : Line)
+    → CompactRepresent g text (compact.Receiving polls target line) site p → HearsWord target line p.delivered × SaysNothing p
+word_heard g text site p polls true line s = s.stands
+word_heard g text site p polls false line s = s.stands
+
+-- and no file is requested yet
+pub word_open : (target : Bool) (line : Line) (request : List ℕ) → HearsWord target line request → wanted request ≡ NotYet
+word_open true line request hears = target_open request hears.method_ended hears.method hears.goes_on
+word_open false line request hears = method_open request hears.goes_on
+
+pub word_quiet : (target : Bool) (found : Option FileId) → word_stage target ≡ stage.Reply found → ⊥
+word_quiet true found e = cc
+word_quiet false found e = cc
+
+still_nothing : (p : AppState) (piece : List ℕ) → SaysNothing p → SaysNothing (with_more p piece)
+still_nothing p piece none = record { captures = none.captures; acked = none.acked }
+
+pub enters_word : {F R : Type 0} (g : Giving F) (text : R → List ℕ) (site : SiteContent) (p : AppState) (piece : List ℕ) (target : Bool) (line : Line)
+    → SaysNothing p → HearsWord target line (p.delivered ++ piece) → CompactRepresent g text (compact.Receiving 0 target line) site (with_more p piece)
+enters_word g text site p piece true line quiet is = record { polls = refl; stands = (is, still_nothing p piece quiet) }
+enters_word g text site p piece false line quiet is = record { polls = refl; stands = (is, still_nothing p piece quiet) }
+
+pub enters_refused : {F R : Type 0} (g : Giving F) (text : R → List ℕ) (site : SiteContent) (p : AppState) (piece : List ℕ)
+    → SaysNothing p → wanted (p.delivered ++ piece) ≡ Refused → CompactRepresent g text (compact.Refused 0) site (with_more p piece)
+enters_refused g text site p piece quiet is = record { polls = refl; stands = (is, still_nothing p piece quiet) }
+
+pub enters_reply : {F R : Type 0} (g : Giving F) (text : R → List ℕ) (site : SiteContent) (p : AppState) (piece : List ℕ) (found : Option FileId) (none : R)
+    → SaysNothing p → IsFileAsked (files_of site) (wanted (p.delivered ++ piece)) found → CompactRepresent g text (compact.Replying 0 found (Head 0) none) site (with_more p piece)
+enters_reply g text site p piece found none quiet is = record {
+  polls = refl;
+  stands = decided_stands g (λ made. made) (pages_kept text (compact.Replying 0 found (Head 0) none)) site (with_more p piece) (stage.Reply found) refl (still_nothing p piece quiet) is;
+}
+
+-- ---- while a reply is sent
+
+module _ {F R : Type 0} (g : Giving F) (text : R → List ℕ) (site : SiteContent) (a : CompactPages R) (polls : ℕ) (found : Option FileId) (thread : Thread) (capture : R) (e : a ≡ compact.Replying polls found thread capture) where
+  pub sent_found : IsRepresented (CompactRepresent g text) a site → IsFound (files_of site) found
+  sent_found has =
+      reply_found g (λ made. made) (pages_kept text (compact.Replying polls found thread capture)) site found refl (subst (λ v. IsRepresented (CompactRepresent g text) v site) e has)
+
+  pub sent_fits : IsRepresented (CompactRepresent g text) a site → Fits (reply_by g text site found capture) thread
+  sent_fits has =
+      reply_fits g (λ made. made) (pages_kept text (compact.Replying polls found thread capture)) site found refl (subst (λ v. IsRepresented (CompactRepresent g text) v site) e has)
+
+  pub sent_some : (n : ℕ) → CanSay (means g) (CompactRepresent g text) a site n → IsRepresented (CompactRepresent g text) a site
+  sent_some n can = some_part g (λ made. made) (pages_kept text a) site n can
+
+  pub sent_enough : (n : ℕ) → CanSay (means g) (CompactRepresent g text) a site n → n ≤ length (left_text (reply_by g text site found capture) thread)
+  sent_enough n can =
+      can_say g (λ made. made) (pages_kept text (compact.Replying polls found thread capture)) site n (stage.Reply found) refl (subst (λ v. CanSay (means g) (CompactRepresent g text) v site n) e can)

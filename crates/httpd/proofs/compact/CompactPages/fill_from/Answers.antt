@@ -1,0 +1,33 @@
+use Rattle.std.proofs.Common.{◌≡◌, ◌≤◌, ℕ, List, [], ◌∷◌, length, take, sym, ap, refl, subst, arith}
+use Rattle.app_events.specs.AppSpec.{CanSay}
+use Rattle.generators.specs.Giving.{gives}
+use Rattle.httpd.specs.Compact.{CompactRepresent, pages_kept}
+use Rattle.httpd.specs.declared.compact.CompactPages.TheVariants as compact
+use Rattle.httpd.proofs.Compacting.{sent_enough, sent_fits, sent_found, sent_some, word_quiet}
+use Rattle.httpd.proofs.Standing.{means, quiet_zero}
+use Rattle.httpd.proofs.compact.CompactPages.fill_from.Goals as goal
+
+pub fill_reply-requires-clause-found : goal.fill_reply-requires-clause-found
+fill_reply-requires-clause-found g c = sent_found (gives g.R.Function.Calls.calling g.R.Record.output) g.R.Record.text c.args.site.now c.args.self.now c.in-Replying.polls c.in-Replying.found c.in-Replying.thread c.in-Replying.capture c.in-Replying.is
+    (sent_some (gives g.R.Function.Calls.calling g.R.Record.output) g.R.Record.text c.args.site.now c.args.self.now c.in-Replying.polls c.in-Replying.found c.in-Replying.thread c.in-Replying.capture c.in-Replying.is (length c.args.out.now) c.requires)
+
+pub fill_reply-requires-clause-fits : goal.fill_reply-requires-clause-fits
+fill_reply-requires-clause-fits g c = sent_fits (gives g.R.Function.Calls.calling g.R.Record.output) g.R.Record.text c.args.site.now c.args.self.now c.in-Replying.polls c.in-Replying.found c.in-Replying.thread c.in-Replying.capture c.in-Replying.is
+    (sent_some (gives g.R.Function.Calls.calling g.R.Record.output) g.R.Record.text c.args.site.now c.args.self.now c.in-Replying.polls c.in-Replying.found c.in-Replying.thread c.in-Replying.capture c.in-Replying.is (length c.args.out.now) c.requires)
+
+pub fill_reply-requires-clause-enough : goal.fill_reply-requires-clause-enough
+fill_reply-requires-clause-enough g c = sent_enough (gives g.R.Function.Calls.calling g.R.Record.output) g.R.Record.text c.args.site.now c.args.self.now c.in-Replying.polls c.in-Replying.found c.in-Replying.thread c.in-Replying.capture c.in-Replying.is (length c.args.out.now) c.requires
+
+none_taken : (n : ℕ) (out text : List ℕ) → n ≡ 0 → n ≡ length out → out ≡ take n text
+none_taken n [] text e f = ap (λ k. take k text) (sym e)
+none_taken n (x ∷ xs) text e f = absurd (omega (arith, e, f))
+
+pub returns-in-Receiving : goal.returns-in-Receiving
+returns-in-Receiving g c = λ p s.
+    none_taken (length c.args.out.now) c.args.out.now _ (quiet_zero (gives g.R.Function.Calls.calling g.R.Record.output) (λ made. made) (pages_kept g.R.Record.text (compact.Receiving c.in-Receiving.polls c.in-Receiving.target c.in-Receiving.line)) c.args.site.now (length c.args.out.now) (word_quiet c.in-Receiving.target)
+    (subst (λ v. CanSay (means (gives g.R.Function.Calls.calling g.R.Record.output)) (CompactRepresent (gives g.R.Function.Calls.calling g.R.Record.output) g.R.Record.text) v c.args.site.now (length c.args.out.now)) c.in-Receiving.is c.requires)) refl
+
+pub returns-in-Refused : goal.returns-in-Refused
+returns-in-Refused g c = λ p s.
+    none_taken (length c.args.out.now) c.args.out.now _ (quiet_zero (gives g.R.Function.Calls.calling g.R.Record.output) (λ made. made) (pages_kept g.R.Record.text (compact.Refused c.in-Refused.polls)) c.args.site.now (length c.args.out.now) (λ found e. cc)
+    (subst (λ v. CanSay (means (gives g.R.Function.Calls.calling g.R.Record.output)) (CompactRepresent (gives g.R.Function.Calls.calling g.R.Record.output) g.R.Record.text) v c.args.site.now (length c.args.out.now)) c.in-Refused.is c.requires)) refl
