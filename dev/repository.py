@@ -66,13 +66,17 @@ class Crates:
             visit(name)
         return order
 
-    def longest_chain(self):
-        """The longest chain of crates, lowest first."""
+    def chains(self):
+        """For each crate the longest chain that ends with it, lowest first."""
         chains = {}
         for name in self.in_order():
             lower = [chains[it] for it in self.below[name] if it in chains]
             chains[name] = max(lower, key=len, default=[]) + [name]
-        return max(chains.values(), key=len)
+        return chains
+
+    def longest_chain(self):
+        """The longest chain of crates, lowest first."""
+        return max(self.chains().values(), key=len)
 
     def edits(self, name):
         """The paths of a crate's must-fail edits."""

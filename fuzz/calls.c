@@ -41,9 +41,13 @@ static void is_untouched(const tested *t, const byte *out, size_t room, const ch
     WANT(!memcmp(&t->handle, &handle_before, sizeof t->handle), "%s was refused and wrote to the handle", what);
 }
 
-// The status that a call answers: its own words go first, then whether there is a device, then whether a text is left.
-static unsigned foretold(const tested *t, int is_bad, int asks_idle) {
-    return is_bad ? UIP_BAD_ARGUMENT : !t->is_open ? UIP_NO_DEVICE : asks_idle && t->has_left ? UIP_OUTPUT_PENDING : UIP_OK;
+// The status that a call answers: its own words go first, then whether there is a device, then its link, then whether a text is left.
+typedef enum { ANY, A_LINE, AN_IDLE_LINE, ETHER } link_of;
+static unsigned foretold(const tested *t, int is_bad, link_of link) {
+    if (is_bad) return UIP_BAD_ARGUMENT;
+    if (!t->is_open) return UIP_NO_DEVICE;
+    if (link != ANY && (link == ETHER) != t->is_ether) return UIP_WRONG_LINK;
+    return link == AN_IDLE_LINE && t->has_left ? UIP_OUTPUT_PENDING : UIP_OK;
 }
 
 static void end(tested *t, uip_result done, unsigned wanted, const byte *out, size_t room, text *to, const char *what) {
@@ -59,7 +63,7 @@ static void end(tested *t, uip_result done, unsigned wanted, const byte *out, si
     WANT(done.written <= room, "%s wrote %zu bytes to an area of %zu", what, done.written, room);
     WANT(done.pending <= 1 && (done.pending == 0 || done.written + 1 >= room), "%s left a text with room to go on", what);
     WANT(done.pending == 0 || room < UIP_MAX_OUT, "%s left a text with all room", what);
-    WANT(t->handle.is_open == 1, "%s closed the handle", what);
+    WANT(t->handle.is_open == 1u + (unsigned)t->is_ether, "%s closed the handle", what);
     WANT(to->len + done.written <= LONGEST_TEXT, "the harness has no room for a text");
     memcpy(to->bytes + to->len, out, done.written);
     to->len += done.written;
@@ -69,7 +73,7 @@ static void end(tested *t, uip_result done, unsigned wanted, const byte *out, si
 uip_result call_hear(tested *t, const byte *bytes, size_t len, size_t room, text *to) {
     byte *out = begin(t, room);
     uip_result done = uip_feed(&t->handle, put_input(&line_in, bytes, len), len, out, room);
-    unsigned wanted = foretold(t, len == 0 || room < UIP_MIN_OUT, 1);
+    unsigned wanted = foretold(t, len == 0 || room < UIP_MIN_OUT, AN_IDLE_LINE);
     end(t, done, wanted, out, room, to, "uip_feed");
     WANT(wanted != UIP_OK || (done.consumed >= 1 && done.consumed <= len), "uip_feed took %zu of %zu bytes", done.consumed, len);
     return done;
@@ -78,7 +82,7 @@ uip_result call_hear(tested *t, const byte *bytes, size_t len, size_t room, text
 uip_result call_slot(tested *t, unsigned slot, size_t room, text *to) {
     byte *out = begin(t, room);
     uip_result done = uip_periodic(&t->handle, slot, out, room);
-    end(t, done, foretold(t, slot >= UIP_SLOTS || room < UIP_MIN_OUT, 1), out, room, to, "uip_periodic");
+    end(t, done, foretold(t, slot >= UIP_SLOTS || room < UIP_MIN_OUT, AN_IDLE_LINE), out, room, to, "uip_periodic");
     WANT(done.consumed == 0, "uip_periodic took bytes");
     return done;
 }
@@ -87,7 +91,7 @@ uip_result call_more(tested *t, size_t room, text *to) {
     byte *out = begin(t, room);
     uip_result done = uip_drain(&t->handle, out, room);
     int had_left = t->has_left;
-    end(t, done, foretold(t, room < UIP_MIN_OUT, 0), out, room, to, "uip_drain");
+    end(t, done, foretold(t, room < UIP_MIN_OUT, A_LINE), out, room, to, "uip_drain");
     WANT(done.consumed == 0 && (had_left || done.written == 0), "uip_drain wrote where nothing was left");
     return done;
 }
@@ -96,7 +100,7 @@ uip_result call_datagram(tested *t, const byte *datagram, size_t len, text *to) 
     size_t room = chance(90) ? LARGEST : between(LARGEST, 4000);
     byte *out = begin(t, room);
     uip_result done = uip_input(&t->handle, put_input(&datagram_in, datagram, len), len, out, room);
-    unsigned wanted = foretold(t, len == 0 || len > LARGEST, 1);
+    unsigned wanted = foretold(t, len == 0 || len > LARGEST, AN_IDLE_LINE);
     end(t, done, wanted, out, room, to, "uip_input");
     WANT(done.pending == 0 && done.consumed == (wanted == UIP_OK ? len : 0), "uip_input took %zu of %zu bytes", done.consumed, len);
     return done;
@@ -106,9 +110,53 @@ uip_result call_slot_datagram(tested *t, unsigned slot, text *to) {
     size_t room = chance(90) ? LARGEST : between(LARGEST, 4000);
     byte *out = begin(t, room);
     uip_result done = uip_periodic_datagram(&t->handle, slot, out, room);
-    end(t, done, foretold(t, slot >= UIP_SLOTS, 1), out, room, to, "uip_periodic_datagram");
+    end(t, done, foretold(t, slot >= UIP_SLOTS, AN_IDLE_LINE), out, room, to, "uip_periodic_datagram");
     WANT(done.pending == 0 && done.consumed == 0, "uip_periodic_datagram left a text");
     return done;
+}
+
+// A room for a frame: at times too small, with `is_bad` 1.
+static size_t frame_room(int is_bad) { return is_bad ? below(UIP_MAX_FRAME) : chance(90) ? UIP_MAX_FRAME : between(UIP_MAX_FRAME, 4000); }
+
+// Begins a call whose area begins with a frame, as far as there is room.
+static byte *begin_frame(const tested *t, const byte *frame, size_t len, size_t room) {
+    byte *out = begin(t, room);
+    size_t looked = looked_at(room);
+    memcpy(out, frame, len < room ? len : room);
+    memcpy(before, out, looked);
+    if (room > looked) memcpy(before + LOOKED_AT, out + room - LOOKED_AT, LOOKED_AT);
+    return out;
+}
+
+static uip_result frame_in(tested *t, const byte *frame, size_t len, size_t room, text *to) {
+    byte *out = begin_frame(t, frame, len, room);
+    uip_result done = uip_input_frame(&t->handle, out, room, len);
+    unsigned wanted = foretold(t, room < UIP_MAX_FRAME || len > room, ETHER);
+    end(t, done, wanted, out, room, to, "uip_input_frame");
+    WANT(done.pending == 0 && done.consumed == (wanted == UIP_OK ? len : 0), "uip_input_frame took %zu of %zu bytes", done.consumed, len);
+    return done;
+}
+
+uip_result call_frame(tested *t, const byte *frame, size_t len, text *to) {
+    size_t room = frame_room(0);
+    return frame_in(t, frame, len, room < len ? len : room, to);
+}
+
+static uip_result frame_out(tested *t, unsigned slot, size_t room, text *to) {
+    byte *out = begin(t, room);
+    uip_result done = uip_periodic_frame(&t->handle, slot, out, room);
+    end(t, done, foretold(t, slot >= UIP_SLOTS || room < UIP_MAX_FRAME, ETHER), out, room, to, "uip_periodic_frame");
+    WANT(done.pending == 0 && done.consumed == 0, "uip_periodic_frame left a text");
+    return done;
+}
+
+uip_result call_slot_frame(tested *t, unsigned slot, text *to) { return frame_out(t, slot, frame_room(0), to); }
+
+// Opens a device of its kind; of either kind where there is one already.
+static uip_opened opened_by(tested *t, const byte *at, size_t len, const byte *own) {
+    const byte *address = put_input(&datagram_in, own, 4);
+    int is_ether = t->is_open ? chance(50) : t->is_ether;
+    return is_ether ? uip_open_ether(&t->handle, at, len, address, put_input(&words_in, t->mac, 6)) : uip_open(&t->handle, at, len, address);
 }
 
 // Opens with an image, of which the first fault is foretold, and with an allocation refused, which is foretold by the heap. The image of
@@ -121,7 +169,7 @@ void call_open(tested *t, const byte *image, size_t len, const byte *own) {
     heap_refused = 0;
     if (!t->image.len) t->image = area_new(1 << 20, 1);
     const byte *at = put_input(t->is_open ? &image_in : &t->image, image, len);
-    uip_opened opened = uip_open(&t->handle, at, len, put_input(&datagram_in, own, 4));
+    uip_opened opened = opened_by(t, at, len, own);
     heap_refuses = 0;
     counts.opens++, counts.calls++;
     unsigned wanted = t->is_open ? UIP_HAS_DEVICE : heap_refused ? UIP_NO_MEMORY : word ? UIP_BAD_IMAGE : UIP_OK;
@@ -153,7 +201,7 @@ void call_close(tested *t) {
 
 // What calls that neither read nor write an area answer: they leave the heap, and the handle where they were refused or read.
 static void told(const tested *t, unsigned status, int is_bad, const char *what) {
-    unsigned wanted = foretold(t, is_bad, 0);
+    unsigned wanted = foretold(t, is_bad, ANY);
     counts.calls++;
     counts.refused += wanted != UIP_OK;
     WANT(status == wanted, "%s answers %u, and %u was foretold", what, status, wanted);
@@ -207,10 +255,10 @@ static void refused_words(tested *t) {
 
 // A call that has to be refused: with bad words, or while a text is left, or without a device.
 void refused_calls(tested *t) {
-    static byte none[LARGEST + 2];
+    static byte none[4096];
     text nowhere = {none, 0};
-    int is_idle = t->is_open && !t->has_left;
-    switch (below(9)) {
+    int is_idle = t->is_open && !t->has_left && !t->is_ether;
+    switch (below(12)) {
     case 0: call_hear(t, none, 0, 2 + below(4000), &nowhere); break;
     case 1: call_hear(t, none, between(1, 100), below(2), &nowhere); break;
     case 2: call_slot(t, chance(50) ? UIP_SLOTS : (unsigned)random_next() | 0x10, is_idle ? 2 : below(4000), &nowhere); break;
@@ -219,8 +267,16 @@ void refused_calls(tested *t) {
     case 5: call_datagram(t, none, chance(50) ? 0 : LARGEST + 1, &nowhere); break;
     case 6: call_slot_datagram(t, chance(50) ? UIP_SLOTS : (unsigned)random_next() | 0x10, &nowhere); break;
     case 8: refused_words(t); break;
+    case 9: frame_in(t, none, chance(50) ? below(100) : UIP_MAX_FRAME, frame_room(1), &nowhere); break;
+    case 10: frame_in(t, none, 4001 + (size_t)random_next() % 1000000, frame_room(0), &nowhere); break;
+    case 11: frame_out(t, chance(50) ? below(UIP_SLOTS) : UIP_SLOTS + below(9), frame_room(1), &nowhere); break;
     default:
+        if (!t->is_open || !t->is_ether) {
+            frame_in(t, none, below(UIP_MAX_FRAME), frame_room(0), &nowhere);
+            frame_out(t, below(UIP_SLOTS), frame_room(0), &nowhere);
+        }
         if (is_idle) break;
+        if (t->is_ether) call_more(t, 2 + below(4000), &nowhere);
         call_hear(t, none, between(1, 100), 2 + below(4000), &nowhere);
         call_slot(t, below(UIP_SLOTS), 2 + below(4000), &nowhere);
         call_datagram(t, none, between(1, LARGEST), &nowhere);

@@ -1,6 +1,7 @@
 // Three devices in step. `under test` gets what comes in random cuts, has random rooms, and is called wrongly and read between its
 // calls; `whole` gets the same in whole pieces with all room; `by datagrams` gets the frames that the harness itself finds in the
-// line. What the three send has to be the same. In a mixed session the first two hear some datagrams outside of the line.
+// line. What the three send has to be the same. In a mixed session the first two hear some datagrams outside of the line. A fourth device
+// gets the datagrams of the third in Ethernet frames (frames.c).
 #include <stdio.h>
 #include <string.h>
 #include "fuzz.h"
@@ -37,6 +38,7 @@ static void give_others(void) {
     if (!is_given) return;
     call_value(&whole, given_number, given.bytes, given.len);
     call_value(&by_datagrams, given_number, given.bytes, given.len);
+    frames_give(given_number, &given);
     counts.calls -= 2, counts.others += 2;
     values_given(given_number, &given);
     is_given = 0;
@@ -106,6 +108,7 @@ static void hear_one(const byte *datagram, size_t len) {
     model_hears(&counted, datagram, len);
     call_datagram(&by_datagrams, datagram, len, &sent);
     counts.calls--, counts.others++;
+    frames_hear(datagram, len, room, sent.len);
     take_sent(datagram, len, room, sent.len);
 }
 
@@ -145,6 +148,7 @@ static void read_all(void) {
     }
     WANT(call_idle(&under_test) == (rows == 0), "a device with %u connections is %sidle", rows, rows ? "" : "not ");
     WANT(call_idle(&whole) == (rows == 0) && call_idle(&by_datagrams) == (rows == 0), "the devices are not idle alike");
+    frames_read(&by_datagrams, name, len);
     counts.hits++, counts.rows += rows;
     counts.calls -= 2 * (UIP_SLOTS + 2), counts.others += 2 * (UIP_SLOTS + 2);
 }
@@ -224,6 +228,7 @@ void devices_tick(unsigned slot) {
     is_last = 1;
     counted.ticks += slot == 0;
     call_slot_datagram(&by_datagrams, slot, &one);
+    frames_tick(slot, sent_room, one.len);
     take_sent(0, 0, sent_room, one.len);
     WANT(!was_idle || one.len == 0, "an idle device sent a datagram for a tick");
     if (how.is_mixed && chance(30)) {
@@ -283,6 +288,7 @@ void devices_open(const site *s, const byte *own, const way *asked) {
     open_under_test(s, own);
     call_open(&whole, s->image, s->len, own);
     call_open(&by_datagrams, s->image, s->len, own);
+    frames_open(s, own);
 }
 
 void devices_close(void) {
@@ -297,6 +303,7 @@ void devices_close(void) {
     for (unsigned k = below(5); k; k--) refused_calls(&under_test);
     call_close(&whole);
     call_close(&by_datagrams);
+    frames_close();
     WANT(heap_blocks == 0, "%zu blocks are kept behind uip_close", heap_blocks);
 }
 

@@ -22,7 +22,7 @@ _Noreturn void fail(const char *format, ...) __attribute__((format(printf, 1, 2)
 #define WANT(is_so, ...) do { if (!(is_so)) fail(__VA_ARGS__); } while (0)
 extern struct counts {
     unsigned long calls, others, refused, opens, bad_images, refusals, sessions, pages, whole, datagrams, pings;
-    unsigned long given, shown, changed, hits, rows;
+    unsigned long given, shown, changed, hits, rows, framed, taught;
 } counts;
 void report_begin(unsigned long seed, int is_mixed);
 void report_end(void);
@@ -102,7 +102,7 @@ typedef struct { unsigned numbers[21], ticks; byte own[4]; } model;
 void model_hears(model *m, const byte *datagram, size_t len);
 void model_sends(model *m, const byte *datagram, size_t len);
 
-// devices.c: three devices in step. Each gives what was sent to `heard_back`, a datagram at a time.
+// devices.c: three devices in step, and a fourth. Each gives what was sent to `heard_back`, a datagram at a time.
 typedef struct { int is_mixed, may_be_overlong; unsigned pace; } way;
 extern model counted;
 void devices_open(const site *s, const byte *own, const way *how);
@@ -114,14 +114,16 @@ void heard_back(const byte *datagram, size_t len);       // of clients.c
 void record_begin(const char *folder, const site *s, const byte *own, unsigned pace);
 void record_end(void);
 
-// calls.c: single calls of the device under test, fine and refused, each as it was foretold.
-typedef struct { uip_device handle; int is_open, has_left; area image; } tested;    // the image stays while the device is open
+// calls.c: single calls of the device under test, fine and refused, each as it was foretold. The image stays while the device is open.
+typedef struct { uip_device handle; int is_open, has_left, is_ether; byte mac[6]; area image; } tested;
 typedef struct { byte *bytes; size_t len; } text;
 uip_result call_hear(tested *t, const byte *bytes, size_t len, size_t room, text *to);
 uip_result call_slot(tested *t, unsigned slot, size_t room, text *to);
 uip_result call_more(tested *t, size_t room, text *to);
 uip_result call_datagram(tested *t, const byte *datagram, size_t len, text *to);
 uip_result call_slot_datagram(tested *t, unsigned slot, text *to);
+uip_result call_frame(tested *t, const byte *frame, size_t len, text *to);
+uip_result call_slot_frame(tested *t, unsigned slot, text *to);
 void call_open(tested *t, const byte *image, size_t len, const byte *own);
 void call_close(tested *t);
 void refused_calls(tested *t);
@@ -132,6 +134,14 @@ void call_value(tested *t, unsigned long number, const byte *bytes, size_t len);
 unsigned call_hits(tested *t, const byte *name, size_t len);
 int call_idle(tested *t);
 uip_row call_row(tested *t, unsigned long slot);
+
+// frames.c: the fourth device, which gets the same datagrams in Ethernet frames. `reply` is what the device by datagrams sent.
+void frames_open(const site *s, const byte *own);
+void frames_hear(const byte *datagram, size_t len, const byte *reply, size_t reply_len);
+void frames_tick(unsigned slot, const byte *datagram, size_t len);
+void frames_give(unsigned number, const value *given);
+void frames_read(tested *other, const byte *name, size_t len);
+void frames_close(void);
 
 // clients.c: clients, honest and dishonest, behind a link that loses, repeats, reorders and damages.
 void clients_begin(const site *s, const byte *own, int may_be_overlong);

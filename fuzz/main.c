@@ -3,10 +3,10 @@
 //     fuzz SECONDS CALLS SEED [mixed] [record FOLDER]
 //
 // It ends behind so many seconds or calls of the device under test, whichever is first, or with the first finding. A session is a random
-// site at a random address, three devices in step (devices.c) that are given values (values.c), clients and a link between (clients.c).
-// What of it was asked for, and how the connections stand, follows from what is heard and sent (peers.c). With `mixed` datagrams come
-// outside of the line too. With `record` each session has a pace, and its line and what was sent are kept for `uipd serve` (run.sh
-// compares).
+// site at a random address, three devices in step (devices.c) and a fourth on Ethernet (frames.c) that are given values (values.c), clients
+// and a link between (clients.c). What of it was asked for, and how the connections stand, follows from what is heard and sent (peers.c).
+// With `mixed` datagrams come outside of the line too. With `record` each session has a pace, and its line and what was sent are kept for
+// `uipd serve` (run.sh compares).
 #include <stdio.h>
 #include <stdlib.h>
 #include <string.h>

@@ -31,14 +31,14 @@ asan)
     build fuzz_asan -O1 -fsanitize=address,undefined -fno-sanitize-recover=all "$here"/*.c
     exec "$out/fuzz_asan" 1000000 "${2:-1000000}" "${3:-1}" $4;;
 planted)
-    calls="open feed periodic drain input periodic_datagram counter set_value hits is_idle connection close"
+    calls="open open_ether feed periodic drain input periodic_datagram input_frame periodic_frame counter set_value hits is_idle connection close"
     wraps=$(for call in $calls; do printf ' -Wl,--wrap=uip_%s' "$call"; done)
     rm -rf "$out/parts"
     mkdir "$out/parts"
     # shellcheck disable=SC2086
     (cd "$out/parts" && "$cc" $words -O1 -c "$here"/*.c) || fail "the harness was not compiled"
     missed=0
-    for plant in $(seq 27); do
+    for plant in $(seq 35); do
         build planted -O1 -DPLANT="$plant" $wraps "$out"/parts/*.o "$here/planted/planted.c"
         if "$out/planted" 20 3000000 1 mixed >"$out/planted.txt"; then
             echo "MISSED $plant"

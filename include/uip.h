@@ -1,6 +1,6 @@
 /*
- * Lowunbisa for C: one IP node with ping and a web server, on a serial line (SLIP, RFC 1055) or any link that carries
- * datagrams. The web server at port 80 is the only application.
+ * Lowunbisa for C: one IP node with ping and a web server, on a serial line (SLIP, RFC 1055), on any link that carries
+ * datagrams, or on Ethernet with ARP. The web server at port 80 is the only application.
  *
  * SPDX-License-Identifier: MIT OR Apache-2.0
  * Copyright 2026 The Lowunbisa authors
@@ -99,6 +99,8 @@
  * own, feed these, and discard done.consumed. On a core with a data cache clean `out` before dma_send, and invalidate
  * what a DMA received before uip_feed reads it.
  *
+ * "ETHERNET" below, above uip_open_ether, has the loop for Ethernet.
+ *
  * To build a program:
  *   1. Get the library, libuip_c.a: from lib/ of an archive that release.sh made, or in the repository by `rt lib` in
  *      crates/uip_c (x86-64) or `sh ports/run.sh TARGET library` (see rule 10). The last two need the Rattle kit.
@@ -120,7 +122,7 @@
  * BUFFERING. No call of the library waits. uip_feed or uip_periodic gives at most one frame, with its uip_drain calls:
  * UIP_MAX_OUT bytes, 0.26 s at 115,200 bits a second. As many bytes may arrive meanwhile: let an interrupt or a DMA
  * store them. A tick gives at most ten frames. uip_tick_all feeds nothing between them, so 30,020 bytes may arrive at
- * worst. `step` feeds once between two of them.
+ * worst. `step` feeds once between two of them. On Ethernet each call writes at most one frame, whole.
  *
  * A ring that is too small for this can lose bytes. The node then drops the damaged frame, and the peer's TCP sends it
  * again. Measured: 512 bytes were enough for two clients at 19,200 bits a second. Flow control (RTS) prevents the loss.
@@ -174,16 +176,17 @@
  *      The library does not check which processor it runs on.
  *
  * ERRORS. Any other mistake of the caller is reported in `status` and has no effect: the device, `out` and the
- * counters are unchanged, and all other fields of the result are 0. Exception: for a bad image uip_open also reports
- * the fault.
+ * counters are unchanged, and all other fields of the result are 0. Exception: for a bad image uip_open and
+ * uip_open_ether also report the fault.
  *
  * A loop with correct arguments, as those above, sees UIP_OK alone. Nothing that arrives changes that. In full: after
- * a successful uip_open a call returns only
+ * a successful uip_open or uip_open_ether a call returns only
  *   UIP_OK;
  *   UIP_BAD_ARGUMENT      if an argument is out of its range (as a datagram of 0 or of more than 1500 bytes is);
  *   UIP_OUTPUT_PENDING    if output is pending and the call would make more of it (see uip_drain);
+ *   UIP_WRONG_LINK        if the device is on Ethernet and the call is for another link, or the other way round;
  *   UIP_NO_DEVICE         after uip_close;
- *   UIP_HAS_DEVICE        if it is another uip_open.
+ *   UIP_HAS_DEVICE        if it is another uip_open or uip_open_ether.
  *
  * RTOS. uip_feed_all, uip_tick_all and uip_drain_all count as one call, with their sinks: hold the mutex over the
  * whole. Another task may then wait 0.26 s for each frame that is sent, and 2.6 s in a tick, at 115,200 bits a second.
@@ -195,8 +198,9 @@
  * more). If there is a watchdog, feed it in the sink too.
  *
  * PROVED for any sequence of calls, successful or not, if the caller keeps the rules: memory safety, that each call
- * returns, and that the output is exactly what the definition of the node sends. A peer receives each page from its
- * start, without gaps or changes (docs/SPECIFICATION.md).
+ * returns, and that the output is exactly what the definition of the node and its link sends. A peer receives each page
+ * from its start, without gaps or changes (docs/SPECIFICATION.md). On Ethernet each frame with a datagram goes to the
+ * hardware address that ARP learned last for its destination.
  *
  * NOT PROVED: the stack depth, the heap that is enough, and the inline functions. The machine code for Cortex-M,
  * RISC-V and WebAssembly is made by a conversion that is tested and not proved (ports/README.md; docs/PORTS.md of an
@@ -240,16 +244,20 @@ enum uip_status {
     UIP_OK = 0,
     UIP_NO_DEVICE = 1,         /* the handle has no device */
     UIP_BAD_ARGUMENT = 2,      /* a length, room, slot, counter or value number is out of its range */
-    UIP_HAS_DEVICE = 3,        /* uip_open only: the handle already has a device */
-    UIP_BAD_IMAGE = 4,         /* uip_open only: the image is bad; `word` and `entry` name its first fault */
-    UIP_NO_MEMORY = 5,         /* uip_open only: the heap is too small. It may fail before the whole image is checked */
-    UIP_OUTPUT_PENDING = 6     /* uip_drain must first write the output that is pending */
+    /* Of uip_open and uip_open_ether only: */
+    UIP_HAS_DEVICE = 3,        /* the handle already has a device */
+    UIP_BAD_IMAGE = 4,         /* the image is bad; `word` and `entry` name its first fault */
+    UIP_NO_MEMORY = 5,         /* the heap is too small. It may fail before the whole image is checked */
+    /* Of the calls that send only: */
+    UIP_OUTPUT_PENDING = 6,    /* uip_drain must first write the output that is pending */
+    UIP_WRONG_LINK = 7         /* the device is on Ethernet and the call is for another link, or the other way round */
 };
 
 enum {
     UIP_MAX_OUT = 3002,        /* bytes of the longest SLIP frame: with this room no output is ever pending */
     UIP_MIN_OUT = 2,           /* the least room of uip_feed, uip_periodic and uip_drain, in bytes */
     UIP_MAX_DATAGRAM = 1500,   /* bytes of the longest datagram, and the least room of the calls for datagrams */
+    UIP_MAX_FRAME = 1514,      /* bytes of the longest Ethernet frame, and the least room of the calls for frames */
     UIP_SLOTS = 10,            /* connections: the slots 0 to 9 */
     UIP_COUNTERS = 20,         /* counters: the numbers 1 to 20 */
     UIP_VALUES = 16,           /* values of a device: the numbers 0 to 15 */
@@ -287,12 +295,15 @@ enum uip_state {
     UIP_CLOSING = 6, UIP_TIME_WAIT = 7, UIP_LAST_ACK = 8
 };
 
-/* The handle of one device. There may be any number of devices, each with a handle of its own. */
+/*
+ * The handle of one device. There may be any number of devices, each with a handle of its own. `is_open` is 0 without a
+ * device, 1 with one of uip_open, and 2 with one of uip_open_ether.
+ */
 typedef struct { unsigned is_open; void *at; } uip_device;
 #define UIP_INIT {0, 0}
 
 /*
- * The result of uip_open. If `status` is UIP_BAD_IMAGE:
+ * The result of uip_open and uip_open_ether. If `status` is UIP_BAD_IMAGE:
  *   entry    the number of the faulty entry, from 1; 0 if the fault is of the whole image
  *   word     the word of the fault as `uipd check` prints it (docs/FORMATS.md), ended by a 0
  * With any other status both are all zeros.
@@ -348,7 +359,7 @@ uip_opened uip_open(uip_device *device, const unsigned char *image, size_t len, 
  *
  * Result: `consumed` is 1 or more. If `pending` is 1, call uip_drain until it is 0. The rest of `out` is unspecified,
  * and nothing is written beyond `room`.
- * Status: UIP_OK, UIP_NO_DEVICE, UIP_BAD_ARGUMENT, UIP_OUTPUT_PENDING.
+ * Status: UIP_OK, UIP_NO_DEVICE, UIP_BAD_ARGUMENT, UIP_OUTPUT_PENDING, UIP_WRONG_LINK.
  */
 uip_result uip_feed(uip_device *device, const unsigned char *bytes, size_t len, unsigned char *out, size_t room);
 
@@ -365,7 +376,7 @@ uip_result uip_feed(uip_device *device, const unsigned char *bytes, size_t len, 
  *   out, room    where the segment goes, SLIP-framed; `room` is UIP_MIN_OUT or more
  *
  * Result: as of uip_feed, with `consumed` 0.
- * Status: UIP_OK, UIP_NO_DEVICE, UIP_BAD_ARGUMENT, UIP_OUTPUT_PENDING.
+ * Status: UIP_OK, UIP_NO_DEVICE, UIP_BAD_ARGUMENT, UIP_OUTPUT_PENDING, UIP_WRONG_LINK.
  */
 uip_result uip_periodic(uip_device *device, size_t slot, unsigned char *out, size_t room);
 
@@ -377,7 +388,7 @@ uip_result uip_periodic(uip_device *device, size_t slot, unsigned char *out, siz
  *
  * Result: `consumed` is 0; `written` is 1 or more if output was pending. If `pending` stays 1, `out` is full except for
  * at most one byte: an escape sequence of two bytes is not split.
- * Status: UIP_OK, UIP_NO_DEVICE, UIP_BAD_ARGUMENT.
+ * Status: UIP_OK, UIP_NO_DEVICE, UIP_BAD_ARGUMENT, UIP_WRONG_LINK.
  *
  * While output is pending, uip_feed, uip_periodic, uip_input and uip_periodic_datagram return UIP_OUTPUT_PENDING: the
  * output lies in the one packet buffer of the device. All other calls are allowed.
@@ -391,7 +402,7 @@ uip_result uip_drain(uip_device *device, unsigned char *out, size_t room);
  *   out, room        where the reply goes; `room` is UIP_MAX_DATAGRAM or more
  *
  * Result: `consumed` is `len`; `written` is the length of the reply; `pending` is 0.
- * Status: UIP_OK, UIP_NO_DEVICE, UIP_BAD_ARGUMENT, UIP_OUTPUT_PENDING.
+ * Status: UIP_OK, UIP_NO_DEVICE, UIP_BAD_ARGUMENT, UIP_OUTPUT_PENDING, UIP_WRONG_LINK.
  *
  * A whole loop for such a link follows. receive_datagram returns a length, or 0 if nothing has arrived. send_datagram
  * does nothing if the length is 0. `in` and `out` have UIP_MAX_DATAGRAM bytes each.
@@ -404,9 +415,10 @@ uip_result uip_drain(uip_device *device, unsigned char *out, size_t room);
  *                 send_datagram(out, uip_periodic_datagram(&device, slot, out, sizeof out).written);
  *     }
  *
- * One device can have a serial line and a link of datagrams at once. Calls of both kinds may alternate, also within a
- * frame of the serial line. In each tick make one call for each slot, of either kind: it decides on which link the
- * segment goes out. The device does not know on which link a peer is; your program chooses by the address of the peer
+ * One device can have a serial line and a link of datagrams at once, but not one of these and Ethernet. Calls of both
+ * kinds may alternate, also within a frame of the serial line. In each tick make one call for each slot, of either
+ * kind: it decides on which link the segment goes out. The device does not know on which link a peer is; your program
+ * chooses by the address of the peer
  * (uip_connection).
  */
 uip_result uip_input(uip_device *device, const unsigned char *datagram, size_t len, unsigned char *out, size_t room);
@@ -418,12 +430,88 @@ uip_result uip_input(uip_device *device, const unsigned char *datagram, size_t l
  *   out, room    where the datagram goes; `room` is UIP_MAX_DATAGRAM or more
  *
  * Result: `written` is the length of the datagram; `consumed` and `pending` are 0.
- * Status: UIP_OK, UIP_NO_DEVICE, UIP_BAD_ARGUMENT, UIP_OUTPUT_PENDING.
+ * Status: UIP_OK, UIP_NO_DEVICE, UIP_BAD_ARGUMENT, UIP_OUTPUT_PENDING, UIP_WRONG_LINK.
  */
 uip_result uip_periodic_datagram(uip_device *device, size_t slot, unsigned char *out, size_t room);
 
 /*
- * Returns the number of ticks since uip_open, modulo 2^32: the number of periodic calls of slot 0.
+ * ETHERNET. A device on Ethernet (RFC 894) with ARP (RFC 826). A frame begins with the destination hardware address,
+ * and has neither preamble nor frame check sequence: the controller strips and adds these. A received frame may be
+ * padded. A frame to send is not padded: the controller pads it, or you add zeros up to 60 bytes.
+ *
+ *     size_t mac_receive(unsigned char *frame, size_t room);        // the length of a frame, or 0
+ *     void mac_send(const unsigned char *frame, size_t len);        // returns when `frame` may be overwritten
+ *
+ *     static uip_device device = UIP_INIT;
+ *     static unsigned char frame[UIP_MAX_FRAME];
+ *     static const unsigned char own[4] = {10, 0, 0, 1}, mac[6] = {2, 0, 0, 0, 0, 1};
+ *     uip_result done;
+ *     size_t len, slot;
+ *     if (uip_open_ether(&device, site_image, SITE_IMAGE_LEN, own, mac).status != UIP_OK) return 1;
+ *     for (;;) {
+ *         if ((len = mac_receive(frame, sizeof frame)) != 0) {
+ *             done = uip_input_frame(&device, frame, sizeof frame, len);
+ *             if (done.written) mac_send(frame, done.written);
+ *         }
+ *         if (half_a_second_passed())
+ *             for (slot = 0; slot < UIP_SLOTS; slot++) {
+ *                 done = uip_periodic_frame(&device, slot, frame, sizeof frame);
+ *                 if (done.written) mac_send(frame, done.written);
+ *             }
+ *     }
+ *
+ * No output is ever pending. uip_ticks, uip_counter, uip_is_idle, uip_connection, uip_set_value, uip_hits and uip_close
+ * serve this device too. The calls for a serial line and for datagrams return UIP_WRONG_LINK. A device of uip_open
+ * returns it for the calls for frames.
+ *
+ * ARP has eight entries. A ninth address replaces the one that was learned longest ago. An entry is forgotten 2,400
+ * ticks after its address was last learned. docs/LIMITS.md has the rest.
+ */
+
+/*
+ * Opens a device on Ethernet with a site, as uip_open does. No address is learned yet.
+ *
+ *   device        a handle without a device
+ *   image, len    as for uip_open
+ *   own           as for uip_open
+ *   mac           the hardware address of the node, 6 bytes; it is copied
+ *
+ * There is no netmask and no router: every address is on the link.
+ * Status: UIP_OK, UIP_HAS_DEVICE, UIP_BAD_IMAGE, UIP_NO_MEMORY.
+ */
+uip_opened uip_open_ether(uip_device *device, const unsigned char *image, size_t len, const unsigned char own[4],
+                          const unsigned char mac[6]);
+
+/*
+ * Receives one frame. Writes the frame that is sent, if there is one, to the same place: an ARP reply, or the reply of
+ * the node. Drops a frame of fewer than 14 or more than 1514 bytes, and one for another host.
+ *
+ *   frame, room    the received frame at the start, then room for the reply; `room` is UIP_MAX_FRAME or more
+ *   len            the length of the received frame, 0 to `room`
+ *
+ * If the hardware address of the destination is not known, the frame that is written is an ARP request, and the
+ * datagram is lost. TCP sends it again.
+ *
+ * Result: `consumed` is `len`; `written` is the length of the frame to send, 0 if there is none; `pending` is 0. The
+ * rest of `frame` is unspecified.
+ * Status: UIP_OK, UIP_NO_DEVICE, UIP_BAD_ARGUMENT, UIP_WRONG_LINK.
+ */
+uip_result uip_input_frame(uip_device *device, unsigned char *frame, size_t room, size_t len);
+
+/*
+ * As uip_periodic, but writes a whole frame. The call for slot 0 also ages the learned addresses. A tick that you leave
+ * out ages nothing.
+ *
+ *   slot           0 to 9
+ *   frame, room    where the frame goes; `room` is UIP_MAX_FRAME or more
+ *
+ * Result: `written` is the length of the frame; `consumed` and `pending` are 0.
+ * Status: UIP_OK, UIP_NO_DEVICE, UIP_BAD_ARGUMENT, UIP_WRONG_LINK.
+ */
+uip_result uip_periodic_frame(uip_device *device, size_t slot, unsigned char *frame, size_t room);
+
+/*
+ * Returns the number of ticks since the device was opened, modulo 2^32: the number of periodic calls of slot 0.
  * Status: UIP_OK, UIP_NO_DEVICE.
  */
 uip_number uip_ticks(uip_device *device);
@@ -491,9 +579,9 @@ uip_row uip_connection(uip_device *device, size_t slot);
 unsigned uip_set_value(uip_device *device, size_t number, const void *text, size_t len);
 
 /*
- * Returns how often a file was requested since uip_open, modulo 2^32; 0 if no file of the site has that name. Each GET
- * of the name counts, whatever follows a `?`. A link can be a button, but a browser may follow a link by itself, or
- * twice: let it set a state, not toggle it.
+ * Returns how often a file was requested since the device was opened, modulo 2^32; 0 if no file of the site has that
+ * name. Each GET of the name counts, whatever follows a `?`. A link can be a button, but a browser may follow a link by
+ * itself, or twice: let it set a state, not toggle it.
  *
  *   name, len    the name of the file as the image has it, "/lamp-on.html", without a 0 at its end
  *
@@ -537,7 +625,7 @@ void rattle_dealloc(void *block);
 /*
  * The heap of one device, in bytes, for an image of `files` files, on every target: the six blocks, each rounded up to
  * a multiple of 16. Add what your allocator adds to each block. The length of the image does not count. For several
- * devices add theirs. Measured, not proved.
+ * devices add theirs. A device on Ethernet needs 1,424 bytes less. Measured, not proved.
  */
 #define UIP_ROUNDED(len) (((size_t)(len) + 15) / 16 * 16)
 #define UIP_MEMORY(files) \
@@ -571,8 +659,9 @@ void rattle_dealloc(void *block);
 typedef void (*uip_sink)(void *to, const unsigned char *bytes, size_t len);
 
 /*
- * Passes the output of a call to `sink`, and then all that is pending. `done` is the result of that call, and `out` its
- * area. Returns `done.status` if it is not UIP_OK, else the status of the last uip_drain, or UIP_OK.
+ * For a serial line. Passes the output of a call to `sink`, and then all that is pending. `done` is the result of that
+ * call, and `out` its area. Returns `done.status` if it is not UIP_OK, else the status of the last uip_drain, or
+ * UIP_OK.
  */
 UIP_INLINE unsigned uip_drain_all(uip_device *device, uip_result done, unsigned char *out, size_t room, uip_sink sink, void *to) {
     while (done.status == UIP_OK) {
@@ -584,8 +673,9 @@ UIP_INLINE unsigned uip_drain_all(uip_device *device, uip_result done, unsigned 
 }
 
 /*
- * Feeds all bytes, and passes all output to `sink`: at most one frame for each frame that ends in `bytes`. If `len` is
- * 0 it does nothing and returns UIP_OK; else it returns the first status that is not UIP_OK, or UIP_OK.
+ * For a serial line. Feeds all bytes, and passes all output to `sink`: at most one frame for each frame that ends in
+ * `bytes`. If `len` is 0 it does nothing and returns UIP_OK; else it returns the first status that is not UIP_OK, or
+ * UIP_OK.
  */
 UIP_INLINE unsigned uip_feed_all(uip_device *device, const unsigned char *bytes, size_t len,
                                  unsigned char *out, size_t room, uip_sink sink, void *to) {
@@ -600,8 +690,8 @@ UIP_INLINE unsigned uip_feed_all(uip_device *device, const unsigned char *bytes,
 }
 
 /*
- * Makes one tick, and passes all output to `sink`: at most ten frames. Returns the first status that is not UIP_OK, or
- * UIP_OK.
+ * For a serial line. Makes one tick, and passes all output to `sink`: at most ten frames. Returns the first status that
+ * is not UIP_OK, or UIP_OK.
  */
 UIP_INLINE unsigned uip_tick_all(uip_device *device, unsigned char *out, size_t room, uip_sink sink, void *to) {
     uip_result done = {UIP_OK, 0, 0, 0};

@@ -74,6 +74,30 @@ uip_result uip_periodic_datagram(uip_device *device, size_t slot, unsigned char 
     return of_result(&result);
 }
 
+uip_opened uip_open_ether(uip_device *device, const unsigned char *image, size_t len, const unsigned char own[4], const unsigned char mac[6]) {
+    module_device d = of_device(device);
+    _Alignas(8) uip_opened opened;
+    port_uip_open_ether(&opened, &d, (void *)image, len, (void *)own, (void *)mac);
+    put_device(device, &d);
+    return opened;
+}
+
+uip_result uip_input_frame(uip_device *device, unsigned char *frame, size_t room, size_t len) {
+    module_device d = of_device(device);
+    module_result result;
+    port_uip_input_frame(&result, &d, frame, room, len);
+    put_device(device, &d);
+    return of_result(&result);
+}
+
+uip_result uip_periodic_frame(uip_device *device, size_t slot, unsigned char *frame, size_t room) {
+    module_device d = of_device(device);
+    module_result result;
+    port_uip_periodic_frame(&result, &d, slot, frame, room);
+    put_device(device, &d);
+    return of_result(&result);
+}
+
 uip_number uip_ticks(uip_device *device) {
     module_device d = of_device(device);
     uint64_t both = port_uip_ticks(&d);

@@ -13,7 +13,7 @@
 #ifdef __cplusplus
 extern "C" size_t heap_blocks;
 #else
-extern size_t heap_blocks;    // of the heap: how many blocks are not given back
+extern size_t heap_blocks;    // of the heap: how many blocks are not freed
 #endif
 
 // An echo request from 10.0.0.2 to 10.0.0.1 and its reply (RFC 791, RFC 792), as datagrams and on the line (RFC 1055).
@@ -22,11 +22,22 @@ extern size_t heap_blocks;    // of the heap: how many blocks are not given back
 static const unsigned char request[] = REQUEST "\xc0\xdb", reply[] = REPLY "\xc0\xdb";
 static const unsigned char request_text[] = "\xc0" REQUEST "\xdb\xdc\xdb\xdd\xc0", reply_text[] = "\xc0" REPLY "\xdb\xdc\xdb\xdd\xc0";
 static const unsigned char image[] = "UIPSITE1\0", own[4] = {10, 0, 0, 1};
+// Frames between 02:00:00:00:00:02, which has 10.0.0.2, and 02:00:00:00:00:01, which has 10.0.0.1 (RFC 894, RFC 826): an ARP request and
+// its reply, the echo request and its reply, and the ARP request for 10.0.0.2.
+#define PEER "\2\0\0\0\0\2"
+#define NODE "\2\0\0\0\0\1"
+#define ARP "\x08\6\0\1\x08\0\6\4\0"
+#define ALL_HOSTS "\xff\xff\xff\xff\xff\xff"
+static const unsigned char mac[6] = {2, 0, 0, 0, 0, 1};
+static const unsigned char arp_request[] = ALL_HOSTS PEER ARP "\1" PEER "\x0a\0\0\2\0\0\0\0\0\0\x0a\0\0\1";
+static const unsigned char arp_reply[] = PEER NODE ARP "\2" NODE "\x0a\0\0\1" PEER "\x0a\0\0\2";
+static const unsigned char echo_frame[] = NODE PEER "\x08\0" REQUEST "\xc0\xdb", reply_frame[] = PEER NODE "\x08\0" REPLY "\xc0\xdb";
+static const unsigned char arp_for_peer[] = ALL_HOSTS NODE ARP "\1" NODE "\x0a\0\0\1\0\0\0\0\0\0\x0a\0\0\2";
 static uip_device device = UIP_INIT;
 static unsigned char out[UIP_MAX_OUT];
 static int wrong;
 
-// What the inline functions hand on.
+// What the inline functions pass to the sink.
 typedef struct { unsigned char bytes[UIP_MAX_OUT]; size_t len; } text;
 
 static void keep(void *to, const unsigned char *bytes, size_t len) {
@@ -40,8 +51,8 @@ static void expect(int is_so, const char *what) {
     wrong += !is_so;
 }
 
-static int is(uip_result done, unsigned status, size_t taken, size_t wrote) {
-    return done.status == status && done.consumed == taken && done.written == wrote;
+static int is(uip_result done, unsigned status, size_t consumed, size_t written) {
+    return done.status == status && done.consumed == consumed && done.written == written;
 }
 
 static void without_a_device(void) {
@@ -50,6 +61,8 @@ static void without_a_device(void) {
     expect(is(uip_input(&device, request, 30, out, sizeof out), UIP_NO_DEVICE, 0, 0), "uip_input without a device");
     expect(is(uip_periodic_datagram(&device, 0, out, sizeof out), UIP_NO_DEVICE, 0, 0), "uip_periodic_datagram without a device");
     expect(is(uip_drain(&device, out, sizeof out), UIP_NO_DEVICE, 0, 0), "uip_drain without a device");
+    expect(is(uip_input_frame(&device, out, sizeof out, 60), UIP_NO_DEVICE, 0, 0), "uip_input_frame without a device");
+    expect(is(uip_periodic_frame(&device, 0, out, sizeof out), UIP_NO_DEVICE, 0, 0), "uip_periodic_frame without a device");
     expect(uip_ticks(&device).status == UIP_NO_DEVICE, "uip_ticks without a device");
     expect(uip_counter(&device, UIP_DATAGRAMS_IN).status == UIP_NO_DEVICE, "uip_counter without a device");
     expect(uip_hits(&device, "/", 1).status == UIP_NO_DEVICE, "uip_hits without a device");
@@ -64,10 +77,11 @@ static void without_a_device(void) {
 static void opening(void) {
     uip_opened opened = uip_open(&device, (const unsigned char *)"UIPSITE1\0\1\2/", 12, own);
     expect(opened.status == UIP_BAD_IMAGE && opened.entry == 1 && !strcmp(opened.word, "cut"), "uip_open with a bad image");
-    expect(heap_blocks == 0, "the heap behind a bad image");
+    expect(heap_blocks == 0, "the heap after a bad image");
     expect(uip_open(&device, image, 10, own).status == UIP_OK, "uip_open");
     size_t blocks = heap_blocks;
     expect(uip_open(&device, image, 10, own).status == UIP_HAS_DEVICE, "uip_open twice");
+    expect(uip_open_ether(&device, image, 10, own, mac).status == UIP_HAS_DEVICE, "uip_open_ether after uip_open");
     expect(blocks > 0 && heap_blocks == blocks, "the heap while a device is open");
 }
 
@@ -77,6 +91,8 @@ static void bad_calls(void) {
     expect(is(uip_periodic(&device, 10, out, sizeof out), UIP_BAD_ARGUMENT, 0, 0), "uip_periodic of slot 10");
     expect(is(uip_input(&device, request, UIP_MAX_DATAGRAM + 1, out, sizeof out), UIP_BAD_ARGUMENT, 0, 0), "uip_input, long");
     expect(is(uip_periodic_datagram(&device, 0, out, UIP_MAX_DATAGRAM - 1), UIP_BAD_ARGUMENT, 0, 0), "uip_periodic_datagram with too little room");
+    expect(is(uip_input_frame(&device, out, sizeof out, 60), UIP_WRONG_LINK, 0, 0), "uip_input_frame on a line");
+    expect(is(uip_periodic_frame(&device, 0, out, sizeof out), UIP_WRONG_LINK, 0, 0), "uip_periodic_frame on a line");
     expect(uip_counter(&device, 0).status == UIP_BAD_ARGUMENT && uip_counter(&device, 21).status == UIP_BAD_ARGUMENT, "uip_counter of none");
     expect(uip_connection(&device, UIP_SLOTS).status == UIP_BAD_ARGUMENT, "uip_connection of slot 10");
     expect(uip_set_value(&device, UIP_VALUES, "7", 1) == UIP_BAD_ARGUMENT, "uip_set_value of no number");
@@ -84,7 +100,7 @@ static void bad_calls(void) {
     expect(uip_feed_all(&device, request_text, 34, out, 1, keep, out) == UIP_BAD_ARGUMENT, "uip_feed_all with too little room");
 }
 
-static void fine_calls(void) {
+static void successful_calls(void) {
     expect(is(uip_feed(&device, request_text, 34, out, sizeof out), UIP_OK, 34, 34) && !memcmp(out, reply_text, 34), "uip_feed");
     for (size_t slot = 0; slot < UIP_SLOTS; slot++) expect(is(uip_periodic(&device, slot, out, sizeof out), UIP_OK, 0, 0), "uip_periodic");
     uip_result whole = uip_input(&device, request, 30, out, UIP_MAX_DATAGRAM);
@@ -92,9 +108,9 @@ static void fine_calls(void) {
     expect(is(uip_periodic_datagram(&device, 0, out, UIP_MAX_DATAGRAM), UIP_OK, 0, 0), "uip_periodic_datagram");
     uip_result part = uip_feed(&device, request_text, 34, out, 20);
     expect(part.status == UIP_OK && part.pending == 1 && part.consumed == 34 && part.written == 19, "uip_feed with little room");
-    expect(is(uip_feed(&device, request_text, 34, out + 19, 15), UIP_OUTPUT_PENDING, 0, 0), "uip_feed while a text is left");
-    expect(is(uip_periodic(&device, 0, out + 19, 15), UIP_OUTPUT_PENDING, 0, 0), "uip_periodic while a text is left");
-    expect(uip_set_value(&device, UIP_VALUES - 1, out, UIP_MAX_VALUE) == UIP_OK, "uip_set_value while a text is left");
+    expect(is(uip_feed(&device, request_text, 34, out + 19, 15), UIP_OUTPUT_PENDING, 0, 0), "uip_feed while output is pending");
+    expect(is(uip_periodic(&device, 0, out + 19, 15), UIP_OUTPUT_PENDING, 0, 0), "uip_periodic while output is pending");
+    expect(uip_set_value(&device, UIP_VALUES - 1, out, UIP_MAX_VALUE) == UIP_OK, "uip_set_value while output is pending");
     expect(uip_set_value(&device, 0, "", 0) == UIP_OK, "uip_set_value, empty");
     part = uip_drain(&device, out + 19, 15);
     expect(is(part, UIP_OK, 0, 15) && part.pending == 0 && !memcmp(out, reply_text, 34), "uip_drain");
@@ -109,28 +125,90 @@ static void fine_calls(void) {
     expect(hits.status == UIP_OK && hits.number == 0, "uip_hits of no file");
 }
 
-// Two requests behind each other on the line, in the least room.
+// Two requests in turn on the line, in the least room.
 static void whole_lines(void) {
     static text kept;
     unsigned char line[68];
     memcpy(line, request_text, 34);
     memcpy(line + 34, request_text, 34);
     expect(uip_feed_all(&device, line, 68, out, UIP_MIN_OUT, keep, &kept) == UIP_OK, "uip_feed_all");
-    expect(kept.len == 68, "how much uip_feed_all handed on");
-    expect(!memcmp(kept.bytes, reply_text, 34) && !memcmp(kept.bytes + 34, reply_text, 34), "what uip_feed_all handed on");
+    expect(kept.len == 68, "how much uip_feed_all passed to the sink");
+    expect(!memcmp(kept.bytes, reply_text, 34) && !memcmp(kept.bytes + 34, reply_text, 34), "what uip_feed_all passed to the sink");
     expect(uip_tick_all(&device, out, UIP_MIN_OUT, keep, &kept) == UIP_OK && kept.len == 68, "uip_tick_all");
-    expect(uip_ticks(&device).number == 3, "uip_ticks behind uip_tick_all");
+    expect(uip_ticks(&device).number == 3, "uip_ticks after uip_tick_all");
+}
+
+static void opening_on_ethernet(void) {
+    uip_opened opened = uip_open_ether(&device, (const unsigned char *)"UIPSITE1\0\1\2/", 12, own, mac);
+    expect(opened.status == UIP_BAD_IMAGE && opened.entry == 1 && !strcmp(opened.word, "cut"), "uip_open_ether with a bad image");
+    expect(heap_blocks == 0 && device.is_open == 0, "the heap after a bad image on Ethernet");
+    opened = uip_open_ether(&device, image, 10, own, mac);
+    expect(opened.status == UIP_OK && opened.entry == 0 && device.is_open == 2, "uip_open_ether");
+    expect(uip_open_ether(&device, image, 10, own, mac).status == UIP_HAS_DEVICE, "uip_open_ether twice");
+    expect(uip_open(&device, image, 10, own).status == UIP_HAS_DEVICE, "uip_open after uip_open_ether");
+}
+
+static void bad_calls_on_ethernet(void) {
+    expect(is(uip_input_frame(&device, out, UIP_MAX_FRAME - 1, 60), UIP_BAD_ARGUMENT, 0, 0), "uip_input_frame with too little room");
+    expect(is(uip_input_frame(&device, out, UIP_MAX_FRAME, UIP_MAX_FRAME + 1), UIP_BAD_ARGUMENT, 0, 0), "uip_input_frame, too long");
+    expect(is(uip_periodic_frame(&device, UIP_SLOTS, out, sizeof out), UIP_BAD_ARGUMENT, 0, 0), "uip_periodic_frame of slot 10");
+    expect(is(uip_periodic_frame(&device, 0, out, UIP_MAX_FRAME - 1), UIP_BAD_ARGUMENT, 0, 0), "uip_periodic_frame with too little room");
+    expect(is(uip_feed(&device, request_text, 34, out, sizeof out), UIP_WRONG_LINK, 0, 0), "uip_feed on Ethernet");
+    expect(is(uip_periodic(&device, 0, out, sizeof out), UIP_WRONG_LINK, 0, 0), "uip_periodic on Ethernet");
+    expect(is(uip_drain(&device, out, sizeof out), UIP_WRONG_LINK, 0, 0), "uip_drain on Ethernet");
+    expect(is(uip_input(&device, request, 30, out, sizeof out), UIP_WRONG_LINK, 0, 0), "uip_input on Ethernet");
+    expect(is(uip_periodic_datagram(&device, 0, out, sizeof out), UIP_WRONG_LINK, 0, 0), "uip_periodic_datagram on Ethernet");
+    expect(uip_feed_all(&device, request_text, 34, out, sizeof out, keep, out) == UIP_WRONG_LINK, "uip_feed_all on Ethernet");
+    expect(uip_tick_all(&device, out, sizeof out, keep, out) == UIP_WRONG_LINK, "uip_tick_all on Ethernet");
+}
+
+// Passes a frame to the device, and compares what it sends.
+static void exchange(const unsigned char *sent, size_t len, const unsigned char *expected, size_t expected_len, const char *what) {
+    memcpy(out, sent, len);
+    uip_result done = uip_input_frame(&device, out, UIP_MAX_FRAME, len);
+    expect(is(done, UIP_OK, len, expected_len) && done.pending == 0 && !memcmp(out, expected, expected_len), what);
+}
+
+static void successful_calls_on_ethernet(void) {
+    exchange(echo_frame, 44, arp_for_peer, 42, "uip_input_frame, from an address that is not known");
+    exchange(arp_request, 42, arp_reply, 42, "uip_input_frame, an ARP request");
+    exchange(echo_frame, 44, reply_frame, 44, "uip_input_frame, an echo request");
+    exchange(echo_frame, 13, echo_frame, 0, "uip_input_frame, a short frame");
+    exchange(echo_frame, 0, echo_frame, 0, "uip_input_frame, no bytes");
+    exchange(reply_frame, 44, reply_frame, 0, "uip_input_frame, for another host");
+    for (size_t slot = 0; slot < UIP_SLOTS; slot++) {
+        expect(is(uip_periodic_frame(&device, slot, out, UIP_MAX_FRAME), UIP_OK, 0, 0), "uip_periodic_frame");
+    }
+    uip_number ticks = uip_ticks(&device), replies = uip_counter(&device, UIP_ECHO_REPLIES_OUT), idle = uip_is_idle(&device);
+    expect(ticks.status == UIP_OK && ticks.number == 1, "uip_ticks on Ethernet");
+    expect(replies.status == UIP_OK && replies.number == 2, "uip_counter on Ethernet");
+    expect(idle.status == UIP_OK && idle.number == 1, "uip_is_idle on Ethernet");
+    uip_row row = uip_connection(&device, 0);
+    expect(row.status == UIP_OK && row.state == UIP_CLOSED, "uip_connection on Ethernet");
+    uip_number hits = uip_hits(&device, "/lamp-on.html", 13);
+    expect(hits.status == UIP_OK && hits.number == 0, "uip_hits on Ethernet");
+    expect(uip_set_value(&device, 3, "21 C", 4) == UIP_OK, "uip_set_value on Ethernet");
+}
+
+static void on_ethernet(void) {
+    opening_on_ethernet();
+    size_t blocks = heap_blocks;
+    bad_calls_on_ethernet();
+    successful_calls_on_ethernet();
+    expect(blocks > 0 && heap_blocks == blocks, "the heap while a device on Ethernet is open");
+    expect(uip_close(&device) == UIP_OK && heap_blocks == 0 && device.is_open == 0, "uip_close on Ethernet");
 }
 
 int main(void) {
     without_a_device();
     opening();
     bad_calls();
-    fine_calls();
+    successful_calls();
     whole_lines();
     expect(uip_close(&device) == UIP_OK && heap_blocks == 0 && uip_close(&device) == UIP_NO_DEVICE, "uip_close");
+    on_ethernet();
     expect(uip_open(&device, image, 10, own).status == UIP_OK, "uip_open again");
     expect(uip_close(&device) == UIP_OK && heap_blocks == 0, "uip_close again");
-    if (!wrong) puts("each call answers as it should");
+    if (!wrong) puts("each call has the expected result");
     return wrong != 0;
 }

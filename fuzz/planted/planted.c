@@ -11,6 +11,9 @@ uip_result __real_uip_periodic(uip_device *d, size_t slot, byte *out, size_t roo
 uip_result __real_uip_drain(uip_device *d, byte *out, size_t room);
 uip_result __real_uip_input(uip_device *d, const byte *datagram, size_t len, byte *out, size_t room);
 uip_number __real_uip_counter(uip_device *d, size_t number);
+uip_opened __real_uip_open_ether(uip_device *d, const byte *image, size_t len, const byte *own, const byte *mac);
+uip_result __real_uip_input_frame(uip_device *d, byte *frame, size_t room, size_t len);
+uip_result __real_uip_periodic_frame(uip_device *d, size_t slot, byte *frame, size_t room);
 unsigned __real_uip_close(uip_device *d);
 uip_result __real_uip_periodic_datagram(uip_device *d, size_t slot, byte *out, size_t room);
 unsigned __real_uip_set_value(uip_device *d, size_t number, const void *text, size_t len);
@@ -116,4 +119,36 @@ uip_row __wrap_uip_connection(uip_device *d, size_t slot) {
     if (PLANT == 26 && row.tries) row.tries--;
     if (PLANT == 27 && row.state == UIP_TIME_WAIT) row.state = UIP_FIN_WAIT_1;
     return row;
+}
+
+static byte own_mac[6], last_mac[6];
+
+uip_opened __wrap_uip_open_ether(uip_device *d, const byte *image, size_t len, const byte *own, const byte *mac) {
+    uip_opened opened = __real_uip_open_ether(d, image, len, own, mac);
+    if (opened.status == UIP_OK) memcpy(own_mac, mac, 6);
+    if (PLANT == 28 && opened.status == UIP_OK) rattle_alloc(1, 1);               // a block more
+    return opened;
+}
+
+uip_result __wrap_uip_input_frame(uip_device *d, byte *frame, size_t room, size_t len) {
+    int is_whole = d->is_open == 2 && room >= UIP_MAX_FRAME && len <= room && len >= 14;
+    byte head[6] = {0};
+    if (is_whole) memcpy(head, frame, 6);
+    if (PLANT == 29 && is_whole && !(head[0] & 1)) memcpy(frame, own_mac, 6);     // a frame for another host is received
+    if (PLANT == 30 && is_whole && len >= 42 && frame[12] == 8 && frame[13] == 6 && frame[21] == 2) memset(frame, 0, 6);    // teaches nothing
+    uip_result done = __real_uip_input_frame(d, frame, room, len);
+    if (PLANT == 31 && done.written >= 34 && frame[13] == 0) {                    // to the address that was sent to before
+        byte now[6];
+        memcpy(now, frame, 6), memcpy(frame, last_mac, 6), memcpy(last_mac, now, 6);
+    }
+    if (PLANT == 32 && done.status == UIP_OK && len < 14) done.written = 42;      // a reply to a runt
+    if (PLANT == 33 && done.status == UIP_WRONG_LINK) done.status = UIP_BAD_ARGUMENT;
+    return done;
+}
+
+uip_result __wrap_uip_periodic_frame(uip_device *d, size_t slot, byte *frame, size_t room) {
+    if (PLANT == 34 && slot == 0 && ++calls % 2 == 0) slot = 1;                   // ticks are lost
+    uip_result done = __real_uip_periodic_frame(d, slot, frame, room);
+    if (PLANT == 35 && done.written > 60) frame[done.written - 1] ^= 1;           // a byte of a segment is another
+    return done;
 }

@@ -127,6 +127,20 @@ uip_opened __wrap_uip_open(uip_device *d, const unsigned char *image, size_t len
     return opened;
 }
 
+uip_opened __real_uip_open_ether(uip_device *d, const unsigned char *image, size_t len, const unsigned char own[4], const unsigned char mac[6]);
+uip_opened __wrap_uip_open_ether(uip_device *d, const unsigned char *image, size_t len, const unsigned char own[4], const unsigned char mac[6]) {
+    unsigned char addresses[10];
+    record r = begun(OPEN_ETHER, d, 0, len, 0, 0);
+    memcpy(addresses, own, 4), memcpy(addresses + 4, mac, 6);
+    uip_opened opened = __real_uip_open_ether(d, image, len, own, mac);
+    r.status = opened.status;
+    r.heap = heap;
+    r.in_len = len + 10;
+    r.out_len = sizeof opened;
+    put(&r, addresses, 10, image, &opened);
+    return opened;
+}
+
 #define RESULTS(name, op, parameters, arguments, which, in, in_len) \
     uip_result __real_##name parameters; \
     uip_result __wrap_##name parameters { \
@@ -141,6 +155,18 @@ RESULTS(uip_input, INPUT, (uip_device *d, const unsigned char *datagram, size_t 
         (d, datagram, len, out, room), 0, datagram, len)
 RESULTS(uip_periodic_datagram, PERIODIC_DATAGRAM, (uip_device *d, size_t slot, unsigned char *out, size_t room),
         (d, slot, out, room), slot, 0, 0)
+
+RESULTS(uip_periodic_frame, PERIODIC_FRAME, (uip_device *d, size_t slot, unsigned char *out, size_t room), (d, slot, out, room), slot, 0, 0)
+
+// The frame lies at the start of `out`, and what comes after it was filled.
+uip_result __real_uip_input_frame(uip_device *d, unsigned char *out, size_t room, size_t len);
+uip_result __wrap_uip_input_frame(uip_device *d, unsigned char *out, size_t room, size_t len) {
+    static unsigned char frame[MOST_ROOM];
+    size_t part = len < room ? len : room;
+    record r = begun(INPUT_FRAME, d, len, part, part < room ? out + part : out, room);
+    memcpy(frame, out, part);
+    return ended(&r, __real_uip_input_frame(d, out, room, len), frame, out);
+}
 
 #define NUMBERS(name, op, parameters, arguments, which, in, in_len) \
     uip_number __real_##name parameters; \

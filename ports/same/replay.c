@@ -114,6 +114,12 @@ static uip_result call(const record *r, const unsigned char *input, const unsign
     size_t len = (size_t)r->in_len, room = (size_t)r->room, number = (size_t)r->number;
     switch (r->op) {
     case OPEN: opened = uip_open(d, input + 4, len - 4, input); *left = (unsigned char *)&opened; return of_status(opened.status);
+    case OPEN_ETHER:
+        opened = uip_open_ether(d, input + 10, len - 10, input, input + 4);
+        *left = (unsigned char *)&opened;
+        return of_status(opened.status);
+    case INPUT_FRAME: __builtin_memcpy(out, input, len); return uip_input_frame(d, out, room, number);
+    case PERIODIC_FRAME: return uip_periodic_frame(d, number, out, room);
     case FEED: return uip_feed(d, input, len, out, room);
     case PERIODIC: return uip_periodic(d, number, out, room);
     case DRAIN: return uip_drain(d, out, room);
@@ -144,7 +150,7 @@ int main(void) {
     record r;
     while (take(&r, sizeof r)) {
         // An image stays where it is while its device is open.
-        unsigned char *input = r.op != OPEN ? in : images[r.status == UIP_HAS_DEVICE ? DEVICES : r.device];
+        unsigned char *input = r.op != OPEN && r.op != OPEN_ETHER ? in : images[r.status == UIP_HAS_DEVICE ? DEVICES : r.device];
         const unsigned char *left = out;
         calls++;
         bytes_in += r.in_len;

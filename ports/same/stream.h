@@ -4,11 +4,12 @@
 
 #include <stdint.h>
 
-enum { OPEN = 1, FEED, PERIODIC, DRAIN, INPUT, PERIODIC_DATAGRAM, TICKS, COUNTER, IS_IDLE, CONNECTION, SET_VALUE, HITS, CLOSE, OPS };
+enum { OPEN = 1, FEED, PERIODIC, DRAIN, INPUT, PERIODIC_DATAGRAM, TICKS, COUNTER, IS_IDLE, CONNECTION, SET_VALUE, HITS, CLOSE,
+       OPEN_ETHER, INPUT_FRAME, PERIODIC_FRAME, OPS };
 enum { DEVICES = 8, MOST_INPUT = 1 << 21, MOST_ROOM = 1 << 20, COMPARED = 256 };
 
 typedef struct {
-    uint64_t op, device, number, in_len, room, fill, refuses;        // the arguments; an address precedes an image in the input
+    uint64_t op, device, number, in_len, room, fill, refuses;        // the arguments; the addresses precede an image in the input
     uint64_t status, pending, consumed, written, out_len, heap;      // the result, and a hash over all calls of the heap so far
 } record;
 

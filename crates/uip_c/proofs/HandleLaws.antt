@@ -1,9 +1,6 @@
 -- Moves on a handle, one after the other, are moves of its device.
 use Rattle.std.specs.List.{All}
 use Rattle.std.proofs.Common.{◌≡◌, ℕ, List, [], ◌∷◌, ◌++◌, None as NothingLeft, refl, sym, ap, ◌∙◌, subst}
-use Rattle.std.proofs.lemmas.Option.{same_Some}
-use Rattle.std.specs.declared.option.Option.{Option}
-use Rattle.std.specs.declared.option.Option.TheVariants.{Some}
 use Rattle.app_events.specs.Pages.{IsAddr, IsByte}
 use Rattle.site_image.specs.Files.{File}
 use Rattle.file_tree.specs.Site.{HasSoundScripts, IsLoaded, SiteContent, files_of}
@@ -23,22 +20,37 @@ use Rattle.uip_device.specs.WebDevices.{DeviceRepresents, WebDevice, first_numbe
 use Rattle.uip_device.proofs.AnswerLaws.{answers_nothing, datagrams_told, line_served, line_view, node_stands, same_kept}
 use Rattle.uip_device.proofs.KeepLaws.{keeps_calls}
 use Rattle.uip_device.proofs.WebLaws.{first_words, written_words}
-use Rattle.uip_c.specs.Handles.{Did, DidAll, HandleAnswers, HandleGives, IsOf, OpensAs, left_text_in, lefts_in}
+use Rattle.uip_c.specs.Kept.{IsLine, Kept, NoDevice, OnEther, OnLine}
+use Rattle.uip_c.specs.Handles.{Did, DidAll, HandleAnswers, HandleGives, OpensAs, left_text_in, lefts_in}
+
+abbrev line_or : WebDevice → Kept → WebDevice
+line_or none (OnLine d) = d
+line_or none _ = none
 
 -- a move on a handle is one of the device that it has
-record OnDevice (move : Move) (d : WebDevice) (b : Option WebDevice) (handed : List ℕ) : Type 0 where
+record OnDevice (move : Move) (d : WebDevice) (b : Kept) (handed : List ℕ) : Type 0 where
   after : WebDevice
-  is : b ≡ Some after
+  is : b ≡ OnLine after
   answers : AnswersMove ghosts write_value move d after handed
 
-on_device : (call : Call) (d : WebDevice) (a b : Option WebDevice) (handed : List ℕ) → a ≡ Some d → HandleAnswers call a b handed → OnDevice (Makes call) d b handed
+same_line : (x y : WebDevice) → OnLine x ≡ OnLine y → x ≡ y
+same_line x y e = ap (λ (k : Kept). line_or x k) e
+
+-- the device of either kind in which a value was set
+given : (number : ℕ) (text : List ℕ) (d : WebDevice) (b : Kept) → HandleGives number text (OnLine d) b
+    → (x : WebDevice) × (b ≡ OnLine x) × Changes ghosts (write_value number text) d x
+given number text d NoDevice gives = absurd gives
+given number text d (OnLine x) gives = (x, refl, gives)
+given number text d (OnEther x) gives = absurd gives
+
+on_device : (call : Call) (d : WebDevice) (a b : Kept) (handed : List ℕ) → a ≡ OnLine d → HandleAnswers call a b handed → OnDevice (Makes call) d b handed
 on_device call d a b handed is it = record {
   after = it.after;
   is = it.is;
-  answers = subst (λ (x : WebDevice). Answers ghosts call x it.after handed) (same_Some it.before d (sym it.was ∙ is)) it.answers;
+  answers = subst (λ (x : WebDevice). Answers ghosts call x it.after handed) (same_line it.before d (sym it.was ∙ is)) it.answers;
 }
 
-did_device : (move : Move) (d : WebDevice) (a b : Option WebDevice) (handed : List ℕ) → a ≡ Some d → Did move a b handed → OnDevice move d b handed
+did_device : (move : Move) (d : WebDevice) (a b : Kept) (handed : List ℕ) → a ≡ OnLine d → Did move a b handed → OnDevice move d b handed
 did_device (Makes (Feeds bytes)) d a b handed is it = on_device (Feeds bytes) d a b handed is it
 did_device (Makes (Calls slot)) d a b handed is it = on_device (Calls slot) d a b handed is it
 did_device (Makes Drains) d a b handed is it = on_device Drains d a b handed is it
@@ -50,48 +62,43 @@ did_device (Makes DoesNothing) d a b handed is it = record {
   answers = subst (λ (l : List ℕ). Answers ghosts DoesNothing d d l) (sym it.1) (answers_nothing ghosts d);
 }
 did_device (Gives number text) d a b handed is it =
-    let gives : HandleGives number text a b = it.0 in
-    let same : gives.before ≡ d = same_Some gives.before d (sym gives.was ∙ is) in
-    record {
-      after = gives.after;
-      is = gives.is;
-      answers = (subst (λ (x : WebDevice). Changes ghosts (write_value number text) x gives.after) same gives.gives, it.1);
-    }
+    let gives = given number text d b (subst (λ (k : Kept). HandleGives number text k b) is it.0) in
+    record { after = gives.0; is = gives.1; answers = (gives.2, it.1) }
 
 -- and so for moves one after the other, after each of which the same output is pending
-record OnDevices (all : List Answered) (d : WebDevice) (a c : Option WebDevice) (did : DidAll all a c) : Type 0 where
+record OnDevices (all : List Answered) (d : WebDevice) (a c : Kept) (did : DidAll all a c) : Type 0 where
   last : WebDevice
-  is : c ≡ Some last
+  is : c ≡ OnLine last
   answers : AnswersAll ghosts write_value all d last
   lefts : lefts_of ghosts write_value all d last answers ≡ lefts_in all a c did
 
-on_devices : (all : List Answered) (d : WebDevice) (a c : Option WebDevice) → a ≡ Some d → (did : DidAll all a c) → OnDevices all d a c did
+on_devices : (all : List Answered) (d : WebDevice) (a c : Kept) → a ≡ OnLine d → (did : DidAll all a c) → OnDevices all d a c did
 on_devices [] d a c is same = record { last = d; is = sym same ∙ is; answers = refl; lefts = refl }
 on_devices (it ∷ all) d a c is more =
-    let b : Option WebDevice = more.0 in
+    let b : Kept = more.0 in
     let first = did_device it.move d a b it.handed is more.1 in
     let later = on_devices all first.after b c first.is more.2 in
     record {
       last = later.last;
       is = later.is;
       answers = (first.after, first.answers, later.answers);
-      lefts = ap (λ l. left_text_of first.after ∷ l) later.lefts ∙ ap (λ (o : Option WebDevice). left_text_in o ∷ lefts_in all b c more.2) (sym first.is);
+      lefts = ap (λ l. left_text_of first.after ∷ l) later.lefts ∙ ap (λ (o : Kept). left_text_in o ∷ lefts_in all b c more.2) (sym first.is);
     }
 
-module _ (files : List File) (own : Addr) (all : List Answered) (closed old new : Option WebDevice) (opens : OpensAs files own closed old) (answered : DidAll all old new) where
+module _ (files : List File) (own : Addr) (all : List Answered) (closed old new : Kept) (opens : OpensAs files own closed old) (answered : DidAll all old new) where
   abbrev opened : WebDevice
   opened = opens.1.0
 
   devices : OnDevices all opened old new answered
   devices = on_devices all opened old new opens.1.1 answered
 
-  pub c_line : IsOf (λ d. line_handed all ++ left_text_of d ≡ web_line_sent files own (moves_of all)) new
+  pub c_line : IsLine (λ d. line_handed all ++ left_text_of d ≡ web_line_sent files own (moves_of all)) new
   c_line = (devices.last, devices.is, line_view ghosts (value_spec files) write_value (first_numbers files) own all opened devices.last opens.1.2.fresh devices.answers)
 
   pub c_datagrams : datagrams_handed all ≡ web_datagrams_sent files own (moves_of all)
   c_datagrams = datagrams_told ghosts (value_spec files) write_value (first_numbers files) own all opened devices.last opens.1.2.fresh devices.answers
 
-  pub c_stands : IsOf (λ d. DeviceRepresents files own d (web_node_after files own (moves_of all))) new
+  pub c_stands : IsLine (λ d. DeviceRepresents files own d (web_node_after files own (moves_of all))) new
   c_stands =
       let last : WebDevice = devices.last in
       let fresh = opens.1.2 in
@@ -104,14 +111,14 @@ module _ (files : List File) (own : Addr) (all : List Answered) (closed old new 
         },
       )
 
-  pub c_served : (pace : ℕ) (items : List Item) → Bring pace items (moves_of all) → IsOf (λ d. d.left ≡ NothingLeft) new → line_handed all ≡ web_output files own pace items
+  pub c_served : (pace : ℕ) (items : List Item) → Bring pace items (moves_of all) → IsLine (λ d. d.left ≡ NothingLeft) new → line_handed all ≡ web_output files own pace items
   c_served pace items bring handed =
-      let last : handed.0 ≡ devices.last = same_Some handed.0 devices.last (sym handed.1 ∙ devices.is) in
+      let last : handed.0 ≡ devices.last = same_line handed.0 devices.last (sym handed.1 ∙ devices.is) in
       line_served ghosts (value_spec files) write_value (first_numbers files) own all opened devices.last opens.1.2.fresh devices.answers pace items bring
       (subst (λ (d : WebDevice). d.left ≡ NothingLeft) last handed.2)
 
 module _ (site : SiteContent) (loaded : IsLoaded site) (image : All IsByte site.image) (sound : HasSoundScripts word_calls (files_of site)) (own : Addr) (is : IsAddr own) where
-  pub c_keeps : (all : List Answered) → All IsOfBytes (moves_of all) → (closed old new : Option WebDevice) → OpensAs (files_of site) own closed old
+  pub c_keeps : (all : List Answered) → All IsOfBytes (moves_of all) → (closed old new : Kept) → OpensAs (files_of site) own closed old
       → (did : DidAll all old new) → CallsConform (value_pages (files_of site)) is_served own all (lefts_in all old new did)
   c_keeps all bytes closed old new opens did =
       let files : List File = files_of site in

@@ -1,3 +1,5 @@
+pub mod FrameLaws
 pub mod HandleLaws
+pub mod Opened
 pub mod Taking
 pub mod Words

@@ -1,13 +1,31 @@
--- The device that a handle holds.
-use Rattle.std.proofs.Common.{◌≡◌, refl}
+-- What a handle keeps, by its kind.
+use Rattle.std.proofs.Common.{◌≡◌, refl, sym}
 use Rattle.std.proofs.lemmas.Bool.{false≢true}
-use Rattle.std.specs.Prelude.{true}
-use Rattle.std.specs.Option.{is_some}
-use Rattle.std.specs.declared.option.Option.{Option}
-use Rattle.std.specs.declared.option.Option.TheVariants.{None, Some}
+use Rattle.std.specs.Prelude.{true, false}
+use Rattle.std.specs.declared.option.Option.TheVariants.{Some}
 use Rattle.uip_device.specs.WebDevices.{WebDevice}
+use Rattle.uip_c.specs.Kept.{EtherWeb, Kept, NoDevice, OnEther, OnLine, is_on_ether, is_on_line, node_in}
+use Rattle.uip_c.specs.Taking.{kept_of, node_of}
+use Rattle.uip_c.specs.declared.handle.AnyDevice.{AnyDevice}
+use Rattle.uip_c.specs.declared.handle.AnyDevice.TheVariants.{Ether, Line}
 
--- where there is a device it is some device
-pub some_of : (o : Option WebDevice) → is_some o ≡ true → (x : WebDevice) × (o ≡ Some x)
-some_of None there = absurd (false≢true there)
-some_of (Some x) there = (x, refl)
+pub line_of : (k : Kept) → is_on_line k ≡ true → (x : WebDevice) × (k ≡ OnLine x)
+line_of NoDevice there = absurd (false≢true there)
+line_of (OnLine x) there = (x, refl)
+line_of (OnEther x) there = absurd (false≢true there)
+
+pub ether_of : (k : Kept) → is_on_ether k ≡ true → (x : EtherWeb) × (k ≡ OnEther x)
+ether_of NoDevice there = absurd (false≢true there)
+ether_of (OnLine x) there = absurd (false≢true there)
+ether_of (OnEther x) there = (x, refl)
+
+-- without a device of either kind there is none
+pub none_of : (k : Kept) → is_on_line k ≡ false → is_on_ether k ≡ false → k ≡ NoDevice
+none_of NoDevice no_line no_ether = refl
+none_of (OnLine x) no_line no_ether = absurd (false≢true (sym no_line))
+none_of (OnEther x) no_line no_ether = absurd (false≢true (sym no_ether))
+
+-- the node of a device that was taken out
+pub node_kept : (any : AnyDevice) → node_in (kept_of any) ≡ Some (node_of any)
+node_kept (Line b) = refl
+node_kept (Ether b) = refl

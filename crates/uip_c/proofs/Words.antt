@@ -16,16 +16,15 @@ use denote.Struct.Struct.{within}
 use denote.Struct.Owning.{shape}
 use Rattle.core.proofs.alloc.Calls.{Al, handle_tells}
 use Rattle.core.proofs.cell.Inside.{Good}
-use Rattle.std.specs.declared.option.Option.{Option}
 use Rattle.std.specs.declared.alloc.Global.{Global}
 use Rattle.std.specs.contracts.alloc.Global as heap
 use Rattle.std.proofs.alloc.Global.TheLaws as heap_laws
 use Rattle.std.specs.contracts.impls.GlobalAllocator.TheImpl.{ghosts}
 use Rattle.loose_box.proofs.Words.{two_words, words_typed}
-use Rattle.uip_device.specs.WebDevices.{WebDevice}
 use Rattle.uip_c.specs.declared.held.Held.{Held}
 use Rattle.uip_c.specs.contracts.held.Held as held
-use Rattle.uip_c.specs.Holding.{DeviceRow, holds}
+use Rattle.uip_c.specs.Holding.{LineRow, holds}
+use Rattle.uip_c.specs.Kept.{Kept}
 
 -- the rows of the allocator and of `Held`
 abbrev pub HeapRow : RattleType
@@ -43,9 +42,9 @@ pointer_typed (block_ptr b o) = (tt, tt)
 pointer_typed null_ptr = (tt, record { fits = lit< tt })
 
 pub held_typed : (p : Ptr) (h : Val) → Good (layout HeapRow) h → T (has_ty ty_ptr (ptr_val p) && (has_ty (layout HeapRow) h && true)) × WT (two_words (ptr_val p) h)
-held_typed (block_ptr b o) h good = words_typed DeviceRow HeapRow heap_laws.the_row_laws ghosts b o h good
+held_typed (block_ptr b o) h good = words_typed LineRow HeapRow heap_laws.the_row_laws ghosts b o h good
 held_typed null_ptr h good =
-    ((words_typed DeviceRow HeapRow heap_laws.the_row_laws ghosts 0 0 h good).0, (record { fits = lit< tt }, (good.1, tt)))
+    ((words_typed LineRow HeapRow heap_laws.the_row_laws ghosts 0 0 h good).0, (record { fits = lit< tt }, (good.1, tt)))
 
 module _ {M : Type 1} {𝓤 : Ura M} {𝓛 : Logic 𝓤} {K : Type 0} {Γ : List (Item 𝓤)} {G : Goal 𝓤 𝓛.H} where
   -- It is opened.
@@ -61,7 +60,7 @@ module _ {M : Type 1} {𝓤 : Ura M} {𝓛 : Logic 𝓤} {K : Type 0} {Γ : List
       next h (subst (λ (hs : List Val). words ≡ vstruct (of_list (ptr_val d.at ∷ (hs ++ []))) ∷ []) handle by_pointer) good))))
 
   -- It is made.
-  pub held_in : K → (p : Ptr) (h : Val) (a : Global) (o : Option WebDevice)
+  pub held_in : K → (p : Ptr) (h : Val) (a : Global) (o : Kept)
       → Step K 𝓛 (‵ (HeldRow.own_val (record { at = p; alloc = a; device = o }) (two_words (ptr_val p) h ∷ [])) ∷ Γ) G
       (‵ (holds a p o) ∷ ‵ (HeapRow.own_val a (h ∷ [])) ∷ Γ) G
   held_in k p h a o = step (λ rest.

@@ -1,5 +1,8 @@
-pub mod Handles
+pub mod Kept
 pub mod Holding
+pub mod Handles
+pub mod EtherWebs
+pub mod FrameHandles
 pub mod Opening
 pub mod Rows
 pub mod Taking

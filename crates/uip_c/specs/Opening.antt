@@ -1,7 +1,6 @@
 -- The results of opening a handle.
 use Rattle.std.specs.List.{All}
 use Rattle.std.specs.Prelude.{◌≡◌, ◌⊎◌, ℕ, List, ◌++◌, replicate, take, Ok, Err}
-use Rattle.std.specs.declared.option.Option.{Option}
 use Rattle.site_image.specs.declared.site_error.SiteError.{SiteError}
 use Rattle.site_image.specs.declared.site_error.SiteWhy.{SiteWhy}
 use Rattle.site_image.specs.Faults.{read_image}
@@ -10,12 +9,15 @@ use Rattle.file_tree.specs.Site.{HasSoundScripts, IsLoaded, SiteContent, files_o
 use Rattle.app_events.specs.Pages.{IsByte}
 use Rattle.site_report.specs.Report.{why_word}
 use Rattle.device_values.specs.Words.{word_calls}
-use Rattle.uip_device.specs.WebDevices.{IsLongWithValues, WebDevice}
+use Rattle.site_image.specs.Files.{File}
+use Rattle.uip_device.specs.WebDevices.{IsLongWithValues}
+use Rattle.uip_c.specs.FrameHandles.{OpensEtherAs}
 use Rattle.uip_c.specs.Handles.{OpensAs}
+use Rattle.uip_c.specs.Kept.{Kept}
 
 -- By the grammar the image represents the files of a site, and it is read as these files. The site has this very image, was loaded,
--- consists of bytes, and has no page that can be too long, whatever its scripts call. A device was opened with the files at this address.
-pub record OpensFine (image own : List ℕ) (old new : Option WebDevice) : Type 0 where
+-- consists of bytes, and has no page that can be too long, whatever its scripts call. A device was opened with the files: P.
+pub record OpensWith (image : List ℕ) (P : List File → Type 0) : Type 0 where
   pub site : SiteContent
   pub image_is : site.image ≡ image
   pub loaded : IsLoaded site
@@ -23,7 +25,14 @@ pub record OpensFine (image own : List ℕ) (old new : Option WebDevice) : Type 
   pub sound : HasSoundScripts word_calls (files_of site)
   pub read : read_image image ≡ Ok (files_of site)
   pub spelled : IsImage image (files_of site)
-  pub opened : OpensAs (files_of site) (record { 0 = own }) old new
+  pub opened : P (files_of site)
+
+-- A device for a line was opened with the files at this address, or one on Ethernet at this address and hardware address.
+abbrev pub OpensFine : List ℕ → List ℕ → Kept → Kept → Type 0
+OpensFine image own old new = OpensWith image (λ files. OpensAs files (record { 0 = own }) old new)
+
+abbrev pub OpensEther : List ℕ → List ℕ → List ℕ → Kept → Kept → Type 0
+OpensEther image own mac old new = OpensWith image (λ files. OpensEtherAs files (record { 0 = own }) (record { 0 = mac }) old new)
 
 -- Eight bytes: the word of a fault, padded with zeros.
 abbrev pub IsWordOf : SiteWhy → List ℕ → Type 0

@@ -2,13 +2,13 @@
 
 ghost use Rattle.std.specs.Prelude.{◌≡◌, ◌==◌, ◌||◌, ◌<◌, ◌≤◌, ◌⊎◌, length, nat_le, nat_lt, take, true};
 ghost use Rattle.std.specs.Option.{is_some};
-ghost use Rattle.std.specs.declared.option.Option.TheVariants.{None};
 ghost use Rattle.uip_device.specs.Calls.{Calls, Drains, Feeds, StopsAtEnd};
 ghost use Rattle.uip_device.specs.Devices.{CompleteOne, HasFilled};
-ghost use Rattle.uip_c.specs.Handles.{HandleAnswers, HasText, IsOf, IsTextStatus, Refused, left_flag};
+ghost use Rattle.uip_c.specs.Handles.{HandleAnswers, HasText, IsCallStatus, IsTextStatus, Refused, left_flag};
+ghost use Rattle.uip_c.specs.Kept.{IsLine, NoDevice, is_on_ether};
 
-use crate::handle::{UipDevice, put_in, take_idle, take_out};
-use crate::status::{BAD_ARGUMENT, NO_DEVICE, OK, OUTPUT_PENDING, UipResult, is_left};
+use crate::handle::{UipDevice, put_line, take_idle, take_line};
+use crate::status::{BAD_ARGUMENT, NO_DEVICE, OK, OUTPUT_PENDING, UipResult, WRONG_LINK, is_left};
 use std::alloc::Global;
 use uip_device::LARGEST_TEXT;
 
@@ -26,15 +26,17 @@ pub extern "C" fn uip_feed(
 ) -> UipResult
     ensures known { IsTextStatus result.status }
     ensures fine { result.status ≡ OK
-        → HandleAnswers (Feeds (take result.consumed bytes.now)) device.old.held.device device.new.held.device (take result.written out.new) }
+        → HandleAnswers (Feeds (take result.consumed bytes.now)) device.old.held.device device.new.held.device
+        (take result.written out.new) }
     ensures some { result.status ≡ OK → 0 < result.consumed }
     ensures stops { result.status ≡ OK → StopsAtEnd bytes.now result.consumed }
-    ensures one { result.status ≡ OK → IsOf (λ d. CompleteOne (take result.consumed bytes.now) d) device.old.held.device }
+    ensures one { result.status ≡ OK → IsLine (λ d. CompleteOne (take result.consumed bytes.now) d) device.old.held.device }
     ensures within { (result.consumed ≤ length bytes.now) × (result.written ≤ length out.new) }
-    ensures pending { result.status ≡ OK → IsOf (λ d. result.pending ≡ left_flag d.left) device.new.held.device }
+    ensures pending { result.status ≡ OK → IsLine (λ d. result.pending ≡ left_flag d.left) device.new.held.device }
     ensures all { result.status ≡ OK → LARGEST_TEXT ≤ length out.old → result.pending ≡ 0 }
-    ensures full { result.status ≡ OK → IsOf (λ d. HasFilled d result.written (length out.new)) device.new.held.device }
-    ensures no_device { result.status ≡ NO_DEVICE → device.old.held.device ≡ None }
+    ensures full { result.status ≡ OK → IsLine (λ d. HasFilled d result.written (length out.new)) device.new.held.device }
+    ensures no_device { result.status ≡ NO_DEVICE → device.old.held.device ≡ NoDevice }
+    ensures wrong_link { result.status ≡ WRONG_LINK → is_on_ether device.old.held.device ≡ true }
     ensures bad_call { (result.status == BAD_ARGUMENT) ≡ ((length bytes.now == 0) || nat_lt (length out.old) MIN_OUT) }
     ensures text_left { result.status ≡ OUTPUT_PENDING → HasText device.old.held.device }
     ensures refused { (result.status ≡ OK → ⊥)
@@ -49,7 +51,7 @@ pub extern "C" fn uip_feed(
     };
     let fed = opened.feed(bytes, out);
     let pending = is_left(opened.left);
-    put_in(device, opened);
+    put_line(device, opened);
     UipResult {
         status: OK,
         pending,
@@ -71,10 +73,11 @@ pub extern "C" fn uip_periodic(
     ensures fine { result.status ≡ OK
         → HandleAnswers (Calls slot) device.old.held.device device.new.held.device (take result.written out.new) }
     ensures within { (result.consumed ≡ 0) × (result.written ≤ length out.new) }
-    ensures pending { result.status ≡ OK → IsOf (λ d. result.pending ≡ left_flag d.left) device.new.held.device }
+    ensures pending { result.status ≡ OK → IsLine (λ d. result.pending ≡ left_flag d.left) device.new.held.device }
     ensures all { result.status ≡ OK → LARGEST_TEXT ≤ length out.old → result.pending ≡ 0 }
-    ensures full { result.status ≡ OK → IsOf (λ d. HasFilled d result.written (length out.new)) device.new.held.device }
-    ensures no_device { result.status ≡ NO_DEVICE → device.old.held.device ≡ None }
+    ensures full { result.status ≡ OK → IsLine (λ d. HasFilled d result.written (length out.new)) device.new.held.device }
+    ensures no_device { result.status ≡ NO_DEVICE → device.old.held.device ≡ NoDevice }
+    ensures wrong_link { result.status ≡ WRONG_LINK → is_on_ether device.old.held.device ≡ true }
     ensures bad_call { (result.status == BAD_ARGUMENT) ≡ (nat_le 10 slot || nat_lt (length out.old) MIN_OUT) }
     ensures text_left { result.status ≡ OUTPUT_PENDING → HasText device.old.held.device }
     ensures refused { (result.status ≡ OK → ⊥)
@@ -89,7 +92,7 @@ pub extern "C" fn uip_periodic(
     };
     let written = opened.periodic(slot, out);
     let pending = is_left(opened.left);
-    put_in(device, opened);
+    put_line(device, opened);
     UipResult {
         status: OK,
         pending,
@@ -101,14 +104,15 @@ pub extern "C" fn uip_periodic(
 /// Writes pending output, as much as fits in `out`; no bytes if nothing is pending.
 #[unsafe(no_mangle)]
 pub extern "C" fn uip_drain(alloc: Global, device: &mut UipDevice, out: &mut [u8]) -> UipResult
-    ensures known { (result.status ≡ OK) ⊎ (result.status ≡ NO_DEVICE) ⊎ (result.status ≡ BAD_ARGUMENT) }
+    ensures known { IsCallStatus result.status }
     ensures fine { result.status ≡ OK
         → HandleAnswers Drains device.old.held.device device.new.held.device (take result.written out.new) }
-    ensures some { result.status ≡ OK → IsOf (λ d. is_some d.left ≡ true → 0 < result.written) device.old.held.device }
+    ensures some { result.status ≡ OK → IsLine (λ d. is_some d.left ≡ true → 0 < result.written) device.old.held.device }
     ensures within { (result.consumed ≡ 0) × (result.written ≤ length out.new) }
-    ensures pending { result.status ≡ OK → IsOf (λ d. result.pending ≡ left_flag d.left) device.new.held.device }
-    ensures full { result.status ≡ OK → IsOf (λ d. HasFilled d result.written (length out.new)) device.new.held.device }
-    ensures no_device { result.status ≡ NO_DEVICE → device.old.held.device ≡ None }
+    ensures pending { result.status ≡ OK → IsLine (λ d. result.pending ≡ left_flag d.left) device.new.held.device }
+    ensures full { result.status ≡ OK → IsLine (λ d. HasFilled d result.written (length out.new)) device.new.held.device }
+    ensures no_device { result.status ≡ NO_DEVICE → device.old.held.device ≡ NoDevice }
+    ensures wrong_link { result.status ≡ WRONG_LINK → is_on_ether device.old.held.device ≡ true }
     ensures bad_call { (result.status == BAD_ARGUMENT) ≡ nat_lt (length out.old) MIN_OUT }
     ensures refused { (result.status ≡ OK → ⊥)
         → Refused result out.old out.new device.old.held.device device.new.held.device }
@@ -116,12 +120,13 @@ pub extern "C" fn uip_drain(alloc: Global, device: &mut UipDevice, out: &mut [u8
     if out.len() < MIN_OUT {
         return UipResult::refused(BAD_ARGUMENT);
     }
-    let Some(mut opened) = take_out(alloc, device) else {
-        return UipResult::refused(NO_DEVICE);
+    let mut opened = match take_line(alloc, device) {
+        Ok(opened) => opened,
+        Err(status) => return UipResult::refused(status),
     };
     let written = opened.drain(out);
     let pending = is_left(opened.left);
-    put_in(device, opened);
+    put_line(device, opened);
     UipResult {
         status: OK,
         pending,

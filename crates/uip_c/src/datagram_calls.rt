@@ -1,12 +1,12 @@
 //! The calls over a link that carries whole IP datagrams.
 
-ghost use Rattle.std.specs.Prelude.{◌≡◌, ◌==◌, ◌||◌, ◌≤◌, length, nat_le, nat_lt, take};
-ghost use Rattle.std.specs.declared.option.Option.TheVariants.{None};
+ghost use Rattle.std.specs.Prelude.{◌≡◌, ◌==◌, ◌||◌, ◌≤◌, length, nat_le, nat_lt, take, true};
 ghost use Rattle.uip_device.specs.Calls.{CallsForDatagram, Inputs};
 ghost use Rattle.uip_c.specs.Handles.{HandleAnswers, HasText, IsTextStatus, Refused};
+ghost use Rattle.uip_c.specs.Kept.{NoDevice, is_on_ether};
 
-use crate::handle::{UipDevice, put_in, take_idle};
-use crate::status::{BAD_ARGUMENT, NO_DEVICE, OK, OUTPUT_PENDING, UipResult};
+use crate::handle::{UipDevice, put_line, take_idle};
+use crate::status::{BAD_ARGUMENT, NO_DEVICE, OK, OUTPUT_PENDING, UipResult, WRONG_LINK};
 use std::alloc::Global;
 use uip_wire::LARGEST_DATAGRAM;
 
@@ -24,7 +24,8 @@ pub extern "C" fn uip_input(
     ensures whole { result.status ≡ OK → result.consumed ≡ length datagram.now }
     ensures within { result.written ≤ length out.new }
     ensures pending { result.pending ≡ 0 }
-    ensures no_device { result.status ≡ NO_DEVICE → device.old.held.device ≡ None }
+    ensures no_device { result.status ≡ NO_DEVICE → device.old.held.device ≡ NoDevice }
+    ensures wrong_link { result.status ≡ WRONG_LINK → is_on_ether device.old.held.device ≡ true }
     ensures bad_call { (result.status == BAD_ARGUMENT)
         ≡ ((length datagram.now == 0) || nat_lt LARGEST_DATAGRAM (length datagram.now) || nat_lt (length out.old) LARGEST_DATAGRAM) }
     ensures text_left { result.status ≡ OUTPUT_PENDING → HasText device.old.held.device }
@@ -39,7 +40,7 @@ pub extern "C" fn uip_input(
         Err(status) => return UipResult::refused(status),
     };
     let written = opened.input(datagram, out);
-    put_in(device, opened);
+    put_line(device, opened);
     UipResult {
         status: OK,
         pending: 0,
@@ -61,7 +62,8 @@ pub extern "C" fn uip_periodic_datagram(
         → HandleAnswers (CallsForDatagram slot) device.old.held.device device.new.held.device (take result.written out.new) }
     ensures within { (result.consumed ≡ 0) × (result.written ≤ length out.new) }
     ensures pending { result.pending ≡ 0 }
-    ensures no_device { result.status ≡ NO_DEVICE → device.old.held.device ≡ None }
+    ensures no_device { result.status ≡ NO_DEVICE → device.old.held.device ≡ NoDevice }
+    ensures wrong_link { result.status ≡ WRONG_LINK → is_on_ether device.old.held.device ≡ true }
     ensures bad_call { (result.status == BAD_ARGUMENT) ≡ (nat_le 10 slot || nat_lt (length out.old) LARGEST_DATAGRAM) }
     ensures text_left { result.status ≡ OUTPUT_PENDING → HasText device.old.held.device }
     ensures refused { (result.status ≡ OK → ⊥)
@@ -75,7 +77,7 @@ pub extern "C" fn uip_periodic_datagram(
         Err(status) => return UipResult::refused(status),
     };
     let written = opened.periodic_datagram(slot, out);
-    put_in(device, opened);
+    put_line(device, opened);
     UipResult {
         status: OK,
         pending: 0,

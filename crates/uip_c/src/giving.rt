@@ -1,10 +1,10 @@
 //! The call that sets a value which scripts show.
 
 ghost use Rattle.std.specs.Prelude.{◌≡◌, ◌==◌, ◌||◌, ◌⊎◌, length, nat_lt};
-ghost use Rattle.std.specs.declared.option.Option.TheVariants.{None};
 ghost use Rattle.uip_c.specs.Handles.{HandleGives};
+ghost use Rattle.uip_c.specs.Kept.{NoDevice};
 
-use crate::handle::{UipDevice, put_in, take_out};
+use crate::handle::{UipDevice, give, put_any, take_any};
 use crate::status::{BAD_ARGUMENT, NO_DEVICE, OK};
 use device_values::{LONGEST_VALUE, MOST_VALUES};
 use std::alloc::Global;
@@ -19,17 +19,17 @@ pub extern "C" fn uip_set_value(
 ) -> u32
     ensures known { (result ≡ OK) ⊎ (result ≡ NO_DEVICE) ⊎ (result ≡ BAD_ARGUMENT) }
     ensures fine { result ≡ OK → HandleGives number text.now device.old.held.device device.new.held.device }
-    ensures no_device { result ≡ NO_DEVICE → device.old.held.device ≡ None }
+    ensures no_device { result ≡ NO_DEVICE → device.old.held.device ≡ NoDevice }
     ensures bad_call { (result == BAD_ARGUMENT) ≡ (nat_lt 15 number || nat_lt 32 (length text.now)) }
     ensures refused { (result ≡ OK → ⊥) → device.new.held.device ≡ device.old.held.device }
 {
     if number >= MOST_VALUES || text.len() > LONGEST_VALUE {
         return BAD_ARGUMENT;
     }
-    let Some(mut opened) = take_out(alloc, device) else {
+    let Some(mut opened) = take_any(alloc, device) else {
         return NO_DEVICE;
     };
-    opened.set_value(number, text);
-    put_in(device, opened);
+    give(&mut opened, number, text);
+    put_any(device, opened);
     OK
 }

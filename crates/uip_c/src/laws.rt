@@ -2,7 +2,6 @@
 
 ghost use Rattle.std.specs.List.{All};
 ghost use Rattle.std.specs.Prelude.{◌≡◌, ◌++◌, ℕ, List, None as NothingLeft};
-ghost use Rattle.std.specs.declared.option.Option.{Option};
 ghost use Rattle.app_events.specs.Pages.{IsAddr, IsByte};
 ghost use Rattle.site_image.specs.Files.{File};
 ghost use Rattle.device_values.specs.Words.{word_calls};
@@ -10,12 +9,19 @@ ghost use Rattle.file_tree.specs.Site.{HasSoundScripts, IsLoaded, SiteContent, f
 ghost use Rattle.web_pages.specs.Serving.{is_served};
 ghost use Rattle.uip_edge.specs.declared.item.Item.{Item};
 ghost use Rattle.uip_wire.specs.declared.addr.Addr.{Addr};
+ghost use Rattle.ethernet_arp.specs.declared.mac.Mac.{Mac};
+ghost use Rattle.frame_device.specs.EtherFrames.{ether_frames};
+ghost use Rattle.frame_device.specs.FrameCalls.{Answered as AnsweredFrame, handed_of, moves_of as frame_moves_of};
+ghost use Rattle.frame_device.specs.FrameKeeping.{FramesConform, IsOfBytes as IsFrameOfBytes};
 ghost use Rattle.uip_device.specs.Devices.{Answered, datagrams_handed, left_text_of, line_handed, moves_of};
 ghost use Rattle.uip_device.specs.Keeping.{IsOfBytes, CallsConform};
 ghost use Rattle.uip_device.specs.Moves.{Bring};
-ghost use Rattle.uip_device.specs.WebDevices.{DeviceRepresents, WebDevice, value_pages};
+ghost use Rattle.uip_device.specs.WebDevices.{DeviceRepresents, value_pages};
 ghost use Rattle.uip_device.specs.WebDevices.{web_datagrams_sent, web_line_sent, web_node_after, web_output};
-ghost use Rattle.uip_c.specs.Handles.{DidAll, IsOf, OfMoves, OpensAs, lefts_in};
+ghost use Rattle.uip_c.specs.EtherWebs.{EtherRepresents, host_at, web_frames_sent, web_station_after};
+ghost use Rattle.uip_c.specs.FrameHandles.{DidFrames, OfFrameMoves, OpensEtherAs};
+ghost use Rattle.uip_c.specs.Handles.{DidAll, OfMoves, OpensAs, lefts_in};
+ghost use Rattle.uip_c.specs.Kept.{IsEther, IsLine, Kept};
 ghost use Rattle.uip_c.specs.ConstantValues.{ConstantValues};
 
 /// Holds for any sequence of calls on a handle that was just opened, over either kind of link, successful or refused, with any values set
@@ -24,9 +30,10 @@ ghost use Rattle.uip_c.specs.ConstantValues.{ConstantValues};
 /// after these moves.
 pub fn calls_from_c_are_told()
     ensures line { OfMoves (λ files own all new.
-        IsOf (λ d. line_handed all ++ left_text_of d ≡ web_line_sent files own (moves_of all)) new) }
+        IsLine (λ d. line_handed all ++ left_text_of d ≡ web_line_sent files own (moves_of all)) new) }
     ensures datagrams { OfMoves (λ files own all new. datagrams_handed all ≡ web_datagrams_sent files own (moves_of all)) }
-    ensures stands { OfMoves (λ files own all new. IsOf (λ d. DeviceRepresents files own d (web_node_after files own (moves_of all))) new) }
+    ensures stands { OfMoves (λ files own all new.
+        IsLine (λ d. DeviceRepresents files own d (web_node_after files own (moves_of all))) new) }
 {}
 
 /// Holds for any bytes, any sequence of calls on a handle that was just opened with a good site, and any values set between. Each call
@@ -34,7 +41,7 @@ pub fn calls_from_c_are_told()
 pub fn calls_from_c_keep_the_promise()
     ensures { (site : SiteContent) → IsLoaded site → All IsByte site.image → HasSoundScripts word_calls (files_of site)
         → (own : Addr) → IsAddr own
-        → (all : List Answered) → All IsOfBytes (moves_of all) → (closed old new : Option WebDevice)
+        → (all : List Answered) → All IsOfBytes (moves_of all) → (closed old new : Kept)
         → OpensAs (files_of site) own closed old → (did : DidAll all old new)
         → CallsConform (value_pages (files_of site)) is_served own all (lefts_in all old new did) }
 {}
@@ -42,9 +49,29 @@ pub fn calls_from_c_keep_the_promise()
 /// Holds if the calls alone bring the items of a line at a pace, in order, no value is set, and no output is pending. The output is then
 /// what the server of a serial line writes for these items, with scripts that know the values.
 pub fn line_from_c_is_served()
-    ensures { (files : List File) (own : Addr) (pace : ℕ) (items : List Item) (all : List Answered) (closed old new : Option WebDevice)
+    ensures { (files : List File) (own : Addr) (pace : ℕ) (items : List Item) (all : List Answered) (closed old new : Kept)
         → OpensAs files own closed old → Bring pace items (moves_of all) → DidAll all old new
-        → IsOf (λ d. d.left ≡ NothingLeft) new → line_handed all ≡ web_output files own pace items }
+        → IsLine (λ d. d.left ≡ NothingLeft) new → line_handed all ≡ web_output files own pace items }
+{}
+
+/// Holds for any sequence of calls on a handle that was just opened on Ethernet, successful or refused, with any values set between. Each
+/// call writes exactly the frame that the initial node and its link send for its events, or none. The device serves the same files, and
+/// represents the node and the events of ARP after these moves.
+pub fn frames_from_c_are_exact()
+    ensures frames { OfFrameMoves (λ files own mac all new. handed_of all ≡ web_frames_sent files own mac (frame_moves_of all)) }
+    ensures stands { OfFrameMoves (λ files own mac all new.
+        IsEther (λ d. EtherRepresents files own mac d (web_station_after files own mac (frame_moves_of all))) new) }
+{}
+
+/// Holds for any frames of bytes, any sequence of calls on a handle that was just opened on Ethernet with a good site, and any values set
+/// between. Each call writes the frame of what is sent in the trace entries of its input, or of ARP, and the trace satisfies the guarantee,
+/// for the pages of this site.
+pub fn frames_from_c_keep_the_promise()
+    ensures { (site : SiteContent) → IsLoaded site → All IsByte site.image → HasSoundScripts word_calls (files_of site)
+        → (own : Addr) → IsAddr own → (mac : Mac)
+        → (all : List AnsweredFrame) → All IsFrameOfBytes (frame_moves_of all) → (closed old new : Kept)
+        → OpensEtherAs (files_of site) own mac closed old → DidFrames all old new
+        → FramesConform (ether_frames (host_at own mac)) (value_pages (files_of site)) is_served own all }
 {}
 
 /// The numbers that definitions and contracts name by the code's constants, which are those of include/uip.h.

@@ -4,6 +4,10 @@
 
 mod calls;
 mod datagram_calls;
+mod ether_opening;
+mod frame_calls;
+#[cfg(test)]
+mod frame_tests;
 mod giving;
 mod handle;
 mod held;
@@ -17,15 +21,19 @@ mod tests;
 
 pub use calls::{MIN_OUT, uip_drain, uip_feed, uip_periodic};
 pub use datagram_calls::{uip_input, uip_periodic_datagram};
+pub use ether_opening::uip_open_ether;
+pub use frame_calls::{uip_input_frame, uip_periodic_frame};
 pub use giving::uip_set_value;
 pub use handle::UipDevice;
-pub use held::Held;
+pub use held::{EtherWeb, Held};
 pub use laws::{
-    calls_from_c_are_told, calls_from_c_keep_the_promise, constant_values, line_from_c_is_served,
+    calls_from_c_are_told, calls_from_c_keep_the_promise, constant_values, frames_from_c_are_exact,
+    frames_from_c_keep_the_promise, line_from_c_is_served,
 };
 pub use opening::{UipOpened, uip_close, uip_open};
 pub use reading::{UipNumber, uip_counter, uip_hits, uip_is_idle, uip_ticks};
 pub use rows::{UipRow, uip_connection};
 pub use status::{
     BAD_ARGUMENT, BAD_IMAGE, HAS_DEVICE, NO_DEVICE, NO_MEMORY, OK, OUTPUT_PENDING, UipResult,
+    WRONG_LINK,
 };

@@ -1,11 +1,10 @@
 //! Opening and closing a device.
 
 ghost use Rattle.std.specs.Prelude.{◌≡◌, ◌==◌, ◌⊎◌, replicate, true};
-ghost use Rattle.std.specs.Option.{is_some};
-ghost use Rattle.std.specs.declared.option.Option.TheVariants.{None};
+ghost use Rattle.uip_c.specs.Kept.{NoDevice, has_device};
 ghost use Rattle.uip_c.specs.Opening.{IsWordOf, OpensFine, TellsFault};
 
-use crate::handle::{UipDevice, put_in, take_out};
+use crate::handle::{UipDevice, put_line, take_any};
 use crate::status::{BAD_IMAGE, HAS_DEVICE, NO_DEVICE, NO_MEMORY, OK};
 use site_image::{SiteError, SiteWhy};
 use site_report::why_word;
@@ -34,7 +33,7 @@ fn word_of(why: SiteWhy) -> [u8; 8]
 }
 
 /// Returns a result without a fault.
-fn plain(status: u32) -> UipOpened
+pub(crate) fn plain(status: u32) -> UipOpened
     ensures { result ≡ record { status = status; entry = 0; word = replicate 8 0 } }
 {
     UipOpened {
@@ -45,7 +44,7 @@ fn plain(status: u32) -> UipOpened
 }
 
 /// Reports a fault of the image.
-fn bad_site(error: SiteError) -> UipOpened
+pub(crate) fn bad_site(error: SiteError) -> UipOpened
     ensures { (result.status ≡ BAD_IMAGE) × (result.entry ≡ error.entry) × IsWordOf error.why result.word }
 {
     UipOpened {
@@ -67,12 +66,12 @@ pub extern "C" fn uip_open(
 ) -> UipOpened
     ensures known { (result.status ≡ OK) ⊎ (result.status ≡ HAS_DEVICE) ⊎ (result.status ≡ BAD_IMAGE) ⊎ (result.status ≡ NO_MEMORY) }
     ensures fine { result.status ≡ OK → OpensFine image.now own.now device.old.held.device device.new.held.device }
-    ensures has_device { (result.status == HAS_DEVICE) ≡ is_some device.old.held.device }
+    ensures has_device { (result.status == HAS_DEVICE) ≡ has_device device.old.held.device }
     ensures bad_site { result.status ≡ BAD_IMAGE → TellsFault image.now result.entry result.word }
     ensures no_fault { (result.status ≡ BAD_IMAGE → ⊥) → (result.entry ≡ 0) × (result.word ≡ replicate 8 0) }
     ensures refused { (result.status ≡ OK → ⊥) → device.new ≡ device.old }
 {
-    if device.is_open == 1 {
+    if device.is_open == 1 || device.is_open == 2 {
         return plain(HAS_DEVICE);
     }
     let opened = match open_web(alloc, image, Addr(*own)) {
@@ -83,7 +82,7 @@ pub extern "C" fn uip_open(
     let Ok(opened) = Box::new(alloc, opened) else {
         return plain(NO_MEMORY);
     };
-    put_in(device, opened);
+    put_line(device, opened);
     plain(OK)
 }
 
@@ -91,12 +90,12 @@ pub extern "C" fn uip_open(
 #[unsafe(no_mangle)]
 pub extern "C" fn uip_close(alloc: Global, device: &mut UipDevice) -> u32
     ensures known { (result ≡ OK) ⊎ (result ≡ NO_DEVICE) }
-    ensures fine { result ≡ OK → is_some device.old.held.device ≡ true }
-    ensures no_device { result ≡ NO_DEVICE → device.old.held.device ≡ None }
-    ensures closed { device.new.held.device ≡ None }
+    ensures fine { result ≡ OK → has_device device.old.held.device ≡ true }
+    ensures no_device { result ≡ NO_DEVICE → device.old.held.device ≡ NoDevice }
+    ensures closed { device.new.held.device ≡ NoDevice }
     ensures shut { device.new.is_open ≡ 0 }
 {
-    match take_out(alloc, device) {
+    match take_any(alloc, device) {
         None => NO_DEVICE,
         Some(opened) => {
             drop(opened);

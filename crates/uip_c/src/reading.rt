@@ -1,19 +1,19 @@
 //! The calls that read a number of a device.
 
 ghost use Rattle.std.specs.Prelude.{◌≡◌, ◌==◌, ◌||◌, ◌-◌, ◌⊎◌, List, Some as IsThere, if◌then◌else◌, nat_lt, slice_get};
-ghost use Rattle.std.specs.declared.option.Option.TheVariants.{None};
 ghost use Rattle.site_image.specs.Files.{File};
 ghost use Rattle.uip_wire.specs.declared.addr.Addr.{Addr as Address};
 ghost use Rattle.uip_node.specs.Counters.{counters, ticks_of};
 ghost use Rattle.uip_node.specs.Node.{AbstractNode};
 ghost use Rattle.uip_device.specs.Devices.{is_node_idle};
-ghost use Rattle.uip_device.specs.WebDevices.{DeviceRepresents};
+ghost use Rattle.uip_device.specs.WebDevices.{NodeRepresents};
 ghost use Rattle.web_pages.specs.Pages.{hits_of};
-ghost use Rattle.uip_c.specs.Handles.{IsOf};
+ghost use Rattle.uip_c.specs.Kept.{HasNode, NoDevice};
 
-use crate::handle::{UipDevice, put_in, take_out};
+use crate::handle::{UipDevice, node_of, put_any, take_any};
 use crate::status::{BAD_ARGUMENT, NO_DEVICE, OK};
 use std::alloc::Global;
+use uip_device::{is_node_idle, node_counter, node_hits, node_ticks};
 
 /// A number that was read, with the status.
 #[repr(C)]
@@ -34,17 +34,17 @@ fn unread(status: u32) -> UipNumber
 #[unsafe(no_mangle)]
 pub extern "C" fn uip_ticks(alloc: Global, device: &mut UipDevice) -> UipNumber
     ensures known { (result.status ≡ OK) ⊎ (result.status ≡ NO_DEVICE) }
-    ensures fine { result.status ≡ OK → IsOf (λ d. (files : List File) (own : Address) (n : AbstractNode) → DeviceRepresents files own d n
-        → result.number ≡ ticks_of n.history) device.old.held.device }
-    ensures no_device { result.status ≡ NO_DEVICE → device.old.held.device ≡ None }
+    ensures fine { result.status ≡ OK → HasNode (λ node. (files : List File) (own : Address) (n : AbstractNode)
+        → NodeRepresents files own node n → result.number ≡ ticks_of n.history) device.old.held.device }
+    ensures no_device { result.status ≡ NO_DEVICE → device.old.held.device ≡ NoDevice }
     ensures unread { (result.status ≡ OK → ⊥) → result.number ≡ 0 }
     ensures same { device.new.held.device ≡ device.old.held.device }
 {
-    let Some(opened) = take_out(alloc, device) else {
+    let Some(opened) = take_any(alloc, device) else {
         return unread(NO_DEVICE);
     };
-    let number = opened.ticks();
-    put_in(device, opened);
+    let number = node_ticks(node_of(&opened));
+    put_any(device, opened);
     UipNumber { status: OK, number }
 }
 
@@ -53,9 +53,9 @@ pub extern "C" fn uip_ticks(alloc: Global, device: &mut UipDevice) -> UipNumber
 #[unsafe(no_mangle)]
 pub extern "C" fn uip_counter(alloc: Global, device: &mut UipDevice, number: usize) -> UipNumber
     ensures known { (result.status ≡ OK) ⊎ (result.status ≡ NO_DEVICE) ⊎ (result.status ≡ BAD_ARGUMENT) }
-    ensures fine { result.status ≡ OK → IsOf (λ d. (files : List File) (own : Address) (n : AbstractNode) → DeviceRepresents files own d n
-        → slice_get (counters n.history) (number - 1) ≡ IsThere result.number) device.old.held.device }
-    ensures no_device { result.status ≡ NO_DEVICE → device.old.held.device ≡ None }
+    ensures fine { result.status ≡ OK → HasNode (λ node. (files : List File) (own : Address) (n : AbstractNode)
+        → NodeRepresents files own node n → slice_get (counters n.history) (number - 1) ≡ IsThere result.number) device.old.held.device }
+    ensures no_device { result.status ≡ NO_DEVICE → device.old.held.device ≡ NoDevice }
     ensures unread { (result.status ≡ OK → ⊥) → result.number ≡ 0 }
     ensures bad_call { (result.status == BAD_ARGUMENT) ≡ ((number == 0) || nat_lt 20 number) }
     ensures same { device.new.held.device ≡ device.old.held.device }
@@ -63,11 +63,11 @@ pub extern "C" fn uip_counter(alloc: Global, device: &mut UipDevice, number: usi
     if number == 0 || number > 20 {
         return unread(BAD_ARGUMENT);
     }
-    let Some(opened) = take_out(alloc, device) else {
+    let Some(opened) = take_any(alloc, device) else {
         return unread(NO_DEVICE);
     };
-    let counter = opened.counter(number - 1);
-    put_in(device, opened);
+    let counter = node_counter(node_of(&opened), number - 1);
+    put_any(device, opened);
     UipNumber {
         status: OK,
         number: counter,
@@ -78,17 +78,17 @@ pub extern "C" fn uip_counter(alloc: Global, device: &mut UipDevice, number: usi
 #[unsafe(no_mangle)]
 pub extern "C" fn uip_is_idle(alloc: Global, device: &mut UipDevice) -> UipNumber
     ensures known { (result.status ≡ OK) ⊎ (result.status ≡ NO_DEVICE) }
-    ensures fine { result.status ≡ OK → IsOf (λ d. (files : List File) (own : Address) (n : AbstractNode) → DeviceRepresents files own d n
-        → result.number ≡ (if is_node_idle n then 1 else 0)) device.old.held.device }
-    ensures no_device { result.status ≡ NO_DEVICE → device.old.held.device ≡ None }
+    ensures fine { result.status ≡ OK → HasNode (λ node. (files : List File) (own : Address) (n : AbstractNode)
+        → NodeRepresents files own node n → result.number ≡ (if is_node_idle n then 1 else 0)) device.old.held.device }
+    ensures no_device { result.status ≡ NO_DEVICE → device.old.held.device ≡ NoDevice }
     ensures unread { (result.status ≡ OK → ⊥) → result.number ≡ 0 }
     ensures same { device.new.held.device ≡ device.old.held.device }
 {
-    let Some(opened) = take_out(alloc, device) else {
+    let Some(opened) = take_any(alloc, device) else {
         return unread(NO_DEVICE);
     };
-    let number = opened.is_idle() as u32;
-    put_in(device, opened);
+    let number = is_node_idle(node_of(&opened)) as u32;
+    put_any(device, opened);
     UipNumber { status: OK, number }
 }
 
@@ -96,16 +96,16 @@ pub extern "C" fn uip_is_idle(alloc: Global, device: &mut UipDevice) -> UipNumbe
 #[unsafe(no_mangle)]
 pub extern "C" fn uip_hits(alloc: Global, device: &mut UipDevice, name: &[u8]) -> UipNumber
     ensures known { (result.status ≡ OK) ⊎ (result.status ≡ NO_DEVICE) }
-    ensures fine { result.status ≡ OK → IsOf (λ d. (files : List File) (own : Address) (n : AbstractNode) → DeviceRepresents files own d n
-        → result.number ≡ hits_of files n.numbers name.now) device.old.held.device }
-    ensures no_device { result.status ≡ NO_DEVICE → device.old.held.device ≡ None }
+    ensures fine { result.status ≡ OK → HasNode (λ node. (files : List File) (own : Address) (n : AbstractNode)
+        → NodeRepresents files own node n → result.number ≡ hits_of files n.numbers name.now) device.old.held.device }
+    ensures no_device { result.status ≡ NO_DEVICE → device.old.held.device ≡ NoDevice }
     ensures unread { (result.status ≡ OK → ⊥) → result.number ≡ 0 }
     ensures same { device.new.held.device ≡ device.old.held.device }
 {
-    let Some(opened) = take_out(alloc, device) else {
+    let Some(opened) = take_any(alloc, device) else {
         return unread(NO_DEVICE);
     };
-    let number = opened.hits(name);
-    put_in(device, opened);
+    let number = node_hits(node_of(&opened), name);
+    put_any(device, opened);
     UipNumber { status: OK, number }
 }

@@ -1,19 +1,19 @@
 //! The call that reads a connection.
 
 ghost use Rattle.std.specs.Prelude.{◌≡◌, ◌==◌, ◌⊎◌, List, nat_le};
-ghost use Rattle.std.specs.declared.option.Option.TheVariants.{None};
 ghost use Rattle.site_image.specs.Files.{File};
 ghost use Rattle.uip_wire.specs.declared.addr.Addr.{Addr as Address};
 ghost use Rattle.uip_node.specs.Node.{AbstractNode};
 ghost use Rattle.uip_device.specs.Devices.{connection_row};
-ghost use Rattle.uip_device.specs.WebDevices.{DeviceRepresents};
-ghost use Rattle.uip_c.specs.Handles.{IsOf};
+ghost use Rattle.uip_device.specs.WebDevices.{NodeRepresents};
+ghost use Rattle.uip_c.specs.Kept.{HasNode, NoDevice};
 ghost use Rattle.uip_c.specs.Rows.{IsNoRow, IsToldRow, TellsRow, state_number};
 
-use crate::handle::{UipDevice, put_in, take_out};
+use crate::handle::{UipDevice, node_of, put_any, take_any};
 use crate::status::{BAD_ARGUMENT, NO_DEVICE, OK};
 use app_events::{Row, State};
 use std::alloc::Global;
+use uip_device::node_row;
 
 /// A connection: its state and its peer; the retransmissions of what is outstanding, and the ticks until the timer acts; 1 if something is
 /// outstanding, else 0.
@@ -94,9 +94,9 @@ fn told(row: Option<Row>) -> UipRow
 #[unsafe(no_mangle)]
 pub extern "C" fn uip_connection(alloc: Global, device: &mut UipDevice, slot: usize) -> UipRow
     ensures known { (result.status ≡ OK) ⊎ (result.status ≡ NO_DEVICE) ⊎ (result.status ≡ BAD_ARGUMENT) }
-    ensures fine { result.status ≡ OK → IsOf (λ d. (files : List File) (own : Address) (n : AbstractNode) → DeviceRepresents files own d n
-        → TellsRow (connection_row slot n) result) device.old.held.device }
-    ensures no_device { result.status ≡ NO_DEVICE → device.old.held.device ≡ None }
+    ensures fine { result.status ≡ OK → HasNode (λ node. (files : List File) (own : Address) (n : AbstractNode)
+        → NodeRepresents files own node n → TellsRow (connection_row slot n) result) device.old.held.device }
+    ensures no_device { result.status ≡ NO_DEVICE → device.old.held.device ≡ NoDevice }
     ensures bad_call { (result.status == BAD_ARGUMENT) ≡ nat_le 10 slot }
     ensures unread { (result.status ≡ OK → ⊥) → IsNoRow result }
     ensures same { device.new.held.device ≡ device.old.held.device }
@@ -104,10 +104,10 @@ pub extern "C" fn uip_connection(alloc: Global, device: &mut UipDevice, slot: us
     if slot >= 10 {
         return no_row(BAD_ARGUMENT);
     }
-    let Some(opened) = take_out(alloc, device) else {
+    let Some(opened) = take_any(alloc, device) else {
         return no_row(NO_DEVICE);
     };
-    let row = told(opened.row(slot));
-    put_in(device, opened);
+    let row = told(node_row(node_of(&opened), slot));
+    put_any(device, opened);
     row
 }

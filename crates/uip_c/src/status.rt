@@ -24,6 +24,9 @@ pub const NO_MEMORY: u32 = 5;
 /// Output is pending: `uip_drain` comes first.
 pub const OUTPUT_PENDING: u32 = 6;
 
+/// The device is on Ethernet and the call is for another link, or the other way round.
+pub const WRONG_LINK: u32 = 7;
+
 /// The result of a call: the bytes consumed, the bytes written at the start of `out`, and whether output is pending (1), which `uip_drain`
 /// writes.
 #[repr(C)]

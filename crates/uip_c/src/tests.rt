@@ -1,8 +1,10 @@
 ghost use Rattle.std.specs.Prelude.{◌≡◌};
-ghost use Rattle.std.specs.declared.option.Option.TheVariants.{None};
+ghost use Rattle.uip_c.specs.Kept.{NoDevice};
 
 use crate::calls::{uip_drain, uip_feed, uip_periodic};
 use crate::datagram_calls::{uip_input, uip_periodic_datagram};
+use crate::ether_opening::uip_open_ether;
+use crate::frame_tests::{MAC, check_frames_refused};
 use crate::giving::uip_set_value;
 use crate::handle::UipDevice;
 use crate::held::Held;
@@ -10,25 +12,25 @@ use crate::opening::{UipOpened, uip_close, uip_open};
 use crate::reading::{uip_counter, uip_hits, uip_is_idle, uip_ticks};
 use crate::rows::{UipRow, uip_connection};
 use crate::status::{
-    BAD_ARGUMENT, BAD_IMAGE, HAS_DEVICE, NO_DEVICE, OK, OUTPUT_PENDING, UipResult,
+    BAD_ARGUMENT, BAD_IMAGE, HAS_DEVICE, NO_DEVICE, OK, OUTPUT_PENDING, UipResult, WRONG_LINK,
 };
 use std::alloc::Global;
 use std::process::Abort;
 use uip_device::LARGEST_TEXT;
 
 /// An image without files.
-const IMAGE: &[u8] = b"UIPSITE1\0\0";
+pub(crate) const IMAGE: &[u8] = b"UIPSITE1\0\0";
 
-const OWN: &[u8; 4] = &[10, 0, 0, 1];
+pub(crate) const OWN: &[u8; 4] = &[10, 0, 0, 1];
 
 /// An echo request from 10.0.0.2 (RFC 791, RFC 792), whose message ends with an END and an ESC.
-const REQUEST: &[u8; 30] = &[
+pub(crate) const REQUEST: &[u8; 30] = &[
     69, 0, 0, 30, 0, 0, 0, 0, 64, 1, 102, 221, 10, 0, 0, 2, 10, 0, 0, 1, 8, 0, 55, 28, 0, 7, 0, 1,
     192, 219,
 ];
 
 /// Its reply.
-const REPLY: &[u8; 30] = &[
+pub(crate) const REPLY: &[u8; 30] = &[
     69, 0, 0, 30, 0, 0, 0, 0, 64, 1, 102, 221, 10, 0, 0, 1, 10, 0, 0, 2, 0, 0, 63, 28, 0, 7, 0, 1,
     192, 219,
 ];
@@ -55,7 +57,7 @@ const SECOND_PIECE: &[u8; 2] = &[219, 220];
 const LAST_PIECE: &[u8; 3] = &[219, 221, 192];
 
 /// An image with a script that shows value 3.
-const VALUE_IMAGE: &[u8] = b"UIPSITE1\0\x01\x08/v.shtml\0\0\0\x0ea=%! value 3\n!";
+pub(crate) const VALUE_IMAGE: &[u8] = b"UIPSITE1\0\x01\x08/v.shtml\0\0\0\x0ea=%! value 3\n!";
 
 /// A SYN from 10.0.0.2 to the port of the web (RFC 793).
 const SYN: &[u8; 40] = &[
@@ -76,7 +78,7 @@ const HEAD_ACK: &[u8; 40] = &[
     0, 0, 0, 83, 80, 16, 32, 0, 115, 44, 0, 0,
 ];
 
-fn no_device(alloc: Global) -> UipDevice {
+pub(crate) fn no_device(alloc: Global) -> UipDevice {
     UipDevice {
         is_open: 0,
         held: Held::none(alloc),
@@ -96,15 +98,15 @@ fn opened(rt: &impl Abort, alloc: Global) -> UipDevice {
 }
 
 /// Drops a handle without a device.
-fn let_go(device: UipDevice)
-    requires { device.held.device ≡ None }
+pub(crate) fn let_go(device: UipDevice)
+    requires { device.held.device ≡ NoDevice }
 {
     let UipDevice { is_open: _, held } = device;
     let _alloc = held.into_alloc();
 }
 
 /// The result of a refused call.
-fn answer(status: u32) -> UipResult {
+pub(crate) fn answer(status: u32) -> UipResult {
     UipResult {
         status,
         pending: 0,
@@ -114,7 +116,7 @@ fn answer(status: u32) -> UipResult {
 }
 
 /// The result of a successful call, with nothing pending.
-fn made(consumed: usize, written: usize) -> UipResult {
+pub(crate) fn made(consumed: usize, written: usize) -> UipResult {
     UipResult {
         consumed,
         written,
@@ -123,7 +125,7 @@ fn made(consumed: usize, written: usize) -> UipResult {
 }
 
 /// Each call that would change the device is refused with this status.
-fn check_refused(rt: &impl Abort, alloc: Global, device: &mut UipDevice, status: u32) {
+pub(crate) fn check_refused(rt: &impl Abort, alloc: Global, device: &mut UipDevice, status: u32) {
     let mut out = [0; LARGEST_TEXT];
     let refused = answer(status);
     assert_eq!(rt; uip_feed(alloc, device, REQUEST_TEXT, &mut out), refused);
@@ -140,6 +142,11 @@ fn each_call_is_made_once(rt: HostRuntime) {
     let mut device = opened(&rt, alloc);
     let mut out = [0; LARGEST_TEXT];
     assert_eq!(rt; uip_open(alloc, &mut device, IMAGE, OWN).status, HAS_DEVICE);
+    assert_eq!(rt;
+        uip_open_ether(alloc, &mut device, IMAGE, OWN, MAC).status,
+        HAS_DEVICE
+    );
+    check_frames_refused(&rt, alloc, &mut device, WRONG_LINK);
 
     let heard = uip_feed(alloc, &mut device, REQUEST_TEXT, &mut out);
     assert_eq!(rt; heard, made(34, 34));
@@ -168,6 +175,7 @@ fn a_call_without_a_device_says_so(rt: HostRuntime) {
     let mut device = no_device(alloc);
     let mut out = [0; LARGEST_TEXT];
     check_refused(&rt, alloc, &mut device, NO_DEVICE);
+    check_frames_refused(&rt, alloc, &mut device, NO_DEVICE);
     assert_eq!(rt; uip_drain(alloc, &mut device, &mut out), answer(NO_DEVICE));
     assert_eq!(rt; uip_counter(alloc, &mut device, 20).status, NO_DEVICE);
     assert_eq!(rt; uip_ticks(alloc, &mut device).status, NO_DEVICE);
@@ -204,6 +212,7 @@ fn a_bad_image_is_told(rt: HostRuntime) {
             word,
         };
         assert_eq!(rt; uip_open(alloc, &mut device, image, OWN), bad);
+        assert_eq!(rt; uip_open_ether(alloc, &mut device, image, OWN, MAC), bad);
     }
     assert_eq!(rt; uip_close(alloc, &mut device), NO_DEVICE);
     let_go(device);

@@ -7,6 +7,7 @@ use Rattle.app_events.specs.declared.row.Row.{Row}
 use Rattle.packet_buffer.specs.Buffer.{datagram_in}
 use Rattle.tcp_machine.specs.Connection.{rows_from}
 use Rattle.uip_node.specs.Node.{AbstractNode, initial_node}
+use Rattle.uip_node.specs.State.{Node}
 use Rattle.uip_wire.specs.declared.addr.Addr.{Addr}
 use Rattle.uip_slip.specs.Decoding.{WasFed}
 use Rattle.uip_slip.specs.Frames.{frames}
@@ -63,6 +64,13 @@ pub record Answers {A S : Type 0} (g : Ghosts A S) (call : Call) (old new : Devi
   pub delivered : (before : List ℕ) → HasHeard before old → HasHeard (before ++ bytes_of_call call) new
   pub sends : (before : List ℕ) → HasHeard before old → SendsOver g (events_by before call) old.node new.node
       (λ own replies. HandsOut (is_by_datagram call) own (left_text_of old) handed (left_text_of new) replies)
+
+-- The counters of a node's application were changed between calls. Its packet is unchanged, and it represents the same node with these
+-- counters.
+pub record ChangesNode {A S : Type 0} (g : Ghosts A S) (change : List ℕ → List ℕ) (old new : Node A S) : Type 0 where
+  pub kept : g.config new.shared ≡ g.config old.shared
+  pub packet : new.packet ≡ old.packet
+  pub stands : (m : AppSpec) (own : Addr) (n : AbstractNode) → IsNode g m own old n → IsNode g m own new (with_numbers change n)
 
 -- The counters of the application were changed between calls. The bytes fed and the pending output are unchanged, and the node represents
 -- the same node with these counters.

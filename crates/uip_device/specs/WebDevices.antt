@@ -19,6 +19,7 @@ use Rattle.uip_device.specs.declared.device_web.DeviceWeb.{DeviceWeb}
 use Rattle.uip_device.specs.declared.value_pages.ValuePages.{ValuePages}
 use Rattle.uip_edge.specs.declared.item.Item.{Item}
 use Rattle.uip_node.specs.Node.{AbstractNode, initial_node}
+use Rattle.uip_node.specs.State.{Node}
 use Rattle.uip_wire.specs.declared.addr.Addr.{Addr}
 use Rattle.serve_loop.specs.LineOutput.{output_by}
 use Rattle.serve_loop.specs.SerialMedium.{slip_medium}
@@ -53,10 +54,17 @@ write_value number text numbers =
 abbrev pub site_in : WebDevice → SiteContent
 site_in d = d.node.shared.web.site
 
+abbrev pub WebNode : Type 0
+WebNode = Node ValuePages DeviceWeb
+
+-- The node serves these files at the address `own`, and represents this abstract node.
+pub record NodeRepresents (files : List File) (own : Addr) (it : WebNode) (n : AbstractNode) : Type 0 where
+  pub files_are : files_of it.shared.web.site ≡ files
+  pub node : IsNode ghosts (value_spec files) own it n
+
 -- The device serves these files at the address `own`, and represents this abstract node.
-pub record DeviceRepresents (files : List File) (own : Addr) (d : WebDevice) (n : AbstractNode) : Type 0 where
-  pub files_are : files_of (site_in d) ≡ files
-  pub node : IsNode ghosts (value_spec files) own d.node n
+abbrev pub DeviceRepresents : List File → Addr → WebDevice → AbstractNode → Type 0
+DeviceRepresents files own d n = NodeRepresents files own d.node n
 
 abbrev pub IsSoundWebDevice : WebDevice → Type 0
 IsSoundWebDevice d = IsSoundDevice ghosts d
@@ -66,15 +74,18 @@ pub record IsFreshWebDevice (files : List File) (own : Addr) (d : WebDevice) : T
   pub files_are : files_of (site_in d) ≡ files
   pub fresh : IsFreshDevice ghosts (value_spec files) (first_numbers files) own d
 
--- A fresh device at this address with the files that the image contains. Its site is loaded from exactly this image, which is bytes. No
--- page can be too long, whatever its scripts call.
+-- The site was loaded from exactly this image, which is bytes and contains its files. No page can be too long, whatever its scripts call.
+pub record IsOfImage (image : List ℕ) (site : SiteContent) : Type 0 where
+  pub image_is : site.image ≡ image
+  pub loaded : IsLoaded site
+  pub bytes : All IsByte site.image
+  pub sound : HasSoundScripts word_calls (files_of site)
+  pub read : read_image image ≡ Ok (files_of site)
+  pub spelled : IsImage image (files_of site)
+
+-- A fresh device at this address with the site of this image.
 pub record IsOpened (image : List ℕ) (own : Addr) (d : WebDevice) : Type 0 where
-  pub image_is : (site_in d).image ≡ image
-  pub loaded : IsLoaded (site_in d)
-  pub bytes : All IsByte (site_in d).image
-  pub sound : HasSoundScripts word_calls (files_of (site_in d))
-  pub read : read_image image ≡ Ok (files_of (site_in d))
-  pub spelled : IsImage image (files_of (site_in d))
+  pub site : IsOfImage image (site_in d)
   pub fresh : IsFreshWebDevice (files_of (site_in d)) own d
 
 -- The image contains files of which a page can be too long only because a script shows values. This is reported about the whole image.
@@ -84,11 +95,24 @@ pub record IsLongWithValues (image : List ℕ) (error : SiteError) : Type 0 wher
   pub unsound : HasSoundScripts word_calls files → ⊥
   pub told : error ≡ fault PageTooLong 0
 
--- A device was opened, or the image has this first fault. Out of memory is always possible.
+-- The image has this first fault, or there is no memory, which is always possible.
+abbrev pub FailsAs : List ℕ → OpenFault → Type 0
+FailsAs image (BadSite error) = (read_image image ≡ Err error) ⊎ IsLongWithValues image error
+FailsAs image NoMemory = ⊤
+
+-- What the connections share at first: the site of this image, with the first numbers.
+pub record IsFirstShared (image : List ℕ) (shared : DeviceWeb) : Type 0 where
+  pub site : IsOfImage image shared.web.site
+  pub numbers : ghosts.numbers shared ≡ first_numbers (files_of shared.web.site)
+
+abbrev pub OpensShared : List ℕ → Result DeviceWeb OpenFault → Type 0
+OpensShared image (Ok shared) = IsFirstShared image shared
+OpensShared image (Err fault) = FailsAs image fault
+
+-- A device was opened, or not, for this reason.
 abbrev pub OpensDevice : List ℕ → Addr → Result WebDevice OpenFault → Type 0
 OpensDevice image own (Ok d) = IsOpened image own d
-OpensDevice image own (Err (BadSite error)) = (read_image image ≡ Err error) ⊎ IsLongWithValues image error
-OpensDevice image own (Err NoMemory) = ⊤
+OpensDevice image own (Err fault) = FailsAs image fault
 
 -- the output of the web server of a device for the items of a serial line, if no value is set
 abbrev pub web_output : List File → Addr → ℕ → List Item → List ℕ

@@ -9,12 +9,12 @@ ghost use Rattle.uip_node.specs.Edge.{event_of};
 ghost use Rattle.serve_loop.specs.LineEvents.{events_after};
 ghost use Rattle.serve_loop.specs.Texts.{text_of};
 ghost use Rattle.uip_device.specs.Calls.{StopsAtEnd};
-ghost use Rattle.uip_device.specs.Devices.{row_in};
 ghost use Rattle.uip_device.specs.Handing.{FillsRoom, text_to_come};
 ghost use Rattle.uip_device.specs.Sending.{SendsOver};
 
 use crate::datagrams::copy_sent;
 use crate::handing::{LARGEST_TEXT, Written, hand_on, write_text};
+use crate::node_reading::{is_node_idle, node_counter, node_row, node_ticks};
 use app_events::{App, Row};
 use std::alloc::Global;
 use uip_edge::NoMemory;
@@ -53,22 +53,6 @@ fn answer<A: App>(node: &mut Node<A>, datagram: &[u8], out: &mut [u8]) -> Writte
 {
     let sent = node.input(datagram);
     write_text(node, sent, out)
-}
-
-/// Returns the row of a slot.
-fn row_in(rows: &[Row], slot: usize) -> Option<Row>
-    ensures { result ≡ row_in slot rows.now }
-{
-    match rows {
-        [] => None,
-        [row, rest @ ..] => {
-            if row.slot as usize == slot {
-                Some(*row)
-            } else {
-                row_in(rest, slot)
-            }
-        }
-    }
 }
 
 /// The bytes that were consumed, and what was written.
@@ -233,22 +217,21 @@ impl<A: App> Device<A> {
     pub fn ticks(&self) -> u32
         ensures { (n : AbstractNode) → Represents A.App self.now.node n n.history → result ≡ ticks_of n.history }
     {
-        self.node.ticks
+        node_ticks(&self.node)
     }
 
     /// Returns whether no connection is open. A tick of an idle node only counts.
     pub fn is_idle(&self) -> bool
         ensures { (n : AbstractNode) → Represents A.App self.now.node n n.history → result ≡ is_node_idle n }
     {
-        self.node.now().rows.list.is_empty()
+        is_node_idle(&self.node)
     }
 
     /// Returns the row of the connection in a slot, as `tcp-connections` shows it; `None` if it is CLOSED.
     pub fn row(&self, slot: usize) -> Option<Row>
         ensures { (n : AbstractNode) → Represents A.App self.now.node n n.history → result ≡ connection_row slot n }
     {
-        let now = self.node.now();
-        row_in(now.rows.list.as_slice(), slot)
+        node_row(&self.node, slot)
     }
 
     /// Returns the counter at an index below 20, modulo 2^32.
@@ -257,6 +240,6 @@ impl<A: App> Device<A> {
         requires { place < 20 }
         ensures { (n : AbstractNode) → Represents A.App self.now.node n n.history → slice_get (counters n.history) place ≡ Some result }
     {
-        self.node.net[place]
+        node_counter(&self.node, place)
     }
 }

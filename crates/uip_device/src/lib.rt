@@ -7,6 +7,7 @@ mod device;
 mod device_web;
 mod handing;
 mod laws;
+mod node_reading;
 mod opening;
 mod value_pages;
 mod web_device;
@@ -15,9 +16,10 @@ pub use device::{Device, FeedResult};
 pub use device_web::{DeviceWeb, FlashWeb};
 pub use handing::LARGEST_TEXT;
 pub use laws::{calls_are_told, calls_keep_the_promise, constant_values, line_is_served};
-pub use opening::{OpenFault, open_web};
+pub use node_reading::{is_node_idle, node_counter, node_row, node_ticks};
+pub use opening::{OpenFault, open_shared, open_web};
 pub use value_pages::ValuePages;
-pub use web_device::WebDevice;
+pub use web_device::{WebDevice, node_hits, set_node_value};
 
 #[cfg(test)]
 mod tests;

@@ -7,7 +7,7 @@ ghost use Rattle.device_values.specs.Words.{word_calls};
 ghost use Rattle.file_tree.specs.Site.{HasSoundScripts, IsLoaded, files_of};
 ghost use Rattle.site_image.specs.Faults.{fault};
 ghost use Rattle.site_image.specs.declared.site_error.SiteWhy.TheVariants.{PageTooLong};
-ghost use Rattle.uip_device.specs.WebDevices.{OpensDevice, first_numbers};
+ghost use Rattle.uip_device.specs.WebDevices.{OpensDevice, OpensShared, first_numbers};
 
 use crate::device::Device;
 use crate::device_web::{DeviceWeb, FlashWeb};
@@ -71,10 +71,9 @@ fn web_of(alloc: Global, site: FlashSite) -> Result<DeviceWeb, NoMemory>
     })
 }
 
-/// Opens a device at an address with the site of an image, which is read in place and not copied. No later call allocates memory
-/// (measured).
-pub fn open_web(alloc: Global, image: &'static [u8], own: Addr) -> Result<WebDevice, OpenFault>
-    ensures { OpensDevice image.now own result }
+/// Returns what the connections of the web server share at first, with the site of an image, which is read in place and not copied.
+pub fn open_shared(alloc: Global, image: &'static [u8]) -> Result<DeviceWeb, OpenFault>
+    ensures { OpensShared image.now result }
 {
     let site = match FlashSite::read_in_place(alloc, image) {
         Ok(site) => site,
@@ -85,8 +84,20 @@ pub fn open_web(alloc: Global, image: &'static [u8], own: Addr) -> Result<WebDev
         return Err(OpenFault::BadSite(too_long()));
     }
     see_loaded(&site);
-    let Ok(shared) = web_of(alloc, site) else {
-        return Err(OpenFault::NoMemory);
+    match web_of(alloc, site) {
+        Ok(shared) => Ok(shared),
+        Err(NoMemory) => Err(OpenFault::NoMemory),
+    }
+}
+
+/// Opens a device at an address with the site of an image, which is read in place and not copied. No later call allocates memory
+/// (measured).
+pub fn open_web(alloc: Global, image: &'static [u8], own: Addr) -> Result<WebDevice, OpenFault>
+    ensures { OpensDevice image.now own result }
+{
+    let shared = match open_shared(alloc, image) {
+        Ok(shared) => shared,
+        Err(fault) => return Err(fault),
     };
     match Device::<ValuePages>::new(alloc, own, shared) {
         Ok(device) => Ok(device),

@@ -1,4 +1,4 @@
-//! What only a device with the web server has: values that are set, and hits that are read.
+//! What only a node with the web server of a device has: values that are set, and hits that are read.
 
 ghost use Rattle.std.specs.Prelude.{◌≡◌, ◌<◌, ◌≤◌, length};
 ghost use Rattle.file_tree.specs.Site.{files_of};
@@ -6,13 +6,14 @@ ghost use Rattle.uip_node.specs.Node.{AbstractNode};
 ghost use Rattle.uip_node.specs.Represents.{Represents};
 ghost use Rattle.web_pages.specs.Pages.{hits_of};
 ghost use Rattle.uip_device.specs.contracts.value_pages.ValuePagesApp.TheImpl.{ghosts};
-ghost use Rattle.uip_device.specs.Devices.{Changes};
+ghost use Rattle.uip_device.specs.Devices.{Changes, ChangesNode};
 ghost use Rattle.uip_device.specs.WebDevices.{IsSoundWebDevice, site_in, write_value};
 
 use crate::device::Device;
 use crate::opening::see_loaded;
 use crate::value_pages::ValuePages;
 use device_values::Values;
+use uip_node::Node;
 
 /// A device with the web server of a site.
 pub type WebDevice = Device<ValuePages>;
@@ -24,6 +25,29 @@ fn see_values(values: &Values)
     let _ = &values.bytes;
 }
 
+/// Sets value `number` of a node, below 16, to a copy of `text`, at most 32 bytes. Its packet is unchanged.
+pub fn set_node_value(node: &mut Node<ValuePages>, number: usize, text: &[u8])
+    requires number { number < 16 }
+    requires short { length text.now ≤ 32 }
+    ensures { ChangesNode ghosts (write_value number text.now) node.old node.new }
+{
+    see_values(&node.shared.values);
+    node.shared.values.give(number, text);
+}
+
+/// Returns how often the file of that name was requested of a node, modulo 2^32; 0 if no file has the name.
+pub fn node_hits(node: &Node<ValuePages>, name: &[u8]) -> u32
+    ensures { (n : AbstractNode) → Represents ghosts node.now n n.history
+        → result ≡ hits_of (files_of node.now.shared.web.site) n.numbers name.now }
+{
+    let web = &node.shared.web;
+    see_loaded(&web.site);
+    match web.site.find(name) {
+        Some(id) => web.hits[id.0 as usize],
+        None => 0,
+    }
+}
+
 impl WebDevice {
     /// Sets value `number`, below 16, to a copy of `text`, at most 32 bytes. Pending output is unchanged.
     pub fn set_value(&mut self, number: usize, text: &[u8])
@@ -33,9 +57,7 @@ impl WebDevice {
         ensures sound { IsSoundWebDevice self.new }
         ensures gives { Changes ghosts (write_value number text.now) self.old self.new }
     {
-        let node = &mut self.node;
-        see_values(&node.shared.values);
-        node.shared.values.give(number, text);
+        set_node_value(&mut self.node, number, text);
     }
 
     /// Returns how often the file of that name was requested, modulo 2^32; 0 if no file has the name.
@@ -43,12 +65,6 @@ impl WebDevice {
         ensures { (n : AbstractNode) → Represents ghosts self.now.node n n.history
             → result ≡ hits_of (files_of (site_in self.now)) n.numbers name.now }
     {
-        let node = &self.node;
-        let web = &node.shared.web;
-        see_loaded(&web.site);
-        match web.site.find(name) {
-            Some(id) => web.hits[id.0 as usize],
-            None => 0,
-        }
+        node_hits(&self.node, name)
     }
 }

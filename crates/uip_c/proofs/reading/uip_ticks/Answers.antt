@@ -1,7 +1,11 @@
-use Rattle.std.proofs.Common.{sym}
+use Rattle.std.proofs.Common.{◌∙◌, ap, sym}
+use Rattle.uip_c.specs.Kept.{Kept, node_in}
+use Rattle.uip_c.specs.Taking.{node_of}
+use Rattle.uip_c.proofs.Taking.{node_kept}
 use Rattle.uip_c.proofs.reading.uip_ticks.Goals as goal
 
 pub returns-clause-fine : goal.returns-clause-fine
 returns-clause-fine c = λ fine.
-    let told = rw c.deref.ensures at c.ticks-number.ensures in
-    (c.in-Some.opened.value, sym c.in-Some.ensures.taken, λ files own n s. told n s.node.stands)
+    let any = c.in-Some.opened in
+    let told = rw c.node_of.ensures at c.node_ticks-number.ensures in
+    (node_of any, ap (λ (k : Kept). node_in k) (sym c.in-Some.ensures.taken) ∙ node_kept any, λ files own n s. told n s.node.stands)

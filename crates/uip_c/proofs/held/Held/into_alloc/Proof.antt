@@ -17,11 +17,9 @@ use denote.Steps.{nothing, heard}
 use denote.Triple.Walked.{Stays, stay_dropped, walk_of}
 use Rattle.core.proofs.alloc.Calls.{Goes-blank}
 use Rattle.std.proofs.raw_atomic.Walks.{proved_at, leaves}
-use Rattle.std.specs.declared.option.Option.{Option}
-use Rattle.std.specs.declared.option.Option.TheVariants.{None}
 use Rattle.loose_box.proofs.Words.{two_words}
-use Rattle.uip_device.specs.WebDevices.{WebDevice}
 use Rattle.uip_c.specs.Holding.{holds}
+use Rattle.uip_c.specs.Kept.{Kept, NoDevice}
 use Rattle.uip_c.proofs.Words.{HeldRow, held_out, held_typed, pointer_typed}
 use Rattle.uip_c.specs.contracts.held.Held.into_alloc.{ended, clauses}
 use Rattle.uip_c.specs.contracts.held.Held.into_alloc.Key.{name as #self}
@@ -41,10 +39,10 @@ into_alloc_spec 𝓤 𝓛 𝓜 𝓡 wired =
     let a = v.alloc in
     let Post : Val → SProp 𝓤 = (walk_of 𝓛 ended stays c).post z in
     let Run : List Val → SProp 𝓤 = λ words. WpFn 𝓤 H 𝓣.C 𝓣.Λ fn words Post in
-    qed 𝓛 ((‵ ftrue ⊛ ‵ (owns (HeldRow ∷ []) z.0.3 z.0.4)) ∷ raw (fact 𝓤 (v.device ≡ None)) ∷ []) ∵
-    move ! (1 ∷ []) $ heard ! (v.device ≡ None) (λ none.
+    qed 𝓛 ((‵ ftrue ⊛ ‵ (owns (HeldRow ∷ []) z.0.3 z.0.4)) ∷ raw (fact 𝓤 (v.device ≡ NoDevice)) ∷ []) ∵
+    move ! (1 ∷ []) $ heard ! (v.device ≡ NoDevice) (λ none.
     split ! $ move ! (1 ∷ []) $ fsplit ! $
-    held_out ! v z.0.4.0 (λ h words good. rewrite ! 0 (λ (d : Option WebDevice). ‵ (holds a v.at d)) none refl $ drop ! $
+    held_out ! v z.0.4.0 (λ h words good. rewrite ! 0 (λ (d : Kept). ‵ (holds a v.at d)) none refl $ drop ! $
     let w : Val = two_words (ptr_val v.at) h in
     suffices ! (Run (w ∷ [])) (subst (λ (us : List Val). ent 𝓤 (Run (w ∷ [])) (Run us)) (sym (λ i. words i ++ [])) (id⊢ 𝓤 (Run (w ∷ [])))) $
     enter ! 𝓣.C 𝓣.Λ fn (w ∷ []) Post $ alloc_all ! (λ l. pass_all ! refl (held_typed v.at h good, tt) $

@@ -20,18 +20,16 @@ use denote.Steps.{nothing, heard}
 use denote.Triple.Walked.{Stays, stay_dropped, walk_of}
 use Rattle.core.proofs.alloc.Calls.{Goes-blank}
 use Rattle.std.proofs.raw_atomic.Walks.{proved_at, leaves}
-use Rattle.std.specs.declared.option.Option.{Option}
 use Rattle.std.specs.Prelude.{true}
-use Rattle.std.specs.Option.{is_some}
-use Rattle.std.specs.declared.option.Option.TheVariants.{Some}
 use Rattle.std.specs.Box.Ownership.{box_owns}
 use Rattle.std.proofs.alloc.Global.TheLaws as heap_laws
 use Rattle.std.specs.contracts.impls.GlobalAllocator.TheImpl.{ghosts}
 use Rattle.loose_box.proofs.Words.{two_words, words_typed, parts_in}
 use Rattle.uip_device.specs.WebDevices.{WebDevice}
 use Rattle.uip_device.specs.WebDevices.{IsSoundWebDevice}
-use Rattle.uip_c.specs.Holding.{DeviceRow, holds}
-use Rattle.uip_c.proofs.Taking.{some_of}
+use Rattle.uip_c.specs.Holding.{LineRow, holds}
+use Rattle.uip_c.specs.Kept.{Kept, OnLine, is_on_line}
+use Rattle.uip_c.proofs.Taking.{line_of}
 use Rattle.uip_c.proofs.Words.{HeapRow, HeldRow, held_out}
 use Rattle.uip_c.specs.contracts.held.Held.into_parts.{ended, clauses}
 use Rattle.uip_c.specs.contracts.held.Held.into_parts.Key.{name as #self}
@@ -51,16 +49,16 @@ into_parts_spec 𝓤 𝓛 𝓜 𝓡 wired =
     let a = v.alloc in
     let Post : Val → SProp 𝓤 = (walk_of 𝓛 ended stays c).post z in
     let Run : List Val → SProp 𝓤 = λ words. WpFn 𝓤 H 𝓣.C 𝓣.Λ fn words Post in
-    qed 𝓛 ((‵ ftrue ⊛ ‵ (owns (HeldRow ∷ []) z.0.3 z.0.4)) ∷ raw (fact 𝓤 (is_some v.device ≡ true)) ∷ []) ∵
-    move ! (1 ∷ []) $ heard ! (is_some v.device ≡ true) (λ there.
-    let x : WebDevice = (some_of v.device there).0 in
-    let same = (some_of v.device there).1 in
-    let null_owns = fst∗ 𝓤 (never 𝓤) (sem 𝓛 (ghosts.dealloc_token a (bare (lone DeviceRow.mir)) null_ptr)) in
+    qed 𝓛 ((‵ ftrue ⊛ ‵ (owns (HeldRow ∷ []) z.0.3 z.0.4)) ∷ raw (fact 𝓤 (is_on_line v.device ≡ true)) ∷ []) ∵
+    move ! (1 ∷ []) $ heard ! (is_on_line v.device ≡ true) (λ there.
+    let x : WebDevice = (line_of v.device there).0 in
+    let same = (line_of v.device there).1 in
+    let null_owns = fst∗ 𝓤 (never 𝓤) (sem 𝓛 (ghosts.dealloc_token a (bare (lone LineRow.mir)) null_ptr)) in
     split ! $ move ! (1 ∷ []) $ fsplit ! $
-    held_out ! v z.0.4.0 (λ h words good. rewrite ! 0 (λ (d : Option WebDevice). ‵ (holds a v.at d)) same refl $ fpick ! (λ sound.
-    in_a_block ! v.at (λ p. box_owns (ghosts.dealloc_token a) DeviceRow p x) null_owns (λ b o at.
+    held_out ! v z.0.4.0 (λ h words good. rewrite ! 0 (λ (d : Kept). ‵ (holds a v.at d)) same refl $ fpick ! (λ sound.
+    in_a_block ! v.at (λ p. box_owns (ghosts.dealloc_token a) LineRow p x) null_owns (λ b o at.
     let w : Val = two_words (vptr b o) h in
-    let typed = words_typed DeviceRow HeapRow heap_laws.the_row_laws ghosts b o h good in
+    let typed = words_typed LineRow HeapRow heap_laws.the_row_laws ghosts b o h good in
     let is : z.0.4.0 ≡ w ∷ [] = subst (λ (p : Ptr). z.0.4.0 ≡ two_words (ptr_val p) h ∷ []) at words in
     suffices ! (Run (w ∷ [])) (subst (λ (us : List Val). ent 𝓤 (Run (w ∷ [])) (Run us)) (sym (λ i. is i ++ [])) (id⊢ 𝓤 (Run (w ∷ [])))) $
     enter ! 𝓣.C 𝓣.Λ fn (w ∷ []) Post $ alloc_all ! (λ l. pass_all ! refl (typed, tt) $
@@ -68,7 +66,7 @@ into_parts_spec 𝓤 𝓛 𝓜 𝓡 wired =
     sets ! (of_opd ! (get_in ! (fld ! refl (stop !)) (sub ! 1 refl (whole !)))) refl good $
     sets ! (of_opd ! (get ! refl)) refl (tt, tt) $
     sets ! (agg ! (and_then ! (get ! refl) (and_then ! (get ! refl) (no_more !)))) refl typed $
-    parts_in DeviceRow HeapRow heap_laws.the_row_laws ghosts ! b o h a x $
-    use0 𝓛 (raw (fact 𝓤 ((v.device ≡ Some x) × IsSoundWebDevice x))) (fact_i 𝓤 ((v.device ≡ Some x) × IsSoundWebDevice x) (emp 𝓤) (same, sound)) $ nothing ! $ nothing ! $ fjoin ! $
+    parts_in LineRow HeapRow heap_laws.the_row_laws ghosts ! b o h a x $
+    use0 𝓛 (raw (fact 𝓤 ((v.device ≡ OnLine x) × IsSoundWebDevice x))) (fact_i 𝓤 ((v.device ≡ OnLine x) × IsSoundWebDevice x) (emp 𝓤) (same, sound)) $ nothing ! $ nothing ! $ fjoin ! $
     returns ! (look_at ! 0 refl) $ free_all ! refl $ keep ! (4 ∷ 0 ∷ 2 ∷ 1 ∷ []) $
     by ! (leaves 𝓛 ended stays c z w (record { at = block_ptr b o; alloc = a; value = x }) _ (tt, tt))))))))

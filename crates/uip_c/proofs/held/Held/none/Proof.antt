@@ -17,13 +17,11 @@ use denote.Steps.{nothing}
 use denote.Triple.Walked.{Stays, stay_dropped, walk_of, Goes-dropped}
 use Rattle.core.proofs.alloc.Calls.{handle_tells}
 use Rattle.std.proofs.raw_atomic.Walks.{proved_at, leaves}
-use Rattle.std.specs.declared.option.Option.{Option}
-use Rattle.std.specs.declared.option.Option.TheVariants.{None}
 use Rattle.std.proofs.alloc.Global.TheLaws as heap_laws
 use Rattle.std.specs.contracts.impls.GlobalAllocator.TheImpl.{ghosts}
 use Rattle.loose_box.proofs.Words.{two_words, words_typed}
-use Rattle.uip_device.specs.WebDevices.{WebDevice}
-use Rattle.uip_c.specs.Holding.{DeviceRow}
+use Rattle.uip_c.specs.Holding.{LineRow}
+use Rattle.uip_c.specs.Kept.{Kept, NoDevice}
 use Rattle.uip_c.proofs.Words.{HeapRow, allocator, held_in}
 use Rattle.uip_c.specs.contracts.held.Held.none.{ended, clauses}
 use Rattle.uip_c.specs.contracts.held.Held.none.Key.{name as #self}
@@ -44,9 +42,9 @@ none_spec 𝓤 𝓛 𝓜 𝓡 wired =
     let Run : List Val → SProp 𝓤 = λ words. WpFn 𝓤 H 𝓣.C 𝓣.Λ fn words Post in
     qed 𝓛 ((‵ ftrue ⊛ ‵ (owns (HeapRow ∷ []) z.0.3 z.0.4)) ∷ raw ((c z.0.0 z.0.3).requires z.1) ∷ []) ∵ split ! $ move ! (1 ∷ []) $ fsplit ! $
     handle_tells allocator ! a z.0.4.0 (λ h words good.
-    let o : Option WebDevice = None in
+    let o : Kept = NoDevice in
     let w : Val = two_words (ptr_val null_ptr) h in
-    let typed = words_typed DeviceRow HeapRow heap_laws.the_row_laws ghosts 0 0 h good in
+    let typed = words_typed LineRow HeapRow heap_laws.the_row_laws ghosts 0 0 h good in
     suffices ! (Run (h ∷ [])) (subst (λ (us : List Val). ent 𝓤 (Run (h ∷ [])) (Run us)) (sym (λ i. words i ++ [])) (id⊢ 𝓤 (Run (h ∷ [])))) $
     enter ! 𝓣.C 𝓣.Λ fn (h ∷ []) Post $ alloc_all ! (λ l. pass_all ! refl (good, tt) $
     sets ! (agg ! (and_then ! (lit ! tt) (and_then ! (get ! refl) (no_more !)))) refl (typed.0, (record { fits = lit< tt }, (good.1, tt))) $

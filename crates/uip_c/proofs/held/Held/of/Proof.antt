@@ -19,13 +19,13 @@ use denote.Steps.{nothing, heard}
 use denote.Triple.Walked.{Stays, stay_dropped, walk_of}
 use Rattle.core.proofs.alloc.Calls.{Goes-blank}
 use Rattle.std.proofs.raw_atomic.Walks.{proved_at, leaves}
-use Rattle.std.specs.declared.option.Option.TheVariants.{Some}
 use Rattle.std.specs.Box.Ownership.{box_owns}
 use Rattle.std.proofs.alloc.Global.TheLaws as heap_laws
 use Rattle.std.specs.contracts.impls.GlobalAllocator.TheImpl.{ghosts}
 use Rattle.loose_box.proofs.Words.{two_words, Parts, words_typed, parts_out}
 use Rattle.uip_device.specs.WebDevices.{IsSoundWebDevice}
-use Rattle.uip_c.specs.Holding.{DeviceRow}
+use Rattle.uip_c.specs.Holding.{LineRow}
+use Rattle.uip_c.specs.Kept.{OnLine}
 use Rattle.uip_c.proofs.Words.{HeapRow, held_in}
 use Rattle.uip_c.specs.contracts.held.Held.of.{ended, clauses}
 use Rattle.uip_c.specs.contracts.held.Held.of.Key.{name as #self}
@@ -33,7 +33,7 @@ use Rattle.uip_c.proofs.held.Held.of.Statement.{statement}
 use Rattle.uip_c.proofs.held.Held.of.Code as code
 
 abbrev Taken : RattleType
-Taken = Parts DeviceRow HeapRow heap_laws.the_row_laws ghosts
+Taken = Parts LineRow HeapRow heap_laws.the_row_laws ghosts
 
 pub of_spec : {M : Type 1} → statement M
 of_spec 𝓤 𝓛 𝓜 𝓡 wired =
@@ -50,17 +50,17 @@ of_spec 𝓤 𝓛 𝓜 𝓡 wired =
     let Run : List Val → SProp 𝓤 = λ words. WpFn 𝓤 H 𝓣.C 𝓣.Λ fn words Post in
     qed 𝓛 ((‵ ftrue ⊛ ‵ (owns (Taken ∷ []) z.0.3 z.0.4)) ∷ raw (fact 𝓤 (IsSoundWebDevice v.value)) ∷ []) ∵
     move ! (1 ∷ []) $ heard ! (IsSoundWebDevice v.value) (λ sound. split ! $ move ! (1 ∷ []) $ fsplit ! $
-    parts_out DeviceRow HeapRow heap_laws.the_row_laws ghosts ! v z.0.4.0 (λ b o h at words good.
+    parts_out LineRow HeapRow heap_laws.the_row_laws ghosts ! v z.0.4.0 (λ b o h at words good.
     let w : Val = two_words (vptr b o) h in
-    let typed = words_typed DeviceRow HeapRow heap_laws.the_row_laws ghosts b o h good in
+    let typed = words_typed LineRow HeapRow heap_laws.the_row_laws ghosts b o h good in
     suffices ! (Run (w ∷ [])) (subst (λ (us : List Val). ent 𝓤 (Run (w ∷ [])) (Run us)) (sym (λ i. words i ++ [])) (id⊢ 𝓤 (Run (w ∷ [])))) $
     enter ! 𝓣.C 𝓣.Λ fn (w ∷ []) Post $ alloc_all ! (λ l. pass_all ! refl (typed, tt) $
     sets ! (of_opd ! (get_in ! (fld ! refl (stop !)) (sub ! 0 refl (whole !)))) refl (tt, tt) $
     sets ! (of_opd ! (get_in ! (fld ! refl (stop !)) (sub ! 1 refl (whole !)))) refl good $
     sets ! (of_opd ! (get ! refl)) refl (tt, tt) $
     sets ! (agg ! (and_then ! (get ! refl) (and_then ! (get ! refl) (no_more !)))) refl typed $
-    fpack ! (IsSoundWebDevice v.value) (λ _. box_owns (ghosts.dealloc_token a) DeviceRow (block_ptr b o) v.value) sound $
-    held_in ! (block_ptr b o) h a (Some v.value) $
-    use0 𝓛 (raw (fact 𝓤 (Some v.value ≡ Some v.value))) (fact_i 𝓤 (Some v.value ≡ Some v.value) (emp 𝓤) refl) $ nothing ! $ nothing ! $ fjoin ! $
+    fpack ! (IsSoundWebDevice v.value) (λ _. box_owns (ghosts.dealloc_token a) LineRow (block_ptr b o) v.value) sound $
+    held_in ! (block_ptr b o) h a (OnLine v.value) $
+    use0 𝓛 (raw (fact 𝓤 (OnLine v.value ≡ OnLine v.value))) (fact_i 𝓤 (OnLine v.value ≡ OnLine v.value) (emp 𝓤) refl) $ nothing ! $ nothing ! $ fjoin ! $
     returns ! (look_at ! 0 refl) $ free_all ! refl $ keep ! (4 ∷ 0 ∷ 2 ∷ 1 ∷ []) $
-    by ! (leaves 𝓛 ended stays c z w (record { at = block_ptr b o; alloc = a; device = Some v.value }) _ (tt, tt))))))
+    by ! (leaves 𝓛 ended stays c z w (record { at = block_ptr b o; alloc = a; device = OnLine v.value }) _ (tt, tt))))))

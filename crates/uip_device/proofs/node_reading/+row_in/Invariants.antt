@@ -1,5 +1,5 @@
 use Rattle.std.proofs.Common.{length}
-use Rattle.uip_device.proofs.device.+row_in.Given as goal
+use Rattle.uip_device.proofs.node_reading.+row_in.Given as goal
 
 abbrev pub decreases-row_in : goal.decreases-row_in
 decreases-row_in l = length l.rows.now

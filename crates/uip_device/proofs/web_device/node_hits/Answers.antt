@@ -8,7 +8,7 @@ use Rattle.httpd.specs.Web.{WebContent}
 use Rattle.httpd.proofs.Finding.{found_place}
 use Rattle.web_pages.specs.Pages.{hits_of, place_of}
 use Rattle.uip_device.proofs.WebLaws.{hits_at}
-use Rattle.uip_device.proofs.web_device.WebDevice.hits.Goals as goal
+use Rattle.uip_device.proofs.web_device.node_hits.Goals as goal
 
 pub returns-in-Some : goal.returns-in-Some
 returns-in-Some c = rw (← c.node.view_is) (λ n stands.

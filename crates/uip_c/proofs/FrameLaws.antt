@@ -1,0 +1,122 @@
+-- Moves on a handle over Ethernet, one after the other, are moves of its device.
+use Rattle.std.specs.List.{All}
+use Rattle.std.proofs.Common.{◌≡◌, ℕ, List, [], ◌∷◌, refl, sym, ap, ◌∙◌, subst}
+use Rattle.app_events.specs.Pages.{IsAddr, IsByte}
+use Rattle.site_image.specs.Files.{File}
+use Rattle.file_tree.specs.Site.{HasSoundScripts, IsLoaded, SiteContent, files_of}
+use Rattle.web_pages.specs.Serving.{is_served}
+use Rattle.web_pages.proofs.ByteLaws.{made_of_bytes_by}
+use Rattle.web_pages.proofs.PageLaws.{keeps_page_laws_by}
+use Rattle.device_values.specs.Words.{word_calls, words}
+use Rattle.device_values.specs.Lemmas.Laws.{words_bytes, words_short}
+use Rattle.uip_device.specs.contracts.value_pages.ValuePagesApp.TheImpl.{ghosts}
+use Rattle.uip_wire.specs.declared.addr.Addr.{Addr}
+use Rattle.serve_loop.specs.LineOutput.{initial_station}
+use Rattle.ethernet_arp.specs.Frames.{Host}
+use Rattle.ethernet_arp.specs.declared.mac.Mac.{Mac}
+use Rattle.frame_device.specs.EtherBytes.{ether_brings_bytes}
+use Rattle.frame_device.specs.EtherFrames.{ether_frames}
+use Rattle.frame_device.specs.FrameCalls.{Answered, AnswersAll, AnswersFrame, AnswersMove, CallsSlot, ChangesNumbers, DoesNothing, FrameCall, FrameMove, Gives, InputsFrame, Makes, handed_of, moves_of}
+use Rattle.frame_device.specs.FrameKeeping.{FramesConform, IsOfBytes}
+use Rattle.frame_device.specs.contracts.ether.EthernetFrames.TheImpl.{ghosts as ether_link}
+use Rattle.frame_device.proofs.KeepLaws.{keeps_frames}
+use Rattle.frame_device.proofs.MoveLaws.{device_stands, frames_exact, same_kept}
+use Rattle.uip_device.specs.WebDevices.{first_numbers, value_pages, value_spec, write_value}
+use Rattle.uip_device.proofs.WebLaws.{first_words, written_words}
+use Rattle.uip_c.specs.EtherWebs.{EtherRepresents, host_at, web_frames_sent, web_station_after}
+use Rattle.uip_c.specs.FrameHandles.{DidFrame, DidFrames, EtherAnswers, OpensEtherAs}
+use Rattle.uip_c.specs.Handles.{HandleGives}
+use Rattle.uip_c.specs.Kept.{EtherWeb, IsEther, Kept, NoDevice, OnEther, OnLine}
+
+abbrev ether_or : EtherWeb → Kept → EtherWeb
+ether_or none (OnEther d) = d
+ether_or none _ = none
+
+same_ether : (x y : EtherWeb) → OnEther x ≡ OnEther y → x ≡ y
+same_ether x y e = ap (λ (k : Kept). ether_or x k) e
+
+-- a move on a handle is one of the device that it has
+record OnDevice (move : FrameMove) (d : EtherWeb) (b : Kept) (handed : List ℕ) : Type 0 where
+  after : EtherWeb
+  is : b ≡ OnEther after
+  answers : AnswersMove ghosts ether_link write_value move d after handed
+
+on_device : (call : FrameCall) (d : EtherWeb) (a b : Kept) (handed : List ℕ) → a ≡ OnEther d → EtherAnswers call a b handed → OnDevice (Makes call) d b handed
+on_device call d a b handed is it = record {
+  after = it.after;
+  is = it.is;
+  answers = subst (λ (x : EtherWeb). AnswersFrame ghosts ether_link call x it.after handed) (same_ether it.before d (sym it.was ∙ is)) it.answers;
+}
+
+-- the device in which a value was set
+given : (number : ℕ) (text : List ℕ) (d : EtherWeb) (b : Kept) → HandleGives number text (OnEther d) b
+    → (x : EtherWeb) × (b ≡ OnEther x) × ChangesNumbers ghosts ether_link (write_value number text) d x
+given number text d NoDevice gives = absurd gives
+given number text d (OnLine x) gives = absurd gives
+given number text d (OnEther x) gives = (x, refl, gives)
+
+-- a call that did nothing answers so
+nothing_answered : (d : EtherWeb) → AnswersFrame ghosts ether_link DoesNothing d d []
+nothing_answered d = record { kept = refl; each = λ k m own s here. (here, refl) }
+
+did_device : (move : FrameMove) (d : EtherWeb) (a b : Kept) (handed : List ℕ) → a ≡ OnEther d → DidFrame move a b handed → OnDevice move d b handed
+did_device (Makes (InputsFrame frame)) d a b handed is it = on_device (InputsFrame frame) d a b handed is it
+did_device (Makes (CallsSlot slot)) d a b handed is it = on_device (CallsSlot slot) d a b handed is it
+did_device (Makes DoesNothing) d a b handed is it = record {
+  after = d;
+  is = it.0 ∙ is;
+  answers = subst (λ (l : List ℕ). AnswersFrame ghosts ether_link DoesNothing d d l) (sym it.1) (nothing_answered d);
+}
+did_device (Gives number text) d a b handed is it =
+    let gives = given number text d b (subst (λ (k : Kept). HandleGives number text k b) is it.0) in
+    record { after = gives.0; is = gives.1; answers = (gives.2, it.1) }
+
+-- and so for moves one after the other
+record OnDevices (all : List Answered) (d : EtherWeb) (c : Kept) : Type 0 where
+  last : EtherWeb
+  is : c ≡ OnEther last
+  answers : AnswersAll ghosts ether_link write_value all d last
+
+on_devices : (all : List Answered) (d : EtherWeb) (a c : Kept) → a ≡ OnEther d → DidFrames all a c → OnDevices all d c
+on_devices [] d a c is same = record { last = d; is = sym same ∙ is; answers = refl }
+on_devices (it ∷ all) d a c is more =
+    let b : Kept = more.0 in
+    let first = did_device it.move d a b it.handed is more.1 in
+    let later = on_devices all first.after b c first.is more.2 in
+    record { last = later.last; is = later.is; answers = (first.after, first.answers, later.answers) }
+
+module _ (files : List File) (own : Addr) (mac : Mac) (all : List Answered) (closed old new : Kept) (opens : OpensEtherAs files own mac closed old) (answered : DidFrames all old new) where
+  abbrev opened : EtherWeb
+  opened = opens.1.0
+
+  abbrev host : Host
+  host = host_at own mac
+
+  devices : OnDevices all opened new
+  devices = on_devices all opened old new opens.1.1 answered
+
+  pub f_frames : handed_of all ≡ web_frames_sent files own mac (moves_of all)
+  f_frames = frames_exact ghosts ether_link host (value_spec files) write_value own (first_numbers files) all opened devices.last opens.1.2.fresh devices.answers
+
+  pub f_stands : IsEther (λ d. EtherRepresents files own mac d (web_station_after files own mac (moves_of all))) new
+  f_stands =
+      let last : EtherWeb = devices.last in
+      let fresh = opens.1.2 in
+      let kept = same_kept ghosts ether_link host (value_spec files) write_value own (first_numbers files) all opened last fresh.fresh devices.answers in (
+        last,
+        devices.is,
+        record {
+          files_are = ap (λ (site : SiteContent). files_of site) kept ∙ fresh.files_are;
+          station = device_stands ghosts ether_link host (value_spec files) write_value own (first_numbers files) all opened last fresh.fresh devices.answers;
+        },
+      )
+
+module _ (site : SiteContent) (loaded : IsLoaded site) (image : All IsByte site.image) (sound : HasSoundScripts word_calls (files_of site)) (own : Addr) (is : IsAddr own) (mac : Mac) where
+  pub f_keeps : (all : List Answered) → All IsOfBytes (moves_of all) → (closed old new : Kept) → OpensEtherAs (files_of site) own mac closed old
+      → DidFrames all old new → FramesConform (ether_frames (host_at own mac)) (value_pages (files_of site)) is_served own all
+  f_keeps all bytes closed old new opens did =
+      let files : List File = files_of site in
+      let on : OnDevices all opens.1.0 new = on_devices all opens.1.0 old new opens.1.1 did in
+      keeps_frames ghosts ether_link (host_at own mac) (value_spec files) write_value own (value_pages files) (keeps_page_laws_by words words_short site loaded sound)
+      (λ heard captures are. made_of_bytes_by words words_bytes site image heard captures are)
+      written_words (ether_brings_bytes (host_at own mac)) (first_numbers files) (first_words files) is all bytes opens.1.0 on.last opens.1.2.fresh on.answers

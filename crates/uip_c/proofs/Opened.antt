@@ -1,0 +1,39 @@
+-- What opening a device on Ethernet and setting a value in it give.
+use Rattle.std.proofs.Common.{◌≡◌, Bool, List, ℕ, refl, subst, sym}
+use Rattle.std.specs.Prelude.{true, false, if◌then◌else◌}
+use mir.Val.{bool_byte}
+use Rattle.file_tree.specs.Site.{files_of}
+use Rattle.uip_wire.specs.declared.addr.Addr.{Addr}
+use Rattle.ethernet_arp.specs.declared.mac.Mac.{Mac}
+use Rattle.frame_device.specs.FrameCalls.{ChangesNumbers, IsFresh}
+use Rattle.frame_device.specs.contracts.ether.EthernetFrames.TheImpl.{ghosts as ether_link}
+use Rattle.uip_device.specs.contracts.value_pages.ValuePagesApp.TheImpl.{ghosts}
+use Rattle.uip_device.specs.declared.device_web.DeviceWeb.{DeviceWeb}
+use Rattle.uip_device.specs.Devices.{ChangesNode}
+use Rattle.uip_device.specs.WebDevices.{IsFirstShared, IsOfImage, WebNode, first_numbers, value_spec, write_value}
+use Rattle.uip_c.specs.EtherWebs.{IsOpenedEther, host_at}
+use Rattle.uip_c.specs.Kept.{EtherWeb}
+
+pub opened_ether : (image : List ℕ) (own : Addr) (mac : Mac) (d : EtherWeb) (shared : DeviceWeb) → d.node.shared ≡ shared → IsFirstShared image shared
+    → IsFresh ghosts ether_link (host_at own mac) (value_spec (files_of shared.web.site)) (ghosts.numbers shared) own d → IsOpenedEther image own mac d
+opened_ether image own mac d shared same first fresh =
+    let numbered = subst (λ (l : List ℕ). IsFresh ghosts ether_link (host_at own mac) (value_spec (files_of shared.web.site)) l own d) first.numbers fresh in
+    record {
+      site = subst (λ (s : DeviceWeb). IsOfImage image s.web.site) (sym same) first.site;
+      fresh = record {
+        files_are = refl;
+        fresh = subst (λ (s : DeviceWeb). IsFresh ghosts ether_link (host_at own mac) (value_spec (files_of s.web.site)) (first_numbers (files_of s.web.site)) own d) (sym same) numbered;
+      };
+    }
+
+-- a value is set in the node of a device
+pub ether_given : (number : ℕ) (text : List ℕ) (d : EtherWeb) (node : WebNode) → ChangesNode ghosts (write_value number text) d.node node
+    → ChangesNumbers ghosts ether_link (write_value number text) d (record { frames = d.frames; node = node })
+ether_given number text d node changes = record {
+  kept = changes.kept;
+  each = λ k m own s here. record { stands = changes.stands m own s.node here.stands; acted = here.acted };
+}
+
+pub byte_of : (b : Bool) → bool_byte b ≡ (if b then 1 else 0)
+byte_of true = refl
+byte_of false = refl

@@ -1,0 +1,41 @@
+-- What a call over Ethernet does to what a handle keeps.
+use Rattle.std.specs.Prelude.{◌≡◌, ℕ, List, [], ◌∷◌}
+use Rattle.site_image.specs.Files.{File}
+use Rattle.uip_wire.specs.declared.addr.Addr.{Addr}
+use Rattle.ethernet_arp.specs.declared.mac.Mac.{Mac}
+use Rattle.frame_device.specs.FrameCalls.{Answered, AnswersFrame, DoesNothing, FrameCall, FrameMove, Gives, Makes}
+use Rattle.frame_device.specs.contracts.ether.EthernetFrames.TheImpl.{ghosts as ether_link}
+use Rattle.uip_device.specs.contracts.value_pages.ValuePagesApp.TheImpl.{ghosts}
+use Rattle.uip_c.specs.EtherWebs.{IsFreshEtherWeb}
+use Rattle.uip_c.specs.Handles.{HandleGives}
+use Rattle.uip_c.specs.Kept.{EtherWeb, IsEther, Kept, NoDevice, OnEther}
+
+-- There was no device, and there is a fresh one on Ethernet with these files at this address and hardware address.
+abbrev pub OpensEtherAs : List File → Addr → Mac → Kept → Kept → Type 0
+OpensEtherAs files own mac old new = (old ≡ NoDevice) × IsEther (IsFreshEtherWeb files own mac) new
+
+-- There was a device on Ethernet and there still is one, and the call wrote this frame, or no bytes.
+pub record EtherAnswers (call : FrameCall) (old new : Kept) (handed : List ℕ) : Type 0 where
+  pub before : EtherWeb
+  pub after : EtherWeb
+  pub was : old ≡ OnEther before
+  pub is : new ≡ OnEther after
+  pub answers : AnswersFrame ghosts ether_link call before after handed
+
+-- What a move did, by the clauses of its call. A call that was refused or that only read left the handle unchanged. Such a call, and one
+-- that set a value, wrote nothing.
+abbrev pub DidFrame : FrameMove → Kept → Kept → List ℕ → Type 0
+DidFrame (Makes DoesNothing) old new handed = (new ≡ old) × (handed ≡ [])
+DidFrame (Makes call) old new handed = EtherAnswers call old new handed
+DidFrame (Gives number text) old new handed = HandleGives number text old new × (handed ≡ [])
+
+-- Moves one after the other, on a handle that nothing else touches.
+abbrev pub DidFrames : List Answered → Kept → Kept → Type 0
+DidFrames [] a c = a ≡ c
+DidFrames (it ∷ all) a c = (b : Kept) × DidFrame it.move a b it.handed × DidFrames all b c
+
+-- P holds for every handle that was just opened on Ethernet, after any moves on it.
+abbrev pub OfFrameMoves : (List File → Addr → Mac → List Answered → Kept → Type 0) → Type 0
+OfFrameMoves P =
+    (files : List File) (own : Addr) (mac : Mac) (all : List Answered) (closed old new : Kept) → OpensEtherAs files own mac closed old
+    → DidFrames all old new → P files own mac all new

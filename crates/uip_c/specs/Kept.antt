@@ -1,0 +1,47 @@
+-- What a handle keeps: a device for a line or on Ethernet, or none.
+use Rattle.std.specs.Prelude.{◌≡◌, ℕ, Bool, true, false}
+use Rattle.std.specs.declared.option.Option.{Option}
+use Rattle.std.specs.declared.option.Option.TheVariants.{None, Some}
+use Rattle.uip_device.specs.WebDevices.{WebDevice, WebNode}
+use Rattle.uip_device.specs.declared.device_web.DeviceWeb.{DeviceWeb}
+use Rattle.uip_device.specs.declared.value_pages.ValuePages.{ValuePages}
+use Rattle.frame_device.specs.declared.device.FrameDevice.{FrameDevice}
+use Rattle.frame_device.specs.declared.ether.Ethernet.{Ethernet}
+
+-- a device on Ethernet with the web server of a site
+abbrev pub EtherWeb : Type 0
+EtherWeb = FrameDevice ValuePages Ethernet DeviceWeb
+
+-- `OnLine`: for a serial line or a link that carries datagrams.
+pub data Kept : Type 0 where
+  NoDevice : Kept
+  OnLine : WebDevice → Kept
+  OnEther : EtherWeb → Kept
+
+abbrev pub is_on_line : Kept → Bool
+is_on_line (OnLine d) = true
+is_on_line _ = false
+
+abbrev pub is_on_ether : Kept → Bool
+is_on_ether (OnEther d) = true
+is_on_ether _ = false
+
+abbrev pub has_device : Kept → Bool
+has_device NoDevice = false
+has_device _ = true
+
+-- the node of the device
+abbrev pub node_in : Kept → Option WebNode
+node_in NoDevice = None
+node_in (OnLine d) = Some d.node
+node_in (OnEther d) = Some d.node
+
+-- There is a device for a line, or on Ethernet, and P holds of it; there is a device, and P holds of its node.
+abbrev pub IsLine : (WebDevice → Type 0) → Kept → Type 0
+IsLine P kept = (d : WebDevice) × (kept ≡ OnLine d) × P d
+
+abbrev pub IsEther : (EtherWeb → Type 0) → Kept → Type 0
+IsEther P kept = (d : EtherWeb) × (kept ≡ OnEther d) × P d
+
+abbrev pub HasNode : (WebNode → Type 0) → Kept → Type 0
+HasNode P kept = (node : WebNode) × (node_in kept ≡ Some node) × P node

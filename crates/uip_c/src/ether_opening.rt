@@ -1,0 +1,68 @@
+//! Opening a device on Ethernet.
+
+ghost use Rattle.std.specs.Prelude.{◌≡◌, ◌==◌, ◌⊎◌, replicate};
+ghost use Rattle.uip_c.specs.EtherWebs.{OpensEtherWeb};
+ghost use Rattle.uip_c.specs.Kept.{has_device};
+ghost use Rattle.uip_c.specs.Opening.{OpensEther, TellsFault};
+
+use crate::handle::{UipDevice, put_ether};
+use crate::held::EtherWeb;
+use crate::opening::{UipOpened, bad_site, plain};
+use crate::status::{BAD_IMAGE, HAS_DEVICE, NO_MEMORY, OK};
+use ethernet_arp::Mac;
+use frame_device::{Ethernet, FrameDevice};
+use std::alloc::Global;
+use uip_device::{OpenFault, open_shared};
+use uip_edge::NoMemory;
+use uip_wire::Addr;
+
+/// Returns a device on Ethernet with the site of an image.
+fn open_ether(
+    alloc: Global,
+    image: &'static [u8],
+    own: Addr,
+    mac: Mac,
+) -> Result<EtherWeb, OpenFault>
+    ensures { OpensEtherWeb image.now own mac result }
+{
+    let shared = match open_shared(alloc, image) {
+        Ok(shared) => shared,
+        Err(fault) => return Err(fault),
+    };
+    match FrameDevice::new(alloc, own, Ethernet::new(own, mac), shared) {
+        Ok(device) => Ok(device),
+        Err(NoMemory) => Err(OpenFault::NoMemory),
+    }
+}
+
+/// Opens a device on Ethernet at an address and a hardware address, with the site of an image, which is read in place and not copied. It
+/// has learned no hardware address. No later call allocates memory (measured).
+#[unsafe(no_mangle)]
+pub extern "C" fn uip_open_ether(
+    alloc: Global,
+    device: &mut UipDevice,
+    image: &'static [u8],
+    own: &[u8; 4],
+    mac: &[u8; 6],
+) -> UipOpened
+    ensures known { (result.status ≡ OK) ⊎ (result.status ≡ HAS_DEVICE) ⊎ (result.status ≡ BAD_IMAGE) ⊎ (result.status ≡ NO_MEMORY) }
+    ensures fine { result.status ≡ OK → OpensEther image.now own.now mac.now device.old.held.device device.new.held.device }
+    ensures has_device { (result.status == HAS_DEVICE) ≡ has_device device.old.held.device }
+    ensures bad_site { result.status ≡ BAD_IMAGE → TellsFault image.now result.entry result.word }
+    ensures no_fault { (result.status ≡ BAD_IMAGE → ⊥) → (result.entry ≡ 0) × (result.word ≡ replicate 8 0) }
+    ensures refused { (result.status ≡ OK → ⊥) → device.new ≡ device.old }
+{
+    if device.is_open == 1 || device.is_open == 2 {
+        return plain(HAS_DEVICE);
+    }
+    let opened = match open_ether(alloc, image, Addr(*own), Mac(*mac)) {
+        Ok(opened) => opened,
+        Err(OpenFault::BadSite(error)) => return bad_site(error),
+        Err(OpenFault::NoMemory) => return plain(NO_MEMORY),
+    };
+    let Ok(opened) = Box::new(alloc, opened) else {
+        return plain(NO_MEMORY);
+    };
+    put_ether(device, opened);
+    plain(OK)
+}

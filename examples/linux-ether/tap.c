@@ -1,0 +1,91 @@
+// A site on Ethernet: a TAP interface of Linux in place of a network card. The frames come and go as a controller has them.
+//
+//     uip_tap IMAGE INTERFACE SECONDS      serves the site at 10.0.0.1 for that many seconds, and prints what passed
+#include <fcntl.h>
+#include <linux/if.h>
+#include <linux/if_tun.h>
+#include <poll.h>
+#include <stdio.h>
+#include <stdlib.h>
+#include <string.h>
+#include <sys/ioctl.h>
+#include <time.h>
+#include <unistd.h>
+#include "uip.h"
+
+extern size_t heap_blocks;    // of the heap: how many blocks are not freed
+
+static unsigned char image[1 << 20], frame[UIP_MAX_FRAME];
+static uip_device device = UIP_INIT;
+static unsigned long received, sent;
+static int tap;
+
+static void fail(const char *what) {
+    perror(what);
+    exit(1);
+}
+
+static double seconds(void) {
+    struct timespec now;
+    clock_gettime(CLOCK_MONOTONIC, &now);
+    return (double)now.tv_sec + (double)now.tv_nsec / 1e9;
+}
+
+// Attaches this program to the interface.
+static int open_tap(const char *name) {
+    struct ifreq request;
+    int descriptor = open("/dev/net/tun", O_RDWR);
+    if (descriptor < 0) fail("/dev/net/tun");
+    memset(&request, 0, sizeof request);
+    strncpy(request.ifr_name, name, IFNAMSIZ - 1);
+    request.ifr_flags = IFF_TAP | IFF_NO_PI;
+    if (ioctl(descriptor, TUNSETIFF, &request) < 0) fail(name);
+    return descriptor;
+}
+
+// Sends the frame that a call wrote.
+static void send_frame(uip_result done) {
+    if (done.status != UIP_OK) {
+        fprintf(stderr, "a call returned status %u\n", done.status);
+        exit(1);
+    }
+    if (!done.written) return;
+    if (write(tap, frame, done.written) != (ssize_t)done.written) fail("write");
+    sent++;
+}
+
+// Waits for a frame until this time, and passes it to the device.
+static void receive_until(double time) {
+    struct pollfd ready = {tap, POLLIN, 0};
+    double left = time - seconds();
+    if (poll(&ready, 1, left > 0 ? (int)(left * 1000) + 1 : 0) <= 0) return;
+    ssize_t len = read(tap, frame, sizeof frame);
+    if (len < 0) fail("read");
+    received++;
+    send_frame(uip_input_frame(&device, frame, sizeof frame, (size_t)len));
+}
+
+int main(int argc, char **argv) {
+    static const unsigned char own[4] = {10, 0, 0, 1}, mac[6] = {2, 0, 0, 0, 0, 1};
+    FILE *file = argc == 4 ? fopen(argv[1], "rb") : 0;
+    if (!file) fail("uip_tap IMAGE INTERFACE SECONDS");
+    size_t len = fread(image, 1, sizeof image, file);
+    uip_opened opened = uip_open_ether(&device, image, len, own, mac);
+    if (opened.status != UIP_OK) {
+        fprintf(stderr, "uip_open_ether returned status %u %s %u\n", opened.status, opened.word, opened.entry);
+        return 1;
+    }
+    size_t blocks = heap_blocks;
+    tap = open_tap(argv[2]);
+    double tick = seconds() + 0.5, end = seconds() + atof(argv[3]);
+    while (seconds() < end) {
+        receive_until(tick);
+        if (seconds() < tick) continue;
+        tick += 0.5;
+        for (size_t slot = 0; slot < UIP_SLOTS; slot++) send_frame(uip_periodic_frame(&device, slot, frame, sizeof frame));
+    }
+    unsigned again = uip_counter(&device, UIP_RETRANSMISSIONS).number;
+    if (heap_blocks != blocks) fprintf(stderr, "a call allocated memory\n");
+    printf("frames received: %lu, sent: %lu; retransmissions: %u; blocks: %zu\n", received, sent, again, blocks);
+    return uip_close(&device) != UIP_OK || heap_blocks != 0;
+}
