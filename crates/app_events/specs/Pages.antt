@@ -62,6 +62,7 @@ MayWant pages p Close = (pages.whole p.delivered p.captures ≡ true) × (p.acke
 MayWant pages p Nothing = Unit {0}
 MayWant pages p Abort = Unit {0}
 
+-- The output of the application is a page: a function of the delivered input and the snapshots. Each call changes the state as stated.
 pub record IsPaged (m : AppSpec) (pages : Pages) : Type 0 where
   -- More input and more snapshots only extend a page, and leave a complete one unchanged. A page is shorter than 2^30 bytes.
   pub grows : (q more : List ℕ) (k later : List Snapshot) → IsPrefixOf (pages.text q k) (pages.text (q ++ more) (k ++ later))

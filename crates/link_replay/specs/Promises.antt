@@ -7,7 +7,6 @@ use Rattle.link_world.specs.Headline.{IsServed, MarksRepeats, RepeatsSameBytes, 
 
 -- Each client without a stale delivery has received a prefix of its page, and the whole page if it saw a normal close. A retransmission is
 -- marked and has the same bytes as the first sending; every retransmission is marked. An expired timer sends in its tick, at every node.
--- No step of the node allocates: `input` and `periodic` return what is sent, or nothing, and have no result for out of memory.
 pub record KeepsPromises (files : List File) (w : World) : Type 0 where
   pub pages : (k : ℕ) (side : Side) → slice_get w.sides k ≡ Some side → is_clean side ≡ true → IsServed (pages_of files) w side
   pub same_bytes : RepeatsSameBytes w

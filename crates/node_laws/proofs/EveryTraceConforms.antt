@@ -98,7 +98,7 @@ module _ (m : AppSpec) (pages : Pages) (lawful : IsPaged m pages) where
 
   pub paged_everywhere : HasOutputModel m (at_every_port pages)
   paged_everywhere port = record {
-    told = record {
+    follows = record {
       grows = lawful.grows;
       stays = lawful.stays;
       stays_whole = lawful.stays_whole;

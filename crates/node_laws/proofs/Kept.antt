@@ -27,21 +27,21 @@ Unended incarnation = HasEnded incarnation → ⊥
 pub record Kept (model : OutputModel) (incarnation : List Exchange) : Type 0 where
   pub account : Account
   pub begins : Begins incarnation account
-  pub taken : IsAcceptedText account.irs incarnation account.text account.ended
+  pub taken : IsAcceptedText account.irs incarnation account.accepted account.ended
   pub snapshots : All IsSnapshot account.captures
   pub sent : IsReceived account.iss incarnation account.sent
   pub says : (k : ℕ) (x : Exchange) (s : PlainSegment) → slice_get incarnation k ≡ Some x → x.output ≡ Some s → SendsSlice account.iss account.sent s
   pub short : (k : ℕ) (x : Exchange) (s : PlainSegment) → slice_get incarnation k ≡ Some x → x.output ≡ Some s → length s.text ≤ first_mss account.peer_mss
   pub acknowledges : (k : ℕ) (x : Exchange) (s : PlainSegment) → slice_get incarnation k ≡ Some x → x.output ≡ Some s → has_rst s.flags ≡ false
-      → Acknowledges account.irs (drop k incarnation) account.text s
+      → Acknowledges account.irs (drop k incarnation) account.accepted s
   pub same : length account.sent < 1073741824 → (i j : ℕ) (x y : Exchange) (s t : PlainSegment) → i < j → slice_get incarnation i ≡ Some x
       → slice_get incarnation j ≡ Some y → x.output ≡ Some s → y.output ≡ Some t → occupies_sequence_space s ≡ true → occupies_sequence_space t ≡ true → s.seq ≡ t.seq → Alike t s
   pub one : (i j : ℕ) (x y : Exchange) (s t : PlainSegment) → i < j → slice_get incarnation i ≡ Some x → slice_get incarnation j ≡ Some y
       → x.output ≡ Some s → y.output ≡ Some t → occupies_sequence_space s ≡ true → occupies_sequence_space t ≡ true → (s.seq ≡ t.seq → ⊥) → IsAcknowledged incarnation i j t
-  pub of_page : IsTold model (HasEnded incarnation) account.text account.captures account.sent
+  pub of_page : IsTold model (HasEnded incarnation) account.accepted account.captures account.sent
 
 pub grows_refl : (a : Account) → IsExtendedBy a a
-grows_refl a = record { irs = refl; iss = refl; peer_mss = refl; text = prefix_refl a.text; ended = λ e. e; captures = ([], append_nothing a.captures); sent = prefix_refl a.sent }
+grows_refl a = record { irs = refl; iss = refl; peer_mss = refl; accepted = prefix_refl a.accepted; ended = λ e. e; captures = ([], append_nothing a.captures); sent = prefix_refl a.sent }
 
 -- the exchange in which something was sent
 pub record SaidIn (incarnation : List Exchange) (k : ℕ) (s : PlainSegment) : Type 0 where

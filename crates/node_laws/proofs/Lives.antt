@@ -41,7 +41,7 @@ use Rattle.uip_node.proofs.SoundSegments.{LensWithin, asked_within, on_segment_w
 use Rattle.node_laws.proofs.Lines.{OfMedium, met, left_of}
 use Rattle.node_laws.proofs.Lines.OfMedium.{passes_by, evicted, unanswered, refused, born, hears, ticks}
 
-begins_on : (x : Exchange) (incarnation : List Exchange) (a : Account) (text : List ℕ) (ended : Bool) (captures : List Snapshot) (sent : List ℕ) → Begins incarnation a → Begins (x ∷ incarnation) (record a { text = text; ended = ended; captures = captures; sent = sent })
+begins_on : (x : Exchange) (incarnation : List Exchange) (a : Account) (text : List ℕ) (ended : Bool) (captures : List Snapshot) (sent : List ℕ) → Begins incarnation a → Begins (x ∷ incarnation) (record a { accepted = text; ended = ended; captures = captures; sent = sent })
 begins_on x [] a text ended captures sent h = absurd h
 begins_on x (y ∷ []) a text ended captures sent h = record { syn = h.syn; received = h.received; plain = h.plain; number = h.number; mss = h.mss; answer = h.answer; output = h.output; seq = h.seq; acks = h.acks }
 begins_on x (y ∷ z ∷ older) a text ended captures sent h = begins_on y (z ∷ older) a text ended captures sent h
@@ -113,7 +113,7 @@ module _ (m : AppSpec) (steady : IsSteady m) (port : ℕ) (model : OutputModel) 
     pub first_is : c.iss ≡ a.iss
     pub peer_is : c.irs ≡ a.irs
     pub captures_are : c.part.captures ≡ a.captures
-    pub page : PageIn incarnation c a.text a.ended a.sent
+    pub page : PageIn incarnation c a.accepted a.ended a.sent
     pub safe : SafeIn c
     pub fit : FitConn c
     pub within : LensWithin (first_mss a.peer_mss) c
@@ -160,7 +160,7 @@ module _ (m : AppSpec) (steady : IsSteady m) (port : ℕ) (model : OutputModel) 
     first_is = l.first_is;
     peer_is = l.peer_is;
     captures_are = l.captures_are;
-    page = record { at = unended_page incarnation incarnation' c c.state a.text a.ended a.sent (λ z. u) l.page.at; taken = l.page.taken };
+    page = record { at = unended_page incarnation incarnation' c c.state a.accepted a.ended a.sent (λ z. u) l.page.at; taken = l.page.taken };
     safe = l.safe;
     fit = l.fit;
     within = l.within;
@@ -171,7 +171,7 @@ module _ (m : AppSpec) (steady : IsSteady m) (port : ℕ) (model : OutputModel) 
   module _ (x : Exchange) (incarnation : List Exchange) (k : Kept model incarnation) (now : List ℕ) (over : Bool) (captures : List Snapshot) (sent : List ℕ)
       (taken : IsAcceptedText k.account.irs (x ∷ incarnation) now over)
       (snapshots : All IsSnapshot captures)
-      (prefix : IsPrefixOf k.account.text now)
+      (prefix : IsPrefixOf k.account.accepted now)
       (longer_sent : IsPrefixOf k.account.sent sent)
       (is_received : IsReceived k.account.iss (x ∷ incarnation) sent)
       (grows : (i : ℕ) (y : Exchange) (s : PlainSegment) → slice_get incarnation i ≡ Some y → y.output ≡ Some s → SendsSlice k.account.iss sent s)
@@ -194,7 +194,7 @@ module _ (m : AppSpec) (steady : IsSteady m) (port : ℕ) (model : OutputModel) 
 
     acks_on : (i : ℕ) (y : Exchange) (s : PlainSegment) → slice_get (x ∷ incarnation) i ≡ Some y → y.output ≡ Some s → has_rst s.flags ≡ false → Acknowledges k.account.irs (drop i (x ∷ incarnation)) now s
     acks_on zero y s g h r = acks s (said_is y s g h) r
-    acks_on (suc i) y s g h r = (let a = k.acknowledges i y s g h r in record { taken = a.taken; ended = a.ended; is = a.is; prefix = prefix_trans a.taken k.account.text now a.prefix prefix; ack = a.ack })
+    acks_on (suc i) y s g h r = (let a = k.acknowledges i y s g h r in record { taken = a.taken; ended = a.ended; is = a.is; prefix = prefix_trans a.taken k.account.accepted now a.prefix prefix; ack = a.ack })
 
     short_before : length sent < 1073741824 → length k.account.sent < 1073741824
     short_before l = omega (arith, l, prefix_length k.account.sent sent longer_sent)
@@ -211,7 +211,7 @@ module _ (m : AppSpec) (steady : IsSteady m) (port : ℕ) (model : OutputModel) 
 
     abbrev longer : Kept model (x ∷ incarnation)
     longer = record {
-      account = record k.account { text = now; ended = over; captures = captures; sent = sent };
+      account = record k.account { accepted = now; ended = over; captures = captures; sent = sent };
       begins = begins_on x incarnation k.account now over captures sent k.begins;
       taken = taken;
       snapshots = snapshots;
@@ -232,7 +232,7 @@ module _ (m : AppSpec) (steady : IsSteady m) (port : ℕ) (model : OutputModel) 
     unplaced : (s : PlainSegment) → x.output ≡ Some s → occupies_sequence_space s ≡ true → ⊥
     unplaced s e p = let z : occupies_sequence_space s ≡ false = (resets s e).1 in cc
 
-    no_acks : (s : PlainSegment) → x.output ≡ Some s → has_rst s.flags ≡ false → Acknowledges g.kept.account.irs (x ∷ incarnation) g.kept.account.text s
+    no_acks : (s : PlainSegment) → x.output ≡ Some s → has_rst s.flags ≡ false → Acknowledges g.kept.account.irs (x ∷ incarnation) g.kept.account.accepted s
     no_acks s e r = absurd (let z : has_rst s.flags ≡ true = (resets s e).2 in cc)
 
     no_fin : (s : PlainSegment) → x.output ≡ Some s → has_fin s.flags ≡ true → ⊥
@@ -244,14 +244,14 @@ module _ (m : AppSpec) (steady : IsSteady m) (port : ℕ) (model : OutputModel) 
     abbrev still_kept : Kept model (x ∷ incarnation)
     still_kept =
         let k : Kept model incarnation = g.kept in
-        longer x incarnation k k.account.text k.account.ended k.account.captures k.account.sent (inl k.taken) k.snapshots (prefix_refl k.account.text) (prefix_refl k.account.sent)
+        longer x incarnation k k.account.accepted k.account.ended k.account.captures k.account.sent (inl k.taken) k.snapshots (prefix_refl k.account.accepted) (prefix_refl k.account.sent)
         (received_on k.account.iss x incarnation k.account.sent k.sent) k.says
         (λ s e. bare_says k.account.iss _ s (bare s (resets s e).1))
         (λ s e. bare_short (first_mss k.account.peer_mss) s (bare s (resets s e).1))
         no_acks
         (λ few s j y t e h q a b u. absurd (unplaced s e a))
         (λ s j y t e h q a b u. absurd (unplaced s e a))
-        (told_where model (HasEnded incarnation) (HasEnded (x ∷ incarnation)) ended_before k.account.text k.account.captures k.account.sent k.of_page)
+        (told_where model (HasEnded incarnation) (HasEnded (x ∷ incarnation)) ended_before k.account.accepted k.account.captures k.account.sent k.of_page)
 
     still_placed : is_live c'.state ≡ true → (i : ℕ) (y : Exchange) (s : PlainSegment) → slice_get (x ∷ incarnation) i ≡ Some y → y.output ≡ Some s → occupies_sequence_space s ≡ true → Passed (x ∷ incarnation) i c' s ⊎ DueIn c' s
     still_placed l zero y s h e p = absurd (let w : x.output ≡ Some s = only_some (λ z. z.output ≡ Some s → x.output ≡ Some s) x y h (λ q. q) e in let z : occupies_sequence_space s ≡ false = (resets s w).1 in cc)
@@ -358,7 +358,7 @@ module _ (m : AppSpec) (steady : IsSteady m) (port : ℕ) (model : OutputModel) 
     pub exact : segment.ack ≡ wrap (snd_una c + c.len)
 
   module _ (c c' : Connection) (o : Outcome) (received : Option PlainSegment) (acked : Bool) (incarnation : List Exchange) (g : Good c incarnation) (alive : is_live c.state ≡ true) (fit : FitConn o.connection)
-      (sp : Spoke m port model laws (Unended incarnation) received c g.kept.account.text g.kept.account.ended g.kept.account.sent o)
+      (sp : Spoke m port model laws (Unended incarnation) received c g.kept.account.accepted g.kept.account.ended g.kept.account.sent o)
       (tells : StepTells m steady AnyLength any_length c o.connection (segment_of m o.connection o.step) (is_again o.step))
       (moves : Moves acked c o.connection)
       (hears_ack : acked ≡ true → Acks received c)
@@ -378,24 +378,24 @@ module _ (m : AppSpec) (steady : IsSteady m) (port : ℕ) (model : OutputModel) 
     abbrev a : Account
     a = g.kept.account
 
-    abbrev w : Moved m port model laws (Unended incarnation) received c a.text a.ended sp.sent_now d
+    abbrev w : Moved m port model laws (Unended incarnation) received c a.accepted a.ended sp.sent_now d
     w = sp.moved
 
     lv : Live incarnation a c
     lv = g.live alive
 
-    read : Reading received a.irs a.text a.ended w.now w.over
-    read = subst (λ n. Reading received n a.text a.ended w.now w.over) lv.peer_is w.read
+    read : Reading received a.irs a.accepted a.ended w.now w.over
+    read = subst (λ n. Reading received n a.accepted a.ended w.now w.over) lv.peer_is w.read
 
     step_taken : IsAcceptedText a.irs (x ∷ incarnation) w.now w.over
     step_taken = elim read [
-      | inl q ↦ inl (subst (λ z. IsAcceptedText a.irs incarnation z w.over) (sym q.0) (subst (λ z. IsAcceptedText a.irs incarnation a.text z) (sym q.1) g.kept.taken))
-      | inr r ↦ inr record { segment = r.segment; received = r.is; taken = a.text; before = subst (λ z. IsAcceptedText a.irs incarnation a.text z) r.unended g.kept.taken; seq = r.seq; joined = r.joined; fin = r.fin }
+      | inl q ↦ inl (subst (λ z. IsAcceptedText a.irs incarnation z w.over) (sym q.0) (subst (λ z. IsAcceptedText a.irs incarnation a.accepted z) (sym q.1) g.kept.taken))
+      | inr r ↦ inr record { segment = r.segment; received = r.is; taken = a.accepted; before = subst (λ z. IsAcceptedText a.irs incarnation a.accepted z) r.unended g.kept.taken; seq = r.seq; joined = r.joined; fin = r.fin }
     ]
 
-    step_prefix : IsPrefixOf a.text w.now
+    step_prefix : IsPrefixOf a.accepted w.now
     step_prefix = elim read [
-      | inl q ↦ record { rest = []; joined = append_nothing a.text ∙ sym q.0 }
+      | inl q ↦ record { rest = []; joined = append_nothing a.accepted ∙ sym q.0 }
       | inr r ↦ record { rest = r.segment.text; joined = sym r.joined }
     ]
 
@@ -470,8 +470,8 @@ module _ (m : AppSpec) (steady : IsSteady m) (port : ℕ) (model : OutputModel) 
           | inl q ↦ subst (λ z. IsTold model (HasEnded (x ∷ incarnation)) w.now d.part.captures z) (sym q)
               (subst (λ z. IsTold model (HasEnded (x ∷ incarnation)) w.now z a.sent) captures_on
               (subst (λ z. IsTold model (HasEnded (x ∷ incarnation)) z (a.captures ++ w.more) a.sent) step_prefix.joined
-              (told_where model (HasEnded incarnation) (HasEnded (x ∷ incarnation)) before (a.text ++ step_prefix.rest) (a.captures ++ w.more) a.sent
-              (told_on m port model laws (HasEnded incarnation) a.text step_prefix.rest a.captures w.more a.sent g.kept.of_page))))
+              (told_where model (HasEnded incarnation) (HasEnded (x ∷ incarnation)) before (a.accepted ++ step_prefix.rest) (a.captures ++ w.more) a.sent
+              (told_on m port model laws (HasEnded incarnation) a.accepted step_prefix.rest a.captures w.more a.sent g.kept.of_page))))
           | inr n ↦ told_where model ⊥ (HasEnded (x ∷ incarnation)) (λ h. n.unended (before h)) w.now d.part.captures sp.sent_now n.of_page
         ]
 
@@ -540,7 +540,7 @@ module _ (m : AppSpec) (steady : IsSteady m) (port : ℕ) (model : OutputModel) 
     abbrev step_good : Good c' (x ∷ incarnation)
     step_good = record {
       kept = longer x incarnation g.kept w.now w.over d.part.captures sp.sent_now step_taken fit.captures step_prefix more_sent step_received older_says step_says short step_acks step_same step_one step_of_page;
-      live = λ l. subst (λ z. Live (x ∷ incarnation) (record a { text = w.now; ended = w.over; captures = d.part.captures; sent = sp.sent_now }) z) (sym (left l).1)
+      live = λ l. subst (λ z. Live (x ∷ incarnation) (record a { accepted = w.now; ended = w.over; captures = d.part.captures; sent = sp.sent_now }) z) (sym (left l).1)
           (let e : is_live d.state ≡ true = (left l).0 in
           record {
             first_is = first_on e;
@@ -555,7 +555,7 @@ module _ (m : AppSpec) (steady : IsSteady m) (port : ℕ) (model : OutputModel) 
     }
 
     pub on_step : Onward c incarnation g c' x
-    on_step = record { good = step_good; grew = record { irs = refl; iss = refl; peer_mss = refl; text = step_prefix; ended = step_ended; captures = (w.more, captures_on); sent = more_sent } }
+    on_step = record { good = step_good; grew = record { irs = refl; iss = refl; peer_mss = refl; accepted = step_prefix; ended = step_ended; captures = (w.more, captures_on); sent = more_sent } }
 
   -- ---- it begins
 
@@ -599,7 +599,7 @@ module _ (m : AppSpec) (steady : IsSteady m) (port : ℕ) (model : OutputModel) 
       let only : (k : ℕ) (y : Exchange) (t : PlainSegment) → slice_get (x ∷ []) k ≡ Some y → y.output ≡ Some t → syn_ack c ≡ t = λ k y t h e. only_one k x y (syn_ack c) t h refl e in
       record {
         kept = record {
-          account = record { irs = s.seq; iss = iss; peer_mss = s.mss; text = []; ended = false; captures = []; sent = [] };
+          account = record { irs = s.seq; iss = iss; peer_mss = s.mss; accepted = []; ended = false; captures = []; sent = [] };
           begins = record { syn = s; received = refl; plain = ap has_syn (let q : s.flags ≡ SYN = eqb-eq s.flags SYN plain in q); number = refl; mss = refl; answer = syn_ack c; output = refl; seq = ap wrap (omega arith); acks = ap wrap (omega arith) };
           taken = inl (refl, refl);
           snapshots = all_nil IsSnapshot;
@@ -664,7 +664,7 @@ module _ (m : AppSpec) (steady : IsSteady m) (port : ℕ) (model : OutputModel) 
           subst (λ z. Onward c incarnation g d z) (sym h.0)
           (on_step c d oo (Some s) (not (has_rst s.flags) && is_acked c s) incarnation g alive
           (stepped_fits m steady AnyLength any_length at o is fo)
-          (segment_moved m port model laws (Unended incarnation) steady at c g.kept.account.text g.kept.account.ended g.kept.account.sent numbers s (g.live alive).page)
+          (segment_moved m port model laws (Unended incarnation) steady at c g.kept.account.accepted g.kept.account.ended g.kept.account.sent numbers s (g.live alive).page)
           (stepped_tells m steady AnyLength any_length at c o is fo (segment_tells m steady AnyLength any_length c numbers s safe))
           (asked_moves m (not (has_rst s.flags) && is_acked c s) c at o (segment_moves m c numbers s))
           (acks_of c s)
@@ -680,7 +680,7 @@ module _ (m : AppSpec) (steady : IsSteady m) (port : ℕ) (model : OutputModel) 
           subst (λ z. Onward c incarnation g d z) (sym h.0)
           (on_step c d oo None false incarnation g alive
           (stepped_fits m steady AnyLength any_length at o is fo)
-          (tick_moved m port model laws (Unended incarnation) steady at c g.kept.account.text g.kept.account.ended g.kept.account.sent numbers (g.live alive).page)
+          (tick_moved m port model laws (Unended incarnation) steady at c g.kept.account.accepted g.kept.account.ended g.kept.account.sent numbers (g.live alive).page)
           (stepped_tells m steady AnyLength any_length at c o is fo (tick_tells m steady AnyLength any_length c numbers safe))
           (asked_moves m false c at o (tick_moves m c numbers))
           (λ z. absurd (cc))

@@ -113,6 +113,6 @@ keeps_text m port (Interactive sessions) laws incarnation k = (
 keeps_text m port (Paged pages) laws incarnation k =
     let l : IsPagedAt m port pages = laws in
     let a : Account = k.account in
-    let prefix : IsPrefixOf a.sent (pages.text a.text a.captures) = k.of_page.0 in
-    let short : length a.sent < 1073741824 = omega (arith, l.short a.text a.captures k.snapshots, prefix_length a.sent (pages.text a.text a.captures) prefix) in
-    (of_page pages a.text incarnation a prefix k.of_page.1, numbers_tell (Paged pages) incarnation k short)
+    let prefix : IsPrefixOf a.sent (pages.text a.accepted a.captures) = k.of_page.0 in
+    let short : length a.sent < 1073741824 = omega (arith, l.short a.accepted a.captures k.snapshots, prefix_length a.sent (pages.text a.accepted a.captures) prefix) in
+    (of_page pages a.accepted incarnation a prefix k.of_page.1, numbers_tell (Paged pages) incarnation k short)

@@ -149,24 +149,24 @@ module _ (m : AppSpec) (port : ℕ) where
         )
 
   -- if every piece is delivered
-  heard_all : (pages : Pages) (l : IsPagedAt m port pages) (p : AppState) (text : List ℕ) → HeardOf pages l.told p text → p.delivered ≡ text
-  heard_all pages l p text h = elim (h.1) [ inl e ↦ e | inr g ↦ absurd (let z : l.told.lost p ≡ false = l.hears_all p in let y : l.told.lost p ≡ true = g.0 in cc) ]
+  heard_all : (pages : Pages) (l : IsPagedAt m port pages) (p : AppState) (text : List ℕ) → HeardOf pages l.follows p text → p.delivered ≡ text
+  heard_all pages l p text h = elim (h.1) [ inl e ↦ e | inr g ↦ absurd (let z : l.follows.lost p ≡ false = l.hears_all p in let y : l.follows.lost p ≡ true = g.0 in cc) ]
 
   -- this was delivered to a state of this port, or for a session a prefix of it
   abbrev pub IsOpen : (model : OutputModel) → SpeaksAt m port model → AppState → List ℕ → Type 0
-  IsOpen (Paged pages) laws p text = (let l : IsPagedAt m port pages = laws in HeardOf pages l.told p text)
+  IsOpen (Paged pages) laws p text = (let l : IsPagedAt m port pages = laws in HeardOf pages l.follows p text)
   IsOpen (Interactive sessions) laws p text = HeardOf sessions laws p text
   IsOpen Free laws p text = Unit {0}
 
   pub told_on : (model : OutputModel) → SpeaksAt m port model → (E : Type 0) (text more : List ℕ) (k later : List Snapshot) (sent : List ℕ) → IsTold model E text k sent → IsTold model E (text ++ more) (k ++ later) sent
-  told_on (Paged pages) laws E text more k later sent h = (let l : IsPagedAt m port pages = laws in text_on pages l.told E text more k later sent h)
+  told_on (Paged pages) laws E text more k later sent h = (let l : IsPagedAt m port pages = laws in text_on pages l.follows E text more k later sent h)
   told_on (Interactive sessions) laws E text more k later sent h =
       (let g : IsTextOf sessions E (h.0 ++ []) (k ++ later) sent = text_on sessions laws E h.0 [] k later sent h.2 in
       (h.0 ++ [], subst (λ z. IsPrefixOf z (text ++ more)) (sym (append_nothing h.0)) (prefix_on h.0 text more h.1), g))
   told_on Free laws E text more k later sent h = tt
 
   end_on : (model : OutputModel) → SpeaksAt m port model → (text more : List ℕ) (k later : List Snapshot) (sent : List ℕ) → IsEnd model text k sent → IsEnd model (text ++ more) (k ++ later) sent
-  end_on (Paged pages) laws text more k later sent h = (let l : IsPagedAt m port pages = laws in end_of_on pages l.told text more k later sent h)
+  end_on (Paged pages) laws text more k later sent h = (let l : IsPagedAt m port pages = laws in end_of_on pages l.follows text more k later sent h)
   end_on (Interactive sessions) laws text more k later sent h =
       (let g : IsEndOf sessions (h.0 ++ []) (k ++ later) sent = end_of_on sessions laws h.0 [] k later sent h.2 in
       (h.0 ++ [], subst (λ z. IsPrefixOf z (text ++ more)) (sym (append_nothing h.0)) (prefix_on h.0 text more h.1), g))
@@ -180,12 +180,12 @@ module _ (m : AppSpec) (port : ℕ) where
   -- ---- what a call leaves
 
   pub open_new : (model : OutputModel) (laws : SpeaksAt m port model) (numbers : List ℕ) → IsOpen model laws (m.connected numbers port).part []
-  open_new (Paged pages) laws numbers = (let l : IsPagedAt m port pages = laws in heard_new pages l.told numbers)
+  open_new (Paged pages) laws numbers = (let l : IsPagedAt m port pages = laws in heard_new pages l.follows numbers)
   open_new (Interactive sessions) laws numbers = heard_new sessions laws numbers
   open_new Free laws numbers = tt
 
   open_piece : (model : OutputModel) (laws : SpeaksAt m port model) (numbers : List ℕ) (p : AppState) (piece text : List ℕ) → IsOpen model laws p text → IsOpen model laws (m.newdata numbers p piece).part (text ++ piece)
-  open_piece (Paged pages) laws numbers p piece text h = (let l : IsPagedAt m port pages = laws in heard_piece pages l.told numbers p piece text h)
+  open_piece (Paged pages) laws numbers p piece text h = (let l : IsPagedAt m port pages = laws in heard_piece pages l.follows numbers p piece text h)
   open_piece (Interactive sessions) laws numbers p piece text h = heard_piece sessions laws numbers p piece text h
   open_piece Free laws numbers p piece text h = tt
 
@@ -195,21 +195,21 @@ module _ (m : AppSpec) (port : ℕ) where
 
   pub open_prepared : (model : OutputModel) (laws : SpeaksAt m port model) (numbers : List ℕ) (p : AppState) (now : Now) (text : List ℕ) → IsOpen model laws p text → IsOpen model laws (m.prepare numbers p now) text
   open_prepared (Paged pages) laws numbers p now text h =
-      (let l : IsPagedAt m port pages = laws in heard_left pages l.told p (m.prepare numbers p now) text (l.told.prepare numbers p now h.0) h)
+      (let l : IsPagedAt m port pages = laws in heard_left pages l.follows p (m.prepare numbers p now) text (l.follows.prepare numbers p now h.0) h)
   open_prepared (Interactive sessions) laws numbers p now text h =
       (let l : IsToldAt m port sessions = laws in heard_left sessions l p (m.prepare numbers p now) text (l.prepare numbers p now h.0) h)
   open_prepared Free laws numbers p now text h = tt
 
   pub open_acked : (model : OutputModel) (laws : SpeaksAt m port model) (numbers : List ℕ) (p : AppState) (n : ℕ) (text : List ℕ) → IsOpen model laws p text → IsOpen model laws (m.acked numbers p n).part text
   open_acked (Paged pages) laws numbers p n text h =
-      (let l : IsPagedAt m port pages = laws in heard_left pages l.told p (m.acked numbers p n).part text (l.told.acked numbers p n h.0) h)
+      (let l : IsPagedAt m port pages = laws in heard_left pages l.follows p (m.acked numbers p n).part text (l.follows.acked numbers p n h.0) h)
   open_acked (Interactive sessions) laws numbers p n text h =
       (let l : IsToldAt m port sessions = laws in heard_left sessions l p (m.acked numbers p n).part text (l.acked numbers p n h.0) h)
   open_acked Free laws numbers p n text h = tt
 
   pub open_polled : (model : OutputModel) (laws : SpeaksAt m port model) (numbers : List ℕ) (p : AppState) (text : List ℕ) → IsOpen model laws p text → IsOpen model laws (m.polled numbers p).part text
   open_polled (Paged pages) laws numbers p text h =
-      (let l : IsPagedAt m port pages = laws in heard_left pages l.told p (m.polled numbers p).part text (l.told.polled numbers p h.0) h)
+      (let l : IsPagedAt m port pages = laws in heard_left pages l.follows p (m.polled numbers p).part text (l.follows.polled numbers p h.0) h)
   open_polled (Interactive sessions) laws numbers p text h =
       (let l : IsToldAt m port sessions = laws in heard_left sessions l p (m.polled numbers p).part text (l.polled numbers p h.0) h)
   open_polled Free laws numbers p text h = tt
@@ -219,7 +219,7 @@ module _ (m : AppSpec) (port : ℕ) where
   pub told_said : (model : OutputModel) (laws : SpeaksAt m port model) (E : Type 0) → (E → ⊥) → (p : AppState) (text : List ℕ) (n : ℕ) → IsOpen model laws p text → IsTold model E text p.captures (take n (m.output p))
   told_said (Paged pages) laws E none p text n h =
       (let l : IsPagedAt m port pages = laws in
-      subst (λ z. IsTextOf pages E z p.captures (take n (m.output p))) (heard_all pages l p text h) (text_said pages l.told E none p n h.0))
+      subst (λ z. IsTextOf pages E z p.captures (take n (m.output p))) (heard_all pages l p text h) (text_said pages l.follows E none p n h.0))
   told_said (Interactive sessions) laws E none p text n h = (p.delivered, heard_prefix sessions laws p text h, text_said sessions laws E none p n h.0)
   told_said Free laws E none p text n h = tt
 
@@ -227,7 +227,7 @@ module _ (m : AppSpec) (port : ℕ) where
   pub end_said : (model : OutputModel) (laws : SpeaksAt m port model) (numbers : List ℕ) (p : AppState) (text : List ℕ) → IsOpen model laws p text → p.acked ≤ length (m.output p) → m.want numbers p ≡ Close → IsEnd model text p.captures (take p.acked (m.output p))
   end_said (Paged pages) laws numbers p text h fits e =
       (let l : IsPagedAt m port pages = laws in
-      subst (λ z. IsEndOf pages z p.captures (take p.acked (m.output p))) (heard_all pages l p text h) (end_of_said pages l.told numbers p h.0 fits e))
+      subst (λ z. IsEndOf pages z p.captures (take p.acked (m.output p))) (heard_all pages l p text h) (end_of_said pages l.follows numbers p h.0 fits e))
   end_said (Interactive sessions) laws numbers p text h fits e = (p.delivered, heard_prefix sessions laws p text h, end_of_said sessions laws numbers p h.0 fits e)
   end_said Free laws numbers p text h fits e = tt
 

@@ -76,8 +76,8 @@ cut_resend model k =
 
 -- what was sent is of a page of something that was taken
 of_some_page : (pages : Pages) (model : OutputModel) (incarnation : List Exchange) (a : Account) → SpeaksBy pages model → TextConforms model incarnation a
-    → (delivered : List ℕ) × IsPrefixOf delivered a.text × IsPrefixOfPage pages delivered incarnation a
-of_some_page pages model incarnation a (inl e) h = (let g : TextConforms (Paged pages) incarnation a = subst (λ z. TextConforms z incarnation a) e h in (a.text, prefix_refl a.text, g.0))
+    → (delivered : List ℕ) × IsPrefixOf delivered a.accepted × IsPrefixOfPage pages delivered incarnation a
+of_some_page pages model incarnation a (inl e) h = (let g : TextConforms (Paged pages) incarnation a = subst (λ z. TextConforms z incarnation a) e h in (a.accepted, prefix_refl a.accepted, g.0))
 of_some_page pages model incarnation a (inr e) h = (let g : TextConforms (Interactive pages) incarnation a = subst (λ z. TextConforms z incarnation a) e h in g.0)
 
 early_fin : (model : OutputModel) → SpeaksBy hello_pages model → IncarnationConforms model ends_early → ⊥
@@ -155,8 +155,8 @@ other_page model by k =
     let t = (g.says 0 _ refl).bytes (omega arith) in
     let h = of_some_page mirror_pages model tells_another (k.account 0) by (k.tells 0 (omega arith)) in
     let m = prefix_length (k.account 0).sent h.0 h.2.prefix in
-    let o = prefix_length h.0 (k.account 0).text h.1 in
-    let l : length (k.account 0).text ≡ 0 = ap length (nothing_taken (k.account 0).irs (k.account 0).text (k.account 0).ended n.irs g.taken) in
+    let o = prefix_length h.0 (k.account 0).accepted h.1 in
+    let l : length (k.account 0).accepted ≡ 0 = ap length (nothing_taken (k.account 0).irs (k.account 0).accepted (k.account 0).ended n.irs g.taken) in
     let f : t.at + 1 ≤ length (k.account 0).sent = t.slice.fits in
     omega (arith, l, m, o, f)
 

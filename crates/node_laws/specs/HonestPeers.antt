@@ -96,15 +96,15 @@ IsHonest a (x ∷ y ∷ older) = (IsWaitedFor x ⊎ SendsNext a x (y ∷ older))
 -- the number of calls of a slot in this trace
 abbrev pub calls_of : ℕ → List TraceEntry → ℕ
 calls_of slot [] = 0
-calls_of slot (t ∷ turns) = if option_map_or (λ place. place == slot) (called_by t.event) false then calls_of slot turns + 1 else calls_of slot turns
+calls_of slot (t ∷ trace) = if option_map_or (λ place. place == slot) (called_by t.event) false then calls_of slot trace + 1 else calls_of slot trace
 
 -- An incarnation of a cooperating peer in this trace. Its whole request is received before any slot is called more often than the patience
 -- of the application.
-pub record AsksHonestly (a : Asker) (p : Sockets) (patience : ℕ) (turns incarnation : List TraceEntry) : Type 0 where
+pub record AsksHonestly (a : Asker) (p : Sockets) (patience : ℕ) (trace incarnation : List TraceEntry) : Type 0 where
   pub before : List TraceEntry
   pub asking : List TraceEntry
   pub later : List TraceEntry
-  pub split : turns ≡ before ++ incarnation
+  pub split : trace ≡ before ++ incarnation
   pub joined : incarnation ≡ asking ++ later
   pub honest : IsHonest a (exchanges_with p incarnation)
   pub whole : text_received (exchanges_with p asking) ≡ a.request

@@ -13,13 +13,13 @@ use Rattle.uip_node.specs.Laws.{Alike, IsSlice}
 use Rattle.node_laws.specs.Traces.{Exchange, sent_at, received_at}
 use Rattle.node_laws.specs.Receivers.{IsReceived, EndsAfter}
 
--- The account of an incarnation. `peer_mss` is the MSS option of the peer's SYN. `text` is the text accepted from the peer, and `ended`
--- whether its FIN was accepted. `captures` are the snapshots captured, and `sent` is the text sent.
+-- The account of an incarnation. `peer_mss` is the MSS option of the peer's SYN. `accepted` is the text accepted from the peer, and
+-- `ended` whether its FIN was accepted. `captures` are the snapshots captured, and `sent` is the text sent.
 pub record Account : Type 0 where
   pub irs : ℕ
   pub iss : ℕ
   pub peer_mss : Option ℕ
-  pub text : List ℕ
+  pub accepted : List ℕ
   pub ended : Bool
   pub captures : List Snapshot
   pub sent : List ℕ
@@ -72,10 +72,10 @@ pub record IsAtOffset (iss : ℕ) (text : List ℕ) (s : PlainSegment) : Type 0 
 
 -- A segment sends a slice of a text. A SYN has the ISS as its number, and no data. Data is a slice at the offset that the number gives. A
 -- FIN has no data, and its number follows the whole text.
-pub record SendsSlice (iss : ℕ) (text : List ℕ) (s : PlainSegment) : Type 0 where
+pub record SendsSlice (iss : ℕ) (sent : List ℕ) (s : PlainSegment) : Type 0 where
   pub syn : has_syn s.flags ≡ true → (s.seq ≡ wrap iss) × (s.text ≡ [])
-  pub bytes : 0 < length s.text → IsAtOffset iss text s
-  pub fin : has_fin s.flags ≡ true → (s.text ≡ []) × (s.seq ≡ wrap (iss + 1 + length text))
+  pub bytes : 0 < length s.text → IsAtOffset iss sent s
+  pub fin : has_fin s.flags ≡ true → (s.text ≡ []) × (s.seq ≡ wrap (iss + 1 + length sent))
 
 -- The segment acknowledges some selection accepted up to this exchange, its own received segment included. The selection is a prefix of
 -- the accepted text.
@@ -107,13 +107,13 @@ pub record IsAcknowledged (incarnation : List Exchange) (i j : ℕ) (s : PlainSe
 -- before a newer segment s with another SEG.SEQ was sent (i < j: exchange i is newer).
 pub record AccountHolds (incarnation : List Exchange) (a : Account) : Type 0 where
   pub begins : Begins incarnation a
-  pub taken : IsAcceptedText a.irs incarnation a.text a.ended
+  pub taken : IsAcceptedText a.irs incarnation a.accepted a.ended
   pub snapshots : All IsSnapshot a.captures
   pub sent : IsReceived a.iss incarnation a.sent
   pub says : (k : ℕ) (s : PlainSegment) → sent_at incarnation k ≡ Some s → SendsSlice a.iss a.sent s
   pub short : (k : ℕ) (s : PlainSegment) → sent_at incarnation k ≡ Some s → length s.text ≤ first_mss a.peer_mss
   pub acknowledges : (k : ℕ) (s : PlainSegment) → sent_at incarnation k ≡ Some s → has_rst s.flags ≡ false
-      → Acknowledges a.irs (drop k incarnation) a.text s
+      → Acknowledges a.irs (drop k incarnation) a.accepted s
   pub one : (i j : ℕ) (s t : PlainSegment) → i < j → sent_at incarnation i ≡ Some s → sent_at incarnation j ≡ Some t
       → occupies_sequence_space s ≡ true → occupies_sequence_space t ≡ true → (s.seq ≡ t.seq → ⊥) → IsAcknowledged incarnation i j t
 
@@ -140,9 +140,9 @@ pub data OutputModel : Type 0 where
 -- The text sent is a prefix of what the output model determines. Sequence numbers determine offsets: always in a page, otherwise while the
 -- text is shorter than 2^30 bytes.
 abbrev pub TextConforms : OutputModel → List Exchange → Account → Type 0
-TextConforms (Paged pages) incarnation a = IsPrefixOfPage pages a.text incarnation a × NumbersGiveOffsets incarnation a
+TextConforms (Paged pages) incarnation a = IsPrefixOfPage pages a.accepted incarnation a × NumbersGiveOffsets incarnation a
 TextConforms (Interactive sessions) incarnation a =
-    ((delivered : List ℕ) × IsPrefixOf delivered a.text × IsPrefixOfPage sessions delivered incarnation a) × (length a.sent < 1073741824 → NumbersGiveOffsets incarnation a)
+    ((delivered : List ℕ) × IsPrefixOf delivered a.accepted × IsPrefixOfPage sessions delivered incarnation a) × (length a.sent < 1073741824 → NumbersGiveOffsets incarnation a)
 TextConforms Free incarnation a = length a.sent < 1073741824 → NumbersGiveOffsets incarnation a
 
 -- A newer account of the same incarnation extends an older one.
@@ -150,7 +150,7 @@ pub record IsExtendedBy (older newer : Account) : Type 0 where
   pub irs : older.irs ≡ newer.irs
   pub iss : older.iss ≡ newer.iss
   pub peer_mss : older.peer_mss ≡ newer.peer_mss
-  pub text : IsPrefixOf older.text newer.text
+  pub accepted : IsPrefixOf older.accepted newer.accepted
   pub ended : older.ended ≡ true → newer.ended ≡ true
   pub captures : (more : List Snapshot) × (older.captures ++ more ≡ newer.captures)
   pub sent : IsPrefixOf older.sent newer.sent

@@ -59,8 +59,8 @@ pub record IsToldAt (m : AppSpec) (port : ℕ) (pages : Pages) : Type 0 where
 -- The output at this port is that of `pages`. In addition the application accepts every piece, since no state is `lost`, and the output is
 -- shorter than 2^30 bytes.
 pub record IsPagedAt (m : AppSpec) (port : ℕ) (pages : Pages) : Type 0 where
-  pub told : IsToldAt m port pages
-  pub hears_all : (p : AppState) → told.lost p ≡ false
+  pub follows : IsToldAt m port pages
+  pub hears_all : (p : AppState) → follows.lost p ≡ false
   pub short : (q : List ℕ) (k : List Snapshot) → All IsSnapshot k → length (pages.text q k) < 1073741824
 
 -- The output at one port follows its model.

@@ -35,10 +35,10 @@ pub data IsRetried (p : Sockets) (s : PlainSegment) (t : TraceEntry) : Type 0 wh
   given_up : (id : ℕ) (u : PlainSegment) → t.sent ≡ Some (Tcp p id false u) → has_rst u.flags ≡ true → IsRetried p s t
 
 -- Some entry of this trace retransmits or resets.
-pub record IsRetriedIn (p : Sockets) (s : PlainSegment) (turns : List TraceEntry) : Type 0 where
+pub record IsRetriedIn (p : Sockets) (s : PlainSegment) (trace : List TraceEntry) : Type 0 where
   pub place : ℕ
   pub turn : TraceEntry
-  pub there : slice_get turns place ≡ Some turn
+  pub there : slice_get trace place ≡ Some turn
   pub retried : IsRetried p s turn
 
 -- Let each of the ten slots be called 49 times while nothing is received from the peer. Then some entry retransmits what is outstanding,

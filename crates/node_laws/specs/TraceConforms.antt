@@ -18,11 +18,11 @@ use Rattle.node_laws.specs.Turns.{trace_of}
 
 -- Every incarnation of every connection conforms to the output model of its port. Nothing is sent unsolicited, and connections open only
 -- at served ports. An echo reply answers the request of the same trace entry.
-pub record TraceConforms (model : ℕ → OutputModel) (served : ℕ → Bool) (turns : List TraceEntry) : Type 0 where
-  pub incarnations : (p : Sockets) (incarnation : List Exchange) → IsIncarnationIn (exchanges_with p turns) incarnation → IncarnationConforms (model p.own_port.0) incarnation
-  pub asked : (p : Sockets) → NothingUnsolicited (exchanges_with p turns)
-  pub ports : (p : Sockets) → OpensServed served p (exchanges_with p turns)
-  pub echoes : All IsEchoed turns
+pub record TraceConforms (model : ℕ → OutputModel) (served : ℕ → Bool) (trace : List TraceEntry) : Type 0 where
+  pub incarnations : (p : Sockets) (incarnation : List Exchange) → IsIncarnationIn (exchanges_with p trace) incarnation → IncarnationConforms (model p.own_port.0) incarnation
+  pub asked : (p : Sockets) → NothingUnsolicited (exchanges_with p trace)
+  pub ports : (p : Sockets) → OpensServed served p (exchanges_with p trace)
+  pub echoes : All IsEchoed trace
 
 -- Every trace of a node conforms to the output model of its application, for any events of a line and every application that never retracts
 -- output and sends bytes. Each peer that checks as the node does reads its segments as they were meant.
@@ -33,7 +33,7 @@ EveryTraceConforms =
     → TraceConforms model served (trace_of m served events (initial_node own numbers))
     × All (IsReadByPeer own) (trace_of m served events (initial_node own numbers))
 
--- The same for every application whose output is a page of bytes at every port.
+-- Every trace conforms, for every application whose output is a page of bytes at every port.
 abbrev pub EveryTraceOfPagesConforms : Type 0
 EveryTraceOfPagesConforms =
     (m : AppSpec) (pages : Pages) → IsPaged m pages → HasBytes pages → (served : ℕ → Bool) (own : Addr) → IsAddr own

@@ -38,16 +38,16 @@ with_first (Some reply) replies = reply ∷ replies
 -- the replies of a trace, the oldest first
 abbrev pub replies_of : List TraceEntry → List Reply
 replies_of [] = []
-replies_of (t ∷ turns) = with_first t.sent (replies_of turns)
+replies_of (t ∷ trace) = with_first t.sent (replies_of trace)
 
 -- the exchanges of a trace with a peer, the newest first, prepended to those before
 abbrev pub exchanges_onto : Sockets → List TraceEntry → List Exchange → List Exchange
 exchanges_onto p [] before = before
-exchanges_onto p (t ∷ turns) before = exchanges_onto p turns (exchange p t.event t.sent ∷ before)
+exchanges_onto p (t ∷ trace) before = exchanges_onto p trace (exchange p t.event t.sent ∷ before)
 
 -- the exchanges of a trace with a peer, the newest first
 abbrev pub exchanges_with : Sockets → List TraceEntry → List Exchange
-exchanges_with p turns = exchanges_onto p turns []
+exchanges_with p trace = exchanges_onto p trace []
 
 -- the segment sent, and the segment received, in the exchange with this index; the newest has index 0
 abbrev pub sent_at : List Exchange → ℕ → Option PlainSegment

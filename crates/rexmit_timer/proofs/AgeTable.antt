@@ -1,6 +1,6 @@
 -- The ages against the counter: a table for every age below the last and every limit, computed once.
 use Rattle.std.proofs.Common.{◌≡◌, ℕ, ◌+◌, ◌-◌, ◌*◌, ◌^◌, ◌<◌, ◌≤◌, Bool, true, false, min, refl, sym, ap, ◌∙◌, arith, nat_lt, ◌==◌, ◌&&◌}
-use Rattle.std.proofs.lemmas.Bool.{agree_below, agree_below_at, and_parts, eqb-true, eq-eqb, ne_eqb, ltb-true, lt-ltb, le-ltb}
+use Rattle.std.proofs.lemmas.Bool.{agree_below, agree_below_at, and_parts, eqb-true, ne_eqb, ltb-true, lt-ltb, le-ltb}
 use Rattle.rexmit_timer.specs.declared.timer.Beat.{Beat}
 use Rattle.rexmit_timer.specs.declared.timer.Beat.TheVariants.{Wait, Again, GiveUp}
 use Rattle.rexmit_timer.specs.declared.timer.Timer.{Timer}
@@ -30,14 +30,11 @@ waits_at limit age = is_beat Wait (beat_at limit (age + 1)) && ((count_at (age +
 unfoldable pub repeats_at : ℕ → ℕ → Bool
 repeats_at limit age = is_beat Again (beat_at limit (age + 1)) && ((count_at (age + 1) == 3 * 2 ^ min (tries_at age) 4) && (tries_at (age + 1) == tries_at age + 1))
 
-unfoldable pub gives_up_at : ℕ → ℕ → Bool
-gives_up_at limit age = is_beat GiveUp (beat_at limit (age + 1))
-
--- what holds of an age, by whether it is below the last, whether ticks are waited, and whether retransmissions are left
+-- what holds of an age, by whether it is below the last, whether ticks are waited, and whether all retransmissions were used
 abbrev pub fits_by : Bool → Bool → Bool → ℕ → ℕ → Bool
 fits_by false waited used limit age = true
 fits_by true true used limit age = waits_at limit age
-fits_by true false true limit age = gives_up_at limit age
+fits_by true false true limit age = true
 fits_by true false false limit age = repeats_at limit age
 
 abbrev pub fits : ℕ → ℕ → Bool
@@ -53,7 +50,7 @@ abbrev pub ends_early : ℕ → Bool
 ends_early limit = nat_lt (give_up_age limit) 250
 
 pub table : agree_below all_fit always 9 ≡ true
-unfolding waits_at repeats_at gives_up_at
+unfolding waits_at repeats_at
 table = refl
 
 pub all_fit_at : (limit age : ℕ) → limit ≤ 8 → age < give_up_age limit → fits limit age ≡ true
@@ -72,12 +69,6 @@ repeats_from true true u limit age e p q r = cc
 repeats_from true false true limit age e p q r = cc
 repeats_from true false false limit age e p q r = e
 repeats_from false w u limit age e p q r = cc
-
-gives_up_from : (b w u : Bool) (limit age : ℕ) → fits_by b w u limit age ≡ true → b ≡ true → w ≡ false → u ≡ true → gives_up_at limit age ≡ true
-gives_up_from true true u limit age e p q r = cc
-gives_up_from true false true limit age e p q r = e
-gives_up_from true false false limit age e p q r = cc
-gives_up_from false w u limit age e p q r = cc
 
 -- a tick while ticks are waited
 pub waits : (limit age : ℕ) (t : Timer) → limit ≤ 8 → age < give_up_age limit → IsAtAge t age → 0 < t.count →
@@ -105,13 +96,3 @@ repeats limit age t few early at none left =
     let counts : count_at (age + 1) ≡ 3 * 2 ^ min (tries_at age) 4 = eqb-true (count_at (age + 1)) (3 * 2 ^ min (tries_at age) 4) q.0 in
     let tries : tries_at (age + 1) ≡ tries_at age + 1 = eqb-true (tries_at (age + 1)) (tries_at age + 1) q.1 in
     record { beat = beat_is Again (beat_at limit (age + 1)) p.0; goes_on = record { count = ap (λ n. 3 * 2 ^ min n 4) at.tries ∙ sym counts; tries = omega (arith, at.tries, tries) } }
-
--- a tick with no retransmission left
-pub gives_up : (limit age : ℕ) (t : Timer) → limit ≤ 8 → age < give_up_age limit → IsAtAge t age → t.count ≡ 0 → t.tries ≡ limit →
-    IsBeatOfAge limit age GiveUp t
-unfolding gives_up_at
-gives_up limit age t few early at none used =
-    let w : nat_lt 0 (count_at age) ≡ false = le-ltb 0 (count_at age) (let h : count_at age ≤ 0 = omega (arith, at.count) in h) in
-    let u : (tries_at age == limit) ≡ true = eq-eqb (tries_at age) limit (sym at.tries ∙ used) in
-    let e = gives_up_from (nat_lt age (give_up_age limit)) (nat_lt 0 (count_at age)) (tries_at age == limit) limit age (all_fit_at limit age few early) (lt-ltb age (give_up_age limit) early) w u in
-    record { beat = beat_is GiveUp (beat_at limit (age + 1)) e; goes_on = tt }

@@ -16,8 +16,8 @@ use Rattle.tcp_machine.specs.Ask.{Outcome, leaves, closes}
 use Rattle.tcp_machine.specs.declared.opening.TheConstants.{DEFAULT_MSS}
 use Rattle.tcp_machine.specs.declared.step.Step.{Step}
 
--- The longest text that the peer accepts, by the MSS option of its SYN, and at most `OWN_MSS` (1,460). It is 536 if there is no option
--- (RFC 1122, section 4.2.2.6).
+-- The longest text that the peer accepts, by the MSS option of its SYN, and at most `OWN_MSS` (1,460). It is 536 if there is no option,
+-- or it is 0 (RFC 1122, section 4.2.2.6).
 abbrev pub first_mss : Option ℕ → ℕ
 first_mss mss = option_map_or (λ n. if n == 0 then DEFAULT_MSS else min OWN_MSS n) mss DEFAULT_MSS
 

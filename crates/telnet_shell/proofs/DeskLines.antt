@@ -100,7 +100,7 @@ module _ (site : SiteContent) (loaded : IsLoaded site) (image : All IsByte site.
 
   web_pages : IsPagedAt (desk_spec files) 80 (pages_of files)
   unfolding web_told
-  web_pages = record { told = web_told; hears_all = λ p. refl; short = web_laws.short }
+  web_pages = record { follows = web_told; hears_all = λ p. refl; short = web_laws.short }
 
   -- ---- the shell's talk at port 23
 
