@@ -508,9 +508,16 @@ class Words:
 
     def check_server(self):
         if not os.access(self.uipd, os.X_OK):
-            fail(f"no program at {self.uipd}: `rt run` in crates/uipd builds it")
+            fail(f"no program at {self.uipd}: `rt run` in crates/uipd builds it{self.without_kit()}")
         if not os.path.exists(self.site):
             fail(f"no image at {self.site}: `sh examples/pack.sh` packs it")
+
+    def without_kit(self):
+        """What serves the same pages where the program is not built."""
+        inside = os.path.join(HERE, "../web/test/uipd.mjs")
+        if self.ether or self.desk or not shutil.which("node") or not os.path.exists(inside):
+            return ""
+        return f"; without the kit `python3 {sys.argv[0]} {os.path.relpath(inside)}` serves by the library as WebAssembly"
 
     def rate(self):
         """Bytes a second."""

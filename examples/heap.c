@@ -1,28 +1,38 @@
 // A heap over one array, for a program that has no other heap. Blocks are allocated in ascending order. When all are freed, the whole
 // array is free again. UIP_HEAP_SIZE is the size of the array: UIP_MEMORY (uip.h) for each device that is open at the same time. It is for
-// one thread.
+// one thread. The language is C11 or C++11.
 #include "uip.h"
 
 #ifndef UIP_HEAP_SIZE
 #define UIP_HEAP_SIZE UIP_MEMORY(64)
 #endif
 
-static _Alignas(16) unsigned char area[UIP_HEAP_SIZE];
+#ifdef __cplusplus
+alignas(16)
+#else
+_Alignas(16)
+#endif
+static unsigned char area[UIP_HEAP_SIZE];
 size_t heap_used;      // the offset after the last block
 size_t heap_blocks;    // how many blocks are not freed
+
+static uip_block block_of(size_t ok, void *at) {
+    uip_block block = {ok, at};
+    return block;
+}
 
 uip_block rattle_alloc(size_t len, size_t align) {
     size_t at = (heap_used + align - 1) & ~(align - 1);
     if (len == 0) len = align;
-    if (at > sizeof area || len > sizeof area - at) return (uip_block){0, area};
+    if (at > sizeof area || len > sizeof area - at) return block_of(0, area);
     heap_used = at + len;
     heap_blocks++;
-    return (uip_block){1, area + at};
+    return block_of(1, area + at);
 }
 
 uip_block rattle_realloc(void *block, size_t kept, size_t len, size_t align) {
     (void)block, (void)kept, (void)len, (void)align;
-    return (uip_block){0, area};
+    return block_of(0, area);
 }
 
 void rattle_dealloc(void *block) {

@@ -25,7 +25,7 @@ def part(text, length_bytes):
 
 
 def built(folder, names, types=()):
-    """The image of a folder's files, of version 2 where their content types are told."""
+    """The image of a folder's files, of version 2 if a content type is given."""
     image = b"UIPSITE%d" % (2 if types else 1) + len(names).to_bytes(2, "big")
     for place, name in enumerate(names):
         image += part(f"/{name}".encode(), 1) + (part(types[place].encode(), 1) if types else b"") + part(read(folder, name), 4)

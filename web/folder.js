@@ -1,4 +1,4 @@
-// Live reload: the site behind web/serve.py, a folder whose files this page packs or an image. It looks twice a second whether
+// Live reload: the site of web/serve.py, a folder whose files this page packs or an image. It looks twice a second whether
 // a file has changed.
 import { pack } from "./site.js";
 

@@ -49,7 +49,7 @@ def page(site):
     text = read("index.html")
     if text.count(STYLE) != 1 or text.count(SCRIPT) != 1:
         sys.exit("one_file.py: index.html does not have exactly one style sheet and one script")
-    files = held("node.wasm", os.path.join(HERE, "node.wasm")) + held("site.img", site)
+    files = held("node.wasm", os.path.join(HERE, "node.wasm")) + held("site.img", site) + held("state.img", os.path.join(HERE, "state.img"))
     text = text.replace("</body>", f"{files}</body>")
     return text.replace(STYLE, f"<style>\n{read('page.css')}</style>").replace(SCRIPT, modules)
 

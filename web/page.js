@@ -5,7 +5,7 @@ import { Session } from "./session.js";
 import { bridge } from "./line.js";
 import { nodeInside } from "./inside.js";
 import { serverByUipsRules } from "./uip_rules.js";
-import { imageOf, unpack, valuesOf } from "./site.js";
+import { imageOf, unpack, valuesOf, warningsOf } from "./site.js";
 import { imageOfFolder, watchFolder } from "./folder.js";
 import { idOf, lastPort, openPort, portFault, segmentAt } from "./port.js";
 import { WorkerFrame } from "./frame.js";
@@ -14,6 +14,7 @@ import { Rows } from "./rows.js";
 import { readReport } from "./sequence.js";
 import { drawSequence } from "./picture.js";
 import { DevicePanel } from "./panel.js";
+import { NAMES, runFirmware } from "./sensor.js";
 import { Tour } from "./tour.js";
 import { remember, remembered } from "./settings.js";
 import { resultOf, verdictOf } from "./verdict.js";
@@ -24,12 +25,12 @@ const NOTICES = 30, DRAWN = 1000;
 const CHANGED = "the site has changed";   // the word of web/serve.py, which has packed it again
 const INSIDE = "the device inside this page";
 const meta = name => JSON.parse(document.querySelector(`meta[name=${name}]`)?.content ?? "null");
-const bridged = meta("bridge"), folder = meta("folder");
+const bridged = meta("bridge"), folder = meta("folder"), documents = meta("documents");
 const clock = new Clock(), rows = new Rows($("rows"), $("diagram"));
 
 let session = null;   // while a line is open
 let code = null;      // node.wasm, compiled
-let stopWatching = () => {};
+let stopBeside = () => {};   // what runs for the site: live reload, or a firmware
 let target = "/";     // what the frame shows
 const verdicts = new Map();   // of the pages in the frame, by target
 
@@ -135,7 +136,8 @@ async function lineEnded(why) {
 async function close(why = "not connected", kind = "idle") {
   const old = session;
   session = null;
-  stopWatching();
+  stopBeside();
+  stopBeside = () => {};
   for (const button of document.querySelectorAll("[data-needs-line]")) button.disabled = true;
   $("close").textContent = "Back to the start";
   show(why, kind);
@@ -172,19 +174,27 @@ async function beside(name) {
   return new Uint8Array(await reply.arrayBuffer());
 }
 
-const openInside = (image, { name = INSIDE, first = "/" } = {}) => openBy(async () => {
+const openInside = (image, { name = INSIDE, first = "/", names } = {}) => openBy(async () => {
   rows.clear();
   code ??= await WebAssembly.compile(await beside("node.wasm"));
   const site = image ?? await beside("site.img"), { device, line, stop } = nodeInside({ code, image: site, own: addresses().node, clock });
   const files = unpack(site), visited = begin(line, { name, first, leave: stop });
   session.device = device;
-  panel.show(device, files, valuesOf(files));
+  panel.show(device, files, valuesOf(files), names);
+  for (const words of warningsOf(files)) notice(words);
   return visited;
 }, "starting the device");
 
 async function tryHere() {
   await openInside();
   tour.start();
+}
+
+// A device whose pages display values, with the firmware that sets them.
+async function openSensor() {
+  $("tour").hidden = true;   // it ends here
+  await openInside(await beside("state.img"), { name: `${INSIDE}, with a sensor and a lamp`, names: NAMES });
+  stopBeside = runFirmware(session.device, panel);
 }
 
 async function openOwn(items) {
@@ -196,7 +206,7 @@ async function openOwn(items) {
 async function openFolder(first = "/") {
   const { image, stamp } = await imageOfFolder();
   await openInside(image, { name: `${INSIDE}, with ${folder.name}`, first });
-  stopWatching = watchFolder(stamp, () => guard(() => openFolder(target)));
+  stopBeside = watchFolder(stamp, () => guard(() => openFolder(target)));
 }
 
 const openRules = () => openBy(() => {
@@ -352,14 +362,14 @@ async function tourRules() {
 
 async function tourEnd() {
   setFaults({});
-  await openInside();
+  await openSensor();
 }
 
 const panel = new DevicePanel($("panel"), guard);
 const tour = new Tour($("tour"), [tourPage, tourLoss, tourRules, tourEnd]);
 
 const DEEDS = {
-  "open-inside": tryHere, "open-own": () => $("own-site").click(), "open-image": () => $("own-image").click(),
+  "open-inside": tryHere, "open-sensor": openSensor, "open-own": () => $("own-site").click(), "open-image": () => $("own-image").click(),
   "open-port": () => openSerial(null),
   "open-bridge": () => openBridge(), close: disconnect, reload: () => frame().reload(), back: () => frame().back(), ping, many: fetchMany,
   "no-faults": () => setFaults({}), "all-notices": () => { $("messages").classList.toggle("all"); countNotices(); },
@@ -397,8 +407,18 @@ function takeEvents() {
   $("apart").addEventListener("change", () => { remember("apart", $("apart").checked); if (session) guard(visitTyped); });
   $("fill").addEventListener("change", () => { remember("fill", $("fill").checked); apply(); });
   $("faults").addEventListener("input", apply);
+  addEventListener("hashchange", () => { if (location.hash === "#try") guard(tryHere); });
   $("start").querySelectorAll("button").forEach(it => { it.type = "button"; });
   takeDrops();
+}
+
+// Links to files of the repository, if this page comes from it. web/serve.py lists those that it has.
+function linkDocuments() {
+  const base = documents ? "" : /\/web\/(index\.html)?$/.test(location.pathname) && location.protocol !== "file:" ? "../" : null;
+  for (const it of document.querySelectorAll("[data-file]")) {
+    if (base !== null) it.href = base + it.dataset.file;
+    it.parentElement.hidden = !!documents && !documents.includes(it.dataset.file);
+  }
 }
 
 // Fills in what was remembered, and what this browser and this server have.
@@ -409,9 +429,10 @@ async function prepare() {
     else if (value !== undefined) $(name).value = value;
   }
   guard(() => setAddress("address", "start-address"));
+  linkDocuments();
   $("open-bridge").disabled = !bridged;
   $("no-bridge").hidden = !!bridged;
-  if (bridged) $("no-bridge").parentElement.querySelector("p").textContent = `Behind this page: ${bridged.name}.`;
+  if (bridged) $("no-bridge").parentElement.querySelector("p").textContent = `This server connects the page to: ${bridged.name}.`;
   $("open-port").disabled = !navigator.serial;
   $("no-serial").hidden = !!navigator.serial;
   const port = await lastPort(remembered("port")).catch(() => null);

@@ -10,6 +10,7 @@ const make = (tag, properties = {}, ...children) => {
 export class DevicePanel {
   #device = null;
   #lamps = [];
+  #fields = new Map();   // by the number of a value
   #timer = 0;
 
   // `guard` runs what may fail and reports why.
@@ -18,11 +19,12 @@ export class DevicePanel {
     for (const name of ["values", "hits", "slots", "facts"]) this[name] = box.querySelector(`[data-panel=${name}]`);
   }
 
-  // Shows a device with the files of its site and the numbers of the values that its scripts display.
-  show(device, files, numbers) {
+  // Shows a device with the files of its site and the numbers of the values that its scripts display; `names` are those of the values.
+  show(device, files, numbers, names = []) {
     this.hide();
     this.#device = device;
-    this.values.replaceChildren(...numbers.map(number => this.#valueOf(number)));
+    this.#fields.clear();
+    this.values.replaceChildren(...numbers.map(number => this.#valueOf(number, names[number] ?? `value ${number}`)));
     this.values.closest("section").hidden = !numbers.length;
     this.#lamps = files.slice(0, MOST).map(({ name }) => ({ name, count: 0, since: -LIT, ...lampOf(name) }));
     this.hits.replaceChildren(...this.#lamps.map(it => it.item));
@@ -37,15 +39,31 @@ export class DevicePanel {
     this.box.hidden = true;
   }
 
+  // Sets a value, as its field does; and what its field has.
+  put(number, value) {
+    const { text, set } = this.#fields.get(number);
+    if (text.value === value) return;
+    text.value = value;
+    set(value);
+  }
+
+  value(number) { return this.#fields.get(number).text.value; }
+
   // A field and a slider for a value.
-  #valueOf(number) {
+  #valueOf(number, name) {
     const text = make("input", { type: "text", maxLength: 32, spellcheck: false, placeholder: "text" });
-    const slider = make("input", { type: "range", value: 0 }), set = value => this.guard(() => this.#device.setValue(number, value));
-    text.setAttribute("aria-label", `value ${number}`);
-    slider.setAttribute("aria-label", `value ${number} from 0 to 100`);
-    text.addEventListener("input", () => { slider.value = text.value; set(text.value); });
+    const slider = make("input", { type: "range", value: 0 });
+    const set = value => {
+      slider.value = value;
+      slider.className = isNaN(value) ? "no-number" : "";
+      this.guard(() => this.#device.setValue(number, value));
+    };
+    this.#fields.set(number, { text, set });
+    text.setAttribute("aria-label", name);
+    slider.setAttribute("aria-label", `${name} from 0 to 100`);
+    text.addEventListener("input", () => set(text.value));
     slider.addEventListener("input", () => { text.value = slider.value; set(slider.value); });
-    return make("div", { className: "value" }, make("span", { textContent: `value ${number}` }), slider, text);
+    return make("div", { className: "value" }, make("span", { textContent: name }), slider, text);
   }
 
   #look() {
@@ -62,7 +80,7 @@ export class DevicePanel {
       item.dataset.state = state;
       item.title = state === "CLOSED" ? `slot ${slot}: free` : `slot ${slot}: ${state}, ${peer.join(".")}:${port}`;
     });
-    this.facts.textContent = `${device.ticks} ticks, ${device.memory / 1024} KiB of memory in all`;
+    this.facts.textContent = `${device.ticks} ticks, ${device.memory / 1024} KiB of WebAssembly memory (a Cortex-M4: 9 kB of RAM)`;
   }
 }
 

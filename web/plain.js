@@ -37,6 +37,7 @@ const pathOf = url => url.pathname + url.search;
 
 export class PlainFrame {
   #visited = [];   // targets, the last is shown
+  #refresh = 0;    // a timer
 
   // `get` returns a page's reply, `shown` receives the target that is shown, and `failed` the error if none is.
   constructor(element, { get, shown, failed }) {
@@ -68,15 +69,27 @@ export class PlainFrame {
   }
 
   async #show(target) {
+    clearTimeout(this.#refresh);
     const base = new URL(target, "http://node/"), { type, bytes } = await this.#whole(base);
     const page = new DOMParser().parseFromString(htmlOf(type, bytes), "text/html");
     await Promise.all([...page.querySelectorAll(NAMED)].map(it => this.#putIn(it, base)));
     const script = page.createElement("script");
     script.textContent = `(${inFrame})();`;
     page.head.prepend(script);
+    this.#refreshLater(page, base);
     this.element.setAttribute("sandbox", "allow-scripts");
     this.element.srcdoc = `<!DOCTYPE html>${page.documentElement.outerHTML}`;
     this.shown(pathOf(base));
+  }
+
+  // A refresh that a page asks for is a visit: the frame itself does not reach the device.
+  #refreshLater(page, base) {
+    const meta = page.querySelector("meta[http-equiv=refresh i]");
+    const [, seconds, name] = /^\s*(\d+)\s*(?:[;,]\s*url\s*=\s*["']?([^"']*))?/i.exec(meta?.content ?? "") ?? [];
+    meta?.remove();
+    if (!seconds) return;
+    const url = new URL(name || base, base);
+    if (url.host === base.host) this.#refresh = setTimeout(() => this.visit(pathOf(url) + url.hash), seconds * 1000);
   }
 
   // Puts what an element names into it.

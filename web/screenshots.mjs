@@ -2,9 +2,8 @@
 //
 //     page.png      the device inside the page, with 30 % loss
 //     browser.png   the first screen
-//     state.png     a site with values, dark
+//     state.png     the device with a sensor and a lamp, dark
 //     rules.png     a server by uIP's own rules, and its wrong page
-import { readFileSync } from "node:fs";
 import { join } from "node:path";
 import { startChromium } from "./test/chromium.mjs";
 import { serve } from "./test/server.mjs";
@@ -43,12 +42,15 @@ async function throughTour(tab, steps) {
 }
 
 async function withValues(tab) {
-  const image = readFileSync(join(top, "examples/state.img")).toString("base64");
-  await tab.run(`await node.openOwn([new File([Uint8Array.from(atob(${JSON.stringify(image)}), it => it.charCodeAt(0))], "state.img")])`);
+  await tab.run(`document.getElementById("open-sensor").click()`);
+  await tab.until(`frames[0].document.body?.innerText.includes("full")`);
   await tab.run(`
-    const set = (n, type, value) => { const it = document.querySelectorAll(".value")[n].querySelector("[type=" + type + "]"); it.value = value; it.dispatchEvent(new Event("input")); };
-    set(0, "text", "Greenhouse pump"); set(1, "range", 61); set(2, "range", 73); set(3, "text", "73 % open"); set(4, "text", "on")`);
-  await sleep(2500);
+    const level = document.querySelectorAll(".value")[2].querySelector("[type=range]");
+    level.value = 73;
+    level.dispatchEvent(new Event("input"));
+    frames[0].document.querySelector('a[href="/lamp-on.html"]').click()`);
+  await tab.until(`frames[0].document.getElementById("lamp")?.className === "on"`);
+  await sleep(2000);
 }
 
 const server = await serve({}), browser = await startChromium();

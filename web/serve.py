@@ -48,6 +48,7 @@ except ImportError:   # a system without terminals, as Windows
     browse = None
 
 TYPES = {".html": "text/html", ".js": "text/javascript", ".css": "text/css", ".wasm": "application/wasm", ".img": "application/octet-stream"}
+DOCUMENTS = ("README.md", "include/uip.h", "docs/SPECIFICATION.md", "web/README.md", "LICENSE")   # the page links to them
 OURS = ("localhost", "127.0.0.1", "[::1]")
 ACCEPT = "258EAFA5-E914-47DA-95CA-C5AB0DC85B11"   # RFC 6455 section 1.3
 BINARY, CLOSE, PING, PONG = 2, 8, 9, 10
@@ -86,6 +87,11 @@ def names_in(folder):
         folders[:] = sorted(name for name in folders if not name.startswith("."))
         names += [os.path.relpath(os.path.join(place, name), folder).replace(os.sep, "/") for name in sorted(files) if name[0] != "."]
     return names
+
+
+def documents():
+    """The files of the repository that are here, which the page links to."""
+    return [name for name in DOCUMENTS if os.path.isfile(os.path.join(HERE, "..", name))]
 
 
 def stamp_of(site):
@@ -328,6 +334,9 @@ class Handler(BaseHTTPRequestHandler):
             self.upgrade()
         elif path == "/folder" or path.startswith("/folder/"):
             self.folder(urllib.parse.unquote(path[len("/folder/"):]))
+        elif path[1:] in documents():
+            with open(os.path.join(HERE, "..", path[1:]), "rb") as file:
+                self.answer(200, "text/plain; charset=utf-8", file.read())
         else:
             self.file(path[1:] or "index.html")
 
@@ -357,7 +366,7 @@ class Handler(BaseHTTPRequestHandler):
 
     def metas(self):
         """What the page has to know of the node at the WebSocket, and of its own site."""
-        words = {}
+        words = {"documents": documents()}
         if self.node:
             words["bridge"] = {"name": self.node.name, "rate": self.node.rate, "fill": self.node.is_filled, "now": self.node.is_asked}
         if self.site:

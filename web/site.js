@@ -55,6 +55,27 @@ export function valuesOf(files) {
   return [...numbers].sort((a, b) => a - b);
 }
 
+// The functions of a script, each with the number of words that it takes.
+const FUNCTIONS = new Map([["file-stats", 1], ["tcp-connections", 0], ["net-stats", 0], ["ticks", 0], ["value", 1], ["value-json", 1], ["value-html", 1]]);
+
+// What has no effect in a site's scripts, in words.
+export function warningsOf(files) {
+  const warnings = [];
+  for (const { name, bytes } of files) {
+    const text = new TextDecoder("latin1").decode(bytes), isScript = name.endsWith(".shtml");
+    if (/\.html?$/.test(name) && text.includes("%!")) warnings.push(`${name}: only in a file whose name ends in .shtml is %! a directive`);
+    for (const [, line] of isScript ? text.matchAll(/%!([^\n]*)/g) : []) {
+      const isInclude = line[0] === ":", words = line.replace(/^:|\r$/g, "").split(" ").filter(Boolean);
+      const count = isInclude ? 1 : 1 + FUNCTIONS.get(words[0]);   // NaN if there is no such function
+      if (/^value/.test(words[0]) && count > 1 && !/^(\d|1[0-5])$/.test(words[1]))
+        warnings.push(`${name}: "${words[1] ?? ""}" is no number from 0 to 15, so its directive displays nothing`);
+      if (isNaN(count)) warnings.push(`${name}: there is no function "${words[0] ?? ""}", so its directive displays nothing`);
+      if (words.length > count) warnings.push(`${name}: "${words.slice(count).join(" ")}" follows a directive in its line, so it is not sent`);
+    }
+  }
+  return warnings;
+}
+
 // The files that were dropped or chosen, below the folder that all of them share.
 export async function filesOf(items) {
   const found = [];

@@ -21,8 +21,9 @@ const STEPS = [
 ];
 const LAST = {
   title: "Now break it yourself",
-  text: "Move the sliders, drop a folder with your own site onto this page, or save the line for Wireshark.",
-  button: "Back to the proved device",
+  text: "Move the sliders, drop a folder with your own site onto this page, or save the line for Wireshark. "
+    + "The next device has a sensor and a lamp, as yours may have.",
+  button: "Start the device with a sensor",
 };
 
 export class Tour {
@@ -46,6 +47,7 @@ export class Tour {
 
   #show(at) {
     this.#at = at;
+    delete this.button.dataset.next;
     const { title, text, button } = STEPS[at] ?? LAST;
     const set = (name, words) => { this.box.querySelector(`[data-tour=${name}]`).textContent = words; };
     set("title", title);
@@ -60,7 +62,7 @@ export class Tour {
 
   async #go() {
     if (this.#isBusy) return;
-    if (this.button.dataset.next) return this.#next();
+    if (this.button.dataset.next) return this.#show(this.#at + 1);
     const result = this.box.querySelector("[data-tour=result]");
     this.#isBusy = this.button.disabled = true;
     result.textContent = "..";
@@ -68,7 +70,6 @@ export class Tour {
       const { kind = "", words = "" } = await this.deeds[this.#at]() ?? {};
       Object.assign(result.dataset, { kind });
       result.textContent = words;
-      if (this.#at >= STEPS.length) return this.start();
       this.button.dataset.next = "yes";
       this.button.textContent = this.#at + 1 < STEPS.length ? "Next step" : "Finish";
     } catch (error) {
@@ -77,10 +78,5 @@ export class Tour {
     } finally {
       this.#isBusy = this.button.disabled = false;
     }
-  }
-
-  #next() {
-    delete this.button.dataset.next;
-    this.#show(this.#at + 1);
   }
 }

@@ -11,6 +11,6 @@ void port_taken(size_t len);                              // removes the first `
 void port_put(unsigned char byte);                        // sends a byte; waits until the port accepts it
 void port_send(void *to, const unsigned char *bytes, size_t len);    // a uip_sink that sends each byte in turn
 unsigned clock_ticks(void);                               // half seconds since the start, modulo 2^32
-void board_sleep(unsigned ticks);                         // until a byte is waiting or clock_ticks() differs from `ticks`
+void board_sleep(unsigned ticks);                         // until an interrupt, if no byte is waiting and clock_ticks() is `ticks`
 
 #endif

@@ -23,7 +23,8 @@ void port_send(void *to, const unsigned char *bytes, size_t len) {
 
 unsigned clock_ticks(void) { return ring_ticks; }
 
-// An interrupt between the test and the wait ends the wait: it is held back and not lost.
+// Waits for one interrupt, of any kind, unless the ring has bytes or a tick has passed. An interrupt between this test and the wait is held
+// back, and ends the wait. A further source of work needs a test here too: a DMA that received is not seen.
 void board_sleep(unsigned ticks) {
     interrupts(0);
     if (ring_received == ring_taken && ring_ticks == ticks) wait_for_interrupt();

@@ -27,6 +27,6 @@ static inline void tick_passed(void) { ring_ticks++; }
 
 void port_receives(int is_on);         // turns the port's receive interrupt on or off
 void interrupts(int are_on);
-void wait_for_interrupt(void);         // also returns for an interrupt that is held back
+void wait_for_interrupt(void);         // the processor's own wait (wfi): an interrupt that is held back ends it too
 
 #endif

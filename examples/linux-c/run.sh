@@ -50,6 +50,7 @@ if command -v "$cxx" >/dev/null; then
     "$cxx" -std=c++11 $strict -I"$top/include" -x c++ "$here/each_call.c" -x none "$here/out/heap.o" "$library" -o "$here/out/uip_each_call_cxx" \
         || fail "the C++ program was not built"
     "$here/out/uip_each_call_cxx" || fail "a call has an unexpected result from C++"
+    "$cxx" -std=c++11 $strict -I"$top/include" -x c++ -fsyntax-only "$top/examples/heap.c" || fail "examples/heap.c is not C++"
 else
     echo "skipped: the C++ program, since there is no compiler $cxx"
 fi

@@ -1,4 +1,4 @@
-// The page in Chromium with a node at its line: over a stand-in for a serial port, over web/serve.py, and as one file. PICTURES
+// The page in Chromium with a node at its line: over a substitute for a serial port, over web/serve.py, and as one file. PICTURES
 // names a folder for pictures of it. The device inside the page has tests of its own (page.test.mjs).
 import test from "node:test";
 import assert from "node:assert/strict";
@@ -57,7 +57,7 @@ async function seesSite(tab) {
   await tab.until(shows("Lowunbisa"));
 }
 
-// A tab with the page, whose node is at the stand-in for a port.
+// A tab with the page, whose node is at the substitute for a port.
 async function withPort({ base = "/", node = () => startNode(), isOpened = true, first = "" }, what) {
   const server = await serve({ base, node }), tab = await browser.open(server.url, serialAt(server.origin) + first);
   try {
@@ -76,7 +76,7 @@ async function withPort({ base = "/", node = () => startNode(), isOpened = true,
   }
 }
 
-// A tab with the page, whose node is behind the bridge.
+// A tab with the page, whose node is at the bridge.
 async function withBridge(serving, what) {
   const server = await serving, tab = await browser.open(server.url);
   try {
@@ -145,7 +145,7 @@ inBrowser("each fault of a port has its message, and the page goes on", () => wi
   assert.equal((await fetched(tab, "/style.css")).status, 200);
 }));
 
-// A board that starts anew when its port is opened: it says so, and hears nothing meanwhile.
+// A board that resets when its port is opened: it prints a line, and reads nothing until it has started.
 const STARTING = `printf 'boot: board 7\\r\\n'; timeout 4 cat >/dev/null; exec "$0" serve "$1" 10.0.0.1 pace 10000 tty`;
 
 inBrowser("a board that opening the port resets: it is told, and its page comes", () =>
@@ -298,7 +298,7 @@ inBrowser("scripts are kept apart where that is wanted", () => withPort({}, asyn
   await tab.until(shows("Lowunbisa"));
 }));
 
-// DOMs of no origin are seen by a debugger alone, so what is in the frame is told by its text, a click and a script of its own.
+// Only a debugger reads a DOM of no origin, so the test looks at the frame's text, a click and a message of a script in it.
 inBrowser("the page as one file: every file, what a page names, links, and a script's own requests", async () => {
   const file = join(folder, "node.html"), script = join(folder, "own.html"), site = join(folder, "own.img");
   execFileSync("python3", [join(here, "../one_file.py"), file]);

@@ -1,6 +1,6 @@
 #!/usr/bin/env python3
 """A node by uIP's own rules, on standard input and output: what it sends is not kept, and a text that a program generates is made
-anew when it is sent again. So one sequence number may stand for two bytes, which the page tells.
+anew when it is sent again. So one sequence number may have two bytes, which the page reports.
 
     python3 by_uips_rules.py [SECONDS]
 

@@ -37,7 +37,7 @@ function callsOver(to, from) {
   return { call, listen: listener => listeners.push(listener) };
 }
 
-// What a message says that the page or the browser has to tell.
+// The text of a message from the page or the browser.
 function saying({ method, params }) {
   if (method === "Runtime.exceptionThrown") return params.exceptionDetails.exception?.description ?? params.exceptionDetails.text;
   if (method === "Runtime.consoleAPICalled") return params.args.map(it => it.value ?? it.description).join(" ");
@@ -67,7 +67,7 @@ class Tab {
       await new Promise(resolve => setTimeout(resolve, 50));
     }
     const told = await this.run(`return document.getElementById("notices")?.innerText`).catch(() => "");
-    throw new Error(`not in ${seconds} s: ${isSo}; the page said: ${[...this.said, told].join("; ")}`);
+    throw new Error(`not in ${seconds * PATIENCE} s: ${isSo}; the page said: ${[...this.said, told].join("; ")}`);
   }
 
   async picture(file) {

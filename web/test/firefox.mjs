@@ -1,6 +1,7 @@
-// Firefox without a window, by its Marionette protocol: messages of JSON after their length, at a port of this machine.
+// Firefox without a window, by its Marionette protocol: messages of JSON after their length, at a free port of this machine, which
+// Firefox writes into its profile.
 import { execFileSync, spawn } from "node:child_process";
-import { mkdtempSync, rmSync, writeFileSync } from "node:fs";
+import { mkdtempSync, readFileSync, rmSync, writeFileSync } from "node:fs";
 import { connect } from "node:net";
 import { tmpdir } from "node:os";
 import { join } from "node:path";
@@ -14,13 +15,15 @@ export const noFirefox = (() => {
   try { execFileSync(FIREFOX, ["--version"], { stdio: "ignore" }); return false; } catch { return "no Firefox here"; }
 })();
 
-async function connected(port) {
-  for (let n = 0; n < 240; n++) {
-    const socket = await new Promise(resolve => {
+const portIn = home => { try { return +readFileSync(join(home, "MarionetteActivePort"), "utf8"); } catch { return 0; } };
+
+async function connected(home) {
+  for (const end = Date.now() + 60000 * PATIENCE; Date.now() < end; await sleep(100)) {
+    const port = portIn(home);
+    const socket = port && await new Promise(resolve => {
       const it = connect(port, "127.0.0.1", () => resolve(it)).on("error", () => resolve(null));
     });
     if (socket) return socket;
-    await sleep(250);
   }
   throw new Error("Firefox does not answer");
 }
@@ -59,7 +62,7 @@ function tabOver(call) {
       for (const end = Date.now() + seconds * PATIENCE * 1000; Date.now() < end; await sleep(50))
         if (await run(`return !!(${isSo})`).catch(() => false)) return;
       const said = await run(`return document.getElementById("notices")?.textContent`).catch(() => "");
-      throw new Error(`not in ${seconds} s: ${isSo}; the page's messages: ${said}`);
+      throw new Error(`not in ${seconds * PATIENCE} s: ${isSo}; the page's messages: ${said}`);
     },
     async picture(file) {
       writeFileSync(file, Buffer.from((await call("WebDriver:TakeScreenshot", { full: false })).value, "base64"));
@@ -67,12 +70,12 @@ function tabOver(call) {
   };
 }
 
-export async function startFirefox(port = 28280) {
+export async function startFirefox() {
   const home = mkdtempSync(join(tmpdir(), "firefox-"));
-  writeFileSync(join(home, "user.js"), [`user_pref("marionette.port", ${port});`, ...SETTINGS.map(name => `user_pref("${name}", false);`)].join("\n"));
+  writeFileSync(join(home, "user.js"), [`user_pref("marionette.port", 0);`, ...SETTINGS.map(name => `user_pref("${name}", false);`)].join("\n"));
   const words = ["--headless", "--marionette", "--no-remote", "--profile", home, "--window-size=1400,900", "about:blank"];
   const child = spawn(FIREFOX, words, { stdio: "ignore", env: { ...process.env, HOME: home } }), ended = new Promise(resolve => child.on("exit", resolve));
-  const socket = await connected(port), call = callsOver(socket);
+  const socket = await connected(home), call = callsOver(socket);
   await call("WebDriver:NewSession", { capabilities: {} });
   await call("WebDriver:SetTimeouts", { script: 300000, pageLoad: 60000 });
   const tab = tabOver(call);

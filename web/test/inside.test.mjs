@@ -1,5 +1,5 @@
-// The node inside the page (node.wasm, web/uip.js, web/inside.js) under node, without a browser and without the program: every file of
-// the site, pings, values, hits, several nodes, bad images; and what it sends for recorded lines, beside the program's own bytes.
+// The device inside the page (node.wasm, web/uip.js, web/inside.js) under node, without a browser and without the program: every file of
+// the site, pings, values, hits, several devices, bad images; and what it sends for recorded lines, compared with the program's own bytes.
 import test from "node:test";
 import assert from "node:assert/strict";
 import { execFileSync } from "node:child_process";
@@ -13,7 +13,7 @@ import { Device } from "../uip.js";
 import { pack, unpack, valuesOf } from "../site.js";
 import { UIPD, noProgram, top } from "./node_process.mjs";
 
-const WASM = join(top, "web/node.wasm"), skip = existsSync(WASM) ? false : `no module at ${WASM}: examples/ports/wasm.sh builds it`;
+const WASM = join(top, "web/node.wasm"), skip = existsSync(WASM) ? false : `no module at ${WASM}: \`sh ports/run.sh wasm build\` builds it`;
 const code = skip || new WebAssembly.Module(readFileSync(WASM));
 const image = name => new Uint8Array(readFileSync(join(top, `examples/${name}.img`)));
 const SITE = image("site"), STATE = image("state");

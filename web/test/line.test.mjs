@@ -9,7 +9,7 @@ import { Faults } from "../faults.js";
 import { Capture } from "../capture.js";
 
 // A port as Web Serial has it: an error ends `readable`, and another stream takes its place, or none after the last. Each
-// turn is what comes and the name of the error behind it.
+// turn is what comes and the name of the error after it.
 function faultyPort(turns) {
   const port = { readable: null, writable: new WritableStream() };
   const next = () => {
@@ -110,7 +110,7 @@ test("faults come as often as they should, and as they are told", () => {
     go();
   }
   faults.reordering = faults.loss = 0;
-  faults.pass(datagram, true, () => {}).go();   // what was held back comes behind it
+  faults.pass(datagram, true, () => {}).go();   // what was held back follows it
   for (const [word, count] of [["lost", 2000], ["duplicated", 3600], ["corrupted", 7200]])
     assert.ok(Math.abs(counts[word] / count - 1) < 0.1, `${counts[word]} were ${word}`);
   assert.ok(counts.reordered > 2000);

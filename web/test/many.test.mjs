@@ -9,7 +9,7 @@ import { page, bodyOf, withSession } from "./node_process.mjs";
 setFlagsFromString("--expose-gc");
 const collect = runInNewContext("gc");
 const TENTH = { loss: 0.1, duplication: 0.1, reordering: 0.1, corruption: 0.1, delay: 10 };
-// Buffers that were given up are freed a moment behind the collection that finds them.
+// Buffers that were given up are freed a moment after the collection that finds them.
 const used = async () => {
   collect();
   await new Promise(resolve => setTimeout(resolve, 100));

@@ -1,5 +1,5 @@
 // A node at the other end of a line: the program `uipd serve` as a child process on a terminal, or the library inside this
-// process (INSIDE=1). If `uipd` is not built, uipd.mjs stands in for it. UIPD and SITE name another program and image.
+// process (INSIDE=1). If `uipd` is not built, uipd.mjs replaces it. UIPD and SITE name another program and image.
 import { execFileSync, spawn } from "node:child_process";
 import { existsSync, readFileSync } from "node:fs";
 import { dirname, extname, join } from "node:path";

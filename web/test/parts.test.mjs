@@ -6,9 +6,10 @@ import { join } from "node:path";
 import { Clock } from "../clock.js";
 import { Session } from "../session.js";
 import { Device } from "../uip.js";
-import { pack, unpack, valuesOf } from "../site.js";
+import { pack, unpack, valuesOf, warningsOf } from "../site.js";
 import { serverByUipsRules } from "../uip_rules.js";
 import { resultOf, verdictOf } from "../verdict.js";
+import { ACK, RST, SlipReader, echoDatagram, read, slipText, tcpDatagram } from "../wire.js";
 import { here, top } from "./node_process.mjs";
 
 const NONE = { complete: 0, wrong: 0, truncated: 0, retransmissions: 0, different: 0 };
@@ -53,6 +54,16 @@ test("by uIP's rules a page is right without loss, and wrong if its reading is s
   assert.deepEqual([session.sums.complete, session.sums.wrong, session.sums.different, session.sums.truncated], [3, 1, 1, 0]);
 }));
 
+test("by uIP's rules a segment to no connection is answered by a reset", async () => {
+  const { line, stop } = serverByUipsRules({ clock: new Clock() }), replies = [];
+  const segment = { fromPort: 5000, toPort: 80, flags: ACK, seq: 7, ack: 9, text: [], mss: 0, window: 100 };
+  await line.writable.getWriter().write(slipText(tcpDatagram([10, 0, 0, 2], [10, 0, 0, 1], 1, segment)));
+  stop();
+  const { value } = await Promise.race([line.readable.getReader().read(), new Promise(resolve => setTimeout(resolve, 1000, {}))]);
+  new SlipReader().feed(value ?? [], it => replies.push(read(it).segment));
+  assert.deepEqual(replies.map(it => [it.flags, it.seq, it.fromPort, it.toPort]), [[RST, 9, 80, 5000]]);
+});
+
 test("by uIP's rules 200 pages under faults end, some of them wrong", { timeout: 240000 }, () =>
   withRules({ speed: 50, faults: { loss: 0.2, duplication: 0.1, reordering: 0.1, corruption: 0.1 } }, async session => {
     const { complete, wrong, truncated } = await session.fetchMany("/", 200);
@@ -80,7 +91,32 @@ test("the ping that the program's own page has, and two in one feed", () => {
   assert.ok(Buffer.concat(out).equals(pong));
   device.feed(Buffer.concat([ping, ping, ping]), text => out.push(text));
   assert.ok(Buffer.concat(out).equals(Buffer.concat([pong, pong, pong, pong])));
+  const numbers = [], replies = [];
+  const pings = [1, 2].map(number => slipText(echoDatagram([10, 0, 0, 2], [10, 0, 0, 1], number, number, new Uint8Array(8).fill(number))));
+  device.feed(Buffer.concat(pings), text => replies.push(text));   // what was passed on stays as it is
+  new SlipReader().feed(Buffer.concat(replies), it => numbers.push(read(it).echo.number));
+  assert.deepEqual(numbers, [1, 2]);
   for (let n = 0; n < 2000; n++) device.feed(ping, text => out.push(text));   // more than the area for input, in all
   device.feed(Buffer.concat(Array.from({ length: 2000 }, () => ping)), text => out.push(text));
   assert.ok(Buffer.concat(out).equals(Buffer.concat(Array.from({ length: 4004 }, () => pong))));
+});
+
+test("the images beside the page are those of examples/", () => {
+  for (const name of ["site.img", "state.img"])
+    assert.ok(readFileSync(join(top, "web", name)).equals(readFileSync(join(top, "examples", name))), name);
+});
+
+test("what has no effect in a script is reported; the example sites have none", () => {
+  for (const name of ["site.img", "state.img"]) assert.deepEqual(warningsOf(unpack(new Uint8Array(readFileSync(join(top, "web", name))))), []);
+  const warnings = text => warningsOf([{ name: "/a.shtml", bytes: Buffer.from(text) }]);
+  for (const good of ["", "%", "%! ticks", "%!ticks\n", "%! value 0\r\n", "%%!  file-stats  /a \n%", "%!: /x\n", "%!:/x"]) assert.deepEqual(warnings(good), [], good);
+  for (const name of ["valeu", "constructor", "value\t0", "TICKS"])
+    assert.deepEqual(warnings(`x %! ${name} 1\nx`), [`/a.shtml: there is no function "${name}", so its directive displays nothing`]);
+  assert.match(warnings("%!")[0], /no function ""/);
+  for (const [line, rest] of [["value 0 </p>", "</p>"], ["ticks seconds", "seconds"], [": /x y", "y"], [":/x\u00a0 y z\r", "y z"]])
+    assert.deepEqual(warnings(`%!${line}\n%! ticks`), [`/a.shtml: "${rest}" follows a directive in its line, so it is not sent`]);
+  for (const [number, isGood] of [["0", 1], ["15", 1], ["16", 0], ["00", 0], ["0</p>", 0], ["", 0]])
+    assert.deepEqual(warnings(`%! value ${number}\n`), isGood ? [] : [`/a.shtml: "${number}" is no number from 0 to 15, so its directive displays nothing`]);
+  assert.deepEqual(warningsOf([{ name: "/a.html", bytes: Buffer.from("%! ticks") }, { name: "/a.css", bytes: Buffer.from("a: 5%!important") }]),
+    ["/a.html: only in a file whose name ends in .shtml is %! a directive"]);
 });

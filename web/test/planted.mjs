@@ -1,16 +1,17 @@
 // The table of planted faults: each is an edit of a module, and the test that has to fail with it. `node planted.mjs [WORD]`
-// tries all, or those of a module or a test with that word; with `--quick` those that need no browser, with `--check` none: it
-// only looks whether each edit still applies. It fails if a fault is not found.
+// tries all, or those of a module or a test with that word; with `--quick` those that need no browser, with `--browser` the others,
+// with `--check` none: it only looks whether each edit still applies. It fails if a fault is not found. A test may take 40 seconds,
+// or PATIENCE times as long; so a browser's test that waits in vain is ended.
 import { spawnSync } from "node:child_process";
-import { cpSync, mkdtempSync, readFileSync, rmSync, symlinkSync, writeFileSync } from "node:fs";
+import { cpSync, mkdtempSync, readFileSync, readdirSync, rmSync, symlinkSync, writeFileSync } from "node:fs";
 import { tmpdir } from "node:os";
 import { join } from "node:path";
-import { noChromium } from "./chromium.mjs";
+import { PATIENCE, noChromium } from "./chromium.mjs";
 import { SITE, UIPD, here, noProgram, top } from "./node_process.mjs";
 
-const LONGEST = "40", IN_BROWSER = ["browser", "page"];   // seconds: a test that hangs has failed
+const LONGEST = `${40 * PATIENCE}`, IN_BROWSER = ["browser", "page"];   // seconds: a test that hangs has failed
 
-// By module: the text that stands there once, what stands in its place, the test's file, and words of its name.
+// By module: the text that occurs there once, what replaces it, the test's file, and words of its name.
 const FAULTS = {
   "wire.js": [
     [`if (checksum(datagram.subarray(0, IP_HEAD)) !== 0) return "ip checksum";`, "", "wire", "one byte was changed"],
@@ -160,13 +161,15 @@ const FAULTS = {
   "uip_rules.js": [
     [`text: text.slice(0, this.#text)`, `text`, "parts", "sent twice"],
     [`READING + this.#generated++`, `READING`, "parts", "sent twice"],
-    [`else answer({ flags: RST`, `else if (false) answer({ flags: RST`, "parts", "200 pages"],
+    [`else answer({ flags: RST`, `else if (false) answer({ flags: RST`, "parts", "answered by a reset"],
   ],
   "site.js": [
     [`length >> 16 & 255`, `0`, "inside", "16 MB"],
     [`    if (isTyped) at += 1 + image[at];`, "", "parts", "an image is read"],
     [`if (!name.endsWith(".shtml")) continue;`, `continue;`, "parts", "an image is read"],
     [`if (files.length > MOST_FILES) throw`, `if (false) throw`, "parts", "an image is read"],
+    [`["file-stats", 1]`, `["file-stats", 0]`, "parts", "no effect"],
+    [`isScript ? text.matchAll`, `true ? text.matchAll`, "parts", "no effect"],
     [`    if (entry.name.startsWith(".")) return;`, `    if (!entry.isFile) return;`, "page", "Chromium: a folder and an image"],
     [`const typeOf = name => TYPES`, `const typeOf = name => ({})`, "page", "Chromium: one's own site"],
   ],
@@ -177,7 +180,7 @@ const FAULTS = {
     [`  if (different) return \`\${some(different`, `  if (false) return \`\${some(different`, "parts", "each verdict"],
   ],
   "rows.js": [
-    [`otherAt !== null && "other"`, `false`, "page", "Chromium: the tour"],
+    [`otherAt !== null && "other"`, `false`, "page", "Chromium: the tour: a page"],
     [`isToNode ? "to" : "from"`, `"to"`, "page", "Chromium: the diagram"],
     [`    this.body.textContent = "";`, "", "page", "Chromium: the diagram"],
   ],
@@ -185,10 +188,15 @@ const FAULTS = {
     [`      it.number.textContent = count;`, "", "page", "Chromium: values"],
     [`      item.dataset.state = state;`, "", "page", "Chromium: values"],
     [`slider.addEventListener("input", () => { text.value = slider.value; set(slider.value); });`, "", "page", "Chromium: values"],
+    [`    text.value = value;\n    set(value);`, `    text.value = value;`, "page", "Chromium: a device with a sensor"],
+  ],
+  "sensor.js": [
+    [`if (nowOff !== off)`, `if (nowOff !== on)`, "page", "Chromium: a device with a sensor"],
+    [`  return () => clearInterval(timer);`, `  return () => {};`, "page", "Chromium: a device with a sensor"],
   ],
   "tour.js": [
-    [`this.#show(this.#at + 1);`, `this.#show(this.#at);`, "page", "Chromium: the tour"],
-    [`if (this.#at >= STEPS.length) return this.start();`, "", "page", "Chromium: the tour"],
+    [`this.#show(this.#at + 1);`, `this.#show(this.#at);`, "page", "Chromium: the tour: a page"],
+    [`    delete this.button.dataset.next;\n`, "", "page", "Chromium: the tour begins"],
   ],
   "settings.js": [[`localStorage.setItem(KEY`, `String(KEY`, "page", "Chromium: rate, address"]],
   "folder.js": [
@@ -203,7 +211,10 @@ const FAULTS = {
     [`"no-faults": () => setFaults({}),`, `"no-faults": () => {},`, "page", "Chromium: faults"],
     [`if (files.length) await openOwn(files);`, "", "page", "Chromium: messages"],
     [`  if (location.hash === "#try") await guard(tryHere);`, `  if (false);`, "page", "Chromium: #try"],
+    [`() => { if (location.hash === "#try") guard(tryHere); }`, `() => {}`, "page", "Chromium: #try"],
+    [`    if (base !== null) it.href = base + it.dataset.file;`, "", "page", "the page alone"],
     [`  session.atOnce = +$("at-once").value;`, "", "page", "Chromium: faults"],
+    [`  for (const words of warningsOf(files)) notice(words);`, "", "page", "Chromium: one's own site"],
     [`    await close();\n    throw error;`, `    throw error;`, "page", "Chromium: one's own site"],
     [`remember("port", idOf(port));`, "", "page", "the last port"],
   ],
@@ -232,6 +243,7 @@ const FAULTS = {
     [`    await Promise.all([...page.querySelectorAll(NAMED)].map(it => this.#putIn(it, base)));\n`, "", "browser", "the page as one file"],
     [`window.fetch = what =>`, `window.fetched = what =>`, "browser", "the page as one file"],
     [`    ask({ visit: link.getAttribute("href") });`, "", "browser", "the page as one file"],
+    [`    this.#refreshLater(page, base);`, "", "page", "Chromium: one file"],
   ],
   "serve.py": [
     [`(f": {STATUSES[status]}" if status in STATUSES else "")`, `""`, "page", "statuses in words"],
@@ -268,32 +280,32 @@ const passed = new Map();   // by the test: whether it passes without an edit, o
 function found(folder, file, [old, other, suite, words]) {
   const path = join(folder, "web", file), text = readFileSync(path, "utf8"), test = `${suite} ${words}`;
   if (!passed.has(test)) passed.set(test, passes(folder, suite, words));
-  if (passed.get(test) === "skipped") return "skipped";
+  if (passed.get(test) !== true) return passed.get(test) || "not tried: its test fails without it, or takes too long";
   writeFileSync(path, text.replace(old, () => other));
   const isFailed = passes(folder, suite, words) === false;
   writeFileSync(path, text);
-  return isFailed && passed.get(test) ? "found" : "missed";
+  return isFailed ? "found" : "missed";
 }
 
 const isWanted = (word, file, [, , suite, words]) =>
-  word === "--quick" ? !IN_BROWSER.includes(suite) : [file, suite, words].some(text => text.includes(word));
+  word === "--quick" || word === "--browser" ? IN_BROWSER.includes(suite) === (word === "--browser") : [file, suite, words].some(text => text.includes(word));
 
 function main(word = "") {
   const skipped = suite => IN_BROWSER.includes(suite) && noChromium, gone = applies();
   for (const it of gone) console.log(`does not apply: ${it}`);
   if (gone.length || word === "--check") process.exit(gone.length ? 1 : 0);
-  const folder = mkdtempSync(join(tmpdir(), "planted-")), counts = { found: 0, skipped: 0, missed: 0 };
+  const folder = mkdtempSync(join(tmpdir(), "planted-")), counts = { found: 0, skipped: 0, missed: 0, failed: 0 };
   cpSync(join(here, ".."), join(folder, "web"), { recursive: true });
-  symlinkSync(join(top, "examples"), join(folder, "examples"));
+  for (const it of readdirSync(top)) if (it !== "web" && !it.startsWith(".")) symlinkSync(join(top, it), join(folder, it));
   for (const [file, edits] of Object.entries(FAULTS))
     for (const edit of edits.filter(it => isWanted(word, file, it))) {
       const verdict = skipped(edit[2]) ? "skipped" : found(folder, file, edit);
-      counts[verdict]++;
+      counts[verdict in counts ? verdict : "failed"]++;
       if (verdict !== "found" || word !== "--quick") console.log(`${verdict}: ${file}: ${edit[0].split("\n")[0]} (${edit[2]}: ${edit[3]})`);
     }
   rmSync(folder, { recursive: true, force: true });
-  console.log(`planted faults: ${counts.found} found, ${counts.missed} not found, ${counts.skipped} not tried`);
-  process.exit(counts.missed ? 1 : 0);
+  console.log(`planted faults: ${counts.found} found, ${counts.missed} not found, ${counts.skipped + counts.failed} not tried`);
+  process.exit(counts.missed + counts.failed ? 1 : 0);
 }
 
 main(process.argv[2]);

@@ -2,13 +2,14 @@
 # Tests the page of web/. Reports what it skipped, and ends with 0 if nothing failed.
 #
 #     sh web/test/run.sh            all: the client under node, the page in the browsers, planted faults that need no browser
-#     sh web/test/run.sh client     the client alone; browser: the page alone; planted: all planted faults
+#     sh web/test/run.sh client     the client alone; browser: the page alone
+#     sh web/test/run.sh quick      the planted faults that need no browser; planted: all planted faults
 #     sh web/test/run.sh inside     what needs no program: the device inside, under node and in the browsers
 #
 # It needs node 20.14 or later and python3, and for the page Chromium or Firefox (CHROMIUM and FIREFOX name others). If crates/uipd is
 # not built (UIPD names another program), node.wasm takes its place, and tests that need the program are skipped. PATIENCE=4 waits four
 # times as long for the page, for a busy machine.
-case "$1" in -h|--help) sed -n '2,10s/^# \{0,1\}//p' "$0"; exit 0;; esac
+case "$1" in -h|--help) sed -n '2,11s/^# \{0,1\}//p' "$0"; exit 0;; esac
 cd "$(dirname "$0")/../.." || exit 1
 command -v node >/dev/null || { echo "web: no node here: nothing was tested"; exit 1; }
 log=$(mktemp) || exit 1
@@ -60,6 +61,7 @@ case "${1:-all}" in
     client) client;;
     inside) inside;;
     browser) browser;;
+    quick) planted 900 --quick;;
     planted) planted 4000;;
     all) client; browser; planted 900 --quick;;
     *) echo "run.sh: unknown word $1; --help lists them" >&2; exit 2;;

@@ -148,7 +148,7 @@ test("while text is awaited the acknowledgement goes again, and a silent node is
   heard();
   assert.deepEqual([goOff(), goOff(), goOff()], [1000, 2000, 2000]);
   assert.deepEqual(heard().map(it => [it.flags, it.seq, it.ack, it.len]), Array(3).fill([ACK, 2, 2, 0]));
-  say(ACK, 2, 2, "y");               // it goes on: the wait is short again
+  say(ACK, 2, 2, "y");               // it continues: the wait is short again
   heard();
   assert.deepEqual(await text(), ["xy", null]);
   assert.equal(goOff(), 1000);
@@ -285,7 +285,7 @@ test("an echo reply with another payload, or of another number, is none", async 
   assert.ok(await other >= 0);
 });
 
-// A request whose reply is told by hand.
+// A request whose reply is written by hand.
 async function asked(...pieces) {
   let connection;
   const it = played({ connect: host => {

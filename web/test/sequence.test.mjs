@@ -37,7 +37,7 @@ test("of what came again it is said whether it is the same", () => {
   // cut otherwise, longer and shorter; a bare acknowledgement never came before
   assert.deepEqual(told([0, "abcd"], [2, "cdef"], [1, "bc"], [3, "def"], [2, "ceef"], [6, ""]),
     ["new", "same", "same", "same", 3, "new"]);
-  // a FIN stands at a number too
+  // a FIN has a number too
   assert.deepEqual(told([0, "ab", ACK | FIN], [0, "ab", ACK | FIN], [0, "abc"], [0, "a", ACK | FIN]), ["new", "same", 2, 1]);
   // a hole, its filling, and what is ahead of all that is kept
   assert.deepEqual(told([0, "a"], [3, "d"], [1, "bc"], [0, "abcd"], [200000, "x"], [200000, "y"], [0, "a"], [3 * 65536, "z"]),

@@ -1,5 +1,5 @@
 // What the page is served by in tests: web/serve.py, or a server of our own that knows nothing of nodes, below any path, with
-// the other end of a stand-in for a serial port, whose bytes go by HTTP to a program.
+// the other end of a substitute for a serial port, whose bytes go by HTTP to a program.
 import { spawn } from "node:child_process";
 import { readFile } from "node:fs/promises";
 import { createServer } from "node:http";
@@ -8,7 +8,7 @@ import { here, UIPD } from "./node_process.mjs";
 
 const WEB = join(here, ".."), TYPES = { ".html": "text/html", ".js": "text/javascript", ".css": "text/css", ".wasm": "application/wasm" };
 
-// A program that ends where this process does: its shell waits for the end of what it is told.
+// A program that ends where this process does: its shell waits for the end of its input.
 const TIED = `"$@" & cat >/dev/null; kill $! 2>/dev/null; wait $!`;
 
 // web/serve.py at a free port, with further words.
@@ -69,7 +69,7 @@ export async function serve({ base = "/", node = null } = {}) {
   return { url: origin + base, origin, asked, stop };
 }
 
-// A stand-in for a serial port, as the page sees it, whose bytes go to the program behind /serial. It keeps the shape of Web
+// A substitute for a serial port, as the page sees it, whose bytes go to the program behind /serial. It keeps the shape of Web
 // Serial: `readable` and `writable` are null until it is open, are streams then, and null again once it is closed; an error
 // that passes gives another stream; a locked stream refuses the close.
 class StandInPort extends EventTarget {
@@ -122,7 +122,7 @@ class StandInPort extends EventTarget {
   }
 }
 
-// Puts the stand-in in the place of navigator.serial. A port is chosen by a click alone.
+// Puts the substitute in the place of navigator.serial. A port is chosen by a click alone.
 function putSerialInPlace(Port) {
   if (self !== top) return;
   const ports = [], serial = new EventTarget();

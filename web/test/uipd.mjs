@@ -1,5 +1,5 @@
 #!/usr/bin/env node
-// Stands in for the program `uipd` in tests where it is not built: the library as WebAssembly at the same line.
+// Replaces the program `uipd` in tests if it is not built: the library as WebAssembly at the same line.
 //
 //     uipd.mjs serve IMAGE ADDR [pace K] [tty]     as `uipd serve`
 //     uipd.mjs pack NAME=FILE ..                   as `uipd pack`

@@ -1,4 +1,4 @@
-// Datagrams and frames: made, read, damaged, and compared with what the program's own reader says of them.
+// Datagrams and frames: made, read, damaged, and compared with what the program's own reader prints of them.
 import test from "node:test";
 import assert from "node:assert/strict";
 import { ACK, SlipReader, echoDatagram, read, silence, slipText, tcpDatagram } from "../wire.js";

@@ -11,9 +11,9 @@ use Rattle.tcp_machine.specs.OnSegment.{on_segment}
 use Rattle.tcp_machine.specs.OnTick.{on_tick}
 use Rattle.uip_node.specs.Laws.{HasBytes}
 use Rattle.uip_node.proofs.Fits.{all_nil}
-use Rattle.node_laws.specs.Speakers.{SendsBytes}
-use Rattle.node_laws.proofs.EveryTraceConforms.{page_bytes}
-use Rattle.node_laws.proofs.Hearing.{HeardBytes, asked_bytes, on_segment_bytes, on_tick_bytes}
+use Rattle.uip_node.specs.Laws.{SendsBytes}
+use Rattle.uip_node.proofs.DeliveredBytes.{page_bytes}
+use Rattle.uip_node.proofs.DeliveredBytes.{DeliveredBytes, asked_bytes, on_segment_bytes, on_tick_bytes}
 use Rattle.link_world.proofs.SaidBytes.{SaysBytesWhere}
 use Rattle.telnet_shell.specs.DeskMeaning.{desk_spec}
 use Rattle.telnet_shell.proofs.TwoBytes.{desk_bytes}
@@ -29,7 +29,7 @@ module _ (site : SiteContent) (loaded : IsLoaded site) (page : HasBytes (pages_o
   says_bytes = desk_bytes files (page_bytes (web_spec files) (pages_of files) (keeps_page_laws site loaded) page)
 
   -- what must be known of a connection is that it has received bytes
-  pub desk_says : SaysBytesWhere desk HeardBytes
+  pub desk_says : SaysBytesWhere desk DeliveredBytes
   desk_says = record {
     closed_knows = all_nil IsByte;
     accepted_knows = λ first sockets s. all_nil IsByte;

@@ -3,7 +3,7 @@ use Rattle.std.proofs.Common.{◌==◌, inl, inr}
 use Rattle.app_events.specs.AppSpec.{AppSpec}
 use Rattle.file_tree.specs.Site.{SiteContent, IsLoaded, files_of}
 use Rattle.web_pages.specs.Pages.{pages_of}
-use Rattle.node_laws.proofs.Hearing.{HeardBytes}
+use Rattle.uip_node.proofs.DeliveredBytes.{DeliveredBytes}
 use Rattle.link_world.specs.World.{World}
 use Rattle.link_world.proofs.Any.{Framed}
 use Rattle.link_world.proofs.Exact.{in_step_plainly, in_step_where}
@@ -20,13 +20,13 @@ use Rattle.desk_world.proofs.DeskSpeakers.{desk_ports, served_due}
 
 pub repeats_same_bytes : DeskRepeatsSameBytes
 repeats_same_bytes site loaded w r = elim r [
-  | inl any ↦ same_bytes_where (desk_spec (files_of site)) (pages_of (files_of site)) (desk_steady site loaded) HeardBytes (desk_says site loaded) w any
+  | inl any ↦ same_bytes_where (desk_spec (files_of site)) (pages_of (files_of site)) (desk_steady site loaded) DeliveredBytes (desk_says site loaded) w any
   | inr plain ↦ same_bytes_plainly (desk_spec (files_of site)) (desk_steady site loaded) w plain
 ]
 
 pub marks_repeats : DeskMarksRepeats
 marks_repeats site loaded w r = elim r [
-  | inl any ↦ again_exactly_where (desk_spec (files_of site)) (pages_of (files_of site)) (desk_steady site loaded) HeardBytes (desk_says site loaded) w any
+  | inl any ↦ again_exactly_where (desk_spec (files_of site)) (pages_of (files_of site)) (desk_steady site loaded) DeliveredBytes (desk_says site loaded) w any
   | inr plain ↦ again_exactly_plainly (desk_spec (files_of site)) (desk_steady site loaded) w plain
 ]
 
@@ -46,7 +46,7 @@ module _ (site : SiteContent) (loaded : IsLoaded site) where
 
   walked : (w : World) → IsReachedByDesk site w → Walked w
   walked w r = elim r [
-    | inl any ↦ reached_where desk (pages_of (files_of site)) (desk_steady site loaded) HeardBytes (desk_says site loaded) Walked (act_good desk ports) (opening_framed desk ports) w any
+    | inl any ↦ reached_where desk (pages_of (files_of site)) (desk_steady site loaded) DeliveredBytes (desk_says site loaded) Walked (act_good desk ports) (opening_framed desk ports) w any
     | inr plain ↦ reached_plainly desk (desk_steady site loaded) Walked (act_good desk ports) (opening_framed desk ports) w plain
   ]
 
@@ -57,6 +57,6 @@ serves site loaded w r k side x clean =
 
 pub one_segment : DeskOneSegment
 one_segment site loaded w r = elim r [
-  | inl any ↦ in_step_where (desk_spec (files_of site)) (desk_ports site loaded) (pages_of (files_of site)) HeardBytes (desk_says site loaded) w any
+  | inl any ↦ in_step_where (desk_spec (files_of site)) (desk_ports site loaded) (pages_of (files_of site)) DeliveredBytes (desk_says site loaded) w any
   | inr plain ↦ in_step_plainly (desk_spec (files_of site)) (desk_ports site loaded) w plain
 ]

@@ -10,7 +10,8 @@ use Rattle.uip_node.specs.Steady.{IsSteady}
 use Rattle.node_laws.specs.Traces.{TraceEntry}
 use Rattle.node_laws.specs.TraceConforms.{TraceConforms}
 use Rattle.node_laws.specs.Promise.{OutputModel}
-use Rattle.node_laws.specs.Speakers.{SendsBytes, HasOutputModel}
+use Rattle.node_laws.specs.Speakers.{HasOutputModel}
+use Rattle.uip_node.specs.Laws.{SendsBytes}
 use Rattle.node_laws.specs.Wire.{IsReadByPeer}
 use Rattle.line_medium.specs.Media.{MediumSpec}
 use Rattle.serve_loop.specs.StationRuns.{StationEvent, OfMedium, OfNode, reply_text}

@@ -19,7 +19,7 @@ use Rattle.link_replay.specs.Promises.{KeepsPromises}
 
 -- the pages of a site are bytes
 pub has_bytes : (site : SiteContent) → All IsByte site.image → HasBytes (pages_of (files_of site))
-has_bytes site bytes delivered captures all = made_of_bytes site bytes delivered captures all
+has_bytes site bytes delivered captures are all = made_of_bytes site bytes delivered captures all
 
 module _ (site : SiteContent) (loaded : IsLoaded site) (bytes : All IsByte site.image) (served : ℕ → Bool) (w : World) where
   -- what every law of reached worlds asks for; no law speaks of the mark

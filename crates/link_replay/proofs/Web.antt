@@ -32,7 +32,7 @@ pages_are_received site loaded bytes w r k side there clean =
       start = r.start;
       lines = r.lines;
       are_acts = r.are_acts;
-      bytes = inl (λ delivered captures all. made_of_bytes site bytes delivered captures all);
+      bytes = inl (λ delivered captures are all. made_of_bytes site bytes delivered captures all);
       accepted = r.accepted;
     } in
     let is : IsServed pages (record w { mark = 0 }) side = prefix_and_whole m pages (keeps_page_laws site loaded) (record w { mark = 0 }) (lines_are_acts m pages w played) k side there clean in

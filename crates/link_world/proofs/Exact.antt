@@ -36,6 +36,7 @@ use Rattle.link_world.proofs.Sides.{clean_before}
 use Rattle.link_world.proofs.Runs.{reached_plainly, reached_where, room_plainly, room_where}
 use Rattle.link_world.proofs.Room.{HasRoom}
 use Rattle.link_world.proofs.SaidBytes.{SaysBytesWhere, pages_say_bytes}
+use Rattle.uip_node.proofs.DeliveredBytes.{DeliveredBytes}
 use Rattle.link_world.proofs.Harmless.{Harmless}
 use Rattle.link_world.proofs.FitWorlds.{FitWorld}
 use Rattle.link_world.specs.Acts.{does}
@@ -502,4 +503,4 @@ module _ (m : AppSpec) (ports : AtPorts m) where
 
 pub one_segment : OneSegment
 one_segment m pages lawful w r k side x clean o e =
-    in_step_where m (everywhere m pages lawful) pages (λ c. Unit {0}) (pages_say_bytes m pages lawful) w r k side x clean o e
+    in_step_where m (everywhere m pages lawful) pages DeliveredBytes (pages_say_bytes m pages lawful) w r k side x clean o e

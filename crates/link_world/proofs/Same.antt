@@ -37,6 +37,7 @@ use Rattle.link_world.proofs.FitWorlds.{FitWorld}
 use Rattle.uip_node.proofs.FitNodes.{closed_fits}
 use Rattle.uip_node.specs.Laws.{HasBytes}
 use Rattle.link_world.proofs.SaidBytes.{SaysBytesWhere, pages_say_bytes}
+use Rattle.uip_node.proofs.DeliveredBytes.{DeliveredBytes}
 use Rattle.link_world.proofs.Runs.{reached_plainly, reached_where, room_plainly, room_where}
 use Rattle.link_world.proofs.Any.{Framed, Steps, Refines, any_step, model, entry, does_framed}
 use Rattle.link_world.proofs.Any
@@ -494,7 +495,7 @@ again_exactly_where m pages steady H bytes w r = marks_repeats m steady w (told_
 
 -- an application whose text is a page
 pub same_bytes : SameBytes
-same_bytes m pages lawful w r = same_bytes_where m pages (steady_of m pages lawful) (λ c. Unit {0}) (pages_say_bytes m pages lawful) w r
+same_bytes m pages lawful w r = same_bytes_where m pages (steady_of m pages lawful) DeliveredBytes (pages_say_bytes m pages lawful) w r
 
 pub again_exactly : AgainExactly
-again_exactly m pages lawful w r = again_exactly_where m pages (steady_of m pages lawful) (λ c. Unit {0}) (pages_say_bytes m pages lawful) w r
+again_exactly m pages lawful w r = again_exactly_where m pages (steady_of m pages lawful) DeliveredBytes (pages_say_bytes m pages lawful) w r

@@ -17,13 +17,13 @@ use Rattle.uip_node.specs.Events.Reply.{Echo, Tcp}
 use Rattle.uip_node.specs.Node.{AbstractNode, NodeStep, arrives_at, for_no_connection, happened, initial_node, opens as opens_at, opens_in, slot_for_syn, step}
 use Rattle.uip_node.proofs.Basics.{append_nothing, choose}
 use Rattle.uip_node.proofs.Fits.{all_nil, all_cons}
-use Rattle.uip_node.specs.Laws.{HasBytes}
+use Rattle.uip_node.specs.Laws.{HasBytes, SendsBytes}
 use Rattle.node_laws.specs.Asked.{IsEchoed}
 use Rattle.uip_node.specs.Steady.{IsSteady}
 use Rattle.uip_node.proofs.Steadiness.{steady_of}
-use Rattle.std.proofs.lemmas.List.Elements.{All-append}
+use Rattle.uip_node.proofs.DeliveredBytes.{page_bytes}
 use Rattle.node_laws.specs.Promise.{OutputModel}
-use Rattle.node_laws.specs.Speakers.{SendsBytes, HasOutputModel, at_every_port}
+use Rattle.node_laws.specs.Speakers.{HasOutputModel, at_every_port}
 use Rattle.node_laws.specs.TraceConforms.{EveryTraceConforms, EveryTraceOfPagesConforms, TraceConforms}
 use Rattle.node_laws.specs.Traces.{TraceEntry}
 use Rattle.node_laws.specs.Wire.{IsReadByPeer}
@@ -121,19 +121,6 @@ module _ (m : AppSpec) (pages : Pages) (lawful : IsPaged m pages) where
     };
     hears_all = λ p. refl;
     short = lawful.short;
-  }
-
-  like_heard : (p q : AppState) → q.delivered ≡ p.delivered → All IsByte p.delivered → All IsByte q.delivered
-  like_heard p q e h = subst (λ (l : List ℕ). All IsByte l) (sym e) h
-
-  pub page_bytes : HasBytes pages → SendsBytes m
-  page_bytes bytes = record {
-    output = λ p h k. subst (λ (l : List ℕ). All IsByte l) (sym (lawful.output p)) (bytes p.delivered p.captures k);
-    connected = λ numbers port. subst (λ (l : List ℕ). All IsByte l) (sym (lawful.connected_heard numbers port)) (all_nil IsByte);
-    newdata = λ numbers p piece h are. subst (λ (l : List ℕ). All IsByte l) (sym (lawful.newdata_heard numbers p piece)) (All-append IsByte p.delivered piece h are);
-    prepare = λ numbers p now h. like_heard p (m.prepare numbers p now) (lawful.prepare_heard numbers p now) h;
-    acked = λ numbers p n h. like_heard p (m.acked numbers p n).part (lawful.acked_like numbers p n) h;
-    polled = λ numbers p h. like_heard p (m.polled numbers p).part (lawful.polled_like numbers p).delivered h;
   }
 
 pub every_step_of_pages : (m : AppSpec) (pages : Pages) → IsPaged m pages → HasBytes pages → (served : ℕ → Bool) (own : Addr) → IsAddr own → (numbers : List ℕ) → All IsU32 numbers

@@ -8,7 +8,6 @@ pub mod Lives
 pub mod Receiving
 pub mod Whole
 pub mod Wire
-pub mod Hearing
 pub mod PeerReads
 pub mod TurnRuns
 pub mod EveryTraceConforms

@@ -22,8 +22,8 @@ use Rattle.uip_node.specs.Counters.{ident_of}
 use Rattle.uip_node.specs.Node.{AbstractNode, NodeStep, arrives_at, for_no_connection, happened, initial_node, opens as opens_at, opens_in, refuses, slot_for_syn, step}
 use Rattle.uip_node.specs.Laws.{serving}
 use Rattle.uip_node.specs.Steady.{IsSteady}
-use Rattle.node_laws.specs.Speakers.{SendsBytes}
-use Rattle.node_laws.proofs.Hearing.{HeardBytes, asked_bytes, on_segment_bytes, on_tick_bytes}
+use Rattle.uip_node.specs.Laws.{SendsBytes}
+use Rattle.uip_node.proofs.DeliveredBytes.{DeliveredBytes, asked_bytes, on_segment_bytes, on_tick_bytes}
 use Rattle.uip_node.proofs.Basics.{both_ways, choose, only_some, wrap_low}
 use Rattle.uip_node.proofs.Fits.{FitConn, FitOut, all_nil, all_cons, asked_fits, on_segment_fits, on_tick_fits}
 use Rattle.uip_node.proofs.FitNodes.{FitNode, closed_fits, event_fits}
@@ -114,7 +114,7 @@ module _ (m : AppSpec) (served : ℕ → Bool) where
 record SoundConn (p : Sockets) (c : Connection) : Type 0 where
   fits : Fits p
   lens : Lens c
-  delivered : HeardBytes c
+  delivered : DeliveredBytes c
 
 record SoundSaid (p : Sockets) (s : PlainSegment) : Type 0 where
   fits : Fits p
@@ -131,12 +131,12 @@ module _ (m : AppSpec) (steady : IsSteady m) (bytes : SendsBytes m) where
     output = λ s f. absurd (let z : None ≡ Some s = sym n ∙ f in cc);
   }
 
-  step_does : (p : Sockets) (d : Connection) (x : Exchange) (o : Outcome) → Fits p → FitConn o.connection → Lens o.connection → HeardBytes o.connection → x.output ≡ segment_of m o.connection o.step → d ≡ left_of o.connection → SoundDoes p d x
+  step_does : (p : Sockets) (d : Connection) (x : Exchange) (o : Outcome) → Fits p → FitConn o.connection → Lens o.connection → DeliveredBytes o.connection → x.output ≡ segment_of m o.connection o.step → d ≡ left_of o.connection → SoundDoes p d x
   step_does p d x o f fit lens delivered e q = record {
     conn = λ l. record {
       fits = f;
       lens = subst (λ z. Lens z) (sym q) (choose (λ z. Lens z) (is_live o.connection.state) o.connection closed (λ y. lens) (λ y. closed_lens));
-      delivered = subst (λ z. HeardBytes z) (sym q) (choose (λ z. HeardBytes z) (is_live o.connection.state) o.connection closed (λ y. delivered) (λ y. all_nil IsByte));
+      delivered = subst (λ z. DeliveredBytes z) (sym q) (choose (λ z. DeliveredBytes z) (is_live o.connection.state) o.connection closed (λ y. delivered) (λ y. all_nil IsByte));
     };
     output = λ s g. record { fits = f; segment = said_sound m o.connection o.step s lens (bytes.output o.connection.part delivered fit.captures) (sym e ∙ g) };
   }
@@ -156,7 +156,7 @@ module _ (m : AppSpec) (steady : IsSteady m) (bytes : SendsBytes m) where
         | born iss s plain port fit e f ↦ (let k : MediumInput p s = received s (ap (λ y. y.received) e) in
             let b : Connection = accepted iss p s in
             record {
-              conn = λ z. record { fits = k.fits; lens = subst (λ y. Lens y) (sym f) (accepted_lens iss p s); delivered = subst (λ y. HeardBytes y) (sym f) (all_nil IsByte) };
+              conn = λ z. record { fits = k.fits; lens = subst (λ y. Lens y) (sym f) (accepted_lens iss p s); delivered = subst (λ y. DeliveredBytes y) (sym f) (all_nil IsByte) };
               output = λ t g. record { fits = k.fits; segment = said_sound m b (Step.SynAck false) t (accepted_lens iss p s) (bytes.output b.part (all_nil IsByte) fit.captures) (sym (ap (λ y. y.output) e) ∙ g) };
             })
         | hears s numbers at alive fit words is q ↦

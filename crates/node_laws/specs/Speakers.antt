@@ -9,16 +9,6 @@ use Rattle.app_events.specs.declared.want.Want.TheVariants.{Close}
 use Rattle.node_laws.specs.Promise.{OutputModel}
 use Rattle.node_laws.specs.Promise.OutputModel.{Paged, Interactive, Free}
 
--- `delivered` is bytes: each call keeps this, if the input is bytes. If it holds, and the snapshots are possible, the output is bytes.
-pub record SendsBytes (m : AppSpec) : Type 0 where
-  pub output : (p : AppState) → All IsByte p.delivered → All IsSnapshot p.captures → All IsByte (m.output p)
-  pub connected : (numbers : List ℕ) (port : ℕ) → All IsByte (m.connected numbers port).part.delivered
-  pub newdata : (numbers : List ℕ) (p : AppState) (piece : List ℕ) → All IsByte p.delivered → All IsByte piece
-      → All IsByte (m.newdata numbers p piece).part.delivered
-  pub prepare : (numbers : List ℕ) (p : AppState) (now : Now) → All IsByte p.delivered → All IsByte (m.prepare numbers p now).delivered
-  pub acked : (numbers : List ℕ) (p : AppState) (n : ℕ) → All IsByte p.delivered → All IsByte (m.acked numbers p n).part.delivered
-  pub polled : (numbers : List ℕ) (p : AppState) → All IsByte p.delivered → All IsByte (m.polled numbers p).part.delivered
-
 -- q is a state of this kind, and its delivered input is this text.
 abbrev pub HasHeard : (AppState → Bool) → AppState → List ℕ → Type 0
 HasHeard here q text = (here q ≡ true) × (q.delivered ≡ text)

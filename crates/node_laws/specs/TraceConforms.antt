@@ -11,7 +11,8 @@ use Rattle.uip_node.specs.Steady.{IsSteady}
 use Rattle.uip_node.specs.Node.{initial_node}
 use Rattle.node_laws.specs.Traces.{Exchange, TraceEntry, exchanges_with, IsIncarnationIn}
 use Rattle.node_laws.specs.Promise.{IncarnationConforms, OutputModel}
-use Rattle.node_laws.specs.Speakers.{SendsBytes, HasOutputModel, at_every_port}
+use Rattle.node_laws.specs.Speakers.{HasOutputModel, at_every_port}
+use Rattle.uip_node.specs.Laws.{SendsBytes}
 use Rattle.node_laws.specs.Asked.{IsEchoed, NothingUnsolicited, OpensServed}
 use Rattle.node_laws.specs.Wire.{IsOfLine, IsReadByPeer}
 use Rattle.node_laws.specs.Turns.{trace_of}

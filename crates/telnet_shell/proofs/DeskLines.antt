@@ -13,8 +13,9 @@ use Rattle.web_pages.specs.WebMeaning.{web_spec}
 use Rattle.web_pages.proofs.ByteLaws.{made_of_bytes}
 use Rattle.web_pages.proofs.PageLaws.{keeps_page_laws}
 use Rattle.node_laws.specs.Promise.OutputModel.{Paged, Interactive, Free}
-use Rattle.node_laws.specs.Speakers.{HearsPiece, IsPagedAt, IsToldAt, LeavesHeard, SendsBytes, HasOutputModel, SpeaksAt}
-use Rattle.node_laws.proofs.EveryTraceConforms.{page_bytes}
+use Rattle.node_laws.specs.Speakers.{HearsPiece, IsPagedAt, IsToldAt, LeavesHeard, HasOutputModel, SpeaksAt}
+use Rattle.uip_node.specs.Laws.{SendsBytes}
+use Rattle.uip_node.proofs.DeliveredBytes.{page_bytes}
 use Rattle.telnet_shell.specs.declared.shell.TheConstants.{TELNET_PORT}
 use Rattle.telnet_shell.specs.DeskLines.{DeskSpeaksOnLines, desk_output_model}
 use Rattle.telnet_shell.specs.DeskMeaning.{desk_spec}

@@ -12,7 +12,7 @@ use Rattle.generators.specs.Lemmas.Bytes.{capture_bytes, either_bytes, literal_b
 use Rattle.app_events.specs.Pages.{IsByte}
 use Rattle.app_events.specs.AppSpec.{AppState, Snapshot}
 use Rattle.uip_node.proofs.Basics.{choose}
-use Rattle.node_laws.specs.Speakers.{SendsBytes}
+use Rattle.uip_node.specs.Laws.{SendsBytes}
 use Rattle.telnet_shell.specs.declared.hearing.TheConstants.{IAC, WILL, DO}
 use Rattle.telnet_shell.specs.declared.command.Command.{Command}
 use Rattle.telnet_shell.specs.declared.command.Command.TheVariants.{Refuse, Help, Stats, Conns, Ticks, Quit, Blank, Other}

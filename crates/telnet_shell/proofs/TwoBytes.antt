@@ -2,7 +2,7 @@
 use Rattle.std.proofs.Common.{ℕ, ◌==◌, Bool, true, false, List, if◌then◌else◌}
 use Rattle.site_image.specs.Files.{File}
 use Rattle.web_pages.specs.WebMeaning.{web_spec}
-use Rattle.node_laws.specs.Speakers.{SendsBytes}
+use Rattle.uip_node.specs.Laws.{SendsBytes}
 use Rattle.telnet_shell.specs.declared.shell.TheConstants.{TELNET_PORT}
 use Rattle.telnet_shell.specs.DeskMeaning.{desk_spec, app_spec_at}
 use Rattle.telnet_shell.specs.ShellMeaning.{shell_spec}

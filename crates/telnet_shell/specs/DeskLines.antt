@@ -8,7 +8,8 @@ use Rattle.file_tree.specs.Site.{SiteContent, IsLoaded, files_of}
 use Rattle.uip_node.specs.Steady.{IsSteady}
 use Rattle.node_laws.specs.Promise.{OutputModel}
 use Rattle.node_laws.specs.Promise.OutputModel.{Paged, Interactive, Free}
-use Rattle.node_laws.specs.Speakers.{SendsBytes, HasOutputModel}
+use Rattle.node_laws.specs.Speakers.{HasOutputModel}
+use Rattle.uip_node.specs.Laws.{SendsBytes}
 use Rattle.web_pages.specs.Pages.{pages_of}
 use Rattle.web_pages.specs.Serving.{is_served}
 use Rattle.telnet_shell.specs.declared.shell.TheConstants.{TELNET_PORT}

@@ -2,7 +2,8 @@
 use Rattle.std.specs.List.{All}
 use Rattle.std.specs.Prelude.{◌≡◌, ℕ, ◌+◌, ◌<◌, ◌≤◌, List, [], ◌∷◌, length, take, drop, if◌then◌else◌}
 use Rattle.tcp_segment.specs.Segments.{PlainSegment}
-use Rattle.app_events.specs.AppSpec.{Snapshot}
+use Rattle.app_events.specs.AppSpec.{AppSpec, AppState, Snapshot}
+use Rattle.app_events.specs.declared.now.Now.{Now}
 use Rattle.app_events.specs.Pages.{Pages, IsSnapshot, IsByte, IsAddr}
 use Rattle.tcp_machine.specs.Connection.{Sockets, Connection, closed, serves}
 use Rattle.uip_node.specs.Events.{Event}
@@ -18,9 +19,19 @@ abbrev pub serving : Sockets → List Connection → Connection
 serving sockets [] = closed
 serving sockets (c ∷ cs) = if serves sockets c then c else serving sockets cs
 
--- Every text of a page is bytes.
+-- If the delivered text is bytes, so is the page.
 abbrev pub HasBytes : Pages → Type 0
-HasBytes pages = (delivered : List ℕ) (captures : List Snapshot) → All IsSnapshot captures → All IsByte (pages.text delivered captures)
+HasBytes pages = (delivered : List ℕ) (captures : List Snapshot) → All IsByte delivered → All IsSnapshot captures → All IsByte (pages.text delivered captures)
+
+-- `delivered` is bytes: each call keeps this, if the input is bytes. If it holds, and the snapshots are possible, the output is bytes.
+pub record SendsBytes (m : AppSpec) : Type 0 where
+  pub output : (p : AppState) → All IsByte p.delivered → All IsSnapshot p.captures → All IsByte (m.output p)
+  pub connected : (numbers : List ℕ) (port : ℕ) → All IsByte (m.connected numbers port).part.delivered
+  pub newdata : (numbers : List ℕ) (p : AppState) (piece : List ℕ) → All IsByte p.delivered → All IsByte piece
+      → All IsByte (m.newdata numbers p piece).part.delivered
+  pub prepare : (numbers : List ℕ) (p : AppState) (now : Now) → All IsByte p.delivered → All IsByte (m.prepare numbers p now).delivered
+  pub acked : (numbers : List ℕ) (p : AppState) (n : ℕ) → All IsByte p.delivered → All IsByte (m.acked numbers p n).part.delivered
+  pub polled : (numbers : List ℕ) (p : AppState) → All IsByte p.delivered → All IsByte (m.polled numbers p).part.delivered
 
 -- The same flags and the same text.
 pub record Alike (s t : PlainSegment) : Type 0 where

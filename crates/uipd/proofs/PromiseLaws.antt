@@ -23,8 +23,10 @@ use Rattle.serve_loop.proofs.ByteLaws.{slip_brings_bytes}
 use Rattle.ethernet_arp.specs.EtherWay.{ether_medium}
 use Rattle.ethernet_arp.proofs.ByteLaws.{ether_brings_bytes}
 use Rattle.line_promise.proofs.Lines.{every_line}
-use Rattle.node_laws.specs.Speakers.{SendsBytes, HasOutputModel}
-use Rattle.node_laws.proofs.EveryTraceConforms.{page_bytes, paged_everywhere}
+use Rattle.node_laws.specs.Speakers.{HasOutputModel}
+use Rattle.uip_node.specs.Laws.{SendsBytes}
+use Rattle.node_laws.proofs.EveryTraceConforms.{paged_everywhere}
+use Rattle.uip_node.proofs.DeliveredBytes.{page_bytes}
 use Rattle.telnet_shell.proofs.DeskLines.{speaks_on_lines}
 use Rattle.uip_node.specs.Steady.{IsSteady}
 use Rattle.uip_node.proofs.Steadiness.{steady_of}
@@ -53,7 +55,7 @@ module _ (site : SiteContent) (loaded : IsLoaded site) (image : All IsByte site.
       let laws : IsPaged (web_spec files) (pages_of files) = keeps_page_laws site loaded in
       record {
         steady = steady_of (web_spec files) (pages_of files) laws;
-        bytes = page_bytes (web_spec files) (pages_of files) laws (λ delivered captures c. made_of_bytes site image delivered captures c);
+        bytes = page_bytes (web_spec files) (pages_of files) laws (λ delivered captures are c. made_of_bytes site image delivered captures c);
         speaks = paged_everywhere (web_spec files) (pages_of files) laws;
       }
   on_lines Desk = (let s = speaks_on_lines site loaded image in record { steady = s.steady; bytes = s.bytes; speaks = s.speaks })

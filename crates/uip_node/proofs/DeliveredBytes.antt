@@ -1,9 +1,9 @@
 -- What is delivered to an application is bytes, if bytes are received.
 use Rattle.std.specs.List.{All}
-use Rattle.std.proofs.Common.{◌≡◌, ℕ, ◌+◌, Bool, true, false, not, ◌&&◌, List, [], ◌∷◌, length, ltb, subst, arith}
+use Rattle.std.proofs.Common.{◌≡◌, ℕ, ◌+◌, Bool, true, false, not, ◌&&◌, List, [], ◌∷◌, length, ltb, sym, subst, arith}
 use Rattle.tcp_segment.specs.Segments.{PlainSegment, has_fin, has_rst}
 use Rattle.rexmit_timer.specs.declared.timer.Beat.{Beat}
-use Rattle.app_events.specs.Pages.{IsByte}
+use Rattle.app_events.specs.Pages.{IsByte, IsPaged, Pages}
 use Rattle.app_events.specs.AppSpec.{AppState, AppSpec}
 use Rattle.app_events.specs.declared.now.Now.{Now}
 use Rattle.app_events.specs.declared.state.State.{State}
@@ -13,16 +13,18 @@ use Rattle.tcp_machine.specs.Ask.{Outcome, does_as_wanted, prepared, asked}
 use Rattle.tcp_machine.specs.OnSegment.{hears, is_out_of_order, is_acked, rests, has_text, with_part, peer_closes, stays_established, in_established, fin_acked, fin_waits, by_state, on_segment}
 use Rattle.tcp_machine.specs.OnTick.{by_beat, on_tick}
 use Rattle.uip_node.proofs.Basics.{choose}
+use Rattle.uip_node.proofs.Fits.{all_nil}
+use Rattle.std.proofs.lemmas.List.Elements.{All-append}
 use Rattle.uip_node.proofs.Cases.{Unmoved, asked_by, on_tick_by, wanted_unmoved}
-use Rattle.node_laws.specs.Speakers.{SendsBytes}
+use Rattle.uip_node.specs.Laws.{HasBytes, SendsBytes}
 
 -- bytes were delivered to its state
-abbrev pub HeardBytes : Connection → Type 0
-HeardBytes c = All IsByte c.part.delivered
+abbrev pub DeliveredBytes : Connection → Type 0
+DeliveredBytes c = All IsByte c.part.delivered
 
 module _ (m : AppSpec) (bytes : SendsBytes m) where
   abbrev Out : Outcome → Type 0
-  Out o = HeardBytes o.connection
+  Out o = DeliveredBytes o.connection
 
   hears_bytes : (numbers : List ℕ) (p : AppState) (piece : List ℕ) → All IsByte p.delivered → All IsByte piece → All IsByte (hears m numbers p piece).part.delivered
   hears_bytes numbers p [] h are = h
@@ -33,10 +35,10 @@ module _ (m : AppSpec) (bytes : SendsBytes m) where
       asked_by m Out at o
       (λ a fresh. (let b : Connection = prepared m (at o.connection) o.connection o.numbers in
       let u : Unmoved b (does_as_wanted (m.want o.numbers b.part) fresh b o.numbers).connection = wanted_unmoved m (m.want o.numbers b.part) fresh b o.numbers in
-      subst (λ (p : AppState). All IsByte p.delivered) (Rattle.std.proofs.Common.sym u.part) (bytes.prepare o.numbers o.connection.part (at o.connection) h)))
+      subst (λ (p : AppState). All IsByte p.delivered) (sym u.part) (bytes.prepare o.numbers o.connection.part (at o.connection) h)))
       h
 
-  established_bytes : (acked : Bool) (c : Connection) (numbers : List ℕ) (s : PlainSegment) → All IsByte s.text → HeardBytes c → Out (in_established m acked c numbers s)
+  established_bytes : (acked : Bool) (c : Connection) (numbers : List ℕ) (s : PlainSegment) → All IsByte s.text → DeliveredBytes c → Out (in_established m acked c numbers s)
   unfolding in_established peer_closes stays_established
   established_bytes acked c numbers s are h =
       let x = hears_bytes numbers c.part s.text h are in
@@ -44,7 +46,7 @@ module _ (m : AppSpec) (bytes : SendsBytes m) where
       (λ e. choose Out (ltb 0 c.len) _ _ (λ f. x) (λ f. x))
       (λ e. choose Out (not acked && not (has_text s)) _ _ (λ f. x) (λ f. choose Out (ltb 0 c.len) _ _ (λ g. x) (λ g. x)))
 
-  by_state_bytes : (st : State) (acked : Bool) (c : Connection) (numbers : List ℕ) (s : PlainSegment) → All IsByte s.text → HeardBytes c → Out (by_state m st acked c numbers s)
+  by_state_bytes : (st : State) (acked : Bool) (c : Connection) (numbers : List ℕ) (s : PlainSegment) → All IsByte s.text → DeliveredBytes c → Out (by_state m st acked c numbers s)
   unfolding fin_acked fin_waits
   by_state_bytes Closed acked c numbers s are h = h
   by_state_bytes SynRcvd true c numbers s are h =
@@ -64,21 +66,36 @@ module _ (m : AppSpec) (bytes : SendsBytes m) where
   by_state_bytes LastAck false c numbers s are h = h
   by_state_bytes TimeWait acked c numbers s are h = h
 
-  pub on_segment_bytes : (c : Connection) (numbers : List ℕ) (s : PlainSegment) → All IsByte s.text → HeardBytes c → Out (on_segment m c numbers s)
+  pub on_segment_bytes : (c : Connection) (numbers : List ℕ) (s : PlainSegment) → All IsByte s.text → DeliveredBytes c → Out (on_segment m c numbers s)
   unfolding on_segment
   on_segment_bytes c numbers s are h =
       choose Out (has_rst s.flags) _ _ (λ e. h) (λ e. choose Out (is_out_of_order c s) _ _ (λ f. h) (λ f. by_state_bytes c.state (is_acked c s) c numbers s are h))
 
-  by_beat_bytes : (b : Beat) (c : Connection) (numbers : List ℕ) → HeardBytes c → Out (by_beat m b c numbers)
+  by_beat_bytes : (b : Beat) (c : Connection) (numbers : List ℕ) → DeliveredBytes c → Out (by_beat m b c numbers)
   by_beat_bytes Beat.Wait c numbers h = h
   by_beat_bytes Beat.Again c numbers h = h
   by_beat_bytes Beat.GiveUp c numbers h = h
 
-  pub on_tick_bytes : (c : Connection) (numbers : List ℕ) → HeardBytes c → Out (on_tick m c numbers)
+  pub on_tick_bytes : (c : Connection) (numbers : List ℕ) → DeliveredBytes c → Out (on_tick m c numbers)
   on_tick_bytes c numbers h = on_tick_by m Out c numbers record {
     none = h;
     beats = λ r b. by_beat_bytes b c numbers h;
     rested = λ e. h;
     ends = h;
     polled = λ e l. bytes.polled numbers c.part h;
+  }
+
+-- an application with pages of bytes sends bytes
+module _ (m : AppSpec) (pages : Pages) (lawful : IsPaged m pages) where
+  like_heard : (p q : AppState) → q.delivered ≡ p.delivered → All IsByte p.delivered → All IsByte q.delivered
+  like_heard p q e h = subst (λ (l : List ℕ). All IsByte l) (sym e) h
+
+  pub page_bytes : HasBytes pages → SendsBytes m
+  page_bytes bytes = record {
+    output = λ p h k. subst (λ (l : List ℕ). All IsByte l) (sym (lawful.output p)) (bytes p.delivered p.captures h k);
+    connected = λ numbers port. subst (λ (l : List ℕ). All IsByte l) (sym (lawful.connected_heard numbers port)) (all_nil IsByte);
+    newdata = λ numbers p piece h are. subst (λ (l : List ℕ). All IsByte l) (sym (lawful.newdata_heard numbers p piece)) (All-append IsByte p.delivered piece h are);
+    prepare = λ numbers p now h. like_heard p (m.prepare numbers p now) (lawful.prepare_heard numbers p now) h;
+    acked = λ numbers p n h. like_heard p (m.acked numbers p n).part (lawful.acked_like numbers p n) h;
+    polled = λ numbers p h. like_heard p (m.polled numbers p).part (lawful.polled_like numbers p).delivered h;
   }
