@@ -23,10 +23,10 @@ open_bytes (b ∷ bytes) part a h =
     open_bytes bytes (if is_whole (part ++ b ∷ []) then [] else part ++ b ∷ []) (All-tail IsByte b bytes a)
     (choose (λ l. All IsByte l) (is_whole (part ++ b ∷ [])) [] (part ++ b ∷ []) (λ e. All-nil IsByte) (λ e. more_bytes part b h (All-head IsByte b bytes a)))
 
-abbrev AllOfBytes : List (MediumInput Act) → Type 0
+abbrev pub AllOfBytes : List (MediumInput Act) → Type 0
 AllOfBytes cs = All CarriesBytes cs
 
-none : AllOfBytes []
+pub none : AllOfBytes []
 none = All-nil CarriesBytes
 
 own : (act : Act) → AllOfBytes (Own act ∷ [])
@@ -42,7 +42,7 @@ payload_bytes k kind payload h =
     choose (λ (l : List (MediumInput Act)). AllOfBytes l) (is_datagram kind && nat_lt 0 (length payload)) _ _ (λ e. All-cons CarriesBytes (Datagram payload) [] h none)
     (λ e. choose (λ (l : List (MediumInput Act)). AllOfBytes l) (is_arp kind && is_arp_for k.addr payload) _ _ (λ f. arp_bytes (word_at payload 6) (sender_of payload)) (λ f. none))
 
-frame_bytes : (k : Host) (frame : List ℕ) → All IsByte frame → AllOfBytes (frame_brings k frame)
+pub frame_bytes : (k : Host) (frame : List ℕ) → All IsByte frame → AllOfBytes (frame_brings k frame)
 frame_bytes k frame h =
     choose (λ (l : List (MediumInput Act)). AllOfBytes l) (bytes_eq (mac_at frame 0) k.mac || bytes_eq (mac_at frame 0) broadcast) _ _
     (λ e. payload_bytes k (word_at frame 12) (drop 14 frame) (All-drop IsByte 14 frame h)) (λ e. none)

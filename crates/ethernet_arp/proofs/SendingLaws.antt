@@ -25,15 +25,15 @@ use Rattle.ethernet_arp.specs.Sending.{AllGoHome, GoesHome, frames_from, target_
 use Rattle.ethernet_arp.proofs.Bytes.{elements6, six}
 
 -- addresses of four bytes, and hardware addresses of six
-abbrev IsPair : Pair → Type 0
+abbrev pub IsPair : Pair → Type 0
 IsPair pair = (length pair.addr ≡ 4) × (length pair.mac ≡ 6)
 
-abbrev IsActSound : Act → Type 0
+abbrev pub IsActSound : Act → Type 0
 IsActSound (Asked pair) = IsPair pair
 IsActSound (Replied pair) = IsPair pair
 IsActSound Ticked = ⊤
 
-abbrev AllSound : List Act → Type 0
+abbrev pub AllSound : List Act → Type 0
 AllSound [] = ⊤
 AllSound (a ∷ acts) = IsActSound a × AllSound acts
 
@@ -45,7 +45,7 @@ abbrev AllStationEvents : List (StationEvent Act) → Type 0
 AllStationEvents [] = ⊤
 AllStationEvents (d ∷ station_events) = IsStationEventSound d × AllStationEvents station_events
 
-sound_more : (acts : List Act) (a : Act) → AllSound acts → IsActSound a → AllSound (acts ++ a ∷ [])
+pub sound_more : (acts : List Act) (a : Act) → AllSound acts → IsActSound a → AllSound (acts ++ a ∷ [])
 sound_more [] a s h = (h, tt)
 sound_more (x ∷ acts) a s h = (s.0, sound_more acts a s.1 h)
 
@@ -73,7 +73,7 @@ in_either : (x y : Option Learning) (l : Learning) → ((m : Learning) → x ≡
 in_either (Some m) y l f g e = f l e
 in_either None y l f g e = g l e
 
-last_six : (addr : List ℕ) (acts : List Act) (l : Learning) → AllSound acts → last_learning addr acts ≡ Some l → length l.mac ≡ 6
+pub last_six : (addr : List ℕ) (acts : List Act) (l : Learning) → AllSound acts → last_learning addr acts ≡ Some l → length l.mac ≡ 6
 last_six addr [] l s e = absurd (cc e)
 last_six addr (a ∷ acts) l s e =
     in_either (last_learning addr acts) (learning_by addr (taught a) acts) l (λ m f. last_six addr acts m s.1 f) (λ m f. by_six addr a acts m s.0 f) e
@@ -85,7 +85,7 @@ no_mac_known : (a : List ℕ) → None ≡ Some a → ⊥
 no_mac_known a e = cc
 
 -- what is known is the hardware address of the last learning
-known_last : (o : Option Learning) (mac : List ℕ) → mac_of o ≡ Some mac → (l : Learning) × (o ≡ Some l) × (l.mac ≡ mac)
+pub known_last : (o : Option Learning) (mac : List ℕ) → mac_of o ≡ Some mac → (l : Learning) × (o ≡ Some l) × (l.mac ≡ mac)
 known_last None mac e = absurd (cc e)
 known_last (Some l) mac e =
     elim (is_fresh l) as (λ v. (if◌then◌else◌ {A = Option (List ℕ)} v (Some l.mac) None) ≡ Some mac → (m : Learning) × (Some l ≡ Some m) × (m.mac ≡ mac)) [
@@ -95,15 +95,15 @@ known_last (Some l) mac e =
 
 -- the parts of a frame
 module _ (to from payload : List ℕ) (kind : ℕ) (a : length to ≡ 6) (b : length from ≡ 6) where
-  kind_of : word_at (frame_with to from kind payload) 12 ≡ 256 * (kind / 256) + kind % 256
+  pub kind_of : word_at (frame_with to from kind payload) 12 ≡ 256 * (kind / 256) + kind % 256
   kind_of =
       subst (λ (l : List ℕ). word_at (frame_with l from kind payload) 12 ≡ 256 * (kind / 256) + kind % 256) (six to a)
       (subst (λ (l : List ℕ). word_at (frame_with (elements6 to) l kind payload) 12 ≡ 256 * (kind / 256) + kind % 256) (six from b) refl)
 
-  to_of : mac_at (frame_with to from kind payload) 0 ≡ to
+  pub to_of : mac_at (frame_with to from kind payload) 0 ≡ to
   to_of = subst (λ (l : List ℕ). mac_at (frame_with l from kind payload) 0 ≡ l) (six to a) refl
 
-  payload_of : drop 14 (frame_with to from kind payload) ≡ payload
+  pub payload_of : drop 14 (frame_with to from kind payload) ≡ payload
   payload_of =
       subst (λ (l : List ℕ). drop 14 (frame_with l from kind payload) ≡ payload) (six to a)
       (subst (λ (l : List ℕ). drop 14 (frame_with (elements6 to) l kind payload) ≡ payload) (six from b) refl)

@@ -1,11 +1,9 @@
 -- Over Ethernet each frame with a datagram goes to the hardware address that its target taught last.
-use Rattle.std.proofs.Common.{◌≡◌, ℕ, ◌+◌, ◌*◌, ◌/◌, ◌%◌, ◌&&◌, ◌||◌, ◌==◌, Bool, true, false, if◌then◌else◌, nat_lt, List, [], ◌∷◌, ◌++◌, Option, None, Some, length, drop, map, refl, sym, ap, ◌∙◌, subst, arith, append-nil, length-append}
-use Rattle.std.specs.Prelude.{⊤}
-use Rattle.std.specs.Option.{option_or}
+use Rattle.std.proofs.Common.{◌≡◌, ℕ, ◌+◌, ◌&&◌, ◌||◌, ◌==◌, Bool, true, nat_lt, List, [], ◌∷◌, ◌++◌, Option, None, Some, length, drop, map, refl, sym, ap, ◌∙◌, subst, append-nil}
 use Rattle.std.specs.Str.{bytes_eq}
 use Rattle.app_events.specs.AppSpec.{AppSpec}
 use Rattle.uip_wire.specs.Addr.{address_at}
-use Rattle.uip_wire.specs.Fields.{word_at, word_bytes}
+use Rattle.uip_wire.specs.Fields.{word_at}
 use Rattle.uip_wire.specs.declared.addr.Addr.{Addr}
 use Rattle.uip_node.specs.Edge.{reply_bytes}
 use Rattle.uip_node.specs.Events.{Event, Reply}
@@ -15,9 +13,8 @@ use Rattle.serve_loop.specs.StationRuns.{StationEvent, OfMedium, OfNode, Station
 use Rattle.serve_loop.specs.LineStationEvents.{station_event_by}
 use Rattle.ethernet_arp.specs.EtherWay.{is_taken}
 use Rattle.ethernet_arp.specs.Frames.{Host, arp_brings, arp_packet, broadcast, frame_brings, frame_with, is_arp, is_arp_for, is_datagram, is_sendable, mac_at, no_mac, payload_brings, sender_of, wrapped}
-use Rattle.ethernet_arp.specs.Learning.{Act, Asked, Learning, Pair, Replied, Ticked, is_fresh, known, last_learning, learning_by, taught}
-use Rattle.ethernet_arp.proofs.LearningLaws.{mac_of}
-use Rattle.ethernet_arp.proofs.Bytes.{elements6, six}
+use Rattle.ethernet_arp.specs.Learning.{Act, Asked, Replied, Ticked, known, last_learning}
+use Rattle.ethernet_arp.proofs.SendingLaws.{AllSound, IsActSound, kind_of, known_last, last_six, payload_of, sound_more, to_of}
 use Rattle.uip_node.proofs.Basics.{choose}
 use Rattle.uip_node.specs.Edge.{event_of}
 use Rattle.uip_node.specs.Events.Event.{Periodic}
@@ -27,86 +24,6 @@ use Rattle.frame_device.specs.FrameSpecs.{as_medium}
 use Rattle.frame_device.specs.FrameCalls.{CallsSlot, DoesNothing, FrameCall, FrameMove, Gives, InputsFrame, Makes, Writing, station_after_move, station_events_by}
 use Rattle.serve_loop.specs.LineOutput.{initial_station}
 use Rattle.frame_device.specs.EtherFrames.{AllHome, FramesGoHome, IsHome, ether_frames}
-
--- addresses of four bytes, and hardware addresses of six
-abbrev IsPair : Pair → Type 0
-IsPair pair = (length pair.addr ≡ 4) × (length pair.mac ≡ 6)
-
-abbrev IsActSound : Act → Type 0
-IsActSound (Asked pair) = IsPair pair
-IsActSound (Replied pair) = IsPair pair
-IsActSound Ticked = ⊤
-
-abbrev AllSound : List Act → Type 0
-AllSound [] = ⊤
-AllSound (a ∷ acts) = IsActSound a × AllSound acts
-
-sound_more : (acts : List Act) (a : Act) → AllSound acts → IsActSound a → AllSound (acts ++ a ∷ [])
-sound_more [] a s h = (h, tt)
-sound_more (x ∷ acts) a s h = (s.0, sound_more acts a s.1 h)
-
-same_some : (k l : Learning) → Some k ≡ Some l → k ≡ l
-same_some k l e = cc
-
-none_some : (l : Learning) → None ≡ Some l → ⊥
-none_some l e = cc
-
-by_pair : (addr : List ℕ) (pair : Pair) (later : List Act) (l : Learning) → length pair.mac ≡ 6 → learning_by addr (Some pair) later ≡ Some l → length l.mac ≡ 6
-by_pair addr pair later l six e =
-    elim (bytes_eq pair.addr addr) as (λ v. (if◌then◌else◌ {A = Option Learning} v (Some (record { mac = pair.mac; later = later })) None) ≡ Some l → length l.mac ≡ 6) [
-      | true ↦ λ f. ap (λ (m : Learning). length m.mac) (sym (same_some _ _ f)) ∙ six
-      | false ↦ λ f. absurd (none_some l f)
-    ] e
-
--- the last learning of a sound list
-by_six : (addr : List ℕ) (a : Act) (later : List Act) (l : Learning) → IsActSound a → learning_by addr (taught a) later ≡ Some l → length l.mac ≡ 6
-by_six addr (Asked pair) later l s e = by_pair addr pair later l s.1 e
-by_six addr (Replied pair) later l s e = by_pair addr pair later l s.1 e
-by_six addr Ticked later l s e = absurd (cc e)
-
-in_either : (x y : Option Learning) (l : Learning) → ((m : Learning) → x ≡ Some m → length m.mac ≡ 6) → ((m : Learning) → y ≡ Some m → length m.mac ≡ 6)
-    → option_or x y ≡ Some l → length l.mac ≡ 6
-in_either (Some m) y l f g e = f l e
-in_either None y l f g e = g l e
-
-last_six : (addr : List ℕ) (acts : List Act) (l : Learning) → AllSound acts → last_learning addr acts ≡ Some l → length l.mac ≡ 6
-last_six addr [] l s e = absurd (cc e)
-last_six addr (a ∷ acts) l s e =
-    in_either (last_learning addr acts) (learning_by addr (taught a) acts) l (λ m f. last_six addr acts m s.1 f) (λ m f. by_six addr a acts m s.0 f) e
-
-same_mac : (a b : List ℕ) → Some a ≡ Some b → a ≡ b
-same_mac a b e = cc
-
-no_mac_known : (a : List ℕ) → None ≡ Some a → ⊥
-no_mac_known a e = cc
-
--- what is known is the hardware address of the last learning
-known_last : (o : Option Learning) (mac : List ℕ) → mac_of o ≡ Some mac → (l : Learning) × (o ≡ Some l) × (l.mac ≡ mac)
-known_last None mac e = absurd (cc e)
-known_last (Some l) mac e =
-    elim (is_fresh l) as (λ v. (if◌then◌else◌ {A = Option (List ℕ)} v (Some l.mac) None) ≡ Some mac → (m : Learning) × (Some l ≡ Some m) × (m.mac ≡ mac)) [
-      | true ↦ λ f. (l, refl, same_mac _ _ f)
-      | false ↦ λ f. absurd (no_mac_known mac f)
-    ] e
-
--- the parts of a frame
-module _ (to from payload : List ℕ) (kind : ℕ) (a : length to ≡ 6) (b : length from ≡ 6) where
-  kind_of : word_at (frame_with to from kind payload) 12 ≡ 256 * (kind / 256) + kind % 256
-  kind_of =
-      subst (λ (l : List ℕ). word_at (frame_with l from kind payload) 12 ≡ 256 * (kind / 256) + kind % 256) (six to a)
-      (subst (λ (l : List ℕ). word_at (frame_with (elements6 to) l kind payload) 12 ≡ 256 * (kind / 256) + kind % 256) (six from b) refl)
-
-  to_of : mac_at (frame_with to from kind payload) 0 ≡ to
-  to_of = subst (λ (l : List ℕ). mac_at (frame_with l from kind payload) 0 ≡ l) (six to a) refl
-
-  payload_of : drop 14 (frame_with to from kind payload) ≡ payload
-  payload_of =
-      subst (λ (l : List ℕ). drop 14 (frame_with l from kind payload) ≡ payload) (six to a)
-      (subst (λ (l : List ℕ). drop 14 (frame_with (elements6 to) l kind payload) ≡ payload) (six from b) refl)
-
-  sequence_length : length (frame_with to from kind payload) ≡ 14 + length payload
-  sequence_length =
-      omega (arith, length-append to from, length-append (to ++ from) (word_bytes kind), length-append (to ++ from ++ word_bytes kind) payload, a, b)
 
 -- ---- frames that are sent
 

@@ -1,15 +1,17 @@
 -- The states that a connection of the web server represents.
 use Rattle.std.specs.Prelude.{◌≡◌, ◌≤◌, ◌+◌, ℕ, List, [], ◌++◌, length, drop, Option}
-use Rattle.app_events.specs.AppSpec.{Snapshot, AppState}
+use Rattle.app_events.specs.AppSpec.{AppSpec, AppState, Snapshot}
+use Rattle.app_events.specs.declared.now.Now.{Now}
 use Rattle.file_tree.specs.declared.file_id.FileId.{FileId}
 use Rattle.file_tree.specs.Site.{SiteContent, files_of}
-use Rattle.site_image.specs.Files.{file_named}
+use Rattle.site_image.specs.Files.{File, file_named}
 use Rattle.web_pages.specs.Requests.{wanted}
 use Rattle.web_pages.specs.Requests.Wanted.{Refused, Name}
 use Rattle.generators.specs.Giving.{Giving, uip}
 use Rattle.generators.specs.Text.{capture_text}
 use Rattle.web_pages.specs.Pieces.{Say, reply_pieces_by}
 use Rattle.web_pages.specs.Pages.{reach_by, text_by}
+use Rattle.web_pages.specs.WebMeaning.{hits_by}
 use Rattle.httpd.specs.declared.stage.Stage.{Stage}
 use Rattle.httpd.specs.declared.stage.Stage.TheVariants as stage
 use Rattle.httpd.specs.First.{Httpd}
@@ -64,3 +66,21 @@ pub record PagesRepresent {F R : Type 0} (g : Giving F) (text : R → List ℕ) 
 -- with the functions of uIP
 abbrev pub HttpdRepresents : Httpd → SiteContent → AppState → Type 0
 HttpdRepresents = PagesRepresent uip capture_text
+
+-- ---- what the calls of an application do to the states represented
+
+-- Pages that represent a state represent the changed one afterwards.
+abbrev pub Becomes : {A : Type 0} → (A → SiteContent → AppState → Type 0) → SiteContent → (AppState → AppState) → A → A → Type 0
+Becomes stands site change old new = (p : AppState) → stands old site p → stands new site (change p)
+
+-- In the states represented, `prepare` takes no capture.
+abbrev pub TakesNoCapture : AppSpec → (AppState → Type 0) → Type 0
+TakesNoCapture m Stands = (numbers : List ℕ) (p : AppState) (now : Now) → Stands p → m.prepare numbers p now ≡ p
+
+-- the state of a connection at this port that has received nothing
+abbrev pub before_input : ℕ → AppState
+before_input port = record { port = port; delivered = []; captures = []; acked = 0; polls = 0; own = 0 }
+
+-- the hits of the files after a piece was delivered
+abbrev pub hits_after : List File → AppState → List ℕ → List ℕ → List ℕ
+hits_after files p piece hits = hits_by files hits (wanted p.delivered) (wanted (p.delivered ++ piece))

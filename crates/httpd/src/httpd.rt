@@ -1,14 +1,12 @@
 //! The web server on one connection.
 
-ghost use Rattle.std.specs.Prelude.{◌≡◌, ◌==◌, ℕ, List, [], ◌+◌, ◌++◌, false, length, min, take};
+ghost use Rattle.std.specs.Prelude.{◌≡◌, ◌==◌, ℕ, ◌+◌, ◌++◌, false, length, min, take};
 ghost use Rattle.app_events.specs.AppSpec.{AppState, IsRepresented, CanSay, text_left};
-ghost use Rattle.app_events.specs.declared.now.Now.{Now};
 ghost use Rattle.file_tree.specs.Site.{SiteContent, files_of};
 ghost use Rattle.generators.specs.Giving.{gives};
-ghost use Rattle.web_pages.specs.Requests.{wanted};
-ghost use Rattle.web_pages.specs.WebMeaning.{hits_by, web_spec_by, web_want_by};
+ghost use Rattle.web_pages.specs.WebMeaning.{web_spec_by, web_want_by};
 ghost use Rattle.web_pages.specs.declared.TheConstants.{MOST_POLLS};
-ghost use Rattle.httpd.specs.HttpdRepresents.{PagesRepresent};
+ghost use Rattle.httpd.specs.HttpdRepresents.{Becomes, PagesRepresent, TakesNoCapture, before_input, hits_after};
 ghost use Rattle.httpd.specs.Web.{IsCounted};
 
 use crate::hearing::{decide, hear_method, hear_target};
@@ -43,9 +41,8 @@ pub type Httpd = Pages<Capture>;
 impl<R: Record> Pages<R> {
     /// Returns the pages of a connection that has received nothing.
     pub fn fresh() -> Pages<R>
-        ensures { let stands = PagesRepresent (gives R.Function.calling R.output) R.text in
-            (site : SiteContent) (port : ℕ) → stands result site
-            (record { port = port; delivered = []; captures = []; acked = 0; polls = 0; own = 0 }) }
+        ensures { (site : SiteContent) (port : ℕ)
+            → PagesRepresent (gives R.Function.calling R.output) R.text result site (before_input port) }
     {
         Pages {
             stage: Stage::Method,
@@ -59,12 +56,10 @@ impl<R: Record> Pages<R> {
     /// Delivers the next bytes from the peer, and counts a hit of the file that they request.
     pub fn hear<B: Image>(&mut self, site: &SiteOf<B>, hits: &mut [u32], piece: &[u8])
         requires counted { IsCounted site.now hits.old }
-        ensures part { let stands = PagesRepresent (gives R.Function.calling R.output) R.text in
-            (p : AppState) → stands self.old site.now p
-            → stands self.new site.now (record p { delivered = p.delivered ++ piece.now; polls = 0 }) }
-        ensures hits { let stands = PagesRepresent (gives R.Function.calling R.output) R.text in
-            (p : AppState) → stands self.old site.now p
-            → hits.new ≡ hits_by (files_of site.now) hits.old (wanted p.delivered) (wanted (p.delivered ++ piece.now)) }
+        ensures part { Becomes (PagesRepresent (gives R.Function.calling R.output) R.text) site.now
+            (λ p. record p { delivered = p.delivered ++ piece.now; polls = 0 }) self.old self.new }
+        ensures hits { (p : AppState) → PagesRepresent (gives R.Function.calling R.output) R.text self.old site.now p
+            → hits.new ≡ hits_after (files_of site.now) p piece.now hits.old }
     {
         self.polls = 0;
         match self.stage {
@@ -88,8 +83,7 @@ impl<R: Record> Pages<R> {
     pub fn is_due_at<B: Image>(&self, site: &SiteOf<B>) -> bool
         requires { IsRepresented (PagesRepresent (gives R.Function.calling R.output) R.text) self.now site.now }
         ensures not_due { let g = gives R.Function.calling R.output in
-            result ≡ false → (numbers : List ℕ) (p : AppState) (now : Now) → PagesRepresent g R.text self.now site.now p
-            → (web_spec_by g (files_of site.now)).prepare numbers p now ≡ p }
+            result ≡ false → TakesNoCapture (web_spec_by g (files_of site.now)) (PagesRepresent g R.text self.now site.now) }
     {
         match self.stage {
             Stage::Reply { found } => match self.thread {
@@ -105,8 +99,8 @@ impl<R: Record> Pages<R> {
         requires counted { IsCounted site.now hits.now }
         requires part { IsRepresented (PagesRepresent (gives R.Function.calling R.output) R.text) self.old site.now }
         ensures { let g = gives R.Function.calling R.output in
-            (p : AppState) → PagesRepresent g R.text self.old site.now p → PagesRepresent g R.text self.new site.now
-            ((web_spec_by g (files_of site.now)).prepare (hits.now ++ R.own_numbers own.now) p now.now) }
+            Becomes (PagesRepresent g R.text) site.now
+            (λ p. (web_spec_by g (files_of site.now)).prepare (hits.now ++ R.own_numbers own.now) p now.now) self.old self.new }
     {
         if let Stage::Reply { found } = self.stage {
             if let Some(due) = due_call(site, found, &self.capture, self.thread) {
@@ -151,9 +145,8 @@ impl<R: Record> Pages<R> {
     pub fn pass<B: Image>(&mut self, site: &SiteOf<B>, count: usize)
         requires { let g = gives R.Function.calling R.output in
             CanSay (λ site. web_spec_by g (files_of site)) (PagesRepresent g R.text) self.old site.now count }
-        ensures { let stands = PagesRepresent (gives R.Function.calling R.output) R.text in
-            (p : AppState) → stands self.old site.now p
-            → stands self.new site.now (record p { acked = p.acked + count; polls = 0 }) }
+        ensures { Becomes (PagesRepresent (gives R.Function.calling R.output) R.text) site.now
+            (λ p. record p { acked = p.acked + count; polls = 0 }) self.old self.new }
     {
         self.polls = 0;
         match self.stage {
@@ -166,9 +159,8 @@ impl<R: Record> Pages<R> {
 
     /// Counts a tick with nothing outstanding.
     pub fn wait(&mut self)
-        ensures { let stands = PagesRepresent (gives R.Function.calling R.output) R.text in
-            (site : SiteContent) (p : AppState) → stands self.old site p
-            → stands self.new site (record p { polls = min MOST_POLLS (p.polls + 1) }) }
+        ensures { (site : SiteContent) → Becomes (PagesRepresent (gives R.Function.calling R.output) R.text) site
+            (λ p. record p { polls = min MOST_POLLS (p.polls + 1) }) self.old self.new }
     {
         self.polls = MOST_POLLS.min(self.polls.saturating_add(1));
     }

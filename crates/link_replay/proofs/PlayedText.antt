@@ -63,6 +63,11 @@ plays_for_site Now content result site given hits same loaded bytes none plays_f
     (web_has site here all_bytes hits counts (PlaysSchedule (web_spec (files_of site)) is_served hits content Now result) plays_for))
 
 module _ {X : Type 0} (Now : X → World → Type 0) (content : SchedulePlan) (site : SiteContent) (loaded : IsLoaded site) where
+  -- what holds for a world that the schedule reaches
+  reached_where : (P : World → Type 0) (x : X) (reach : Reaches (web_spec (files_of site)) is_served (Now x) (outcome (files_of site) content))
+      → P reach.world → HasReached (files_of site) content (Now x) P
+  reached_where P x reach holds = record { world = reach.world; plays = reach.meant_so; represents = reach.now; holds = holds }
+
   -- the world that is reached keeps its promises
   pub reached_keeps : All IsByte site.image → (result : Result X ReadSchedule)
       → PlaysSchedule (web_spec (files_of site)) is_served (no_hits (files_of site)) content Now result
@@ -70,12 +75,7 @@ module _ {X : Type 0} (Now : X → World → Type 0) (content : SchedulePlan) (s
   reached_keeps bytes (Err fault) plays = tt
   reached_keeps bytes (Ok x) plays =
       let reach : Reaches (web_spec (files_of site)) is_served (Now x) (outcome (files_of site) content) = plays in
-      record {
-        world = reach.world;
-        plays = reach.meant_so;
-        represents = reach.now;
-        holds = keeps_promises site loaded bytes is_served reach.world reach.at;
-      }
+      reached_where (KeepsPromises (files_of site)) x reach (keeps_promises site loaded bytes is_served reach.world reach.at)
 
   -- in the world that is reached an honest client is served whole
   pub reached_serves : (result : Result X ReadSchedule)
@@ -85,12 +85,7 @@ module _ {X : Type 0} (Now : X → World → Type 0) (content : SchedulePlan) (s
   reached_serves (Err fault) are_planned plays = tt
   reached_serves (Ok x) are_planned plays =
       let reach : Reaches (web_spec (files_of site)) is_served (Now x) (outcome (files_of site) content) = plays in
-      record {
-        world = reach.world;
-        plays = reach.meant_so;
-        represents = reach.now;
-        holds = honest_at site loaded content are_planned reach.world reach.meant_so;
-      }
+      reached_where (ServesHonest (files_of site) content) x reach (honest_at site loaded content are_planned reach.world reach.meant_so)
 
 module _ (site : SiteContent) (loaded : IsLoaded site) (content : SchedulePlan) (telling : Telling) (old new : SinkView) (result : ReplayEnd) where
   -- the schedule was played to its end, and its world reported

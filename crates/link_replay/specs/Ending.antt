@@ -1,7 +1,8 @@
 -- How a replay and a load end, and what they write.
-use Rattle.std.specs.Prelude.{◌≡◌, ◌≤◌, ◌⊎◌, ℕ, Bool, List, Option, Ok, Err, ⊤}
+use Rattle.std.specs.Prelude.{◌≡◌, ◌≤◌, ◌⊎◌, ℕ, Bool, List, Option, Result, Ok, Err, ⊤}
 use Rattle.file_tree.specs.Loading.{HoldsFile}
 use Rattle.site_image.specs.Files.{File}
+use Rattle.site_image.specs.declared.site_error.SiteError.{SiteError}
 use Rattle.file_tree.specs.Opening.{FindsInFiles, LacksFile, site_read}
 use Rattle.site_report.specs.Report.{bad_line}
 use Rattle.uip_edge.specs.Causes.{Rose}
@@ -48,6 +49,11 @@ LacksEither site schedule held = LacksFile (site_read site) held ⊎ IsMissing h
 
 abbrev pub ReplayEnds : List ℕ → List ℕ → Bool → WorkView → WorkView → ReplayEnd → Type 0
 ReplayEnds site schedule show old new end = EndsWith (IsReplayText site schedule show) (LacksEither site schedule) old new end
+
+-- A replay ends so for each name under which the site is read with this result.
+abbrev pub ReplayEndsFor : Result (List File) SiteError → List ℕ → Bool → WorkView → WorkView → ReplayEnd → Type 0
+ReplayEndsFor read schedule show old new end =
+    (site : List ℕ) → FindsInFiles (site_read site) old.shelf.held read → ReplayEnds site schedule show old new end
 
 -- The text due for these files and the schedule made from a seed, with its end. If the schedule is played to its end, it is the summary of
 -- the world reached, which satisfies the guarantees.

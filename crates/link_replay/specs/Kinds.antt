@@ -1,17 +1,11 @@
--- The state of a client, as far as a summary shows it.
-use Rattle.std.specs.Prelude.{◌||◌, Bool, true, false, not}
+-- The column of a summary in which a client is counted, by its state.
+use Rattle.std.specs.Prelude.{ℕ}
 use Rattle.link_client.specs.declared.client_state.ClientState.{ClientState}
-use Rattle.link_client.specs.Calls.{is_opened}
-use Rattle.link_client.specs.declared.client_state.ClientState.TheVariants.{Closed, Reset}
+use Rattle.link_client.specs.declared.client_state.ClientState.TheVariants.{Closed, Opened, Reset}
 
-abbrev pub is_closed : ClientState → Bool
-is_closed Closed = true
-is_closed _ = false
-
-abbrev pub is_reset : ClientState → Bool
-is_reset Reset = true
-is_reset _ = false
-
--- idle, opening, closing or ended
-abbrev pub is_other : ClientState → Bool
-is_other state = not (is_closed state || is_opened state || is_reset state)
+-- 0 if it received the server's FIN while it was open, 1 if it is open, 2 if it was reset; 3 if it is idle, opening, closing or ended
+abbrev pub column : ClientState → ℕ
+column Closed = 0
+column Opened = 1
+column Reset = 2
+column _ = 3

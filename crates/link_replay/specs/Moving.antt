@@ -6,22 +6,23 @@ use Rattle.app_events.specs.declared.app.App.{Ghosts}
 use Rattle.tcp_machine.specs.Connection.{Connection}
 use Rattle.tcp_segment.specs.Segments.{PlainSegment}
 use Rattle.uip_node.specs.Counters.{ticks_of}
-use Rattle.uip_node.specs.Edge.{reply_bytes}
+use Rattle.uip_node.specs.Edge.{event_of, reply_bytes}
 use Rattle.uip_node.specs.Events.{Event, Reply}
 use Rattle.uip_node.specs.Node.{AbstractNode, NodeStep, step}
 use Rattle.uip_node.specs.Spoken.{IsSent}
 use Rattle.uip_node.specs.Represents.{Represents}
 use Rattle.uip_node.specs.State.{Node}
 use Rattle.link_client.specs.Calls.{Sends}
-use Rattle.link_world.specs.Acts.{does, fault_of}
-use Rattle.link_world.specs.Bytes.{sent_bytes}
+use Rattle.link_world.specs.Acts.{does, fault_of, hands_over}
+use Rattle.link_world.specs.Bytes.{bytes_by, sent_bytes}
 use Rattle.link_world.specs.Reading.{IsRead, IsSentBy}
-use Rattle.link_world.specs.World.{Sent, Side, World, retires, node_stepped, numbered, posts_of_client, posts_reply}
+use Rattle.link_world.specs.World.{Content, Sent, Side, World, node_handles, node_stepped, numbered, posts, posts_of_client, posts_reply, retires}
 use Rattle.link_world.specs.declared.act.Act.{Act}
+use Rattle.link_world.specs.declared.who.Who.{Who}
 use Rattle.link_replay.specs.Noting.{IsBefore, gone_pair, is_sent_again}
 use Rattle.link_replay.specs.Reaching.{IsAt}
 use Rattle.link_replay.specs.Represents.{IsLink, LinkRepresents, SentRepresents, WorldRepresents}
-use Rattle.link_replay.specs.Telling.{AreTo, IsTo}
+use Rattle.link_replay.specs.Telling.{AnswersTo, AreTo, IsTo, sees}
 use Rattle.link_replay.specs.declared.before.Before.{Before}
 use Rattle.link_replay.specs.Plain.{CodeSent}
 use Rattle.link_replay.specs.Plain.{CodeSide}
@@ -36,11 +37,29 @@ FromHere g old P =
     (w : World) → IsAt (g.app_spec (g.config old.node.shared)) g.served w → WorldRepresents g old w
     → P (g.app_spec (g.config old.node.shared)) g.served w
 
+-- The property holds for every world that the code's world represents, and that acts of an application reach.
+abbrev pub OfWorld : {A S : Type 0} (g : Ghosts A S) → CodeWorld A S → (World → Type 0) → Type 0
+OfWorld g world P = (m : AppSpec) (served : ℕ → Bool) (w : World) → WorldRepresents g world w → IsAt m served w → P w
+
 -- An act without a fault was done.
 abbrev pub DoesAct : {A S : Type 0} (g : Ghosts A S) → Act → CodeWorld A S → CodeWorld A S → Type 0
 DoesAct g act old new =
     (w : World) → IsAt (g.app_spec (g.config old.node.shared)) g.served w → fault_of w act ≡ None → WorldRepresents g old w
     → WorldRepresents g new (does (g.app_spec (g.config old.node.shared)) g.served w act)
+
+-- The node was passed bytes. Its reply, if any, is for these sockets.
+abbrev pub PassesToNode : {A S : Type 0} (g : Ghosts A S) → List ℕ → Option SocketPair → CodeWorld A S → CodeWorld A S → Type 0
+PassesToNode g bytes to old new =
+    (w : World) → WorldRepresents g old w
+    → AreTo to (step (g.app_spec (g.config old.node.shared)) g.served w.node (event_of w.node.addr bytes)).sent
+    → WorldRepresents g new (node_handles (g.app_spec (g.config old.node.shared)) g.served w (event_of w.node.addr bytes))
+
+-- The bytes of a datagram of this sender were delivered. A reply of the node to them is for that sender.
+abbrev pub HandsOver : {A S : Type 0} (g : Ghosts A S) → Who → List ℕ → CodeWorld A S → CodeWorld A S → Type 0
+HandsOver g who bytes old new =
+    (w : World) → WorldRepresents g old w
+    → AnswersTo w who (step (g.app_spec (g.config old.node.shared)) g.served w.node (event_of w.node.addr bytes)).sent
+    → WorldRepresents g new (hands_over (g.app_spec (g.config old.node.shared)) g.served w bytes who)
 
 -- ---- a call of the node
 
@@ -60,6 +79,26 @@ TellsStep g before node to sent old new =
     → LinkRepresents new (node_stepped w (step m served w.node event))
 
 -- ---- clients and datagrams
+
+-- The invariant of clients and datagrams is preserved, for any address.
+abbrev pub KeepsLink : Link → Link → Type 0
+KeepsLink old new = (addr : Addr) → IsLink addr old → IsLink addr new
+
+-- At this tick, clients and datagrams that represent a world represent the changed one afterwards.
+abbrev pub ChangesAt : ℕ → (World → World) → Link → Link → Type 0
+ChangesAt tick change old new = (w : World) → LinkRepresents old w → tick ≡ ticks_of w.node.history → LinkRepresents new (change w)
+
+-- A client records the delivery of a datagram of this epoch, from it or to it.
+abbrev pub RecordsDelivery : ℕ → ℕ → ℕ → List CodeSide → List CodeSide → Type 0
+RecordsDelivery client number epoch old new =
+    (w : World) (e : Sent) (sent : List CodeSent) → LinkRepresents (link_of old sent) w → epoch ≡ e.epoch
+    → LinkRepresents (link_of new sent) (sees w client number e (numbered w.sides client))
+
+-- A datagram with these bytes is posted.
+abbrev pub PostsBytes : Who → ℕ → Bool → List ℕ → Link → Link → Type 0
+PostsBytes who tick again bytes old new =
+    (w : World) (content : Content) → LinkRepresents old w → tick ≡ ticks_of w.node.history → bytes ≡ bytes_by w who content
+    → LinkRepresents new (posts w who again content)
 
 -- The connection with these sockets was lost.
 abbrev pub Buries : Option SocketPair → Link → Link → Type 0

@@ -1,6 +1,9 @@
 -- What the lines of a schedule do, and which of them is refused.
+use Rattle.std.specs.List.{All}
 use Rattle.std.specs.Prelude.{◌≡◌, ℕ, Bool, List, map, Result, Ok, Err, Some, slice_get, ⊤}
 use Rattle.app_events.specs.AppSpec.{AppSpec}
+use Rattle.app_events.specs.Pages.{IsPaged, IsU32, Pages}
+use Rattle.uip_node.specs.Laws.{HasBytes}
 use Rattle.link_schedule.specs.Reading.{SchedulePlan}
 use Rattle.link_schedule.specs.declared.line.Line.{Line}
 use Rattle.link_schedule.specs.declared.read_schedule.ReadSchedule.{ReadSchedule}
@@ -55,3 +58,9 @@ abbrev pub PlaysSchedule : {X : Type 0} → AppSpec → (ℕ → Bool) → List 
     → Type 0
 PlaysSchedule m served numbers content Now result =
     LinesEnd m served Now content.lines result (plays m served (map event_at content.lines) (opening_for numbers content.clients))
+
+-- The same for an application whose output is a page of bytes, if its counters are below 2^32 at the start.
+abbrev pub PlaysIfPaged : {X : Type 0} → AppSpec → (ℕ → Bool) → List ℕ → SchedulePlan → (X → World → Type 0) → Result X ReadSchedule
+    → Type 0
+PlaysIfPaged m served numbers content Now result =
+    (pages : Pages) → IsPaged m pages → HasBytes pages → All IsU32 numbers → PlaysSchedule m served numbers content Now result

@@ -1,8 +1,7 @@
 -- The summary of a replay in one line.
-use Rattle.std.specs.Prelude.{ℕ, Bool, List, ◌++◌, length, map, not, is_none, count_by, sum_by, codes, decimal}
-use Rattle.link_client.specs.Calls.{is_opened}
+use Rattle.std.specs.Prelude.{ℕ, Bool, List, ◌++◌, ◌==◌, length, map, not, is_none, count_by, sum_by, codes, decimal}
 use Rattle.link_world.specs.World.{World}
-use Rattle.link_replay.specs.Kinds.{is_closed, is_reset, is_other}
+use Rattle.link_replay.specs.Kinds.{column}
 use Rattle.link_replay.specs.Report.{ShownSide, side_shown}
 use Rattle.link_replay.specs.declared.tally.Tally.{Tally}
 
@@ -10,10 +9,10 @@ use Rattle.link_replay.specs.declared.tally.Tally.{Tally}
 -- retransmissions.
 abbrev pub tally_of : List ShownSide → List Bool → Tally
 tally_of sides again = record {
-  closed = count_by (λ side. is_closed side.state) sides;
-  opened = count_by (λ side. is_opened side.state) sides;
-  reset = count_by (λ side. is_reset side.state) sides;
-  other = count_by (λ side. is_other side.state) sides;
+  closed = count_by (λ side. column side.state == 0) sides;
+  opened = count_by (λ side. column side.state == 1) sides;
+  reset = count_by (λ side. column side.state == 2) sides;
+  other = count_by (λ side. column side.state == 3) sides;
   stale = count_by (λ side. not (is_none side.first_stale)) sides;
   bytes = sum_by (λ side. length side.received) sides;
   datagrams = length again;

@@ -1,12 +1,11 @@
 //! A client takes a step, and what it sends is appended to the list.
 
 ghost use Rattle.std.specs.Prelude.{◌≡◌, ◌≤◌, ℕ, List, OnOk, Option, Some, length};
-ghost use Rattle.uip_node.specs.Counters.{ticks_of};
 ghost use Rattle.uip_wire.specs.declared.addr.Addr.{Addr as Address};
 ghost use Rattle.link_client.specs.Client.{advertises_window};
 ghost use Rattle.link_world.specs.Acts.{client_acts, handed};
 ghost use Rattle.link_world.specs.World.{World as PlainWorld, at_side};
-ghost use Rattle.link_replay.specs.Moving.{PostsOfClient};
+ghost use Rattle.link_replay.specs.Moving.{ChangesAt, KeepsLink, PostsOfClient};
 ghost use Rattle.link_replay.specs.Owning.{own_step};
 ghost use Rattle.link_replay.specs.Represents.{IsLink, LinkRepresents};
 ghost use Rattle.link_replay.specs.State.{link_of};
@@ -31,7 +30,7 @@ fn post_prefix(
 ) -> Result<(), NoMemory>
     requires area { length area.now ≡ LARGEST_DATAGRAM }
     requires inside { (n : ℕ) → len ≡ Some n → n ≤ length area.now }
-    ensures kept { (addr : Address) → IsLink addr (link_of sides.now sent.old.items) → IsLink addr (link_of sides.now sent.new.items) }
+    ensures kept { KeepsLink (link_of sides.now sent.old.items) (link_of sides.now sent.new.items) }
     ensures posted { OnOk result
         (PostsOfClient number len tick area.now (link_of sides.now sent.old.items) (link_of sides.now sent.new.items)) }
 {
@@ -56,11 +55,10 @@ pub(crate) fn act_alone(
 ) -> Result<(), NoMemory>
     requires kept { (addr : Address) × IsLink addr (link_of sides.old.items sent.old.items) }
     requires room { length area.old.items ≡ LARGEST_DATAGRAM }
-    ensures kept { (addr : Address) → IsLink addr (link_of sides.old.items sent.old.items)
-        → IsLink addr (link_of sides.new.items sent.new.items) }
+    ensures kept { KeepsLink (link_of sides.old.items sent.old.items) (link_of sides.new.items sent.new.items) }
     ensures room { length area.new.items ≡ LARGEST_DATAGRAM }
-    ensures acted { OnOk result ((w : PlainWorld) → LinkRepresents (link_of sides.old.items sent.old.items) w → tick ≡ ticks_of w.node.history
-        → LinkRepresents (link_of sides.new.items sent.new.items) (client_acts w number (own_step own))) }
+    ensures acted { OnOk result (ChangesAt tick (λ w. client_acts w number (own_step own))
+        (link_of sides.old.items sent.old.items) (link_of sides.new.items sent.new.items)) }
 {
     let place = usize::from(number);
     if place == 0 || place > sides.len() {
@@ -97,11 +95,10 @@ pub(crate) fn hear(
     requires kept { (addr : Address) × IsLink addr (link_of sides.old.items sent.old.items) }
     requires room { length area.old.items ≡ LARGEST_DATAGRAM }
     requires most { length datagram.now ≤ LARGEST_DATAGRAM }
-    ensures kept { (addr : Address) → IsLink addr (link_of sides.old.items sent.old.items)
-        → IsLink addr (link_of sides.new.items sent.new.items) }
+    ensures kept { KeepsLink (link_of sides.old.items sent.old.items) (link_of sides.new.items sent.new.items) }
     ensures room { length area.new.items ≡ LARGEST_DATAGRAM }
-    ensures delivered { OnOk result ((w : PlainWorld) → LinkRepresents (link_of sides.old.items sent.old.items) w → tick ≡ ticks_of w.node.history
-        → LinkRepresents (link_of sides.new.items sent.new.items) (at_side w number (handed w number datagram.now))) }
+    ensures delivered { OnOk result (ChangesAt tick (λ w. at_side w number (handed w number datagram.now))
+        (link_of sides.old.items sent.old.items) (link_of sides.new.items sent.new.items)) }
 {
     let place = usize::from(number);
     if place == 0 || place > sides.len() {

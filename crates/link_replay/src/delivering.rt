@@ -1,20 +1,18 @@
 //! Does an act that is not refused.
 
 ghost use Rattle.std.specs.Prelude.{◌≡◌, ◌<◌, ◌≤◌, ℕ, false, None, Ok, OnOk, length};
-ghost use Rattle.uip_node.specs.Edge.{event_of};
 ghost use Rattle.uip_node.specs.Events.{tick};
 ghost use Rattle.uip_node.specs.Events.Event.{Periodic};
-ghost use Rattle.uip_node.specs.Node.{step};
-ghost use Rattle.link_world.specs.Acts.{client_acts, does, handles_all, hands_over};
+ghost use Rattle.link_world.specs.Acts.{client_acts, does, handles_all};
 ghost use Rattle.link_world.specs.Bytes.{changed, ping_from};
 ghost use Rattle.link_world.specs.World.{World as PlainWorld, node_handles, posts};
 ghost use Rattle.link_world.specs.World.Content.{OfPing};
 ghost use Rattle.link_world.specs.declared.who.Who.TheVariants.{Pinger};
-ghost use Rattle.link_replay.specs.Moving.{DoesAct, FromHere};
+ghost use Rattle.link_replay.specs.Moving.{DoesAct, FromHere, HandsOver, PassesToNode};
 ghost use Rattle.link_replay.specs.Owning.{own_step};
 ghost use Rattle.link_world.specs.Headline.{IsAct};
 ghost use Rattle.link_replay.specs.Represents.{WorldRepresents};
-ghost use Rattle.link_replay.specs.Telling.{AnswersTo, AreTo, client_told};
+ghost use Rattle.link_replay.specs.Telling.{client_told};
 
 use crate::acting::{act_alone, advertise_window, hear};
 use crate::before::Before;
@@ -36,10 +34,7 @@ impl<A: App> WorldOf<A> {
         requires most { length bytes.now ≤ LARGEST_DATAGRAM }
         ensures same { A.config self.new.node.shared ≡ A.config self.old.node.shared }
         ensures mark { self.new.mark ≡ self.old.mark }
-        ensures delivered { OnOk result ((w : PlainWorld) → WorldRepresents A.App self.old w
-            → AreTo to (step (A.app_spec (A.config self.old.node.shared)) A.served w.node (event_of w.node.addr bytes.now)).sent
-            → WorldRepresents A.App self.new (node_handles (A.app_spec (A.config self.old.node.shared)) A.served w
-            (event_of w.node.addr bytes.now))) }
+        ensures delivered { OnOk result (PassesToNode A.App bytes.now to self.old self.new) }
     {
         let before = Before::of(&self.node);
         let answer = self.node.input(bytes);
@@ -138,9 +133,7 @@ impl<A: App> WorldOf<A> {
         requires most { length bytes.now ≤ LARGEST_DATAGRAM }
         ensures same { A.config self.new.node.shared ≡ A.config self.old.node.shared }
         ensures mark { self.new.mark ≡ self.old.mark }
-        ensures handed { OnOk result ((w : PlainWorld) → WorldRepresents A.App self.old w
-            → AnswersTo w who (step (A.app_spec (A.config self.old.node.shared)) A.served w.node (event_of w.node.addr bytes.now)).sent
-            → WorldRepresents A.App self.new (hands_over (A.app_spec (A.config self.old.node.shared)) A.served w bytes.now who)) }
+        ensures handed { OnOk result (HandsOver A.App who bytes.now self.old self.new) }
     {
         match who {
             Who::Pinger => {

@@ -1,15 +1,16 @@
 //! What a delivery changes of a client.
 
 ghost use Rattle.std.specs.Prelude.{◌≡◌, List};
-ghost use Rattle.link_world.specs.World.{Sent as PlainSent, Side as PlainSide, World as PlainWorld, marked, numbered};
+ghost use Rattle.link_world.specs.World.{Sent as PlainSent, Side as PlainSide, marked, numbered};
 ghost use Rattle.uip_wire.specs.declared.addr.Addr.{Addr as Address};
 ghost use Rattle.link_replay.specs.Matched.{Matched};
 ghost use Rattle.link_replay.specs.Epochs.{sockets_for};
 ghost use Rattle.link_replay.specs.Noting.{pair_at};
-ghost use Rattle.link_replay.specs.Represents.{IsLink, LinkRepresents, SideRepresents};
+ghost use Rattle.link_replay.specs.Moving.{RecordsDelivery};
+ghost use Rattle.link_replay.specs.Represents.{IsLink, SideRepresents};
 ghost use Rattle.link_replay.specs.State.{link_of};
 ghost use Rattle.link_replay.specs.Plain.{CodeSent};
-ghost use Rattle.link_replay.specs.Telling.{pair_at_side, sees};
+ghost use Rattle.link_replay.specs.Telling.{pair_at_side};
 
 use crate::side::Side;
 use crate::socket_pair::SocketPair;
@@ -41,8 +42,7 @@ fn pair_at(client: &Client) -> SocketPair
 
 /// Records the delivery of a datagram of an epoch from or to a client.
 pub(crate) fn see(sides: &mut Vec<Side>, client: u8, number: u32, epoch: u32)
-    ensures stands { (w : PlainWorld) (e : PlainSent) (sent : List CodeSent) → LinkRepresents (link_of sides.old.items sent) w
-        → epoch ≡ e.epoch → LinkRepresents (link_of sides.new.items sent) (sees w client number e (numbered w.sides client)) }
+    ensures stands { RecordsDelivery client number epoch sides.old.items sides.new.items }
     ensures kept { (addr : Address) (sent : List CodeSent) → IsLink addr (link_of sides.old.items sent)
         → IsLink addr (link_of sides.new.items sent) }
 {

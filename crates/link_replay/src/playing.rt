@@ -1,8 +1,7 @@
 //! Plays a schedule, line by line.
 
-ghost use Rattle.std.specs.List.{All, list_all};
+ghost use Rattle.std.specs.List.{list_all};
 ghost use Rattle.std.specs.Prelude.{◌≡◌, ℕ, true, IfOk, Some, map, slice_get};
-ghost use Rattle.app_events.specs.Pages.{IsPaged, IsU32, Pages};
 ghost use Rattle.file_tree.specs.Site.{files_of};
 ghost use Rattle.httpd.specs.contracts.httpd.HttpdApp.TheImpl.{ghosts};
 ghost use Rattle.web_pages.specs.Serving.{is_served, no_hits};
@@ -12,11 +11,10 @@ ghost use Rattle.link_world.specs.Headline.{IsAct, OfLine};
 ghost use Rattle.link_world.specs.History.{IsPlanned, Planned};
 ghost use Rattle.link_replay.specs.Moving.{FromHere};
 ghost use Rattle.link_replay.specs.Opening.{plan_from};
-ghost use Rattle.uip_node.specs.Laws.{HasBytes};
 ghost use Rattle.link_world.specs.Schedule.{plays as played};
 ghost use Rattle.link_replay.specs.Due.{HasReached, ServesHonest};
 ghost use Rattle.link_replay.specs.Promises.{KeepsPromises};
-ghost use Rattle.link_replay.specs.Playing.{LinesEnd, PlaysSchedule, event_at, refusal_at};
+ghost use Rattle.link_replay.specs.Playing.{LinesEnd, PlaysIfPaged, PlaysSchedule, event_at, refusal_at};
 ghost use Rattle.link_replay.specs.Represents.{WorldRepresents};
 
 use crate::seeing::see_loaded;
@@ -91,8 +89,8 @@ pub(crate) fn play_by<A: App>(
 ) -> Result<WorldOf<A>, ReadSchedule>
     ensures planned { IfOk result (λ world. (k : ℕ) (p : Planned)
         → slice_get (plan_from 1 schedule.now.clients) k ≡ Some p → IsPlanned p) }
-    ensures plays { (pages : Pages) → IsPaged (A.app_spec (A.config shared)) pages → HasBytes pages → All IsU32 (A.numbers shared)
-        → PlaysSchedule (A.app_spec (A.config shared)) A.served (A.numbers shared) schedule.now (WorldRepresents A.App) result }
+    ensures plays { PlaysIfPaged (A.app_spec (A.config shared)) A.served (A.numbers shared) schedule.now
+        (WorldRepresents A.App) result }
 {
     let Ok(mut world) = WorldOf::opening(alloc, schedule.clients.as_slice(), shared) else {
         return Err(ReadSchedule::NoMemory);

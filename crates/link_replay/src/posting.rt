@@ -2,12 +2,10 @@
 
 ghost use Rattle.std.specs.Prelude.{◌≡◌, ◌≤◌, OnOk, List, length};
 ghost use Rattle.std.specs.Option.{option_map_or};
-ghost use Rattle.uip_wire.specs.declared.addr.Addr.{Addr as Address};
-ghost use Rattle.uip_node.specs.Counters.{ticks_of};
-ghost use Rattle.link_world.specs.Bytes.{bytes_by};
-ghost use Rattle.link_world.specs.World.{Content, Side as PlainSide, World as PlainWorld, epoch, epoch_of, numbered, posts};
+ghost use Rattle.link_world.specs.World.{Side as PlainSide, epoch, epoch_of, numbered};
 ghost use Rattle.link_replay.specs.Matched.{Matched};
-ghost use Rattle.link_replay.specs.Represents.{IsLink, LinkRepresents, SideRepresents};
+ghost use Rattle.link_replay.specs.Moving.{KeepsLink, PostsBytes};
+ghost use Rattle.link_replay.specs.Represents.{SideRepresents};
 ghost use Rattle.link_replay.specs.State.{link_of};
 
 use crate::faults::MOST_DATAGRAMS;
@@ -49,10 +47,9 @@ pub(crate) fn post(
     bytes: Vec<u8>,
 ) -> Result<(), NoMemory>
     requires most { length bytes.items ≤ LARGEST_DATAGRAM }
-    ensures kept { (addr : Address) → IsLink addr (link_of sides.now sent.old.items) → IsLink addr (link_of sides.now sent.new.items) }
-    ensures posted { OnOk result ((w : PlainWorld) (content : Content) → LinkRepresents (link_of sides.now sent.old.items) w
-        → tick ≡ ticks_of w.node.history → bytes.items ≡ bytes_by w who content
-        → LinkRepresents (link_of sides.now sent.new.items) (posts w who again content)) }
+    ensures kept { KeepsLink (link_of sides.now sent.old.items) (link_of sides.now sent.new.items) }
+    ensures posted { OnOk result (PostsBytes who tick again bytes.items
+        (link_of sides.now sent.old.items) (link_of sides.now sent.new.items)) }
 {
     if sent.len() >= MOST_DATAGRAMS {
         return Err(NoMemory);

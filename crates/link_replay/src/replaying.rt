@@ -1,10 +1,9 @@
 //! `replay`: a schedule, played by the web server of a site.
 
-ghost use Rattle.std.specs.Prelude.{◌≡◌, ℕ, Bool, List, Err, Ok};
+ghost use Rattle.std.specs.Prelude.{◌≡◌, Bool, Err, Ok};
 ghost use Rattle.file_tree.specs.Site.{files_of};
-ghost use Rattle.file_tree.specs.Opening.{FindsInFiles, site_read};
 ghost use Rattle.site_report.specs.Report.{bad_line as line_of};
-ghost use Rattle.link_replay.specs.Ending.{ReplayEnds};
+ghost use Rattle.link_replay.specs.Ending.{ReplayEnds, ReplayEndsFor};
 ghost use Rattle.link_replay.specs.Due.{WritesText};
 ghost use Rattle.uip_edge.specs.ViewsOf.{work_view, sink_view};
 ghost use Rattle.link_replay.specs.declared.replay_end.ReplayEnd.TheVariants as ends;
@@ -51,8 +50,7 @@ fn replay_site<H: Shelf, K: Sink>(
     shelf: &mut H,
     out: &mut K,
 ) -> ReplayEnd
-    ensures ends { (name : List ℕ) → FindsInFiles (site_read name) (H.held shelf.old) (Ok (files_of site))
-        → ReplayEnds name schedule.now show (work_view H.Shelf K.Sink shelf.old out.old)
+    ensures ends { ReplayEndsFor (Ok (files_of site)) schedule.now show (work_view H.Shelf K.Sink shelf.old out.old)
         (work_view H.Shelf K.Sink shelf.new out.new) result }
     ensures kept { H.held shelf.new ≡ H.held shelf.old }
 {
@@ -72,8 +70,7 @@ fn refuse_site<H: Shelf, K: Sink>(
     shelf: &mut H,
     out: &mut K,
 ) -> ReplayEnd
-    ensures ends { (name : List ℕ) (show : Bool) → FindsInFiles (site_read name) (H.held shelf.old) (Err error)
-        → ReplayEnds name schedule.now show (work_view H.Shelf K.Sink shelf.old out.old)
+    ensures ends { (show : Bool) → ReplayEndsFor (Err error) schedule.now show (work_view H.Shelf K.Sink shelf.old out.old)
         (work_view H.Shelf K.Sink shelf.new out.new) result }
     ensures kept { H.held shelf.new ≡ H.held shelf.old }
 {

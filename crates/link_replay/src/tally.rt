@@ -1,8 +1,7 @@
 //! The counts of a replay's clients and datagrams.
 
-ghost use Rattle.std.specs.Prelude.{◌≡◌, count_by, is_none, length, map, not, sum_by};
-ghost use Rattle.link_client.specs.Calls.{is_opened as open_state};
-ghost use Rattle.link_replay.specs.Kinds.{is_closed as closed_state, is_other as other_state, is_reset as reset_state};
+ghost use Rattle.std.specs.Prelude.{◌≡◌, ◌==◌, count_by, is_none, length, map, not, sum_by};
+ghost use Rattle.link_replay.specs.Kinds.{column};
 ghost use Rattle.link_replay.specs.Shown.{code_side_shown};
 ghost use Rattle.link_replay.specs.Summary.{tally_of};
 
@@ -28,11 +27,15 @@ pub struct Tally {
 pub(crate) fn count_up(sides: &[Side], sent: &[Sent]) -> Tally
     ensures { result ≡ tally_of (map code_side_shown sides.now) (map (λ e. e.again) sent.now) }
 {
+    let closed = count_in(sides, 0);
+    let opened = count_in(sides, 1);
+    let reset = count_in(sides, 2);
+    let other = count_in(sides, 3);
     Tally {
-        closed: closed(sides),
-        opened: opened(sides),
-        reset: reset(sides),
-        other: other(sides),
+        closed,
+        opened,
+        reset,
+        other,
         stale: stale(sides),
         bytes: bytes_taken(sides),
         datagrams: sent.len(),
@@ -40,44 +43,26 @@ pub(crate) fn count_up(sides: &[Side], sent: &[Sent]) -> Tally
     }
 }
 
-/// Returns whether a client received the server's FIN while it was open.
-fn is_closed(state: ClientState) -> bool
-    ensures { result ≡ closed_state state }
+/// Returns the column of the summary in which a client of this state is counted.
+fn column(state: ClientState) -> u8
+    ensures { result ≡ column state }
 {
     match state {
-        ClientState::Closed => true,
-        _ => false,
+        ClientState::Closed => 0,
+        ClientState::Opened => 1,
+        ClientState::Reset => 2,
+        _ => 3,
     }
 }
 
-/// Returns whether a client is open.
-fn is_open(state: ClientState) -> bool
-    ensures { result ≡ open_state state }
+/// Returns how many clients are counted in a column.
+fn count_in(sides: &[Side], number: u8) -> usize
+    ensures { result ≡ count_by (λ side. column side.client.state == number) sides.now }
 {
-    match state {
-        ClientState::Opened => true,
-        _ => false,
-    }
-}
-
-/// Returns whether a client was reset.
-fn is_reset(state: ClientState) -> bool
-    ensures { result ≡ reset_state state }
-{
-    match state {
-        ClientState::Reset => true,
-        _ => false,
-    }
-}
-
-/// Returns whether a client has another state.
-fn is_other(state: ClientState) -> bool
-    ensures { result ≡ other_state state }
-{
-    match state {
-        ClientState::Closed | ClientState::Opened | ClientState::Reset => false,
-        _ => true,
-    }
+    sides
+        .iter()
+        .filter(|side| column(side.client.state) == number)
+        .count()
 }
 
 /// Returns whether a stale datagram was delivered from a client or to it.
@@ -85,46 +70,6 @@ fn is_stale(side: &Side) -> bool
     ensures { result ≡ not (is_none side.now.first_stale) }
 {
     !side.first_stale.is_none()
-}
-
-/// Returns how many clients are closed.
-fn closed(sides: &[Side]) -> usize
-    ensures { result ≡ count_by (λ side. closed_state side.client.state) sides.now }
-{
-    sides
-        .iter()
-        .filter(|side| is_closed(side.client.state))
-        .count()
-}
-
-/// Returns how many clients are open.
-fn opened(sides: &[Side]) -> usize
-    ensures { result ≡ count_by (λ side. open_state side.client.state) sides.now }
-{
-    sides
-        .iter()
-        .filter(|side| is_open(side.client.state))
-        .count()
-}
-
-/// Returns how many clients were reset.
-fn reset(sides: &[Side]) -> usize
-    ensures { result ≡ count_by (λ side. reset_state side.client.state) sides.now }
-{
-    sides
-        .iter()
-        .filter(|side| is_reset(side.client.state))
-        .count()
-}
-
-/// Returns how many clients have another state.
-fn other(sides: &[Side]) -> usize
-    ensures { result ≡ count_by (λ side. other_state side.client.state) sides.now }
-{
-    sides
-        .iter()
-        .filter(|side| is_other(side.client.state))
-        .count()
 }
 
 /// Returns how many clients are not clean.

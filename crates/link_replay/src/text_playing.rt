@@ -1,14 +1,11 @@
 //! Plays a schedule's text by the web server of a site.
 
-ghost use Rattle.std.specs.Prelude.{ℕ, Bool, OnErr, OnOk};
+ghost use Rattle.std.specs.Prelude.{OnErr, OnOk};
 ghost use Rattle.std.specs.Io.KnownBytes.{Appends};
 ghost use Rattle.uip_edge.specs.Causes.{HasCause};
 ghost use Rattle.uip_edge.specs.Writing.{AppendsPrefix, WritesEnd};
-ghost use Rattle.app_events.specs.AppSpec.{AppSpec};
 ghost use Rattle.file_tree.specs.Site.{files_of};
-ghost use Rattle.link_world.specs.World.{World as PlainWorld};
-ghost use Rattle.link_replay.specs.Reaching.{IsAt};
-ghost use Rattle.link_replay.specs.Represents.{WorldRepresents};
+ghost use Rattle.link_replay.specs.Moving.{OfWorld};
 ghost use Rattle.link_replay.specs.Outcome.{bad_schedule as line_of};
 ghost use Rattle.link_replay.specs.Due.{WritesDue, IsPlayDue, IsTextDue, WritesText, TellsFault, told_of};
 ghost use Rattle.uip_edge.specs.ViewsOf.{sink_view};
@@ -62,8 +59,8 @@ pub(crate) fn play_schedule<K: Sink>(
 
 /// Writes the result of a world, and returns the end.
 fn tell<A: App, K: Sink>(world: &WorldOf<A>, telling: Telling, out: &mut K) -> ReplayEnd
-    ensures { (m : AppSpec) (served : ℕ → Bool) (w : PlainWorld) → WorldRepresents A.App world.now w → IsAt m served w
-        → WritesEnd ends.Done ends.WriteFault (sink_view K.Sink out.old) (sink_view K.Sink out.new) (told_of telling w) result }
+    ensures { OfWorld A.App world.now (λ w.
+        WritesEnd ends.Done ends.WriteFault (sink_view K.Sink out.old) (sink_view K.Sink out.new) (told_of telling w) result) }
 {
     match write_world(world, telling, out) {
         Ok(()) => ReplayEnd::Done,
@@ -77,10 +74,8 @@ fn write_world<A: App, K: Sink>(
     telling: Telling,
     out: &mut K,
 ) -> Result<(), Failed>
-    ensures ok { OnOk result ((m : AppSpec) (served : ℕ → Bool) (w : PlainWorld) → WorldRepresents A.App world.now w → IsAt m served w
-        → Appends (K.written out.old) (K.written out.new) (told_of telling w)) }
-    ensures err { OnErr result ((m : AppSpec) (served : ℕ → Bool) (w : PlainWorld) → WorldRepresents A.App world.now w → IsAt m served w
-        → AppendsPrefix (K.written out.old) (K.written out.new) (told_of telling w)) }
+    ensures ok { OnOk result (OfWorld A.App world.now (λ w. Appends (K.written out.old) (K.written out.new) (told_of telling w))) }
+    ensures err { OnErr result (OfWorld A.App world.now (λ w. AppendsPrefix (K.written out.old) (K.written out.new) (told_of telling w))) }
     ensures cause { HasCause (K.faults out.old) (K.faults out.new) result }
 {
     match telling {

@@ -4,7 +4,6 @@ use Rattle.link_world.specs.Acts.{handed}
 use Rattle.link_world.specs.World.{World}
 use Rattle.link_replay.specs.Represents.{LinkRepresents}
 use Rattle.link_replay.specs.State.{Link, link_of}
-use Rattle.link_replay.specs.Plain.{CodeSide}
 use Rattle.link_replay.proofs.Pairs.{there_is}
 use Rattle.link_replay.proofs.Sending
 use Rattle.link_replay.proofs.acting.hear.Goals as goal
@@ -47,15 +46,13 @@ pub returns-clause-delivered : goal.returns-clause-delivered
 returns-clause-delivered c = λ w h t.
     let n : ℕ = c.from-place.result - 1 in
     let is : c.args.number ≡ suc n = omega arith in
-    let old : CodeSide = c.index_mut.result.now in
-    let new : CodeSide = c.hear.new.self in
     let link : Link = link_of c.args.sides.now.items c.args.sent.now.items in
-    let after : Link = link_of (set c.args.sides.now.items n new) c.post_prefix.new.sent.items in
+    let after : Link = link_of (set c.args.sides.now.items n c.hear.new.self) c.post_prefix.new.sent.items in
     let back = Sending.area_back c.hear.new.area c.as_mut_slice.result.now c.args.area.now.items c.args.area.now.len c.hear.ensures.room c.as_mut_slice.ensures.value c.as_mut_slice.ensures.len in
     let read : c.as_slice-2.result.now ≡ c.hear.new.area = c.as_slice-2.ensures.value ∙ back.is in
-    Sending.done_at link after w c.args.number n old (handed w c.args.number c.args.datagram.now) is h
-    (there_is c.args.sides.now.items n old c.index_mut.ensures.value (omega arith))
+    Sending.done_at link after w c.args.number n c.index_mut.result.now (handed w c.args.number c.args.datagram.now) is h
+    (there_is c.args.sides.now.items n c.index_mut.result.now c.index_mut.ensures.value (omega arith))
     (λ s g o. subst (λ (x : World). LinkRepresents after x) (Sending.heard_handed w c.args.number n s c.args.datagram.now is g)
-    (Sending.step_posted link w c.args.number n old new s is h g o c.hear.ensures.setup (client_hands s.client (client_hears s.client.setup c.args.datagram.now)) c.in_ok-len.len c.hear.new.area after c.args.tick
+    (Sending.step_posted link w c.args.number n c.index_mut.result.now c.hear.new.self s is h g o c.hear.ensures.setup (client_hands s.client (client_hears s.client.setup c.args.datagram.now)) c.in_ok-len.len c.hear.new.area after c.args.tick
     (c.in_ok-len.ensures.step s o)
-    (Sending.posted_as c.args.number c.args.tick c.in_ok-len.len _ c.hear.new.area _ (set c.args.sides.now.items n new) c.args.sent.now.items c.post_prefix.new.sent.items read c.as_slice.ensures.value c.in_ok-post_prefix.ensures.posted) t))
+    (Sending.posted_as c.args.number c.args.tick c.in_ok-len.len _ c.hear.new.area _ (set c.args.sides.now.items n c.hear.new.self) c.args.sent.now.items c.post_prefix.new.sent.items read c.as_slice.ensures.value c.in_ok-post_prefix.ensures.posted) t))

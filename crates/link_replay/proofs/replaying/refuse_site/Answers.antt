@@ -3,7 +3,7 @@ use Rattle.uip_edge.specs.ViewsOf.{work_view}
 use Rattle.link_replay.proofs.replaying.refuse_site.Goals as goal
 
 pub returns-in-Ok-clause-ends : goal.returns-in-Ok-clause-ends
-returns-in-Ok-clause-ends g c = λ name show read.
+returns-in-Ok-clause-ends g c = λ show name read.
     image_ends name c.args.schedule.now show
     (work_view g.H.Shelf g.K.Sink c.args.shelf.now c.args.out.now)
     (work_view g.H.Shelf g.K.Sink c.read_file.new.shelf c.tell_site.new.out)

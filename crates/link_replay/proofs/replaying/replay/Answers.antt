@@ -17,4 +17,4 @@ returns-in-Err-Bad-clause-ends g c =
     let opens = subst (λ (f : LoadFault). Opens c.args.site.now old.shelf.held old.shelf.faults amid.shelf.faults (Err f)) c.in-Err-Bad.field-0-is c.in-Err-Bad.ensures.opens in
     let kept = c.in-Err-Bad.ensures.kept in
     subst (λ (d : WorkView). ReplayEnds c.args.site.now c.args.schedule.now c.args.show d new c.refuse_site.result) (same_work old amid kept refl opens.1)
-    (c.refuse_site.ensures.ends c.args.site.now c.args.show (subst (λ (h : Option Files). FindsInFiles (site_read c.args.site.now) h (Err error)) (sym kept) opens.0))
+    (c.refuse_site.ensures.ends c.args.show c.args.site.now (subst (λ (h : Option Files). FindsInFiles (site_read c.args.site.now) h (Err error)) (sym kept) opens.0))

@@ -1,15 +1,23 @@
 -- The line is that of the world's clients and datagrams.
-use Rattle.std.proofs.Common.{◌≡◌, List, map, ap, subst, ◌∙◌}
+use Rattle.std.proofs.Common.{◌≡◌, ℕ, List, map, ap, subst, ◌∙◌}
 use Rattle.std.proofs.lemmas.Result.{on_err_weaker, on_ok_weaker}
 use Rattle.std.specs.Io.KnownBytes.{Appends}
 use Rattle.uip_edge.specs.Writing.{AppendsPrefix}
 use Rattle.link_replay.specs.Plain.{CodeSent, CodeSide}
 use Rattle.link_replay.specs.Shown.{code_side_shown}
-use Rattle.link_replay.specs.Summary.{tally_line, tally_of}
+use Rattle.link_world.specs.World.{World}
+use Rattle.link_replay.specs.Represents.{LinkRepresents}
+use Rattle.link_replay.specs.State.{Link}
+use Rattle.link_replay.specs.Summary.{summary_of, tally_line, tally_of}
 use Rattle.link_replay.specs.declared.tally.Tally.{Tally}
 use Rattle.link_replay.proofs.Saying.{wrote_by}
 use Rattle.link_replay.proofs.Shown.{tally_told}
 use Rattle.link_replay.proofs.world.WorldOf.summary.Goals as goal
+
+-- what holds for the line of these counts holds for the summary of a world that they represent
+of_world : (P : List ℕ → Type 0) (link : Link) (w : World) → LinkRepresents link w
+    → P (tally_line (tally_of (map code_side_shown link.sides) (map (λ e. e.again) link.sent))) → P (summary_of w)
+of_world P link w st h = subst (λ (t : Tally). P (tally_line t)) (tally_told link w st) h
 
 pub returns-clause-shows : goal.returns-clause-shows
 returns-clause-shows g c = rw (← c.self.view_is) (
@@ -28,13 +36,11 @@ returns-clause-shows g c = rw (← c.self.view_is) (
 pub returns-clause-ok : goal.returns-clause-ok
 returns-clause-ok g c =
     on_ok_weaker c.write_whole.result
-    (λ wrote w stands. subst (λ (t : Tally). Appends (g.K.Sink.written c.args.sink.now) (g.K.Sink.written c.write_whole.new.self) (tally_line t))
-    (tally_told c.args.self.now.link w stands.link) wrote)
+    (λ wrote w stands. of_world (Appends (g.K.Sink.written c.args.sink.now) (g.K.Sink.written c.write_whole.new.self)) c.args.self.now.link w stands.link wrote)
     (returns-clause-shows g c).whole
 
 pub returns-clause-err : goal.returns-clause-err
 returns-clause-err g c =
     on_err_weaker c.write_whole.result
-    (λ wrote w stands. subst (λ (t : Tally). AppendsPrefix (g.K.Sink.written c.args.sink.now) (g.K.Sink.written c.write_whole.new.self) (tally_line t))
-    (tally_told c.args.self.now.link w stands.link) wrote)
+    (λ wrote w stands. of_world (AppendsPrefix (g.K.Sink.written c.args.sink.now) (g.K.Sink.written c.write_whole.new.self)) c.args.self.now.link w stands.link wrote)
     (returns-clause-shows g c).prefix
