@@ -50,7 +50,7 @@ pub record IsSnapshot (snapshot : Snapshot) : Type 0 where
   pub now : IsNow snapshot.now
 
 -- q has the delivered input, the snapshots and the acknowledged offset of p.
-pub record HasSaidAlike (p q : AppState) : Type 0 where
+pub record SameProgress (p q : AppState) : Type 0 where
   pub delivered : q.delivered ≡ p.delivered
   pub captures : q.captures ≡ p.captures
   pub acked : q.acked ≡ p.acked
@@ -72,21 +72,21 @@ pub record IsPaged (m : AppSpec) (pages : Pages) : Type 0 where
   -- The output is the page.
   pub output : (p : AppState) → m.output p ≡ pages.text p.delivered p.captures
   -- How each call changes the delivered input, the snapshots and the acknowledged offset.
-  pub connected_heard : (numbers : List ℕ) (port : ℕ) → (m.connected numbers port).part.delivered ≡ []
+  pub connected_delivered : (numbers : List ℕ) (port : ℕ) → (m.connected numbers port).part.delivered ≡ []
   pub connected_captures : (numbers : List ℕ) (port : ℕ) → (m.connected numbers port).part.captures ≡ []
   pub connected_acked : (numbers : List ℕ) (port : ℕ) → (m.connected numbers port).part.acked ≡ 0
-  pub newdata_heard : (numbers : List ℕ) (p : AppState) (piece : List ℕ) → (m.newdata numbers p piece).part.delivered ≡ p.delivered ++ piece
+  pub newdata_delivered : (numbers : List ℕ) (p : AppState) (piece : List ℕ) → (m.newdata numbers p piece).part.delivered ≡ p.delivered ++ piece
   pub newdata_captures : (numbers : List ℕ) (p : AppState) (piece : List ℕ) → (m.newdata numbers p piece).part.captures ≡ p.captures
   pub newdata_acked : (numbers : List ℕ) (p : AppState) (piece : List ℕ) → (m.newdata numbers p piece).part.acked ≡ p.acked
-  pub prepare_heard : (numbers : List ℕ) (p : AppState) (now : Now) → (m.prepare numbers p now).delivered ≡ p.delivered
+  pub prepare_delivered : (numbers : List ℕ) (p : AppState) (now : Now) → (m.prepare numbers p now).delivered ≡ p.delivered
   pub prepare_captures : (numbers : List ℕ) (p : AppState) (now : Now)
       → ((m.prepare numbers p now).captures ≡ p.captures)
       ⊎ ((m.prepare numbers p now).captures ≡ p.captures ++ record { numbers = numbers; now = now } ∷ [])
   pub prepare_acked : (numbers : List ℕ) (p : AppState) (now : Now) → (m.prepare numbers p now).acked ≡ p.acked
-  pub acked_like : (numbers : List ℕ) (p : AppState) (n : ℕ) → (m.acked numbers p n).part.delivered ≡ p.delivered
+  pub acked_delivered : (numbers : List ℕ) (p : AppState) (n : ℕ) → (m.acked numbers p n).part.delivered ≡ p.delivered
   pub acked_captures : (numbers : List ℕ) (p : AppState) (n : ℕ) → (m.acked numbers p n).part.captures ≡ p.captures
   pub acked_moves : (numbers : List ℕ) (p : AppState) (n : ℕ) → (m.acked numbers p n).part.acked ≡ p.acked + n
-  pub polled_like : (numbers : List ℕ) (p : AppState) → HasSaidAlike p (m.polled numbers p).part
+  pub polled_same : (numbers : List ℕ) (p : AppState) → SameProgress p (m.polled numbers p).part
   pub wants : (numbers : List ℕ) (p : AppState) → MayWant pages p (m.want numbers p)
   -- The counters stay below 2^32.
   pub connected_numbers : (numbers : List ℕ) (port : ℕ) → All IsU32 numbers → All IsU32 (m.connected numbers port).numbers

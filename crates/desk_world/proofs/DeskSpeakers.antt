@@ -124,7 +124,7 @@ module _ (site : SiteContent) (loaded : IsLoaded site) where
     short = short_session;
     output = λ p h. as_shell files p.port (λ m. m.output p ≡ sessions.text p.delivered p.captures) h (keeps_session.output p);
     connected_here = λ numbers port h. ap (λ (n : ℕ). n == TELNET_PORT) (keeps_port.connected numbers port) ∙ h;
-    connected_heard = λ numbers port h. as_shell files port (λ m. (m.connected numbers port).part.delivered ≡ []) h refl;
+    connected_delivered = λ numbers port h. as_shell files port (λ m. (m.connected numbers port).part.delivered ≡ []) h refl;
     newdata = session_hears;
     prepare = session_prepares;
     acked = session_acked;
@@ -149,7 +149,7 @@ module _ (site : SiteContent) (loaded : IsLoaded site) where
     prefix = piece;
     rest = [];
     joined = append-nil piece;
-    delivered = as_web files p.port (λ m. (m.newdata numbers p piece).part.delivered ≡ p.delivered ++ piece) h (web_laws.newdata_heard numbers p piece);
+    delivered = as_web files p.port (λ m. (m.newdata numbers p piece).part.delivered ≡ p.delivered ++ piece) h (web_laws.newdata_delivered numbers p piece);
     all = inl refl;
     no_more = λ e. absurd (cc);
   }
@@ -168,11 +168,11 @@ module _ (site : SiteContent) (loaded : IsLoaded site) where
     short = λ q k l all. web_laws.short q k all;
     output = λ p h. as_web files p.port (λ m. m.output p ≡ (pages_of files).text p.delivered p.captures) h (web_laws.output p);
     connected_here = λ numbers port h. ap (λ (n : ℕ). not (n == TELNET_PORT)) (keeps_port.connected numbers port) ∙ h;
-    connected_heard = λ numbers port h. as_web files port (λ m. (m.connected numbers port).part.delivered ≡ []) h (web_laws.connected_heard numbers port);
+    connected_delivered = λ numbers port h. as_web files port (λ m. (m.connected numbers port).part.delivered ≡ []) h (web_laws.connected_delivered numbers port);
     newdata = web_hears;
-    prepare = λ numbers p now h. web_keeps p (desk.prepare numbers p now) (keeps_port.prepare numbers p now) h (as_web files p.port (λ m. (m.prepare numbers p now).delivered ≡ p.delivered) h (web_laws.prepare_heard numbers p now));
-    acked = λ numbers p n h. web_keeps p (desk.acked numbers p n).part (keeps_port.acked numbers p n) h (as_web files p.port (λ m. (m.acked numbers p n).part.delivered ≡ p.delivered) h (web_laws.acked_like numbers p n));
-    polled = λ numbers p h. web_keeps p (desk.polled numbers p).part (keeps_port.polled numbers p) h (as_web files p.port (λ m. (m.polled numbers p).part.delivered ≡ p.delivered) h (web_laws.polled_like numbers p).delivered);
+    prepare = λ numbers p now h. web_keeps p (desk.prepare numbers p now) (keeps_port.prepare numbers p now) h (as_web files p.port (λ m. (m.prepare numbers p now).delivered ≡ p.delivered) h (web_laws.prepare_delivered numbers p now));
+    acked = λ numbers p n h. web_keeps p (desk.acked numbers p n).part (keeps_port.acked numbers p n) h (as_web files p.port (λ m. (m.acked numbers p n).part.delivered ≡ p.delivered) h (web_laws.acked_delivered numbers p n));
+    polled = λ numbers p h. web_keeps p (desk.polled numbers p).part (keeps_port.polled numbers p) h (as_web files p.port (λ m. (m.polled numbers p).part.delivered ≡ p.delivered) h (web_laws.polled_same numbers p).delivered);
     closes = web_closes;
   }
 

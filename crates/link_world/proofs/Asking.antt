@@ -139,15 +139,15 @@ fin_stays FinAt.NotSent = refl
 fin_stays FinAt.Out = refl
 fin_stays FinAt.Acked = refl
 
-record HasHeard (c : AbstractClient) (s : PlainSegment) (d : AbstractClient) : Type 0 where
+record HasDelivered (c : AbstractClient) (s : PlainSegment) (d : AbstractClient) : Type 0 where
   used_is : used d ≡ used c
   asked_is : asked_bytes d ≡ asked_bytes c
   iss : own_first d ≡ own_first c
   acked : (d.acked ≡ c.acked) ⊎ ((has_ack s.flags ≡ true) × (s.ack ≡ next_own c) × (d.acked ≡ c.acked + c.out))
 
-has_heard : (c : AbstractClient) (s : PlainSegment) → HasHeard c s (hears_ack c s)
+has_heard : (c : AbstractClient) (s : PlainSegment) → HasDelivered c s (hears_ack c s)
 has_heard c s =
-    choose (λ d. HasHeard c s d) (has_ack s.flags && (has_outstanding c && eqb s.ack (next_own c))) _ _
+    choose (λ d. HasDelivered c s d) (has_ack s.flags && (has_outstanding c && eqb s.ack (next_own c))) _ _
     (λ e. (let a = and_true (has_ack s.flags) (has_outstanding c && eqb s.ack (next_own c)) e in
     let b = and_true (has_outstanding c) (eqb s.ack (next_own c)) a.1 in
     record { used_is = omega (arith, ap one_if (fin_stays c.fin)); asked_is = omega arith; iss = refl; acked = inr (a.0, eqb-eq s.ack (next_own c) b.1, refl) }))
@@ -252,7 +252,7 @@ module _ (m : AppSpec) (pages : Pages) (lawful : IsPaged m pages) where
       (λ a fresh. (let b : Connection = prepared m (now o.connection) o.connection o.numbers in
       let d : Connection = (ask m (now o.connection) fresh o.connection o.numbers).connection in
       let u = wanted_unmoved m (m.want o.numbers b.part) fresh b o.numbers in
-      let delivered : d.part.delivered ≡ o.connection.part.delivered = ap (λ (p : AppState). p.delivered) u.part ∙ lawful.prepare_heard o.numbers o.connection.part (now o.connection) in
+      let delivered : d.part.delivered ≡ o.connection.part.delivered = ap (λ (p : AppState). p.delivered) u.part ∙ lawful.prepare_delivered o.numbers o.connection.part (now o.connection) in
       let r = t.row in
       let h = r.delivered in
       record {
@@ -284,7 +284,7 @@ module _ (m : AppSpec) (pages : Pages) (lawful : IsPaged m pages) where
   connects_at_most : (c : Connection) (numbers : List ℕ) (s : PlainSegment) → length (connects m c numbers s).connection.part.delivered ≤ length c.part.delivered + length s.text
   connects_at_most c numbers s =
       let start : After = m.connected numbers c.sockets.own_port.0 in
-      let none : length start.part.delivered ≡ 0 = ap (λ (x : List ℕ). length x) (lawful.connected_heard numbers c.sockets.own_port.0) in
+      let none : length start.part.delivered ≡ 0 = ap (λ (x : List ℕ). length x) (lawful.connected_delivered numbers c.sockets.own_port.0) in
       omega (arith, none, hears_at_most start.numbers start.part s.text)
 
   -- text is discarded
@@ -298,9 +298,9 @@ module _ (m : AppSpec) (pages : Pages) (lawful : IsPaged m pages) where
   unfolding fin_acked fin_waits
   by_state_row SynRcvd true c numbers s = row_text c _ s refl refl (connects_at_most c numbers s)
   by_state_row SynRcvd false c numbers s = row_none c _ s record { peer = refl; taken = refl; delivered = refl }
-  by_state_row Established true c numbers s = established_row true c _ (m.acked numbers c.part c.len).numbers s record { peer = refl; taken = refl; delivered = lawful.acked_like numbers c.part c.len }
+  by_state_row Established true c numbers s = established_row true c _ (m.acked numbers c.part c.len).numbers s record { peer = refl; taken = refl; delivered = lawful.acked_delivered numbers c.part c.len }
   by_state_row Established false c numbers s = established_row false c c numbers s record { peer = refl; taken = refl; delivered = refl }
-  by_state_row CloseWait true c numbers s = row_none c _ s record { peer = refl; taken = refl; delivered = lawful.acked_like numbers c.part c.len }
+  by_state_row CloseWait true c numbers s = row_none c _ s record { peer = refl; taken = refl; delivered = lawful.acked_delivered numbers c.part c.len }
   by_state_row CloseWait false c numbers s = row_none c _ s record { peer = refl; taken = refl; delivered = refl }
   by_state_row FinWait1 true c numbers s = choose (λ (o : Outcome). Row c o.connection s) (has_fin s.flags) _ _ (λ f. let_go_fin c _ s f refl refl refl) (λ f. let_go_text c _ s refl refl refl)
   by_state_row FinWait1 false c numbers s =
@@ -355,7 +355,7 @@ module _ (m : AppSpec) (pages : Pages) (lawful : IsPaged m pages) where
         beats = λ r b. beat_stays b c numbers;
         rested = λ e. record { peer = refl; taken = refl; delivered = refl };
         ends = record { peer = refl; taken = refl; delivered = refl };
-        polled = λ e l. record { peer = refl; taken = refl; delivered = (lawful.polled_like numbers c.part).delivered };
+        polled = λ e l. record { peer = refl; taken = refl; delivered = (lawful.polled_same numbers c.part).delivered };
       })
 
   -- what a connection sends acknowledges all that it accepted

@@ -100,8 +100,8 @@ module _ (setup : Setup) (request : List ℕ) where
   all_three false b c e f g = absurd (cc)
 
   -- all that is outstanding is acknowledged
-  hears_all : (received : List ℕ) (a o x : ℕ) (s : PlainSegment) → has_ack s.flags ≡ true → s.ack ≡ wrap (setup.iss.0 + 1 + (a + o)) → hears_ack (open_with received a o x) s ≡ open_with received (a + o) 0 x
-  hears_all received a o x s h e =
+  accepts_all : (received : List ℕ) (a o x : ℕ) (s : PlainSegment) → has_ack s.flags ≡ true → s.ack ≡ wrap (setup.iss.0 + 1 + (a + o)) → hears_ack (open_with received a o x) s ≡ open_with received (a + o) 0 x
+  accepts_all received a o x s h e =
       let c : AbstractClient = open_with received a o x in
       let after : AbstractClient = open_with received (a + o) 0 x in
       let all : Bool = has_ack s.flags && (has_outstanding c && eqb s.ack (next_own c)) in
@@ -117,7 +117,7 @@ module _ (setup : Setup) (request : List ℕ) where
       SendsNext (client_takes (open_with received a o x) (node_says ACK seq ack [])) received (a + o) x
   unfolding client_takes takes_by takes_in_order
   goes_on_at_ack received a o x seq ack e h =
-      subst (λ (c : AbstractClient). SendsNext (sends_next false c) received (a + o) x) (sym (hears_all received a o x (node_says ACK seq ack []) refl e)) (sends_part false received (a + o) x h)
+      subst (λ (c : AbstractClient). SendsNext (sends_next false c) received (a + o) x) (sym (accepts_all received a o x (node_says ACK seq ack []) refl e)) (sends_part false received (a + o) x h)
 
   -- text at the expected number
   pub takes_a_text : (received : List ℕ) (a o x seq ack : ℕ) (text : List ℕ) → ack ≡ wrap (setup.iss.0 + 1 + (a + o)) → seq ≡ x → 0 < length text →
@@ -129,7 +129,7 @@ module _ (setup : Setup) (request : List ℕ) where
       let in_order : eqb seq x && true ≡ true = ap (λ b. b && true) (eq-eqb seq x f) in
       let P : ClientStep → Type 0 = λ r. SendsNext r (received ++ text) (a + o) (wrap (x + length text + 0)) in
       subst (λ (c : AbstractClient). P (if not (occupies_sequence_space s) then sends_next false c else (if eqb seq c.expected && client.is_receiving c.state then sends_next true (takes_text c s) else sends_next true c)))
-      (sym (hears_all received a o x s refl e))
+      (sym (accepts_all received a o x s refl e))
       (choose P (not (occupies_sequence_space s)) _ _ (λ y. absurd (cc))
       (λ n. choose P (eqb seq x && true) _ _ (λ y. sends_something (received ++ text) (a + o) (wrap (x + length text + 0))) (λ y. absurd (cc))))
 
@@ -144,7 +144,7 @@ module _ (setup : Setup) (request : List ℕ) where
   takes_the_fin received a o x seq ack e f =
       let s : PlainSegment = node_says (FIN + ACK) seq ack [] in
       let d : AbstractClient = open_with received (a + o) 0 x in
-      ap (λ (c : AbstractClient). if eqb seq c.expected && client.is_receiving c.state then sends_next true (takes_text c s) else sends_next true c) (hears_all received a o x s refl e)
+      ap (λ (c : AbstractClient). if eqb seq c.expected && client.is_receiving c.state then sends_next true (takes_text c s) else sends_next true c) (accepts_all received a o x s refl e)
       ∙ ap (λ b. if b && true then sends_next true (takes_text d s) else sends_next true d) (eq-eqb seq x f)
 
   -- the ACK of its own FIN

@@ -282,7 +282,7 @@ module _ (m : AppSpec) (pages : Pages) (lawful : IsPaged m pages) (served : ℕ 
         let now : p.delivered ++ text ≡ take (taken + length text) request =
         ap (λ l. l ++ text) r.delivered ∙ ap (λ l. take taken request ++ l) own ∙ sym (take-add taken (length text) request) in
         let more = answers.hears numbers p text (drop (taken + length text) request) r.good (ap (λ l. l ++ drop (taken + length text) request) now ∙ take-append-drop (taken + length text) request) in
-        record { good = more.0; delivered = lawful.newdata_heard numbers p text ∙ now; few = omega (arith, more.1, r.few) }
+        record { good = more.0; delivered = lawful.newdata_delivered numbers p text ∙ now; few = omega (arith, more.1, r.few) }
 
     all_of : (p : AppState) (taken : ℕ) → p.delivered ≡ take taken request → length request ≤ taken → p.delivered ≡ request
     all_of p taken e h = e ∙ take_all taken request h
@@ -340,7 +340,7 @@ module _ (m : AppSpec) (pages : Pages) (lawful : IsPaged m pages) (served : ℕ 
         let now : Now = snapshot node event 0 d in
         let is : (c : Connection) → FitConn c → IsNow (snapshot node event 0 c) = λ c g. snapshot_fits node event 0 c (omega arith) (fits_all old o) g in
         let q : AppState = m.prepare numbers p now in
-        let delivered : q.delivered ≡ take taken request = lawful.prepare_heard numbers p now ∙ r.delivered in
+        let delivered : q.delivered ≡ take taken request = lawful.prepare_delivered numbers p now ∙ r.delivered in
         let goes = answers.goes_on numbers p now (drop taken request) r.good (ap (λ l. l ++ drop taken request) r.delivered ∙ take-append-drop taken request) n (is d k) (omega arith) in
         by_want old before numbers history event fresh taken iss acked most q (m.want numbers q) f delivered n (lawful.wants numbers q) (at_most_more q (left p) most (m.want numbers q) r.few goes)
         (asked_fits m (steady_of m pages lawful) (snapshot node event 0) is (leaves d numbers (Step.Ask fresh)) record { conn = k; numbers = n })
@@ -374,7 +374,7 @@ module _ (m : AppSpec) (pages : Pages) (lawful : IsPaged m pages) (served : ℕ 
         let start : After = m.connected numbers setup.server_port.0 in
         let begins = answers.starts numbers setup.server_port.0 in
         asked_after SynRcvd numbers start.numbers history 0 iss 0 1 (0 + 1) texts p start.part s seg (omega arith) b.text refl (first_visit numbers iss x p s b e)
-        record { good = begins.0; delivered = lawful.connected_heard numbers setup.server_port.0; few = begins.1 } n f
+        record { good = begins.0; delivered = lawful.connected_delivered numbers setup.server_port.0; few = begins.1 } n f
 
     -- and less is left
     pub record Visited (r : NodeStep) (taken iss acked most : ℕ) : Type 0 where
@@ -393,7 +393,7 @@ module _ (m : AppSpec) (pages : Pages) (lawful : IsPaged m pages) (served : ℕ 
           less = inr (rest numbers).1;
           at_most = omega (arith, (rest numbers).1);
           says = asked_after Established numbers told.numbers history taken iss acked len (acked + len) (left told.part) p told.part s seg h b.text refl (told_visit numbers taken iss acked len x p s b l e)
-              record { good = (rest numbers).0; delivered = lawful.acked_like numbers p len ∙ delivered; few = omega arith } n f;
+              record { good = (rest numbers).0; delivered = lawful.acked_delivered numbers p len ∙ delivered; few = omega arith } n f;
         }
     visits numbers history taken iss acked _ x most p s seg b e h (awaits_none l r) n f =
         let some : 0 < length s.text = omega (arith, l, ap length b.text, brought_length taken h) in

@@ -51,7 +51,7 @@ pub record HasOutputModel (m : AppSpec) (speaker : Speaker) : Type 0 where
   pub short : (q : List ℕ) (k : List Snapshot) → length q ≤ 4096 → All IsSnapshot k → length (speaker.text q k) < 1073741824
   pub output : (p : AppState) → speaker.here p ≡ true → m.output p ≡ speaker.text p.delivered p.captures
   pub connected_here : (numbers : List ℕ) (port : ℕ) → speaker.at port ≡ true → speaker.here (m.connected numbers port).part ≡ true
-  pub connected_heard : (numbers : List ℕ) (port : ℕ) → speaker.at port ≡ true → (m.connected numbers port).part.delivered ≡ []
+  pub connected_delivered : (numbers : List ℕ) (port : ℕ) → speaker.at port ≡ true → (m.connected numbers port).part.delivered ≡ []
   pub newdata : (numbers : List ℕ) (p : AppState) (piece : List ℕ) → speaker.here p ≡ true → HearsSome speaker p (m.newdata numbers p piece).part piece
   pub prepare : (numbers : List ℕ) (p : AppState) (now : Now) → speaker.here p ≡ true → KeepsHeard speaker p (m.prepare numbers p now)
   pub acked : (numbers : List ℕ) (p : AppState) (n : ℕ) → speaker.here p ≡ true → KeepsHeard speaker p (m.acked numbers p n).part
@@ -126,19 +126,19 @@ paged_speaks m pages lawful = record {
   short = λ q k l f. lawful.short q k f;
   output = λ p h. lawful.output p;
   connected_here = λ numbers port h. refl;
-  connected_heard = λ numbers port h. lawful.connected_heard numbers port;
+  connected_delivered = λ numbers port h. lawful.connected_delivered numbers port;
   newdata = λ numbers p piece h. record {
     here = refl;
     prefix = piece;
     rest = [];
     joined = append_nothing piece;
-    delivered = lawful.newdata_heard numbers p piece;
+    delivered = lawful.newdata_delivered numbers p piece;
     all = inl refl;
     no_more = λ e. absurd (cc);
   };
-  prepare = λ numbers p now h. record { here = refl; delivered = lawful.prepare_heard numbers p now; lost = refl };
-  acked = λ numbers p n h. record { here = refl; delivered = lawful.acked_like numbers p n; lost = refl };
-  polled = λ numbers p h. record { here = refl; delivered = (lawful.polled_like numbers p).delivered; lost = refl };
+  prepare = λ numbers p now h. record { here = refl; delivered = lawful.prepare_delivered numbers p now; lost = refl };
+  acked = λ numbers p n h. record { here = refl; delivered = lawful.acked_delivered numbers p n; lost = refl };
+  polled = λ numbers p h. record { here = refl; delivered = (lawful.polled_same numbers p).delivered; lost = refl };
   closes = λ numbers p h fits e. subst (λ w. MayWant (page_by (paged pages)) p w) e (closes_page numbers p);
 }
   where

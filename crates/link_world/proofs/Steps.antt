@@ -289,7 +289,7 @@ module _ (m : AppSpec) (speaker : Speaker) (laws : HasOutputModel m speaker) whe
         let start : AppState = (m.connected numbers c.sockets.own_port.0).part in
         let x = hears_is m speaker laws (m.connected numbers c.sockets.own_port.0).numbers start s.text (laws.connected_here numbers c.sockets.own_port.0 h.port) in
         let d : Connection = with_part (hears m (m.connected numbers c.sockets.own_port.0).numbers start s.text).part (takes (length s.text) (in_state Established (rests c))) in
-        let none : start.delivered ≡ [] = laws.connected_heard numbers c.sockets.own_port.0 h.port in
+        let none : start.delivered ≡ [] = laws.connected_delivered numbers c.sockets.own_port.0 h.port in
         let part : IsPart client.request s.text 0 = said_part at_epoch c s 0 steady output nr pf h.taken (omega arith) e in
         let begins : IsPrefixOf start.delivered client.request = subst (λ q. IsPrefixOf q client.request) (sym none) record { rest = client.request; joined = refl } in
         let acked : d.part.acked ≡ 0 = x.acked ∙ laws.steady.connected_acked numbers c.sockets.own_port.0 in

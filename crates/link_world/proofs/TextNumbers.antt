@@ -83,7 +83,7 @@ module _ (m : AppSpec) (pages : Pages) (lawful : IsPaged m pages) where
       let b : Connection = prepared m now o.connection o.numbers in
       let p = h.open_there a in
       let g = h.num in
-      let same : Num b = record { at = open_num o.connection b o.connection.state p refl refl (lawful.prepare_acked o.numbers o.connection.part now) (lawful.prepare_heard o.numbers o.connection.part now) g.at } in
+      let same : Num b = record { at = open_num o.connection b o.connection.state p refl refl (lawful.prepare_acked o.numbers o.connection.part now) (lawful.prepare_delivered o.numbers o.connection.part now) g.at } in
       wanted_num (m.want o.numbers b.part) fresh b o.numbers p same))
       h.num
 
@@ -121,7 +121,7 @@ module _ (m : AppSpec) (pages : Pages) (lawful : IsPaged m pages) where
       let port : ℕ = c.sockets.own_port.0 in
       let start = m.connected numbers port in
       let x : Heard m pages lawful start.part (hears m start.numbers start.part s.text).part s.text = hears_is m pages lawful start.numbers start.part s.text in
-      let none : start.part.delivered ≡ [] = lawful.connected_heard numbers port in
+      let none : start.part.delivered ≡ [] = lawful.connected_delivered numbers port in
       let zero : start.part.acked ≡ 0 = lawful.connected_acked numbers port in
       let text : length (hears m start.numbers start.part s.text).part.delivered ≡ length s.text = ap length x.delivered ∙ ap (λ l. length (l ++ s.text)) none in
       record { num = record { at = (omega (arith, h.0, h.1, x.acked, zero), omega (arith, h.2, text)) }; open_there = λ z. refl }
@@ -130,14 +130,14 @@ module _ (m : AppSpec) (pages : Pages) (lawful : IsPaged m pages) where
       let told = m.acked numbers c.part c.len in
       let b : Connection = with_part told.part (rests c) in
       let moved : told.part.acked ≡ c.part.acked + c.len = lawful.acked_moves numbers c.part c.len in
-      let same : told.part.delivered ≡ c.part.delivered = lawful.acked_like numbers c.part c.len in
+      let same : told.part.delivered ≡ c.part.delivered = lawful.acked_delivered numbers c.part c.len in
       established_num true b told.numbers s e (omega (arith, h.0, moved)) (omega (arith, h.1, ap length same))
   by_state_num Established false c numbers s e h = established_num false c numbers s e h.0 h.1
   by_state_num CloseWait true c numbers s e h =
       let told = m.acked numbers c.part c.len in
       let d : Connection = with_window s.window (with_part told.part (rests c)) in
       let moved : told.part.acked ≡ c.part.acked + c.len = lawful.acked_moves numbers c.part c.len in
-      let same : told.part.delivered ≡ c.part.delivered = lawful.acked_like numbers c.part c.len in
+      let same : told.part.delivered ≡ c.part.delivered = lawful.acked_delivered numbers c.part c.len in
       record { num = num_at d CloseWait e (omega (arith, h.0, moved), omega (arith, h.1, ap length same)); open_there = λ z. ap is_open e }
   by_state_num CloseWait false c numbers s e h = still (with_window s.window c) CloseWait Step.Drop numbers e refl (h.0, h.1)
   by_state_num FinWait1 true c numbers s e h =
@@ -181,7 +181,7 @@ module _ (m : AppSpec) (pages : Pages) (lawful : IsPaged m pages) where
     rested = λ e. record { num = older_num c g; open_there = λ z. absurd (cc) };
     ends = record { num = closes_num c; open_there = λ z. absurd (cc) };
     polled = λ e l.
-        (let x = lawful.polled_like numbers c.part in
+        (let x = lawful.polled_same numbers c.part in
         let d : Connection = with_part (m.polled numbers c.part).part c in
         record { num = record { at = open_num c d c.state (ap is_open e) refl refl x.acked x.delivered g.at }; open_there = λ z. ap is_open e });
   }

@@ -105,21 +105,21 @@ module _ (m : AppSpec) (pages : Pages) (lawful : IsPaged m pages) where
       here = λ p. true;
       lost = λ p. false;
       output = λ p h. lawful.output p;
-      connected = λ numbers. (refl, lawful.connected_heard numbers port);
+      connected = λ numbers. (refl, lawful.connected_delivered numbers port);
       newdata = λ numbers p piece h. record {
         prefix = piece;
         rest = [];
         joined = append_nothing piece;
-        delivered = (refl, lawful.newdata_heard numbers p piece);
+        delivered = (refl, lawful.newdata_delivered numbers p piece);
         all = inl refl;
         no_more = λ e. absurd (cc);
       };
-      prepare = λ numbers p now h. ((refl, lawful.prepare_heard numbers p now), refl);
-      acked = λ numbers p n h. ((refl, lawful.acked_like numbers p n), refl);
-      polled = λ numbers p h. ((refl, (lawful.polled_like numbers p).delivered), refl);
+      prepare = λ numbers p now h. ((refl, lawful.prepare_delivered numbers p now), refl);
+      acked = λ numbers p n h. ((refl, lawful.acked_delivered numbers p n), refl);
+      polled = λ numbers p h. ((refl, (lawful.polled_same numbers p).delivered), refl);
       closes = λ numbers p h fits e. closes_at_end numbers p e;
     };
-    hears_all = λ p. refl;
+    accepts_all = λ p. refl;
     short = lawful.short;
   }
 

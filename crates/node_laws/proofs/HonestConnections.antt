@@ -431,7 +431,7 @@ module _ (m : AppSpec) (pages : Pages) (lawful : IsPaged m pages) (p : Sockets) 
         subst (λ (z : Connection). Answered polls at z numbers s older) (sym e)
         (asked_after polls l at s older (on_segment m d numbers s) start.numbers 0 iss (0 + 1) 0 texts start.part k prefix
         record {
-          delivered = lawful.connected_heard numbers p.own_port.0 ∙ sym syn.received;
+          delivered = lawful.connected_delivered numbers p.own_port.0 ∙ sym syn.received;
           is_taken = ap length (sym syn.received);
           is_acked = ap (λ n. 1 + n) (sym (lawful.connected_acked numbers p.own_port.0));
           fits = (let z = lawful.connected_acked numbers p.own_port.0 in omega (arith, z));
@@ -442,12 +442,12 @@ module _ (m : AppSpec) (pages : Pages) (lawful : IsPaged m pages) (p : Sockets) 
         (let d : Connection = conn_at Established taken iss acked len age part in
         let told_it : After = m.acked numbers part len in
         let fewer : ℕ = left told_it.part in
-        let page_same : page told_it.part ≡ page part = ap (λ z. pages.text z told_it.part.captures) (lawful.acked_like numbers part len) ∙ ap (λ z. pages.text part.delivered z) (lawful.acked_captures numbers part len) in
+        let page_same : page told_it.part ≡ page part = ap (λ z. pages.text z told_it.part.captures) (lawful.acked_delivered numbers part len) ∙ ap (λ z. pages.text part.delivered z) (lawful.acked_captures numbers part len) in
         let moved : told_it.part.acked ≡ part.acked + len = lawful.acked_moves numbers part len in
         subst (λ (z : Connection). Answered polls at z numbers s older) (sym e)
         (asked_after polls l at s older (on_segment m d numbers s) told_it.numbers taken iss (acked + len) 0 fewer told_it.part k prefix
         record {
-          delivered = lawful.acked_like numbers part len ∙ t.delivered;
+          delivered = lawful.acked_delivered numbers part len ∙ t.delivered;
           is_taken = t.is_taken;
           is_acked = (let z = t.is_acked in omega (arith, z, moved));
           fits = (let z = t.fits in let y = ap length page_same in omega (arith, z, moved, y));
@@ -530,7 +530,7 @@ module _ (m : AppSpec) (pages : Pages) (lawful : IsPaged m pages) (p : Sockets) 
   polled_waits polls at older numbers taken iss acked age most part l k t n r b snapshots =
       let delivered : After = m.polled numbers part in
       let d : Connection = conn_at Established taken iss acked 0 age delivered.part in
-      let alike = lawful.polled_like numbers part in
+      let alike = lawful.polled_same numbers part in
       let f = answering.waits polls numbers part l r.good in
       let same : page delivered.part ≡ page part = ap (λ z. pages.text z delivered.part.captures) alike.delivered ∙ ap (λ z. pages.text part.delivered z) alike.captures in
       let none : text_received older ++ [] ≡ text_received older = append_nothing (text_received older) in

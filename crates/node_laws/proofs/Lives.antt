@@ -28,7 +28,7 @@ use Rattle.node_laws.specs.Traces.{Exchange, is_opening}
 use Rattle.node_laws.specs.Promise.{Account, Begins, IsAcceptedText, SendsSlice, Acknowledges, sequence_length, IsAcknowledged, IsExtendedBy}
 use Rattle.node_laws.specs.Receivers.{IsReceived}
 use Rattle.node_laws.specs.Promise.{OutputModel}
-use Rattle.node_laws.specs.Speakers.{SpeaksAt}
+use Rattle.node_laws.specs.Speakers.{FollowsModelAt}
 use Rattle.node_laws.proofs.Speaking.{IsEnd, IsTold, prefix_size, prefix_trans, slice_prefix, told_end, told_on, told_starts, told_where}
 use Rattle.node_laws.proofs.Texts.{get_append}
 use Rattle.node_laws.proofs.Texts.InBoth.{in_first, in_second}
@@ -89,7 +89,7 @@ speaks Established = true
 speaks CloseWait = true
 speaks _ = false
 
-module _ (m : AppSpec) (steady : IsSteady m) (port : ℕ) (model : OutputModel) (laws : SpeaksAt m port model) where
+module _ (m : AppSpec) (steady : IsSteady m) (port : ℕ) (model : OutputModel) (laws : FollowsModelAt m port model) where
   abbrev AnyLength : ℕ → Type 0
   AnyLength n = Unit {0}
 

@@ -10,7 +10,7 @@ use Rattle.uip_node.proofs.Basics.{choose, eqb-eq, same_place, wrap_wrap, prefix
 use Rattle.node_laws.specs.Traces.{Exchange, sent_at}
 use Rattle.node_laws.specs.Promise.{Account, IsAtOffset, IsPrefixOfPage, AccountHolds, TextConforms, NumbersGiveOffsets, OutputModel}
 use Rattle.node_laws.specs.Promise.OutputModel.{Paged, Interactive, Free}
-use Rattle.node_laws.specs.Speakers.{IsPagedAt, SpeaksAt}
+use Rattle.node_laws.specs.Speakers.{IsPagedAt, FollowsModelAt}
 use Rattle.node_laws.specs.Receivers.{CarriesByte, IsReceived, EndsAfter, PlainestReceives, receives, takes_next}
 use Rattle.node_laws.proofs.Texts.{all_of_it, element, get_append, get_inside, get_slice, most_or_more, prefix_by}
 use Rattle.node_laws.proofs.Texts.InBoth.{in_first, in_second}
@@ -104,7 +104,7 @@ of_page : (pages : Pages) (delivered : List ℕ) (incarnation : List Exchange) (
 of_page pages delivered incarnation a prefix ends = record { prefix = prefix; ends = λ i s h f. ends (ended_in incarnation i s h f) }
 
 -- and what any receiver has
-pub keeps_text : (m : AppSpec) (port : ℕ) (model : OutputModel) → SpeaksAt m port model → (incarnation : List Exchange) (k : Kept model incarnation) → TextConforms model incarnation k.account
+pub keeps_text : (m : AppSpec) (port : ℕ) (model : OutputModel) → FollowsModelAt m port model → (incarnation : List Exchange) (k : Kept model incarnation) → TextConforms model incarnation k.account
 keeps_text m port Free laws incarnation k = λ short. numbers_tell Free incarnation k short
 keeps_text m port (Interactive sessions) laws incarnation k = (
   (k.of_page.0, k.of_page.1, of_page sessions k.of_page.0 incarnation k.account k.of_page.2.0 k.of_page.2.1),

@@ -12,7 +12,7 @@ use Rattle.uip_node.specs.Steady.{IsSteady}
 use Rattle.uip_node.proofs.Basics.{IsPart, append_nothing, cut_part, cut_length, prefix_part, prefix_refl}
 use Rattle.node_laws.specs.Promise.{OutputModel}
 use Rattle.node_laws.specs.Promise.OutputModel.{Paged, Interactive, Free}
-use Rattle.node_laws.specs.Speakers.{HearsPiece, IsPagedAt, IsToldAt, LeavesHeard, SpeaksAt}
+use Rattle.node_laws.specs.Speakers.{AcceptsPrefix, IsPagedAt, FollowsPagesAt, LeavesDelivered, FollowsModelAt}
 
 -- ---- prefixes of texts
 
@@ -84,7 +84,7 @@ told_end Free E text k sent h = tt
 
 module _ (m : AppSpec) (port : ℕ) where
   -- of the pages of a port
-  module _ (pages : Pages) (l : IsToldAt m port pages) where
+  module _ (pages : Pages) (l : FollowsPagesAt m port pages) where
     end_of_on : (delivered more : List ℕ) (k later : List Snapshot) (sent : List ℕ) → IsEndOf pages delivered k sent → IsEndOf pages (delivered ++ more) (k ++ later) sent
     end_of_on delivered more k later sent h = (h.0 ∙ sym (l.stays delivered more k later h.1), l.stays_whole delivered more k later h.1)
 
@@ -107,7 +107,7 @@ module _ (m : AppSpec) (port : ℕ) where
     heard_piece : (numbers : List ℕ) (p : AppState) (piece text : List ℕ) → HeardOf p text → HeardOf (m.newdata numbers p piece).part (text ++ piece)
     heard_piece numbers p piece text h =
         let q : AppState = (m.newdata numbers p piece).part in
-        let x : HearsPiece l.here l.lost p q piece = l.newdata numbers p piece h.0 in (
+        let x : AcceptsPrefix l.here l.lost p q piece = l.newdata numbers p piece h.0 in (
           x.delivered.0,
           elim (h.1) [
             | inl e ↦ elim (x.all) [
@@ -127,7 +127,7 @@ module _ (m : AppSpec) (port : ℕ) where
           ],
         )
 
-    heard_left : (p q : AppState) (text : List ℕ) → LeavesHeard l.here l.lost p q → HeardOf p text → HeardOf q text
+    heard_left : (p q : AppState) (text : List ℕ) → LeavesDelivered l.here l.lost p q → HeardOf p text → HeardOf q text
     heard_left p q text x h = (
       x.0.0,
       elim (h.1) [
@@ -150,22 +150,22 @@ module _ (m : AppSpec) (port : ℕ) where
 
   -- if every piece is delivered
   heard_all : (pages : Pages) (l : IsPagedAt m port pages) (p : AppState) (text : List ℕ) → HeardOf pages l.follows p text → p.delivered ≡ text
-  heard_all pages l p text h = elim (h.1) [ inl e ↦ e | inr g ↦ absurd (let z : l.follows.lost p ≡ false = l.hears_all p in let y : l.follows.lost p ≡ true = g.0 in cc) ]
+  heard_all pages l p text h = elim (h.1) [ inl e ↦ e | inr g ↦ absurd (let z : l.follows.lost p ≡ false = l.accepts_all p in let y : l.follows.lost p ≡ true = g.0 in cc) ]
 
   -- this was delivered to a state of this port, or for a session a prefix of it
-  abbrev pub IsOpen : (model : OutputModel) → SpeaksAt m port model → AppState → List ℕ → Type 0
+  abbrev pub IsOpen : (model : OutputModel) → FollowsModelAt m port model → AppState → List ℕ → Type 0
   IsOpen (Paged pages) laws p text = (let l : IsPagedAt m port pages = laws in HeardOf pages l.follows p text)
   IsOpen (Interactive sessions) laws p text = HeardOf sessions laws p text
   IsOpen Free laws p text = Unit {0}
 
-  pub told_on : (model : OutputModel) → SpeaksAt m port model → (E : Type 0) (text more : List ℕ) (k later : List Snapshot) (sent : List ℕ) → IsTold model E text k sent → IsTold model E (text ++ more) (k ++ later) sent
+  pub told_on : (model : OutputModel) → FollowsModelAt m port model → (E : Type 0) (text more : List ℕ) (k later : List Snapshot) (sent : List ℕ) → IsTold model E text k sent → IsTold model E (text ++ more) (k ++ later) sent
   told_on (Paged pages) laws E text more k later sent h = (let l : IsPagedAt m port pages = laws in text_on pages l.follows E text more k later sent h)
   told_on (Interactive sessions) laws E text more k later sent h =
       (let g : IsTextOf sessions E (h.0 ++ []) (k ++ later) sent = text_on sessions laws E h.0 [] k later sent h.2 in
       (h.0 ++ [], subst (λ z. IsPrefixOf z (text ++ more)) (sym (append_nothing h.0)) (prefix_on h.0 text more h.1), g))
   told_on Free laws E text more k later sent h = tt
 
-  end_on : (model : OutputModel) → SpeaksAt m port model → (text more : List ℕ) (k later : List Snapshot) (sent : List ℕ) → IsEnd model text k sent → IsEnd model (text ++ more) (k ++ later) sent
+  end_on : (model : OutputModel) → FollowsModelAt m port model → (text more : List ℕ) (k later : List Snapshot) (sent : List ℕ) → IsEnd model text k sent → IsEnd model (text ++ more) (k ++ later) sent
   end_on (Paged pages) laws text more k later sent h = (let l : IsPagedAt m port pages = laws in end_of_on pages l.follows text more k later sent h)
   end_on (Interactive sessions) laws text more k later sent h =
       (let g : IsEndOf sessions (h.0 ++ []) (k ++ later) sent = end_of_on sessions laws h.0 [] k later sent h.2 in
@@ -173,50 +173,50 @@ module _ (m : AppSpec) (port : ℕ) where
   end_on Free laws text more k later sent h = tt
 
   -- with no capture more
-  pub end_more : (model : OutputModel) → SpeaksAt m port model → (text more : List ℕ) (k : List Snapshot) (sent : List ℕ) → IsEnd model text k sent → IsEnd model (text ++ more) k sent
+  pub end_more : (model : OutputModel) → FollowsModelAt m port model → (text more : List ℕ) (k : List Snapshot) (sent : List ℕ) → IsEnd model text k sent → IsEnd model (text ++ more) k sent
   end_more model laws text more k sent h =
       subst (λ z. IsEnd model (text ++ more) z sent) (append_nothing k) (end_on model laws text more k [] sent h)
 
   -- ---- what a call leaves
 
-  pub open_new : (model : OutputModel) (laws : SpeaksAt m port model) (numbers : List ℕ) → IsOpen model laws (m.connected numbers port).part []
+  pub open_new : (model : OutputModel) (laws : FollowsModelAt m port model) (numbers : List ℕ) → IsOpen model laws (m.connected numbers port).part []
   open_new (Paged pages) laws numbers = (let l : IsPagedAt m port pages = laws in heard_new pages l.follows numbers)
   open_new (Interactive sessions) laws numbers = heard_new sessions laws numbers
   open_new Free laws numbers = tt
 
-  open_piece : (model : OutputModel) (laws : SpeaksAt m port model) (numbers : List ℕ) (p : AppState) (piece text : List ℕ) → IsOpen model laws p text → IsOpen model laws (m.newdata numbers p piece).part (text ++ piece)
+  open_piece : (model : OutputModel) (laws : FollowsModelAt m port model) (numbers : List ℕ) (p : AppState) (piece text : List ℕ) → IsOpen model laws p text → IsOpen model laws (m.newdata numbers p piece).part (text ++ piece)
   open_piece (Paged pages) laws numbers p piece text h = (let l : IsPagedAt m port pages = laws in heard_piece pages l.follows numbers p piece text h)
   open_piece (Interactive sessions) laws numbers p piece text h = heard_piece sessions laws numbers p piece text h
   open_piece Free laws numbers p piece text h = tt
 
-  pub open_heard : (model : OutputModel) (laws : SpeaksAt m port model) (numbers : List ℕ) (p : AppState) (piece text : List ℕ) → IsOpen model laws p text → IsOpen model laws (hears m numbers p piece).part (text ++ piece)
+  pub open_heard : (model : OutputModel) (laws : FollowsModelAt m port model) (numbers : List ℕ) (p : AppState) (piece text : List ℕ) → IsOpen model laws p text → IsOpen model laws (hears m numbers p piece).part (text ++ piece)
   open_heard model laws numbers p [] text h = subst (λ z. IsOpen model laws p z) (sym (append_nothing text)) h
   open_heard model laws numbers p (x ∷ xs) text h = open_piece model laws numbers p (x ∷ xs) text h
 
-  pub open_prepared : (model : OutputModel) (laws : SpeaksAt m port model) (numbers : List ℕ) (p : AppState) (now : Now) (text : List ℕ) → IsOpen model laws p text → IsOpen model laws (m.prepare numbers p now) text
+  pub open_prepared : (model : OutputModel) (laws : FollowsModelAt m port model) (numbers : List ℕ) (p : AppState) (now : Now) (text : List ℕ) → IsOpen model laws p text → IsOpen model laws (m.prepare numbers p now) text
   open_prepared (Paged pages) laws numbers p now text h =
       (let l : IsPagedAt m port pages = laws in heard_left pages l.follows p (m.prepare numbers p now) text (l.follows.prepare numbers p now h.0) h)
   open_prepared (Interactive sessions) laws numbers p now text h =
-      (let l : IsToldAt m port sessions = laws in heard_left sessions l p (m.prepare numbers p now) text (l.prepare numbers p now h.0) h)
+      (let l : FollowsPagesAt m port sessions = laws in heard_left sessions l p (m.prepare numbers p now) text (l.prepare numbers p now h.0) h)
   open_prepared Free laws numbers p now text h = tt
 
-  pub open_acked : (model : OutputModel) (laws : SpeaksAt m port model) (numbers : List ℕ) (p : AppState) (n : ℕ) (text : List ℕ) → IsOpen model laws p text → IsOpen model laws (m.acked numbers p n).part text
+  pub open_acked : (model : OutputModel) (laws : FollowsModelAt m port model) (numbers : List ℕ) (p : AppState) (n : ℕ) (text : List ℕ) → IsOpen model laws p text → IsOpen model laws (m.acked numbers p n).part text
   open_acked (Paged pages) laws numbers p n text h =
       (let l : IsPagedAt m port pages = laws in heard_left pages l.follows p (m.acked numbers p n).part text (l.follows.acked numbers p n h.0) h)
   open_acked (Interactive sessions) laws numbers p n text h =
-      (let l : IsToldAt m port sessions = laws in heard_left sessions l p (m.acked numbers p n).part text (l.acked numbers p n h.0) h)
+      (let l : FollowsPagesAt m port sessions = laws in heard_left sessions l p (m.acked numbers p n).part text (l.acked numbers p n h.0) h)
   open_acked Free laws numbers p n text h = tt
 
-  pub open_polled : (model : OutputModel) (laws : SpeaksAt m port model) (numbers : List ℕ) (p : AppState) (text : List ℕ) → IsOpen model laws p text → IsOpen model laws (m.polled numbers p).part text
+  pub open_polled : (model : OutputModel) (laws : FollowsModelAt m port model) (numbers : List ℕ) (p : AppState) (text : List ℕ) → IsOpen model laws p text → IsOpen model laws (m.polled numbers p).part text
   open_polled (Paged pages) laws numbers p text h =
       (let l : IsPagedAt m port pages = laws in heard_left pages l.follows p (m.polled numbers p).part text (l.follows.polled numbers p h.0) h)
   open_polled (Interactive sessions) laws numbers p text h =
-      (let l : IsToldAt m port sessions = laws in heard_left sessions l p (m.polled numbers p).part text (l.polled numbers p h.0) h)
+      (let l : FollowsPagesAt m port sessions = laws in heard_left sessions l p (m.polled numbers p).part text (l.polled numbers p h.0) h)
   open_polled Free laws numbers p text h = tt
 
   -- ---- what it sends
 
-  pub told_said : (model : OutputModel) (laws : SpeaksAt m port model) (E : Type 0) → (E → ⊥) → (p : AppState) (text : List ℕ) (n : ℕ) → IsOpen model laws p text → IsTold model E text p.captures (take n (m.output p))
+  pub told_said : (model : OutputModel) (laws : FollowsModelAt m port model) (E : Type 0) → (E → ⊥) → (p : AppState) (text : List ℕ) (n : ℕ) → IsOpen model laws p text → IsTold model E text p.captures (take n (m.output p))
   told_said (Paged pages) laws E none p text n h =
       (let l : IsPagedAt m port pages = laws in
       subst (λ z. IsTextOf pages E z p.captures (take n (m.output p))) (heard_all pages l p text h) (text_said pages l.follows E none p n h.0))
@@ -224,7 +224,7 @@ module _ (m : AppSpec) (port : ℕ) where
   told_said Free laws E none p text n h = tt
 
   -- it closes at the end of the page
-  pub end_said : (model : OutputModel) (laws : SpeaksAt m port model) (numbers : List ℕ) (p : AppState) (text : List ℕ) → IsOpen model laws p text → p.acked ≤ length (m.output p) → m.want numbers p ≡ Close → IsEnd model text p.captures (take p.acked (m.output p))
+  pub end_said : (model : OutputModel) (laws : FollowsModelAt m port model) (numbers : List ℕ) (p : AppState) (text : List ℕ) → IsOpen model laws p text → p.acked ≤ length (m.output p) → m.want numbers p ≡ Close → IsEnd model text p.captures (take p.acked (m.output p))
   end_said (Paged pages) laws numbers p text h fits e =
       (let l : IsPagedAt m port pages = laws in
       subst (λ z. IsEndOf pages z p.captures (take p.acked (m.output p))) (heard_all pages l p text h) (end_of_said pages l.follows numbers p h.0 fits e))

@@ -23,7 +23,7 @@ use Rattle.uip_node.proofs.Cases.{asked_by, by_open, is_ask, no_ask_again, on_ti
 use Rattle.uip_node.proofs.Moves.{segment_moves, tick_moves}
 use Rattle.uip_node.specs.Steady.{IsSteady}
 use Rattle.node_laws.specs.Promise.{OutputModel}
-use Rattle.node_laws.specs.Speakers.{SpeaksAt}
+use Rattle.node_laws.specs.Speakers.{FollowsModelAt}
 use Rattle.node_laws.proofs.Speaking.{IsEnd, IsTold, IsOpen, end_more, end_said, prefix_size, heard_is, open_acked, open_heard, open_new, open_polled, open_prepared, prepared_is, equal_prefix, told_said}
 
 -- the numbers that a FIN or a SYN takes up
@@ -84,7 +84,7 @@ in_turn irs taken text e s fin order q t f =
     inl (ap (λ l. text ++ l) b.text ∙ append_nothing text, both_ways fin (λ g. absurd (let z : has_fin s.flags ≡ true = f g in let y : has_fin s.flags ≡ false = b.fin in cc)) (λ g. g ∙ sym q))))
 
 -- What is known of a connection, and of the text that was sent; `F` states that no FIN was.
-module _ (m : AppSpec) (port : ℕ) (model : OutputModel) (laws : SpeaksAt m port model) (F : Type 0) where
+module _ (m : AppSpec) (port : ℕ) (model : OutputModel) (laws : FollowsModelAt m port model) (F : Type 0) where
   pub record AtSyn (c : Connection) (text : List ℕ) (e : Bool) (sent : List ℕ) : Type 0 where
     pub acked : c.acked ≡ 0
     pub len : c.len ≡ 1

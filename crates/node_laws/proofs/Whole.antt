@@ -21,7 +21,7 @@ use Rattle.uip_node.proofs.FitNodes.{FitNode, closed_fits, event_fits}
 use Rattle.uip_node.proofs.Fits.{FitConn, all_nil, all_cons}
 use Rattle.uip_node.proofs.Connections.{none_serves, all_closed, Single, serving_free}
 use Rattle.uip_node.specs.Steady.{IsSteady}
-use Rattle.node_laws.specs.Speakers.{HasOutputModel, SpeaksAt}
+use Rattle.node_laws.specs.Speakers.{HasOutputModel, FollowsModelAt}
 use Rattle.node_laws.specs.Traces.{Exchange, exchange, exchanges_onto, exchanges_with, is_opening, is_empty, is_incarnation, IsIncarnationIn}
 use Rattle.node_laws.specs.Promise.{Account, AccountHolds, TextConforms, IncarnationConforms, IsExtendedBy, OutputModel}
 use Rattle.node_laws.specs.Asked.{IsWithoutReset, LivesOn, IsSolicited, NothingUnsolicited, OpensServed}
@@ -156,7 +156,7 @@ pub record Ends (model : OutputModel) (served : ℕ → Bool) (p : Sockets) (so_
   pub asked : NothingUnsolicited so_far
   pub ports : OpensServed served p so_far
 
-module _ (m : AppSpec) (steady : IsSteady m) (port : ℕ) (model : OutputModel) (laws : SpeaksAt m port model) (served : ℕ → Bool) (p : Sockets) (here : p.own_port.0 ≡ port) where
+module _ (m : AppSpec) (steady : IsSteady m) (port : ℕ) (model : OutputModel) (laws : FollowsModelAt m port model) (served : ℕ → Bool) (p : Sockets) (here : p.own_port.0 ≡ port) where
   -- a life at its present moment, and its promise
   record Current (c : Connection) (incarnation : List Exchange) : Type 0 where
     good : Good m steady port model laws c incarnation

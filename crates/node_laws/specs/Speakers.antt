@@ -10,38 +10,38 @@ use Rattle.node_laws.specs.Promise.{OutputModel}
 use Rattle.node_laws.specs.Promise.OutputModel.{Paged, Interactive, Free}
 
 -- q is a state of this kind, and its delivered input is this text.
-abbrev pub HasHeard : (AppState → Bool) → AppState → List ℕ → Type 0
-HasHeard here q text = (here q ≡ true) × (q.delivered ≡ text)
+abbrev pub HasDelivered : (AppState → Bool) → AppState → List ℕ → Type 0
+HasDelivered here q text = (here q ≡ true) × (q.delivered ≡ text)
 
 -- q is a state of this kind with the delivered input of p, and it ignores further input if p does.
-abbrev pub LeavesHeard : (AppState → Bool) → (AppState → Bool) → AppState → AppState → Type 0
-LeavesHeard here lost p q = HasHeard here q p.delivered × (lost q ≡ lost p)
+abbrev pub LeavesDelivered : (AppState → Bool) → (AppState → Bool) → AppState → AppState → Type 0
+LeavesDelivered here lost p q = HasDelivered here q p.delivered × (lost q ≡ lost p)
 
 -- The application accepts the piece, or a prefix of it. After a proper prefix it ignores all further input (`lost`).
-pub record HearsPiece (here lost : AppState → Bool) (p q : AppState) (piece : List ℕ) : Type 0 where
+pub record AcceptsPrefix (here lost : AppState → Bool) (p q : AppState) (piece : List ℕ) : Type 0 where
   pub prefix : List ℕ
   pub rest : List ℕ
   pub joined : prefix ++ rest ≡ piece
-  pub delivered : HasHeard here q (p.delivered ++ prefix)
+  pub delivered : HasDelivered here q (p.delivered ++ prefix)
   pub all : (rest ≡ []) ⊎ (lost q ≡ true)
   pub no_more : lost p ≡ true → (q.delivered ≡ p.delivered) × (lost q ≡ true)
 
 -- The output at this port is that of `pages`. More input and more snapshots only extend it, and leave a complete output unchanged. `here`
 -- marks the states of connections opened at this port, and each call leads from such a state to such a state. `lost` marks those that
 -- ignore all further input.
-pub record IsToldAt (m : AppSpec) (port : ℕ) (pages : Pages) : Type 0 where
+pub record FollowsPagesAt (m : AppSpec) (port : ℕ) (pages : Pages) : Type 0 where
   pub grows : (q more : List ℕ) (k later : List Snapshot) → IsPrefixOf (pages.text q k) (pages.text (q ++ more) (k ++ later))
   pub stays : (q more : List ℕ) (k later : List Snapshot) → pages.whole q k ≡ true → pages.text (q ++ more) (k ++ later) ≡ pages.text q k
   pub stays_whole : (q more : List ℕ) (k later : List Snapshot) → pages.whole q k ≡ true → pages.whole (q ++ more) (k ++ later) ≡ true
   pub here : AppState → Bool
   pub lost : AppState → Bool
   pub output : (p : AppState) → here p ≡ true → m.output p ≡ pages.text p.delivered p.captures
-  pub connected : (numbers : List ℕ) → HasHeard here (m.connected numbers port).part []
+  pub connected : (numbers : List ℕ) → HasDelivered here (m.connected numbers port).part []
   pub newdata : (numbers : List ℕ) (p : AppState) (piece : List ℕ) → here p ≡ true
-      → HearsPiece here lost p (m.newdata numbers p piece).part piece
-  pub prepare : (numbers : List ℕ) (p : AppState) (now : Now) → here p ≡ true → LeavesHeard here lost p (m.prepare numbers p now)
-  pub acked : (numbers : List ℕ) (p : AppState) (n : ℕ) → here p ≡ true → LeavesHeard here lost p (m.acked numbers p n).part
-  pub polled : (numbers : List ℕ) (p : AppState) → here p ≡ true → LeavesHeard here lost p (m.polled numbers p).part
+      → AcceptsPrefix here lost p (m.newdata numbers p piece).part piece
+  pub prepare : (numbers : List ℕ) (p : AppState) (now : Now) → here p ≡ true → LeavesDelivered here lost p (m.prepare numbers p now)
+  pub acked : (numbers : List ℕ) (p : AppState) (n : ℕ) → here p ≡ true → LeavesDelivered here lost p (m.acked numbers p n).part
+  pub polled : (numbers : List ℕ) (p : AppState) → here p ≡ true → LeavesDelivered here lost p (m.polled numbers p).part
   -- The application closes only at the end of a complete output.
   pub closes : (numbers : List ℕ) (p : AppState) → here p ≡ true → p.acked ≤ length (m.output p) → m.want numbers p ≡ Close
       → MayWant pages p Close
@@ -49,19 +49,19 @@ pub record IsToldAt (m : AppSpec) (port : ℕ) (pages : Pages) : Type 0 where
 -- The output at this port is that of `pages`. In addition the application accepts every piece, since no state is `lost`, and the output is
 -- shorter than 2^30 bytes.
 pub record IsPagedAt (m : AppSpec) (port : ℕ) (pages : Pages) : Type 0 where
-  pub follows : IsToldAt m port pages
-  pub hears_all : (p : AppState) → follows.lost p ≡ false
+  pub follows : FollowsPagesAt m port pages
+  pub accepts_all : (p : AppState) → follows.lost p ≡ false
   pub short : (q : List ℕ) (k : List Snapshot) → All IsSnapshot k → length (pages.text q k) < 1073741824
 
 -- The output at one port follows its model.
-abbrev pub SpeaksAt : AppSpec → ℕ → OutputModel → Type 0
-SpeaksAt m port (Paged pages) = IsPagedAt m port pages
-SpeaksAt m port (Interactive sessions) = IsToldAt m port sessions
-SpeaksAt m port Free = ⊤
+abbrev pub FollowsModelAt : AppSpec → ℕ → OutputModel → Type 0
+FollowsModelAt m port (Paged pages) = IsPagedAt m port pages
+FollowsModelAt m port (Interactive sessions) = FollowsPagesAt m port sessions
+FollowsModelAt m port Free = ⊤
 
 -- The output at each port follows its model.
 abbrev pub HasOutputModel : AppSpec → (ℕ → OutputModel) → Type 0
-HasOutputModel m model = (port : ℕ) → SpeaksAt m port (model port)
+HasOutputModel m model = (port : ℕ) → FollowsModelAt m port (model port)
 
 -- the same pages at every port
 abbrev pub at_every_port : Pages → ℕ → OutputModel

@@ -13,7 +13,7 @@ use Rattle.web_pages.specs.WebMeaning.{web_spec}
 use Rattle.web_pages.proofs.ByteLaws.{made_of_bytes}
 use Rattle.web_pages.proofs.PageLaws.{keeps_page_laws}
 use Rattle.node_laws.specs.Promise.OutputModel.{Paged, Interactive, Free}
-use Rattle.node_laws.specs.Speakers.{HearsPiece, IsPagedAt, IsToldAt, LeavesHeard, HasOutputModel, SpeaksAt}
+use Rattle.node_laws.specs.Speakers.{AcceptsPrefix, IsPagedAt, FollowsPagesAt, LeavesDelivered, HasOutputModel, FollowsModelAt}
 use Rattle.uip_node.specs.Laws.{SendsBytes}
 use Rattle.uip_node.proofs.DeliveredBytes.{page_bytes}
 use Rattle.telnet_shell.specs.declared.shell.TheConstants.{TELNET_PORT}
@@ -55,7 +55,7 @@ module _ (site : SiteContent) (loaded : IsLoaded site) (image : All IsByte site.
   page_wants : (numbers : List ℕ) (p : AppState) → is_page_part p ≡ true → MayWant (pages_of files) p ((desk_spec files).want numbers p)
   page_wants numbers p h = subst (λ w. MayWant (pages_of files) p w) (sym ((does_as_web p h).want numbers)) (web_laws.wants numbers p)
 
-  web_told : IsToldAt (desk_spec files) 80 (pages_of files)
+  web_told : FollowsPagesAt (desk_spec files) 80 (pages_of files)
   web_told = record {
     grows = web_laws.grows;
     stays = web_laws.stays;
@@ -63,14 +63,14 @@ module _ (site : SiteContent) (loaded : IsLoaded site) (image : All IsByte site.
     here = is_page_part;
     lost = λ p. false;
     output = λ p h. (does_as_web p h).output ∙ web_laws.output p;
-    connected = λ numbers. (ap (λ (n : ℕ). n == 80) (keeps_port.connected numbers 80), web_laws.connected_heard numbers 80);
+    connected = λ numbers. (ap (λ (n : ℕ). n == 80) (keeps_port.connected numbers 80), web_laws.connected_delivered numbers 80);
     newdata = λ numbers p piece h. record {
       prefix = piece;
       rest = [];
       joined = append-nil piece;
       delivered = (
         stays_at 80 p ((desk_spec files).newdata numbers p piece).part (keeps_port.newdata numbers p piece) h,
-        ap (λ a. a.part.delivered) ((does_as_web p h).newdata numbers piece) ∙ web_laws.newdata_heard numbers p piece,
+        ap (λ a. a.part.delivered) ((does_as_web p h).newdata numbers piece) ∙ web_laws.newdata_delivered numbers p piece,
       );
       all = inl refl;
       no_more = λ e. absurd (cc);
@@ -78,21 +78,21 @@ module _ (site : SiteContent) (loaded : IsLoaded site) (image : All IsByte site.
     prepare = λ numbers p now h. (
       (
         stays_at 80 p ((desk_spec files).prepare numbers p now) (keeps_port.prepare numbers p now) h,
-        ap (λ q. q.delivered) ((does_as_web p h).prepare numbers now) ∙ web_laws.prepare_heard numbers p now,
+        ap (λ q. q.delivered) ((does_as_web p h).prepare numbers now) ∙ web_laws.prepare_delivered numbers p now,
       ),
       refl,
     );
     acked = λ numbers p n h. (
       (
         stays_at 80 p ((desk_spec files).acked numbers p n).part (keeps_port.acked numbers p n) h,
-        ap (λ a. a.part.delivered) ((does_as_web p h).acked numbers n) ∙ web_laws.acked_like numbers p n,
+        ap (λ a. a.part.delivered) ((does_as_web p h).acked numbers n) ∙ web_laws.acked_delivered numbers p n,
       ),
       refl,
     );
     polled = λ numbers p h. (
       (
         stays_at 80 p ((desk_spec files).polled numbers p).part (keeps_port.polled numbers p) h,
-        ap (λ a. a.part.delivered) ((does_as_web p h).polled numbers) ∙ (web_laws.polled_like numbers p).delivered,
+        ap (λ a. a.part.delivered) ((does_as_web p h).polled numbers) ∙ (web_laws.polled_same numbers p).delivered,
       ),
       refl,
     );
@@ -101,7 +101,7 @@ module _ (site : SiteContent) (loaded : IsLoaded site) (image : All IsByte site.
 
   web_pages : IsPagedAt (desk_spec files) 80 (pages_of files)
   unfolding web_told
-  web_pages = record { follows = web_told; hears_all = λ p. refl; short = web_laws.short }
+  web_pages = record { follows = web_told; accepts_all = λ p. refl; short = web_laws.short }
 
   -- ---- the shell's talk at port 23
 
@@ -115,7 +115,7 @@ module _ (site : SiteContent) (loaded : IsLoaded site) (image : All IsByte site.
   does_as_shell : (p : AppState) → is_session_part p ≡ true → DoesAs (desk_spec files) shell_spec p
   does_as_shell p h = two_applications.shell files p (eqb-true p.port 23 h)
 
-  session_heard : (numbers : List ℕ) (p : AppState) (piece : List ℕ) → is_session_part p ≡ true → HearsPiece is_session_part is_lost p ((desk_spec files).newdata numbers p piece).part piece
+  session_heard : (numbers : List ℕ) (p : AppState) (piece : List ℕ) → is_session_part p ≡ true → AcceptsPrefix is_session_part is_lost p ((desk_spec files).newdata numbers p piece).part piece
   session_heard numbers p piece h =
       let q : AppState = ((desk_spec files).newdata numbers p piece).part in
       let r : AppState = (shell_spec.newdata numbers p piece).part in
@@ -137,13 +137,13 @@ module _ (site : SiteContent) (loaded : IsLoaded site) (image : All IsByte site.
   either_prepared p numbers now true = (refl, refl)
   either_prepared p numbers now false = (refl, refl)
 
-  session_left : (p q r : AppState) → q ≡ r → q.port ≡ p.port → is_session_part p ≡ true → (r.delivered ≡ p.delivered) × (is_lost r ≡ is_lost p) → LeavesHeard is_session_part is_lost p q
+  session_left : (p q r : AppState) → q ≡ r → q.port ≡ p.port → is_session_part p ≡ true → (r.delivered ≡ p.delivered) × (is_lost r ≡ is_lost p) → LeavesDelivered is_session_part is_lost p q
   session_left p q r same port h x = (
     (stays_at 23 p q port h, ap (λ (y : AppState). y.delivered) same ∙ x.0),
     ap (λ (y : AppState). is_lost y) same ∙ x.1,
   )
 
-  session_told : IsToldAt (desk_spec files) 23 sessions
+  session_told : FollowsPagesAt (desk_spec files) 23 sessions
   session_told = record {
     grows = keeps_session.grows;
     stays = keeps_session.stays;
@@ -164,11 +164,11 @@ module _ (site : SiteContent) (loaded : IsLoaded site) (image : All IsByte site.
 
   -- ---- at each port
 
-  at_shell_port : (port : ℕ) (shell : Bool) → (port == TELNET_PORT) ≡ shell → SpeaksAt (desk_spec files) port (if shell then Interactive sessions else Free)
-  at_shell_port port true e = subst (λ (n : ℕ). IsToldAt (desk_spec files) n sessions) (sym (eqb-true port 23 e)) session_told
+  at_shell_port : (port : ℕ) (shell : Bool) → (port == TELNET_PORT) ≡ shell → FollowsModelAt (desk_spec files) port (if shell then Interactive sessions else Free)
+  at_shell_port port true e = subst (λ (n : ℕ). FollowsPagesAt (desk_spec files) n sessions) (sym (eqb-true port 23 e)) session_told
   at_shell_port port false e = tt
 
-  by_port : (port : ℕ) (served : Bool) → is_served port ≡ served → SpeaksAt (desk_spec files) port (if served then Paged (pages_of files) else if port == TELNET_PORT then Interactive sessions else Free)
+  by_port : (port : ℕ) (served : Bool) → is_served port ≡ served → FollowsModelAt (desk_spec files) port (if served then Paged (pages_of files) else if port == TELNET_PORT then Interactive sessions else Free)
   by_port port true e = subst (λ (n : ℕ). IsPagedAt (desk_spec files) n (pages_of files)) (sym (eqb-true port 80 e)) web_pages
   by_port port false e = at_shell_port port (port == TELNET_PORT) refl
 

@@ -15,7 +15,7 @@ use Rattle.serve_loop.specs.Texts.{text_of}
 use Rattle.serve_loop.specs.Turns.{IsNode}
 use Rattle.serve_loop.proofs.SlipServeLaws.{said_on_line}
 use Rattle.uip_device.specs.Calls.{Call, DoesNothing, Drains, bytes_of_call, events_by, is_by_datagram}
-use Rattle.uip_device.specs.Devices.{Answered, Answers, AnswersAll, AnswersMove, HasHeard, IsFreshDevice, datagrams_handed, left_text_of, line_handed, moves_of}
+use Rattle.uip_device.specs.Devices.{Answered, Answers, AnswersAll, AnswersMove, HasDelivered, IsFreshDevice, datagrams_handed, left_text_of, line_handed, moves_of}
 use Rattle.uip_device.specs.Handing.{text_to_come}
 use Rattle.uip_device.specs.Moves.{Bring, Gives, Makes, Move, Writing, bytes_of_move, goes_by_datagram, run_move}
 use Rattle.uip_device.specs.Output.{datagrams_sent, line_sent, node_reached}
@@ -45,7 +45,7 @@ module _ {A S : Type 0} (g : Ghosts A S) where
   -- a call that does nothing
   pub answers_nothing : (d : Device A S) → Answers g DoesNothing d d []
   answers_nothing d = record {
-    delivered = λ before h. subst (λ (l : List ℕ). HasHeard l d) (sym (append-nil before)) h;
+    delivered = λ before h. subst (λ (l : List ℕ). HasDelivered l d) (sym (append-nil before)) h;
     sends = λ before h. sends_none g (λ own. []) d.node (λ own replies. HandsOut false own (left_text_of d) [] (left_text_of d) replies) (λ own. refl) (λ own. append-nil (left_text_of d));
   }
 
@@ -75,11 +75,11 @@ module _ {A S : Type 0} (g : Ghosts A S) where
     -- one move: the device was fed its bytes, its node takes the steps, and this part of what is sent is written
     pub record MovesOn (before : List ℕ) (move : Move) (a b : Device A S) (handed : List ℕ) (n : AbstractNode) : Type 0 where
       pub kept : g.config b.node.shared ≡ g.config a.node.shared
-      pub delivered : HasHeard (before ++ bytes_of_move move) b
+      pub delivered : HasDelivered (before ++ bytes_of_move move) b
       pub stands : IsNode g m own b.node (run_move m g.served gives own before move n).node
       pub hands : HandsOut (goes_by_datagram move) own (left_text_of a) handed (left_text_of b) (run_move m g.served gives own before move n).sent
 
-    pub moves_on : (before : List ℕ) (move : Move) (a b : Device A S) (handed : List ℕ) (n : AbstractNode) → IsNode g m own a.node n → HasHeard before a
+    pub moves_on : (before : List ℕ) (move : Move) (a b : Device A S) (handed : List ℕ) (n : AbstractNode) → IsNode g m own a.node n → HasDelivered before a
         → AnswersMove g gives move a b handed → MovesOn before move a b handed n
     moves_on before (Makes call) a b handed n stands delivered answers =
         let sends = answers.sends before delivered in
@@ -87,7 +87,7 @@ module _ {A S : Type 0} (g : Ghosts A S) where
         record { kept = sends.kept; delivered = answers.delivered before delivered; stands = first.0; hands = first.1 }
     moves_on before (Gives number text) a b handed n stands delivered changes = record {
       kept = changes.0.kept;
-      delivered = subst (λ (l : List ℕ). HasHeard l b) (sym (append-nil before)) (changes.0.delivered before delivered);
+      delivered = subst (λ (l : List ℕ). HasDelivered l b) (sym (append-nil before)) (changes.0.delivered before delivered);
       stands = changes.0.stands m own n stands;
       hands = append-nil (left_text_of a) ∙ sym changes.0.left ∙ ap (λ l. l ++ left_text_of b) (sym changes.1);
     }
@@ -98,7 +98,7 @@ module _ {A S : Type 0} (g : Ghosts A S) where
       stands : IsNode g m own c.node (node_reached m g.served gives own before (moves_of all) n)
       kept : g.config c.node.shared ≡ g.config a.node.shared
 
-    goes : (before : List ℕ) (all : List Answered) (a c : Device A S) (n : AbstractNode) → IsNode g m own a.node n → HasHeard before a → AnswersAll g gives all a c → Goes before all a c n
+    goes : (before : List ℕ) (all : List Answered) (a c : Device A S) (n : AbstractNode) → IsNode g m own a.node n → HasDelivered before a → AnswersAll g gives all a c → Goes before all a c n
     goes before [] a c n stands delivered same = record {
       line = append-nil (left_text_of a) ∙ ap (λ (d : Device A S). left_text_of d) same;
       datagrams = refl;

@@ -18,7 +18,7 @@ use Rattle.node_laws.proofs.EveryTraceConforms.{every_step_of_pages}
 use Rattle.node_laws.proofs.Steps.{LineStep, trace_over, turns_then}
 use Rattle.node_laws.proofs.TurnRuns.{sends, turn_events}
 use Rattle.uip_device.specs.Calls.{events_by}
-use Rattle.uip_device.specs.Devices.{Answered, AnswersAll, HasHeard, IsFreshDevice, left_text_of, lefts_of, moves_of}
+use Rattle.uip_device.specs.Devices.{Answered, AnswersAll, HasDelivered, IsFreshDevice, left_text_of, lefts_of, moves_of}
 use Rattle.uip_device.specs.Keeping.{AllHandOutSent, IsOfBytes, OutputIsSent, CallsConform, KeepsU32, MoveTrace}
 use Rattle.uip_device.specs.Moves.{Gives, Makes, Move, Writing, bytes_of_move, events_of_move, goes_by_datagram, run_move, with_value}
 use Rattle.uip_device.specs.Sending.{HandsOut}
@@ -56,7 +56,7 @@ module _ {A S : Type 0} (g : Ghosts A S) where
     move_turns before (Makes call) steps n = sym (turns_then m g.served (events_by before call own) steps n)
     move_turns before (Gives number text) steps n = refl
 
-    in_turns : (before : List ℕ) (all : List Answered) (a c : Device A S) (n : AbstractNode) → IsNode g m own a.node n → HasHeard before a → (more : AnswersAll g gives all a c) → InTurns before all a c n more
+    in_turns : (before : List ℕ) (all : List Answered) (a c : Device A S) (n : AbstractNode) → IsNode g m own a.node n → HasDelivered before a → (more : AnswersAll g gives all a c) → InTurns before all a c n more
     in_turns before [] a c n stands delivered more = record { moves = []; answered = refl; left = refl; each = tt; turns = refl }
     in_turns before (it ∷ all) a c n stands delivered more =
         let b : Device A S = more.0 in

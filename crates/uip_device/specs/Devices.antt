@@ -31,18 +31,18 @@ abbrev pub HasFilled : {A S : Type 0} → Device A S → ℕ → ℕ → Type 0
 HasFilled d wrote room = FillsRoom (datagram_in d.node.packet) d.left wrote room
 
 -- The device was fed these bytes.
-abbrev pub HasHeard : {A S : Type 0} → List ℕ → Device A S → Type 0
-HasHeard bytes d = WasFed bytes d.decoder
+abbrev pub HasDelivered : {A S : Type 0} → List ℕ → Device A S → Type 0
+HasDelivered bytes d = WasFed bytes d.decoder
 
 -- After any bytes fed before, these bytes complete at most one frame.
 abbrev pub CompleteOne : {A S : Type 0} → List ℕ → Device A S → Type 0
-CompleteOne bytes d = (before : List ℕ) → HasHeard before d → length (frames (before ++ bytes)) ≤ length (frames before) + 1
+CompleteOne bytes d = (before : List ℕ) → HasDelivered before d → length (frames (before ++ bytes)) ≤ length (frames before) + 1
 
 -- A device at the address `own` that was fed nothing and asked for nothing. Its node represents the initial one, with an application of
 -- this specification.
 pub record IsFreshDevice {A S : Type 0} (g : Ghosts A S) (m : AppSpec) (numbers : List ℕ) (own : Addr) (d : Device A S) : Type 0 where
   pub sound : IsSoundDevice g d
-  pub delivered : HasHeard [] d
+  pub delivered : HasDelivered [] d
   pub none : d.left ≡ None
   pub stands : IsNode g m own d.node (initial_node own numbers)
 
@@ -61,8 +61,8 @@ connection_row slot n = row_in slot (rows_from 0 n.connections)
 -- A call returned these bytes. Whatever the device was fed before, it was then fed the bytes of the call too. Its node took the events of
 -- the call. The bytes are from the pending output and from what the node sent (`HandsOut`).
 pub record Answers {A S : Type 0} (g : Ghosts A S) (call : Call) (old new : Device A S) (handed : List ℕ) : Type 0 where
-  pub delivered : (before : List ℕ) → HasHeard before old → HasHeard (before ++ bytes_of_call call) new
-  pub sends : (before : List ℕ) → HasHeard before old → SendsOver g (events_by before call) old.node new.node
+  pub delivered : (before : List ℕ) → HasDelivered before old → HasDelivered (before ++ bytes_of_call call) new
+  pub sends : (before : List ℕ) → HasDelivered before old → SendsOver g (events_by before call) old.node new.node
       (λ own replies. HandsOut (is_by_datagram call) own (left_text_of old) handed (left_text_of new) replies)
 
 -- The counters of a node's application were changed between calls. Its packet is unchanged, and it represents the same node with these
@@ -76,7 +76,7 @@ pub record ChangesNode {A S : Type 0} (g : Ghosts A S) (change : List ℕ → Li
 -- the same node with these counters.
 pub record Changes {A S : Type 0} (g : Ghosts A S) (change : List ℕ → List ℕ) (old new : Device A S) : Type 0 where
   pub kept : g.config new.node.shared ≡ g.config old.node.shared
-  pub delivered : (before : List ℕ) → HasHeard before old → HasHeard before new
+  pub delivered : (before : List ℕ) → HasDelivered before old → HasDelivered before new
   pub left : left_text_of new ≡ left_text_of old
   pub stands : (m : AppSpec) (own : Addr) (n : AbstractNode) → IsNode g m own old.node n → IsNode g m own new.node (with_numbers change n)
 

@@ -93,9 +93,9 @@ module _ (m : AppSpec) (pages : Pages) (lawful : IsPaged m pages) where
   pub page_bytes : HasBytes pages → SendsBytes m
   page_bytes bytes = record {
     output = λ p h k. subst (λ (l : List ℕ). All IsByte l) (sym (lawful.output p)) (bytes p.delivered p.captures h k);
-    connected = λ numbers port. subst (λ (l : List ℕ). All IsByte l) (sym (lawful.connected_heard numbers port)) (all_nil IsByte);
-    newdata = λ numbers p piece h are. subst (λ (l : List ℕ). All IsByte l) (sym (lawful.newdata_heard numbers p piece)) (All-append IsByte p.delivered piece h are);
-    prepare = λ numbers p now h. like_heard p (m.prepare numbers p now) (lawful.prepare_heard numbers p now) h;
-    acked = λ numbers p n h. like_heard p (m.acked numbers p n).part (lawful.acked_like numbers p n) h;
-    polled = λ numbers p h. like_heard p (m.polled numbers p).part (lawful.polled_like numbers p).delivered h;
+    connected = λ numbers port. subst (λ (l : List ℕ). All IsByte l) (sym (lawful.connected_delivered numbers port)) (all_nil IsByte);
+    newdata = λ numbers p piece h are. subst (λ (l : List ℕ). All IsByte l) (sym (lawful.newdata_delivered numbers p piece)) (All-append IsByte p.delivered piece h are);
+    prepare = λ numbers p now h. like_heard p (m.prepare numbers p now) (lawful.prepare_delivered numbers p now) h;
+    acked = λ numbers p n h. like_heard p (m.acked numbers p n).part (lawful.acked_delivered numbers p n) h;
+    polled = λ numbers p h. like_heard p (m.polled numbers p).part (lawful.polled_same numbers p).delivered h;
   }

@@ -15,7 +15,7 @@ module _ (m : AppSpec) (pages : Pages) (lawful : IsPaged m pages) where
 
   pub hears_is : (numbers : List ℕ) (p : AppState) (text : List ℕ) → Heard p (hears m numbers p text).part text
   hears_is numbers p [] = record { delivered = sym (append_nothing p.delivered); captures = refl; acked = refl }
-  hears_is numbers p (x ∷ xs) = record { delivered = lawful.newdata_heard numbers p (x ∷ xs); captures = lawful.newdata_captures numbers p (x ∷ xs); acked = lawful.newdata_acked numbers p (x ∷ xs) }
+  hears_is numbers p (x ∷ xs) = record { delivered = lawful.newdata_delivered numbers p (x ∷ xs); captures = lawful.newdata_captures numbers p (x ∷ xs); acked = lawful.newdata_acked numbers p (x ∷ xs) }
 
   -- taking captures
   pub record Prepared (p q : AppState) : Type 0 where
@@ -27,6 +27,6 @@ module _ (m : AppSpec) (pages : Pages) (lawful : IsPaged m pages) where
   pub prepare_is : (numbers : List ℕ) (p : AppState) (now : Now) → Prepared p (m.prepare numbers p now)
   prepare_is numbers p now =
       elim (lawful.prepare_captures numbers p now) [
-        | inl e ↦ record { delivered = lawful.prepare_heard numbers p now; more = []; captures = e ∙ sym (append_nothing p.captures); acked = lawful.prepare_acked numbers p now }
-        | inr e ↦ record { delivered = lawful.prepare_heard numbers p now; more = record { numbers = numbers; now = now } ∷ []; captures = e; acked = lawful.prepare_acked numbers p now }
+        | inl e ↦ record { delivered = lawful.prepare_delivered numbers p now; more = []; captures = e ∙ sym (append_nothing p.captures); acked = lawful.prepare_acked numbers p now }
+        | inr e ↦ record { delivered = lawful.prepare_delivered numbers p now; more = record { numbers = numbers; now = now } ∷ []; captures = e; acked = lawful.prepare_acked numbers p now }
       ]

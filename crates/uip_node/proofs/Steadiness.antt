@@ -33,8 +33,8 @@ module _ (m : AppSpec) (pages : Pages) (lawful : IsPaged m pages) where
   prepared : (numbers : List ℕ) (p : AppState) (now : Now) → Grows m p (m.prepare numbers p now)
   prepared numbers p now = record {
     text = elim (lawful.prepare_captures numbers p now) [
-      | inl e ↦ more_said p (m.prepare numbers p now) [] [] (lawful.prepare_heard numbers p now ∙ sym (append_nothing p.delivered)) (e ∙ sym (append_nothing p.captures))
-      | inr e ↦ more_said p (m.prepare numbers p now) [] (record { numbers = numbers; now = now } ∷ []) (lawful.prepare_heard numbers p now ∙ sym (append_nothing p.delivered)) e
+      | inl e ↦ more_said p (m.prepare numbers p now) [] [] (lawful.prepare_delivered numbers p now ∙ sym (append_nothing p.delivered)) (e ∙ sym (append_nothing p.captures))
+      | inr e ↦ more_said p (m.prepare numbers p now) [] (record { numbers = numbers; now = now } ∷ []) (lawful.prepare_delivered numbers p now ∙ sym (append_nothing p.delivered)) e
     ];
     offset = lawful.prepare_acked numbers p now;
   }
@@ -43,12 +43,12 @@ module _ (m : AppSpec) (pages : Pages) (lawful : IsPaged m pages) where
   steady_of = record {
     lawful = record {
       newdata_grows = λ numbers p piece s. record {
-        text = more_said p (m.newdata numbers p piece).part piece [] (lawful.newdata_heard numbers p piece) (lawful.newdata_captures numbers p piece ∙ sym (append_nothing p.captures));
+        text = more_said p (m.newdata numbers p piece).part piece [] (lawful.newdata_delivered numbers p piece) (lawful.newdata_captures numbers p piece ∙ sym (append_nothing p.captures));
         offset = lawful.newdata_acked numbers p piece;
       };
       prepare_grows = λ numbers p now s. prepared numbers p now;
-      acked_moves = λ numbers p n s h. (same_said p (m.acked numbers p n).part (lawful.acked_like numbers p n) (lawful.acked_captures numbers p n), lawful.acked_moves numbers p n);
-      polled_keeps = λ numbers p s. (let x = lawful.polled_like numbers p in (same_said p (m.polled numbers p).part x.delivered x.captures, x.acked));
+      acked_moves = λ numbers p n s h. (same_said p (m.acked numbers p n).part (lawful.acked_delivered numbers p n) (lawful.acked_captures numbers p n), lawful.acked_moves numbers p n);
+      polled_keeps = λ numbers p s. (let x = lawful.polled_same numbers p in (same_said p (m.polled numbers p).part x.delivered x.captures, x.acked));
       sends = λ numbers p s. can_send pages p (m.output p) (lawful.output p) (m.want numbers p) (lawful.wants numbers p);
     };
     connected_acked = lawful.connected_acked;
@@ -56,7 +56,7 @@ module _ (m : AppSpec) (pages : Pages) (lawful : IsPaged m pages) where
     newdata_captures = lawful.newdata_captures;
     prepare_captures = lawful.prepare_captures;
     acked_captures = lawful.acked_captures;
-    polled_captures = λ numbers p. (lawful.polled_like numbers p).captures;
+    polled_captures = λ numbers p. (lawful.polled_same numbers p).captures;
     connected_numbers = lawful.connected_numbers;
     newdata_numbers = lawful.newdata_numbers;
     acked_numbers = lawful.acked_numbers;
