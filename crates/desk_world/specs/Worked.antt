@@ -43,14 +43,14 @@ clients_of (Err bad) = []
 abbrev pub clean : ClientState → List ℕ → Has
 clean state received = record { state = state; received = received; first_stale = None }
 
-abbrev pub text_in : Content → List ℕ
-text_in (OfSegment id segment) = segment.text
-text_in (OfPing datagram) = []
-text_in (OfEcho request) = []
+abbrev pub sent_data : Content → List ℕ
+sent_data (OfSegment id segment) = segment.text
+sent_data (OfPing datagram) = []
+sent_data (OfEcho request) = []
 
 -- the texts that were retransmitted
 abbrev pub texts_again : Result World BadLine → List (List ℕ)
-texts_again (Ok w) = map (λ e. text_in e.content) (filter (λ e. e.again) w.sent)
+texts_again (Ok w) = map (λ e. sent_data e.content) (filter (λ e. e.again) w.sent)
 texts_again (Err bad) = []
 
 -- the lines of a schedule over a site with one page, with no hits before

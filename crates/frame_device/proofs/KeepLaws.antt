@@ -26,9 +26,9 @@ use Rattle.node_laws.proofs.EveryTraceConforms.{every_step_of_pages}
 use Rattle.node_laws.proofs.Steps.{Changes, OfNode as HappensAt, IsStep, LineStep, all_happen, trace_over, turns_then}
 use Rattle.node_laws.proofs.TurnRuns.{turn_events}
 use Rattle.frame_device.specs.FrameSpecs.{DecodesBytes, FrameSpec, acts_before, as_medium}
-use Rattle.frame_device.specs.FrameCalls.{Answered, AnswersAll, CallsSlot, DoesNothing, FrameCall, FrameMove, Gives, InputsFrame, IsFresh, Makes, RepresentsStation, Writing, station_after_move, station_events_by, station_events_of_move, moves_of, with_value}
+use Rattle.frame_device.specs.FrameCalls.{AnsweredFrame, AnswersAllFrames, CallsSlot, DoesNothing, FrameCall, FrameMove, Gives, InputsFrame, IsFreshFrameDevice, Makes, RepresentsStation, Writing, station_after_move, station_events_by, station_events_of_move, frame_moves_of, with_value}
 use Rattle.serve_loop.specs.LineOutput.{initial_station}
-use Rattle.frame_device.specs.FrameKeeping.{AllHandOut, HandsOutFrame, IsOfBytes, FramesConform, KeepsU32, MoveTrace, acts_in}
+use Rattle.frame_device.specs.FrameKeeping.{AllHandOut, HandsOutFrame, IsFrameOfBytes, FramesConform, KeepsU32, MoveTrace, acts_in}
 use Rattle.frame_device.specs.declared.frames.Frames.{Ghosts as FramesGhosts}
 use Rattle.frame_device.specs.declared.device.FrameDevice.{FrameDevice}
 use Rattle.frame_device.proofs.MoveLaws.{MovesOn, moves_on}
@@ -79,20 +79,20 @@ module _ {C : Type 0} (own : Addr) where
   steps_of w gives [] = []
   steps_of w gives (move ∷ moves) = steps_of_move w gives move ++ steps_of w gives moves
 
-  call_of_line : (w : FrameSpec C) → DecodesBytes w → (call : FrameCall) → IsOfBytes (Makes call) → AllOf own (events_among (station_events_by w own call))
+  call_of_line : (w : FrameSpec C) → DecodesBytes w → (call : FrameCall) → IsFrameOfBytes (Makes call) → AllOf own (events_among (station_events_by w own call))
   call_of_line w decodes (InputsFrame frame) is = came_of_line (w.decodes frame) (decodes frame is)
   call_of_line w decodes (CallsSlot slot) is = acts_of_line (acts_before w slot) slot
   call_of_line w decodes DoesNothing is = All-nil (IsOfLine own)
 
-  move_steps : (w : FrameSpec C) → DecodesBytes w → (gives : Writing) → KeepsU32 gives → (move : FrameMove) → IsOfBytes move → All (IsStep own) (steps_of_move w gives move)
+  move_steps : (w : FrameSpec C) → DecodesBytes w → (gives : Writing) → KeepsU32 gives → (move : FrameMove) → IsFrameOfBytes move → All (IsStep own) (steps_of_move w gives move)
   move_steps w decodes gives words (Makes call) is = all_happen own (events_among (station_events_by w own call)) (call_of_line w decodes call is)
   move_steps w decodes gives words (Gives number text) is = All-cons (IsStep own) (Changes (gives number text)) [] (λ numbers are. words number text numbers is are) (All-nil (IsStep own))
 
-  steps_are : (w : FrameSpec C) → DecodesBytes w → (gives : Writing) → KeepsU32 gives → (moves : List FrameMove) → All IsOfBytes moves → All (IsStep own) (steps_of w gives moves)
+  steps_are : (w : FrameSpec C) → DecodesBytes w → (gives : Writing) → KeepsU32 gives → (moves : List FrameMove) → All IsFrameOfBytes moves → All (IsStep own) (steps_of w gives moves)
   steps_are w decodes gives words [] are = All-nil (IsStep own)
   steps_are w decodes gives words (move ∷ moves) are =
-      All-append (IsStep own) (steps_of_move w gives move) (steps_of w gives moves) (move_steps w decodes gives words move (All-head IsOfBytes move moves are))
-      (steps_are w decodes gives words moves (All-tail IsOfBytes move moves are))
+      All-append (IsStep own) (steps_of_move w gives move) (steps_of w gives moves) (move_steps w decodes gives words move (All-head IsFrameOfBytes move moves are))
+      (steps_are w decodes gives words moves (All-tail IsFrameOfBytes move moves are))
 
 -- ---- of a device
 
@@ -100,17 +100,17 @@ module _ {A S M : Type 0} (g : Ghosts A S) (h : FramesGhosts M) (k : h.Config) (
   abbrev turns_by : FrameMove → Station h.Act → List TraceEntry
   turns_by move s = trace_of m g.served (events_among (station_events_of_move (h.spec k) own move)) (with_value gives move s).node
 
-  record InTurns (all : List Answered) (s : Station h.Act) : Type 0 where
+  record InTurns (all : List AnsweredFrame) (s : Station h.Act) : Type 0 where
     moves : List MoveTrace
     answered : map (λ it. it.answered) moves ≡ all
     each : AllHandOut (h.spec k) own s.acts moves
-    turns : flat_map (λ it. it.turns) moves ≡ trace_over m g.served (steps_of own (h.spec k) gives (moves_of all)) s.node
+    turns : flat_map (λ it. it.turns) moves ≡ trace_over m g.served (steps_of own (h.spec k) gives (frame_moves_of all)) s.node
 
   same_acts : (move : FrameMove) (s : Station h.Act) → (with_value gives move s).acts ≡ s.acts
   same_acts (Makes call) s = refl
   same_acts (Gives number text) s = refl
 
-  hands_out : (it : Answered) (a b : FrameDevice A M S) (s : Station h.Act) → MovesOn g h k m gives own it.move a b it.handed s
+  hands_out : (it : AnsweredFrame) (a b : FrameDevice A M S) (s : Station h.Act) → MovesOn g h k m gives own it.move a b it.handed s
       → HandsOutFrame (h.spec k) own s.acts (record { answered = it; turns = turns_by it.move s })
   hands_out it a b s first =
       let here : Station h.Act = with_value gives it.move s in
@@ -129,7 +129,7 @@ module _ {A S M : Type 0} (g : Ghosts A S) (h : FramesGhosts M) (k : h.Config) (
       ∙ sym (turns_then m g.served events steps s.node)
   move_turns (Gives number text) steps s = refl
 
-  in_turns : (all : List Answered) (a c : FrameDevice A M S) (s : Station h.Act) → RepresentsStation g h k m own a s → AnswersAll g h gives all a c → InTurns all s
+  in_turns : (all : List AnsweredFrame) (a c : FrameDevice A M S) (s : Station h.Act) → RepresentsStation g h k m own a s → AnswersAllFrames g h gives all a c → InTurns all s
   in_turns [] a c s stands more = record { moves = []; answered = refl; each = tt; turns = refl }
   in_turns (it ∷ all) a c s stands more =
       let b : FrameDevice A M S = more.0 in
@@ -145,16 +145,16 @@ module _ {A S M : Type 0} (g : Ghosts A S) (h : FramesGhosts M) (k : h.Config) (
           subst (λ (acts : List h.Act). AllHandOut (h.spec k) own acts rest.moves)
               (acts_after m g.served station_events (with_value gives it.move s) ∙ ap (λ (acts : List h.Act). acts ++ acts_in station_events) (same_acts it.move s)) rest.each,
         );
-        turns = ap (λ l. turns_by it.move s ++ l) rest.turns ∙ move_turns it.move (steps_of own (h.spec k) gives (moves_of all)) s;
+        turns = ap (λ l. turns_by it.move s ++ l) rest.turns ∙ move_turns it.move (steps_of own (h.spec k) gives (frame_moves_of all)) s;
       }
 
   pub keeps_frames : (pages : Pages) → IsPaged m pages → HasBytes pages → KeepsU32 gives → DecodesBytes (h.spec k) → (numbers : List ℕ) → All IsU32 numbers → IsAddr own
-      → (all : List Answered) → All IsOfBytes (moves_of all) → (old new : FrameDevice A M S) → IsFresh g h k m numbers own old → AnswersAll g h gives all old new
+      → (all : List AnsweredFrame) → All IsFrameOfBytes (frame_moves_of all) → (old new : FrameDevice A M S) → IsFreshFrameDevice g h k m numbers own old → AnswersAllFrames g h gives all old new
       → FramesConform (h.spec k) pages g.served own all
   keeps_frames pages lawful page low decodes numbers words is all bytes old new fresh answered =
-      let steps : List LineStep = steps_of own (h.spec k) gives (moves_of all) in
+      let steps : List LineStep = steps_of own (h.spec k) gives (frame_moves_of all) in
       let t = in_turns all old new (initial_station own numbers) fresh.stands answered in
-      let kept = every_step_of_pages m pages lawful page g.served own is numbers words steps (steps_are own (h.spec k) decodes gives low (moves_of all) bytes) in
+      let kept = every_step_of_pages m pages lawful page g.served own is numbers words steps (steps_are own (h.spec k) decodes gives low (frame_moves_of all) bytes) in
       record {
         moves = t.moves;
         answered = t.answered;

@@ -5,7 +5,7 @@ use Rattle.app_events.specs.declared.app.App.{Ghosts}
 use Rattle.uip_wire.specs.declared.addr.Addr.{Addr}
 use Rattle.serve_loop.specs.StationRuns.{Station, output}
 use Rattle.frame_device.specs.FrameSpecs.{as_medium}
-use Rattle.frame_device.specs.FrameCalls.{Answered, AnswersAll, AnswersMove, FrameMove, Gives, IsFresh, Makes, RepresentsStation, Writing, station_after_move, station_events_of_move, frames_sent, handed_of, moves_of, station_after_moves, with_value}
+use Rattle.frame_device.specs.FrameCalls.{AnsweredFrame, AnswersAllFrames, AnswersFrameMove, FrameMove, Gives, IsFreshFrameDevice, Makes, RepresentsStation, Writing, station_after_move, station_events_of_move, frames_sent, handed_of, frame_moves_of, station_after_moves, with_value}
 use Rattle.serve_loop.specs.LineOutput.{initial_station}
 use Rattle.frame_device.specs.declared.frames.Frames.{Ghosts as FramesGhosts}
 use Rattle.frame_device.specs.declared.device.FrameDevice.{FrameDevice}
@@ -17,19 +17,19 @@ module _ {A S M : Type 0} (g : Ghosts A S) (h : FramesGhosts M) (k : h.Config) (
     pub stands : RepresentsStation g h k m own b (station_after_move m g.served (h.spec k) gives own move s)
     pub hands : handed ≡ output m g.served (as_medium (h.spec k)) own (station_events_of_move (h.spec k) own move) (with_value gives move s)
 
-  pub moves_on : (move : FrameMove) (a b : FrameDevice A M S) (handed : List ℕ) (s : Station h.Act) → RepresentsStation g h k m own a s → AnswersMove g h gives move a b handed
+  pub moves_on : (move : FrameMove) (a b : FrameDevice A M S) (handed : List ℕ) (s : Station h.Act) → RepresentsStation g h k m own a s → AnswersFrameMove g h gives move a b handed
       → MovesOn move a b handed s
   moves_on (Makes call) a b handed s stands answers =
       let both = answers.each k m own s stands in record { kept = answers.kept; stands = both.0; hands = both.1 }
   moves_on (Gives number text) a b handed s stands changes =
       record { kept = changes.0.kept; stands = changes.0.each k m own s stands; hands = changes.1 }
 
-  record Goes (all : List Answered) (a c : FrameDevice A M S) (s : Station h.Act) : Type 0 where
-    frames : handed_of all ≡ frames_sent m g.served (h.spec k) gives own (moves_of all) s
-    stands : RepresentsStation g h k m own c (station_after_moves m g.served (h.spec k) gives own (moves_of all) s)
+  record Goes (all : List AnsweredFrame) (a c : FrameDevice A M S) (s : Station h.Act) : Type 0 where
+    frames : handed_of all ≡ frames_sent m g.served (h.spec k) gives own (frame_moves_of all) s
+    stands : RepresentsStation g h k m own c (station_after_moves m g.served (h.spec k) gives own (frame_moves_of all) s)
     kept : g.config c.node.shared ≡ g.config a.node.shared
 
-  goes : (all : List Answered) (a c : FrameDevice A M S) (s : Station h.Act) → RepresentsStation g h k m own a s → AnswersAll g h gives all a c → Goes all a c s
+  goes : (all : List AnsweredFrame) (a c : FrameDevice A M S) (s : Station h.Act) → RepresentsStation g h k m own a s → AnswersAllFrames g h gives all a c → Goes all a c s
   goes [] a c s stands same = record {
     frames = refl;
     stands = subst (λ (d : FrameDevice A M S). RepresentsStation g h k m own d s) same stands;
@@ -47,14 +47,14 @@ module _ {A S M : Type 0} (g : Ghosts A S) (h : FramesGhosts M) (k : h.Config) (
         kept = rest.kept ∙ first.kept;
       }
 
-  module _ (numbers : List ℕ) (all : List Answered) (old new : FrameDevice A M S) (fresh : IsFresh g h k m numbers own old) (answered : AnswersAll g h gives all old new) where
+  module _ (numbers : List ℕ) (all : List AnsweredFrame) (old new : FrameDevice A M S) (fresh : IsFreshFrameDevice g h k m numbers own old) (answered : AnswersAllFrames g h gives all old new) where
     whole : Goes all old new (initial_station own numbers)
     whole = goes all old new (initial_station own numbers) fresh.stands answered
 
-    pub frames_exact : handed_of all ≡ frames_sent m g.served (h.spec k) gives own (moves_of all) (initial_station own numbers)
+    pub frames_exact : handed_of all ≡ frames_sent m g.served (h.spec k) gives own (frame_moves_of all) (initial_station own numbers)
     frames_exact = whole.frames
 
-    pub device_stands : RepresentsStation g h k m own new (station_after_moves m g.served (h.spec k) gives own (moves_of all) (initial_station own numbers))
+    pub device_stands : RepresentsStation g h k m own new (station_after_moves m g.served (h.spec k) gives own (frame_moves_of all) (initial_station own numbers))
     device_stands = whole.stands
 
     pub same_kept : g.config new.node.shared ≡ g.config old.node.shared

@@ -39,7 +39,7 @@ pub record AnswersFrame {A S M : Type 0} (g : Ghosts A S) (h : FramesGhosts M) (
       × (handed ≡ output m g.served (as_medium (h.spec k)) own (station_events_by (h.spec k) own call) s)
 
 -- A device at the address `own` of which nothing was called yet.
-pub record IsFresh {A S M : Type 0} (g : Ghosts A S) (h : FramesGhosts M) (k : h.Config) (m : AppSpec) (numbers : List ℕ) (own : Addr)
+pub record IsFreshFrameDevice {A S M : Type 0} (g : Ghosts A S) (h : FramesGhosts M) (k : h.Config) (m : AppSpec) (numbers : List ℕ) (own : Addr)
     (d : FrameDevice A M S) : Type 0 where
   pub stands : RepresentsStation g h k m own d (initial_station own numbers)
 
@@ -88,32 +88,32 @@ pub record ChangesNumbers {A S M : Type 0} (g : Ghosts A S) (h : FramesGhosts M)
       → RepresentsStation g h k m own new (with_numbers change s)
 
 -- a move was answered by these bytes: a call so, and setting a value by none
-abbrev pub AnswersMove : {A S M : Type 0} → Ghosts A S → FramesGhosts M → Writing → FrameMove → FrameDevice A M S → FrameDevice A M S
+abbrev pub AnswersFrameMove : {A S M : Type 0} → Ghosts A S → FramesGhosts M → Writing → FrameMove → FrameDevice A M S → FrameDevice A M S
     → List ℕ → Type 0
-AnswersMove g h gives (Makes call) old new handed = AnswersFrame g h call old new handed
-AnswersMove g h gives (Gives number text) old new handed = ChangesNumbers g h (gives number text) old new × (handed ≡ [])
+AnswersFrameMove g h gives (Makes call) old new handed = AnswersFrame g h call old new handed
+AnswersFrameMove g h gives (Gives number text) old new handed = ChangesNumbers g h (gives number text) old new × (handed ≡ [])
 
 -- a move, and the bytes by which it was answered
-pub record Answered : Type 0 where
+pub record AnsweredFrame : Type 0 where
   pub move : FrameMove
   pub handed : List ℕ
 
-abbrev pub moves_of : List Answered → List FrameMove
-moves_of all = map (λ it. it.move) all
+abbrev pub frame_moves_of : List AnsweredFrame → List FrameMove
+frame_moves_of all = map (λ it. it.move) all
 
-abbrev pub handed_of : List Answered → List (List ℕ)
+abbrev pub handed_of : List AnsweredFrame → List (List ℕ)
 handed_of all = map (λ it. it.handed) all
 
 -- moves in turn were answered so
-abbrev pub AnswersAll : {A S M : Type 0} → Ghosts A S → FramesGhosts M → Writing → List Answered → FrameDevice A M S
+abbrev pub AnswersAllFrames : {A S M : Type 0} → Ghosts A S → FramesGhosts M → Writing → List AnsweredFrame → FrameDevice A M S
     → FrameDevice A M S → Type 0
-AnswersAll g h gives [] a c = a ≡ c
-AnswersAll {A = A} {S = S} {M = M} g h gives (it ∷ all) a c =
-    (b : FrameDevice A M S) × AnswersMove g h gives it.move a b it.handed × AnswersAll g h gives all b c
+AnswersAllFrames g h gives [] a c = a ≡ c
+AnswersAllFrames {A = A} {S = S} {M = M} g h gives (it ∷ all) a c =
+    (b : FrameDevice A M S) × AnswersFrameMove g h gives it.move a b it.handed × AnswersAllFrames g h gives all b c
 
 -- This holds of every fresh device, and of any moves in turn that it answers.
 abbrev pub FromFresh : {A S M : Type 0} (g : Ghosts A S) (h : FramesGhosts M)
-    → (h.Config → AppSpec → Writing → List ℕ → Addr → List Answered → FrameDevice A M S → FrameDevice A M S → Type 0) → Type 0
+    → (h.Config → AppSpec → Writing → List ℕ → Addr → List AnsweredFrame → FrameDevice A M S → FrameDevice A M S → Type 0) → Type 0
 FromFresh {A = A} {S = S} {M = M} g h P =
-    (k : h.Config) (m : AppSpec) (gives : Writing) (numbers : List ℕ) (own : Addr) (all : List Answered) (old new : FrameDevice A M S)
-    → IsFresh g h k m numbers own old → AnswersAll g h gives all old new → P k m gives numbers own all old new
+    (k : h.Config) (m : AppSpec) (gives : Writing) (numbers : List ℕ) (own : Addr) (all : List AnsweredFrame) (old new : FrameDevice A M S)
+    → IsFreshFrameDevice g h k m numbers own old → AnswersAllFrames g h gives all old new → P k m gives numbers own all old new

@@ -9,17 +9,17 @@ use Rattle.node_laws.specs.Traces.{TraceEntry}
 use Rattle.node_laws.specs.Wire.{IsReadByPeer}
 use Rattle.serve_loop.specs.StationRuns.{StationEvent, OfMedium, OfNode}
 use Rattle.line_promise.specs.Lines.{events_among, text_in}
-use Rattle.frame_device.specs.FrameCalls.{Answered, FrameMove, Gives, InputsFrame, Makes, Writing, station_events_of_move}
+use Rattle.frame_device.specs.FrameCalls.{AnsweredFrame, FrameMove, Gives, InputsFrame, Makes, Writing, station_events_of_move}
 use Rattle.frame_device.specs.FrameSpecs.{FrameSpec, as_medium}
 
 -- a received frame is bytes, and a value is at most 32 bytes
-abbrev pub IsOfBytes : FrameMove → Type 0
-IsOfBytes (Makes (InputsFrame frame)) = All IsByte frame
-IsOfBytes (Gives number text) = (length text ≤ 32) × All IsByte text
-IsOfBytes _ = ⊤
+abbrev pub IsFrameOfBytes : FrameMove → Type 0
+IsFrameOfBytes (Makes (InputsFrame frame)) = All IsByte frame
+IsFrameOfBytes (Gives number text) = (length text ≤ 32) × All IsByte text
+IsFrameOfBytes _ = ⊤
 
 abbrev pub KeepsU32 : Writing → Type 0
-KeepsU32 gives = (number : ℕ) (text numbers : List ℕ) → IsOfBytes (Gives number text) → All IsU32 numbers
+KeepsU32 gives = (number : ℕ) (text numbers : List ℕ) → IsFrameOfBytes (Gives number text) → All IsU32 numbers
     → All IsU32 (gives number text numbers)
 
 -- the link's own events among the events of a station
@@ -30,7 +30,7 @@ acts_in (OfNode e ∷ station_events) = acts_in station_events
 
 -- A move that was answered, and the trace entries of its events.
 pub record MoveTrace : Type 0 where
-  pub answered : Answered
+  pub answered : AnsweredFrame
   pub turns : List TraceEntry
 
 -- The entries are of the events of the move. After these events of the link it writes the frame of what is sent in them, or of the link's own
@@ -47,7 +47,7 @@ AllHandOut w own acts (it ∷ more) =
 
 -- Moves of a fresh device were answered so in turn. Each writes the frame of what is sent in entries of its own. The trace of all moves
 -- conforms, and each segment is read by its peer.
-pub record FramesConform {A : Type 0} (w : FrameSpec A) (pages : Pages) (served : ℕ → Bool) (own : Addr) (all : List Answered) : Type 0 where
+pub record FramesConform {A : Type 0} (w : FrameSpec A) (pages : Pages) (served : ℕ → Bool) (own : Addr) (all : List AnsweredFrame) : Type 0 where
   pub moves : List MoveTrace
   pub answered : map (λ it. it.answered) moves ≡ all
   pub each : AllHandOut w own [] moves

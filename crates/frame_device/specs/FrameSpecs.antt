@@ -58,7 +58,7 @@ datagram_frames = record {
   text = λ acts datagram. datagram;
 }
 
-pub datagram_bytes : DecodesBytes datagram_frames
-datagram_bytes frame h =
+pub datagram_frames_decode : DecodesBytes datagram_frames
+datagram_frames_decode frame h =
     choose (λ (l : List (MediumInput NoAct)). All CarriesBytes l) (nat_lt 0 (length frame) && nat_le (length frame) LARGEST_DATAGRAM) _ _
     (λ e. All-cons CarriesBytes (Datagram frame) [] h (All-nil CarriesBytes)) (λ e. All-nil CarriesBytes)

@@ -10,7 +10,7 @@ pub struct Datagrams;
 impl Frames for Datagrams {
     ghost use Rattle.std.specs.Prelude.{◌≡◌, ⊤, List};
     ghost use Rattle.serve_loop.specs.SerialMedium.{NoAct};
-    ghost use Rattle.frame_device.specs.FrameSpecs.{datagram_bytes, datagram_frames};
+    ghost use Rattle.frame_device.specs.FrameSpecs.{datagram_frames_decode, datagram_frames};
 
     ghost Act = { NoAct };
 
@@ -34,5 +34,5 @@ impl Frames for Datagrams {
         datagram.len()
     }
 
-    ghost bytes = { λ _. datagram_bytes };
+    ghost bytes = { λ _. datagram_frames_decode };
 }

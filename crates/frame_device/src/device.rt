@@ -53,7 +53,7 @@ fn begin_tick<M: Frames>(frames: &mut M, slot: usize)
 
 impl<A: App, M: Frames> FrameDevice<A, M> {
     ghost use Rattle.std.specs.Prelude.{◌≡◌, ◌<◌, ◌≤◌, IfOk, length, take};
-    ghost use Rattle.frame_device.specs.FrameCalls.{AnswersFrame, InputsFrame, CallsSlot, IsFresh};
+    ghost use Rattle.frame_device.specs.FrameCalls.{AnswersFrame, InputsFrame, CallsSlot, IsFreshFrameDevice};
 
     /// Makes a device at an address. The connections of its application share a value. After this no call allocates memory.
     pub fn new(
@@ -63,7 +63,7 @@ impl<A: App, M: Frames> FrameDevice<A, M> {
         shared: A::Shared,
     ) -> Result<FrameDevice<A, M>, NoMemory>
         ensures fresh { IfOk result (λ d. (k : M.Config) → M.did frames k []
-            → IsFresh A.App M.Frames k (A.app_spec (A.config shared)) (A.numbers shared) own d) }
+            → IsFreshFrameDevice A.App M.Frames k (A.app_spec (A.config shared)) (A.numbers shared) own d) }
         ensures shared { IfOk result (λ d. d.node.shared ≡ shared) }
     {
         Ok(FrameDevice {

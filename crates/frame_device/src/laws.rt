@@ -8,10 +8,10 @@ ghost use Rattle.uip_node.specs.Laws.{HasBytes};
 ghost use Rattle.uip_wire.specs.declared.addr.Addr.{Addr};
 ghost use Rattle.frame_device.specs.declared.device.FrameDevice.{FrameDevice as AnyDevice};
 ghost use Rattle.frame_device.specs.EtherFrames.{FramesGoHome, SentAsOnLine};
-ghost use Rattle.frame_device.specs.FrameCalls.{Answered, AnswersAll, FromFresh, IsFresh, RepresentsStation, Writing};
-ghost use Rattle.frame_device.specs.FrameCalls.{frames_sent, handed_of, moves_of, station_after_moves};
+ghost use Rattle.frame_device.specs.FrameCalls.{AnsweredFrame, AnswersAllFrames, FromFresh, IsFreshFrameDevice, RepresentsStation, Writing};
+ghost use Rattle.frame_device.specs.FrameCalls.{frames_sent, handed_of, frame_moves_of, station_after_moves};
 ghost use Rattle.serve_loop.specs.LineOutput.{initial_station};
-ghost use Rattle.frame_device.specs.FrameKeeping.{IsOfBytes, FramesConform, KeepsU32};
+ghost use Rattle.frame_device.specs.FrameKeeping.{IsFrameOfBytes, FramesConform, KeepsU32};
 
 use crate::frames::Frames;
 use app_events::App;
@@ -21,9 +21,9 @@ use app_events::App;
 /// application stays.
 pub fn frame_calls_are_exact<A: App, M: Frames>()
     ensures frames { FromFresh A.App M.Frames (λ k m gives numbers own all old new.
-        handed_of all ≡ frames_sent m A.served (M.spec k) gives own (moves_of all) (initial_station own numbers)) }
+        handed_of all ≡ frames_sent m A.served (M.spec k) gives own (frame_moves_of all) (initial_station own numbers)) }
     ensures stands { FromFresh A.App M.Frames (λ k m gives numbers own all old new.
-        RepresentsStation A.App M.Frames k m own new (station_after_moves m A.served (M.spec k) gives own (moves_of all) (initial_station own numbers))) }
+        RepresentsStation A.App M.Frames k m own new (station_after_moves m A.served (M.spec k) gives own (frame_moves_of all) (initial_station own numbers))) }
     ensures kept { FromFresh A.App M.Frames (λ k m gives numbers own all old new. A.config new.node.shared ≡ A.config old.node.shared) }
 {}
 
@@ -33,8 +33,8 @@ pub fn frame_calls_are_exact<A: App, M: Frames>()
 pub fn frame_calls_keep_the_promise<A: App, M: Frames>()
     ensures { (k : M.Config) (m : AppSpec) (pages : Pages) → IsPaged m pages → HasBytes pages → (gives : Writing) → KeepsU32 gives
         → (numbers : List ℕ) → All IsU32 numbers → (own : Addr) → IsAddr own
-        → (all : List Answered) → All IsOfBytes (moves_of all) → (old new : AnyDevice A M A.Shared)
-        → IsFresh A.App M.Frames k m numbers own old → AnswersAll A.App M.Frames gives all old new
+        → (all : List AnsweredFrame) → All IsFrameOfBytes (frame_moves_of all) → (old new : AnyDevice A M A.Shared)
+        → IsFreshFrameDevice A.App M.Frames k m numbers own old → AnswersAllFrames A.App M.Frames gives all old new
         → FramesConform (M.spec k) pages A.served own all }
 {}
 

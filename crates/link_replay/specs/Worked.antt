@@ -60,14 +60,14 @@ replayed files plan lines =
 abbrev pub ends_with : List File → List Planned → List Event → Result Ending BadLine
 ends_with files plan lines = ending_of (replayed files plan lines)
 
-abbrev pub text_in : Content → List ℕ
-text_in (OfSegment id segment) = segment.text
-text_in (OfPing datagram) = []
-text_in (OfEcho request) = []
+abbrev pub content_data : Content → List ℕ
+content_data (OfSegment id segment) = segment.text
+content_data (OfPing datagram) = []
+content_data (OfEcho request) = []
 
 abbrev pub worked_text : Option Sent → List ℕ
 worked_text None = []
-worked_text (Some sent) = text_in sent.content
+worked_text (Some sent) = content_data sent.content
 
 -- the text of the datagram with a number
 abbrev pub text_sent : ℕ → Result World BadLine → List ℕ

@@ -13,7 +13,7 @@ use Rattle.script_lang.specs.declared.function.Function.{Function}
 use Rattle.telnet_shell.specs.declared.command.Command.{Command}
 use Rattle.telnet_shell.specs.State.{Shell}
 use Rattle.telnet_shell.specs.Transcript.{function_of, needs_capture, said_with, transcript}
-use Rattle.telnet_shell.specs.Saying.{IsTrailing, IsLeading, Shows, stops_at, is_taken, left_said, due}
+use Rattle.telnet_shell.specs.Saying.{IsTrailing, IsLeading, Shows, stops_at, is_captured, left_said, due}
 use Rattle.telnet_shell.specs.Lemmas.Speaking.{session_is, waiting_is, said_some, held_goes}
 use Rattle.telnet_shell.specs.ShellMeaning.{session, is_settled, is_stopped, session_has_ended, left_of_session, shell_want, take_capture, hear_byte, hear_all}
 use Rattle.telnet_shell.specs.ShellRepresents.{ShellRepresents}
@@ -96,7 +96,7 @@ taken (c ∷ cs) capture held at p numbers function now d e b i =
         captures = ap (λ (ks : List Snapshot). ks ++ record { numbers = numbers; now = now } ∷ []) (b.captures ∙ ap (λ (ks : List Snapshot). b.spoken ++ ks) none ∙ append-nil b.spoken);
         took = b.took;
         acked = b.acked;
-        shows = (refl, (and_parts (needs_capture c) (not (is_taken capture)) both.0).0, e ∙ ap (λ (f : Function). capture_of f 0 now) (sym both.1));
+        shows = (refl, (and_parts (needs_capture c) (not (is_captured capture)) both.0).0, e ∙ ap (λ (f : Function). capture_of f 0 now) (sym both.1));
       };
       place = ((λ s. start), (λ g. omega (arith, start, said_some c held)));
     }

@@ -9,16 +9,16 @@ use Rattle.telnet_shell.specs.declared.command.Command.{Command}
 use Rattle.telnet_shell.specs.Reading.{commands_in}
 use Rattle.telnet_shell.specs.Transcript.{function_of, needs_capture, said_with, transcript}
 
-abbrev pub is_taken : Capture → Bool
-is_taken Empty = false
-is_taken (Hits hits) = true
-is_taken (Ticks ticks) = true
-is_taken (Net counters) = true
-is_taken (Rows rows) = true
+abbrev pub is_captured : Capture → Bool
+is_captured Empty = false
+is_captured (Hits hits) = true
+is_captured (Ticks ticks) = true
+is_captured (Net counters) = true
+is_captured (Rows rows) = true
 
 -- The first command waits for its snapshot.
 abbrev pub stops_at : Command → Capture → Bool
-stops_at command capture = needs_capture command && not (is_taken capture)
+stops_at command capture = needs_capture command && not (is_captured capture)
 
 abbrev pub left_said : List Command → Capture → List ℕ
 left_said [] capture = []

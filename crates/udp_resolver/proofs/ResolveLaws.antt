@@ -13,7 +13,7 @@ use Rattle.udp_resolver.specs.Fates.{Question, answer_among, questions}
 use Rattle.udp_resolver.specs.LineEvents.{events}
 use Rattle.udp_resolver.specs.Lines.{lines}
 use Rattle.udp_resolver.specs.Resolving.{Resolves, ResolvesBy, TellFailed, WroteAll}
-use Rattle.udp_resolver.specs.Standing.{Asks, Done, Knows}
+use Rattle.udp_resolver.specs.Standing.{Asks, Done, RunRepresents}
 use Rattle.udp_resolver.specs.Steps.{lines_by}
 use Rattle.udp_resolver.specs.Streams.{Streams}
 use Rattle.udp_resolver.specs.declared.run.Run.{Run}
@@ -21,7 +21,7 @@ use Rattle.udp_resolver.proofs.RunLaws.{lines_told}
 
 -- the lines of what a run knows
 pub lines_known : (asking : Asking) (names : List (List ℕ)) (items : List Item) (run : Run) (answers : List (Option Answer)) → answers ≡ run.answers.items
-    → Knows (questions asking names) items run → lines_by names answers run.clock.given_up ≡ lines (questions asking names) (events items)
+    → RunRepresents (questions asking names) items run → lines_by names answers run.clock.given_up ≡ lines (questions asking names) (events items)
 lines_known asking names items run answers same k =
     ap (λ l. lines_by names l run.clock.given_up) (same ∙ k.heard)
     ∙ ap (λ b. lines_by names (map (answer_among (events items)) (questions asking names)) b) k.at.given_up
@@ -34,7 +34,7 @@ module _ (asked : List Question) (n : ℕ) (run : Run) (old new : Streams) where
 
   -- all was reported
   whole : (end : ServeEnd) (taken : List Item) → Done asked n taken run old.line new.line end → new.tell.faults ≡ old.tell.faults
-      → ((taken : List Item) → Knows asked taken run → Appends old.tell.written new.tell.written (lines asked (events taken)))
+      → ((taken : List Item) → RunRepresents asked taken run → Appends old.tell.written new.tell.written (lines asked (events taken)))
       → WroteAll asked n old new taken end
   whole end taken d same told = record {
     done = d.done;
@@ -44,7 +44,7 @@ module _ (asked : List Question) (n : ℕ) (run : Run) (old new : Streams) where
   }
 
   pub told_all : (end : ServeEnd) → (end ≡ ends.LinkFault → ⊥) → (end ≡ ends.WriteFault → ⊥) → Asks asked n run old.line new.line end
-      → new.tell.faults ≡ old.tell.faults → ((taken : List Item) → Knows asked taken run → Appends old.tell.written new.tell.written (lines asked (events taken)))
+      → new.tell.faults ≡ old.tell.faults → ((taken : List Item) → RunRepresents asked taken run → Appends old.tell.written new.tell.written (lines asked (events taken)))
       → Resolves asked n old new end
   told_all ends.End l w a same told = resolves ends.End ends.End a (whole ends.End a.taken a.by same told)
   told_all ends.Budget l w a same told = resolves ends.Budget ends.Budget a (whole ends.Budget a.taken a.by same told)
@@ -53,8 +53,8 @@ module _ (asked : List Question) (n : ℕ) (run : Run) (old new : Streams) where
 
   -- the report failed
   part : (end : ServeEnd) (taken : List Item) → Done asked n taken run old.line new.line end → Rose old.tell.faults new.tell.faults
-      → ((taken : List Item) → Knows asked taken run → AppendsPrefix old.tell.written new.tell.written (lines asked (events taken)))
-      → ((taken : List Item) → Knows asked taken run → 0 < length (lines asked (events taken))) → TellFailed asked n old new taken
+      → ((taken : List Item) → RunRepresents asked taken run → AppendsPrefix old.tell.written new.tell.written (lines asked (events taken)))
+      → ((taken : List Item) → RunRepresents asked taken run → 0 < length (lines asked (events taken))) → TellFailed asked n old new taken
   part end taken d rose told some = record {
     end = end;
     done = d.done;
@@ -65,8 +65,8 @@ module _ (asked : List Question) (n : ℕ) (run : Run) (old new : Streams) where
   }
 
   pub told_part : (end : ServeEnd) → (end ≡ ends.LinkFault → ⊥) → (end ≡ ends.WriteFault → ⊥) → Asks asked n run old.line new.line end
-      → Rose old.tell.faults new.tell.faults → ((taken : List Item) → Knows asked taken run → AppendsPrefix old.tell.written new.tell.written (lines asked (events taken)))
-      → ((taken : List Item) → Knows asked taken run → 0 < length (lines asked (events taken))) → Resolves asked n old new ends.WriteFault
+      → Rose old.tell.faults new.tell.faults → ((taken : List Item) → RunRepresents asked taken run → AppendsPrefix old.tell.written new.tell.written (lines asked (events taken)))
+      → ((taken : List Item) → RunRepresents asked taken run → 0 < length (lines asked (events taken))) → Resolves asked n old new ends.WriteFault
   told_part ends.End l w a rose told some = resolves ends.End ends.WriteFault a (inr (part ends.End a.taken a.by rose told some))
   told_part ends.Budget l w a rose told some = resolves ends.Budget ends.WriteFault a (inr (part ends.Budget a.taken a.by rose told some))
   told_part ends.LinkFault l w a rose told some = absurd (l refl)
@@ -75,7 +75,7 @@ module _ (asked : List Question) (n : ℕ) (run : Run) (old new : Streams) where
 -- all names were reported, or a prefix of the report was written if it failed
 module _ (asking : Asking) (names : List (List ℕ)) (n : ℕ) (run : Run) (old new : Streams) (answers : List (Option Answer)) (same : answers ≡ run.answers.items)
     (end : ServeEnd) (l : end ≡ ends.LinkFault → ⊥) (w : end ≡ ends.WriteFault → ⊥) (a : Asks (questions asking names) n run old.line new.line end) where
-  told_text : (taken : List Item) → Knows (questions asking names) taken run → lines_by names answers run.clock.given_up ≡ lines (questions asking names) (events taken)
+  told_text : (taken : List Item) → RunRepresents (questions asking names) taken run → lines_by names answers run.clock.given_up ≡ lines (questions asking names) (events taken)
   told_text taken k = lines_known asking names taken run answers same k
 
   pub names_told : new.tell.faults ≡ old.tell.faults → Appends old.tell.written new.tell.written (lines_by names answers run.clock.given_up)

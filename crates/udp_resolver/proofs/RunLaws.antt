@@ -17,7 +17,7 @@ use Rattle.udp_resolver.specs.Asked.{last_ident, line_text, open_ones, queries, 
 use Rattle.udp_resolver.specs.Fates.{Question, all_settled, answer_among, fate_of, is_given_up, next_asking, questions, silences}
 use Rattle.udp_resolver.specs.LineEvents.{LineEvent, MediumInput, Silence, by_frame, events, received_after}
 use Rattle.udp_resolver.specs.Lines.{line_of, lines}
-use Rattle.udp_resolver.specs.Standing.{Adds, Knows, WritesSome}
+use Rattle.udp_resolver.specs.Standing.{Adds, RunRepresents, WritesSome}
 use Rattle.udp_resolver.specs.Steps.{IsClockAt, asked_next, heard_now, is_due, lines_by, unanswered}
 use Rattle.udp_resolver.specs.declared.clock.Clock.{Clock}
 use Rattle.udp_resolver.specs.declared.run.Run.{Run}
@@ -52,7 +52,7 @@ refill_same olds news e =
 
 knows_events : (asked : List Question) (items : List Item) (happened : List LineEvent) (bytes : List ℕ) (run : Run) → events items ≡ happened → bytes_among items ≡ bytes
     → WasFed bytes run.decoder → IsClockAt happened run.clock → run.answers.items ≡ map (answer_among happened) asked
-    → run.sender.ident ≡ last_ident 0 (queries asked happened) → Knows asked items run
+    → run.sender.ident ≡ last_ident 0 (queries asked happened) → RunRepresents asked items run
 knows_events asked items happened bytes run e b fed at answers sent = record {
   fed = subst (λ (l : List ℕ). WasFed l run.decoder) (sym b) fed;
   at = subst (λ (l : List LineEvent). IsClockAt l run.clock) (sym e) at;
@@ -70,18 +70,18 @@ at_calm happened more clock calm at =
     }
 
 -- a byte that brings nothing
-pub knows_byte : (asked : List Question) (items : List Item) (b : ℕ) (old new : Run) → Knows asked items old
+pub knows_byte : (asked : List Question) (items : List Item) (b : ℕ) (old new : Run) → RunRepresents asked items old
     → WasFed (bytes_among items ++ b ∷ []) new.decoder → flat_map by_frame (completed (bytes_among items) b) ≡ []
-    → new.clock ≡ old.clock → new.sender ≡ old.sender → new.answers ≡ old.answers → Knows asked (items ++ Byte b ∷ []) new
+    → new.clock ≡ old.clock → new.sender ≡ old.sender → new.answers ≡ old.answers → RunRepresents asked (items ++ Byte b ∷ []) new
 knows_byte asked items b old new k fed brings clock sender answers =
     knows_events asked (items ++ Byte b ∷ []) (events items) (bytes_among items ++ b ∷ []) new
     (events_byte items b ∙ ap (λ l. events items ++ l) brings ∙ append-nil (events items)) (bytes_among-append items (Byte b ∷ []))
     fed (subst (λ (c : Clock). IsClockAt (events items) c) (sym clock) k.at) (ap (λ a. a.items) answers ∙ k.heard) (ap (λ s. s.ident) sender ∙ k.sent)
 
 -- a byte that brings a datagram
-pub knows_came : (asked : List Question) (items : List Item) (b : ℕ) (datagram : List ℕ) (old new : Run) → is_given_up (events items) ≡ false → Knows asked items old
+pub knows_came : (asked : List Question) (items : List Item) (b : ℕ) (datagram : List ℕ) (old new : Run) → is_given_up (events items) ≡ false → RunRepresents asked items old
     → WasFed (bytes_among items ++ b ∷ []) new.decoder → flat_map by_frame (completed (bytes_among items) b) ≡ MediumInput datagram ∷ []
-    → new.clock ≡ old.clock → new.sender ≡ old.sender → new.answers.items ≡ heard_now datagram asked old.answers.items → Knows asked (items ++ Byte b ∷ []) new
+    → new.clock ≡ old.clock → new.sender ≡ old.sender → new.answers.items ≡ heard_now datagram asked old.answers.items → RunRepresents asked (items ++ Byte b ∷ []) new
 knows_came asked items b datagram old new e k fed brings clock sender answers =
     let es = events items in
     knows_events asked (items ++ Byte b ∷ []) (es ++ MediumInput datagram ∷ []) (bytes_among items ++ b ∷ []) new
@@ -94,9 +94,9 @@ knows_came asked items b datagram old new e k fed brings clock sender answers =
 pub events_quiet : (items : List Item) → events (items ++ Quiet ∷ []) ≡ events items ++ Silence ∷ []
 events_quiet items = events-append [] items (Quiet ∷ [])
 
-pub knows_silence : (asked : List Question) (items : List Item) (old new : Run) → is_given_up (events items) ≡ false → Knows asked items old
+pub knows_silence : (asked : List Question) (items : List Item) (old new : Run) → is_given_up (events items) ≡ false → RunRepresents asked items old
     → IsClockAt (events items ++ Silence ∷ []) new.clock → new.decoder ≡ old.decoder → new.answers ≡ old.answers
-    → new.sender.ident ≡ last_ident old.sender.ident (asked_next asked (events items)) → Knows asked (items ++ Quiet ∷ []) new
+    → new.sender.ident ≡ last_ident old.sender.ident (asked_next asked (events items)) → RunRepresents asked (items ++ Quiet ∷ []) new
 knows_silence asked items old new e k at decoder answers sent =
     let es = events items in
     knows_events asked (items ++ Quiet ∷ []) (es ++ Silence ∷ []) (bytes_among items) new
@@ -107,7 +107,7 @@ knows_silence asked items old new e k at decoder answers sent =
     ∙ ap (λ l. last_ident 0 l) (sym (queries_silence asked es)))
 
 -- the open questions, by the answers
-pub next_by : (asked : List Question) (items : List Item) (run : Run) (answers : List (Option Answer)) → is_given_up (events items) ≡ false → Knows asked items run
+pub next_by : (asked : List Question) (items : List Item) (run : Run) (answers : List (Option Answer)) → is_given_up (events items) ≡ false → RunRepresents asked items run
     → answers ≡ run.answers.items → is_due (silences (events items) + 1) ≡ true → asked_next asked (events items) ≡ unanswered asked answers
 next_by asked items run answers e k same due =
     ap (λ b. if b then open_ones asked (events items) else []) due
@@ -123,7 +123,7 @@ adds_bytes asked items bytes =
     ∙ ap (λ l. query_texts 0 l) (queries_calm asked (events items) (received_after (bytes_among items) (map Byte bytes)) (calm_bytes (bytes_among items) bytes))
     ∙ sym (append-nil (line_text asked (events items)))
 
-pub adds_quiet : (asked : List Question) (items : List Item) (run : Run) → Knows asked items run
+pub adds_quiet : (asked : List Question) (items : List Item) (run : Run) → RunRepresents asked items run
     → Adds asked items (Quiet ∷ []) (query_texts run.sender.ident (asked_next asked (events items)))
 adds_quiet asked items run k =
     let es = events items in
@@ -150,7 +150,7 @@ pub open_else : (is_over : Bool) (any : Bool) → is_over ≡ true → not is_ov
 open_else true any e = refl
 open_else false any e = absurd (cc e)
 
-pub open_by : (asked : List Question) (items : List Item) (run : Run) → Knows asked items run
+pub open_by : (asked : List Question) (items : List Item) (run : Run) → RunRepresents asked items run
     → (not run.clock.given_up && list_any is_none run.answers.items) ≡ not (all_settled asked (events items))
 open_by asked items run k =
     ap (λ b. not b && list_any is_none run.answers.items) k.at.given_up

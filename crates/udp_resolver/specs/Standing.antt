@@ -25,7 +25,7 @@ pub record WritesSome {T E : Type 0} (old new : SinkView) (result : Result T E) 
   pub some : OnErr result (0 < length text)
 
 -- The run after these items.
-pub record Knows (asked : List Question) (items : List Item) (run : Run) : Type 0 where
+pub record RunRepresents (asked : List Question) (items : List Item) (run : Run) : Type 0 where
   pub fed : WasFed (bytes_among items) run.decoder
   pub at : IsClockAt (events items) run.clock
   pub heard : run.answers.items ≡ map (answer_among (events items)) asked
@@ -34,12 +34,12 @@ pub record Knows (asked : List Question) (items : List Item) (run : Run) : Type 
 -- A run that knows any items without giving up knows these further items too afterwards.
 abbrev pub Learns : List Question → List Item → Run → Run → Type 0
 Learns asked more old new =
-    (items : List Item) → is_given_up (events items) ≡ false → Knows asked items old → Knows asked (items ++ more) new
+    (items : List Item) → is_given_up (events items) ≡ false → RunRepresents asked items old → RunRepresents asked (items ++ more) new
 
 -- After any items of a run that has not given up, the queries due at the next silence were written.
 abbrev pub WritesNext : {T E : Type 0} → List Question → Run → SinkView → SinkView → Result T E → Type 0
 WritesNext asked run old new result =
-    (items : List Item) → is_given_up (events items) ≡ false → Knows asked items run
+    (items : List Item) → is_given_up (events items) ≡ false → RunRepresents asked items run
     → WritesSome old new result (query_texts run.sender.ident (asked_next asked (events items)))
 
 -- What further items add to the output line.
@@ -48,7 +48,7 @@ Adds asked items more text = line_text asked (events (items ++ more)) ≡ line_t
 
 -- A turn that took items.
 pub record Went (asked : List Question) (items more : List Item) (run : Run) (old new : LineView) : Type 0 where
-  pub knows : Knows asked (items ++ more) run
+  pub knows : RunRepresents asked (items ++ more) run
   pub once : IsOneAnswer more
   pub text : List ℕ
   pub adds : Adds asked items more text
@@ -56,7 +56,7 @@ pub record Went (asked : List Question) (items more : List Item) (run : Run) (ol
 
 -- A turn in which the link ended or failed.
 pub record Kept (asked : List Question) (items : List Item) (run : Run) (old new : LineView) : Type 0 where
-  pub knows : Knows asked items run
+  pub knows : RunRepresents asked items run
   pub out : new.sink.written ≡ old.sink.written
 
 -- A turn in which the output line failed.
@@ -85,13 +85,13 @@ pub record Turns (asked : List Question) (items : List Item) (run : Run) (old ne
 -- A turn after any items with an open question.
 abbrev pub TurnsAfter : List Question → Run → Run → LineView → LineView → ℕ → Turn ServeEnd → Type 0
 TurnsAfter asked before run old new room turn =
-    (items : List Item) → IsOpen asked items → Knows asked items before → Turns asked items run old new room turn
+    (items : List Item) → IsOpen asked items → RunRepresents asked items before → Turns asked items run old new room turn
 
 -- Why no more is taken, and what was written, if the line did not fail.
 pub record Done (asked : List Question) (n : ℕ) (taken : List Item) (run : Run) (old new : LineView) (end : ServeEnd) : Type 0 where
   pub done : IsDone asked n old.link.coming taken end
   pub calm : IsCalm old new
-  pub knows : Knows asked taken run
+  pub knows : RunRepresents asked taken run
   pub out : Appends old.sink.written new.sink.written (line_text asked (events taken))
 
 abbrev pub AsksBy : List Question → ℕ → List Item → Run → LineView → LineView → ServeEnd → Type 0

@@ -10,7 +10,7 @@ ghost use Rattle.uip_slip.specs.Decoding.{WasFed};
 ghost use Rattle.udp_resolver.specs.Asked.{line_text};
 ghost use Rattle.udp_resolver.specs.Fates.{all_settled, questions};
 ghost use Rattle.udp_resolver.specs.LineEvents.{events};
-ghost use Rattle.udp_resolver.specs.Standing.{Asks, Knows, Learns, TurnsAfter, WritesNext, WritesSome};
+ghost use Rattle.udp_resolver.specs.Standing.{Asks, RunRepresents, Learns, TurnsAfter, WritesNext, WritesSome};
 ghost use Rattle.udp_resolver.specs.Steps.{IsClockAt};
 ghost use Rattle.uip_edge.specs.ViewsOf.{line_view, sink_view};
 
@@ -69,7 +69,7 @@ impl Run {
         ensures tries { self.new.clock.timer.tries ≤ TEXT_LIMIT }
         ensures area { length packet.new.area ≡ LARGEST_DATAGRAM }
         ensures each { length self.new.answers.items ≡ length names.now }
-        ensures knows { OnOk result (Knows (questions asking names.now) [] self.new) }
+        ensures knows { OnOk result (RunRepresents (questions asking names.now) [] self.new) }
         ensures writes { WritesSome (sink_view K.Sink out.old) (sink_view K.Sink out.new) result
             (line_text (questions asking names.now) []) }
     {
@@ -79,7 +79,7 @@ impl Run {
 
     /// Returns whether a question is open.
     pub fn is_open(&self, asking: Asking, names: &[Name]) -> bool
-        ensures { (items : List Item) → Knows (questions asking names.now) items self.now
+        ensures { (items : List Item) → RunRepresents (questions asking names.now) items self.now
             → result ≡ not (all_settled (questions asking names.now) (events items)) }
     {
         !self.clock.given_up && any_open(self.answers.as_slice())

@@ -16,8 +16,8 @@ use Rattle.ethernet_arp.specs.Frames.{Host}
 use Rattle.ethernet_arp.specs.declared.mac.Mac.{Mac}
 use Rattle.frame_device.specs.EtherBytes.{ether_brings_bytes}
 use Rattle.frame_device.specs.EtherFrames.{ether_frames}
-use Rattle.frame_device.specs.FrameCalls.{Answered, AnswersAll, AnswersFrame, AnswersMove, CallsSlot, ChangesNumbers, DoesNothing, FrameCall, FrameMove, Gives, InputsFrame, Makes, handed_of, moves_of}
-use Rattle.frame_device.specs.FrameKeeping.{FramesConform, IsOfBytes}
+use Rattle.frame_device.specs.FrameCalls.{AnsweredFrame, AnswersAllFrames, AnswersFrame, AnswersFrameMove, CallsSlot, ChangesNumbers, DoesNothing, FrameCall, FrameMove, Gives, InputsFrame, Makes, handed_of, frame_moves_of}
+use Rattle.frame_device.specs.FrameKeeping.{FramesConform, IsFrameOfBytes}
 use Rattle.frame_device.specs.contracts.ether.EthernetFrames.TheImpl.{ghosts as ether_link}
 use Rattle.frame_device.proofs.KeepLaws.{keeps_frames}
 use Rattle.frame_device.proofs.MoveLaws.{device_stands, frames_exact, same_kept}
@@ -39,7 +39,7 @@ same_ether x y e = ap (λ (k : Kept). ether_or x k) e
 record OnDevice (move : FrameMove) (d : EtherWeb) (b : Kept) (handed : List ℕ) : Type 0 where
   after : EtherWeb
   is : b ≡ OnEther after
-  answers : AnswersMove ghosts ether_link write_value move d after handed
+  answers : AnswersFrameMove ghosts ether_link write_value move d after handed
 
 on_device : (call : FrameCall) (d : EtherWeb) (a b : Kept) (handed : List ℕ) → a ≡ OnEther d → EtherAnswers call a b handed → OnDevice (Makes call) d b handed
 on_device call d a b handed is it = record {
@@ -72,12 +72,12 @@ did_device (Gives number text) d a b handed is it =
     record { after = gives.0; is = gives.1; answers = (gives.2, it.1) }
 
 -- and so for moves one after the other
-record OnDevices (all : List Answered) (d : EtherWeb) (c : Kept) : Type 0 where
+record OnDevices (all : List AnsweredFrame) (d : EtherWeb) (c : Kept) : Type 0 where
   last : EtherWeb
   is : c ≡ OnEther last
-  answers : AnswersAll ghosts ether_link write_value all d last
+  answers : AnswersAllFrames ghosts ether_link write_value all d last
 
-on_devices : (all : List Answered) (d : EtherWeb) (a c : Kept) → a ≡ OnEther d → DidFrames all a c → OnDevices all d c
+on_devices : (all : List AnsweredFrame) (d : EtherWeb) (a c : Kept) → a ≡ OnEther d → DidFrames all a c → OnDevices all d c
 on_devices [] d a c is same = record { last = d; is = sym same ∙ is; answers = refl }
 on_devices (it ∷ all) d a c is more =
     let b : Kept = more.0 in
@@ -85,7 +85,7 @@ on_devices (it ∷ all) d a c is more =
     let later = on_devices all first.after b c first.is more.2 in
     record { last = later.last; is = later.is; answers = (first.after, first.answers, later.answers) }
 
-module _ (files : List File) (own : Addr) (mac : Mac) (all : List Answered) (closed old new : Kept) (opens : OpensEtherAs files own mac closed old) (answered : DidFrames all old new) where
+module _ (files : List File) (own : Addr) (mac : Mac) (all : List AnsweredFrame) (closed old new : Kept) (opens : OpensEtherAs files own mac closed old) (answered : DidFrames all old new) where
   abbrev opened : EtherWeb
   opened = opens.1.0
 
@@ -95,10 +95,10 @@ module _ (files : List File) (own : Addr) (mac : Mac) (all : List Answered) (clo
   devices : OnDevices all opened new
   devices = on_devices all opened old new opens.1.1 answered
 
-  pub f_frames : handed_of all ≡ web_frames_sent files own mac (moves_of all)
+  pub f_frames : handed_of all ≡ web_frames_sent files own mac (frame_moves_of all)
   f_frames = frames_exact ghosts ether_link host (value_spec files) write_value own (first_numbers files) all opened devices.last opens.1.2.fresh devices.answers
 
-  pub f_stands : IsEther (λ d. EtherRepresents files own mac d (web_station_after files own mac (moves_of all))) new
+  pub f_stands : IsEther (λ d. EtherRepresents files own mac d (web_station_after files own mac (frame_moves_of all))) new
   f_stands =
       let last : EtherWeb = devices.last in
       let fresh = opens.1.2 in
@@ -112,7 +112,7 @@ module _ (files : List File) (own : Addr) (mac : Mac) (all : List Answered) (clo
       )
 
 module _ (site : SiteContent) (loaded : IsLoaded site) (image : All IsByte site.image) (sound : HasSoundScripts word_calls (files_of site)) (own : Addr) (is : IsAddr own) (mac : Mac) where
-  pub f_keeps : (all : List Answered) → All IsOfBytes (moves_of all) → (closed old new : Kept) → OpensEtherAs (files_of site) own mac closed old
+  pub f_keeps : (all : List AnsweredFrame) → All IsFrameOfBytes (frame_moves_of all) → (closed old new : Kept) → OpensEtherAs (files_of site) own mac closed old
       → DidFrames all old new → FramesConform (ether_frames (host_at own mac)) (value_pages (files_of site)) is_served own all
   f_keeps all bytes closed old new opens did =
       let files : List File = files_of site in

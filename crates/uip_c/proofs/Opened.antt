@@ -5,7 +5,7 @@ use mir.Val.{bool_byte}
 use Rattle.file_tree.specs.Site.{files_of}
 use Rattle.uip_wire.specs.declared.addr.Addr.{Addr}
 use Rattle.ethernet_arp.specs.declared.mac.Mac.{Mac}
-use Rattle.frame_device.specs.FrameCalls.{ChangesNumbers, IsFresh}
+use Rattle.frame_device.specs.FrameCalls.{ChangesNumbers, IsFreshFrameDevice}
 use Rattle.frame_device.specs.contracts.ether.EthernetFrames.TheImpl.{ghosts as ether_link}
 use Rattle.uip_device.specs.contracts.value_pages.ValuePagesApp.TheImpl.{ghosts}
 use Rattle.uip_device.specs.declared.device_web.DeviceWeb.{DeviceWeb}
@@ -15,14 +15,14 @@ use Rattle.uip_c.specs.EtherWebs.{IsOpenedEther, host_at}
 use Rattle.uip_c.specs.Kept.{EtherWeb}
 
 pub opened_ether : (image : List ℕ) (own : Addr) (mac : Mac) (d : EtherWeb) (shared : DeviceWeb) → d.node.shared ≡ shared → IsFirstShared image shared
-    → IsFresh ghosts ether_link (host_at own mac) (value_spec (files_of shared.web.site)) (ghosts.numbers shared) own d → IsOpenedEther image own mac d
+    → IsFreshFrameDevice ghosts ether_link (host_at own mac) (value_spec (files_of shared.web.site)) (ghosts.numbers shared) own d → IsOpenedEther image own mac d
 opened_ether image own mac d shared same first fresh =
-    let numbered = subst (λ (l : List ℕ). IsFresh ghosts ether_link (host_at own mac) (value_spec (files_of shared.web.site)) l own d) first.numbers fresh in
+    let numbered = subst (λ (l : List ℕ). IsFreshFrameDevice ghosts ether_link (host_at own mac) (value_spec (files_of shared.web.site)) l own d) first.numbers fresh in
     record {
       site = subst (λ (s : DeviceWeb). IsOfImage image s.web.site) (sym same) first.site;
       fresh = record {
         files_are = refl;
-        fresh = subst (λ (s : DeviceWeb). IsFresh ghosts ether_link (host_at own mac) (value_spec (files_of s.web.site)) (first_numbers (files_of s.web.site)) own d) (sym same) numbered;
+        fresh = subst (λ (s : DeviceWeb). IsFreshFrameDevice ghosts ether_link (host_at own mac) (value_spec (files_of s.web.site)) (first_numbers (files_of s.web.site)) own d) (sym same) numbered;
       };
     }
 

@@ -10,7 +10,7 @@ use Rattle.ethernet_arp.specs.Frames.{Host}
 use Rattle.ethernet_arp.specs.Learning.{Act}
 use Rattle.ethernet_arp.specs.declared.mac.Mac.{Mac}
 use Rattle.frame_device.specs.EtherFrames.{ether_frames}
-use Rattle.frame_device.specs.FrameCalls.{FrameMove, IsFresh, RepresentsStation, frames_sent, station_after_moves}
+use Rattle.frame_device.specs.FrameCalls.{FrameMove, IsFreshFrameDevice, RepresentsStation, frames_sent, station_after_moves}
 use Rattle.frame_device.specs.contracts.ether.EthernetFrames.TheImpl.{ghosts as ether_link}
 use Rattle.uip_device.specs.contracts.value_pages.ValuePagesApp.TheImpl.{ghosts}
 use Rattle.uip_device.specs.WebDevices.{FailsAs, IsOfImage, first_numbers, value_spec, write_value}
@@ -32,7 +32,7 @@ pub record EtherRepresents (files : List File) (own : Addr) (mac : Mac) (d : Eth
 -- The device serves these files as this host, learned nothing, no file was requested, and no value was set.
 pub record IsFreshEtherWeb (files : List File) (own : Addr) (mac : Mac) (d : EtherWeb) : Type 0 where
   pub files_are : files_of (ether_site d) ≡ files
-  pub fresh : IsFresh ghosts ether_link (host_at own mac) (value_spec files) (first_numbers files) own d
+  pub fresh : IsFreshFrameDevice ghosts ether_link (host_at own mac) (value_spec files) (first_numbers files) own d
 
 -- A fresh device as this host with the site of this image, or the reason why there is none.
 pub record IsOpenedEther (image : List ℕ) (own : Addr) (mac : Mac) (d : EtherWeb) : Type 0 where

@@ -3,7 +3,7 @@ use Rattle.std.specs.Prelude.{◌≡◌, ℕ, List, [], ◌∷◌}
 use Rattle.site_image.specs.Files.{File}
 use Rattle.uip_wire.specs.declared.addr.Addr.{Addr}
 use Rattle.ethernet_arp.specs.declared.mac.Mac.{Mac}
-use Rattle.frame_device.specs.FrameCalls.{Answered, AnswersFrame, DoesNothing, FrameCall, FrameMove, Gives, Makes}
+use Rattle.frame_device.specs.FrameCalls.{AnsweredFrame, AnswersFrame, DoesNothing, FrameCall, FrameMove, Gives, Makes}
 use Rattle.frame_device.specs.contracts.ether.EthernetFrames.TheImpl.{ghosts as ether_link}
 use Rattle.uip_device.specs.contracts.value_pages.ValuePagesApp.TheImpl.{ghosts}
 use Rattle.uip_c.specs.EtherWebs.{IsFreshEtherWeb}
@@ -30,12 +30,12 @@ DidFrame (Makes call) old new handed = EtherAnswers call old new handed
 DidFrame (Gives number text) old new handed = HandleGives number text old new × (handed ≡ [])
 
 -- Moves one after the other, on a handle that nothing else touches.
-abbrev pub DidFrames : List Answered → Kept → Kept → Type 0
+abbrev pub DidFrames : List AnsweredFrame → Kept → Kept → Type 0
 DidFrames [] a c = a ≡ c
 DidFrames (it ∷ all) a c = (b : Kept) × DidFrame it.move a b it.handed × DidFrames all b c
 
 -- P holds for every handle that was just opened on Ethernet, after any moves on it.
-abbrev pub OfFrameMoves : (List File → Addr → Mac → List Answered → Kept → Type 0) → Type 0
+abbrev pub OfFrameMoves : (List File → Addr → Mac → List AnsweredFrame → Kept → Type 0) → Type 0
 OfFrameMoves P =
-    (files : List File) (own : Addr) (mac : Mac) (all : List Answered) (closed old new : Kept) → OpensEtherAs files own mac closed old
+    (files : List File) (own : Addr) (mac : Mac) (all : List AnsweredFrame) (closed old new : Kept) → OpensEtherAs files own mac closed old
     → DidFrames all old new → P files own mac all new

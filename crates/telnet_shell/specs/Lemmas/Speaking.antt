@@ -11,7 +11,7 @@ use Rattle.app_events.specs.AppSpec.{AppState, Snapshot}
 use Rattle.telnet_shell.specs.declared.command.Command.{Command}
 use Rattle.telnet_shell.specs.declared.command.Command.TheVariants.{Refuse, Help, Stats, Conns, Ticks, Quit, Blank, Other}
 use Rattle.telnet_shell.specs.Transcript.{behind, function_of, needs_capture, said_with, said_plainly, sent_at, transcript, unfinished}
-use Rattle.telnet_shell.specs.Saying.{is_taken, stops_at, left_said, IsLeading, Shows, needed, IsTrailing}
+use Rattle.telnet_shell.specs.Saying.{is_captured, stops_at, left_said, IsLeading, Shows, needed, IsTrailing}
 use Rattle.telnet_shell.specs.ShellMeaning.{session, waiting}
 
 none_split : (b : Bool) (s u x y w : List ℕ) (n : ℕ) → 0 ≡ (if b then n + 1 else n) → (0 ≡ n → u ≡ x ++ y)
@@ -105,7 +105,7 @@ said_some Quit capture = omega arith
 said_some Blank capture = omega arith
 said_some Other capture = omega arith
 
-taken_is : (c : Command) (k : Snapshot) → needs_capture c ≡ true → is_taken (capture_of (function_of c) 0 k.now) ≡ true
+taken_is : (c : Command) (k : Snapshot) → needs_capture c ≡ true → is_captured (capture_of (function_of c) 0 k.now) ≡ true
 taken_is Stats k e = refl
 taken_is Conns k e = refl
 taken_is Ticks k e = refl
@@ -119,7 +119,7 @@ taken_is Other k e = elim (true≢false (sym e)) [ ]
 pub held_goes : (c : Command) (k : Snapshot) (capture : Capture) → needs_capture c ≡ true → capture ≡ capture_of (function_of c) 0 k.now
     → stops_at c capture ≡ false
 held_goes c k capture e f =
-    ap (λ (b : Bool). b && not (is_taken capture)) e ∙ ap (λ (b : Bool). not b) (ap (λ (d : Capture). is_taken d) f ∙ taken_is c k e)
+    ap (λ (b : Bool). b && not (is_captured capture)) e ∙ ap (λ (b : Bool). not b) (ap (λ (d : Capture). is_captured d) f ∙ taken_is c k e)
 
 -- nor one that needs none; one that needs one, and has none, does
 pub empty_stops : (c : Command) (capture : Capture) → capture ≡ Empty → stops_at c capture ≡ needs_capture c

@@ -10,7 +10,7 @@ use Rattle.udp_resolver.specs.Asked.{line_text}
 use Rattle.udp_resolver.specs.Fates.{questions}
 use Rattle.udp_resolver.specs.LineEvents.{events}
 use Rattle.udp_resolver.specs.Resolving.{LastAsked}
-use Rattle.udp_resolver.specs.Standing.{Knows}
+use Rattle.udp_resolver.specs.Standing.{RunRepresents}
 use Rattle.udp_resolver.proofs.run.ask.Given as goal
 
 abbrev pub invariant-loop-asking : goal.invariant-loop-asking
@@ -22,7 +22,7 @@ invariant-loop-asking g l = record {
   consumed : Consumes (g.L.Link.coming l.fn.link) (g.L.Link.coming l.link) taken;
   number : length taken + l.left ≡ l.items;
   needed : (taken ≡ []) ⊎ LastAsked (questions l.asking l.names) taken;
-  knows : Knows (questions l.asking l.names) taken l.run;
+  knows : RunRepresents (questions l.asking l.names) taken l.run;
   wrote : Appends (g.K.Sink.written l.fn.out) (g.K.Sink.written l.out) (line_text (questions l.asking l.names) (events taken));
   calm : IsCalm (line_view g.L.Link g.K.Sink l.fn.link l.fn.out) (line_view g.L.Link g.K.Sink l.link l.out);
 }
