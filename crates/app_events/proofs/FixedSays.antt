@@ -1,12 +1,5 @@
 -- The text that a value of `Fixed` can send.
-use Rattle.std.specs.Prelude.{ℕ, ◌≡◌, ◌≤◌, ◌+◌, List, [], ◌∷◌, length, take, drop}
-use Rattle.std.proofs.Common.{refl, arith, sym, length-drop, subst}
-use Rattle.std.proofs.Math.Logic.{∥∥₁_elim}
-use Rattle.std.specs.Coded.{le_prop}
-use Rattle.app_events.specs.AppSpec.{AppState, AppSpec, text_left, CanSay}
-use Rattle.app_events.specs.FixedSpec.{fixed_spec, fixed_text, hello, FixedRepresents}
-use Rattle.app_events.specs.Lemmas.FixedLaws.{fixed_same_left}
-use Rattle.app_events.specs.declared.fixed.Fixed.{Fixed}
+use Rattle.app_events.proofs.Prelude.{ℕ, ◌≡◌, ◌≤◌, ◌+◌, List, [], ◌∷◌, length, take, drop, refl, arith, sym, length-drop, subst, ∥∥₁_elim, le_prop, AppState, AppSpec, text_left, CanSay, fixed_spec, fixed_text, hello, FixedRepresents, fixed_same_left, Fixed}
 use Rattle.app_events.proofs.Says.{can_say_each}
 
 abbrev pub means : Unit {0} → AppSpec

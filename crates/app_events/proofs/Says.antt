@@ -1,12 +1,5 @@
 -- The text that a value of an application can send, for each state that it represents.
-use Rattle.std.specs.Prelude.{ℕ, ◌≡◌, ◌≤◌, ◌+◌, List, [], length}
-use Rattle.std.proofs.Common.{sym, ap, subst, arith, ◌∙◌, append-nil, length-append, length-drop, le_trans}
-use Rattle.std.proofs.Math.Logic.{∥∥₁_elim, ∥∥₁_map}
-use Rattle.std.specs.Coded.{le_prop}
-use Rattle.app_events.specs.AppSpec.{AppState, AppSpec, text_left, IsRepresented, CanSay}
-use Rattle.app_events.specs.Laws.{IsLawful, IsPrefixOf, Grows, CanSend}
-use Rattle.app_events.specs.declared.want.Want.{Want}
-use Rattle.app_events.specs.declared.want.Want.TheVariants.{Send}
+use Rattle.app_events.proofs.Prelude.{ℕ, ◌≡◌, ◌≤◌, ◌+◌, List, [], length, sym, ap, subst, arith, ◌∙◌, append-nil, length-append, length-drop, le_trans, ∥∥₁_elim, ∥∥₁_map, le_prop, AppState, AppSpec, text_left, IsRepresented, CanSay, IsLawful, IsPrefixOf, Grows, CanSend, Want, Send}
 
 -- the text left is the same in all parts of a value
 abbrev pub SameLeft : {A K : Type 0} → (K → AppSpec) → (A → K → AppState → Type 0) → Type 0

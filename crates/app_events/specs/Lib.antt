@@ -4,3 +4,4 @@ pub mod Pages
 pub mod FixedSpec
 pub mod States
 pub mod Lemmas
+pub mod Prelude

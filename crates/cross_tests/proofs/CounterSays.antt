@@ -3,11 +3,10 @@ use Rattle.std.specs.Prelude.{ℕ, ◌≡◌, ◌≤◌, ◌+◌, List, [], ◌�
 use Rattle.std.proofs.Common.{refl, arith, sym, length-drop, subst}
 use Rattle.std.proofs.Math.Logic.{∥∥₁_elim}
 use Rattle.std.specs.Coded.{le_prop}
-use Rattle.app_events.specs.AppSpec.{AppState, AppSpec, text_left, CanSay}
+use Rattle.app_events.specs.Prelude.{AppState, AppSpec, text_left, CanSay}
 use Rattle.app_events.proofs.Says.{can_say_each}
 use Rattle.cross_tests.specs.declared.counting.Counter.{Counter}
-use Rattle.cross_tests.specs.CounterSpec.{CounterRepresents, counter_spec, counter_text}
-use Rattle.cross_tests.specs.Lemmas.CounterLaws.{counter_same_left}
+use Rattle.cross_tests.specs.Prelude.{CounterRepresents, counter_spec, counter_text, counter_same_left}
 
 abbrev pub means : Unit {0} → AppSpec
 means k = counter_spec

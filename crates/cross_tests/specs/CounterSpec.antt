@@ -1,7 +1,6 @@
 -- An application that counts connections by their first bytes: each sends its own number, as one byte and a line feed.
 use Rattle.std.specs.Prelude.{ℕ, ◌≡◌, ◌≤◌, ◌+◌, ◌%◌, List, [], ◌∷◌, ◌++◌, length}
-use Rattle.app_events.specs.AppSpec.{AppState, AppSpec}
-use Rattle.app_events.specs.FixedSpec.{fixed_want, some_heard}
+use Rattle.app_events.specs.Prelude.{AppState, AppSpec, fixed_want, some_heard}
 use Rattle.cross_tests.specs.declared.counting.Counter.{Counter}
 
 -- the output of the connection of this number that received this input

@@ -1,2 +1,3 @@
 pub mod CounterSpec
 pub mod Lemmas
+pub mod Prelude

@@ -1,22 +1,5 @@
 -- The desk sends bytes, if its pages are bytes and it receives bytes.
-use Rattle.std.proofs.Common.{List}
-use Rattle.app_events.specs.Pages.{IsByte}
-use Rattle.app_events.specs.AppSpec.{AppSpec}
-use Rattle.site_image.specs.Files.{File}
-use Rattle.file_tree.specs.Site.{SiteContent, IsLoaded, files_of}
-use Rattle.web_pages.specs.Pages.{pages_of}
-use Rattle.web_pages.specs.WebMeaning.{web_spec}
-use Rattle.web_pages.proofs.PageLaws.{keeps_page_laws}
-use Rattle.tcp_machine.specs.OnSegment.{on_segment}
-use Rattle.tcp_machine.specs.OnTick.{on_tick}
-use Rattle.uip_node.specs.Laws.{HasBytes}
-use Rattle.uip_node.proofs.Fits.{all_nil}
-use Rattle.uip_node.specs.Laws.{SendsBytes}
-use Rattle.uip_node.proofs.DeliveredBytes.{page_bytes}
-use Rattle.uip_node.proofs.DeliveredBytes.{DeliveredBytes, asked_bytes, on_segment_bytes, on_tick_bytes}
-use Rattle.link_world.proofs.SaidBytes.{SaysBytesWhere}
-use Rattle.telnet_shell.specs.DeskMeaning.{desk_spec}
-use Rattle.telnet_shell.proofs.TwoBytes.{desk_bytes}
+use Rattle.desk_world.proofs.Prelude.{List, IsByte, AppSpec, File, SiteContent, IsLoaded, files_of, pages_of, web_spec, keeps_page_laws, on_segment, on_tick, HasBytes, all_nil, SendsBytes, page_bytes, DeliveredBytes, asked_bytes, on_segment_bytes, on_tick_bytes, SaysBytesWhere, desk_spec, desk_bytes}
 
 module _ (site : SiteContent) (loaded : IsLoaded site) (page : HasBytes (pages_of (files_of site))) where
   abbrev files : List File

@@ -1,31 +1,5 @@
 -- The output model of the desk at each port: the shell's session at port 23, and the pages of its files at any other.
-use Rattle.std.specs.List.{All}
-use Rattle.std.proofs.Common.{◌≡◌, ℕ, ◌<◌, ◌≤◌, ◌==◌, Bool, true, false, not, inl, inr, List, [], ◌++◌, length, refl, sym, ap, ◌∙◌, subst, arith, append-nil, if◌then◌else◌}
-use Rattle.std.proofs.lemmas.Bool.{eqb-true}
-use Rattle.app_events.specs.Pages.{IsSnapshot, IsPaged, MayWant}
-use Rattle.app_events.specs.AppSpec.{AppSpec, Snapshot, AppState}
-use Rattle.app_events.specs.declared.now.Now.{Now}
-use Rattle.app_events.specs.declared.want.Want.{Want}
-use Rattle.app_events.specs.declared.want.Want.TheVariants.{Close}
-use Rattle.site_image.specs.Files.{File}
-use Rattle.file_tree.specs.Site.{SiteContent, IsLoaded, files_of}
-use Rattle.web_pages.specs.Pages.{pages_of}
-use Rattle.web_pages.specs.WebMeaning.{web_spec}
-use Rattle.web_pages.proofs.PageLaws.{keeps_page_laws}
-use Rattle.uip_node.proofs.Basics.{choose, not-true}
-use Rattle.link_world.specs.Headline.{IsServed}
-use Rattle.link_world.specs.World.{World, Side}
-use Rattle.link_world.proofs.Prefix.{AtPorts}
-use Rattle.link_world.proofs.Speaking.{HearsSome, KeepsHeard, Speaker, HasOutputModel, page_by}
-use Rattle.telnet_shell.specs.declared.shell.TheConstants.{TELNET_PORT}
-use Rattle.telnet_shell.specs.DeskMeaning.{desk_spec, app_spec_at}
-use Rattle.telnet_shell.specs.DeskRepresents.{at_shell, at_web}
-use Rattle.telnet_shell.specs.Lemmas.DeskLaws.{KeepsPort}
-use Rattle.telnet_shell.specs.ShellMeaning.{is_stopped, shell_spec, take_capture}
-use Rattle.telnet_shell.specs.Traces.{DeliversPrefix, sessions}
-use Rattle.telnet_shell.proofs.DeskSteady.{desk_steady}
-use Rattle.telnet_shell.proofs.SessionLaws.{keeps_session}
-use Rattle.telnet_shell.proofs.TwoApplications.{two_applications}
+use Rattle.desk_world.proofs.Prelude.{All, ◌≡◌, ℕ, ◌<◌, ◌≤◌, ◌==◌, Bool, true, false, not, inl, inr, List, [], ◌++◌, length, refl, sym, ap, ◌∙◌, subst, arith, append-nil, if◌then◌else◌, eqb-true, IsSnapshot, IsPaged, MayWant, AppSpec, Snapshot, AppState, Now, Want, Close, File, SiteContent, IsLoaded, files_of, pages_of, web_spec, keeps_page_laws, choose, not-true, IsServed, World, Side, AtPorts, HearsSome, KeepsHeard, Speaker, HasOutputModel, page_by, TELNET_PORT, desk_spec, app_spec_at, at_shell, at_web, KeepsPort, is_stopped, shell_spec, take_capture, DeliversPrefix, sessions, desk_steady, keeps_session, two_applications}
 use Rattle.desk_world.proofs.ShortSessions.{sessions_short}
 
 abbrev pub session_speaker : Speaker

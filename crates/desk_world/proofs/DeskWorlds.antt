@@ -1,20 +1,5 @@
 -- The laws of the link world at the desk.
-use Rattle.std.proofs.Common.{◌==◌, inl, inr}
-use Rattle.app_events.specs.AppSpec.{AppSpec}
-use Rattle.file_tree.specs.Site.{SiteContent, IsLoaded, files_of}
-use Rattle.web_pages.specs.Pages.{pages_of}
-use Rattle.uip_node.proofs.DeliveredBytes.{DeliveredBytes}
-use Rattle.link_world.specs.World.{World}
-use Rattle.link_world.proofs.Any.{Framed}
-use Rattle.link_world.proofs.Exact.{in_step_plainly, in_step_where}
-use Rattle.link_world.proofs.Prefix.{AtPorts, G, other, reset, evict, mark, act_good, opening_framed, served_in}
-use Rattle.link_world.proofs.Runs.{reached_plainly, reached_where}
-use Rattle.link_world.proofs.Same.{again_exactly_plainly, again_exactly_where, same_bytes_plainly, same_bytes_where}
-use Rattle.link_world.proofs.Ticks.{tick}
-use Rattle.telnet_shell.specs.declared.shell.TheConstants.{TELNET_PORT}
-use Rattle.telnet_shell.specs.DeskMeaning.{desk_spec}
-use Rattle.telnet_shell.proofs.DeskSteady.{desk_steady}
-use Rattle.desk_world.specs.DeskWorlds.{DeskMarksRepeats, DeskOneSegment, DeskRepeatsSameBytes, DeskSendsAgain, DeskServes, IsReachedByDesk}
+use Rattle.desk_world.proofs.Prelude.{◌==◌, inl, inr, AppSpec, SiteContent, IsLoaded, files_of, pages_of, DeliveredBytes, World, Framed, in_step_plainly, in_step_where, AtPorts, G, other, reset, evict, mark, act_good, opening_framed, served_in, reached_plainly, reached_where, again_exactly_plainly, again_exactly_where, same_bytes_plainly, same_bytes_where, tick, TELNET_PORT, desk_spec, desk_steady, DeskMarksRepeats, DeskOneSegment, DeskRepeatsSameBytes, DeskSendsAgain, DeskServes, IsReachedByDesk}
 use Rattle.desk_world.proofs.DeskBytes.{desk_says}
 use Rattle.desk_world.proofs.DeskSpeakers.{desk_ports, served_due}
 

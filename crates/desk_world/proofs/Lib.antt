@@ -3,3 +3,4 @@ pub mod ShortSessions
 pub mod DeskSpeakers
 pub mod DeskBytes
 pub mod Worked
+mod Prelude

@@ -1,24 +1,5 @@
 -- How long a session is: each byte received completes one command at most, and no command has more than 1032 bytes of text.
-use Rattle.std.specs.List.{All}
-use Rattle.std.specs.Prelude.{codes}
-use Rattle.std.proofs.Common.{Bool, true, false, ℕ, ◌+◌, ◌*◌, ◌==◌, ◌≤◌, List, [], ◌∷◌, ◌++◌, length, arith, if◌then◌else◌, length-append, lit<, lit≤}
-use Rattle.std.proofs.lemmas.List.Elements.{All-head, All-tail}
-use Rattle.app_events.specs.Pages.{IsSnapshot}
-use Rattle.app_events.specs.AppSpec.{Snapshot}
-use Rattle.script_lang.specs.Functions.{length_at_most}
-use Rattle.generators.specs.Captures.{capture_of}
-use Rattle.generators.specs.Text.{capture_text}
-use Rattle.generators.specs.declared.capture.Capture.{Capture}
-use Rattle.generators.specs.declared.capture.Capture.TheVariants.{Empty}
-use Rattle.generators.specs.Lemmas.Lengths.{texts_short}
-use Rattle.uip_node.proofs.Basics.{choose}
-use Rattle.telnet_shell.specs.declared.command.Command.{Command}
-use Rattle.telnet_shell.specs.declared.command.Command.TheVariants.{Refuse, Help, Stats, Conns, Ticks, Quit, Blank, Other}
-use Rattle.telnet_shell.specs.Reading.{Awaits, Token, all_commands, commands, commands_in, is_quit, next_awaits, tokens, until_quit}
-use Rattle.telnet_shell.specs.Reading.Awaits.{Text, Second, Choice}
-use Rattle.telnet_shell.specs.Reading.Token.{Byte, Answer}
-use Rattle.telnet_shell.specs.Transcript.{function_of, needs_capture, said_plainly, said_with, transcript}
-use Rattle.desk_world.specs.DeskWorlds.{SessionsAreShort}
+use Rattle.desk_world.proofs.Prelude.{All, codes, Bool, true, false, ℕ, ◌+◌, ◌*◌, ◌==◌, ◌≤◌, List, [], ◌∷◌, ◌++◌, length, arith, if◌then◌else◌, length-append, lit<, lit≤, All-head, All-tail, IsSnapshot, Snapshot, length_at_most, capture_of, capture_text, Capture, Empty, texts_short, choose, Command, Refuse, Help, Stats, Conns, Ticks, Quit, Blank, Other, Awaits, Token, all_commands, commands, commands_in, is_quit, next_awaits, tokens, until_quit, Text, Second, Choice, Byte, Answer, function_of, needs_capture, said_plainly, said_with, transcript, SessionsAreShort}
 
 -- ---- a byte brings one command at most
 

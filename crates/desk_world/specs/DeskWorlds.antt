@@ -1,17 +1,13 @@
 -- The worlds whose node has the web server at port 80 and the shell at port 23.
 use Rattle.std.specs.List.{All}
 use Rattle.std.specs.Prelude.{◌≡◌, ◌*◌, ◌≤◌, ◌==◌, ◌⊎◌, ℕ, suc, Bool, true, List, length, Some, slice_get, if◌then◌else◌}
-use Rattle.app_events.specs.Pages.{Pages, IsSnapshot}
-use Rattle.app_events.specs.AppSpec.{Snapshot}
-use Rattle.site_image.specs.Files.{File}
-use Rattle.file_tree.specs.Site.{SiteContent, IsLoaded, files_of}
-use Rattle.web_pages.specs.Pages.{pages_of}
-use Rattle.tcp_machine.specs.Connection.{Connection}
-use Rattle.uip_node.specs.Events.Event.{Periodic}
-use Rattle.uip_node.specs.Node.{AbstractNode, step}
-use Rattle.link_world.specs.World.{World, Side, is_clean}
-use Rattle.link_world.specs.History.{era}
-use Rattle.link_world.specs.Headline.{IsReached, IsReachedPlainly, IsServed, RepeatsSameBytes, MarksRepeats, IsInStep, server_side, IsExpired, SendsAgain}
+use Rattle.app_events.specs.Prelude.{Pages, IsSnapshot, Snapshot}
+use Rattle.site_image.specs.Prelude.{File}
+use Rattle.file_tree.specs.Prelude.{SiteContent, IsLoaded, files_of}
+use Rattle.web_pages.specs.Prelude.{pages_of}
+use Rattle.tcp_machine.specs.Prelude.{Connection}
+use Rattle.uip_node.specs.Prelude.{Periodic, AbstractNode, step}
+use Rattle.link_world.specs.Prelude.{World, Side, is_clean, era, IsReached, IsReachedPlainly, IsServed, RepeatsSameBytes, MarksRepeats, IsInStep, server_side, IsExpired, SendsAgain}
 use Rattle.telnet_shell.specs.declared.shell.TheConstants.{TELNET_PORT}
 use Rattle.telnet_shell.specs.Traces.{sessions}
 use Rattle.telnet_shell.specs.DeskMeaning.{desk_spec}

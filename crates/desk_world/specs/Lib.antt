@@ -1,2 +1,3 @@
 pub mod DeskWorlds
 pub mod Worked
+pub mod Prelude

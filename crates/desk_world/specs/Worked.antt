@@ -3,13 +3,10 @@ use Rattle.std.specs.List.{concat}
 use Rattle.std.specs.Prelude.{◌≡◌, ℕ, List, [], ◌∷◌, ◌++◌, codes, filter, map, replicate, Option, None, Result, Ok, Err}
 use Rattle.link_client.specs.declared.client_state.ClientState.{ClientState}
 use Rattle.link_client.specs.declared.client_state.ClientState.TheVariants.{Opened, Closed, Reset}
-use Rattle.link_world.specs.World.{World, Side, Content}
-use Rattle.link_world.specs.World.Content.{OfSegment, OfPing, OfEcho}
-use Rattle.link_world.specs.History.{Planned, initial_world}
-use Rattle.link_world.specs.Schedule.{plays, BadLine}
+use Rattle.link_world.specs.Prelude.{World, Side, Content, OfSegment, OfPing, OfEcho, Planned, initial_world, plays, BadLine}
 use Rattle.link_schedule.specs.declared.event.Event.{Event}
 use Rattle.link_schedule.specs.declared.event.Event.TheVariants.{Opens, Damage, Tick, Round, Lose}
-use Rattle.web_pages.specs.WorkedPages.{ok, as_html, get, hello_site}
+use Rattle.web_pages.specs.Prelude.{ok, as_html, get, hello_site}
 use Rattle.telnet_shell.specs.DeskMeaning.{desk_spec, is_served_at}
 
 -- a client at 10.0.0.2: its ISS, its port, the port that it connects to, the number of bytes in each segment, and its request

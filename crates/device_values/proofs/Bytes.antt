@@ -1,8 +1,5 @@
 -- A byte is its own remainder by 256.
-use Rattle.std.specs.List.{All}
-use Rattle.std.proofs.Common.{◌≡◌, ℕ, ◌%◌, List, [], ◌∷◌, map, refl, arith}
-use Rattle.std.proofs.lemmas.List.Elements.{All-head, All-tail}
-use Rattle.app_events.specs.Pages.{IsByte}
+use Rattle.device_values.proofs.Prelude.{All, ◌≡◌, ℕ, ◌%◌, List, [], ◌∷◌, map, refl, arith, All-head, All-tail, IsByte}
 
 pub low_same : (xs : List ℕ) → All IsByte xs → map (λ b. b % 256) xs ≡ xs
 low_same [] all = refl

@@ -1,11 +1,5 @@
 -- A value that is set is shown, and the others stay.
-use Rattle.std.specs.List.{All}
-use Rattle.std.proofs.Common.{◌≡◌, ℕ, ◌+◌, ◌-◌, ◌*◌, ◌%◌, ◌<◌, ◌≤◌, Bool, true, false, List, ◌∷◌, ◌++◌, drop, get_or, length, ltb, map, min, replicate, take, refl, sym, ap, ◌∙◌, append_assoc, arith, length-append}
-use Rattle.std.proofs.lemmas.Bool.{ltb-false, ltb-true}
-use Rattle.std.proofs.lemmas.List.{drop-append-le, get_or-append_right, get_or_append_left, length-drop, length-replicate, length-take-le, take-append-drop, take-append-le, take_at}
-use Rattle.std.proofs.Math.Seq.{drop-append-add, get_or-append_seam, take-append_seam}
-use Rattle.app_events.specs.Pages.{IsByte}
-use Rattle.device_values.specs.Values.{GivenIsShown, value_given, value_of}
+use Rattle.device_values.proofs.Prelude.{All, ◌≡◌, ℕ, ◌+◌, ◌-◌, ◌*◌, ◌%◌, ◌<◌, ◌≤◌, Bool, true, false, List, ◌∷◌, ◌++◌, drop, get_or, length, ltb, map, min, replicate, take, refl, sym, ap, ◌∙◌, append_assoc, arith, length-append, ltb-false, ltb-true, drop-append-le, get_or-append_right, get_or_append_left, length-drop, length-replicate, length-take-le, take-append-drop, take-append-le, take_at, drop-append-add, get_or-append_seam, take-append_seam, IsByte, GivenIsShown, value_given, value_of}
 use Rattle.device_values.proofs.Bytes.{low_same}
 
 -- a value is determined by its length and by its 32 bytes

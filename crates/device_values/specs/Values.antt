@@ -3,8 +3,8 @@ use Rattle.std.specs.Prelude.{◌≡◌, ◌<◌, ◌≤◌, ℕ, ◌+◌, ◌-�
 use Rattle.std.specs.Prelude.{if◌then◌else◌, replicate, slice_range, take}
 use Rattle.std.specs.List.{All, slice_index_or}
 use Rattle.std.specs.Option.{option_map_or}
-use Rattle.app_events.specs.Pages.{IsByte}
-use Rattle.uip_wire.specs.Numerals.{numeral}
+use Rattle.app_events.specs.Prelude.{IsByte}
+use Rattle.uip_wire.specs.Prelude.{numeral}
 
 -- No value is set.
 abbrev pub no_values : List ℕ

@@ -1,11 +1,8 @@
 -- The words of a device's scripts: the functions of uIP, and the values.
 use Rattle.std.specs.Prelude.{ℕ, Bool, true, List, [], codes, flat_map, take, if◌then◌else◌}
 use Rattle.std.specs.Str.{bytes_eq}
-use Rattle.script_lang.specs.Calling.{Calling}
-use Rattle.script_lang.specs.Functions.{function_named, length_at_most, takes_capture}
-use Rattle.generators.specs.Giving.{Giving, Said, gives, uip_said}
-use Rattle.generators.specs.Packed.{rows_in}
-use Rattle.generators.specs.Text.{counter_line, in_ten_places, row_text}
+use Rattle.script_lang.specs.Prelude.{Calling, function_named, length_at_most, takes_capture}
+use Rattle.generators.specs.Prelude.{Giving, Said, gives, uip_said, rows_in, counter_line, in_ten_places, row_text}
 use Rattle.device_values.specs.declared.spelling.Spelling.TheVariants.{Plain, Json, Html}
 use Rattle.device_values.specs.declared.word.Word.{Word}
 use Rattle.device_values.specs.declared.word.Word.TheVariants as word

@@ -1,8 +1,7 @@
 //! The record of a call: a copy of what it shows, taken once, so that a retransmission has the same bytes.
 
 ghost use Rattle.std.specs.Prelude.{◌≡◌, ◌≤◌, ◌+◌, drop, length, take};
-ghost use Rattle.generators.specs.Captures.{capture_of};
-ghost use Rattle.generators.specs.Text.{capture_text};
+ghost use Rattle.generators.specs.Prelude.{capture_of, capture_text};
 ghost use Rattle.device_values.specs.Spellings.{spelled};
 ghost use Rattle.device_values.specs.Words.{record_text};
 

@@ -2,7 +2,7 @@
 
 ghost use Rattle.std.specs.Prelude.{◌≡◌, ◌<◌, ◌≤◌, ◌-◌, ◌∷◌, ◌++◌, length, replicate, take};
 ghost use Rattle.std.specs.List.{All};
-ghost use Rattle.app_events.specs.Pages.{IsByte};
+ghost use Rattle.app_events.specs.Prelude.{IsByte};
 ghost use Rattle.device_values.specs.Values.{no_values, value_given, value_named, value_of};
 
 use crate::kept::Kept;

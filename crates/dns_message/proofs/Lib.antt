@@ -3,3 +3,4 @@ pub mod QueryLaws
 pub mod RecordLaws
 pub mod Rows
 pub mod SpelledLaws
+mod Prelude

@@ -1,15 +1,5 @@
 -- A query is read back as the question that was asked.
-use Rattle.std.proofs.Common.{◌≡◌, ℕ, ◌+◌, ◌≤◌, Bool, true, false, ◌&&◌, leb, List, [], ◌∷◌, ◌++◌, length, drop, refl, sym, ap, ◌∙◌, arith, append_assoc}
-use Rattle.std.specs.List.{flat_map, join_with_byte, list_all}
-use Rattle.std.proofs.lemmas.List.Splits.{join_with_byte-slice_split}
-use Rattle.uip_wire.proofs.Words.{same_word}
-use Rattle.uip_wire.specs.Fields.{bytes_of}
-use Rattle.udp_datagram.proofs.Back.{reads_back}
-use Rattle.udp_datagram.specs.Udp.{udp_data}
-use Rattle.dns_message.specs.Messages.{query_message}
-use Rattle.dns_message.specs.Names.{is_label, is_label_byte, is_domain, label_bytes, labels}
-use Rattle.dns_message.specs.ReadBack.{IsAsked, QueriesAreReadBack, has_label_size}
-use Rattle.dns_message.specs.Replies.{query_datagram, way_there}
+use Rattle.dns_message.proofs.Prelude.{◌≡◌, ℕ, ◌+◌, ◌≤◌, Bool, true, false, ◌&&◌, leb, List, [], ◌∷◌, ◌++◌, length, drop, refl, sym, ap, ◌∙◌, arith, append_assoc, flat_map, join_with_byte, list_all, join_with_byte-slice_split, same_word, bytes_of, reads_back, udp_data, query_message, is_label, is_label_byte, is_domain, label_bytes, labels, IsAsked, QueriesAreReadBack, has_label_size, query_datagram, way_there}
 
 both_true : (a b : Bool) → (a && b) ≡ true → (a ≡ true) × (b ≡ true)
 both_true true b e = (refl, e)

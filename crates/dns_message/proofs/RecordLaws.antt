@@ -1,10 +1,5 @@
 -- The walks over names and records, one step at a time.
-use Rattle.std.proofs.Common.{◌≡◌, ℕ, zero, suc, ◌+◌, ◌<◌, ◌≤◌, Bool, true, false, cond, eqb, if◌then◌else◌, ltb, slice_index, List, [], ◌∷◌, length, drop, refl, sym, ap, ◌∙◌, arith, add-one, Option, None, Some}
-use Rattle.dns_message.specs.Names.{after_the_name, after_pointer}
-use Rattle.dns_message.specs.Records.{Record, address_in, answer_by, answer_of_records, first_record, is_address, records, records_by}
-use Rattle.dns_message.specs.declared.answer.Answer.{Answer}
-use Rattle.dns_message.specs.declared.answer.Answer.TheVariants.{Address}
-use Rattle.std.specs.List.{find}
+use Rattle.dns_message.proofs.Prelude.{◌≡◌, ℕ, zero, suc, ◌+◌, ◌<◌, ◌≤◌, Bool, true, false, cond, eqb, if◌then◌else◌, ltb, slice_index, List, [], ◌∷◌, length, drop, refl, sym, ap, ◌∙◌, arith, add-one, Option, None, Some, after_the_name, after_pointer, Record, address_in, answer_by, answer_of_records, first_record, is_address, records, records_by, Answer, Address, find}
 
 pub skipped : (k : ℕ) (bytes : List ℕ) → k ≤ length bytes → after_the_name k bytes ≡ after_the_name 0 (drop k bytes)
 skipped zero bytes h = refl

@@ -1,12 +1,5 @@
 -- A query worked by hand and the replies to it: one with an address, and changes of it, each ignored or with another answer.
-use Rattle.std.proofs.Common.{◌≡◌, ℕ, List, [], ◌∷◌, Some, None, true, false, refl}
-use Rattle.uip_wire.specs.Checksum.{folded}
-use Rattle.uip_ipv4.specs.Head.{head_or_fate, numbered_head}
-use Rattle.udp_datagram.specs.Udp.{udp_data, udp_datagram}
-use Rattle.dns_message.specs.Names.{is_domain}
-use Rattle.dns_message.specs.Replies.{answer_to, query_datagram}
-use Rattle.dns_message.specs.declared.answer.Answer.TheVariants.{Address, Code, NoAddress}
-use Rattle.dns_message.specs.declared.asking.Asking.{Asking}
+use Rattle.dns_message.proofs.Prelude.{◌≡◌, ℕ, List, [], ◌∷◌, Some, None, true, false, refl, folded, head_or_fate, numbered_head, udp_data, udp_datagram, is_domain, answer_to, query_datagram, Address, Code, NoAddress, Asking}
 
 -- from 10.0.0.1 to 10.0.0.2 under the id 1
 abbrev asking : Asking

@@ -1,14 +1,5 @@
 -- The records that are read from bytes are those that the bytes represent.
-use Rattle.std.proofs.Common.{◌≡◌, ℕ, zero, suc, ◌+◌, ◌-◌, ◌*◌, ◌<◌, ◌≤◌, ◌⊎◌, inl, inr, Bool, true, false, ◌&&◌, eqb, leb, ltb, if◌then◌else◌, List, [], ◌∷◌, ◌++◌, length, length-append, length-take, length-drop, map, take, drop, slice_index, slice_range, Option, Some, None, option_and_then, refl, sym, ap, ◌∙◌, append_assoc, arith, subst}
-use Rattle.std.proofs.Math.ListN.{get_or-append}
-use Rattle.std.proofs.lemmas.List.Folds.{drop_split}
-use Rattle.std.proofs.lemmas.List.{drop-drop, drop_at, get_or-take, take-append-drop, take_at}
-use Rattle.std.specs.List.{AllByRecursion, flat_map, list_all}
-use Rattle.uip_wire.specs.Fields.{word_at}
-use Rattle.uip_ipv4.proofs.Back.{passes, not_less}
-use Rattle.dns_message.specs.Names.{after_the_name, after_pointer, label_bytes}
-use Rattle.dns_message.specs.ReadBack.{AreSpelled, IsSpelled, RecordsAreSpelled, Spelled, has_label_size, is_ending, record_of, spelled_bytes}
-use Rattle.dns_message.specs.Records.{Record, first_record, record_after, records, records_by}
+use Rattle.dns_message.proofs.Prelude.{◌≡◌, ℕ, zero, suc, ◌+◌, ◌-◌, ◌*◌, ◌<◌, ◌≤◌, ◌⊎◌, inl, inr, Bool, true, false, ◌&&◌, eqb, leb, ltb, if◌then◌else◌, List, [], ◌∷◌, ◌++◌, length, length-append, length-take, length-drop, map, take, drop, slice_index, slice_range, Option, Some, None, option_and_then, refl, sym, ap, ◌∙◌, append_assoc, arith, subst, get_or-append, drop_split, drop-drop, drop_at, get_or-take, take-append-drop, take_at, AllByRecursion, flat_map, list_all, word_at, passes, not_less, after_the_name, after_pointer, label_bytes, AreSpelled, IsSpelled, RecordsAreSpelled, Spelled, has_label_size, is_ending, record_of, spelled_bytes, Record, first_record, record_after, records, records_by}
 use Rattle.dns_message.proofs.RecordLaws.{label_first}
 
 both_true : (a b : Bool) → (a && b) ≡ true → (a ≡ true) × (b ≡ true)

@@ -1,8 +1,8 @@
 -- What a server reads in a query, and which records bytes represent.
 use Rattle.std.specs.Prelude.{◌≡◌, ◌⊎◌, ℕ, ◌&&◌, ◌==◌, nat_le, Bool, true, false, List, [], ◌∷◌, ◌++◌, length, drop, map, Some}
 use Rattle.std.specs.List.{AllByRecursion, flat_map, join_with_byte, list_all}
-use Rattle.uip_wire.specs.Fields.{word_at, bytes_of}
-use Rattle.udp_datagram.specs.Udp.{udp_data}
+use Rattle.uip_wire.specs.Prelude.{word_at, bytes_of}
+use Rattle.udp_datagram.specs.Prelude.{udp_data}
 use Rattle.dns_message.specs.Messages.{query_message}
 use Rattle.dns_message.specs.Names.{is_domain, label_bytes}
 use Rattle.dns_message.specs.Records.{Record, records}

@@ -1,7 +1,7 @@
 -- Resource records (RFC 1035, section 4.1.3): those that bytes represent, and the answer that they give.
 use Rattle.std.specs.Prelude.{ℕ, zero, suc, ◌+◌, ◌==◌, ◌&&◌, nat_lt, if◌then◌else◌, Bool, List, [], ◌∷◌, length, drop, slice_range, Option, Some, None, option_and_then}
 use Rattle.std.specs.List.{find}
-use Rattle.uip_wire.specs.Fields.{word_at}
+use Rattle.uip_wire.specs.Prelude.{word_at}
 use Rattle.dns_message.specs.Names.{after_the_name}
 use Rattle.dns_message.specs.declared.answer.Answer.{Answer}
 use Rattle.dns_message.specs.declared.answer.Answer.TheVariants.{Address, NoAddress}

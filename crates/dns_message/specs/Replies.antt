@@ -1,7 +1,7 @@
 -- The datagrams of a query and its reply, and the answer of a datagram.
 use Rattle.std.specs.Prelude.{ℕ, List, Option, option_and_then}
 use Rattle.uip_wire.specs.declared.addr.Addr.{Addr}
-use Rattle.udp_datagram.specs.Udp.{udp_data, udp_datagram}
+use Rattle.udp_datagram.specs.Prelude.{udp_data, udp_datagram}
 use Rattle.udp_datagram.specs.declared.way.UdpFlow.{UdpFlow}
 use Rattle.dns_message.specs.Messages.{answer_by_message, query_message}
 use Rattle.dns_message.specs.declared.answer.Answer.{Answer}

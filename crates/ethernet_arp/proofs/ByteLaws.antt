@@ -1,18 +1,6 @@
 -- Frames decode to bytes.
 -- [add: line-kind] A file as this one: a medium that is fed bytes decodes bytes.
-use Rattle.std.specs.List.{All}
-use Rattle.std.proofs.Common.{ℕ, ◌<◌, ◌&&◌, List, [], ◌∷◌, ◌++◌, drop, eqb, length}
-use Rattle.std.specs.Prelude.{◌||◌, if◌then◌else◌, nat_lt}
-use Rattle.std.specs.Str.{bytes_eq}
-use Rattle.std.proofs.lemmas.List.Elements.{All-append, All-cons, All-drop, All-head, All-nil, All-tail}
-use Rattle.app_events.specs.Pages.{IsByte}
-use Rattle.uip_wire.specs.Fields.{word_at}
-use Rattle.uip_node.proofs.Basics.{choose}
-use Rattle.line_medium.specs.Media.{MediumInput, Datagram, Own}
-use Rattle.serve_loop.specs.Items.{BringsBytes, CarriesBytes}
-use Rattle.ethernet_arp.specs.EtherWay.{closed_by, ether_medium, is_taken, is_whole, open_from}
-use Rattle.ethernet_arp.specs.Frames.{Host, arp_brings, broadcast, frame_brings, is_arp, is_arp_for, is_datagram, mac_at, payload_brings, sender_of}
-use Rattle.ethernet_arp.specs.Learning.{Act, Asked, Pair, Replied}
+use Rattle.ethernet_arp.proofs.Prelude.{All, ℕ, ◌<◌, ◌&&◌, List, [], ◌∷◌, ◌++◌, drop, eqb, length, ◌||◌, if◌then◌else◌, nat_lt, bytes_eq, All-append, All-cons, All-drop, All-head, All-nil, All-tail, IsByte, word_at, choose, MediumInput, Datagram, Own, BringsBytes, CarriesBytes, closed_by, ether_medium, is_taken, is_whole, open_from, Host, arp_brings, broadcast, frame_brings, is_arp, is_arp_for, is_datagram, mac_at, payload_brings, sender_of, Act, Asked, Pair, Replied}
 
 more_bytes : (part : List ℕ) (b : ℕ) → All IsByte part → b < 256 → All IsByte (part ++ b ∷ [])
 more_bytes part b h low = All-append IsByte part (b ∷ []) h (All-cons IsByte b [] low (All-nil IsByte))

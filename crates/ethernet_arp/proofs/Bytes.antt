@@ -1,10 +1,5 @@
 -- Addresses as the lists of their bytes.
-use Rattle.std.proofs.Common.{◌≡◌, ℕ, ◌+◌, ◌/◌, ◌%◌, ◌<◌, List, [], ◌∷◌, ◌++◌, length, get_or, drop, refl, sym, arith, ap, ◌∙◌, append-nil, append_assoc, length-append, take, ◌-◌, ◌≤◌}
-use Rattle.std.proofs.lemmas.List.{drop-drop, drop-take, drop_all, length-take-le}
-use Rattle.std.proofs.Math.Seq.{take-append-add, take-append_seam}
-use Rattle.uip_wire.specs.Fields.{word_bytes, written}
-use Rattle.ethernet_arp.specs.Frames.{arp_begin, frame_with, framed}
-use Rattle.ethernet_arp.specs.Wrapping.{Puts}
+use Rattle.ethernet_arp.proofs.Prelude.{◌≡◌, ℕ, ◌+◌, ◌/◌, ◌%◌, ◌<◌, List, [], ◌∷◌, ◌++◌, length, get_or, drop, refl, sym, arith, ap, ◌∙◌, append-nil, append_assoc, length-append, take, ◌-◌, ◌≤◌, drop-drop, drop-take, drop_all, length-take-le, take-append-add, take-append_seam, word_bytes, written, arp_begin, frame_with, framed, Puts}
 
 -- the elements of a list, one by one
 abbrev pub elements6 : List ℕ → List ℕ

@@ -1,10 +1,5 @@
 -- The last learning of an address after one more event.
-use Rattle.std.proofs.Common.{◌≡◌, ℕ, ◌+◌, ◌||◌, Bool, true, false, if◌then◌else◌, List, [], ◌∷◌, ◌++◌, Option, None, Some, length, refl, sym, ap, ◌∙◌, subst, arith}
-use Rattle.std.specs.Prelude.{⊤}
-use Rattle.std.specs.Option.{option_and_then, option_or}
-use Rattle.std.specs.Str.{bytes_eq}
-use Rattle.std.proofs.lemmas.Slice.Eq.{bytes_eq-Decides}
-use Rattle.ethernet_arp.specs.Learning.{Act, Asked, Learning, Pair, Replied, Ticked, addresses_of, among, is_fresh, last_learning, learning_by, taught, ticks_in, with_one}
+use Rattle.ethernet_arp.proofs.Prelude.{◌≡◌, ℕ, ◌+◌, ◌||◌, Bool, true, false, if◌then◌else◌, List, [], ◌∷◌, ◌++◌, Option, None, Some, length, refl, sym, ap, ◌∙◌, subst, arith, ⊤, option_and_then, option_or, bytes_eq, bytes_eq-Decides, Act, Asked, Learning, Pair, Replied, Ticked, addresses_of, among, is_fresh, last_learning, learning_by, taught, ticks_in, with_one}
 
 -- the hardware address of a learning that is fresh
 abbrev pub mac_of : Option Learning → Option (List ℕ)

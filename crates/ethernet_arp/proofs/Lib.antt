@@ -9,3 +9,4 @@ pub mod ServingLaws
 pub mod TableLaws
 pub mod TakenLaws
 pub mod SendableLaws
+mod Prelude

@@ -1,14 +1,5 @@
 -- What a run of bytes does to an Ethernet line.
-use Rattle.std.proofs.Common.{◌≡◌, ◌++◌, ◌∙◌, ◌&&◌, [], List, ℕ, if◌then◌else◌, true, false, nat_le, take, ap, append-nil, sym, subst}
-use Rattle.line_medium.specs.Media.{MediumInput, TellsBrought, acts_among, all_decoded}
-use Rattle.line_medium.specs.declared.medium.Decoded.{Decoded}
-use Rattle.ethernet_arp.specs.EtherWay.{ether_medium, open_from}
-use Rattle.ethernet_arp.specs.Frames.{Host, frame_brings}
-use Rattle.ethernet_arp.specs.Learning.{Act}
-use Rattle.ethernet_arp.specs.Parts.{Holds, brought_from, whole_brings}
-use Rattle.ethernet_arp.specs.Table.{Knows}
-use Rattle.ethernet_arp.specs.declared.arp.Arp.{Arp}
-use Rattle.ethernet_arp.specs.declared.frame_part.FramePart.{FramePart}
+use Rattle.ethernet_arp.proofs.Prelude.{◌≡◌, ◌++◌, ◌∙◌, ◌&&◌, [], List, ℕ, if◌then◌else◌, true, false, nat_le, take, ap, append-nil, sym, subst, MediumInput, TellsBrought, acts_among, all_decoded, Decoded, ether_medium, open_from, Host, frame_brings, Act, Holds, brought_from, whole_brings, Knows, Arp, FramePart}
 use Rattle.ethernet_arp.proofs.PartLaws.{brought_is, open-append}
 
 -- the part after more bytes

@@ -1,14 +1,5 @@
 -- The part after the last whole frame, after more bytes, and what these decode to.
-use Rattle.std.proofs.Common.{◌≡◌, ℕ, ◌+◌, ◌-◌, ◌*◌, ◌<◌, ◌≤◌, ◌&&◌, Bool, true, false, if◌then◌else◌, min, nat_le, nat_lt, List, [], ◌∷◌, ◌++◌, Option, length, take, drop, option_to_list, refl, sym, ap, ◌∙◌, arith, inl, inr, ◌⊎◌, length-drop, append-nil, append_assoc, length-append, eq-eqb, ne_eqb}
-use Rattle.std.proofs.Math.Seq.{take-append-add, take-append_seam}
-use Rattle.std.proofs.lemmas.Bool.{leb-false, leb-true, ltb-false, ltb-true}
-use Rattle.std.proofs.lemmas.List.{length-take-le, take-append-le, take_all}
-use Rattle.uip_wire.specs.Fields.{written}
-use Rattle.line_medium.specs.Media.{all_decoded}
-use Rattle.ethernet_arp.specs.EtherWay.{closed_by, ether_medium, is_taken, is_whole, open_from}
-use Rattle.ethernet_arp.specs.Frames.{Host, frame_brings}
-use Rattle.ethernet_arp.specs.Parts.{Holds, InFrame, TakesIn, brought_from, whole_brings}
-use Rattle.ethernet_arp.specs.declared.frame_part.FramePart.{FramePart}
+use Rattle.ethernet_arp.proofs.Prelude.{◌≡◌, ℕ, ◌+◌, ◌-◌, ◌*◌, ◌<◌, ◌≤◌, ◌&&◌, Bool, true, false, if◌then◌else◌, min, nat_le, nat_lt, List, [], ◌∷◌, ◌++◌, Option, length, take, drop, option_to_list, refl, sym, ap, ◌∙◌, arith, inl, inr, ◌⊎◌, length-drop, append-nil, append_assoc, length-append, eq-eqb, ne_eqb, take-append-add, take-append_seam, leb-false, leb-true, ltb-false, ltb-true, length-take-le, take-append-le, take_all, written, all_decoded, closed_by, ether_medium, is_taken, is_whole, open_from, Host, frame_brings, Holds, InFrame, TakesIn, brought_from, whole_brings, FramePart}
 
 pub open-append : (part xs ys : List ℕ) → open_from part (xs ++ ys) ≡ open_from (open_from part xs) ys
 open-append part [] ys = refl

@@ -1,56 +1,10 @@
 -- Each reply of a node on an Ethernet line has 20 to 1500 bytes.
-use Rattle.std.proofs.Common.{◌≡◌, ℕ, zero, suc, ◌+◌, ◌*◌, ◌-◌, ◌%◌, ◌≤◌, ◌&&◌, ◌||◌, ◌==◌, Bool, true, false, not, if◌then◌else◌, nat_le, nat_lt, eqb, ltb, List, [], ◌∷◌, ◌++◌, Option, None, Some, Result, Ok, Err, length, set, take, drop, map, replicate, position, bytes_eq, slice_index, slice_get, slice_index_or, refl, sym, ap, ◌∙◌, subst, arith, inl, inr, ◌⊎◌, length-append, length-take, length-drop}
-use Rattle.std.specs.Prelude.{⊤, option_map, slice_range}
-use Rattle.std.specs.Option.{option_map_or}
-use Rattle.std.proofs.lemmas.Bool.{leb-true, le-leb, ltb-false, and_from, and_parts, or_parts}
-use Rattle.app_events.specs.AppSpec.{AppSpec}
-use Rattle.uip_edge.specs.declared.item.Item.{Item}
-use Rattle.uip_edge.specs.declared.item.Item.TheVariants.{Byte, Quiet}
-use Rattle.uip_wire.specs.Addr.{address_at}
-use Rattle.uip_wire.specs.Checksum.{checksum_of}
-use Rattle.uip_wire.specs.Fields.{word_at, bytes_of}
-use Rattle.uip_wire.specs.declared.addr.Addr.{Addr}
-use Rattle.uip_wire.proofs.Words.{length-bytes_of}
-use Rattle.uip_ipv4.specs.Head.{head_bytes, head_by, head_or_fate, payload_of, proto_of}
-use Rattle.uip_ipv4.specs.declared.fate.IpFate.{IpFate}
-use Rattle.uip_ipv4.specs.declared.head.IpHead.{IpHead}
-use Rattle.uip_ipv4.specs.declared.proto.Proto.{Proto}
-use Rattle.uip_ipv4.specs.declared.proto.Proto.TheVariants.{Icmp, Tcp}
-use Rattle.uip_ipv4.proofs.Back.{length-head_bytes}
-use Rattle.uip_ipv4.proofs.Facts.{facts_at}
-use Rattle.icmp_echo.specs.Echo.{echo_fate, echo_message, echo_reply}
-use Rattle.icmp_echo.specs.declared.fate.IcmpFate.{IcmpFate}
-use Rattle.tcp_segment.specs.Received.{segment_or_fate}
+use Rattle.ethernet_arp.proofs.Prelude.{◌≡◌, ℕ, zero, suc, ◌+◌, ◌*◌, ◌-◌, ◌%◌, ◌≤◌, ◌&&◌, ◌||◌, ◌==◌, Bool, true, false, not, if◌then◌else◌, nat_le, nat_lt, eqb, ltb, List, [], ◌∷◌, ◌++◌, Option, None, Some, Result, Ok, Err, length, set, take, drop, map, replicate, position, slice_index, slice_get, slice_index_or, refl, sym, ap, ◌∙◌, subst, arith, inl, inr, ◌⊎◌, length-append, length-take, length-drop, ⊤, option_map, slice_range, option_map_or, leb-true, le-leb, ltb-false, and_from, and_parts, or_parts, AppSpec, Item, Byte, Quiet, address_at, checksum_of, word_at, bytes_of, Addr, length-bytes_of, head_bytes, head_by, head_or_fate, payload_of, proto_of, IpFate, IpHead, Proto, Icmp, Tcp, length-head_bytes, facts_at, echo_fate, echo_message, echo_reply, IcmpFate, segment_or_fate, TcpFate, Segment, Outcome, Connection, Sockets, closed, serves, accept, on_segment, on_tick, bare_ack, fin_of, is_plain_syn, reset_of, reset_for_no_connection, segment_of, syn_ack, text_segment, Step, initial_number, by_head, by_proto, by_segment, datagram_to, event_of, reply_bytes, Event, Reply, IpRefused, IcmpRefused, TcpRefused, EchoAsked, Arrived, Periodic, AbstractNode, NodeStep, arrives_at, connection_in, for_no_connection, happened, snapshot, initial_node, opens, opens_in, slot_for_syn, step, choose, only_some, get_set, small_size, reply_length, here, there, asked_keeps, on_segment_keeps, on_tick_keeps, Lens, accepted_lens, asked_lens, closed_lens, on_segment_lens, on_tick_lens, StationEvent, OfMedium, OfNode, Station, station_after, station_after_all, beat_on, station_event_by, station_events_after, station_events_of_line, tick_on, is_beat, closed_by, ether_medium, is_taken, is_whole, open_from, Host, broadcast, frame_brings, is_arp, is_arp_for, is_datagram, is_sendable, mac_at, Act, DatagramsFitFrames}
+use Rattle.std.proofs.Common.{bytes_eq}
 use Rattle.tcp_segment.specs.Segments.{Datagram as Segmented, PlainSegment, datagram_bytes, fixed_words, has_rst, option_words, segment_bytes, segment_sum}
-use Rattle.tcp_segment.specs.declared.fate.TcpFate.{TcpFate}
-use Rattle.tcp_segment.specs.declared.segment.Segment.{Segment}
-use Rattle.tcp_machine.specs.Ask.{Outcome}
-use Rattle.tcp_machine.specs.Connection.{Connection, Sockets, closed, serves}
-use Rattle.tcp_machine.specs.OnSegment.{accept, on_segment}
-use Rattle.tcp_machine.specs.OnTick.{on_tick}
-use Rattle.tcp_machine.specs.Segments.{bare_ack, fin_of, is_plain_syn, reset_of, reset_for_no_connection, segment_of, syn_ack, text_segment}
-use Rattle.tcp_machine.specs.declared.step.Step.{Step}
-use Rattle.uip_node.specs.Counters.{initial_number}
-use Rattle.uip_node.specs.Edge.{by_head, by_proto, by_segment, datagram_to, event_of, reply_bytes}
-use Rattle.uip_node.specs.Events.{Event, Reply}
-use Rattle.uip_node.specs.Events.Event.{IpRefused, IcmpRefused, TcpRefused, EchoAsked, Arrived, Overlong, Periodic}
+use Rattle.uip_node.specs.Events.Event.{Overlong}
 use Rattle.uip_node.specs.Events.Reply.{Echo as EchoSent, Tcp as TcpSent}
-use Rattle.uip_node.specs.Node.{AbstractNode, NodeStep, arrives_at, connection_in, for_no_connection, happened, snapshot, initial_node, opens, opens_in, slot_for_syn, step}
-use Rattle.uip_node.proofs.Basics.{choose, only_some}
-use Rattle.uip_node.proofs.Connections.{get_set}
-use Rattle.uip_node.proofs.DatagramsBack.{small_size}
-use Rattle.uip_node.proofs.Stepping.{reply_length}
-use Rattle.uip_node.proofs.Connections.Written.{here, there}
-use Rattle.uip_node.proofs.Peers.{asked_keeps, on_segment_keeps, on_tick_keeps}
-use Rattle.uip_node.proofs.SoundSegments.{Lens, accepted_lens, asked_lens, closed_lens, on_segment_lens, on_tick_lens}
 use Rattle.line_medium.specs.Media.{MediumInput, Datagram, Overlong as OverlongFrame, Own}
-use Rattle.serve_loop.specs.StationRuns.{StationEvent, OfMedium, OfNode, Station, station_after, station_after_all}
-use Rattle.serve_loop.specs.LineStationEvents.{beat_on, station_event_by, station_events_after, station_events_of_line, tick_on}
-use Rattle.serve_loop.specs.Pace.{is_beat}
-use Rattle.ethernet_arp.specs.EtherWay.{closed_by, ether_medium, is_taken, is_whole, open_from}
-use Rattle.ethernet_arp.specs.Frames.{Host, broadcast, frame_brings, is_arp, is_arp_for, is_datagram, is_sendable, mac_at}
-use Rattle.ethernet_arp.specs.Learning.{Act}
-use Rattle.ethernet_arp.specs.Sendable.{DatagramsFitFrames}
 
 within : (d : List ℕ) → 20 ≤ length d → length d ≤ 1500 → is_sendable d ≡ true
 within d least most = and_from (nat_le 20 (length d)) (nat_le (length d) 1500) (le-leb 20 (length d) least) (le-leb (length d) 1500 most)

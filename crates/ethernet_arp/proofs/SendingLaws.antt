@@ -1,27 +1,6 @@
 -- Each frame with a datagram goes to the hardware address that its target taught last.
-use Rattle.std.proofs.Common.{◌≡◌, ℕ, zero, suc, ◌+◌, ◌*◌, ◌/◌, ◌%◌, ◌<◌, ◌&&◌, ◌||◌, ◌==◌, Bool, true, false, if◌then◌else◌, nat_le, nat_lt, List, [], ◌∷◌, ◌++◌, Option, None, Some, length, drop, map, refl, sym, ap, ◌∙◌, subst, arith, inl, inr, ◌⊎◌, append_assoc, length-append, ne_eqb, eq-eqb}
-use Rattle.std.specs.Prelude.{⊤, slice_get}
-use Rattle.std.specs.Option.{option_map_or, option_or}
-use Rattle.std.specs.Str.{bytes_eq}
-use Rattle.std.proofs.lemmas.Bool.{leb-true}
-use Rattle.app_events.specs.AppSpec.{AppSpec}
-use Rattle.uip_edge.specs.declared.item.Item.{Item}
-use Rattle.uip_edge.specs.declared.item.Item.TheVariants.{Byte, Quiet}
-use Rattle.uip_wire.specs.Addr.{address_at}
-use Rattle.uip_wire.specs.Fields.{word_at, word_bytes}
-use Rattle.uip_wire.specs.declared.addr.Addr.{Addr}
-use Rattle.uip_node.specs.Edge.{reply_bytes}
-use Rattle.uip_node.specs.Events.{Event, Reply, tick}
-use Rattle.uip_node.specs.Node.{AbstractNode, step}
-use Rattle.line_medium.specs.Media.{MediumInput, Datagram, Overlong, Own}
-use Rattle.serve_loop.specs.StationRuns.{StationEvent, OfMedium, OfNode, Station, station_after, output, output_of_event, reply_text}
-use Rattle.serve_loop.specs.LineStationEvents.{beat_on, station_event_by, station_events_after, station_events_of_line, tick_on}
-use Rattle.serve_loop.specs.Pace.{is_beat}
-use Rattle.ethernet_arp.specs.EtherWay.{closed_by, ether_text, ether_medium, is_taken, is_whole, open_from}
-use Rattle.ethernet_arp.specs.Frames.{Host, arp_brings, arp_packet, broadcast, frame_brings, frame_with, framed, is_arp, is_arp_for, is_datagram, is_sendable, mac_at, no_mac, payload_brings, arp_reply, arp_request, sender_of, wrapped}
-use Rattle.ethernet_arp.specs.Learning.{Act, Asked, Learning, Pair, Replied, Ticked, is_fresh, known, last_learning, learning_by, taught}
+use Rattle.ethernet_arp.proofs.Prelude.{◌≡◌, ℕ, zero, suc, ◌+◌, ◌*◌, ◌/◌, ◌%◌, ◌<◌, ◌&&◌, ◌||◌, ◌==◌, Bool, true, false, if◌then◌else◌, nat_le, nat_lt, List, [], ◌∷◌, ◌++◌, Option, None, Some, length, drop, map, refl, sym, ap, ◌∙◌, subst, arith, inl, inr, ◌⊎◌, append_assoc, length-append, ne_eqb, eq-eqb, ⊤, slice_get, option_map_or, option_or, bytes_eq, leb-true, AppSpec, Item, Byte, Quiet, address_at, word_at, word_bytes, Addr, reply_bytes, Event, Reply, tick, AbstractNode, step, MediumInput, Datagram, Overlong, Own, StationEvent, OfMedium, OfNode, Station, station_after, output, output_of_event, reply_text, beat_on, station_event_by, station_events_after, station_events_of_line, tick_on, is_beat, closed_by, ether_text, ether_medium, is_taken, is_whole, open_from, Host, arp_brings, arp_packet, broadcast, frame_brings, frame_with, framed, is_arp, is_arp_for, is_datagram, is_sendable, mac_at, no_mac, payload_brings, arp_reply, arp_request, sender_of, wrapped, Act, Asked, Learning, Pair, Replied, Ticked, is_fresh, known, last_learning, learning_by, taught, AllGoHome, GoesHome, frames_from, target_in}
 use Rattle.ethernet_arp.proofs.LearningLaws.{mac_of}
-use Rattle.ethernet_arp.specs.Sending.{AllGoHome, GoesHome, frames_from, target_in}
 use Rattle.ethernet_arp.proofs.Bytes.{elements6, six}
 
 -- addresses of four bytes, and hardware addresses of six

@@ -1,15 +1,6 @@
 -- Serving a line, restated for other predicates on its medium's events.
-use Rattle.std.proofs.Common.{ℕ, Bool, List, Option}
-use Rattle.app_events.specs.AppSpec.{AppSpec}
-use Rattle.app_events.specs.declared.app.App.{Ghosts}
-use Rattle.uip_edge.specs.declared.serve_end.ServeEnd.{ServeEnd}
+use Rattle.ethernet_arp.proofs.Prelude.{ℕ, Bool, List, Option, AppSpec, Ghosts, ServeEnd, Addr, Node, MediumSpec, AllSaid, StationEvent, PrefixWritten, Station, IsStationed, SaidBy, ServesOver, LineView}
 use Rattle.uip_edge.specs.declared.serve_end.ServeEnd.TheVariants as ends
-use Rattle.uip_wire.specs.declared.addr.Addr.{Addr}
-use Rattle.uip_node.specs.State.{Node}
-use Rattle.line_medium.specs.Media.{MediumSpec}
-use Rattle.serve_loop.specs.StationRuns.{AllSaid, StationEvent, PrefixWritten, Station}
-use Rattle.serve_loop.specs.StationServing.{IsStationed, SaidBy, ServesOver}
-use Rattle.uip_edge.specs.Views.{LineView}
 
 module _ {A S C : Type 0} (g : Ghosts A S) (w : MediumSpec C) (did did' told told' : List C → Type 0) (before after : Node A S)
     (first : (acts : List C) → told acts → did acts) (last : (acts : List C) → did' acts → told' acts) where

@@ -1,16 +1,5 @@
 -- A table after one more event.
-use Rattle.std.proofs.Common.{add-one, ◌≡◌, ℕ, zero, suc, ◌+◌, ◌-◌, ◌<◌, ◌≤◌, ◌&&◌, ◌||◌, Bool, true, false, if◌then◌else◌, cond, nat_lt, min, List, [], ◌∷◌, ◌++◌, Option, None, Some, length, map, take, drop, get_or, refl, sym, ap, ◌∙◌, subst, arith, inl, inr, ◌⊎◌}
-use Rattle.std.specs.List.{find, list_any, position_or_len}
-use Rattle.std.specs.Prelude.{option_map, slice_get}
-use Rattle.std.specs.Str.{bytes_eq}
-use Rattle.std.proofs.lemmas.Bool.{le-ltb, ltb-false, ltb-true, lt-ltb}
-use Rattle.std.proofs.lemmas.List.{length-map}
-use Rattle.std.proofs.lemmas.List.Folds.{find_at}
-use Rattle.std.proofs.lemmas.List.Recursion.{is_position_or_len}
-use Rattle.ethernet_arp.specs.Learning.{Act, Learning, Pair, Ticked, addresses_of, among, is_fresh, known, last_learning, taught, ticks_in}
-use Rattle.ethernet_arp.specs.Table.{AllRemember, AreOlder, AreOrdered, IsAlike, Knows, Remembers, aged, in_table, is_of, moved_prefix}
-use Rattle.ethernet_arp.specs.declared.arp.Arp.{Arp}
-use Rattle.ethernet_arp.specs.declared.arp.Entry.{Entry}
+use Rattle.ethernet_arp.proofs.Prelude.{add-one, ◌≡◌, ℕ, zero, suc, ◌+◌, ◌-◌, ◌<◌, ◌≤◌, ◌&&◌, ◌||◌, Bool, true, false, if◌then◌else◌, cond, nat_lt, min, List, [], ◌∷◌, ◌++◌, Option, None, Some, length, map, take, drop, get_or, refl, sym, ap, ◌∙◌, subst, arith, inl, inr, ◌⊎◌, find, list_any, position_or_len, option_map, slice_get, bytes_eq, le-ltb, ltb-false, ltb-true, lt-ltb, length-map, find_at, is_position_or_len, Act, Learning, Pair, Ticked, addresses_of, among, is_fresh, known, last_learning, taught, ticks_in, AllRemember, AreOlder, AreOrdered, IsAlike, Knows, Remembers, aged, in_table, is_of, moved_prefix, Arp, Entry}
 use Rattle.ethernet_arp.proofs.LearningLaws.{addresses-learnt, addresses-tick, is_same, last-learnt, last-other, last-tick, mac_of, not_among, not_both, on_later, or_parts, same, ticks-learnt, ticks-tick}
 
 pub like_same : (xs : List (List ℕ)) → IsAlike xs xs

@@ -1,9 +1,5 @@
 -- What a host knows after a frame.
-use Rattle.std.proofs.Common.{◌≡◌, ◌++◌, ◌∷◌, [], List, ℕ, append-nil, sym, subst}
-use Rattle.line_medium.specs.Media.{MediumInput, Datagram, Own, acts_among}
-use Rattle.ethernet_arp.specs.Learning.{Act}
-use Rattle.ethernet_arp.specs.Table.{Knows}
-use Rattle.ethernet_arp.specs.declared.arp.Arp.{Arp}
+use Rattle.ethernet_arp.proofs.Prelude.{◌≡◌, ◌++◌, ◌∷◌, [], List, ℕ, append-nil, sym, subst, MediumInput, Datagram, Own, acts_among, Act, Knows, Arp}
 
 module _ (old new : Arp) where
   -- a frame that brings no act

@@ -1,6 +1,6 @@
 -- Ethernet with ARP over a line of bytes as a medium: each frame follows its length in two bytes.
 use Rattle.std.specs.Prelude.{ℕ, ◌+◌, ◌*◌, ◌==◌, ◌&&◌, nat_le, Bool, false, if◌then◌else◌, List, [], ◌∷◌, ◌++◌, length, drop}
-use Rattle.line_medium.specs.Media.{MediumInput, MediumSpec}
+use Rattle.line_medium.specs.Prelude.{MediumInput, MediumSpec}
 use Rattle.ethernet_arp.specs.Frames.{Host, frame_brings, framed, is_sendable, arp_reply, wrapped}
 use Rattle.ethernet_arp.specs.Learning.{Act, Asked, Ticked}
 use Rattle.ethernet_arp.specs.declared.sizes.TheConstants.{LARGEST_FRAME, SMALLEST_FRAME}

@@ -3,10 +3,9 @@ use Rattle.std.specs.Prelude.{ℕ, ◌+◌, ◌==◌, ◌&&◌, ◌||◌, nat_le
 use Rattle.std.specs.Prelude.{Option}
 use Rattle.std.specs.Option.{option_map_or}
 use Rattle.std.specs.Str.{bytes_eq}
-use Rattle.uip_wire.specs.Addr.{address_at}
-use Rattle.uip_wire.specs.Fields.{word_at, word_bytes}
+use Rattle.uip_wire.specs.Prelude.{address_at, word_at, word_bytes}
 use Rattle.uip_wire.specs.declared.sizes.TheConstants.{LARGEST_DATAGRAM}
-use Rattle.line_medium.specs.Media.{MediumInput, Datagram, Own}
+use Rattle.line_medium.specs.Prelude.{MediumInput, Datagram, Own}
 use Rattle.ethernet_arp.specs.Learning.{Act, Asked, Pair, Replied, known}
 use Rattle.ethernet_arp.specs.declared.sizes.TheConstants.{SMALLEST_DATAGRAM}
 

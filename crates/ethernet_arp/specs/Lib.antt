@@ -11,3 +11,4 @@ pub mod Worked
 pub mod Wrapping
 pub mod ConstantValues
 pub mod Sendable
+pub mod Prelude

@@ -1,14 +1,10 @@
 -- The laws of sizes and of bytes: each reply of a node on an Ethernet line fits in a frame, and frames of bytes decode to bytes.
 use Rattle.std.specs.Prelude.{◌≡◌, ℕ, Bool, true, List, [], ◌∷◌, ◌++◌, Some, length}
-use Rattle.app_events.specs.AppSpec.{AppSpec}
+use Rattle.app_events.specs.Prelude.{AppSpec}
 use Rattle.uip_edge.specs.declared.item.Item.{Item}
 use Rattle.uip_wire.specs.declared.addr.Addr.{Addr}
-use Rattle.uip_node.specs.Edge.{reply_bytes}
-use Rattle.uip_node.specs.Events.{Event, Reply}
-use Rattle.uip_node.specs.Node.{initial_node, step}
-use Rattle.serve_loop.specs.StationRuns.{StationEvent, OfNode, Station, station_after_all}
-use Rattle.serve_loop.specs.Items.{BringsBytes}
-use Rattle.serve_loop.specs.LineStationEvents.{station_events_of_line}
+use Rattle.uip_node.specs.Prelude.{reply_bytes, Event, Reply, initial_node, step}
+use Rattle.serve_loop.specs.Prelude.{StationEvent, OfNode, Station, station_after_all, BringsBytes, station_events_of_line}
 use Rattle.ethernet_arp.specs.EtherWay.{ether_medium}
 use Rattle.ethernet_arp.specs.Frames.{Host, is_sendable}
 use Rattle.ethernet_arp.specs.Learning.{Act}

@@ -1,13 +1,11 @@
 -- The law of sending, over the text of a whole line: each frame with a datagram goes to the hardware address that its target taught last.
 use Rattle.std.specs.Prelude.{◌≡◌, ℕ, Bool, true, if◌then◌else◌, List, [], ◌∷◌, ◌++◌, length, drop, Some, slice_get}
-use Rattle.app_events.specs.AppSpec.{AppSpec}
+use Rattle.app_events.specs.Prelude.{AppSpec}
 use Rattle.uip_edge.specs.declared.item.Item.{Item}
-use Rattle.uip_node.specs.Node.{AbstractNode}
-use Rattle.uip_wire.specs.Addr.{address_at}
-use Rattle.uip_wire.specs.Fields.{word_at}
+use Rattle.uip_node.specs.Prelude.{AbstractNode}
+use Rattle.uip_wire.specs.Prelude.{address_at, word_at}
 use Rattle.uip_wire.specs.declared.addr.Addr.{Addr}
-use Rattle.serve_loop.specs.StationRuns.{StationEvent, Station, station_after_all, output, output_of_event}
-use Rattle.serve_loop.specs.LineStationEvents.{station_events_of_line}
+use Rattle.serve_loop.specs.Prelude.{StationEvent, Station, station_after_all, output, output_of_event, station_events_of_line}
 use Rattle.ethernet_arp.specs.EtherWay.{ether_medium, is_whole}
 use Rattle.ethernet_arp.specs.Frames.{Host, framed, is_datagram, mac_at}
 use Rattle.ethernet_arp.specs.Learning.{Act, known}

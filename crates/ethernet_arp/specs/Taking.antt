@@ -1,7 +1,7 @@
 -- The result of `take` for a frame.
 use Rattle.std.specs.Prelude.{◌≡◌, ◌+◌, ◌<◌, ◌⊎◌, ℕ, List, [], ◌∷◌, length, drop, Some, ⊤}
-use Rattle.uip_wire.specs.Fields.{written}
-use Rattle.line_medium.specs.Media.{MediumInput, Datagram, Own}
+use Rattle.uip_wire.specs.Prelude.{written}
+use Rattle.line_medium.specs.Prelude.{MediumInput, Datagram, Own}
 use Rattle.ethernet_arp.specs.Frames.{Host, arp_reply}
 use Rattle.ethernet_arp.specs.Learning.{Act, Asked, Pair, Replied, taught}
 use Rattle.ethernet_arp.specs.Table.{in_table}

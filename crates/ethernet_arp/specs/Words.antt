@@ -1,6 +1,6 @@
 -- A hardware address as a word: six pairs of hexadecimal digits with colons between them.
 use Rattle.std.specs.Prelude.{ℕ, ◌+◌, ◌-◌, ◌*◌, ◌==◌, ◌&&◌, nat_le, if◌then◌else◌, List, [], ◌∷◌, Option, None, Some}
-use Rattle.uip_wire.specs.Addr.{◌>>=◌}
+use Rattle.uip_wire.specs.Prelude.{◌>>=◌}
 
 -- The value of a digit of either case.
 abbrev pub digit_of : ℕ → Option ℕ

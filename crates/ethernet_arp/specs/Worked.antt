@@ -1,11 +1,10 @@
 -- Lines of frames worked by hand, at a host 10.0.0.1 with the hardware address 02:00:00:00:00:01: all that is written for them.
 use Rattle.std.specs.Prelude.{ℕ, Bool, List, [], ◌∷◌}
-use Rattle.app_events.specs.AppSpec.{AppSpec}
+use Rattle.app_events.specs.Prelude.{AppSpec}
 use Rattle.uip_edge.specs.declared.item.Item.{Item}
 use Rattle.uip_wire.specs.declared.addr.Addr.{Addr}
-use Rattle.uip_node.specs.Node.{initial_node}
-use Rattle.serve_loop.specs.StationRuns.{output}
-use Rattle.serve_loop.specs.LineStationEvents.{station_events_of_line}
+use Rattle.uip_node.specs.Prelude.{initial_node}
+use Rattle.serve_loop.specs.Prelude.{output, station_events_of_line}
 use Rattle.ethernet_arp.specs.EtherWay.{ether_medium}
 use Rattle.ethernet_arp.specs.Frames.{Host}
 

@@ -1,6 +1,6 @@
 -- A frame at the start of an area.
 use Rattle.std.specs.Prelude.{◌≡◌, ℕ, List, length}
-use Rattle.uip_wire.specs.Fields.{written}
+use Rattle.uip_wire.specs.Prelude.{written}
 
 -- The frame was written at the start, this is its length, and all after it is unchanged.
 pub record Puts (frame : List ℕ) (len : ℕ) (old new : List ℕ) : Type 0 where

@@ -1,7 +1,7 @@
 //! Ethernet with ARP as a medium.
 
 ghost use Rattle.std.specs.Prelude.{◌≡◌, ◌≤◌, ◌++◌, [], List, length, take};
-ghost use Rattle.line_medium.specs.Media.{ShowsBrought, TellsBrought, acts_among};
+ghost use Rattle.line_medium.specs.Prelude.{ShowsBrought, TellsBrought, acts_among};
 ghost use Rattle.ethernet_arp.specs.EtherWay.{ether_medium};
 ghost use Rattle.ethernet_arp.specs.Frames.{frame_brings};
 ghost use Rattle.ethernet_arp.specs.Learning.{Act};

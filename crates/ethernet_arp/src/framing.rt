@@ -1,9 +1,7 @@
 //! Frames after their length.
 
 ghost use Rattle.std.specs.Prelude.{◌≡◌, ◌≤◌, ◌+◌, List, length, take};
-ghost use Rattle.ethernet_arp.specs.Frames.{framed, arp_reply, wrapped};
-ghost use Rattle.ethernet_arp.specs.Learning.{Act};
-ghost use Rattle.ethernet_arp.specs.Table.{Knows, host_of};
+ghost use Rattle.ethernet_arp.specs.Prelude.{framed, arp_reply, wrapped, Act, Knows, host_of};
 
 use crate::arp::Arp;
 use crate::mac::Mac;

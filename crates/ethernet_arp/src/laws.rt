@@ -1,8 +1,6 @@
 //! The laws of this medium.
 
-ghost use Rattle.ethernet_arp.specs.ConstantValues.{ConstantValues};
-ghost use Rattle.ethernet_arp.specs.Sendable.{DatagramsFitFrames, FramesBringBytes};
-ghost use Rattle.ethernet_arp.specs.Sending.{DatagramsGoHome};
+ghost use Rattle.ethernet_arp.specs.Prelude.{ConstantValues, DatagramsFitFrames, FramesBringBytes, DatagramsGoHome};
 
 /// The numbers that the definitions name by the code's constants.
 pub fn constant_values()

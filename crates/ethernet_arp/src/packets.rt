@@ -1,7 +1,7 @@
 //! Frames and ARP packets that are sent (RFC 894, RFC 826).
 
 ghost use Rattle.std.specs.Prelude.{◌≡◌, ◌≤◌, ◌++◌, length};
-ghost use Rattle.uip_wire.specs.Fields.{word_bytes, written};
+ghost use Rattle.uip_wire.specs.Prelude.{word_bytes, written};
 ghost use Rattle.ethernet_arp.specs.Frames.{arp_packet, frame_with};
 
 use crate::mac::Mac;

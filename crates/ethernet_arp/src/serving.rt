@@ -1,8 +1,7 @@
 ghost use Rattle.std.specs.Prelude.{◌≡◌};
-ghost use Rattle.serve_loop.specs.StationServing.{ServesOver};
-ghost use Rattle.ethernet_arp.specs.EtherWay.{ether_medium};
-ghost use Rattle.ethernet_arp.specs.Table.{Knows, host_of};
-ghost use Rattle.uip_edge.specs.ViewsOf.{line_view};
+ghost use Rattle.serve_loop.specs.Prelude.{ServesOver};
+ghost use Rattle.ethernet_arp.specs.Prelude.{ether_medium, Knows, host_of};
+ghost use Rattle.uip_edge.specs.Prelude.{line_view};
 
 use crate::arp::Arp;
 use crate::ether_line::EtherLine;

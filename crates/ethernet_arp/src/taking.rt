@@ -2,8 +2,8 @@
 
 ghost use Rattle.std.specs.Prelude.{◌≡◌, ◌≤◌, ◌-◌, ◌++◌, ◌&&◌, ◌||◌, List, ℕ, drop, length, nat_lt};
 ghost use Rattle.std.specs.Str.{bytes_eq};
-ghost use Rattle.uip_wire.specs.Fields.{word_at};
-ghost use Rattle.line_medium.specs.Media.{acts_among};
+ghost use Rattle.uip_wire.specs.Prelude.{word_at};
+ghost use Rattle.line_medium.specs.Prelude.{acts_among};
 ghost use Rattle.ethernet_arp.specs.Frames.{arp_brings, broadcast, frame_brings, is_arp, is_arp_for, is_datagram};
 ghost use Rattle.ethernet_arp.specs.Frames.{payload_brings, arp_reply, sender_of};
 ghost use Rattle.ethernet_arp.specs.Learning.{Act};

@@ -1,11 +1,8 @@
 //! The frame of a datagram that is sent (RFC 894).
 
 ghost use Rattle.std.specs.Prelude.{◌≤◌, List, length};
-ghost use Rattle.uip_wire.specs.Addr.{address_at};
-ghost use Rattle.ethernet_arp.specs.Frames.{frame_with, arp_request, wrapped, wrapped_to};
-ghost use Rattle.ethernet_arp.specs.Learning.{Act};
-ghost use Rattle.ethernet_arp.specs.Table.{Knows, host_of, in_table};
-ghost use Rattle.ethernet_arp.specs.Wrapping.{Puts};
+ghost use Rattle.uip_wire.specs.Prelude.{address_at};
+ghost use Rattle.ethernet_arp.specs.Prelude.{frame_with, arp_request, wrapped, wrapped_to, Act, Knows, host_of, in_table, Puts};
 
 use crate::arp::Arp;
 use crate::mac::{BROADCAST, Mac};

@@ -1,19 +1,5 @@
 -- The fault of an entry by its parts, and the file that an entry without fault represents.
-use Rattle.std.proofs.Common.{◌≡◌, ℕ, ◌+◌, true, false, cond, List, drop, Option, Some, None, sym, ap, ◌∙◌, arith}
-use Rattle.std.specs.Prelude.{slice_range}
-use Rattle.std.specs.Option.{option_or}
-use Rattle.site_image.specs.declared.site_error.SiteWhy.{SiteWhy}
-use Rattle.site_image.specs.declared.site_error.SiteWhy.TheVariants.{Twice}
-use Rattle.site_image.specs.declared.part.Part.{Part}
-use Rattle.site_image.specs.declared.version.Version.{Version}
-use Rattle.site_image.specs.Files.{File, has_name}
-use Rattle.site_image.specs.Parts.{text, after_text, kind_given, after_kind, content, after_content, name_fault, kind_fault, content_fault}
-use Rattle.site_image.specs.Faults.{entry_fault}
-use Rattle.site_image.specs.Places.{IsPart}
-use Rattle.site_image.proofs.Rows.{twice}
-use Rattle.file_tree.specs.declared.file_id.FileId.{FileId}
-use Rattle.file_tree.specs.Index.{IsOrder, IsSlot}
-use Rattle.file_tree.specs.Reading.{IsEntry, place_by}
+use Rattle.file_tree.proofs.Prelude.{◌≡◌, ℕ, ◌+◌, true, false, cond, List, drop, Option, Some, None, sym, ap, ◌∙◌, arith, slice_range, option_or, SiteWhy, Twice, Part, Version, File, has_name, text, after_text, kind_given, after_kind, content, after_content, name_fault, kind_fault, content_fault, entry_fault, IsPart, twice, FileId, IsOrder, IsSlot, IsEntry, place_by}
 use Rattle.file_tree.proofs.OrderLemmas.{slot-fresh}
 
 module _ (version : Version) (earlier : List File) (bytes : List ℕ) where

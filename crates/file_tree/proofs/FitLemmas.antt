@@ -1,14 +1,5 @@
 -- Scripts without a fault, up to an index of the files.
-use Rattle.std.proofs.Common.{◌≡◌, ℕ, ◌+◌, ◌<◌, ◌≤◌, List, length, get_or, Option, Some, None, refl, sym, ap, inl, inr, ◌∙◌, arith}
-use Rattle.std.specs.Prelude.{slice_get, option_map}
-use Rattle.std.proofs.lemmas.Bool.{cases_eq}
-use Rattle.std.proofs.lemmas.Option.{slice_get-get_or, slice_get_within, get_or_from_slice_get, slice_get-map, same_Some}
-use Rattle.script_lang.specs.Calling.{Calling}
-use Rattle.site_image.specs.declared.place.Place.{Place}
-use Rattle.site_image.specs.declared.site_error.SiteWhy.{SiteWhy}
-use Rattle.site_image.specs.Pages.{script_fault_by}
-use Rattle.site_image.specs.Places.{file_in, files_in}
-use Rattle.file_tree.specs.Site.{HasSoundScripts}
+use Rattle.file_tree.proofs.Prelude.{◌≡◌, ℕ, ◌+◌, ◌<◌, ◌≤◌, List, length, get_or, Option, Some, None, refl, sym, ap, inl, inr, ◌∙◌, arith, slice_get, option_map, cases_eq, slice_get-get_or, slice_get_within, get_or_from_slice_get, slice_get-map, same_Some, Calling, Place, SiteWhy, script_fault_by, file_in, files_in, HasSoundScripts}
 
 abbrev fault_at : {F : Type 0} → Calling F → List ℕ → List Place → Place → Option SiteWhy
 fault_at c image places place = script_fault_by c (files_in image places) (file_in image place)

@@ -1,20 +1,6 @@
 -- The names and content types of a site are well-formed, and so is every content type by a name.
 -- [add: content-type] The type has allowed bytes.
-use Rattle.std.proofs.Common.{◌≡◌, ℕ, Bool, true, false, cond, ◌-◌, List, length, get_or, Option, Some, None, refl, arith, sym, ap, ◌∙◌}
-use Rattle.std.specs.Prelude.{IsTrue, slice_get, codes, nat_eq, unwrap_or, option_map, reverse, find, All}
-use Rattle.std.specs.Str.{bytes_eq}
-use Rattle.std.specs.List.{position_or_len}
-use Rattle.std.proofs.lemmas.List.{get_or-reverse, length-reverse}
-use Rattle.std.proofs.lemmas.List.Folds.{find_at}
-use Rattle.std.proofs.lemmas.Option.{slice_get_within, get_or_from_slice_get, slice_get-map, same_Some}
-use Rattle.std.specs.List.{ends_with}
-use Rattle.site_image.specs.declared.version.Version.{Version}
-use Rattle.site_image.specs.declared.version.Version.TheVariants.{One, Two}
-use Rattle.site_image.specs.Names.{is_name, is_kind, kind_by_name}
-use Rattle.site_image.specs.Files.{File, kind_of}
-use Rattle.site_image.specs.Grammar.{IsKindIn, IsImage}
-use Rattle.file_tree.specs.Site.{AreGood, AreApart}
-use Rattle.file_tree.specs.Upgrading.{KindContent, chosen, retyped, upgraded}
+use Rattle.file_tree.proofs.Prelude.{◌≡◌, ℕ, Bool, true, false, cond, ◌-◌, List, length, get_or, Option, Some, None, refl, arith, sym, ap, ◌∙◌, IsTrue, slice_get, codes, nat_eq, unwrap_or, option_map, reverse, find, All, bytes_eq, position_or_len, get_or-reverse, length-reverse, find_at, slice_get_within, get_or_from_slice_get, slice_get-map, same_Some, ends_with, Version, One, Two, is_name, is_kind, kind_by_name, File, kind_of, IsKindIn, IsImage, AreGood, AreApart, KindContent, chosen, retyped, upgraded}
 
 kind-good : (version : Version) (kind : List ℕ) → IsKindIn version kind → IsTrue (is_kind kind)
 kind-good One kind none = ap is_kind none

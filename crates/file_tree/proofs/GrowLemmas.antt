@@ -1,13 +1,5 @@
 -- An image that grows at its end preserves its files and their order.
-use Rattle.std.proofs.Common.{◌≡◌, ℕ, ◌+◌, ◌-◌, ◌≤◌, List, [], ◌∷◌, ◌++◌, length, take, drop, refl, sym, ap, subst, ◌∙◌, add-one, arith}
-use Rattle.std.specs.Prelude.{slice_range, slice_get}
-use Rattle.std.specs.List.{insert}
-use Rattle.std.proofs.lemmas.List.{length-append, take-append-le, drop-append-le, length-drop, map_push}
-use Rattle.site_image.specs.declared.place.Place.{Place}
-use Rattle.site_image.specs.Files.{File}
-use Rattle.site_image.specs.Places.{IsWithin, file_in, files_in}
-use Rattle.file_tree.specs.declared.file_id.FileId.{FileId}
-use Rattle.file_tree.specs.Index.{IsOrder, IsSlot, AreWithin, IsIndex}
+use Rattle.file_tree.proofs.Prelude.{◌≡◌, ℕ, ◌+◌, ◌-◌, ◌≤◌, List, [], ◌∷◌, ◌++◌, length, take, drop, refl, sym, ap, subst, ◌∙◌, add-one, arith, slice_range, slice_get, insert, length-append, take-append-le, drop-append-le, length-drop, map_push, Place, File, IsWithin, file_in, files_in, FileId, IsOrder, IsSlot, AreWithin, IsIndex}
 use Rattle.file_tree.proofs.TableLemmas.{within-push, table-insert}
 
 part-grown : (image more : List ℕ) (at len : ℕ) → at + len ≤ length image → slice_range (image ++ more) at (at + len) ≡ slice_range image at (at + len)

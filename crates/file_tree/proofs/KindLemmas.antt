@@ -1,9 +1,6 @@
 -- A content type by the name is short.
 -- [add: content-type] The type is short.
-use Rattle.std.proofs.Common.{ℕ, ◌≤◌, Bool, true, false, cond, List, length, lit≤}
-use Rattle.std.specs.Prelude.{codes, nat_eq}
-use Rattle.std.specs.List.{ends_with}
-use Rattle.site_image.specs.Names.{kind_by_name}
+use Rattle.file_tree.proofs.Prelude.{ℕ, ◌≤◌, Bool, true, false, cond, List, length, lit≤, codes, nat_eq, ends_with, kind_by_name}
 
 abbrev IsShort : List ℕ → Type 0
 IsShort kind = length kind ≤ 24

@@ -18,3 +18,4 @@ pub mod PackLemmas
 pub mod PackedLemmas
 pub mod GoodLemmas
 pub mod UpgradeLemmas
+mod Prelude

@@ -1,11 +1,5 @@
 -- The names of a list in turn.
-use Rattle.std.proofs.Common.{◌≡◌, ℕ, Bool, true, false, not, List, [], ◌∷◌, Some, None, refl}
-use Rattle.std.proofs.lemmas.Bool.{not_from_true}
-use Rattle.site_image.specs.declared.site_error.SiteWhy.TheVariants.{Name, Twice}
-use Rattle.site_image.specs.Names.{is_name}
-use Rattle.site_image.specs.Files.{File, has_name}
-use Rattle.site_image.specs.Parts.{first_of}
-use Rattle.file_tree.specs.Packing.{listed_fault}
+use Rattle.file_tree.proofs.Prelude.{◌≡◌, ℕ, Bool, true, false, not, List, [], ◌∷◌, Some, None, refl, not_from_true, Name, Twice, is_name, File, has_name, first_of, listed_fault}
 
 second-row : (a b : Bool) → a ≡ false → b ≡ true → first_of ((a, Name) ∷ (b, Twice) ∷ []) ≡ Some Twice
 second-row true b p q = absurd cc

@@ -1,19 +1,5 @@
 -- What was read of a file so far is a prefix of it.
-use Rattle.std.proofs.Common.{◌≡◌, ℕ, ◌+◌, ◌<◌, ◌≤◌, List, [], ◌++◌, length, take, drop, ltb, Option, Some, None, Result, Ok, Err, refl, sym, ap, subst, inl, inr, ◌∙◌, arith}
-use Rattle.std.specs.Prelude.{⊤, IsSomeAnd}
-use Rattle.std.proofs.lemmas.Bool.{cases_lt, lt-ltb}
-use Rattle.std.proofs.lemmas.List.{take-append-drop, take-take, drop-take, take_all, length-take, length-take-le, take-append-le, length-append}
-use Rattle.uip_edge.specs.Shelving.{Files, ReadsFile, Reads}
-use Rattle.site_image.specs.declared.TheConstants.{LONGEST_IMAGE}
-use Rattle.file_tree.specs.declared.load_fault.LoadFault.{LoadFault}
-use Rattle.file_tree.specs.declared.load_fault.LoadFault.TheVariants.{Shelf, Bad, NoMemory}
-use Rattle.file_tree.specs.Loading.{HoldsFile, Loads}
-use Rattle.file_tree.specs.Answers.{Gives}
-use Rattle.site_image.specs.declared.TheConstants.{MOST_FILES}
-use Rattle.site_image.specs.declared.site_error.SiteError.{SiteError}
-use Rattle.site_image.specs.declared.site_error.SiteWhy.TheVariants.{TooLong, Cut, TooMany}
-use Rattle.site_image.specs.Files.{File}
-use Rattle.site_image.specs.Faults.{◌>>=◌, refuse, fault, version_of, file_count, image_head, read_image}
+use Rattle.file_tree.proofs.Prelude.{◌≡◌, ℕ, ◌+◌, ◌<◌, ◌≤◌, List, [], ◌++◌, length, take, drop, ltb, Option, Some, None, Result, Ok, Err, refl, sym, ap, subst, inl, inr, ◌∙◌, arith, ⊤, IsSomeAnd, cases_lt, lt-ltb, take-append-drop, take-take, drop-take, take_all, length-take, length-take-le, take-append-le, length-append, Files, ReadsFile, Reads, LONGEST_IMAGE, LoadFault, Shelf, Bad, NoMemory, HoldsFile, Loads, Gives, MOST_FILES, SiteError, TooLong, Cut, TooMany, File, ◌>>=◌, refuse, fault, version_of, file_count, image_head, read_image}
 use Rattle.file_tree.proofs.ReadLemmas.{read-at-head}
 
 abbrev pub IsPrefixIn : Option (List ℕ) → List ℕ → Type 0

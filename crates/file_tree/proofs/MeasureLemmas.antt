@@ -1,17 +1,5 @@
 -- The greatest lengths that were stored in the places so far.
-use Rattle.std.proofs.Common.{◌≡◌, ◌≢◌, ℕ, ◌+◌, ◌<◌, ◌≤◌, List, [], ◌∷◌, length, get_or, drop, set, map, Option, Some, None, Ok, Err, refl, sym, ap, subst, inl, inr, ◌∙◌, arith}
-use Rattle.std.specs.Prelude.{slice_get}
-use Rattle.std.proofs.lemmas.Bool.{cases_eq}
-use Rattle.std.proofs.lemmas.List.{map-set, set-get_or, get_or-map, length-map, length-set, get_or-set_same, get_or-set_other, drop_more, drop_all}
-use Rattle.std.proofs.lemmas.Option.{slice_get-get_or, slice_get_within, get_or_from_slice_get}
-use Rattle.site_image.specs.declared.site_error.SiteWhy.{SiteWhy}
-use Rattle.site_image.specs.declared.place.Place.{Place}
-use Rattle.site_image.specs.Files.{File}
-use Rattle.site_image.specs.Pages.{page_length, script_fault}
-use Rattle.site_image.specs.Faults.{unless, fault, scripts}
-use Rattle.site_image.specs.Places.{IsWithin, file_in, files_in}
-use Rattle.file_tree.specs.declared.file_id.FileId.{FileId}
-use Rattle.file_tree.specs.Index.{IsOrder, IsIndex, AreMeasured}
+use Rattle.file_tree.proofs.Prelude.{◌≡◌, ◌≢◌, ℕ, ◌+◌, ◌<◌, ◌≤◌, List, [], ◌∷◌, length, get_or, drop, set, map, Option, Some, None, Ok, Err, refl, sym, ap, subst, inl, inr, ◌∙◌, arith, slice_get, cases_eq, map-set, set-get_or, get_or-map, length-map, length-set, get_or-set_same, get_or-set_other, drop_more, drop_all, slice_get-get_or, slice_get_within, get_or_from_slice_get, SiteWhy, Place, File, page_length, script_fault, unless, fault, scripts, IsWithin, file_in, files_in, FileId, IsOrder, IsIndex, AreMeasured}
 
 -- the places up to an index hold their lengths, and the scripts up to there have no fault
 pub record Measuring (image : List ℕ) (start places : List Place) (order : List FileId) (index : ℕ) : Type 0 where

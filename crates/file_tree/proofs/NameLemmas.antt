@@ -1,16 +1,5 @@
 -- The order of names, and the name of a file by its place in an image.
-use Rattle.std.proofs.Common.{◌≡◌, ℕ, ◌<◌, List, [], length, get_or, ◌∷◌, refl, sym, ap, subst, ◌∙◌}
-use Rattle.std.specs.Ordering.{nat_cmp, ordering_reverse, ordering_then, MatchOrdering}
-use Rattle.std.specs.Cmp.Lexicographic.{slice_cmp}
-use Rattle.std.specs.declared.cmp.Ordering.{Ordering}
-use Rattle.std.specs.declared.cmp.Ordering.TheVariants.{Less, Equal, Greater}
-use Rattle.std.proofs.lemmas.Cmp.{nat_list_cmp_total, tied_itself, ranked}
-use Rattle.std.proofs.lemmas.List.{get_or-map}
-use Rattle.std.proofs.lemmas.Option.{slice_get_read}
-use Rattle.site_image.specs.declared.place.Place.{Place}
-use Rattle.site_image.specs.Files.{File}
-use Rattle.site_image.specs.Places.{IsWithin, file_in, files_in}
-use Rattle.file_tree.specs.Index.{IsBefore, name_of, AreWithin}
+use Rattle.file_tree.proofs.Prelude.{◌≡◌, ℕ, ◌<◌, List, [], length, get_or, ◌∷◌, refl, sym, ap, subst, ◌∙◌, nat_cmp, ordering_reverse, ordering_then, MatchOrdering, slice_cmp, Ordering, Less, Equal, Greater, nat_list_cmp_total, tied_itself, ranked, get_or-map, slice_get_read, Place, File, IsWithin, file_in, files_in, IsBefore, name_of, AreWithin}
 
 pub before-trans : (a b c : List ℕ) → IsBefore a b → IsBefore b c → IsBefore a c
 before-trans a b c p q = nat_list_cmp_total.trans a b c p q

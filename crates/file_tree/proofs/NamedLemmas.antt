@@ -1,17 +1,5 @@
 -- The file of a name, by its id.
-use Rattle.std.proofs.Common.{◌≡◌, ℕ, zero, suc, ◌+◌, ◌-◌, ◌<◌, ◌≤◌, false, List, [], ◌∷◌, length, get_or, drop, Some, None, refl, sym, ap, inl, inr, ◌∙◌, arith, find}
-use Rattle.std.specs.Prelude.{slice_range, slice_get}
-use Rattle.std.specs.Str.{bytes_eq}
-use Rattle.std.proofs.lemmas.Bool.{cases_order, or_parts, false_from_ne_true, cond-true, cond-false}
-use Rattle.std.proofs.lemmas.List.{length-take, length-drop, length-map, get_or-map}
-use Rattle.std.proofs.lemmas.Option.{slice_get-get_or}
-use Rattle.std.proofs.lemmas.Slice.Eq.{bytes_eq-Decides}
-use Rattle.std.specs.Option.{option_map_or}
-use Rattle.site_image.specs.declared.place.Place.{Place}
-use Rattle.site_image.specs.Files.{File, has_name, file_named}
-use Rattle.site_image.specs.Places.{IsWithin, file_in, files_in}
-use Rattle.file_tree.specs.declared.file_id.FileId.{FileId}
-use Rattle.file_tree.specs.Index.{name_of, id_at, name_at, AreWithin, IsOrder, IsIndex}
+use Rattle.file_tree.proofs.Prelude.{◌≡◌, ℕ, zero, suc, ◌+◌, ◌-◌, ◌<◌, ◌≤◌, false, List, [], ◌∷◌, length, get_or, drop, Some, None, refl, sym, ap, inl, inr, ◌∙◌, arith, find, slice_range, slice_get, bytes_eq, cases_order, or_parts, false_from_ne_true, cond-true, cond-false, length-take, length-drop, length-map, get_or-map, slice_get-get_or, bytes_eq-Decides, option_map_or, Place, File, has_name, file_named, IsWithin, file_in, files_in, FileId, name_of, id_at, name_at, AreWithin, IsOrder, IsIndex}
 use Rattle.file_tree.proofs.NameLemmas.{not-before-itself}
 
 -- no two files have one name

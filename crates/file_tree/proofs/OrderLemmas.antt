@@ -1,14 +1,5 @@
 -- The order of names: which names are in it, and a further name at its rank.
-use Rattle.std.proofs.Common.{◌≡◌, ℕ, zero, suc, ◌+◌, ◌-◌, ◌<◌, ◌≤◌, true, false, List, [], ◌∷◌, ◌++◌, length, refl, sym, ap, subst, inl, inr, ◌∙◌, arith}
-use Rattle.std.specs.List.{insert}
-use Rattle.std.specs.Str.{bytes_eq}
-use Rattle.std.proofs.lemmas.Bool.{cases_lt, cases_eq, or_cases, or_left, or_right, true≢false, false_from_ne_true}
-use Rattle.std.proofs.lemmas.List.{get_or_append_left, get_or_push, length_push}
-use Rattle.std.proofs.lemmas.List.Edits.{length-insert, get_or-insert_below, get_or-insert_at, get_or-insert_above}
-use Rattle.std.proofs.lemmas.Slice.Eq.{bytes_eq-Decides}
-use Rattle.site_image.specs.Files.{File, has_name}
-use Rattle.file_tree.specs.declared.file_id.FileId.{FileId}
-use Rattle.file_tree.specs.Index.{IsBefore, name_of, id_at, name_at, IsOrder, IsSlot}
+use Rattle.file_tree.proofs.Prelude.{◌≡◌, ℕ, zero, suc, ◌+◌, ◌-◌, ◌<◌, ◌≤◌, true, false, List, [], ◌∷◌, ◌++◌, length, refl, sym, ap, subst, inl, inr, ◌∙◌, arith, insert, bytes_eq, cases_lt, cases_eq, or_cases, or_left, or_right, true≢false, false_from_ne_true, get_or_append_left, get_or_push, length_push, length-insert, get_or-insert_below, get_or-insert_at, get_or-insert_above, bytes_eq-Decides, File, has_name, FileId, IsBefore, name_of, id_at, name_at, IsOrder, IsSlot}
 use Rattle.file_tree.proofs.NameLemmas.{not-before-itself}
 
 -- ---- the names of files

@@ -1,22 +1,5 @@
 -- The files of a list that were appended so far.
-use Rattle.std.proofs.Common.{◌≡◌, ℕ, ◌+◌, ◌<◌, ◌≤◌, List, [], ◌∷◌, ◌++◌, length, get_or, take, drop, Option, Some, None, Result, Ok, Err, refl, sym, ap, subst, ◌∙◌, append_assoc, arith}
-use Rattle.std.specs.Prelude.{⊤}
-use Rattle.std.specs.List.{flat_map}
-use Rattle.std.specs.Int.{w16, to_be_bytes}
-use Rattle.std.proofs.lemmas.List.{length-append, length-map, take_more, drop_more, drop_all, take_all, append-nil}
-use Rattle.site_image.specs.declared.TheConstants.{LONGEST_IMAGE}
-use Rattle.site_image.specs.declared.place.Place.{Place}
-use Rattle.site_image.specs.declared.site_error.SiteWhy.{SiteWhy}
-use Rattle.site_image.specs.declared.site_error.SiteError.{SiteError}
-use Rattle.site_image.specs.declared.version.Version.TheVariants.{One}
-use Rattle.site_image.specs.Files.{File}
-use Rattle.site_image.specs.Grammar.{magic, entry, image}
-use Rattle.site_image.specs.Faults.{unless}
-use Rattle.site_image.specs.Places.{files_in}
-use Rattle.file_tree.specs.declared.file_id.FileId.{FileId}
-use Rattle.file_tree.specs.Index.{IsIndex}
-use Rattle.uip_edge.specs.Shelving.{HeldFile}
-use Rattle.file_tree.specs.Packing.{file_of, listed, listed_fault, named}
+use Rattle.file_tree.proofs.Prelude.{◌≡◌, ℕ, ◌+◌, ◌<◌, ◌≤◌, List, [], ◌∷◌, ◌++◌, length, get_or, take, drop, Option, Some, None, Result, Ok, Err, refl, sym, ap, subst, ◌∙◌, append_assoc, arith, ⊤, flat_map, w16, to_be_bytes, length-append, length-map, take_more, drop_more, drop_all, take_all, append-nil, LONGEST_IMAGE, Place, SiteWhy, SiteError, One, File, magic, entry, image, unless, files_in, FileId, IsIndex, HeldFile, file_of, listed, listed_fault, named}
 use Rattle.file_tree.proofs.SizeLemmas.{entries-more, entries-le, image-size, listed-at}
 use Rattle.file_tree.proofs.TableLemmas.{table-empty}
 

@@ -1,24 +1,5 @@
 -- What packing a list gives, by its parts in turn.
-use Rattle.std.proofs.Common.{◌≡◌, ℕ, ◌+◌, ◌<◌, ◌≤◌, true, false, not, ltb, List, [], ◌∷◌, ◌++◌, length, Option, Some, None, Result, Ok, Err, refl, sym, ap, ◌∙◌}
-use Rattle.std.specs.Prelude.{⊤}
-use Rattle.std.proofs.lemmas.Bool.{lt-ltb, le-ltb, not-false}
-use Rattle.site_image.specs.declared.TheConstants.{LONGEST_IMAGE, MOST_FILES}
-use Rattle.site_image.specs.declared.site_error.SiteError.{SiteError}
-use Rattle.site_image.specs.declared.site_error.SiteWhy.TheVariants.{TooLong, TooMany}
-use Rattle.site_image.specs.declared.version.Version.TheVariants.{One}
-use Rattle.site_image.specs.Files.{File}
-use Rattle.site_image.specs.Grammar.{image}
-use Rattle.site_image.specs.Faults.{◌>>=◌, refuse, fault, scripts}
-use Rattle.site_image.specs.declared.site_error.SiteWhy.{SiteWhy}
-use Rattle.site_image.specs.declared.site_error.SiteWhy.TheVariants.{Name, Twice}
-use Rattle.site_image.specs.Names.{is_name}
-use Rattle.site_image.specs.Files.{has_name}
-use Rattle.site_image.specs.Faults.{unless, read_image}
-use Rattle.site_image.proofs.Rows.{two-rows}
-use Rattle.site_image.proofs.EntryLaws.{AreFresh}
-use Rattle.site_image.proofs.ImageLaws.{fresh-again, scripts-sound}
-use Rattle.uip_edge.specs.Shelving.{HeldFile}
-use Rattle.file_tree.specs.Packing.{listed, listed_fault, named, packed}
+use Rattle.file_tree.proofs.Prelude.{◌≡◌, ℕ, ◌+◌, ◌<◌, ◌≤◌, true, false, not, ltb, List, [], ◌∷◌, ◌++◌, length, Option, Some, None, Result, Ok, Err, refl, sym, ap, ◌∙◌, ⊤, lt-ltb, le-ltb, not-false, LONGEST_IMAGE, MOST_FILES, SiteError, TooLong, TooMany, One, File, image, ◌>>=◌, refuse, fault, scripts, SiteWhy, Name, Twice, is_name, has_name, unless, read_image, two-rows, AreFresh, fresh-again, scripts-sound, HeldFile, listed, listed_fault, named, packed}
 use Rattle.file_tree.proofs.PackLemmas.{fine}
 
 -- the files have no content type of their own

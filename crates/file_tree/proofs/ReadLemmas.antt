@@ -1,16 +1,5 @@
 -- What reading an image gives, by its parts in turn.
-use Rattle.std.proofs.Common.{◌≡◌, ℕ, ◌<◌, ◌≤◌, List, [], ◌∷◌, length, drop, ltb, Result, Ok, Err, sym, ap, subst, ◌∙◌, arith}
-use Rattle.std.specs.Prelude.{⊤, IfOk}
-use Rattle.std.proofs.lemmas.Bool.{lt-ltb, le-ltb}
-use Rattle.site_image.specs.declared.site_error.SiteError.{SiteError}
-use Rattle.site_image.specs.declared.site_error.SiteWhy.TheVariants.{Rest}
-use Rattle.site_image.specs.declared.version.Version.{Version}
-use Rattle.site_image.specs.Files.{File}
-use Rattle.site_image.specs.Faults.{◌>>=◌, refuse, fault, image_head, entries, scripts, read_image}
-use Rattle.file_tree.specs.declared.load_fault.LoadFault.{LoadFault}
-use Rattle.file_tree.specs.declared.load_fault.LoadFault.TheVariants.{Shelf, Bad, NoMemory}
-use Rattle.file_tree.specs.Answers.{Fails, Gives}
-use Rattle.file_tree.specs.Site.{image_files}
+use Rattle.file_tree.proofs.Prelude.{◌≡◌, ℕ, ◌<◌, ◌≤◌, List, [], ◌∷◌, length, drop, ltb, Result, Ok, Err, sym, ap, subst, ◌∙◌, arith, ⊤, IfOk, lt-ltb, le-ltb, SiteError, Rest, Version, File, ◌>>=◌, refuse, fault, image_head, entries, scripts, read_image, LoadFault, Shelf, Bad, NoMemory, Fails, Gives, image_files}
 
 abbrev after_rest : List File × List ℕ → Result (List File) SiteError
 after_rest read = scripts read.0 0 read.0 >>= λ _. Ok read.0

@@ -1,15 +1,5 @@
 -- What is left of a script: the length of its pieces so far, and whether one of them names no file.
-use Rattle.std.proofs.Common.{◌≡◌, ℕ, ◌+◌, ◌*◌, ◌<◌, ◌≤◌, Bool, true, false, ◌||◌, List, [], ◌∷◌, refl, ap, inl, ◌∙◌, arith}
-use Rattle.std.specs.Prelude.{sum_by}
-use Rattle.std.specs.List.{list_any}
-use Rattle.std.proofs.lemmas.Bool.{or_left}
-use Rattle.std.proofs.lemmas.List.Sums.{sum_by-cons}
-use Rattle.script_lang.specs.Calling.{Calling}
-use Rattle.script_lang.specs.declared.piece.FoundOf.{FoundOf}
-use Rattle.script_lang.specs.Directives.{IsPlace}
-use Rattle.script_lang.specs.Pieces.{pieces_by}
-use Rattle.site_image.specs.Files.{File}
-use Rattle.site_image.specs.Pages.{misses, piece_length_by}
+use Rattle.file_tree.proofs.Prelude.{◌≡◌, ℕ, ◌+◌, ◌*◌, ◌<◌, ◌≤◌, Bool, true, false, ◌||◌, List, [], ◌∷◌, refl, ap, inl, ◌∙◌, arith, sum_by, list_any, or_left, sum_by-cons, Calling, FoundOf, IsPlace, pieces_by, File, misses, piece_length_by}
 
 abbrev pub missing : {F : Type 0} → List File → List ℕ → FoundOf F → Bool
 missing files script found = misses files script found.piece

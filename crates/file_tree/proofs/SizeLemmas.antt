@@ -1,14 +1,6 @@
 -- How long an image is, entry after entry.
-use Rattle.std.proofs.Common.{◌≡◌, ℕ, ◌+◌, ◌<◌, ◌≤◌, List, [], ◌∷◌, ◌++◌, length, get_or, take, drop, refl, sym, ap, ◌∙◌, arith}
-use Rattle.std.specs.List.{flat_map}
-use Rattle.std.specs.Int.{w16, w32, to_be_bytes}
-use Rattle.std.proofs.lemmas.List.{length-append, take_more, take-append-drop, append-nil, append_assoc, get_or-map, length-map}
-use Rattle.site_image.specs.declared.version.Version.{Version}
-use Rattle.site_image.specs.declared.version.Version.TheVariants.{One, Two}
-use Rattle.site_image.specs.Files.{File}
-use Rattle.site_image.specs.Grammar.{magic, short_text, long_text, entry, image}
-use Rattle.uip_edge.specs.Shelving.{HeldFile}
-use Rattle.file_tree.specs.Packing.{file_of, listed}
+use Rattle.file_tree.proofs.Prelude.{◌≡◌, ℕ, ◌+◌, ◌<◌, ◌≤◌, List, [], ◌∷◌, ◌++◌, length, get_or, take, drop, refl, sym, ap, ◌∙◌, arith, flat_map, w16, w32, to_be_bytes, length-append, take_more, take-append-drop, append-nil, get_or-map, length-map, Version, One, Two, File, magic, short_text, long_text, entry, image, HeldFile, file_of, listed}
+use Rattle.std.proofs.lemmas.List.{append_assoc}
 
 flat-append : (version : Version) (xs ys : List File) → flat_map (entry version) (xs ++ ys) ≡ flat_map (entry version) xs ++ flat_map (entry version) ys
 flat-append version [] ys = refl

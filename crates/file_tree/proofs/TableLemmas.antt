@@ -1,18 +1,6 @@
 -- The entries that were read so far, one more, and all of them.
-use Rattle.std.proofs.Common.{◌≡◌, ℕ, suc, ◌+◌, ◌-◌, ◌<◌, ◌≤◌, List, [], ◌∷◌, ◌++◌, length, drop, Some, Ok, Err, refl, sym, ap, subst, inl, inr, ◌∙◌, arith}
-use Rattle.std.specs.List.{insert, slice_get}
-use Rattle.std.proofs.lemmas.Bool.{cases_lt}
-use Rattle.std.proofs.lemmas.List.{map_push, length-map, length_push, get_or_append_left, get_or_push}
-use Rattle.std.proofs.lemmas.Option.{slice_get-get_or, slice_get_within, get_or_from_slice_get}
-use Rattle.site_image.specs.declared.site_error.SiteWhy.{SiteWhy}
-use Rattle.site_image.specs.declared.place.Place.{Place}
-use Rattle.site_image.specs.declared.version.Version.{Version}
-use Rattle.site_image.specs.Files.{File}
-use Rattle.site_image.specs.Faults.{unless, fault, entry_fault, entry_file, after_entry, entries}
-use Rattle.site_image.specs.Places.{IsWithin, file_in, files_in}
-use Rattle.file_tree.specs.declared.file_id.FileId.{FileId}
-use Rattle.file_tree.specs.Index.{IsOrder, IsSlot, AreWithin, IsIndex}
-use Rattle.file_tree.specs.Reading.{IsEntry}
+use Rattle.file_tree.proofs.Prelude.{◌≡◌, ℕ, suc, ◌+◌, ◌-◌, ◌<◌, ◌≤◌, List, [], ◌∷◌, ◌++◌, length, drop, Some, Ok, Err, refl, sym, ap, subst, inl, inr, ◌∙◌, arith, insert, cases_lt, map_push, length-map, length_push, get_or_append_left, get_or_push, slice_get-get_or, slice_get_within, get_or_from_slice_get, SiteWhy, Place, Version, File, unless, fault, entry_fault, entry_file, after_entry, entries, IsWithin, file_in, files_in, FileId, IsOrder, IsSlot, AreWithin, IsIndex, IsEntry}
+use Rattle.std.specs.List.{slice_get}
 use Rattle.file_tree.proofs.OrderLemmas.{order-empty, order-insert}
 
 -- of n entries this many were read, and the next one begins there

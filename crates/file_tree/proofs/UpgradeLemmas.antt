@@ -1,30 +1,5 @@
 -- The files of an upgraded site that were appended so far, and the result of the whole.
-use Rattle.std.proofs.Common.{◌≡◌, ℕ, Bool, true, false, ◌+◌, ◌<◌, ◌≤◌, List, [], ◌∷◌, ◌++◌, length, get_or, take, Option, Some, None, Result, Ok, Err, refl, sym, ap, subst, ◌∙◌, append_assoc, arith}
-use Rattle.std.specs.Prelude.{⊤, All, IsTrue, slice_get, nat_lt, option_map}
-use Rattle.std.specs.List.{flat_map}
-use Rattle.std.specs.Int.{w16, to_be_bytes}
-use Rattle.std.proofs.lemmas.Bool.{lt-ltb, le-ltb, ltb-true}
-use Rattle.std.proofs.lemmas.List.{length-append, length-map, get_or-map, take_more, take_all, append-nil}
-use Rattle.std.proofs.lemmas.Option.{slice_get_within, get_or_from_slice_get, slice_get-map, same_Some}
-use Rattle.site_image.specs.declared.TheConstants.{LONGEST_IMAGE, MOST_FILES}
-use Rattle.site_image.specs.declared.place.Place.{Place}
-use Rattle.site_image.specs.declared.site_error.SiteWhy.{SiteWhy}
-use Rattle.site_image.specs.declared.site_error.SiteWhy.TheVariants.{TooLong}
-use Rattle.site_image.specs.declared.site_error.SiteError.{SiteError}
-use Rattle.site_image.specs.declared.version.Version.TheVariants.{Two}
-use Rattle.site_image.specs.Files.{File}
-use Rattle.site_image.specs.Names.{is_kind}
-use Rattle.site_image.specs.Grammar.{magic, entry, image}
-use Rattle.site_image.specs.Faults.{◌>>=◌, refuse, scripts, read_image}
-use Rattle.site_image.specs.Places.{files_in}
-use Rattle.site_image.proofs.ImageLaws.{image-again, scripts-sound}
-use Rattle.file_tree.specs.declared.file_id.FileId.{FileId}
-use Rattle.file_tree.specs.declared.load_fault.LoadFault.{LoadFault}
-use Rattle.file_tree.specs.declared.load_fault.LoadFault.TheVariants.{Shelf, Bad, NoMemory}
-use Rattle.file_tree.specs.Answers.{Fails}
-use Rattle.file_tree.specs.Index.{IsOrder, IsIndex, AreWithin, name_of, name_at, id_at, IsBefore}
-use Rattle.file_tree.specs.Site.{AreGood, AreApart}
-use Rattle.file_tree.specs.Upgrading.{KindContent, retyped, upgraded, second_image}
+use Rattle.file_tree.proofs.Prelude.{◌≡◌, ℕ, Bool, true, false, ◌+◌, ◌<◌, ◌≤◌, List, [], ◌∷◌, ◌++◌, length, get_or, take, Option, Some, None, Result, Ok, Err, refl, sym, ap, subst, ◌∙◌, append_assoc, arith, ⊤, All, IsTrue, slice_get, nat_lt, option_map, flat_map, w16, to_be_bytes, lt-ltb, le-ltb, ltb-true, length-append, length-map, get_or-map, take_more, take_all, append-nil, slice_get_within, get_or_from_slice_get, slice_get-map, same_Some, LONGEST_IMAGE, MOST_FILES, Place, SiteWhy, TooLong, SiteError, Two, File, is_kind, magic, entry, image, ◌>>=◌, refuse, scripts, read_image, files_in, image-again, scripts-sound, FileId, LoadFault, Shelf, Bad, NoMemory, Fails, IsOrder, IsIndex, AreWithin, name_of, name_at, id_at, IsBefore, AreGood, AreApart, KindContent, retyped, upgraded, second_image}
 use Rattle.file_tree.proofs.SizeLemmas.{entries-more, entries-le, image-size}
 use Rattle.file_tree.proofs.TableLemmas.{table-empty}
 use Rattle.file_tree.proofs.GoodLemmas.{upgraded-good}

@@ -1,14 +1,5 @@
 -- The file of an entry that was appended to an image, at its place.
-use Rattle.std.proofs.Common.{◌≡◌, ℕ, ◌+◌, ◌-◌, ◌≤◌, List, [], ◌∷◌, ◌++◌, length, take, drop, refl, sym, ap, ◌∙◌, append_assoc, arith}
-use Rattle.std.specs.Prelude.{slice_range}
-use Rattle.std.specs.Int.{w32, to_be_bytes}
-use Rattle.std.proofs.lemmas.List.{take_at, drop_at, append-nil, length-append}
-use Rattle.site_image.specs.declared.version.Version.{Version}
-use Rattle.site_image.specs.declared.version.Version.TheVariants.{One, Two}
-use Rattle.site_image.specs.Files.{File}
-use Rattle.site_image.specs.Grammar.{short_text, long_text, entry, IsKindIn}
-use Rattle.site_image.specs.Places.{IsWithin, file_in}
-use Rattle.file_tree.specs.Packing.{place_after}
+use Rattle.file_tree.proofs.Prelude.{◌≡◌, ℕ, ◌+◌, ◌-◌, ◌≤◌, List, [], ◌∷◌, ◌++◌, length, take, drop, refl, sym, ap, ◌∙◌, append_assoc, arith, slice_range, w32, to_be_bytes, take_at, drop_at, append-nil, length-append, Version, One, Two, File, short_text, long_text, entry, IsKindIn, IsWithin, file_in, place_after}
 
 -- a part of a list by what is before it and after it
 part-at : (xs before part after : List ℕ) (at len : ℕ) → xs ≡ before ++ (part ++ after) → at ≡ length before → len ≡ length part → slice_range xs at (at + len) ≡ part

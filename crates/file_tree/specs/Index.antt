@@ -5,9 +5,7 @@ use Rattle.std.specs.Ordering.{nat_cmp}
 use Rattle.std.specs.Cmp.Lexicographic.{slice_cmp}
 use Rattle.std.specs.declared.cmp.Ordering.TheVariants.{Less}
 use Rattle.site_image.specs.declared.place.Place.{Place}
-use Rattle.site_image.specs.Files.{File}
-use Rattle.site_image.specs.Pages.{page_length}
-use Rattle.site_image.specs.Places.{IsWithin, file_in, files_in}
+use Rattle.site_image.specs.Prelude.{File, page_length, IsWithin, file_in, files_in}
 use Rattle.file_tree.specs.declared.file_id.FileId.{FileId}
 
 -- one name is before another in the order of their bytes

@@ -6,3 +6,4 @@ pub mod Loading
 pub mod Packing
 pub mod Upgrading
 pub mod Opening
+pub mod Prelude

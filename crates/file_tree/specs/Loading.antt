@@ -1,9 +1,7 @@
 -- What is loaded from a shelf, and when that may fail.
 use Rattle.std.specs.Prelude.{◌≡◌, ◌≤◌, ◌⊎◌, ℕ, List, Option, None, Some, IsSomeAnd, Result, Ok, Err, ⊤}
-use Rattle.site_image.specs.Files.{File}
-use Rattle.site_image.specs.Faults.{read_image}
-use Rattle.uip_edge.specs.Causes.{Rose}
-use Rattle.uip_edge.specs.Shelving.{Files, IsMissing}
+use Rattle.site_image.specs.Prelude.{File, read_image}
+use Rattle.uip_edge.specs.Prelude.{Rose, Files, IsMissing}
 use Rattle.file_tree.specs.declared.load_fault.LoadFault.{LoadFault}
 use Rattle.file_tree.specs.declared.load_fault.LoadFault.TheVariants.{Shelf, Bad, NoMemory}
 

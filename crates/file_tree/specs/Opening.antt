@@ -1,11 +1,9 @@
 -- Which site is opened under a name, and when that may fail.
 use Rattle.std.specs.Prelude.{◌≡◌, ◌≤◌, ◌⊎◌, ℕ, List, [], codes, if◌then◌else◌, Option, None, Some, option_map, Result, Ok, Err, ⊤}
 use Rattle.std.specs.Str.{bytes_eq}
-use Rattle.uip_edge.specs.Causes.{Rose}
-use Rattle.uip_edge.specs.Shelving.{Files}
+use Rattle.uip_edge.specs.Prelude.{Rose, Files}
 use Rattle.site_image.specs.declared.site_error.SiteError.{SiteError}
-use Rattle.site_image.specs.Files.{File}
-use Rattle.site_image.specs.Faults.{read_image}
+use Rattle.site_image.specs.Prelude.{File, read_image}
 use Rattle.file_tree.specs.declared.load_fault.LoadFault.{LoadFault}
 use Rattle.file_tree.specs.declared.load_fault.LoadFault.TheVariants.{Shelf, Bad, NoMemory}
 use Rattle.file_tree.specs.Site.{SiteContent, files_of}

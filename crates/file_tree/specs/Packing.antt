@@ -1,6 +1,6 @@
 -- Packing a list of files: its image, or its first fault; and the place of an entry that is written.
 use Rattle.std.specs.Prelude.{ℕ, ◌+◌, not, ⊤, List, [], ◌∷◌, ◌++◌, length, map, nat_lt, Option, Result, Ok}
-use Rattle.uip_edge.specs.Shelving.{HeldFile}
+use Rattle.uip_edge.specs.Prelude.{HeldFile}
 use Rattle.site_image.specs.declared.TheConstants.{LONGEST_IMAGE, MOST_FILES}
 use Rattle.site_image.specs.declared.place.Place.{Place}
 use Rattle.site_image.specs.declared.site_error.SiteWhy.{SiteWhy}
@@ -8,11 +8,7 @@ use Rattle.site_image.specs.declared.site_error.SiteWhy.TheVariants.{TooLong, To
 use Rattle.site_image.specs.declared.site_error.SiteError.{SiteError}
 use Rattle.site_image.specs.declared.version.Version.{Version}
 use Rattle.site_image.specs.declared.version.Version.TheVariants.{One, Two}
-use Rattle.site_image.specs.Names.{is_name}
-use Rattle.site_image.specs.Files.{File, has_name}
-use Rattle.site_image.specs.Grammar.{image}
-use Rattle.site_image.specs.Parts.{first_of}
-use Rattle.site_image.specs.Faults.{◌>>=◌, refuse, unless, scripts}
+use Rattle.site_image.specs.Prelude.{is_name, File, has_name, image, first_of, ◌>>=◌, refuse, unless, scripts}
 
 -- a file without a content type of its own
 abbrev pub file_of : List ℕ → List ℕ → File

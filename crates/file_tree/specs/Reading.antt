@@ -3,9 +3,7 @@ use Rattle.std.specs.Prelude.{◌≡◌, ◌≤◌, ℕ, List, drop, length, Non
 use Rattle.site_image.specs.declared.part.Part.{Part}
 use Rattle.site_image.specs.declared.place.Place.{Place}
 use Rattle.site_image.specs.declared.version.Version.{Version}
-use Rattle.site_image.specs.Files.{File}
-use Rattle.site_image.specs.Faults.{entry_fault, entry_file, after_entry}
-use Rattle.site_image.specs.Places.{IsWithin, file_in}
+use Rattle.site_image.specs.Prelude.{File, entry_fault, entry_file, after_entry, IsWithin, file_in}
 use Rattle.file_tree.specs.declared.file_id.FileId.{FileId}
 use Rattle.file_tree.specs.Index.{IsSlot}
 

@@ -1,14 +1,10 @@
 -- A site, and the files that it represents.
 use Rattle.std.specs.Prelude.{◌≡◌, ◌≤◌, ℕ, List, [], ◌∷◌, length, slice_get, IsTrue, Some, None, Result, Ok}
-use Rattle.script_lang.specs.Calling.{Calling}
+use Rattle.script_lang.specs.Prelude.{Calling}
 use Rattle.site_image.specs.declared.TheConstants.{LONGEST_IMAGE, MOST_FILES}
 use Rattle.site_image.specs.declared.place.Place.{Place}
 use Rattle.site_image.specs.declared.site_error.SiteError.{SiteError}
-use Rattle.site_image.specs.Names.{is_name, is_kind}
-use Rattle.site_image.specs.Files.{File}
-use Rattle.site_image.specs.Pages.{script_fault_by}
-use Rattle.site_image.specs.Faults.{read_image}
-use Rattle.site_image.specs.Places.{files_in}
+use Rattle.site_image.specs.Prelude.{is_name, is_kind, File, script_fault_by, read_image, files_in}
 use Rattle.file_tree.specs.declared.file_id.FileId.{FileId}
 use Rattle.file_tree.specs.Index.{IsIndex, AreMeasured}
 

@@ -5,9 +5,7 @@ use Rattle.site_image.specs.declared.TheConstants.{LONGEST_IMAGE}
 use Rattle.site_image.specs.declared.site_error.SiteWhy.TheVariants.{TooLong}
 use Rattle.site_image.specs.declared.site_error.SiteError.{SiteError}
 use Rattle.site_image.specs.declared.version.Version.TheVariants.{Two}
-use Rattle.site_image.specs.Files.{File, kind_of}
-use Rattle.site_image.specs.Grammar.{image}
-use Rattle.site_image.specs.Faults.{◌>>=◌, refuse, scripts}
+use Rattle.site_image.specs.Prelude.{File, kind_of, image, ◌>>=◌, refuse, scripts}
 
 -- a word that gives a file its content type
 pub record KindContent : Type 0 where

@@ -1,9 +1,8 @@
 //! Finds a file by its name, by binary search in the order of the names.
 
 ghost use Rattle.std.specs.Prelude.{◌≡◌, ◌<◌, Some, length, is_some, option_and_then, option_map, slice_get, IfOk, IfErr, IfSome};
-ghost use Rattle.site_image.specs.Files.{file_named, has_name};
-ghost use Rattle.site_image.specs.Places.{files_in};
-ghost use Rattle.file_tree.specs.Index.{AreWithin, IsOrder, IsSlot, IsIndex, name_of, name_at};
+ghost use Rattle.site_image.specs.Prelude.{file_named, has_name, files_in};
+ghost use Rattle.file_tree.specs.Prelude.{AreWithin, IsOrder, IsSlot, IsIndex, name_of, name_at};
 
 use crate::file_id::FileId;
 use site_image::Place;

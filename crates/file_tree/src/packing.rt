@@ -4,10 +4,8 @@ ghost use Rattle.std.specs.Prelude.{◌≡◌, ◌+◌, ◌≤◌, ◌<◌, ◌+
 ghost use Rattle.std.specs.Int.{w16, to_be_bytes};
 ghost use Rattle.site_image.specs.declared.TheConstants.{LONGEST_IMAGE, MOST_FILES};
 ghost use Rattle.site_image.specs.declared.version.Version.TheVariants.{One};
-ghost use Rattle.site_image.specs.Names.{is_name};
+ghost use Rattle.site_image.specs.Prelude.{is_name, unless, read_image, files_in};
 ghost use Rattle.site_image.specs.Grammar.{entry as written, image, magic};
-ghost use Rattle.site_image.specs.Faults.{unless, read_image};
-ghost use Rattle.site_image.specs.Places.{files_in};
 ghost use Rattle.file_tree.specs.Answers.{Gives};
 ghost use Rattle.file_tree.specs.Index.{IsSlot, IsIndex};
 ghost use Rattle.file_tree.specs.Packing.{file_of, listed, listed_fault, named, packed};

@@ -3,14 +3,10 @@
 ghost use Rattle.std.specs.Prelude.{◌≡◌, ◌≤◌, ◌<◌, ◌+◌, ◌*◌, ◌↔◌, true, false, [], length, IfOk, IfErr, OnOk, IfSome, IsTrue, MatchOption, Some, None, sum_by, slice_range};
 ghost use Rattle.std.specs.List.{list_any};
 ghost use Rattle.std.specs.Option.{option_map_or};
-ghost use Rattle.script_lang.specs.Pieces.{pieces_by, LiesWithin};
+ghost use Rattle.script_lang.specs.Prelude.{pieces_by, LiesWithin};
 ghost use Rattle.site_image.specs.declared.TheConstants.{LONGEST_IMAGE, MOST_FILES};
-ghost use Rattle.site_image.specs.Faults.{scripts};
-ghost use Rattle.site_image.specs.Files.{has_name, file_named, kind_of};
-ghost use Rattle.site_image.specs.Pages.{misses, piece_length_by, page_length_by, script_fault_by};
-ghost use Rattle.site_image.specs.Places.{IsWithin, file_in, files_in};
-ghost use Rattle.file_tree.specs.Index.{AreMeasured, IsIndex};
-ghost use Rattle.file_tree.specs.Site.{HasSoundScripts};
+ghost use Rattle.site_image.specs.Prelude.{scripts, has_name, file_named, kind_of, misses, piece_length_by, page_length_by, script_fault_by, IsWithin, file_in, files_in};
+ghost use Rattle.file_tree.specs.Prelude.{AreMeasured, IsIndex, HasSoundScripts};
 
 use crate::file_id::FileId;
 use crate::index::search;

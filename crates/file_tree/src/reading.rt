@@ -2,12 +2,8 @@
 
 ghost use Rattle.std.specs.Prelude.{◌≡◌, ◌+◌, ◌≤◌, ◌<◌, ◌^◌, [], drop, length, IfOk, IfErr, Some, Ok};
 ghost use Rattle.site_image.specs.declared.TheConstants.{LONGEST_IMAGE, MOST_FILES};
-ghost use Rattle.site_image.specs.Faults.{entry_fault, entries, read_image};
-ghost use Rattle.site_image.specs.Places.{files_in};
-ghost use Rattle.file_tree.specs.Answers.{Fails, Gives};
-ghost use Rattle.file_tree.specs.Index.{AreWithin, IsOrder, IsIndex};
-ghost use Rattle.file_tree.specs.Reading.{IsEntry, place_by};
-ghost use Rattle.file_tree.specs.Site.{IsLoaded};
+ghost use Rattle.site_image.specs.Prelude.{entry_fault, entries, read_image, files_in};
+ghost use Rattle.file_tree.specs.Prelude.{Fails, Gives, AreWithin, IsOrder, IsIndex, IsEntry, place_by, IsLoaded};
 
 use crate::entry_place::EntryPlace;
 use crate::file_id::FileId;

@@ -2,10 +2,7 @@
 
 ghost use Rattle.std.specs.Prelude.{◌≡◌, ◌<◌, ◌≤◌, ◌↔◌, [], List, Some, Ok, length, is_some, IfOk, IfSome, IsTrue, option_and_then, option_map, slice_get};
 ghost use Rattle.site_image.specs.declared.TheConstants.{MOST_FILES};
-ghost use Rattle.site_image.specs.Files.{File, file_named, kind_of, has_name};
-ghost use Rattle.site_image.specs.Grammar.{IsImage};
-ghost use Rattle.site_image.specs.Faults.{read_image};
-ghost use Rattle.site_image.specs.Pages.{page_length};
+ghost use Rattle.site_image.specs.Prelude.{File, file_named, kind_of, has_name, IsImage, read_image, page_length};
 ghost use Rattle.file_tree.specs.Answers.{Gives};
 ghost use Rattle.file_tree.specs.Loading.{Loads, HasLoadCause};
 ghost use Rattle.file_tree.specs.Opening.{Opens};

@@ -2,10 +2,8 @@
 
 ghost use Rattle.std.specs.Prelude.{◌≡◌, ◌+◌, ◌≤◌, ◌<◌, ◌++◌, length, IsTrue, IfOk, OnOk};
 ghost use Rattle.site_image.specs.declared.TheConstants.{LONGEST_IMAGE};
-ghost use Rattle.site_image.specs.Names.{is_name};
-ghost use Rattle.site_image.specs.Grammar.{entry, IsKindIn};
-ghost use Rattle.site_image.specs.Places.{IsWithin, file_in};
-ghost use Rattle.file_tree.specs.Packing.{place_after};
+ghost use Rattle.site_image.specs.Prelude.{is_name, entry, IsKindIn, IsWithin, file_in};
+ghost use Rattle.file_tree.specs.Prelude.{place_after};
 
 use site_image::{Place, Version, push_entry};
 use std::alloc::AllocError;

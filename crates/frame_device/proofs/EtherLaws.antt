@@ -1,26 +1,5 @@
 -- Frames of Ethernet: what brings them, and what they are beside those of a line.
-use Rattle.std.proofs.Math.Seq.{take-append_seam}
-use Rattle.std.proofs.Common.{◌⊎◌, inl, inr, ◌≡◌, ℕ, ◌+◌, ◌<◌, ◌==◌, ◌&&◌, Bool, true, false, if◌then◌else◌, nat_lt, List, [], ◌∷◌, ◌++◌, Option, None, Some, drop, length, map, take, refl, sym, ap, ◌∙◌, subst, arith, append-nil, length-append}
-use Rattle.std.specs.Prelude.{◌||◌, ⊤}
-use Rattle.std.specs.Str.{bytes_eq}
-use Rattle.app_events.specs.AppSpec.{AppSpec}
-use Rattle.uip_wire.specs.Addr.{address_at}
-use Rattle.uip_wire.specs.Fields.{word_at, word_bytes, written}
-use Rattle.uip_wire.specs.declared.addr.Addr.{Addr}
-use Rattle.uip_node.proofs.Basics.{choose}
-use Rattle.uip_node.specs.Edge.{reply_bytes}
-use Rattle.uip_node.specs.Events.{Reply}
-use Rattle.uip_node.specs.Events.Event.{Periodic}
-use Rattle.uip_node.specs.Node.{step}
-use Rattle.line_medium.specs.Media.{MediumInput, Datagram, Overlong, Own}
-use Rattle.serve_loop.specs.StationRuns.{StationEvent, OfMedium, OfNode, Station, station_after, output, output_of_event, reply_text}
-use Rattle.serve_loop.specs.LineStationEvents.{station_event_by}
-use Rattle.ethernet_arp.specs.EtherWay.{ether_text, ether_medium, is_taken, says_at}
-use Rattle.ethernet_arp.specs.Frames.{Host, arp_brings, arp_packet, broadcast, frame_brings, frame_with, framed, is_arp, is_arp_for, is_datagram, is_sendable, mac_at, no_mac, payload_brings, arp_reply, sender_of, wrapped, wrapped_to}
-use Rattle.ethernet_arp.specs.Learning.{Act, Asked, Pair, Replied, Ticked, known}
-use Rattle.frame_device.specs.FrameSpecs.{IsSilent, as_medium}
-use Rattle.frame_device.specs.FrameCalls.{CallsSlot, DoesNothing, FrameCall, InputsFrame, station_events_by}
-use Rattle.frame_device.specs.EtherFrames.{SentAsOnLine, ether_frames, on_line}
+use Rattle.frame_device.proofs.Prelude.{take-append_seam, ◌⊎◌, inl, inr, ◌≡◌, ℕ, ◌+◌, ◌<◌, ◌==◌, ◌&&◌, Bool, true, false, if◌then◌else◌, nat_lt, List, [], ◌∷◌, ◌++◌, Option, None, Some, drop, length, map, take, refl, sym, ap, ◌∙◌, subst, arith, append-nil, length-append, ◌||◌, ⊤, bytes_eq, AppSpec, address_at, word_at, word_bytes, written, Addr, choose, reply_bytes, Reply, Periodic, step, MediumInput, Datagram, Overlong, Own, StationEvent, OfMedium, OfNode, Station, station_after, output, output_of_event, reply_text, station_event_by, ether_text, ether_medium, is_taken, says_at, Host, arp_brings, arp_packet, broadcast, frame_brings, frame_with, framed, is_arp, is_arp_for, is_datagram, is_sendable, mac_at, no_mac, payload_brings, arp_reply, sender_of, wrapped, wrapped_to, Act, Asked, Pair, Replied, Ticked, known, IsSilent, as_medium, CallsSlot, DoesNothing, FrameCall, InputsFrame, station_events_by, SentAsOnLine, ether_frames, on_line}
 
 -- what was written in front is read
 pub prefix_of : (old part : List ℕ) → take (length part) (written old 0 part) ≡ part

@@ -1,23 +1,5 @@
 -- A call, at a station that the device represents.
-use Rattle.std.proofs.Common.{◌≡◌, ℕ, Bool, true, List, [], ◌∷◌, ◌++◌, Option, None, Some, map, refl, sym, ap, ◌∙◌, subst, append-nil, append_assoc, inl, inr}
-use Rattle.std.proofs.lemmas.Bool.{false≢true}
-use Rattle.std.specs.Option.{is_some}
-use Rattle.app_events.specs.AppSpec.{AppSpec}
-use Rattle.app_events.specs.declared.app.App.{Ghosts}
-use Rattle.packet_buffer.specs.Buffer.{Buffer, datagram_in}
-use Rattle.uip_wire.specs.declared.addr.Addr.{Addr}
-use Rattle.uip_node.specs.State.{Node}
-use Rattle.uip_node.specs.Edge.{event_of}
-use Rattle.uip_node.specs.Events.{Event, Reply}
-use Rattle.uip_node.specs.Node.{AbstractNode, step}
-use Rattle.uip_node.specs.Spoken.{IsSent}
-use Rattle.uip_node.specs.Represents.{Represents, Steps}
-use Rattle.line_medium.specs.Media.{MediumInput, Datagram, Own, MediumSpec, acts_among, all_said}
-use Rattle.serve_loop.specs.StationRuns.{StationEvent, OfMedium, OfNode, Station, station_after, station_after_all, output, reply_text}
-use Rattle.serve_loop.specs.LineStationEvents.{station_event_by}
-use Rattle.serve_loop.specs.Turns.{IsHere, IsNode}
-use Rattle.serve_loop.proofs.NodeLaws.{node_step}
-use Rattle.frame_device.specs.FrameSpecs.{FrameSpec, IsSilent, as_medium}
+use Rattle.frame_device.proofs.Prelude.{◌≡◌, ℕ, Bool, true, List, [], ◌∷◌, ◌++◌, Option, None, Some, map, refl, sym, ap, ◌∙◌, subst, append-nil, append_assoc, inl, inr, false≢true, is_some, AppSpec, Ghosts, Buffer, datagram_in, Addr, Node, event_of, Event, Reply, AbstractNode, step, IsSent, Represents, Steps, MediumInput, Datagram, Own, MediumSpec, acts_among, all_said, StationEvent, OfMedium, OfNode, Station, station_after, station_after_all, output, reply_text, station_event_by, IsHere, IsNode, node_step, FrameSpec, IsSilent, as_medium}
 
 -- what is written for what a call of the node has sent
 module _ {C : Type 0} (w : FrameSpec C) (acts : List C) (own : Addr) where

@@ -1,29 +1,5 @@
 -- Over Ethernet each frame with a datagram goes to the hardware address that its target taught last.
-use Rattle.std.proofs.Common.{◌≡◌, ℕ, ◌+◌, ◌&&◌, ◌||◌, ◌==◌, Bool, true, nat_lt, List, [], ◌∷◌, ◌++◌, Option, None, Some, length, drop, map, refl, sym, ap, ◌∙◌, subst, append-nil}
-use Rattle.std.specs.Str.{bytes_eq}
-use Rattle.app_events.specs.AppSpec.{AppSpec}
-use Rattle.uip_wire.specs.Addr.{address_at}
-use Rattle.uip_wire.specs.Fields.{word_at}
-use Rattle.uip_wire.specs.declared.addr.Addr.{Addr}
-use Rattle.uip_node.specs.Edge.{reply_bytes}
-use Rattle.uip_node.specs.Events.{Event, Reply}
-use Rattle.uip_node.specs.Node.{step}
-use Rattle.line_medium.specs.Media.{MediumInput}
-use Rattle.serve_loop.specs.StationRuns.{StationEvent, OfMedium, OfNode, Station, station_after, output, reply_text}
-use Rattle.serve_loop.specs.LineStationEvents.{station_event_by}
-use Rattle.ethernet_arp.specs.EtherWay.{is_taken}
-use Rattle.ethernet_arp.specs.Frames.{Host, arp_brings, arp_packet, broadcast, frame_brings, frame_with, is_arp, is_arp_for, is_datagram, is_sendable, mac_at, no_mac, payload_brings, sender_of, wrapped}
-use Rattle.ethernet_arp.specs.Learning.{Act, Asked, Replied, Ticked, known, last_learning}
-use Rattle.ethernet_arp.proofs.SendingLaws.{AllSound, IsActSound, kind_of, known_last, last_six, payload_of, sound_more, to_of}
-use Rattle.uip_node.proofs.Basics.{choose}
-use Rattle.uip_node.specs.Edge.{event_of}
-use Rattle.uip_node.specs.Events.Event.{Periodic}
-use Rattle.serve_loop.specs.StationRuns.{station_after_all}
-use Rattle.ethernet_arp.specs.Frames.{wrapped_to}
-use Rattle.frame_device.specs.FrameSpecs.{as_medium}
-use Rattle.frame_device.specs.FrameCalls.{CallsSlot, DoesNothing, FrameCall, FrameMove, Gives, InputsFrame, Makes, Writing, station_after_move, station_events_by}
-use Rattle.serve_loop.specs.LineOutput.{initial_station}
-use Rattle.frame_device.specs.EtherFrames.{AllHome, FramesGoHome, IsHome, ether_frames}
+use Rattle.frame_device.proofs.Prelude.{◌≡◌, ℕ, ◌+◌, ◌&&◌, ◌||◌, ◌==◌, Bool, true, nat_lt, List, [], ◌∷◌, ◌++◌, Option, None, Some, length, drop, map, refl, sym, ap, ◌∙◌, subst, append-nil, bytes_eq, AppSpec, address_at, word_at, Addr, reply_bytes, Event, Reply, step, MediumInput, StationEvent, OfMedium, OfNode, Station, station_after, output, reply_text, station_event_by, is_taken, Host, arp_brings, arp_packet, broadcast, frame_brings, frame_with, is_arp, is_arp_for, is_datagram, is_sendable, mac_at, no_mac, payload_brings, sender_of, wrapped, Act, Asked, Replied, Ticked, known, last_learning, AllSound, IsActSound, kind_of, known_last, last_six, payload_of, sound_more, to_of, choose, event_of, Periodic, station_after_all, wrapped_to, as_medium, CallsSlot, DoesNothing, FrameCall, FrameMove, Gives, InputsFrame, Makes, Writing, station_after_move, station_events_by, initial_station, AllHome, FramesGoHome, IsHome, ether_frames}
 
 -- ---- frames that are sent
 

@@ -1,36 +1,8 @@
 -- How the trace of a device on a link of frames conforms, move by move.
-use Rattle.std.specs.List.{All, flat_map}
-use Rattle.std.proofs.Common.{◌≡◌, ℕ, Bool, List, [], ◌∷◌, ◌++◌, map, refl, sym, ap, ◌∙◌, subst, append-nil, append_assoc}
-use Rattle.std.proofs.lemmas.List.Elements.{All-append, All-cons, All-head, All-nil, All-tail}
-use Rattle.app_events.specs.Pages.{IsAddr, IsPaged, IsU32, Pages}
-use Rattle.app_events.specs.AppSpec.{AppSpec}
-use Rattle.app_events.specs.declared.app.App.{Ghosts}
-use Rattle.uip_wire.specs.declared.addr.Addr.{Addr}
-use Rattle.uip_node.specs.Edge.{event_of}
-use Rattle.uip_node.specs.Events.{Event}
+use Rattle.frame_device.proofs.Prelude.{All, flat_map, ◌≡◌, ℕ, Bool, List, [], ◌∷◌, ◌++◌, map, refl, sym, ap, ◌∙◌, subst, append-nil, append_assoc, All-append, All-cons, All-head, All-nil, All-tail, IsAddr, IsPaged, IsU32, Pages, AppSpec, Ghosts, Addr, event_of, Event, HasBytes, AbstractNode, run, MediumInput, Datagram, Overlong, Own, MediumSpec, StationEvent, OfMedium, OfNode, Station, station_after, station_after_all, output, output_of_event, CarriesBytes, station_event_by, events_among, text_in, TraceConforms, at_every_port, TraceEntry, trace_of, IsOfLine, IsReadByPeer, of_bytes, of_overlong, of_call, every_step_of_pages, turn_events, DecodesBytes, FrameSpec, acts_before, as_medium, AnsweredFrame, AnswersAllFrames, CallsSlot, DoesNothing, FrameCall, FrameMove, Gives, InputsFrame, IsFreshFrameDevice, Makes, RepresentsStation, Writing, station_after_move, station_events_by, station_events_of_move, frame_moves_of, with_value, initial_station, AllHandOut, HandsOutFrame, IsFrameOfBytes, FramesConform, KeepsU32, MoveTrace, acts_in, FrameDevice}
 use Rattle.uip_node.specs.Events.Event.{Overlong as OverlongFrame, Periodic}
-use Rattle.uip_node.specs.Laws.{HasBytes}
-use Rattle.uip_node.specs.Node.{AbstractNode, run}
-use Rattle.line_medium.specs.Media.{MediumInput, Datagram, Overlong, Own, MediumSpec}
-use Rattle.serve_loop.specs.StationRuns.{StationEvent, OfMedium, OfNode, Station, station_after, station_after_all, output, output_of_event}
-use Rattle.serve_loop.specs.Items.{CarriesBytes}
-use Rattle.serve_loop.specs.LineStationEvents.{station_event_by}
-use Rattle.line_promise.specs.Lines.{events_among, text_in}
-use Rattle.node_laws.specs.TraceConforms.{TraceConforms}
-use Rattle.node_laws.specs.Speakers.{at_every_port}
-use Rattle.node_laws.specs.Traces.{TraceEntry}
-use Rattle.node_laws.specs.Turns.{trace_of}
-use Rattle.node_laws.specs.Wire.{IsOfLine, IsReadByPeer}
-use Rattle.node_laws.specs.Wire.IsOfLine.{of_bytes, of_overlong, of_call}
-use Rattle.node_laws.proofs.EveryTraceConforms.{every_step_of_pages}
 use Rattle.node_laws.proofs.Steps.{Changes, OfNode as HappensAt, IsStep, LineStep, all_happen, trace_over, turns_then}
-use Rattle.node_laws.proofs.TurnRuns.{turn_events}
-use Rattle.frame_device.specs.FrameSpecs.{DecodesBytes, FrameSpec, acts_before, as_medium}
-use Rattle.frame_device.specs.FrameCalls.{AnsweredFrame, AnswersAllFrames, CallsSlot, DoesNothing, FrameCall, FrameMove, Gives, InputsFrame, IsFreshFrameDevice, Makes, RepresentsStation, Writing, station_after_move, station_events_by, station_events_of_move, frame_moves_of, with_value}
-use Rattle.serve_loop.specs.LineOutput.{initial_station}
-use Rattle.frame_device.specs.FrameKeeping.{AllHandOut, HandsOutFrame, IsFrameOfBytes, FramesConform, KeepsU32, MoveTrace, acts_in}
 use Rattle.frame_device.specs.declared.frames.Frames.{Ghosts as FramesGhosts}
-use Rattle.frame_device.specs.declared.device.FrameDevice.{FrameDevice}
 use Rattle.frame_device.proofs.MoveLaws.{MovesOn, moves_on}
 
 -- ---- what events lead to, and their output

@@ -1,14 +1,6 @@
 -- What moves in turn write.
-use Rattle.std.proofs.Common.{◌≡◌, ℕ, List, [], ◌∷◌, refl, sym, ap, ◌∙◌, subst}
-use Rattle.app_events.specs.AppSpec.{AppSpec}
-use Rattle.app_events.specs.declared.app.App.{Ghosts}
-use Rattle.uip_wire.specs.declared.addr.Addr.{Addr}
-use Rattle.serve_loop.specs.StationRuns.{Station, output}
-use Rattle.frame_device.specs.FrameSpecs.{as_medium}
-use Rattle.frame_device.specs.FrameCalls.{AnsweredFrame, AnswersAllFrames, AnswersFrameMove, FrameMove, Gives, IsFreshFrameDevice, Makes, RepresentsStation, Writing, station_after_move, station_events_of_move, frames_sent, handed_of, frame_moves_of, station_after_moves, with_value}
-use Rattle.serve_loop.specs.LineOutput.{initial_station}
+use Rattle.frame_device.proofs.Prelude.{◌≡◌, ℕ, List, [], ◌∷◌, refl, sym, ap, ◌∙◌, subst, AppSpec, Ghosts, Addr, Station, output, as_medium, AnsweredFrame, AnswersAllFrames, AnswersFrameMove, FrameMove, Gives, IsFreshFrameDevice, Makes, RepresentsStation, Writing, station_after_move, station_events_of_move, frames_sent, handed_of, frame_moves_of, station_after_moves, with_value, initial_station, FrameDevice}
 use Rattle.frame_device.specs.declared.frames.Frames.{Ghosts as FramesGhosts}
-use Rattle.frame_device.specs.declared.device.FrameDevice.{FrameDevice}
 
 module _ {A S M : Type 0} (g : Ghosts A S) (h : FramesGhosts M) (k : h.Config) (m : AppSpec) (gives : Writing) (own : Addr) where
   -- one move: the device represents the station after it, and this is written

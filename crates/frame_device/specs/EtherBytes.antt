@@ -1,10 +1,8 @@
 -- Ethernet frames of bytes decode to bytes.
 use Rattle.std.proofs.Common.{List}
 use Rattle.uip_node.proofs.Basics.{choose}
-use Rattle.line_medium.specs.Media.{MediumInput}
-use Rattle.ethernet_arp.specs.EtherWay.{is_taken}
-use Rattle.ethernet_arp.specs.Frames.{Host}
-use Rattle.ethernet_arp.specs.Learning.{Act}
+use Rattle.line_medium.specs.Prelude.{MediumInput}
+use Rattle.ethernet_arp.specs.Prelude.{is_taken, Host, Act}
 use Rattle.ethernet_arp.proofs.ByteLaws.{AllOfBytes, frame_bytes, none}
 use Rattle.frame_device.specs.EtherFrames.{ether_frames}
 use Rattle.frame_device.specs.FrameSpecs.{DecodesBytes}

@@ -1,16 +1,12 @@
 -- Ethernet with ARP over whole frames, and how it compares with a line, on which each frame follows its length.
 use Rattle.std.specs.Prelude.{◌≡◌, ℕ, Bool, true, if◌then◌else◌, List, [], ◌∷◌, length, Some, ⊤}
-use Rattle.app_events.specs.AppSpec.{AppSpec}
-use Rattle.uip_wire.specs.Fields.{word_at}
+use Rattle.app_events.specs.Prelude.{AppSpec}
+use Rattle.uip_wire.specs.Prelude.{word_at}
 use Rattle.uip_wire.specs.declared.addr.Addr.{Addr}
-use Rattle.serve_loop.specs.StationRuns.{Station, output}
-use Rattle.ethernet_arp.specs.EtherWay.{ether_medium, is_taken}
-use Rattle.ethernet_arp.specs.Frames.{Host, arp_reply, frame_brings, framed, is_datagram, is_sendable, mac_at, wrapped}
-use Rattle.ethernet_arp.specs.Learning.{Act, Asked, Ticked, known}
-use Rattle.ethernet_arp.specs.Sending.{target_in}
+use Rattle.serve_loop.specs.Prelude.{Station, output, initial_station}
+use Rattle.ethernet_arp.specs.Prelude.{ether_medium, is_taken, Host, arp_reply, frame_brings, framed, is_datagram, is_sendable, mac_at, wrapped, Act, Asked, Ticked, known, target_in}
 use Rattle.frame_device.specs.FrameSpecs.{FrameSpec, as_medium}
 use Rattle.frame_device.specs.FrameCalls.{FrameCall, FrameMove, Writing, station_after_move, station_events_by, station_events_of_move, with_value}
-use Rattle.serve_loop.specs.LineOutput.{initial_station}
 
 -- the reply to a request
 abbrev pub reply_at : Host → Act → List ℕ

@@ -1,13 +1,10 @@
 -- What a caller does to a device on a link of frames, and what is written.
 use Rattle.std.specs.Prelude.{◌≡◌, ℕ, Bool, List, [], ◌∷◌, ◌++◌, map}
-use Rattle.app_events.specs.AppSpec.{AppSpec}
+use Rattle.app_events.specs.Prelude.{AppSpec}
 use Rattle.app_events.specs.declared.app.App.{Ghosts}
 use Rattle.uip_wire.specs.declared.addr.Addr.{Addr}
-use Rattle.uip_node.specs.Events.Event.{Periodic}
-use Rattle.serve_loop.specs.StationRuns.{StationEvent, OfMedium, OfNode, Station, station_after_all, output}
-use Rattle.serve_loop.specs.LineStationEvents.{station_event_by}
-use Rattle.serve_loop.specs.LineOutput.{initial_station}
-use Rattle.serve_loop.specs.Turns.{IsHere}
+use Rattle.uip_node.specs.Prelude.{Periodic}
+use Rattle.serve_loop.specs.Prelude.{StationEvent, OfMedium, OfNode, Station, station_after_all, output, station_event_by, initial_station, IsHere}
 use Rattle.frame_device.specs.FrameSpecs.{FrameSpec, acts_before, as_medium}
 use Rattle.frame_device.specs.declared.frames.Frames.{Ghosts as FramesGhosts}
 use Rattle.frame_device.specs.declared.device.FrameDevice.{FrameDevice}

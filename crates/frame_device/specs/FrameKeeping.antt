@@ -1,14 +1,11 @@
 -- How the trace of a device on a link of frames conforms, move by move.
 use Rattle.std.specs.List.{All, flat_map}
 use Rattle.std.specs.Prelude.{◌≡◌, ◌≤◌, ℕ, Bool, length, List, [], ◌∷◌, ◌++◌, map, ⊤}
-use Rattle.app_events.specs.Pages.{IsByte, IsU32, Pages}
+use Rattle.app_events.specs.Prelude.{IsByte, IsU32, Pages}
 use Rattle.uip_wire.specs.declared.addr.Addr.{Addr}
-use Rattle.node_laws.specs.TraceConforms.{TraceConforms}
-use Rattle.node_laws.specs.Speakers.{at_every_port}
-use Rattle.node_laws.specs.Traces.{TraceEntry}
-use Rattle.node_laws.specs.Wire.{IsReadByPeer}
-use Rattle.serve_loop.specs.StationRuns.{StationEvent, OfMedium, OfNode}
-use Rattle.line_promise.specs.Lines.{events_among, text_in}
+use Rattle.node_laws.specs.Prelude.{TraceConforms, at_every_port, TraceEntry, IsReadByPeer}
+use Rattle.serve_loop.specs.Prelude.{StationEvent, OfMedium, OfNode}
+use Rattle.line_promise.specs.Prelude.{events_among, text_in}
 use Rattle.frame_device.specs.FrameCalls.{AnsweredFrame, FrameMove, Gives, InputsFrame, Makes, Writing, station_events_of_move}
 use Rattle.frame_device.specs.FrameSpecs.{FrameSpec, as_medium}
 

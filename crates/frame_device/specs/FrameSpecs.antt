@@ -2,12 +2,11 @@
 use Rattle.std.specs.List.{All}
 use Rattle.std.specs.Prelude.{◌≡◌, ◌≤◌, ◌+◌, ◌⊎◌, ◌==◌, ◌&&◌, if◌then◌else◌, nat_le, nat_lt, ℕ, List, [], ◌∷◌, drop, length, take, ⊤}
 use Rattle.std.proofs.lemmas.List.Elements.{All-cons, All-nil}
-use Rattle.app_events.specs.Pages.{IsByte}
+use Rattle.app_events.specs.Prelude.{IsByte}
 use Rattle.uip_node.proofs.Basics.{choose}
 use Rattle.uip_wire.specs.declared.sizes.TheConstants.{LARGEST_DATAGRAM}
-use Rattle.line_medium.specs.Media.{MediumInput, Datagram, Own, MediumSpec, all_said}
-use Rattle.serve_loop.specs.Items.{CarriesBytes}
-use Rattle.serve_loop.specs.SerialMedium.{NoAct}
+use Rattle.line_medium.specs.Prelude.{MediumInput, Datagram, Own, MediumSpec, all_said}
+use Rattle.serve_loop.specs.Prelude.{CarriesBytes, NoAct}
 use Rattle.frame_device.specs.declared.frames.Decoded.{Decoded}
 use Rattle.frame_device.specs.declared.frames.Decoded.TheVariants as brought
 

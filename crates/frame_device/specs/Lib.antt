@@ -3,3 +3,4 @@ pub mod FrameCalls
 pub mod FrameKeeping
 pub mod EtherFrames
 pub mod EtherBytes
+pub mod Prelude

@@ -2,9 +2,8 @@
 
 ghost use Rattle.std.specs.Prelude.{◌≡◌, ◌≤◌, ◌++◌, [], List, length, take, Option};
 ghost use Rattle.uip_wire.specs.declared.addr.Addr.{Addr as Address};
-ghost use Rattle.uip_node.specs.Events.{Reply};
-ghost use Rattle.uip_node.specs.Spoken.{IsSent};
-ghost use Rattle.serve_loop.specs.StationRuns.{reply_text};
+ghost use Rattle.uip_node.specs.Prelude.{Reply, IsSent};
+ghost use Rattle.serve_loop.specs.Prelude.{reply_text};
 ghost use Rattle.frame_device.specs.FrameSpecs.{acts_before, acts_output, as_medium};
 
 use crate::frames::{Decoded, Frames, LARGEST_OUT};

@@ -1,11 +1,9 @@
 //! Ethernet with ARP.
 
 ghost use Rattle.std.specs.Prelude.{◌≡◌, ◌≤◌, ◌++◌, List, length, take};
-ghost use Rattle.uip_wire.specs.Fields.{written};
-ghost use Rattle.line_medium.specs.Media.{acts_among};
-ghost use Rattle.ethernet_arp.specs.Frames.{frame_brings};
-ghost use Rattle.ethernet_arp.specs.Learning.{Act};
-ghost use Rattle.ethernet_arp.specs.Table.{Knows, host_of};
+ghost use Rattle.uip_wire.specs.Prelude.{written};
+ghost use Rattle.line_medium.specs.Prelude.{acts_among};
+ghost use Rattle.ethernet_arp.specs.Prelude.{frame_brings, Act, Knows, host_of};
 ghost use Rattle.frame_device.specs.EtherFrames.{ether_frames};
 ghost use Rattle.frame_device.specs.FrameSpecs.{FitsFrame, ReportsFrame};
 

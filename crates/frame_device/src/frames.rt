@@ -1,5 +1,5 @@
 ghost use Rattle.std.specs.Prelude.{[], ◌≡◌, ◌≤◌, ◌++◌, List, length, take};
-ghost use Rattle.line_medium.specs.Media.{acts_among};
+ghost use Rattle.line_medium.specs.Prelude.{acts_among};
 ghost use Rattle.frame_device.specs.FrameSpecs.{DecodesBytes, FitsFrame, FrameSpec, ReportsFrame, acts_output};
 
 use uip_wire::LARGEST_DATAGRAM;

@@ -2,16 +2,12 @@
 
 ghost use Rattle.std.specs.Prelude.{◌≡◌, ℕ, List, []};
 ghost use Rattle.std.specs.List.{All};
-ghost use Rattle.app_events.specs.Pages.{IsAddr, IsPaged, IsU32, Pages};
-ghost use Rattle.app_events.specs.AppSpec.{AppSpec};
-ghost use Rattle.uip_node.specs.Laws.{HasBytes};
+ghost use Rattle.app_events.specs.Prelude.{IsAddr, IsPaged, IsU32, Pages, AppSpec};
+ghost use Rattle.uip_node.specs.Prelude.{HasBytes};
 ghost use Rattle.uip_wire.specs.declared.addr.Addr.{Addr};
 ghost use Rattle.frame_device.specs.declared.device.FrameDevice.{FrameDevice as AnyDevice};
-ghost use Rattle.frame_device.specs.EtherFrames.{FramesGoHome, SentAsOnLine};
-ghost use Rattle.frame_device.specs.FrameCalls.{AnsweredFrame, AnswersAllFrames, FromFresh, IsFreshFrameDevice, RepresentsStation, Writing};
-ghost use Rattle.frame_device.specs.FrameCalls.{frames_sent, handed_of, frame_moves_of, station_after_moves};
-ghost use Rattle.serve_loop.specs.LineOutput.{initial_station};
-ghost use Rattle.frame_device.specs.FrameKeeping.{IsFrameOfBytes, FramesConform, KeepsU32};
+ghost use Rattle.frame_device.specs.Prelude.{FramesGoHome, SentAsOnLine, AnsweredFrame, AnswersAllFrames, FromFresh, IsFreshFrameDevice, RepresentsStation, Writing, frames_sent, handed_of, frame_moves_of, station_after_moves, IsFrameOfBytes, FramesConform, KeepsU32};
+ghost use Rattle.serve_loop.specs.Prelude.{initial_station};
 
 use crate::frames::Frames;
 use app_events::App;

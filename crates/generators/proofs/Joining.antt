@@ -1,6 +1,5 @@
 -- Texts that are appended one after another.
-use Rattle.std.proofs.Common.{◌≡◌, ℕ, List, [], ◌∷◌, ◌++◌, append-nil, append_assoc, sym, ◌∙◌}
-use Rattle.std.specs.List.{concat}
+use Rattle.generators.proofs.Prelude.{◌≡◌, ℕ, List, [], ◌∷◌, ◌++◌, append-nil, append_assoc, sym, ◌∙◌, concat}
 
 abbrev pub joined : List ℕ → List (List ℕ) → List ℕ
 joined prefix [] = prefix

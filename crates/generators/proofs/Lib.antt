@@ -2,3 +2,4 @@ pub mod Pasting
 pub mod Filling
 pub mod Packing
 pub mod Joining
+mod Prelude

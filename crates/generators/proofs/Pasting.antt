@@ -1,9 +1,5 @@
 -- A piece of a text, written at its offset of the buffer.
-use Rattle.std.proofs.Common.{◌≡◌, ℕ, ◌+◌, ◌-◌, ◌<◌, ◌≤◌, List, [], ◌∷◌, ◌++◌, append_assoc, replicate, flat_map, subst, length, take, drop, min, get_or, refl, sym, ap, ◌∙◌, arith, inl, inr, slice_range, length-append, length-drop}
-use Rattle.std.proofs.lemmas.List.{get_or_append_left, get_or-append_right, get_or-take, get_or-drop, length-take, take_all, flat_map_more, take_more, drop-replicate, length-replicate}
-use Rattle.std.proofs.lemmas.Bool.{cases_lt}
-use Rattle.generators.specs.Parts.{HoldsPart}
-use Rattle.generators.specs.declared.parts.Place.{Place}
+use Rattle.generators.proofs.Prelude.{◌≡◌, ℕ, ◌+◌, ◌-◌, ◌<◌, ◌≤◌, List, [], ◌∷◌, ◌++◌, append_assoc, replicate, flat_map, subst, length, take, drop, min, get_or, refl, sym, ap, ◌∙◌, arith, inl, inr, slice_range, length-append, length-drop, get_or_append_left, get_or-append_right, get_or-take, get_or-drop, length-take, take_all, flat_map_more, take_more, drop-replicate, length-replicate, cases_lt, HoldsPart, Place}
 
 -- a place before the piece is as it was
 before_piece : (out q : List ℕ) (to k : ℕ) → k < to → to ≤ length out → get_or (take to out ++ q ++ drop (to + length q) out) k 0 ≡ get_or out k 0

@@ -1,10 +1,9 @@
 -- The texts of a script's calls, over plain data.
 use Rattle.std.specs.List.{All}
 use Rattle.std.specs.Prelude.{ℕ, ◌≤◌, List, length}
-use Rattle.app_events.specs.Pages.{IsNow, IsU32, IsByte}
+use Rattle.app_events.specs.Prelude.{IsNow, IsU32, IsByte}
 use Rattle.app_events.specs.declared.now.Now.{Now}
-use Rattle.script_lang.specs.Calling.{Calling}
-use Rattle.script_lang.specs.Functions.{uip_calls}
+use Rattle.script_lang.specs.Prelude.{Calling, uip_calls}
 use Rattle.script_lang.specs.declared.function.Function.{Function}
 use Rattle.generators.specs.Captures.{capture_of}
 use Rattle.generators.specs.Text.{capture_text}

@@ -5,3 +5,4 @@ pub mod Text
 pub mod Packed
 pub mod Giving
 pub mod Lemmas
+pub mod Prelude

@@ -1,8 +1,7 @@
 //! The texts of single records, for a record type of a crate above.
 
 ghost use Rattle.std.specs.Prelude.{◌≡◌, ◌+◌, ◌*◌, ◌≤◌, ◌<◌, ◌^◌, drop, flat_map, length, take};
-ghost use Rattle.generators.specs.Packed.{rows_in};
-ghost use Rattle.generators.specs.Text.{counter_line, in_ten_places, row_text};
+ghost use Rattle.generators.specs.Prelude.{rows_in, counter_line, in_ten_places, row_text};
 
 use crate::numbers::{in_ten_places_len, put_in_ten_places};
 use crate::packed_rows::PackedRows;

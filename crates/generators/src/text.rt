@@ -1,8 +1,7 @@
 //! The text of a capture record, from any offset.
 
 ghost use Rattle.std.specs.Prelude.{◌≡◌, ◌+◌, ◌≤◌, [], drop, length, take};
-ghost use Rattle.generators.specs.Parts.{HoldsPart};
-ghost use Rattle.generators.specs.Text.{capture_text};
+ghost use Rattle.generators.specs.Prelude.{HoldsPart, capture_text};
 
 use crate::capture::Capture;
 use crate::numbers::{in_ten_places_len, put_in_ten_places};

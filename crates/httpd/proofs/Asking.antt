@@ -1,32 +1,6 @@
 -- What is wanted, and the capture that is taken, for each part that a value stands for.
-use Rattle.std.proofs.Common.{◌≡◌, ◌+◌, ℕ, ◌≤◌, ◌==◌, ◌&&◌, min, Bool, true, false, not, List, [], ◌∷◌, ◌++◌, Option, length, drop, nat_lt, refl, sym, ap, subst, ◌∙◌, arith, append_assoc, append-nil, length-append, length-drop, if◌then◌else◌, inl, inr, map}
-use Rattle.std.specs.Prelude.{codes}
-use Rattle.std.proofs.lemmas.Bool.{cases_eq, eq-eqb, eqb-true, ne_eqb}
-use Rattle.app_events.specs.AppSpec.{Snapshot, AppState}
-use Rattle.app_events.specs.declared.want.Want.TheVariants.{Nothing, Send, Close, Abort}
-use Rattle.site_image.specs.Files.{File}
-use Rattle.file_tree.specs.declared.file_id.FileId.{FileId}
-use Rattle.file_tree.specs.Site.{SiteContent, files_of}
-use Rattle.generators.specs.Giving.{Giving}
-use Rattle.web_pages.specs.Requests.{Wanted, wanted}
-use Rattle.web_pages.specs.Requests.Wanted.{Name, NotYet, Refused}
-use Rattle.script_lang.specs.Pieces.{pieces_by}
-use Rattle.web_pages.specs.Pieces.{Say, kind_line, reply_pieces_by, says}
-use Rattle.web_pages.specs.Pieces.Say.{Made, Plain}
-use Rattle.web_pages.specs.Pages.{is_whole_by, made_by, page_by, page_for_by, reach_by, text_by, whole_for_by}
-use Rattle.web_pages.specs.WebMeaning.{is_acknowledged_by, left_of_by, waits_for_capture_by, web_want_by}
-use Rattle.web_pages.specs.Lemmas.Growing.{made_end, made_first, stopped_end, stopped_text, text_grows}
-use Rattle.httpd.specs.declared.httpd.Pages.{Pages}
+use Rattle.httpd.proofs.Prelude.{◌≡◌, ◌+◌, ℕ, ◌≤◌, ◌==◌, ◌&&◌, min, Bool, true, false, not, List, [], ◌∷◌, ◌++◌, Option, length, drop, nat_lt, refl, sym, ap, subst, ◌∙◌, arith, append_assoc, append-nil, length-append, length-drop, if◌then◌else◌, inl, inr, map, codes, cases_eq, eq-eqb, eqb-true, ne_eqb, Snapshot, AppState, Nothing, Send, Close, Abort, File, FileId, SiteContent, files_of, Giving, Wanted, wanted, Name, NotYet, Refused, pieces_by, Say, kind_line, reply_pieces_by, says, Made, Plain, is_whole_by, made_by, page_by, page_for_by, reach_by, text_by, whole_for_by, is_acknowledged_by, left_of_by, waits_for_capture_by, web_want_by, made_end, made_first, stopped_end, stopped_text, text_grows, Pages, Thread, Head, Kind, Body, Inside, Making, End, Due, FileReply, body, body_from, calls_in, head_text, is_scripted, kind_text, left_from, reply_by, Fits, IsInner, KeepsDirective, SeesCall, IsDueReply, IsNotDue, left_text, left_whole, want_left, PagesRepresent, IsLeft, IsReplying, SaysNothing, StandsIn}
 use Rattle.httpd.specs.declared.stage.Stage.TheVariants as stage
-use Rattle.httpd.specs.declared.thread.Thread.{Thread}
-use Rattle.httpd.specs.declared.thread.Thread.TheVariants.{Head, Kind, Body, Inside, Making, End}
-use Rattle.httpd.specs.declared.saying.Due.{Due}
-use Rattle.httpd.specs.Reply.{FileReply, body, body_from, calls_in, head_text, is_scripted, kind_text, left_from, reply_by}
-use Rattle.httpd.specs.Places.{Fits, IsInner}
-use Rattle.httpd.specs.Kept.{KeepsDirective}
-use Rattle.httpd.specs.Looking.{SeesCall}
-use Rattle.httpd.specs.Saying.{IsDueReply, IsNotDue, left_text, left_whole, want_left}
-use Rattle.httpd.specs.HttpdRepresents.{PagesRepresent, IsLeft, IsReplying, SaysNothing, StandsIn}
 use Rattle.httpd.proofs.Standing.{replying}
 use Rattle.httpd.proofs.Walking.{call_before}
 

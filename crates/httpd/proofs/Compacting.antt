@@ -1,27 +1,7 @@
 -- The states of compact pages, after each call.
-use Rattle.std.proofs.Common.{◌≡◌, ◌≤◌, ℕ, Bool, true, false, List, [], ◌∷◌, ◌++◌, Option, length, take, refl, sym, ap, subst, arith}
-use Rattle.app_events.specs.AppSpec.{AppState, CanSay, IsRepresented}
-use Rattle.site_image.specs.Files.{File}
-use Rattle.file_tree.specs.declared.file_id.FileId.{FileId}
-use Rattle.file_tree.specs.Site.{SiteContent, files_of}
-use Rattle.generators.specs.Giving.{Giving}
-use Rattle.protosocket.specs.Line.{Line}
-use Rattle.web_pages.specs.Requests.{wanted}
-use Rattle.web_pages.specs.Requests.Wanted.{NotYet, Refused}
-use Rattle.web_pages.specs.Lemmas.Deciding.{method_open, target_open}
-use Rattle.httpd.specs.declared.compact.CompactPages.{CompactPages}
+use Rattle.httpd.proofs.Prelude.{◌≡◌, ◌≤◌, ℕ, Bool, true, false, List, [], ◌∷◌, ◌++◌, Option, length, take, refl, sym, ap, subst, arith, AppState, CanSay, IsRepresented, File, FileId, SiteContent, files_of, Giving, Line, wanted, NotYet, Refused, method_open, target_open, CompactPages, Heard, Stage, Thread, Head, CompactRepresent, HearsWord, pages_kept, word_stage, HearsTo, IsFileAsked, PagesRepresent, SaysNothing, Fits, IsFound, left_from, reply_by, left_text}
 use Rattle.httpd.specs.declared.compact.CompactPages.TheVariants as compact
-use Rattle.httpd.specs.declared.hearing.Heard.{Heard}
-use Rattle.httpd.specs.declared.stage.Stage.{Stage}
 use Rattle.httpd.specs.declared.stage.Stage.TheVariants as stage
-use Rattle.httpd.specs.declared.thread.Thread.{Thread}
-use Rattle.httpd.specs.declared.thread.Thread.TheVariants.{Head}
-use Rattle.httpd.specs.Compact.{CompactRepresent, HearsWord, pages_kept, word_stage}
-use Rattle.httpd.specs.Hearing.{HearsTo, IsFileAsked}
-use Rattle.httpd.specs.HttpdRepresents.{PagesRepresent, SaysNothing}
-use Rattle.httpd.specs.Places.{Fits, IsFound}
-use Rattle.httpd.specs.Reply.{left_from, reply_by}
-use Rattle.httpd.specs.Saying.{left_text}
 use Rattle.httpd.proofs.Standing.{can_say, means, reply_fits, reply_found, some_part}
 use Rattle.httpd.proofs.Telling.{decided_stands, with_more}
 

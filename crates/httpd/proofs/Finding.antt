@@ -1,21 +1,5 @@
 -- The index of the file of a name.
-use Rattle.std.proofs.Common.{◌≡◌, ℕ, ◌<◌, ◌≤◌, Bool, true, false, List, [], ◌∷◌, Option, None, Some, length, ◌++◌, take, drop, refl, sym, ap, subst, ◌∙◌, arith, true≢false, option_map, position, get_or, cond, is_some, codes, if◌then◌else◌}
-use Rattle.std.specs.Prelude.{slice_get, IfSome}
-use Rattle.std.specs.List.{position_or_len}
-use Rattle.std.specs.Str.{bytes_eq}
-use Rattle.std.proofs.lemmas.Bool.{lt-ltb}
-use Rattle.std.proofs.lemmas.List.Folds.{list_any_at}
-use Rattle.std.proofs.lemmas.List.Sums.{position_or_len_is}
-use Rattle.std.proofs.lemmas.List.Quantifiers.{position-Some}
-use Rattle.std.proofs.lemmas.Option.{get_or_from_slice_get, slice_get-get_or, slice_get_within}
-use Rattle.std.proofs.lemmas.Slice.Eq.{bytes_eq-Decides}
-use Rattle.site_image.specs.Files.{File, has_name}
-use Rattle.std.proofs.Math.Seq.{take-append_seam}
-use Rattle.file_tree.specs.Site.{AreApart, SiteContent, files_of}
-use Rattle.web_pages.specs.Requests.{Wanted}
-use Rattle.web_pages.specs.WebMeaning.{hits_by}
-use Rattle.file_tree.specs.declared.file_id.FileId.{FileId}
-use Rattle.web_pages.specs.Pages.{place_of}
+use Rattle.httpd.proofs.Prelude.{◌≡◌, ℕ, ◌<◌, ◌≤◌, Bool, true, false, List, [], ◌∷◌, Option, None, Some, length, ◌++◌, take, drop, refl, sym, ap, subst, ◌∙◌, arith, true≢false, option_map, position, get_or, cond, is_some, codes, if◌then◌else◌, slice_get, IfSome, position_or_len, bytes_eq, lt-ltb, list_any_at, position_or_len_is, position-Some, get_or_from_slice_get, slice_get-get_or, slice_get_within, bytes_eq-Decides, File, has_name, take-append_seam, AreApart, SiteContent, files_of, Wanted, hits_by, FileId, place_of}
 
 -- the test for a name
 abbrev named : List ℕ → File → Bool

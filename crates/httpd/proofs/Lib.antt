@@ -12,3 +12,4 @@ pub mod Asking
 pub mod Compacting
 pub mod ZeroWriting
 pub mod ZeroAsking
+mod Prelude

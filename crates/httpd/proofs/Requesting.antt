@@ -1,15 +1,5 @@
 -- The request line after one more piece.
-use Rattle.std.proofs.Common.{◌≡◌, ℕ, ◌+◌, ◌&&◌, true, false, not, List, ◌++◌, length, drop, codes, sym, ap, ◌∙◌, if◌then◌else◌}
-use Rattle.std.specs.Prelude.{nat_eq}
-use Rattle.std.specs.List.{list_any, starts_with}
-use Rattle.std.specs.Str.{bytes_eq}
-use Rattle.protosocket.specs.declared.stops.Stops.TheVariants.{Space, SpaceOrLine}
-use Rattle.protosocket.specs.Line.{Line, after, fresh, delivered, is_stop, part_taken, word_of}
-use Rattle.web_pages.specs.Requests.{after_method, has_ended, method_of, name_in, target_of, wanted}
-use Rattle.web_pages.specs.Requests.Wanted.{Name, Refused}
-use Rattle.web_pages.specs.Lemmas.Deciding.{after_more, ended_more, word_more}
-use Rattle.httpd.specs.Hearing.{HasName, HearsMethod, HearsTarget}
-use Rattle.web_pages.specs.Lemmas.Deciding.{decided_by_target, other_method}
+use Rattle.httpd.proofs.Prelude.{◌≡◌, ℕ, ◌+◌, ◌&&◌, true, false, not, List, ◌++◌, length, drop, codes, sym, ap, ◌∙◌, if◌then◌else◌, nat_eq, list_any, starts_with, bytes_eq, Space, SpaceOrLine, Line, after, fresh, delivered, is_stop, part_taken, word_of, after_method, has_ended, method_of, name_in, target_of, wanted, Name, Refused, after_more, ended_more, word_more, HasName, HearsMethod, HearsTarget, decided_by_target, other_method}
 use Rattle.httpd.proofs.Words.{EndsHere, ends_here, prefix_of, get_heard, heard_more, path_heard, rest_of}
 
 -- ---- the first word

@@ -1,25 +1,5 @@
 -- The span at a thread in a script.
-use Rattle.std.proofs.Common.{◌≡◌, ℕ, ◌+◌, ◌-◌, ◌<◌, ◌≤◌, Bool, true, false, ◌⊎◌, inl, inr, List, [], ◌∷◌, length, take, drop, map, min, refl, sym, ap, subst, ◌∙◌, arith, true≢false, if◌then◌else◌}
-use Rattle.std.specs.Prelude.{slice_range, nat_lt, ◌&&◌, not}
-use Rattle.std.proofs.lemmas.List.{drop-drop, drop-take, take-take}
-use Rattle.script_lang.specs.declared.piece.FoundOf.{FoundOf}
-use Rattle.script_lang.specs.declared.piece.PieceOf.{PieceOf}
-use Rattle.script_lang.specs.declared.piece.PieceOf.TheVariants.{Text, Include, Call}
-use Rattle.script_lang.specs.Places.{is_byte, word, word_start, word_end}
-use Rattle.script_lang.specs.Directives.{IsPlace, begins, is_directive_mark, is_inside_directive, line_end, before_cr, directive}
-use Rattle.script_lang.specs.Pieces.{piece_by, pieces_by, run_end}
-use Rattle.script_lang.proofs.PieceLemmas.{found-goes, pieces_by-step, run-rest}
-use Rattle.script_lang.proofs.PlaceLemmas.{first_place-is}
-use Rattle.script_lang.proofs.StartLemmas.{run-inside}
-use Rattle.site_image.specs.Files.{file_named}
-use Rattle.web_pages.specs.Pieces.{Say, bytes_or, says}
-use Rattle.web_pages.specs.Pieces.Say.{Plain, Made}
-use Rattle.httpd.specs.declared.span.Span.{Span}
-use Rattle.httpd.specs.declared.thread.Thread.TheVariants.{Body}
-use Rattle.httpd.specs.Reply.{FileReply, body, body_from, is_scripted, left_from}
-use Rattle.httpd.specs.Places.{Fits, IsBodyPlace, IsInner}
-use Rattle.httpd.specs.Kept.{EndsCall, EndsDirective, EndsInclude}
-use Rattle.httpd.specs.Looking.{IsSpan, Sees}
+use Rattle.httpd.proofs.Prelude.{◌≡◌, ℕ, ◌+◌, ◌-◌, ◌<◌, ◌≤◌, Bool, true, false, ◌⊎◌, inl, inr, List, [], ◌∷◌, length, take, drop, map, min, refl, sym, ap, subst, ◌∙◌, arith, true≢false, if◌then◌else◌, slice_range, nat_lt, ◌&&◌, not, drop-drop, drop-take, take-take, FoundOf, PieceOf, Text, Include, Call, is_byte, word, word_start, word_end, IsPlace, begins, is_directive_mark, is_inside_directive, line_end, before_cr, directive, piece_by, pieces_by, run_end, found-goes, pieces_by-step, run-rest, first_place-is, run-inside, file_named, Say, bytes_or, says, Plain, Made, Span, Body, FileReply, body, body_from, is_scripted, left_from, Fits, IsBodyPlace, IsInner, EndsCall, EndsDirective, EndsInclude, IsSpan, Sees}
 use Rattle.httpd.proofs.Seeing.{IsFurther, sees_first, sees_prefix, span_along}
 
 -- what `next_piece` returns for a piece that it found

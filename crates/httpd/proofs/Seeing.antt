@@ -1,21 +1,7 @@
 -- The span of the first piece that is left.
 -- [add: piece] The first span of the piece.
-use Rattle.std.proofs.Common.{◌≡◌, ℕ, ◌+◌, ◌<◌, ◌≤◌, List, [], ◌∷◌, ◌++◌, length, take, drop, refl, sym, ap, ◌∙◌, arith, append_assoc}
-use Rattle.std.proofs.lemmas.List.{drop-append-le, drop-drop, length-take-le, take-append-drop}
-use Rattle.generators.specs.Giving.{Giving}
-use Rattle.web_pages.specs.Pieces.{Say}
-use Rattle.web_pages.specs.Pieces.Say.{Plain}
-use Rattle.web_pages.specs.Pages.{text_by, reach_by}
-use Rattle.site_image.specs.Files.{File}
-use Rattle.httpd.specs.declared.span.Span.{Span}
+use Rattle.httpd.proofs.Prelude.{◌≡◌, ℕ, ◌+◌, ◌<◌, ◌≤◌, List, [], ◌∷◌, ◌++◌, length, take, drop, refl, sym, ap, ◌∙◌, arith, append_assoc, drop-append-le, drop-drop, length-take-le, take-append-drop, Giving, Say, Plain, text_by, reach_by, File, Span, Look, Thread, Head, Kind, Body, Inside, Making, End, FileReply, calls_in, left_from, Fits, moved, thread_place, KeepsDirective, KeepsAll, KeepsOn, Leads, IsInPiece, IsSpan, IsText, Sees, SeesBy, SeesText, SpanFits, span_text}
 use Rattle.httpd.specs.declared.span.Span.TheVariants as span
-use Rattle.httpd.specs.declared.span.Look.{Look}
-use Rattle.httpd.specs.declared.thread.Thread.{Thread}
-use Rattle.httpd.specs.declared.thread.Thread.TheVariants.{Head, Kind, Body, Inside, Making, End}
-use Rattle.httpd.specs.Reply.{FileReply, calls_in, left_from}
-use Rattle.httpd.specs.Places.{Fits, moved, thread_place}
-use Rattle.httpd.specs.Kept.{KeepsDirective, KeepsAll, KeepsOn}
-use Rattle.httpd.specs.Looking.{Leads, IsInPiece, IsSpan, IsText, Sees, SeesBy, SeesText, SpanFits, span_text}
 
 pub span_along : {R F : Type 0} (text : R → List ℕ) (s : Span R F) (xs ys : List ℕ) → xs ≡ ys → IsSpan text s xs → IsSpan text s ys
 span_along text s xs ys e is = record { plain = is.plain; text = is.text ∙ e; fits = is.fits }

@@ -1,12 +1,5 @@
 -- The lengths of the parts of a site's files.
-use Rattle.std.proofs.Common.{◌≡◌, ℕ, ◌<◌, ◌≤◌, List, length, Option, None, Some, option_map, refl, ap, subst, inl, inr}
-use Rattle.std.proofs.lemmas.Bool.{cases_lt}
-use Rattle.std.proofs.lemmas.Option.{slice_get_past}
-use Rattle.std.specs.Prelude.{slice_get, nat_le, ◌&&◌, ◌==◌, true}
-use Rattle.std.proofs.lemmas.Bool.{and_parts, leb-true}
-use Rattle.site_image.specs.Files.{File, kind_of}
-use Rattle.file_tree.specs.Site.{SiteContent, IsLoaded, files_of}
-use Rattle.web_pages.proofs.Limits.{content_small, kind_small}
+use Rattle.httpd.proofs.Prelude.{◌≡◌, ℕ, ◌<◌, ◌≤◌, List, length, Option, None, Some, option_map, refl, ap, subst, inl, inr, cases_lt, slice_get_past, slice_get, nat_le, ◌&&◌, ◌==◌, true, and_parts, leb-true, File, kind_of, SiteContent, IsLoaded, files_of, content_small, kind_small}
 
 same_some : (x y : List ℕ) → Some x ≡ Some y → x ≡ y
 same_some x y e = cc

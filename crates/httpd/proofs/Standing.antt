@@ -1,28 +1,7 @@
 -- The text that a value of the web server can send, for each state that it represents.
 -- [add: piece] What a value of the web server can send in the piece.
-use Rattle.std.proofs.Common.{◌≡◌, ℕ, ◌+◌, ◌≤◌, Bool, true, false, List, [], ◌++◌, Option, None, Some, length, drop, refl, sym, ap, subst, ◌∙◌, arith, true≢false, append-nil, length-drop}
-use Rattle.std.proofs.Math.Logic.{∥∥₁_elim, ∥∥₁_map}
-use Rattle.std.proofs.lemmas.List.{drop-drop}
-use Rattle.std.specs.Coded.{le_prop}
-use Rattle.app_events.specs.AppSpec.{Snapshot, AppState, text_left, IsRepresented, CanSay}
-use Rattle.site_image.specs.Files.{File}
-use Rattle.file_tree.specs.declared.file_id.FileId.{FileId}
-use Rattle.file_tree.specs.Site.{SiteContent, files_of}
-use Rattle.generators.specs.Giving.{Giving}
-use Rattle.web_pages.specs.Pieces.{reply_pieces_by}
-use Rattle.web_pages.specs.Pages.{text_by}
-use Rattle.web_pages.specs.WebMeaning.{web_spec_by}
-use Rattle.httpd.specs.declared.httpd.Pages.{Pages}
-use Rattle.httpd.specs.declared.stage.Stage.{Stage}
+use Rattle.httpd.proofs.Prelude.{◌≡◌, ℕ, ◌+◌, ◌≤◌, Bool, true, false, List, [], ◌++◌, Option, None, Some, length, drop, refl, sym, ap, subst, ◌∙◌, arith, true≢false, append-nil, length-drop, ∥∥₁_elim, ∥∥₁_map, drop-drop, le_prop, Snapshot, AppState, text_left, IsRepresented, CanSay, File, FileId, SiteContent, files_of, Giving, reply_pieces_by, text_by, web_spec_by, Pages, Stage, Thread, Head, Kind, Body, Inside, Making, End, FileReply, body, is_scripted, left_from, reply_by, Fits, IsBodyPlace, IsFound, IsInner, KeepsOn, IsPast, PagesRepresent, IsLeft, IsReplying, StandsIn, left_in, left_of_value}
 use Rattle.httpd.specs.declared.stage.Stage.TheVariants as stage
-use Rattle.httpd.specs.declared.thread.Thread.{Thread}
-use Rattle.httpd.specs.declared.thread.Thread.TheVariants.{Head, Kind, Body, Inside, Making, End}
-use Rattle.httpd.specs.Reply.{FileReply, body, is_scripted, left_from, reply_by}
-use Rattle.httpd.specs.Places.{Fits, IsBodyPlace, IsFound, IsInner}
-use Rattle.httpd.specs.Kept.{KeepsOn}
-use Rattle.httpd.specs.Looking.{IsPast}
-use Rattle.httpd.specs.HttpdRepresents.{PagesRepresent, IsLeft, IsReplying, StandsIn}
-use Rattle.httpd.specs.Lemmas.SameLeft.{left_in, left_of_value}
 
 abbrev pub means : {F : Type 0} → Giving F → SiteContent → Rattle.app_events.specs.AppSpec.AppSpec
 means g site = web_spec_by g (files_of site)

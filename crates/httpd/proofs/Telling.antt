@@ -1,25 +1,6 @@
 -- The states after a piece was delivered.
-use Rattle.std.proofs.Common.{◌≡◌, ℕ, ◌≤◌, List, ◌++◌, Option, None, Some, length, drop, refl, sym, ap, subst, ◌∙◌, arith}
-use Rattle.app_events.specs.AppSpec.{AppState}
-use Rattle.site_image.specs.Files.{File, file_named}
-use Rattle.file_tree.specs.declared.file_id.FileId.{FileId}
-use Rattle.file_tree.specs.Site.{SiteContent, files_of}
-use Rattle.web_pages.specs.Requests.{Wanted, wanted}
-use Rattle.web_pages.specs.Requests.Wanted.{Name, NotYet, Refused}
-use Rattle.generators.specs.Giving.{Giving}
-use Rattle.web_pages.specs.Pieces.{reply_pieces_by, reply_to_by}
-use Rattle.web_pages.specs.Pages.{reach_by, text_by}
-use Rattle.web_pages.specs.WebMeaning.{hits_by}
-use Rattle.web_pages.specs.Lemmas.Deciding.{more_by}
-use Rattle.httpd.specs.declared.httpd.Pages.{Pages}
-use Rattle.httpd.specs.declared.stage.Stage.{Stage}
+use Rattle.httpd.proofs.Prelude.{◌≡◌, ℕ, ◌≤◌, List, ◌++◌, Option, None, Some, length, drop, refl, sym, ap, subst, ◌∙◌, arith, AppState, File, file_named, FileId, SiteContent, files_of, Wanted, wanted, Name, NotYet, Refused, Giving, reply_pieces_by, reply_to_by, reach_by, text_by, hits_by, more_by, Pages, Stage, Head, FileReply, calls_in, found_file, left_from, reply_by, Fits, IsFound, KeepsDirective, HearsMethod, HearsTarget, IsDecided, PagesRepresent, IsLeft, IsReplying, SaysNothing, StandsIn}
 use Rattle.httpd.specs.declared.stage.Stage.TheVariants as stage
-use Rattle.httpd.specs.declared.thread.Thread.TheVariants.{Head}
-use Rattle.httpd.specs.Reply.{FileReply, calls_in, found_file, left_from, reply_by}
-use Rattle.httpd.specs.Places.{Fits, IsFound}
-use Rattle.httpd.specs.Kept.{KeepsDirective}
-use Rattle.httpd.specs.Hearing.{HearsMethod, HearsTarget, IsDecided}
-use Rattle.httpd.specs.HttpdRepresents.{PagesRepresent, IsLeft, IsReplying, SaysNothing, StandsIn}
 
 -- from the start of its head a reply generates its pieces
 pub reply_start : {F : Type 0} (g : Giving F) (files : List File) (file : Option File) (made : List ℕ) → left_from (record { gives = g; files = files; file = file; made = made }) (Head 0) ≡ reply_to_by g.calling.named files file

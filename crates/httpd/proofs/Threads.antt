@@ -1,14 +1,6 @@
 -- The span at each kind of thread.
 -- [add: piece] What a thread in the piece finds.
-use Rattle.std.proofs.Common.{◌≡◌, ℕ, ◌<◌, ◌≤◌, false, List, [], ◌∷◌, ◌++◌, length, drop, codes, refl, sym, ap, ◌∙◌, arith, true≢false, length-append, if◌then◌else◌}
-use Rattle.file_tree.specs.declared.file_id.FileId.{FileId}
-use Rattle.web_pages.specs.Pieces.{kind_line, says}
-use Rattle.web_pages.specs.Pieces.Say.{Plain}
-use Rattle.httpd.specs.declared.span.Span.{Span}
-use Rattle.httpd.specs.declared.thread.Thread.TheVariants.{Head, Kind, Body, Inside, Making, End}
-use Rattle.httpd.specs.Reply.{FileReply, body, body_from, head_text, included, is_scripted, kind_text, left_from}
-use Rattle.httpd.specs.Places.{Fits, IsBodyPlace, IsInner}
-use Rattle.httpd.specs.Looking.{IsSpan, Sees}
+use Rattle.httpd.proofs.Prelude.{◌≡◌, ℕ, ◌<◌, ◌≤◌, false, List, [], ◌∷◌, ◌++◌, length, drop, codes, refl, sym, ap, ◌∙◌, arith, true≢false, length-append, if◌then◌else◌, FileId, kind_line, says, Plain, Span, Head, Kind, Body, Inside, Making, End, FileReply, body, body_from, head_text, included, is_scripted, kind_text, left_from, Fits, IsBodyPlace, IsInner, IsSpan, Sees}
 use Rattle.httpd.proofs.Seeing.{rest_seen}
 
 pub line_short : (kind : List ℕ) → length kind ≤ 64 → length (kind_line kind) ≤ 16777216

@@ -1,25 +1,7 @@
 -- Going from piece to piece.
 -- [add: piece] The step to the next piece.
-use Rattle.std.proofs.Common.{◌≡◌, ℕ, ◌+◌, ◌-◌, ◌<◌, ◌≤◌, ◌==◌, ◌&&◌, min, Bool, true, false, List, [], ◌∷◌, ◌++◌, length, take, drop, nat_lt, refl, sym, ap, subst, ◌∙◌, arith, length-append, length-drop, true≢false, inl, inr, if◌then◌else◌}
-use Rattle.std.proofs.lemmas.Bool.{cases_eq, ne_eqb, lt-ltb}
-use Rattle.std.proofs.lemmas.List.{drop-drop, drop_at}
-use Rattle.app_events.specs.declared.want.Want.{Want}
-use Rattle.app_events.specs.declared.want.Want.TheVariants.{Nothing, Send, Close}
-use Rattle.site_image.specs.Files.{File}
-use Rattle.generators.specs.Giving.{Giving}
-use Rattle.web_pages.specs.Pieces.{Say}
-use Rattle.web_pages.specs.Pages.{reach_by, text_by}
-use Rattle.web_pages.specs.Lemmas.Growing.{stopped_text, stopped_end}
-use Rattle.httpd.specs.declared.span.Span.{Span}
+use Rattle.httpd.proofs.Prelude.{◌≡◌, ℕ, ◌+◌, ◌-◌, ◌<◌, ◌≤◌, ◌==◌, ◌&&◌, min, Bool, true, false, List, [], ◌∷◌, ◌++◌, length, take, drop, nat_lt, refl, sym, ap, subst, ◌∙◌, arith, length-append, length-drop, true≢false, inl, inr, if◌then◌else◌, cases_eq, ne_eqb, lt-ltb, drop-drop, drop_at, Want, Nothing, Send, Close, File, Giving, Say, reach_by, text_by, stopped_text, stopped_end, Span, Look, Thread, Head, Kind, Body, Inside, Making, End, FileReply, body_from, left_from, Fits, moved, thread_place, KeepsOn, want_left, IsCallBefore, IsText, IsPast, Leads, Sees, SeesBy, SeesCall, SeesText, span_text}
 use Rattle.httpd.specs.declared.span.Span.TheVariants as span
-use Rattle.httpd.specs.declared.span.Look.{Look}
-use Rattle.httpd.specs.declared.thread.Thread.{Thread}
-use Rattle.httpd.specs.declared.thread.Thread.TheVariants.{Head, Kind, Body, Inside, Making, End}
-use Rattle.httpd.specs.Reply.{FileReply, body_from, left_from}
-use Rattle.httpd.specs.Places.{Fits, moved, thread_place}
-use Rattle.httpd.specs.Kept.{KeepsOn}
-use Rattle.httpd.specs.Saying.{want_left}
-use Rattle.httpd.specs.Looking.{IsCallBefore, IsText, IsPast, Leads, Sees, SeesBy, SeesCall, SeesText, span_text}
 use Rattle.httpd.proofs.Seeing.{keeps_in}
 
 -- ---- text past a place

@@ -1,20 +1,6 @@
 -- What a line holds of the words delivered.
-use Rattle.std.proofs.Common.{◌≡◌, ℕ, suc, ◌+◌, ◌-◌, ◌<◌, ◌≤◌, ◌||◌, ◌&&◌, Bool, true, false, not, cond, List, [], ◌∷◌, ◌++◌, length, take, drop, nat_lt, codes, refl, sym, ap, subst, ◌∙◌, inl, inr, arith, if◌then◌else◌, true≢false, length-append, length-take, append_assoc}
-use Rattle.std.specs.Prelude.{nat_eq}
-use Rattle.std.specs.List.{before_first, list_any, starts_with}
-use Rattle.std.specs.Str.{bytes_eq}
-use Rattle.std.proofs.lemmas.Bool.{cases_lt, lt-ltb, le-ltb, ltb-true, ltb-false, or_parts, leb-true, and_parts}
-use Rattle.std.proofs.lemmas.List.{drop_all, take_all, take-append-drop}
-use Rattle.std.proofs.lemmas.List.Folds.{list_any-append}
-use Rattle.std.proofs.lemmas.Slice.Eq.{bytes_eq-Decides}
-use Rattle.site_image.specs.Files.{File, has_name}
-use Rattle.file_tree.specs.Site.{IsLoaded, SiteContent, files_of}
+use Rattle.httpd.proofs.Prelude.{◌≡◌, ℕ, suc, ◌+◌, ◌-◌, ◌<◌, ◌≤◌, ◌||◌, ◌&&◌, Bool, true, false, not, cond, List, [], ◌∷◌, ◌++◌, length, take, drop, nat_lt, codes, refl, sym, ap, subst, ◌∙◌, inl, inr, arith, if◌then◌else◌, true≢false, length-append, length-take, append_assoc, nat_eq, before_first, list_any, starts_with, bytes_eq, cases_lt, lt-ltb, le-ltb, ltb-true, ltb-false, or_parts, leb-true, and_parts, drop_all, take_all, take-append-drop, list_any-append, bytes_eq-Decides, File, has_name, IsLoaded, SiteContent, files_of, Stops, Space, SpaceOrLine, Line, after, fresh, delivered, is_query_mark, is_stop, word_of, hears_joined, none_at_all, none_before, one_before, after_method, has_ended, method_of, name_in}
 use Rattle.httpd.proofs.Sizes.{name_short}
-use Rattle.protosocket.specs.declared.stops.Stops.{Stops}
-use Rattle.protosocket.specs.declared.stops.Stops.TheVariants.{Space, SpaceOrLine}
-use Rattle.protosocket.specs.Line.{Line, after, fresh, delivered, is_query_mark, is_stop, word_of}
-use Rattle.protosocket.specs.Lemmas.Hearing.{hears_joined, none_at_all, none_before, one_before}
-use Rattle.web_pages.specs.Requests.{after_method, has_ended, method_of, name_in}
 
 -- a line that was fed some bytes is fed more
 pub heard_more : (stops : Stops) (bytes piece : List ℕ) → after (delivered stops bytes) piece ≡ delivered stops (bytes ++ piece)

@@ -1,20 +1,6 @@
 -- What a target requests, word by word.
-use Rattle.std.proofs.Common.{◌≡◌, ℕ, true, List, [], ◌∷◌, ◌++◌, Option, Some, refl, sym, ap, ◌∙◌, true≢false}
-use Rattle.std.specs.Prelude.{codes}
-use Rattle.std.proofs.lemmas.Bool.{or_right}
-use Rattle.std.proofs.lemmas.List.Folds.{list_any-append}
-use Rattle.std.specs.List.{list_any}
-use Rattle.protosocket.specs.declared.stops.Stops.TheVariants.{Space, SpaceOrLine}
-use Rattle.protosocket.specs.Line.{Line, is_stop, word_of}
+use Rattle.httpd.proofs.Prelude.{◌≡◌, ℕ, true, List, [], ◌∷◌, ◌++◌, Option, Some, refl, sym, ap, ◌∙◌, true≢false, codes, or_right, list_any-append, list_any, Space, SpaceOrLine, Line, is_stop, word_of, FileId, File, file_named, wanted, has_ended, after_method, name_in, target_of, ended_more, after_more, name_stays, IsFound, found_file, HearsMethod, HearsTarget, HasName, IsAsked}
 use Rattle.protosocket.specs.Line.{delivered as heard_line}
-use Rattle.file_tree.specs.declared.file_id.FileId.{FileId}
-use Rattle.site_image.specs.Files.{File, file_named}
-use Rattle.web_pages.specs.Requests.{wanted, has_ended, after_method, name_in, target_of}
-use Rattle.web_pages.specs.Lemmas.Deciding.{ended_more, after_more, name_stays}
-use Rattle.httpd.specs.Places.{IsFound}
-use Rattle.httpd.specs.Reply.{found_file}
-use Rattle.httpd.specs.Hearing.{HearsMethod, HearsTarget, HasName}
-use Rattle.httpd.specs.Zero.{IsAsked}
 
 -- before the target comes
 pub hears_method : (line : Line) → line ≡ heard_line SpaceOrLine [] → HearsTarget line (codes "GET ")

@@ -1,35 +1,5 @@
 -- A reply is written piece by piece, as its thread generates it.
-use Rattle.std.proofs.Common.{◌≡◌, ℕ, ◌+◌, ◌<◌, List, [], ◌++◌, length, replicate, Option, Some, Result, Ok, Err, IsErr, refl, sym, ap, ◌∙◌, subst, arith, append_assoc, length-append, if◌then◌else◌, inl, inr}
-use Rattle.std.proofs.lemmas.Bool.{cases_eq}
-use Rattle.std.specs.List.{flat_map}
-use Rattle.std.specs.Io.KnownBytes.{Appends}
-use Rattle.uip_edge.specs.declared.failed.Failed.{Failed}
-use Rattle.uip_edge.specs.Views.{SinkView}
-use Rattle.uip_edge.specs.Writing.{Writes}
-use Rattle.uip_edge.proofs.Told.{Appends-none, Appends-then}
-use Rattle.uip_edge.proofs.Writes.{writes_broken, writes_by, writes_none, writes_then}
-use Rattle.script_lang.specs.declared.function.Function.{Function}
-use Rattle.generators.specs.declared.capture.Capture.{Capture}
-use Rattle.generators.specs.Captures.{capture_of}
-use Rattle.generators.specs.Giving.{uip}
-use Rattle.generators.specs.Text.{capture_text}
-use Rattle.script_lang.specs.Functions.{uip_calls}
-use Rattle.site_image.specs.Files.{File}
-use Rattle.web_pages.specs.Requests.{wanted}
-use Rattle.web_pages.specs.Requests.Wanted.{Refused, Name}
-use Rattle.web_pages.specs.Pieces.{Say, reply_to_by}
-use Rattle.web_pages.specs.Pages.{text_by}
-use Rattle.web_pages.specs.ZeroPages.{request_for, zero_snapshot, zero_page, zero_reply, zero_said}
-use Rattle.web_pages.proofs.ZeroLaws.{zero_asked, zero_text}
-use Rattle.file_tree.specs.declared.file_id.FileId.{FileId}
-use Rattle.file_tree.specs.Site.{SiteContent}
-use Rattle.httpd.specs.declared.span.Look.{Look}
-use Rattle.httpd.specs.declared.thread.Thread.{Thread}
-use Rattle.httpd.specs.declared.thread.Thread.TheVariants.{Head}
-use Rattle.httpd.specs.Reply.{FileReply, body_from, calls_in, found_file, left_from, reply_in}
-use Rattle.httpd.specs.Places.{Fits}
-use Rattle.httpd.specs.Looking.{SeesCall, SeesText, span_text}
-use Rattle.httpd.specs.Zero.{IsAsked}
+use Rattle.httpd.proofs.Prelude.{◌≡◌, ℕ, ◌+◌, ◌<◌, List, [], ◌++◌, length, replicate, Option, Some, Result, Ok, Err, IsErr, refl, sym, ap, ◌∙◌, subst, arith, append_assoc, length-append, if◌then◌else◌, inl, inr, cases_eq, flat_map, Appends, Failed, SinkView, Writes, Appends-none, Appends-then, writes_broken, writes_by, writes_none, writes_then, Function, Capture, capture_of, uip, capture_text, uip_calls, File, wanted, Refused, Name, Say, reply_to_by, text_by, request_for, zero_snapshot, zero_page, zero_reply, zero_said, zero_asked, zero_text, FileId, SiteContent, Look, Thread, Head, FileReply, body_from, calls_in, found_file, left_from, reply_in, Fits, SeesCall, SeesText, span_text, IsAsked}
 use Rattle.httpd.proofs.Asking.{other_inner}
 use Rattle.httpd.proofs.Telling.{prefix_fits, reply_start}
 use Rattle.httpd.proofs.Walking.{call_before}

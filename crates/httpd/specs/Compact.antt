@@ -1,9 +1,9 @@
 -- The states that the compact pages of a connection represent: those of the pages that keep the same.
 use Rattle.std.specs.Prelude.{ℕ, Bool, true, false, List, []}
-use Rattle.app_events.specs.AppSpec.{AppState}
-use Rattle.file_tree.specs.Site.{SiteContent}
-use Rattle.generators.specs.Giving.{Giving}
-use Rattle.protosocket.specs.Line.{Line, delivered}
+use Rattle.app_events.specs.Prelude.{AppState}
+use Rattle.file_tree.specs.Prelude.{SiteContent}
+use Rattle.generators.specs.Prelude.{Giving}
+use Rattle.protosocket.specs.Prelude.{Line, delivered}
 use Rattle.protosocket.specs.declared.stops.Stops.TheVariants.{Space}
 use Rattle.httpd.specs.declared.compact.CompactPages.{CompactPages}
 use Rattle.httpd.specs.declared.compact.CompactPages.TheVariants as compact

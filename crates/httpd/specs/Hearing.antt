@@ -2,11 +2,10 @@
 use Rattle.std.specs.Prelude.{◌≡◌, ℕ, false, true, List, codes, Option}
 use Rattle.std.specs.Str.{bytes_eq}
 use Rattle.protosocket.specs.declared.stops.Stops.TheVariants.{Space, SpaceOrLine}
-use Rattle.protosocket.specs.Line.{Line}
+use Rattle.protosocket.specs.Prelude.{Line}
 use Rattle.protosocket.specs.Line.{delivered as heard_line}
-use Rattle.web_pages.specs.Requests.{Wanted, wanted, has_ended, method_of, after_method, name_in, target_of}
-use Rattle.web_pages.specs.Requests.Wanted.{Refused, Name}
-use Rattle.site_image.specs.Files.{File, file_named}
+use Rattle.web_pages.specs.Prelude.{Wanted, wanted, has_ended, method_of, after_method, name_in, target_of, Refused, Name}
+use Rattle.site_image.specs.Prelude.{File, file_named}
 use Rattle.file_tree.specs.declared.file_id.FileId.{FileId}
 use Rattle.httpd.specs.declared.stage.Stage.{Stage}
 use Rattle.httpd.specs.declared.stage.Stage.TheVariants as stage

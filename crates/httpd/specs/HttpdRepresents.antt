@@ -1,17 +1,12 @@
 -- The states that a connection of the web server represents.
 use Rattle.std.specs.Prelude.{◌≡◌, ◌≤◌, ◌+◌, ℕ, List, [], ◌++◌, length, drop, Option}
-use Rattle.app_events.specs.AppSpec.{AppSpec, AppState, Snapshot}
+use Rattle.app_events.specs.Prelude.{AppSpec, AppState, Snapshot}
 use Rattle.app_events.specs.declared.now.Now.{Now}
 use Rattle.file_tree.specs.declared.file_id.FileId.{FileId}
-use Rattle.file_tree.specs.Site.{SiteContent, files_of}
-use Rattle.site_image.specs.Files.{File, file_named}
-use Rattle.web_pages.specs.Requests.{wanted}
-use Rattle.web_pages.specs.Requests.Wanted.{Refused, Name}
-use Rattle.generators.specs.Giving.{Giving, uip}
-use Rattle.generators.specs.Text.{capture_text}
-use Rattle.web_pages.specs.Pieces.{Say, reply_pieces_by}
-use Rattle.web_pages.specs.Pages.{reach_by, text_by}
-use Rattle.web_pages.specs.WebMeaning.{hits_by}
+use Rattle.file_tree.specs.Prelude.{SiteContent, files_of}
+use Rattle.site_image.specs.Prelude.{File, file_named}
+use Rattle.web_pages.specs.Prelude.{wanted, Refused, Name, Say, reply_pieces_by, reach_by, text_by, hits_by}
+use Rattle.generators.specs.Prelude.{Giving, uip, capture_text}
 use Rattle.httpd.specs.declared.stage.Stage.{Stage}
 use Rattle.httpd.specs.declared.stage.Stage.TheVariants as stage
 use Rattle.httpd.specs.First.{Httpd}

@@ -1,13 +1,12 @@
 -- What a thread keeps while it sends something inside a script: the file of the include, and the record of the last snapshot.
 -- [add: piece] An arm of `KeepsDirective`.
 use Rattle.std.specs.Prelude.{◌≡◌, ℕ, ◌+◌, true, List, [], ◌∷◌, ◌++◌, slice_range, Some}
-use Rattle.app_events.specs.AppSpec.{Snapshot}
+use Rattle.app_events.specs.Prelude.{Snapshot}
 use Rattle.file_tree.specs.declared.file_id.FileId.{FileId}
 use Rattle.script_lang.specs.declared.piece.PieceOf.{PieceOf}
 use Rattle.script_lang.specs.declared.piece.PieceOf.TheVariants.{Include, Call}
-use Rattle.script_lang.specs.Directives.{begins}
-use Rattle.script_lang.specs.Pieces.{piece_by}
-use Rattle.web_pages.specs.Pages.{made_by, place_of}
+use Rattle.script_lang.specs.Prelude.{begins, piece_by}
+use Rattle.web_pages.specs.Prelude.{made_by, place_of}
 use Rattle.httpd.specs.declared.thread.Thread.{Thread}
 use Rattle.httpd.specs.declared.thread.Thread.TheVariants.{Head, Kind, Body, Inside, Making, End}
 use Rattle.httpd.specs.Reply.{FileReply, body}

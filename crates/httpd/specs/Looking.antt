@@ -1,13 +1,11 @@
 -- The piece of a reply at which a thread is.
 -- [add: piece] What the function of the piece finds, as `SeesCall`.
 use Rattle.std.specs.Prelude.{◌≡◌, ◌≤◌, ◌<◌, ℕ, ◌+◌, ◌^◌, true, List, [], ◌∷◌, ◌++◌, length, drop, slice_range}
-use Rattle.app_events.specs.AppSpec.{Snapshot}
-use Rattle.generators.specs.Giving.{Giving}
-use Rattle.site_image.specs.Files.{File}
+use Rattle.app_events.specs.Prelude.{Snapshot}
+use Rattle.generators.specs.Prelude.{Giving}
+use Rattle.site_image.specs.Prelude.{File}
 use Rattle.site_image.specs.declared.TheConstants.{LONGEST_IMAGE, LONGEST_KIND}
-use Rattle.web_pages.specs.Pieces.{Say, kind_line}
-use Rattle.web_pages.specs.Pieces.Say.{Made}
-use Rattle.web_pages.specs.Pages.{text_by, reach_by}
+use Rattle.web_pages.specs.Prelude.{Say, kind_line, Made, text_by, reach_by}
 use Rattle.httpd.specs.declared.texts.TheConstants.{LONGEST_TEXT}
 use Rattle.httpd.specs.declared.span.Span.{Span}
 use Rattle.httpd.specs.declared.span.Span.TheVariants as span

@@ -1,10 +1,10 @@
 -- The offsets at which a thread can be: each `at` is at most the length of its text.
 -- [add: piece] An arm of `Fits` and of `moved`.
 use Rattle.std.specs.Prelude.{◌≡◌, ◌≤◌, ◌<◌, ℕ, ◌+◌, true, List, length, Option, None, Some}
-use Rattle.script_lang.specs.Directives.{is_inside_directive}
-use Rattle.site_image.specs.Files.{File}
+use Rattle.script_lang.specs.Prelude.{is_inside_directive}
+use Rattle.site_image.specs.Prelude.{File}
 use Rattle.file_tree.specs.declared.file_id.FileId.{FileId}
-use Rattle.web_pages.specs.Pieces.{kind_line}
+use Rattle.web_pages.specs.Prelude.{kind_line}
 use Rattle.httpd.specs.Reply.{FileReply, body, head_text, included, is_scripted, kind_text}
 use Rattle.httpd.specs.declared.thread.Thread.{Thread}
 use Rattle.httpd.specs.declared.thread.Thread.TheVariants.{Head, Kind, Body, Inside, Making, End}

@@ -3,17 +3,13 @@
 use Rattle.std.specs.Prelude.{ℕ, ◌+◌, Bool, false, List, [], ◌∷◌, map, drop, codes, slice_get, if◌then◌else◌, Option, None, Some}
 use Rattle.std.specs.Option.{option_and_then}
 use Rattle.script_lang.specs.declared.function.Function.{Function}
-use Rattle.script_lang.specs.Calling.{Calling}
-use Rattle.script_lang.specs.Pieces.{pieces_by}
-use Rattle.site_image.specs.Names.{is_script}
-use Rattle.site_image.specs.Files.{File, file_named, kind_of}
+use Rattle.script_lang.specs.Prelude.{Calling, pieces_by}
+use Rattle.site_image.specs.Prelude.{is_script, File, file_named, kind_of}
 use Rattle.file_tree.specs.declared.file_id.FileId.{FileId}
-use Rattle.file_tree.specs.Site.{SiteContent, files_of}
+use Rattle.file_tree.specs.Prelude.{SiteContent, files_of}
 use Rattle.generators.specs.declared.capture.Capture.{Capture}
-use Rattle.generators.specs.Giving.{Giving, uip}
-use Rattle.generators.specs.Text.{capture_text}
-use Rattle.web_pages.specs.Pieces.{Say, bytes_or, found_head, kind_line, missing_head, says}
-use Rattle.web_pages.specs.Pieces.Say.{Plain, Made}
+use Rattle.generators.specs.Prelude.{Giving, uip, capture_text}
+use Rattle.web_pages.specs.Prelude.{Say, bytes_or, found_head, kind_line, missing_head, says, Plain, Made}
 use Rattle.httpd.specs.declared.thread.Thread.{Thread}
 use Rattle.httpd.specs.declared.thread.Thread.TheVariants.{Head, Kind, Body, Inside, Making, End}
 

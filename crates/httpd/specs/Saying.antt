@@ -2,8 +2,7 @@
 use Rattle.std.specs.Prelude.{◌≡◌, ℕ, ◌==◌, ◌&&◌, Bool, true, List, [], length, min, nat_lt, if◌then◌else◌}
 use Rattle.app_events.specs.declared.want.Want.{Want}
 use Rattle.app_events.specs.declared.want.Want.TheVariants.{Nothing, Send, Close}
-use Rattle.web_pages.specs.Pieces.{Say}
-use Rattle.web_pages.specs.Pages.{reach_by, text_by}
+use Rattle.web_pages.specs.Prelude.{Say, reach_by, text_by}
 use Rattle.web_pages.specs.declared.TheConstants.{LARGEST_SEGMENT}
 use Rattle.httpd.specs.declared.saying.Due.{Due}
 use Rattle.httpd.specs.declared.thread.Thread.{Thread}

@@ -1,6 +1,6 @@
 -- What the connections of the web server share.
 use Rattle.std.specs.Prelude.{◌≡◌, ℕ, List, length}
-use Rattle.file_tree.specs.Site.{SiteContent, files_of}
+use Rattle.file_tree.specs.Prelude.{SiteContent, files_of}
 
 pub record WebContent : Type 0 where
   pub site : SiteContent

@@ -1,9 +1,8 @@
 -- What a target requests.
 use Rattle.std.specs.Prelude.{◌≡◌, List, Option, None, Some}
 use Rattle.file_tree.specs.declared.file_id.FileId.{FileId}
-use Rattle.site_image.specs.Files.{File}
-use Rattle.web_pages.specs.Requests.{Wanted}
-use Rattle.web_pages.specs.Requests.Wanted.{Refused}
+use Rattle.site_image.specs.Prelude.{File}
+use Rattle.web_pages.specs.Prelude.{Wanted, Refused}
 use Rattle.httpd.specs.Hearing.{IsFileAsked}
 
 -- the file found, or nothing

@@ -1,13 +1,11 @@
 //! The web server on one connection, in less memory.
 
 ghost use Rattle.std.specs.Prelude.{◌≡◌, ℕ, List, [], ◌+◌, ◌++◌, false, length, min, take};
-ghost use Rattle.app_events.specs.AppSpec.{AppState, IsRepresented, CanSay, text_left};
+ghost use Rattle.app_events.specs.Prelude.{AppState, IsRepresented, CanSay, text_left};
 ghost use Rattle.app_events.specs.declared.now.Now.{Now};
-ghost use Rattle.file_tree.specs.Site.{SiteContent, files_of};
-ghost use Rattle.generators.specs.Giving.{gives};
-ghost use Rattle.web_pages.specs.Requests.{wanted};
-ghost use Rattle.web_pages.specs.Requests.Wanted.{NotYet};
-ghost use Rattle.web_pages.specs.WebMeaning.{hits_by, web_spec_by, web_want_by};
+ghost use Rattle.file_tree.specs.Prelude.{SiteContent, files_of};
+ghost use Rattle.generators.specs.Prelude.{gives};
+ghost use Rattle.web_pages.specs.Prelude.{wanted, NotYet, hits_by, web_spec_by, web_want_by};
 ghost use Rattle.httpd.specs.Compact.{CompactRepresent, HearsWord, is_target_stage, polls_of, with_polls};
 ghost use Rattle.httpd.specs.Hearing.{IsDecided};
 ghost use Rattle.httpd.specs.Web.{IsCounted};

@@ -3,14 +3,11 @@
 ghost use Rattle.std.specs.Prelude.{◌≡◌, ◌≤◌, ◌++◌, ◌&&◌, ℕ, List, length, not, nat_eq, codes, option_map, if◌then◌else◌};
 ghost use Rattle.std.specs.Str.{bytes_eq};
 ghost use Rattle.std.specs.List.{starts_with};
-ghost use Rattle.file_tree.specs.Site.{files_of};
-ghost use Rattle.site_image.specs.Files.{file_named};
+ghost use Rattle.file_tree.specs.Prelude.{files_of};
+ghost use Rattle.site_image.specs.Prelude.{file_named};
 ghost use Rattle.protosocket.specs.declared.stops.Stops.TheVariants.{SpaceOrLine};
-ghost use Rattle.protosocket.specs.Line.{after, delivered, part_taken, word_of};
-ghost use Rattle.web_pages.specs.Pages.{place_of};
-ghost use Rattle.web_pages.specs.Requests.{name_in, wanted};
-ghost use Rattle.web_pages.specs.Requests.Wanted.{NotYet};
-ghost use Rattle.web_pages.specs.WebMeaning.{hits_by};
+ghost use Rattle.protosocket.specs.Prelude.{after, delivered, part_taken, word_of};
+ghost use Rattle.web_pages.specs.Prelude.{place_of, name_in, wanted, NotYet, hits_by};
 ghost use Rattle.httpd.specs.Hearing.{HearsMethod, HearsTarget, HearsTo, IsDecided};
 ghost use Rattle.httpd.specs.Places.{IsFound};
 ghost use Rattle.httpd.specs.Reply.{found_file};

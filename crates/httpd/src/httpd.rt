@@ -1,10 +1,10 @@
 //! The web server on one connection.
 
 ghost use Rattle.std.specs.Prelude.{◌≡◌, ◌==◌, ℕ, ◌+◌, ◌++◌, false, length, min, take};
-ghost use Rattle.app_events.specs.AppSpec.{AppState, IsRepresented, CanSay, text_left};
-ghost use Rattle.file_tree.specs.Site.{SiteContent, files_of};
-ghost use Rattle.generators.specs.Giving.{gives};
-ghost use Rattle.web_pages.specs.WebMeaning.{web_spec_by, web_want_by};
+ghost use Rattle.app_events.specs.Prelude.{AppState, IsRepresented, CanSay, text_left};
+ghost use Rattle.file_tree.specs.Prelude.{SiteContent, files_of};
+ghost use Rattle.generators.specs.Prelude.{gives};
+ghost use Rattle.web_pages.specs.Prelude.{web_spec_by, web_want_by};
 ghost use Rattle.web_pages.specs.declared.TheConstants.{MOST_POLLS};
 ghost use Rattle.httpd.specs.HttpdRepresents.{Becomes, PagesRepresent, TakesNoCapture, before_input, hits_after};
 ghost use Rattle.httpd.specs.Web.{IsCounted};

@@ -1,14 +1,13 @@
 //! Finds the span of a reply at a given offset, and where the next span begins.
 
 ghost use Rattle.std.specs.Prelude.{◌≡◌, ◌≤◌, ◌<◌, ◌+◌, ◌∷◌, [], true, drop, length, slice_range};
-ghost use Rattle.file_tree.specs.Site.{files_of};
-ghost use Rattle.generators.specs.Giving.{gives};
+ghost use Rattle.file_tree.specs.Prelude.{files_of};
+ghost use Rattle.generators.specs.Prelude.{gives};
 ghost use Rattle.site_image.specs.declared.TheConstants.{LONGEST_IMAGE};
-ghost use Rattle.site_image.specs.Files.{file_named};
-ghost use Rattle.web_pages.specs.Pieces.{bytes_or};
-ghost use Rattle.web_pages.specs.Pieces.Say.{Plain, Made};
+ghost use Rattle.site_image.specs.Prelude.{file_named};
+ghost use Rattle.web_pages.specs.Prelude.{bytes_or, Plain, Made};
 ghost use Rattle.httpd.specs.Reply.{body, body_from, found_file, is_scripted, left_from, reply_by};
-ghost use Rattle.script_lang.specs.Pieces.{run_end};
+ghost use Rattle.script_lang.specs.Prelude.{run_end};
 ghost use Rattle.httpd.specs.Places.{Fits, IsBodyPlace, IsFound, IsInner};
 ghost use Rattle.httpd.specs.Kept.{EndsCall, EndsInclude, KeepsAll, KeepsOn};
 ghost use Rattle.httpd.specs.Looking.{IsSpan, Sees};

@@ -1,8 +1,8 @@
 //! Generates a reply span by span: fills segments, passes over acknowledged text, and decides what to send.
 
 ghost use Rattle.std.specs.Prelude.{◌≡◌, ◌==◌, ◌≤◌, ◌-◌, length, take, MatchOption, if◌then◌else◌};
-ghost use Rattle.file_tree.specs.Site.{files_of};
-ghost use Rattle.generators.specs.Giving.{gives};
+ghost use Rattle.file_tree.specs.Prelude.{files_of};
+ghost use Rattle.generators.specs.Prelude.{gives};
 ghost use Rattle.httpd.specs.Reply.{left_from, reply_by};
 ghost use Rattle.httpd.specs.Places.{Fits, IsFound};
 ghost use Rattle.httpd.specs.Kept.{KeepsOn};

@@ -2,7 +2,7 @@
 
 ghost use Rattle.std.specs.Prelude.{◌≡◌, ◌+◌, ◌≤◌, ◌++◌, length, take, drop};
 ghost use Rattle.site_image.specs.declared.TheConstants.{LONGEST_IMAGE, LONGEST_KIND};
-ghost use Rattle.web_pages.specs.Pieces.{kind_line};
+ghost use Rattle.web_pages.specs.Prelude.{kind_line};
 ghost use Rattle.httpd.specs.Looking.{SpanFits, span_text};
 
 use crate::texts::line_of;

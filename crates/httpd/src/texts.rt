@@ -2,9 +2,9 @@
 
 ghost use Rattle.std.specs.Prelude.{◌≡◌, ◌≤◌, ◌<◌, [], length, option_map, slice_get, None, Some};
 ghost use Rattle.site_image.specs.declared.TheConstants.{LONGEST_IMAGE, LONGEST_KIND};
-ghost use Rattle.site_image.specs.Files.{kind_of};
-ghost use Rattle.file_tree.specs.Site.{files_of, IsLoaded};
-ghost use Rattle.web_pages.specs.Pieces.{bytes_or, kind_line};
+ghost use Rattle.site_image.specs.Prelude.{kind_of};
+ghost use Rattle.file_tree.specs.Prelude.{files_of, IsLoaded};
+ghost use Rattle.web_pages.specs.Prelude.{bytes_or, kind_line};
 ghost use Rattle.httpd.specs.Reply.{body_bytes, found_file, head_text, is_scripted, kind_text};
 ghost use Rattle.httpd.specs.Places.{IsFound};
 

@@ -1,13 +1,11 @@
 //! What the connections of the web server share.
 
 ghost use Rattle.std.specs.Prelude.{◌≡◌, ◌<◌, length, replicate, option_map, IfOk, IfSome};
-ghost use Rattle.file_tree.specs.Site.{files_of};
-ghost use Rattle.site_image.specs.Files.{file_named};
-ghost use Rattle.web_pages.specs.Serving.{no_hits};
-ghost use Rattle.web_pages.specs.Pages.{hits_of, place_of};
+ghost use Rattle.file_tree.specs.Prelude.{files_of};
+ghost use Rattle.site_image.specs.Prelude.{file_named};
+ghost use Rattle.web_pages.specs.Prelude.{no_hits, hits_of, place_of, hit_at};
 ghost use Rattle.httpd.specs.Reply.{found_file};
 ghost use Rattle.httpd.specs.Places.{IsFound};
-ghost use Rattle.web_pages.specs.WebMeaning.{hit_at};
 
 use crate::texts::see_loaded;
 use file_tree::{FileId, Image, SiteOf};

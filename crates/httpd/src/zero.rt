@@ -1,17 +1,15 @@
 //! Writes the page of a target as a node with an empty history sends it.
 
 ghost use Rattle.std.specs.Prelude.{◌≡◌, ◌++◌, List, ℕ, codes, length};
-ghost use Rattle.file_tree.specs.Site.{files_of};
-ghost use Rattle.web_pages.specs.Requests.{wanted};
-ghost use Rattle.web_pages.specs.ZeroPages.{request_for, zero_snapshot, zero_page, zero_reply};
+ghost use Rattle.file_tree.specs.Prelude.{files_of};
+ghost use Rattle.web_pages.specs.Prelude.{wanted, request_for, zero_snapshot, zero_page, zero_reply};
 ghost use Rattle.httpd.specs.Hearing.{HearsTarget};
 ghost use Rattle.httpd.specs.Looking.{SpanFits, span_text};
 ghost use Rattle.httpd.specs.Places.{IsFound};
-ghost use Rattle.generators.specs.Text.{capture_text};
+ghost use Rattle.generators.specs.Prelude.{capture_text};
 ghost use Rattle.httpd.specs.Reply.{found_file};
 ghost use Rattle.httpd.specs.Zero.{IsAsked};
-ghost use Rattle.uip_edge.specs.Writing.{Writes};
-ghost use Rattle.uip_edge.specs.ViewsOf.{sink_view};
+ghost use Rattle.uip_edge.specs.Prelude.{Writes, sink_view};
 
 use crate::hearing::{Heard, file_asked, hear_target};
 use crate::looking::look;

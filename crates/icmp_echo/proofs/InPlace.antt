@@ -1,8 +1,6 @@
 -- A reply that is made in place.
-use Rattle.std.proofs.Common.{◌≡◌, ℕ, ◌-◌, ◌≤◌, List, [], ◌++◌, length, take, drop, slice_range, refl, sym, ap, ◌∙◌, arith, append-nil, length-append, length-take, length-drop}
-use Rattle.std.proofs.lemmas.List.{take_rest, drop_all, drop-drop, drop-take, take-take, take_at, drop_at}
+use Rattle.icmp_echo.proofs.Prelude.{◌≡◌, ℕ, ◌-◌, ◌≤◌, List, [], ◌++◌, length, take, drop, slice_range, refl, sym, ap, ◌∙◌, arith, append-nil, length-append, length-take, length-drop, take_rest, drop_all, drop-drop, drop-take, take-take, take_at, drop_at, echo_message, echo_reply}
 use borrow.Rule.Slice.PartMut.{put_mid}
-use Rattle.icmp_echo.specs.Echo.{echo_message, echo_reply}
 
 abbrev pub exchanged : List ℕ → List ℕ
 exchanged d = take 12 d ++ slice_range d 16 20 ++ slice_range d 12 16

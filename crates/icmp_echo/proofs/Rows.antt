@@ -1,10 +1,5 @@
 -- Echo requests worked by hand with their replies, and each fate of a message at its edge.
-use Rattle.std.proofs.Common.{◌≡◌, ℕ, List, [], ◌∷◌, map, Option, Some, None, refl}
-use Rattle.icmp_echo.specs.declared.fate.IcmpFate.{IcmpFate}
-use Rattle.std.specs.Prelude.{replicate}
-use Rattle.uip_wire.specs.Checksum.{folded}
-use Rattle.icmp_echo.specs.declared.fate.IcmpFate.TheVariants.{Short, Checksum, NotEcho}
-use Rattle.icmp_echo.specs.Echo.{echo_reply, echo_fate}
+use Rattle.icmp_echo.proofs.Prelude.{◌≡◌, ℕ, List, [], ◌∷◌, map, Option, Some, None, refl, IcmpFate, replicate, folded, Short, Checksum, NotEcho, echo_reply, echo_fate}
 
 -- Requests, and the reply to each.
 abbrev reply_rows : List (List ℕ × List ℕ)

@@ -1,12 +1,5 @@
 -- The checksum of a reply, by that of its request.
-use Rattle.std.proofs.Common.{◌≡◌, ◌≢◌, ℕ, ◌+◌, ◌-◌, ◌*◌, ◌<◌, ◌≤◌, inl, inr, Bool, true, false, not, ◌||◌, if◌then◌else◌, Option, Some, None, List, [], ◌∷◌, length, drop, slice_index, refl, sym, ap, ◌∙◌, arith, ltb, eqb}
-use Rattle.std.proofs.lemmas.Grind.{common_steps}
-use Rattle.uip_wire.specs.Checksum.{checksum_of, folded, word_sum}
-use Rattle.uip_wire.specs.Fields.{word_at}
-use Rattle.uip_wire.proofs.Folding.{folded_cases, folded_most}
-use Rattle.icmp_echo.specs.declared.fate.IcmpFate.{IcmpFate}
-use Rattle.icmp_echo.specs.declared.fate.IcmpFate.TheVariants.{Short, Checksum, NotEcho}
-use Rattle.icmp_echo.specs.Echo.{echo_fate}
+use Rattle.icmp_echo.proofs.Prelude.{◌≡◌, ◌≢◌, ℕ, ◌+◌, ◌-◌, ◌*◌, ◌<◌, ◌≤◌, inl, inr, Bool, true, false, not, ◌||◌, if◌then◌else◌, Option, Some, None, List, [], ◌∷◌, length, drop, slice_index, refl, sym, ap, ◌∙◌, arith, ltb, eqb, common_steps, checksum_of, folded, word_sum, word_at, folded_cases, folded_most, IcmpFate, Short, Checksum, NotEcho, echo_fate}
 
 -- what holds of a message that fails no check
 pub record IsRequest (message : List ℕ) : Type 0 where

@@ -1,11 +1,10 @@
 -- The reply to an echo request (RFC 792, page 14).
 -- [add: fate] ICMP: its check in the list of checks.
 use Rattle.std.specs.Prelude.{ℕ, ◌==◌, ◌||◌, not, nat_lt, if◌then◌else◌, List, ◌∷◌, ◌++◌, Option, None, Some, length, take, drop, slice_index, slice_range}
-use Rattle.packet_buffer.specs.Buffer.{Buffer, datagram_in}
-use Rattle.uip_ipv4.specs.Head.{payload_of}
+use Rattle.packet_buffer.specs.Prelude.{Buffer, datagram_in}
+use Rattle.uip_ipv4.specs.Prelude.{payload_of}
 use Rattle.uip_ipv4.specs.declared.head.IpHead.{IpHead}
-use Rattle.uip_wire.specs.Checksum.{checksum_of}
-use Rattle.uip_wire.specs.Fields.{word_bytes}
+use Rattle.uip_wire.specs.Prelude.{checksum_of, word_bytes}
 use Rattle.icmp_echo.specs.declared.fate.IcmpFate.{IcmpFate}
 use Rattle.icmp_echo.specs.declared.fate.IcmpFate.TheVariants.{Short, Checksum, NotEcho}
 

@@ -2,7 +2,7 @@
 
 ghost use Rattle.std.specs.Prelude.{◌≡◌, ◌≤◌, ◌++◌, ◌∷◌, None, length, take, drop, slice_range};
 ghost use Rattle.icmp_echo.specs.Echo.{echo_fate, echo_message, echo_reply};
-ghost use Rattle.uip_wire.specs.Checksum.{checksum_of};
+ghost use Rattle.uip_wire.specs.Prelude.{checksum_of};
 
 use uip_wire::{Addr, checksum, get16, put16};
 

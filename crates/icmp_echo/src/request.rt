@@ -1,9 +1,9 @@
 //! The checks of an echo request, and the reply.
 
 ghost use Rattle.std.specs.Prelude.{◌≡◌, MatchResult, OnErr, OnOk, None, Some, length};
-ghost use Rattle.icmp_echo.specs.Echo.{answered, echo_fate, fate_in};
-ghost use Rattle.packet_buffer.specs.Buffer.{datagram_in};
-ghost use Rattle.uip_ipv4.specs.Head.{IsHeadOf};
+ghost use Rattle.icmp_echo.specs.Prelude.{answered, echo_fate, fate_in};
+ghost use Rattle.packet_buffer.specs.Prelude.{datagram_in};
+ghost use Rattle.uip_ipv4.specs.Prelude.{IsHeadOf};
 
 use crate::answer::answer;
 use crate::fate::IcmpFate;

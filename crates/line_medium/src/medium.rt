@@ -2,8 +2,7 @@
 
 ghost use Rattle.std.specs.Prelude.{[], ◌≡◌, ◌<◌, ◌≤◌, ◌++◌, List, ℕ, length, take, OnOk, OnErr};
 ghost use Rattle.std.specs.Io.KnownBytes.{Appends};
-ghost use Rattle.uip_edge.specs.Causes.{HasCause};
-ghost use Rattle.uip_edge.specs.Writing.{AppendsPrefix};
+ghost use Rattle.uip_edge.specs.Prelude.{HasCause, AppendsPrefix};
 ghost use Rattle.line_medium.specs.Media.{MediumSpec, ShowsBrought, TellsBrought, all_decoded, all_said, acts_among};
 
 use uip_edge::{Failed, Sink};

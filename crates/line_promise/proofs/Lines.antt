@@ -1,28 +1,5 @@
 -- The output for a line is the text of the trace of its node.
-use Rattle.std.specs.List.{All}
-use Rattle.std.proofs.Common.{◌≡◌, ℕ, ◌+◌, ◌<◌, Bool, ap, List, [], ◌∷◌, ◌++◌, length, map, refl}
-use Rattle.std.proofs.lemmas.List.Elements.{All-append, All-cons, All-head, All-map, All-nil, All-tail, All-weaker}
-use Rattle.uip_wire.specs.declared.addr.Addr.{Addr}
-use Rattle.app_events.specs.Pages.{IsByte}
-use Rattle.app_events.specs.AppSpec.{AppSpec}
-use Rattle.uip_edge.specs.declared.item.Item.{Item}
-use Rattle.uip_edge.specs.declared.item.Item.TheVariants.{Byte, Quiet}
-use Rattle.uip_node.specs.Events.{tick}
-use Rattle.uip_node.specs.Events.Event.{Periodic}
-use Rattle.uip_node.specs.Node.{AbstractNode, initial_node}
-use Rattle.uip_node.proofs.Basics.{choose}
-use Rattle.line_medium.specs.Media.{MediumInput, Datagram, Overlong, Own, MediumSpec}
-use Rattle.serve_loop.specs.StationRuns.{StationEvent, OfMedium, OfNode, Station, station_after, output, output_of_event}
-use Rattle.serve_loop.specs.Items.{BringsBytes, IsItem, CarriesBytes}
-use Rattle.serve_loop.specs.LineStationEvents.{beat_on, station_event_by, station_events_after, station_events_of_line, tick_on}
-use Rattle.serve_loop.specs.LineOutput.{initial_station}
-use Rattle.serve_loop.specs.Pace.{is_beat}
-use Rattle.node_laws.specs.Turns.{trace_of}
-use Rattle.node_laws.specs.Wire.{IsOfLine}
-use Rattle.node_laws.specs.Wire.IsOfLine.{of_bytes, of_overlong, of_call}
-use Rattle.node_laws.proofs.EveryTraceConforms.{every_trace_conforms}
-use Rattle.node_laws.proofs.TurnRuns.{turn_events}
-use Rattle.line_promise.specs.Lines.{EveryLineConforms, events_among, text_in}
+use Rattle.line_promise.proofs.Prelude.{All, ◌≡◌, ℕ, ◌+◌, ◌<◌, Bool, ap, List, [], ◌∷◌, ◌++◌, length, map, refl, All-append, All-cons, All-head, All-map, All-nil, All-tail, All-weaker, Addr, IsByte, AppSpec, Item, Byte, Quiet, tick, Periodic, AbstractNode, initial_node, choose, MediumInput, Datagram, Overlong, Own, MediumSpec, StationEvent, OfMedium, OfNode, Station, station_after, output, output_of_event, BringsBytes, IsItem, CarriesBytes, beat_on, station_event_by, station_events_after, station_events_of_line, tick_on, initial_station, is_beat, trace_of, IsOfLine, of_bytes, of_overlong, of_call, every_trace_conforms, turn_events, EveryLineConforms, events_among, text_in}
 
 -- ---- what is written in the turns of a line
 

@@ -1,16 +1,5 @@
 -- If a line conforms, so does each prefix of it.
-use Rattle.std.specs.List.{All}
-use Rattle.std.proofs.Common.{◌≡◌, ℕ, Bool, ◌∙◌, ap, List, [], ◌∷◌, ◌++◌, map, refl, sym, subst, append_assoc}
-use Rattle.std.proofs.lemmas.List.Elements.{All-cons, All-head, All-nil, All-tail}
-use Rattle.uip_wire.specs.declared.addr.Addr.{Addr}
-use Rattle.node_laws.specs.Promise.{OutputModel}
-use Rattle.tcp_machine.specs.Connection.{Sockets}
-use Rattle.line_medium.specs.Media.{MediumSpec}
-use Rattle.serve_loop.specs.StationRuns.{StationEvent, OfMedium, OfNode, reply_text}
-use Rattle.node_laws.specs.Asked.{IsEchoed}
-use Rattle.node_laws.specs.TraceConforms.{TraceConforms}
-use Rattle.node_laws.specs.Traces.{Exchange, TraceEntry, exchange, exchanges_onto, exchanges_with}
-use Rattle.line_promise.specs.Lines.{PrefixConforms, events_among, text_in}
+use Rattle.line_promise.proofs.Prelude.{All, ◌≡◌, ℕ, Bool, ◌∙◌, ap, List, [], ◌∷◌, ◌++◌, map, refl, sym, subst, append_assoc, All-cons, All-head, All-nil, All-tail, Addr, OutputModel, Sockets, MediumSpec, StationEvent, OfMedium, OfNode, reply_text, IsEchoed, TraceConforms, Exchange, TraceEntry, exchange, exchanges_onto, exchanges_with, PrefixConforms, events_among, text_in}
 
 -- ---- of turns
 

@@ -2,22 +2,12 @@
 use Rattle.std.specs.List.{All}
 use Rattle.std.specs.Prelude.{◌≡◌, ℕ, Bool, List, [], ◌∷◌, ◌++◌, map}
 use Rattle.uip_wire.specs.declared.addr.Addr.{Addr}
-use Rattle.app_events.specs.AppSpec.{AppSpec}
-use Rattle.app_events.specs.Pages.{IsAddr, IsU32}
+use Rattle.app_events.specs.Prelude.{AppSpec, IsAddr, IsU32}
 use Rattle.uip_edge.specs.declared.item.Item.{Item}
-use Rattle.uip_node.specs.Events.{Event}
-use Rattle.uip_node.specs.Steady.{IsSteady}
-use Rattle.node_laws.specs.Traces.{TraceEntry}
-use Rattle.node_laws.specs.TraceConforms.{TraceConforms}
-use Rattle.node_laws.specs.Promise.{OutputModel}
-use Rattle.node_laws.specs.Speakers.{HasOutputModel}
-use Rattle.uip_node.specs.Laws.{SendsBytes}
-use Rattle.node_laws.specs.Wire.{IsReadByPeer}
-use Rattle.line_medium.specs.Media.{MediumSpec}
-use Rattle.serve_loop.specs.StationRuns.{StationEvent, OfMedium, OfNode, reply_text}
-use Rattle.serve_loop.specs.Items.{IsItem}
-use Rattle.serve_loop.specs.LineStationEvents.{station_events_of_line}
-use Rattle.serve_loop.specs.LineOutput.{output_by}
+use Rattle.uip_node.specs.Prelude.{Event, IsSteady, SendsBytes}
+use Rattle.node_laws.specs.Prelude.{TraceEntry, TraceConforms, OutputModel, HasOutputModel, IsReadByPeer}
+use Rattle.line_medium.specs.Prelude.{MediumSpec}
+use Rattle.serve_loop.specs.Prelude.{StationEvent, OfMedium, OfNode, reply_text, IsItem, station_events_of_line, output_by}
 
 -- the events of the node among station events
 abbrev pub events_among : {A : Type 0} → List (StationEvent A) → List Event

@@ -1,8 +1,7 @@
 //! The laws of a line.
 
-ghost use Rattle.serve_loop.specs.Items.{BringsBytes};
-ghost use Rattle.serve_loop.specs.SerialMedium.{slip_medium};
-ghost use Rattle.line_promise.specs.Lines.{EveryLineConforms, PrefixConforms};
+ghost use Rattle.serve_loop.specs.Prelude.{BringsBytes, slip_medium};
+ghost use Rattle.line_promise.specs.Prelude.{EveryLineConforms, PrefixConforms};
 
 use line_medium::Medium;
 

@@ -1,12 +1,5 @@
 -- Datagrams worked by hand: a client's SYN, and the server's answer to it, which it accepts and another client does not.
-use Rattle.std.proofs.Common.{◌≡◌, ℕ, List, [], ◌∷◌, Some, None, refl}
-use Rattle.uip_ipv4.specs.Head.{head_bytes, head_or_fate}
-use Rattle.uip_wire.specs.Checksum.{folded}
-use Rattle.tcp_segment.specs.Received.{segment_in}
-use Rattle.tcp_segment.specs.Segments.{datagram_bytes}
-use Rattle.link_client.specs.Calls.{client_datagram, client_hears}
-use Rattle.link_client.specs.Client.{idle, syn_of}
-use Rattle.link_client.specs.declared.setup.Setup.{Setup}
+use Rattle.link_client.proofs.Prelude.{◌≡◌, ℕ, List, [], ◌∷◌, Some, None, refl, head_bytes, head_or_fate, folded, segment_in, datagram_bytes, client_datagram, client_hears, idle, syn_of, Setup}
 
 abbrev setup : Setup
 setup = record {

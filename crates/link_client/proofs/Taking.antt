@@ -1,8 +1,5 @@
 -- A segment at RCV.NXT that is accepted.
-use Rattle.std.proofs.Common.{◌≡◌, ◌==◌, ◌&&◌, not, Bool, true, false, ap, ◌∙◌, if◌then◌else◌}
-use Rattle.tcp_segment.specs.Segments.{PlainSegment, has_syn}
-use Rattle.tcp_machine.specs.Segments.{occupies_sequence_space}
-use Rattle.link_client.specs.Client.{AbstractClient, ClientStep, is_receiving, sends_next, takes_in_order, takes_text}
+use Rattle.link_client.proofs.Prelude.{◌≡◌, ◌==◌, ◌&&◌, not, Bool, true, false, ap, ◌∙◌, if◌then◌else◌, PlainSegment, has_syn, occupies_sequence_space, AbstractClient, ClientStep, is_receiving, sends_next, takes_in_order, takes_text}
 
 third_of_four : (first second third last : ClientStep) (a b d : Bool) → a ≡ false → b ≡ true → d ≡ true
     → (if a then first else if not b then second else if d then third else last) ≡ third

@@ -2,13 +2,12 @@
 -- datagram that it sends, at the start of an area.
 use Rattle.std.specs.Prelude.{ℕ, ◌≡◌, ◌+◌, ◌≤◌, ◌==◌, ◌&&◌, ◌||◌, not, nat_lt, Bool, true, false, List, ◌++◌, length, take, drop, if◌then◌else◌, Option, Some, None, Result, Ok, Err}
 use Rattle.std.specs.Prelude.{bytes_eq}
-use Rattle.uip_ipv4.specs.Head.{head_or_fate}
+use Rattle.uip_ipv4.specs.Prelude.{head_or_fate}
 use Rattle.uip_ipv4.specs.declared.fate.IpFate.{IpFate}
 use Rattle.uip_ipv4.specs.declared.head.IpHead.{IpHead}
 use Rattle.uip_ipv4.specs.declared.proto.Proto.{Proto}
 use Rattle.uip_ipv4.specs.declared.proto.Proto.TheVariants.{Icmp, Tcp}
-use Rattle.tcp_segment.specs.Received.{plain_of, segment_or_fate}
-use Rattle.tcp_segment.specs.Segments.{PlainSegment, Datagram, datagram_bytes}
+use Rattle.tcp_segment.specs.Prelude.{plain_of, segment_or_fate, PlainSegment, Datagram, datagram_bytes}
 use Rattle.tcp_segment.specs.declared.fate.TcpFate.{TcpFate}
 use Rattle.tcp_segment.specs.declared.segment.Segment.{Segment}
 use Rattle.link_client.specs.Client.{AbstractClient, ClientStep, client_takes, fin_sent, is_receiving, keeps, may_finish, has_outstanding}

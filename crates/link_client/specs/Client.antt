@@ -1,9 +1,9 @@
 -- The abstract client of a replay, and its step (RFC 793, section 3.9, with one segment outstanding).
 use Rattle.std.specs.Prelude.{ℕ, ◌+◌, ◌-◌, min, Bool, true, false, not, List, [], ◌++◌, length, take, drop, nat_lt, ◌==◌, ◌&&◌, ◌||◌, if◌then◌else◌, Option, Some, None}
-use Rattle.uip_wire.specs.Numbers.{wrap}
+use Rattle.uip_wire.specs.Prelude.{wrap}
 use Rattle.tcp_segment.specs.declared.flags.TheConstants.{FIN, SYN, RST, PSH, ACK}
-use Rattle.tcp_segment.specs.Segments.{PlainSegment, has_syn, has_fin, has_rst, has_ack}
-use Rattle.tcp_machine.specs.Segments.{occupies_sequence_space}
+use Rattle.tcp_segment.specs.Prelude.{PlainSegment, has_syn, has_fin, has_rst, has_ack}
+use Rattle.tcp_machine.specs.Prelude.{occupies_sequence_space}
 use Rattle.link_client.specs.declared.client_state.ClientState.{ClientState}
 use Rattle.link_client.specs.declared.client_state.ClientState.TheVariants.{Idle, Opening, Opened, Closing, Closed, Ended, Reset}
 use Rattle.link_client.specs.declared.fin_at.FinAt.{FinAt}

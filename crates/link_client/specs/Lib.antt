@@ -1,3 +1,4 @@
 pub mod Client
 pub mod State
 pub mod Calls
+pub mod Prelude

@@ -1,9 +1,9 @@
 //! What a client receives in a datagram.
 
 ghost use Rattle.std.specs.Prelude.{◌≡◌, ◌+◌, ◌≤◌, ◌==◌, ◌&&◌, IfSome, length, option_map};
-ghost use Rattle.tcp_segment.specs.Received.{plain_of};
+ghost use Rattle.tcp_segment.specs.Prelude.{plain_of};
 ghost use Rattle.std.specs.Prelude.{bytes_eq};
-ghost use Rattle.link_client.specs.Calls.{client_hears};
+ghost use Rattle.link_client.specs.Prelude.{client_hears};
 
 use crate::setup::Setup;
 use tcp_segment::Segment;

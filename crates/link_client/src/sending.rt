@@ -1,7 +1,7 @@
 //! The segments that a client sends, written into an area.
 
 ghost use Rattle.std.specs.Prelude.{◌≡◌, ◌+◌, ◌≤◌, [], IsSome, Some, drop, length, slice_range};
-ghost use Rattle.uip_wire.specs.Numbers.{wrap};
+ghost use Rattle.uip_wire.specs.Prelude.{wrap};
 ghost use Rattle.link_client.specs.Calls.{FitsRequest, KeepsAfter, Sends, standing};
 ghost use Rattle.link_client.specs.Client.{ack_of, again_by, own_fin, next_own, offered, own_request, own_reset, syn_of};
 

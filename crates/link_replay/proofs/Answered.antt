@@ -1,35 +1,5 @@
 -- What a call of the node did updates the clients and the list of datagrams.
-use Rattle.std.specs.Option.{option_map_or, is_some}
-use Rattle.std.proofs.Common.{◌≡◌, ◌≤◌, ℕ, zero, suc, Bool, true, false, List, [], length, refl, sym, ap, ◌∙◌, subst, arith, Option, Some, None, slice_get}
-use Rattle.std.specs.Global.{Vec}
-use Rattle.std.specs.Vec.{with_items}
-use Rattle.std.proofs.lemmas.List.{with_items_is}
-use Rattle.uip_wire.specs.declared.addr.Addr.{Addr}
-use Rattle.packet_buffer.specs.Buffer.{Buffer, datagram_in}
-use Rattle.icmp_echo.specs.Echo.{echo_reply}
-use Rattle.tcp_segment.specs.Segments.{PlainSegment, datagram_bytes}
-use Rattle.tcp_machine.specs.Connection.{Connection, Sockets}
-use Rattle.uip_node.specs.Edge.{datagram_to, reply_bytes}
-use Rattle.uip_node.specs.Events.{Reply}
-use Rattle.uip_node.specs.Events.Reply.{Echo, Tcp}
-use Rattle.uip_node.specs.Node.{AbstractNode}
-use Rattle.uip_node.specs.Spoken.{IsSent}
-use Rattle.link_client.specs.State.{Client}
-use Rattle.link_client.specs.Calls.{FitsRequest}
-use Rattle.link_world.specs.Bytes.{bytes_by, node_bytes}
-use Rattle.link_world.specs.World.{World, Side, Content, addressed, retires, numbered, posts, posts_reply}
-use Rattle.link_world.specs.World.Content.{OfEcho, OfSegment}
-use Rattle.link_world.specs.declared.who.Who.TheVariants.{FromNode}
-use Rattle.link_world.proofs.Sides.{addressed_is}
-use Rattle.link_replay.specs.Epochs.{OnlyEpoch}
-use Rattle.link_replay.specs.Matched.{Matched}
-use Rattle.link_replay.specs.Noting.{gone_pair, is_sent_again, pair_at, sockets_at}
-use Rattle.link_replay.specs.Represents.{IsLink, LinkRepresents, SentRepresents, SideRepresents}
-use Rattle.link_replay.specs.Telling.{AreTo, IsTo}
-use Rattle.link_replay.specs.State.{Link, link_of}
-use Rattle.link_replay.specs.Plain.{CodeSent}
-use Rattle.link_replay.specs.Plain.{CodeSide}
-use Rattle.link_replay.specs.declared.socket_pair.SocketPair.{SocketPair}
+use Rattle.link_replay.proofs.Prelude.{option_map_or, is_some, ◌≡◌, ◌≤◌, ℕ, zero, suc, Bool, true, false, List, [], length, refl, sym, ap, ◌∙◌, subst, arith, Option, Some, None, slice_get, Vec, with_items, with_items_is, Addr, Buffer, datagram_in, echo_reply, PlainSegment, datagram_bytes, Connection, Sockets, datagram_to, reply_bytes, Reply, Echo, Tcp, AbstractNode, IsSent, Client, FitsRequest, bytes_by, node_bytes, World, Side, Content, addressed, retires, numbered, posts, posts_reply, OfEcho, OfSegment, FromNode, addressed_is, OnlyEpoch, Matched, gone_pair, is_sent_again, pair_at, sockets_at, IsLink, LinkRepresents, SentRepresents, SideRepresents, AreTo, IsTo, Link, link_of, CodeSent, CodeSide, SocketPair}
 use Rattle.link_replay.proofs.Pairs.{Partner, partner}
 use Rattle.link_replay.proofs.Places.{sent_stays}
 use Rattle.link_replay.proofs.Staying.{buried_places}

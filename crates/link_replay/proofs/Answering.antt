@@ -1,38 +1,8 @@
 -- The web server answers a request in as many texts as its pieces need.
 -- [add: counter] Counter: the greatest length of a page.
 -- [add: function] Function: the texts that its script needs.
-use Rattle.std.specs.Int.{div_ceil}
-use Rattle.std.proofs.Common.{◌≡◌, ◌≢◌, ℕ, suc, ◌+◌, ◌-◌, ◌<◌, ◌≤◌, ◌==◌, min, Bool, true, false, if◌then◌else◌, ◌&&◌, not, ◌⊎◌, inl, inr, List, [], ◌∷◌, ◌++◌, length, decimal, replicate, flat_map, refl, sym, ap, ◌∙◌, subst, arith, nat_lt, nat_le, length-append, true≢false}
-use Rattle.std.proofs.lemmas.Bool.{and_parts, eqb-true, eq-eqb, ltb-true, leb-true, le-leb, cases_lt}
-use Rattle.std.proofs.lemmas.Grind.{common_steps}
-use Rattle.std.proofs.lemmas.List.{length-replicate}
-use Rattle.std.proofs.lemmas.List.Sums.{sum_by-cons}
-use Rattle.app_events.specs.AppSpec.{AppState, Snapshot}
-use Rattle.app_events.specs.Pages.{IsSnapshot}
-use Rattle.app_events.specs.declared.row.Row.{Row}
-use Rattle.app_events.specs.declared.want.Want.{Want}
-use Rattle.app_events.specs.declared.want.Want.TheVariants.{Nothing, Send, Close, Abort}
-use Rattle.script_lang.specs.declared.function.Function.{Function}
-use Rattle.script_lang.specs.declared.function.Function.TheVariants.{FileStats, TcpConnections, NetStats, Ticks, Unknown}
-use Rattle.script_lang.specs.Functions.{length_at_most, takes_capture}
-use Rattle.site_image.specs.Files.{File}
-use Rattle.generators.specs.Text.{in_ten_places, counter_line, row_parts, row_text}
-use Rattle.generators.specs.Giving.{uip}
-use Rattle.web_pages.specs.Requests.{Wanted, wanted}
-use Rattle.web_pages.specs.Requests.Wanted.{NotYet, Refused, Name}
-use Rattle.web_pages.specs.Lemmas.Deciding.{name_stays}
-use Rattle.web_pages.specs.Pieces.{Say}
-use Rattle.web_pages.specs.Pieces.Say.{Plain, Made}
-use Rattle.web_pages.specs.Pages.{made_text, hits_of, page_text, reach_end, page_for, whole_for, page, is_page_whole}
-use Rattle.web_pages.specs.Lemmas.Growing.{silent_text, silent_end, stopped_text, made_first, made_end}
-use Rattle.web_pages.specs.Lemmas.WebLaws.{newdata_grows, with_capture}
-use Rattle.web_pages.specs.WebMeaning.{web_spec, web_want, is_acknowledged, waits_for_capture, left_of}
-use Rattle.web_pages.proofs.Bounds.{silent_none, text_bound}
-use Rattle.web_pages.proofs.Limits.{uip_short}
-use Rattle.uip_node.specs.Answering.{GoesOnBy, AnswersIn, AnswersPolled}
-use Rattle.uip_node.proofs.Basics.{prefix_length, both_ways, ltb-zero, not-true}
-use Rattle.uip_node.proofs.Fits.{all_nil, all_cons}
-use Rattle.link_replay.specs.Web.{most_of, texts_for, pieces_for}
+use Rattle.link_replay.proofs.Prelude.{div_ceil, ◌≡◌, ◌≢◌, ℕ, suc, ◌+◌, ◌-◌, ◌<◌, ◌≤◌, ◌==◌, min, Bool, true, false, if◌then◌else◌, ◌&&◌, not, ◌⊎◌, inl, inr, List, [], ◌∷◌, ◌++◌, length, decimal, replicate, flat_map, refl, sym, ap, ◌∙◌, subst, arith, nat_lt, nat_le, length-append, true≢false, and_parts, eqb-true, ltb-true, leb-true, le-leb, cases_lt, common_steps, length-replicate, sum_by-cons, AppState, Snapshot, IsSnapshot, Row, Want, Nothing, Send, Close, Abort, Function, FileStats, TcpConnections, NetStats, Ticks, Unknown, length_at_most, takes_capture, File, in_ten_places, counter_line, row_parts, row_text, uip, Wanted, wanted, NotYet, Refused, Name, name_stays, Say, Plain, Made, made_text, hits_of, page_text, reach_end, page_for, whole_for, page, is_page_whole, silent_text, silent_end, stopped_text, made_first, made_end, newdata_grows, with_capture, web_spec, web_want, is_acknowledged, waits_for_capture, left_of, silent_none, text_bound, uip_short, GoesOnBy, AnswersIn, AnswersPolled, prefix_length, both_ways, ltb-zero, not-true, all_nil, all_cons, most_of, texts_for, pieces_for}
+use Rattle.std.proofs.lemmas.Bool.{eq-eqb}
 use Rattle.link_replay.proofs.TextCounts.{left_in, behind, counted, shorter, one_less}
 
 not_twenty : (n : ℕ) → n < 20 → (n == 20) ≡ false

@@ -1,7 +1,5 @@
 -- Sums over what a function makes of a list, and tallies.
-use Rattle.std.proofs.Common.{◌≡◌, ℕ, ◌+◌, Bool, List, [], ◌∷◌, cond, map, refl}
-use Rattle.std.specs.Prelude.{count_by, fold, sum_by}
-use Rattle.link_replay.specs.declared.tally.Tally.{Tally}
+use Rattle.link_replay.proofs.Prelude.{◌≡◌, ℕ, ◌+◌, Bool, List, [], ◌∷◌, cond, map, refl, count_by, fold, sum_by, Tally}
 
 summed_on : {X Y : Type 0} (n : Y → ℕ) (f : X → Y) (total : ℕ) (xs : List X) → fold (λ t x. t + n (f x)) total xs ≡ fold (λ t y. t + n y) total (map f xs)
 summed_on n f total [] = refl

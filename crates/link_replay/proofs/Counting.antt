@@ -1,29 +1,9 @@
 -- Each event is counted, and its answer counts as a retransmission exactly if it is one.
 -- [add: counter] An event with a further case.
-use Rattle.std.proofs.Common.{◌≡◌, ℕ, ◌+◌, ◌==◌, Bool, true, false, not, if◌then◌else◌, ◌&&◌, List, ◌∷◌, refl, ap, ◌∙◌, Option, Some, None, position, eqb, arith}
-use Rattle.uip_node.specs.Events.Reply.{Tcp}
-use Rattle.std.specs.Prelude.{option_map}
-use Rattle.std.specs.Option.{option_map_or}
-use Rattle.std.specs.List.{list_any}
-use Rattle.std.proofs.lemmas.Grind.{common_steps}
-use Rattle.uip_wire.specs.Numbers.{wrap}
-use Rattle.tcp_segment.specs.Segments.{PlainSegment, has_rst}
+use Rattle.link_replay.proofs.Prelude.{◌≡◌, ℕ, ◌+◌, ◌==◌, Bool, true, false, not, if◌then◌else◌, ◌&&◌, List, ◌∷◌, refl, ap, ◌∙◌, Option, Some, None, position, eqb, arith, Tcp, option_map, option_map_or, list_any, common_steps, wrap, PlainSegment, has_rst, AppSpec, Sockets, Connection, serves, Outcome, asked, accept, on_segment, on_tick, is_plain_syn, is_again, segment_of, initial_number, raised_by_answer, raises, times, Answer, Event, HistoryEntry, IpRefused, IcmpRefused, TcpRefused, EchoAsked, Arrived, Overlong, Periodic, Silent, NoSlot, EchoReplied, Spoke, AbstractNode, NodeStep, arrives_at, connection_in, for_no_connection, happened, snapshot, opens, opens_in, passes, slot_for_syn, step, choose, is_sent_again, resent}
 use Rattle.uip_ipv4.specs.declared.fate.IpFate.TheVariants as Ip
 use Rattle.icmp_echo.specs.declared.fate.IcmpFate.TheVariants as Icmp
 use Rattle.tcp_segment.specs.declared.fate.TcpFate.TheVariants as Tcp
-use Rattle.app_events.specs.AppSpec.{AppSpec}
-use Rattle.tcp_machine.specs.Connection.{Sockets, Connection, serves}
-use Rattle.tcp_machine.specs.Ask.{Outcome, asked}
-use Rattle.tcp_machine.specs.OnSegment.{accept, on_segment}
-use Rattle.tcp_machine.specs.OnTick.{on_tick}
-use Rattle.tcp_machine.specs.Segments.{is_plain_syn, is_again, segment_of}
-use Rattle.uip_node.specs.Counters.{initial_number, raised_by_answer, raises, times}
-use Rattle.uip_node.specs.Events.{Answer, Event, HistoryEntry}
-use Rattle.uip_node.specs.Events.Event.{IpRefused, IcmpRefused, TcpRefused, EchoAsked, Arrived, Overlong, Periodic}
-use Rattle.uip_node.specs.Events.Answer.{Silent, NoSlot, EchoReplied, Spoke}
-use Rattle.uip_node.specs.Node.{AbstractNode, NodeStep, arrives_at, connection_in, for_no_connection, happened, snapshot, opens, opens_in, passes, slot_for_syn, step}
-use Rattle.uip_node.proofs.Basics.{choose}
-use Rattle.link_replay.specs.Noting.{is_sent_again, resent}
 
 -- one more event is past, and its answer was sent again where the step sent again
 record Told (n : AbstractNode) (r : NodeStep) : Type 0 where

@@ -1,19 +1,5 @@
 -- A damaged datagram is delivered, and nothing answers it.
-use Rattle.std.proofs.Common.{◌≡◌, ℕ, ◌≤◌, ◌<◌, Bool, List, sym, subst, Option, Some, None}
-use Rattle.app_events.specs.AppSpec.{AppSpec}
-use Rattle.uip_node.specs.Edge.{event_of}
-use Rattle.uip_node.specs.Events.{Reply}
-use Rattle.uip_node.specs.Node.{step}
-use Rattle.link_world.specs.Acts.{fault_of, hands_over}
-use Rattle.link_world.specs.Bytes.{sent_bytes, changed}
-use Rattle.link_world.specs.World.{World, Sent, numbered}
-use Rattle.link_world.specs.declared.act.Act.{Act}
-use Rattle.link_world.specs.declared.who.Who.{Who}
-use Rattle.link_world.specs.declared.who.Who.TheVariants.{FromClient, FromNode, Pinger}
-use Rattle.link_world.proofs.Damages.{act_harmless}
-use Rattle.link_world.proofs.Doing.{damaged}
-use Rattle.link_replay.specs.Reaching.{IsAt}
-use Rattle.link_replay.specs.Telling.{AnswersTo, AreTo, pair_at_side}
+use Rattle.link_replay.proofs.Prelude.{◌≡◌, ℕ, ◌≤◌, ◌<◌, Bool, List, sym, subst, Option, Some, None, AppSpec, event_of, Reply, step, fault_of, hands_over, sent_bytes, changed, World, Sent, numbered, Act, Who, FromClient, FromNode, Pinger, act_harmless, damaged, IsAt, AnswersTo, AreTo, pair_at_side}
 use Rattle.link_replay.proofs.Handling.{silent}
 use Rattle.link_replay.proofs.Readable.{sound_at}
 

@@ -1,27 +1,5 @@
 -- A delivery passes on the bytes of a datagram, once its client has recorded it.
-use Rattle.std.proofs.Common.{◌≡◌, ℕ, zero, suc, ◌<◌, Bool, List, [], ◌∷◌, length, set, refl, sym, ap, ◌∙◌, subst, arith, Option, Some, None, slice_get}
-use Rattle.std.specs.Option.{option_map_or}
-use Rattle.app_events.specs.AppSpec.{AppSpec}
-use Rattle.app_events.specs.declared.app.App.{Ghosts}
-use Rattle.tcp_segment.specs.Segments.{PlainSegment}
-use Rattle.uip_node.specs.Edge.{event_of}
-use Rattle.uip_node.specs.Events.{Event}
-use Rattle.uip_node.specs.Events.Event.{Arrived}
-use Rattle.uip_node.specs.Node.{AbstractNode, step}
-use Rattle.link_client.specs.Client.{AbstractClient, ClientStep, client_takes}
-use Rattle.link_world.specs.Acts.{handed, hands_over}
-use Rattle.link_world.specs.Bytes.{hears_datagram}
-use Rattle.link_world.specs.World.{World, Side, Sent, Content, numbered, client_sockets, client_stepped, with_client, with_side, posts_of_client, marked, delivers, node_handles}
-use Rattle.link_world.specs.World.Content.{OfSegment, OfPing, OfEcho}
-use Rattle.link_world.specs.declared.who.Who.{Who}
-use Rattle.link_world.specs.declared.who.Who.TheVariants.{FromClient, FromNode, Pinger}
-use Rattle.link_world.specs.Reading.{IsRead, IsSentBy}
-use Rattle.uip_node.proofs.Connections.{get_set_same}
-use Rattle.link_replay.specs.Noting.{pair_at}
-use Rattle.link_replay.specs.Represents.{WorldRepresents, LinkRepresents, IsLink}
-use Rattle.link_replay.specs.Telling.{AnswersTo, AreTo, client_told, pair_at_side, sees}
-use Rattle.link_replay.specs.State.{Link}
-use Rattle.link_replay.specs.State.{CodeWorld}
+use Rattle.link_replay.proofs.Prelude.{◌≡◌, ℕ, zero, suc, ◌<◌, Bool, List, [], ◌∷◌, length, set, refl, sym, ap, ◌∙◌, subst, arith, Option, Some, None, slice_get, option_map_or, AppSpec, Ghosts, PlainSegment, event_of, Event, Arrived, AbstractNode, step, AbstractClient, ClientStep, client_takes, handed, hands_over, hears_datagram, World, Side, Sent, Content, numbered, client_sockets, client_stepped, with_client, with_side, posts_of_client, marked, delivers, node_handles, OfSegment, OfPing, OfEcho, Who, FromClient, FromNode, Pinger, IsRead, IsSentBy, get_set_same, pair_at, WorldRepresents, LinkRepresents, IsLink, AnswersTo, AreTo, client_told, pair_at_side, sees, Link, CodeWorld}
 use Rattle.link_replay.proofs.Handling.{arrived_to, linked}
 use Rattle.link_replay.proofs.Pairs.{reads}
 

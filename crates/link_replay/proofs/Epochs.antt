@@ -1,18 +1,6 @@
 -- The clients of the code and those over plain data, by their sockets.
-use Rattle.std.proofs.Common.{◌≡◌, ℕ, ◌+◌, ◌-◌, ◌<◌, ◌≤◌, Bool, true, false, if◌then◌else◌, List, [], ◌∷◌, ◌++◌, length, length-append, length-set, map, set, take, drop, append-nil, slice_get, slice_index_or, refl, sym, ap, ◌∙◌, subst, add-zero, arith, Some}
-use Rattle.std.specs.List.{Any}
-use Rattle.std.proofs.lemmas.List.{drop_all, get_or-append-add, get_or-drop, get_or_default, length-map, length-take-le, take_all, take_rest}
-use Rattle.std.proofs.lemmas.Option.{slice_get-get_or}
-use Rattle.tcp_machine.specs.Connection.{Sockets, Connection, same_sockets}
-use Rattle.link_client.specs.Client.{AbstractClient}
-use Rattle.link_world.specs.World.{Side, addressed, retires, retires_in, client_sockets}
-use Rattle.uip_node.proofs.Connections.{get_set, here, there}
-use Rattle.link_replay.specs.Epochs.{IsAtLast, OnlyEpoch, buried, sockets_for}
-use Rattle.link_replay.specs.Matched.{Matched}
-use Rattle.link_replay.specs.Noting.{pair_at, sockets_at}
-use Rattle.link_replay.specs.Represents.{SideRepresents}
-use Rattle.link_replay.specs.Plain.{CodeSide}
-use Rattle.link_replay.specs.declared.socket_pair.SocketPair.{SocketPair}
+use Rattle.link_replay.proofs.Prelude.{◌≡◌, ℕ, ◌+◌, ◌-◌, ◌<◌, ◌≤◌, Bool, true, false, if◌then◌else◌, List, [], ◌∷◌, ◌++◌, length, length-append, length-set, map, set, take, drop, append-nil, slice_get, slice_index_or, refl, sym, ap, ◌∙◌, subst, add-zero, arith, Some, Any, drop_all, get_or-append-add, get_or-drop, get_or_default, length-map, length-take-le, take_all, take_rest, slice_get-get_or, Sockets, Connection, same_sockets, AbstractClient, Side, addressed, retires, retires_in, client_sockets, get_set, IsAtLast, OnlyEpoch, buried, sockets_for, Matched, pair_at, sockets_at, SideRepresents, CodeSide, SocketPair}
+use Rattle.uip_node.proofs.Connections.{here, there}
 use Rattle.link_replay.proofs.Matching.{matched_cons, matched_head, matched_nil, matched_same, matched_tail}
 
 -- a client of the code has the sockets of the one over plain data

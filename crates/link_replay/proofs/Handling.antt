@@ -1,28 +1,5 @@
 -- The world after a step of its node.
-use Rattle.std.proofs.Common.{◌≡◌, ℕ, zero, suc, ◌<◌, get_or, drop, ◌+◌, ◌++◌, ◌∷◌, [], Bool, false, List, length, refl, sym, ap, ◌∙◌, subst, arith, Option, Some, None, length-append, if◌then◌else◌}
-use Rattle.app_events.specs.AppSpec.{AppSpec}
-use Rattle.app_events.specs.declared.app.App.{Ghosts}
-use Rattle.uip_wire.specs.declared.addr.Addr.{Addr}
-use Rattle.tcp_segment.specs.Segments.{PlainSegment}
-use Rattle.tcp_machine.specs.Connection.{Sockets}
-use Rattle.uip_node.specs.Events.{Event, Reply, tick}
-use Rattle.uip_node.specs.Events.Event.{Arrived, Periodic}
-use Rattle.uip_node.specs.Events.Reply.{Echo, Tcp}
-use Rattle.uip_node.specs.Node.{AbstractNode, NodeStep, step, connection_in}
-use Rattle.uip_node.specs.Represents.{Represents}
-use Rattle.link_client.specs.Client.{AbstractClient, ClientStep, client_takes}
-use Rattle.link_world.specs.Acts.{client_acts, handed}
-use Rattle.link_world.specs.Bytes.{hears_datagram}
-use Rattle.link_world.specs.World.{World, Side, at_side, retires, client_stepped, node_handles, node_stepped, numbered, posts, posts_reply, with_client, with_side}
-use Rattle.link_world.specs.World.Content.{OfSegment}
-use Rattle.link_world.specs.declared.who.Who.TheVariants.{FromClient}
-use Rattle.link_world.proofs.Doing.{where_there}
-use Rattle.link_replay.specs.Noting.{owner, pair_at}
-use Rattle.link_replay.specs.Represents.{WorldRepresents, LinkRepresents, IsLink}
-use Rattle.link_replay.specs.Telling.{AreTo, IsTo}
-use Rattle.link_replay.specs.declared.socket_pair.SocketPair.{SocketPair}
-use Rattle.link_replay.specs.State.{Link}
-use Rattle.link_replay.specs.State.{CodeWorld}
+use Rattle.link_replay.proofs.Prelude.{◌≡◌, ℕ, zero, suc, ◌<◌, get_or, drop, ◌+◌, ◌++◌, ◌∷◌, [], Bool, false, List, length, refl, sym, ap, ◌∙◌, subst, arith, Option, Some, None, length-append, if◌then◌else◌, AppSpec, Ghosts, Addr, PlainSegment, Sockets, Event, Reply, tick, Arrived, Periodic, Echo, Tcp, AbstractNode, NodeStep, step, connection_in, Represents, AbstractClient, ClientStep, client_takes, client_acts, handed, hears_datagram, World, Side, at_side, retires, client_stepped, node_handles, node_stepped, numbered, posts, posts_reply, with_client, with_side, OfSegment, FromClient, where_there, owner, pair_at, WorldRepresents, LinkRepresents, IsLink, AreTo, IsTo, SocketPair, Link, CodeWorld}
 use Rattle.link_replay.proofs.Pairs.{left_is}
 use Rattle.link_replay.proofs.Replies.{SaidTo, arrived_reply, periodic_reply}
 use Rattle.link_replay.proofs.Staying.{step_addr}

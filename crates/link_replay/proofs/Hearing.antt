@@ -1,26 +1,5 @@
 -- What a datagram is, as its receiver reads it.
-use Rattle.std.proofs.Common.{◌≡◌, ℕ, zero, suc, ◌<◌, List, length, Bool, true, false, if◌then◌else◌, Some, None, refl, sym, ap, ◌∙◌, subst, arith, ◌⊎◌, inl, inr}
-use Rattle.std.specs.Prelude.{slice_index_or, option_map}
-use Rattle.std.proofs.lemmas.Option.{slice_get-get_or, slice_get_past}
-use Rattle.uip_wire.specs.declared.addr.Addr.{Addr}
-use Rattle.tcp_machine.specs.Connection.{Sockets, same_sockets}
-use Rattle.tcp_segment.specs.Segments.{PlainSegment}
-use Rattle.uip_node.specs.Edge.{event_of}
-use Rattle.uip_node.specs.Events.{Event}
-use Rattle.uip_node.specs.Events.Event.{Arrived}
-use Rattle.link_client.specs.declared.setup.Setup.{Setup}
-use Rattle.link_client.specs.Client.{AbstractClient}
-use Rattle.link_world.specs.World.{World, Side, Content, numbered, client_sockets}
-use Rattle.link_world.specs.World.Content.{OfSegment, OfPing, OfEcho}
-use Rattle.link_world.specs.Bytes.{heard_by, server_of}
-use Rattle.link_world.specs.declared.who.Who.TheVariants.{FromClient, FromNode}
-use Rattle.link_world.specs.Reading.{IsRead, IsSentBy}
-use Rattle.link_replay.specs.Matched.{Matched}
-use Rattle.link_replay.specs.Represents.{SideRepresents}
-use Rattle.link_replay.specs.Plain.{CodeSide}
-use Rattle.link_replay.specs.declared.kind.Kind.{Kind}
-use Rattle.link_replay.specs.declared.kind.Kind.TheVariants.{EchoReply}
-use Rattle.link_replay.specs.Report.{kind_sent, segment_kind}
+use Rattle.link_replay.proofs.Prelude.{◌≡◌, ℕ, zero, suc, ◌<◌, List, length, Bool, true, false, if◌then◌else◌, Some, None, refl, sym, ap, ◌∙◌, subst, arith, ◌⊎◌, inl, inr, slice_index_or, option_map, slice_get-get_or, slice_get_past, Addr, Sockets, same_sockets, PlainSegment, event_of, Event, Arrived, Setup, AbstractClient, World, Side, Content, numbered, client_sockets, OfSegment, OfPing, OfEcho, heard_by, server_of, FromClient, FromNode, IsRead, IsSentBy, Matched, SideRepresents, CodeSide, Kind, EchoReply, kind_sent, segment_kind}
 use Rattle.link_replay.proofs.Listing.{partner}
 
 abbrev pub addr_of : Side → Addr

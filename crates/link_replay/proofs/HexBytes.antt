@@ -1,13 +1,5 @@
 -- Pairs of hexadecimal digits spell bytes.
-use Rattle.std.specs.List.{All}
-use Rattle.std.specs.Prelude.{IfSome}
-use Rattle.std.proofs.Common.{◌≡◌, ℕ, ◌+◌, ◌*◌, ◌-◌, ◌<◌, ◌%◌, Bool, true, false, cond, ◌&&◌, List, [], ◌∷◌, length, Option, Some, None, Result, Ok, Err, IfOk, refl, arith, eqb, leb}
-use Rattle.std.proofs.lemmas.Bool.{and_parts, leb-true}
-use Rattle.std.proofs.lemmas.List.Elements.{All-cons, All-nil}
-use Rattle.hex.specs.Hex.{decode_of, decode_pairs, digit_or_error, hex_digit_value, pair_value, value_at, ◌>>=◌}
-use Rattle.hex.specs.declared.error.FromHexError.{FromHexError}
-use Rattle.hex.specs.declared.error.FromHexError.TheVariants.{OddLength}
-use Rattle.app_events.specs.Pages.{IsByte}
+use Rattle.link_replay.proofs.Prelude.{All, IfSome, ◌≡◌, ℕ, ◌+◌, ◌*◌, ◌-◌, ◌<◌, ◌%◌, Bool, true, false, cond, ◌&&◌, List, [], ◌∷◌, length, Option, Some, None, Result, Ok, Err, IfOk, refl, arith, eqb, leb, and_parts, leb-true, All-cons, All-nil, decode_of, decode_pairs, digit_or_error, hex_digit_value, pair_value, value_at, ◌>>=◌, FromHexError, OddLength, IsByte}
 
 abbrev IsDigit : ℕ → Type 0
 IsDigit v = v < 16

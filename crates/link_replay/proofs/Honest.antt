@@ -1,29 +1,9 @@
 -- A schedule of one client over a link that loses nothing.
-use Rattle.std.specs.List.{All, list_all}
-use Rattle.std.proofs.Common.{◌≡◌, ℕ, zero, suc, ◌≤◌, ◌&&◌, true, replicate, List, [], ◌∷◌, Some, Ok, length, sym, subst, refl, ap, ◌∙◌, arith, lit<, leb, slice_get}
-use Rattle.std.proofs.lemmas.Bool.{and_parts, leb-true}
-use Rattle.std.proofs.lemmas.List.Elements.{All-head, All-replicate}
-use Rattle.app_events.specs.Pages.{IsU32}
-use Rattle.file_tree.specs.Site.{SiteContent, IsLoaded, files_of}
-use Rattle.web_pages.specs.Pages.{pages_of}
-use Rattle.link_world.specs.Honest.{IsServedWhole}
-use Rattle.link_world.specs.World.{World}
-use Rattle.link_schedule.specs.Reading.{SchedulePlan}
-use Rattle.link_replay.specs.Outcome.{outcome}
-use Rattle.site_image.specs.Files.{File}
-use Rattle.web_pages.specs.WebMeaning.{web_spec}
+use Rattle.link_replay.proofs.Prelude.{All, list_all, ◌≡◌, ℕ, zero, suc, ◌≤◌, ◌&&◌, true, replicate, List, [], ◌∷◌, Some, Ok, length, sym, subst, refl, ap, ◌∙◌, arith, lit<, leb, slice_get, and_parts, leb-true, All-head, All-replicate, IsU32, SiteContent, IsLoaded, files_of, pages_of, IsServedWhole, World, SchedulePlan, outcome, File, web_spec, Plan, client_in_range, is_between, IsPlan, IsPlanned, Planned, plays, Round, opening_for, plan_from, planned, server, IsHonest, rounds_for, HonestReplay, is_served, no_hits}
 use Rattle.link_replay.proofs.Web.{honest_pages}
-use Rattle.link_schedule.specs.Clients.{Plan}
-use Rattle.link_schedule.specs.Kept.{client_in_range, is_between}
-use Rattle.link_world.specs.History.{IsPlan, IsPlanned, Planned}
-use Rattle.link_world.specs.Schedule.{plays}
 use Rattle.link_schedule.specs.declared.event.Event.{Event}
-use Rattle.link_schedule.specs.declared.event.Event.TheVariants.{Opens, Round}
-use Rattle.link_replay.specs.Opening.{opening_for, plan_from, planned, server}
+use Rattle.link_schedule.specs.declared.event.Event.TheVariants.{Opens}
 use Rattle.link_replay.proofs.Opened.{is_plan, server_is_addr}
-use Rattle.link_replay.specs.Honest.{IsHonest, rounds_for}
-use Rattle.link_replay.specs.Laws.{HonestReplay}
-use Rattle.web_pages.specs.Serving.{is_served, no_hits}
 use Rattle.link_replay.proofs.Typed.{HasTypes, all_typed, read_keeps}
 
 is_planned : (plan : Plan) → HasTypes plan → client_in_range plan ≡ true → IsPlanned (planned 1 plan)

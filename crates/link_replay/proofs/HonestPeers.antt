@@ -1,16 +1,5 @@
 -- A cooperating peer of the web server has its page.
-use Rattle.std.proofs.Common.{◌<◌, ◌≤◌, List, arith}
-use Rattle.site_image.specs.Files.{File}
-use Rattle.file_tree.specs.Site.{files_of}
-use Rattle.uip_node.proofs.SoundSegments.{first_low}
-use Rattle.web_pages.specs.Pages.{pages_of}
-use Rattle.web_pages.specs.Requests.{wanted}
-use Rattle.web_pages.specs.WebMeaning.{web_spec}
-use Rattle.web_pages.proofs.PageLaws.{keeps_page_laws}
-use Rattle.node_laws.proofs.HonestPeers.{honest_peer, of_syn}
-use Rattle.link_world.proofs.HonestNode.{mss_low}
-use Rattle.link_replay.specs.HonestPeers.{HonestWebPeer}
-use Rattle.link_replay.specs.Web.{pieces_for, texts_for}
+use Rattle.link_replay.proofs.Prelude.{◌<◌, ◌≤◌, List, arith, File, files_of, first_low, pages_of, wanted, web_spec, keeps_page_laws, honest_peer, of_syn, mss_low, HonestWebPeer, pieces_for, texts_for}
 use Rattle.link_replay.proofs.Answering.{fine, left, answers_polled}
 
 pub honest_web_peer : HonestWebPeer

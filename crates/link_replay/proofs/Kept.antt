@@ -1,21 +1,6 @@
 -- The promises that hold of a world that acts reach from the initial one.
-use Rattle.std.specs.List.{All}
-use Rattle.std.proofs.Common.{◌≡◌, ℕ, Bool, true, Some, inl}
-use Rattle.std.specs.Prelude.{slice_get}
-use Rattle.app_events.specs.Pages.{IsByte}
-use Rattle.file_tree.specs.Site.{SiteContent, IsLoaded, files_of}
-use Rattle.web_pages.specs.Pages.{pages_of}
-use Rattle.web_pages.specs.WebMeaning.{web_spec}
-use Rattle.web_pages.proofs.PageLaws.{keeps_page_laws}
-use Rattle.web_pages.proofs.ByteLaws.{made_of_bytes}
-use Rattle.link_world.specs.World.{World, Side, is_clean}
-use Rattle.uip_node.specs.Laws.{HasBytes}
-use Rattle.link_world.specs.Headline.{IsReached, IsRepeatOf, IsServed, MarksRepeats, RepeatsSameBytes}
-use Rattle.link_world.proofs.Prefix.{prefix_and_whole}
-use Rattle.link_world.proofs.Same.{again_exactly, same_bytes}
+use Rattle.link_replay.proofs.Prelude.{All, ◌≡◌, ℕ, Bool, true, Some, inl, slice_get, IsByte, SiteContent, IsLoaded, files_of, pages_of, web_spec, keeps_page_laws, made_of_bytes, World, Side, is_clean, HasBytes, IsReached, IsRepeatOf, IsServed, MarksRepeats, RepeatsSameBytes, prefix_and_whole, again_exactly, same_bytes, IsAt, KeepsPromises}
 use Rattle.link_world.proofs.Ticks.{tick}
-use Rattle.link_replay.specs.Reaching.{IsAt}
-use Rattle.link_replay.specs.Promises.{KeepsPromises}
 
 -- the pages of a site are bytes
 pub has_bytes : (site : SiteContent) → All IsByte site.image → HasBytes (pages_of (files_of site))

@@ -43,3 +43,4 @@ pub mod Worked
 pub mod MadeLaws
 pub mod Hits
 pub mod Apart
+mod Prelude

@@ -1,22 +1,6 @@
 -- The acts of a line, and the world after it.
-use Rattle.std.specs.List.{All}
-use Rattle.std.proofs.Common.{◌≡◌, ℕ, zero, suc, List, [], length, replicate, refl, sym, ap, subst, Bool, Result, Ok, false}
-use Rattle.app_events.specs.AppSpec.{AppSpec}
-use Rattle.app_events.specs.declared.app.App.{Ghosts}
-use Rattle.uip_node.specs.Node.{initial_node}
-use Rattle.link_world.specs.World.{World}
-use Rattle.link_world.specs.World.Content.{OfPing}
-use Rattle.link_world.specs.Schedule.{acts_of, mark_after, plays_line}
-use Rattle.link_world.proofs.Doing.{with_mark}
-use Rattle.link_world.specs.Acts.{runs}
-use Rattle.link_world.specs.declared.act.Act.{Act}
+use Rattle.link_replay.proofs.Prelude.{All, ◌≡◌, ℕ, zero, suc, List, [], length, replicate, refl, sym, ap, subst, Bool, Result, Ok, false, AppSpec, Ghosts, initial_node, World, OfPing, acts_of, mark_after, plays_line, with_mark, runs, Act, StepFault, Pinger, IsAct, OfLine, line_acts, WorldRepresents, CodeWorld}
 use Rattle.link_schedule.specs.declared.event.Event.{Event}
-use Rattle.link_world.specs.declared.step_fault.StepFault.{StepFault}
-use Rattle.link_world.specs.declared.who.Who.TheVariants.{Pinger}
-use Rattle.link_world.specs.Headline.{IsAct, OfLine}
-use Rattle.link_world.proofs.Lines.{line_acts}
-use Rattle.link_replay.specs.Represents.{WorldRepresents}
-use Rattle.link_replay.specs.State.{CodeWorld}
 use Rattle.link_replay.proofs.Places.{link_marked}
 
 length_same : {X : Type 0} (n : ℕ) (x : X) → length (replicate n x) ≡ n

@@ -1,12 +1,5 @@
 -- The texts of a list's elements, one after another, and the digits of bytes.
-use Rattle.std.proofs.Common.{◌≡◌, ℕ, ◌+◌, ◌<◌, ◌≤◌, List, [], ◌∷◌, ◌++◌, length, take, drop, get_or, Option, Some, Result, Ok, Err, inl, inr, refl, sym, ap, ◌∙◌, arith, add-one, drop-cons}
-use Rattle.std.specs.Prelude.{slice_index, slice_get, ◌/◌, ◌%◌}
-use Rattle.std.proofs.lemmas.List.{take-append-drop, drop_all}
-use Rattle.std.proofs.lemmas.Option.{slice_get_cases, slice_get_within, get_or_from_slice_get}
-use Rattle.hex.specs.Hex.{encode_with, encode_lower}
-use Rattle.link_replay.specs.Matched.{Matched}
-use Rattle.link_replay.specs.Report.{numbered_texts}
-use Rattle.link_replay.specs.Writing.{Wrote}
+use Rattle.link_replay.proofs.Prelude.{◌≡◌, ℕ, ◌+◌, ◌<◌, ◌≤◌, List, [], ◌∷◌, ◌++◌, length, take, drop, get_or, Option, Some, Result, Ok, Err, inl, inr, refl, sym, ap, ◌∙◌, arith, add-one, drop-cons, slice_index, slice_get, ◌/◌, ◌%◌, take-append-drop, drop_all, slice_get_cases, slice_get_within, get_or_from_slice_get, encode_with, encode_lower, Matched, numbered_texts, Wrote}
 use Rattle.link_replay.proofs.Saying.{Saying, saying_more, saying_stops, saying_done}
 
 pub encode_with-append : (t xs ys : List ℕ) → encode_with t (xs ++ ys) ≡ encode_with t xs ++ encode_with t ys

@@ -1,27 +1,6 @@
 -- An abstract step writes at most one slot, and a slot that lost its owner is that of the connection that became CLOSED.
-use Rattle.std.proofs.Common.{◌≡◌, ℕ, zero, suc, Bool, true, false, not, if◌then◌else◌, ◌&&◌, ◌==◌, bytes_eq, List, [], ◌∷◌, length, map, set, refl, sym, ap, ◌∙◌, arith, Option, Some, None, position, slice_get, slice_index_or}
-use Rattle.tcp_segment.specs.Segments.{PlainSegment, has_rst}
-use Rattle.app_events.specs.AppSpec.{AppSpec}
-use Rattle.app_events.specs.declared.app.App.{Ghosts}
-use Rattle.tcp_table.specs.Connections.{is_at}
-use Rattle.tcp_table.specs.declared.conn.Conn.{Conn}
-use Rattle.tcp_machine.specs.Connection.{Sockets, Connection, closed, is_live, serves}
-use Rattle.tcp_machine.specs.Ask.{Outcome, asked}
-use Rattle.tcp_machine.specs.OnSegment.{accepted, on_segment}
-use Rattle.tcp_machine.specs.OnTick.{on_tick}
-use Rattle.tcp_machine.specs.Segments.{is_plain_syn}
-use Rattle.tcp_machine.specs.Represents.{ConnRepresents}
-use Rattle.uip_node.specs.Counters.{initial_number}
-use Rattle.uip_node.specs.Events.{Event}
-use Rattle.uip_node.specs.Events.Event.{IpRefused, IcmpRefused, TcpRefused, EchoAsked, Arrived, Overlong, Periodic}
-use Rattle.uip_node.specs.Node.{AbstractNode, NodeStep, arrives_at, connection_in, for_no_connection, gone_by, happened, snapshot, opens, opens_in, slot_for_syn, step}
-use Rattle.uip_node.specs.Slots.{SlotsRepresent}
-use Rattle.uip_node.proofs.Basics.{both_ways, choose}
-use Rattle.uip_node.proofs.Peers.{asked_keeps, on_segment_keeps, on_tick_keeps}
-use Rattle.uip_node.proofs.SocketPairs.{flip, not_peer, serves_dead, serves_yes}
-use Rattle.uip_node.proofs.Connections.{Free, find_is, finds, finds_none}
-use Rattle.link_replay.specs.Noting.{gone_pair, lost, lost_at, or_pair, owner, owner_in, pair_at, sockets_at}
-use Rattle.link_replay.specs.declared.socket_pair.SocketPair.{SocketPair}
+use Rattle.link_replay.proofs.Prelude.{◌≡◌, ℕ, zero, suc, Bool, true, false, not, if◌then◌else◌, ◌&&◌, ◌==◌, List, [], ◌∷◌, length, map, set, refl, sym, ap, ◌∙◌, arith, Option, Some, None, position, slice_get, slice_index_or, PlainSegment, has_rst, AppSpec, Ghosts, is_at, Conn, Sockets, Connection, closed, is_live, serves, Outcome, asked, accepted, on_segment, on_tick, is_plain_syn, ConnRepresents, initial_number, Event, IpRefused, IcmpRefused, TcpRefused, EchoAsked, Arrived, Overlong, Periodic, AbstractNode, NodeStep, arrives_at, connection_in, for_no_connection, gone_by, happened, snapshot, opens, opens_in, slot_for_syn, step, SlotsRepresent, both_ways, choose, asked_keeps, on_segment_keeps, on_tick_keeps, flip, not_peer, serves_dead, serves_yes, Free, find_is, finds, finds_none, gone_pair, lost, lost_at, or_pair, owner, owner_in, pair_at, sockets_at, SocketPair}
+use Rattle.std.proofs.Common.{bytes_eq}
 
 -- an owner whose slot has this connection now, which does not serve it
 abbrev left_by : Option SocketPair → Connection → Option SocketPair

@@ -1,28 +1,7 @@
 -- The schedule of a seed.
-use Rattle.std.specs.List.{range_with_len}
-use Rattle.std.proofs.Common.{◌≡◌, ℕ, suc, ◌+◌, ◌/◌, ◌%◌, ◌<◌, Bool, List, [], ◌∷◌, ◌++◌, length, map, replicate, refl, sym, ap, subst, ◌∙◌, arith, append_assoc}
-use Rattle.std.specs.Prelude.{flat_map}
-use Rattle.std.proofs.Math.Nat.{mod-lt}
-use Rattle.std.proofs.lemmas.List.{length-map}
-use Rattle.std.proofs.lemmas.List.Concat.{flat_map-cons}
-use Rattle.std.proofs.lemmas.List.FromFn.{length-range_with_len}
-use Rattle.app_events.specs.AppSpec.{AppSpec}
-use Rattle.web_pages.specs.Serving.{is_served, no_hits}
-use Rattle.web_pages.specs.WebMeaning.{web_spec}
-use Rattle.link_schedule.specs.Clients.{Plan}
+use Rattle.link_replay.proofs.Prelude.{range_with_len, ◌≡◌, ℕ, suc, ◌+◌, ◌/◌, ◌%◌, ◌<◌, Bool, List, [], ◌∷◌, ◌++◌, length, map, replicate, refl, sym, ap, subst, ◌∙◌, arith, append_assoc, flat_map, mod-lt, length-map, flat_map-cons, length-range_with_len, AppSpec, is_served, no_hits, web_spec, Plan, Again, Round, Bad, Why, plays, plays_from, World, Full, AreKept, FineLines, IsKept, IsOpening, keeps_again, keeps_half, keeps_lose, keeps_reverse, keeps_round, keeps_tick, keeps_twice, kept_append, kept_fine, kept_replicate, opening_ready, opens_fine, opening_for, plan_from, server, event_at, refusal_at, client_of, event_drawn, events_of, happens, numbered_from, words_from, of_drawn, OnlyFull}
 use Rattle.link_schedule.specs.declared.event.Event.{Event}
-use Rattle.link_schedule.specs.declared.event.Event.TheVariants.{Opens, Again, Round}
-use Rattle.link_schedule.specs.declared.read_schedule.ReadSchedule.TheVariants.{Bad}
-use Rattle.link_schedule.specs.declared.why.Why.{Why}
-use Rattle.link_world.specs.Schedule.{plays, plays_from}
-use Rattle.link_world.specs.World.{World}
-use Rattle.link_world.specs.declared.step_fault.StepFault.TheVariants.{Full}
-use Rattle.link_world.proofs.Accepting.{AreKept, FineLines, IsKept, IsOpening, keeps_again, keeps_half, keeps_lose, keeps_reverse, keeps_round, keeps_tick, keeps_twice, kept_append, kept_fine, kept_replicate, opening_ready, opens_fine}
-use Rattle.link_replay.specs.Opening.{opening_for, plan_from, server}
-use Rattle.link_replay.specs.Playing.{event_at, refusal_at}
-use Rattle.workload.specs.Workload.{client_of, event_drawn, events_of, happens, numbered_from, words_from}
-use Rattle.workload.proofs.Keeping.{of_drawn}
-use Rattle.link_replay.specs.Laws.{OnlyFull}
+use Rattle.link_schedule.specs.declared.event.Event.TheVariants.{Opens}
 
 events_numbered : (number : ℕ) (events : List Event) → map event_at (numbered_from number events) ≡ events
 events_numbered number [] = refl

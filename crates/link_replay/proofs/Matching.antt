@@ -1,7 +1,5 @@
 -- Lists that agree at each index, element by element.
-use Rattle.std.proofs.Common.{◌≡◌, ℕ, zero, suc, List, [], ◌∷◌, Some, map, subst, refl, ap, ◌∙◌, arith}
-use Rattle.std.specs.Prelude.{slice_get}
-use Rattle.link_replay.specs.Matched.{Matched}
+use Rattle.link_replay.proofs.Prelude.{◌≡◌, ℕ, zero, suc, List, [], ◌∷◌, Some, map, subst, refl, ap, ◌∙◌, arith, slice_get, Matched}
 
 pub matched_nil : {X Y : Type 0} (P : X → Y → Type 0) → Matched P [] []
 matched_nil P = record { same_length = refl; each = λ i x y a b. absurd (cc) }

@@ -1,34 +1,6 @@
 -- The initial world: each client represents the one that is planned, and the plan is one.
-use Rattle.std.specs.List.{All, list_all, list_any}
-use Rattle.std.proofs.Common.{◌≡◌, ℕ, zero, suc, ◌+◌, ◌<◌, ◌≤◌, Bool, true, false, not, ◌&&◌, List, [], ◌∷◌, ◌++◌, length, map, refl, sym, ap, ◌∙◌, subst, arith, Some, None, slice_get, eqb, leb, lit<}
-use Rattle.std.proofs.lemmas.List.{length-map}
-use Rattle.std.proofs.lemmas.Bool.{and_parts, and_from, eq-eqb, leb-true, not-true, or_parts}
-use Rattle.std.specs.Str.{bytes_eq}
-use Rattle.std.proofs.lemmas.Option.{slice_get_within}
-use Rattle.uip_wire.specs.declared.addr.Addr.{Addr}
-use Rattle.uip_wire.specs.declared.port.Port.{Port}
-use Rattle.app_events.specs.Pages.{IsAddr, IsByte}
-use Rattle.uip_node.proofs.Stepping.{slice_get-element}
-use Rattle.link_client.specs.Calls.{FitsRequest, standing}
-use Rattle.link_client.specs.Client.{idle}
-use Rattle.link_client.specs.State.{Client}
-use Rattle.link_client.specs.declared.setup.Setup.{Setup}
-use Rattle.link_schedule.specs.Clients.{Plan}
-use Rattle.link_schedule.specs.Kept.{are_apart, client_in_range, is_between}
-use Rattle.link_schedule.specs.Reading.{meets}
-use Rattle.tcp_machine.specs.Connection.{Sockets}
-use Rattle.link_world.specs.World.{World}
-use Rattle.link_world.specs.History.{Planned, IsPlan, IsPlanned, fresh_side, sockets_in}
-use Rattle.uip_node.proofs.Basics.{get_push}
-use Rattle.uip_node.proofs.Basics.AtEnd.{older, newest}
-use Rattle.uip_node.proofs.Fits.{all_nil, all_cons}
-use Rattle.uip_node.proofs.Connections.{get_map}
-use Rattle.link_replay.specs.Matched.{Matched}
-use Rattle.link_replay.specs.Opening.{AreFresh, IsFresh, plan_from, planned, server}
-use Rattle.link_replay.specs.Represents.{IsLink, SentRepresents, SideRepresents}
-use Rattle.link_replay.specs.Plain.{CodeSent}
-use Rattle.link_replay.specs.State.{Link}
-use Rattle.link_replay.specs.Plain.{CodeSide}
+use Rattle.link_replay.proofs.Prelude.{All, list_all, list_any, ◌≡◌, ℕ, zero, suc, ◌+◌, ◌<◌, ◌≤◌, Bool, true, false, not, ◌&&◌, List, [], ◌∷◌, ◌++◌, length, map, refl, sym, ap, ◌∙◌, subst, arith, Some, None, slice_get, eqb, leb, lit<, length-map, and_parts, and_from, leb-true, or_parts, bytes_eq, slice_get_within, Addr, Port, IsAddr, IsByte, slice_get-element, FitsRequest, standing, idle, Client, Setup, Plan, are_apart, client_in_range, is_between, meets, Sockets, World, Planned, IsPlan, IsPlanned, fresh_side, sockets_in, get_push, older, newest, all_nil, all_cons, get_map, Matched, AreFresh, IsFresh, plan_from, planned, server, IsLink, SentRepresents, SideRepresents, CodeSent, Link, CodeSide}
+use Rattle.std.proofs.lemmas.Bool.{eq-eqb, not-true}
 
 pub server_is_addr : IsAddr server
 server_is_addr = record {

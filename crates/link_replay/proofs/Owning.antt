@@ -1,13 +1,5 @@
 -- A client opens exactly if it is idle.
-use Rattle.std.proofs.Common.{◌≡◌, ℕ, List, true, false, refl, sym, ap, ◌∙◌, subst, None}
-use Rattle.link_client.specs.Client.{AbstractClient, ClientStep, keeps, opens_by, client_opens}
-use Rattle.link_client.specs.declared.client_state.ClientState.{ClientState}
-use Rattle.link_client.specs.declared.client_state.ClientState.TheVariants.{Idle}
-use Rattle.link_world.specs.Acts.{is_idle}
-use Rattle.link_world.specs.World.{Side}
-use Rattle.link_replay.specs.Plain.{CodeSide}
-use Rattle.link_replay.specs.Represents.{SideRepresents}
-use Rattle.link_replay.specs.Owning.{Stepped}
+use Rattle.link_replay.proofs.Prelude.{◌≡◌, ℕ, List, true, false, refl, sym, ap, ◌∙◌, subst, None, AbstractClient, ClientStep, keeps, opens_by, client_opens, ClientState, Idle, is_idle, Side, CodeSide, SideRepresents, Stepped}
 
 pub idle_is : (st : ClientState) → is_idle st ≡ true → st ≡ Idle
 idle_is Idle h = refl

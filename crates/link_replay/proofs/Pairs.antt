@@ -1,12 +1,6 @@
 -- Lists that agree at each index continue to do so.
-use Rattle.std.proofs.Common.{◌≡◌, ℕ, zero, suc, ◌+◌, ◌-◌, ◌<◌, List, [], ◌∷◌, ◌++◌, length, set, refl, sym, ap, ◌∙◌, subst, arith, Some, slice_get, get_or, drop, length-append, length-set}
+use Rattle.link_replay.proofs.Prelude.{◌≡◌, ℕ, zero, suc, ◌+◌, ◌-◌, ◌<◌, List, [], ◌∷◌, ◌++◌, length, set, refl, sym, ap, ◌∙◌, subst, arith, Some, slice_get, get_or, drop, length-append, length-set, numbered, get_push, older, newest, get_set, here, there, Matched}
 use Rattle.std.proofs.Math.Seq.{drop-cons}
-use Rattle.link_world.specs.World.{numbered}
-use Rattle.uip_node.proofs.Basics.{get_push}
-use Rattle.uip_node.proofs.Basics.AtEnd.{older, newest}
-use Rattle.uip_node.proofs.Connections.{get_set}
-use Rattle.uip_node.proofs.Connections.Written.{here, there}
-use Rattle.link_replay.specs.Matched.{Matched}
 
 inside : {X : Type 0} (xs : List X) (i : ℕ) (x : X) → slice_get xs i ≡ Some x → i < length xs
 inside [] i x h = absurd (cc)

@@ -1,23 +1,5 @@
 -- The bytes of a datagram stay the same while its world's addresses and ports do.
-use Rattle.std.proofs.Common.{◌≡◌, ℕ, zero, suc, Bool, List, [], ◌∷◌, ◌++◌, refl, sym, ap, ◌∙◌, subst, Option, Some, None, slice_get, set, length-set, ◌≤◌}
-use Rattle.std.specs.Option.{option_map_or}
-use Rattle.uip_wire.specs.declared.addr.Addr.{Addr}
-use Rattle.uip_node.specs.Counters.{ticks_of}
-use Rattle.tcp_segment.specs.Segments.{PlainSegment}
-use Rattle.link_client.specs.declared.setup.Setup.{Setup}
-use Rattle.link_world.specs.World.{World, Side, Sent, Content, numbered, epoch_of, posts, with_side}
-use Rattle.link_world.specs.World.Content.{OfSegment, OfPing, OfEcho}
-use Rattle.link_world.specs.Bytes.{bytes_by, client_bytes, node_bytes}
-use Rattle.link_world.specs.declared.who.Who.{Who}
-use Rattle.link_world.specs.declared.who.Who.TheVariants.{FromClient, FromNode, Pinger}
-use Rattle.link_replay.specs.Matched.{Matched}
-use Rattle.link_client.specs.Calls.{FitsRequest}
-use Rattle.uip_node.proofs.Connections.{get_set}
-use Rattle.uip_node.proofs.Connections.Written.{here, there}
-use Rattle.link_replay.specs.Represents.{SideRepresents, SentRepresents, LinkRepresents, IsLink}
-use Rattle.link_replay.specs.State.{Link, link_of}
-use Rattle.link_replay.specs.Plain.{CodeSide}
-use Rattle.link_replay.specs.Plain.{CodeSent}
+use Rattle.link_replay.proofs.Prelude.{◌≡◌, ℕ, zero, suc, Bool, List, [], ◌∷◌, ◌++◌, refl, sym, ap, ◌∙◌, subst, Option, Some, None, slice_get, set, length-set, ◌≤◌, option_map_or, Addr, ticks_of, PlainSegment, Setup, World, Side, Sent, Content, numbered, epoch_of, posts, with_side, OfSegment, OfPing, OfEcho, bytes_by, client_bytes, node_bytes, Who, FromClient, FromNode, Pinger, Matched, FitsRequest, get_set, here, there, SideRepresents, SentRepresents, LinkRepresents, IsLink, Link, link_of, CodeSide, CodeSent}
 use Rattle.link_replay.proofs.Pairs.{push, put, turn}
 
 -- the same addresses and ports, or no client on either side

@@ -1,34 +1,8 @@
 -- The lines of a schedule in turn.
-use Rattle.std.specs.List.{All}
-use Rattle.std.proofs.Common.{◌≡◌, ℕ, ◌+◌, Bool, List, [], ◌∷◌, map, refl, sym, ap, ◌∙◌, subst, Some, slice_get, Result, Ok, Err, IsErr}
+use Rattle.link_replay.proofs.Prelude.{All, ◌≡◌, ℕ, ◌+◌, Bool, List, [], ◌∷◌, map, refl, sym, ap, ◌∙◌, subst, Some, slice_get, Result, Ok, Err, IsErr, AppSpec, Ghosts, Pages, IsPaged, IsU32, Plan, Keeps, SchedulePlan, Line, ReadSchedule, Why, World, runs, IsPlan, IsPlanned, Planned, BadLine, acts_of, mark_after, plays, plays_from, plays_line, goes_on_with, with_mark, StepFault, NoDatagram, NoByte, AlreadyOpen, NotOpen, Full, NoMemory, HasBytes, IsAct, OfLine, all_nil, line_acts, opening_for, plan_from, server, LinesEnd, PlaysSchedule, Reaches, Refuses, event_at, refusal_at, ActsEnd, IsAt, WorldRepresents, CodeWorld}
 use Rattle.std.specs.Result.{IsErrAnd}
-use Rattle.app_events.specs.AppSpec.{AppSpec}
-use Rattle.app_events.specs.declared.app.App.{Ghosts}
-use Rattle.app_events.specs.Pages.{Pages, IsPaged, IsU32}
-use Rattle.link_schedule.specs.Clients.{Plan}
-use Rattle.link_schedule.specs.Kept.{Keeps}
-use Rattle.link_schedule.specs.Reading.{SchedulePlan}
-use Rattle.link_schedule.specs.declared.line.Line.{Line}
-use Rattle.link_schedule.specs.declared.read_schedule.ReadSchedule.{ReadSchedule}
 use Rattle.link_schedule.specs.declared.read_schedule.ReadSchedule.TheVariants.{Bad, NoMemory as NoRoom}
-use Rattle.link_schedule.specs.declared.why.Why.{Why}
-use Rattle.link_world.specs.World.{World}
-use Rattle.link_world.specs.Acts.{runs}
-use Rattle.link_world.specs.History.{IsPlan, IsPlanned, Planned}
-use Rattle.link_world.specs.Schedule.{BadLine, acts_of, mark_after, plays, plays_from, plays_line}
-use Rattle.link_world.proofs.Doing.{goes_on_with, with_mark}
 use Rattle.link_schedule.specs.declared.event.Event.{Event}
-use Rattle.link_world.specs.declared.step_fault.StepFault.{StepFault}
-use Rattle.link_world.specs.declared.step_fault.StepFault.TheVariants.{NoDatagram, NoByte, AlreadyOpen, NotOpen, Full, NoMemory}
-use Rattle.uip_node.specs.Laws.{HasBytes}
-use Rattle.link_world.specs.Headline.{IsAct, OfLine}
-use Rattle.uip_node.proofs.Fits.{all_nil}
-use Rattle.link_world.proofs.Lines.{line_acts}
-use Rattle.link_replay.specs.Opening.{opening_for, plan_from, server}
-use Rattle.link_replay.specs.Playing.{LinesEnd, PlaysSchedule, Reaches, Refuses, event_at, refusal_at}
-use Rattle.link_replay.specs.Reaching.{ActsEnd, IsAt}
-use Rattle.link_replay.specs.Represents.{WorldRepresents}
-use Rattle.link_replay.specs.State.{CodeWorld}
 use Rattle.link_replay.proofs.Opened.{is_plan, server_is_addr}
 use Rattle.link_replay.proofs.Reaching.{at_marked, at_run}
 

@@ -1,38 +1,9 @@
 -- What is due for a schedule that was played by the server of a site.
-use Rattle.std.specs.List.{All}
-use Rattle.std.proofs.Common.{◌≡◌, ℕ, List, Result, Ok, Err, length, sym, subst, refl, inl, inr, ap, ◌∙◌, Bool, lit<}
-use Rattle.std.proofs.lemmas.List.Elements.{All-replicate}
-use Rattle.app_events.specs.AppSpec.{AppSpec}
-use Rattle.app_events.specs.Pages.{IsByte, IsPaged, IsU32, Pages}
-use Rattle.file_tree.specs.Site.{SiteContent, IsLoaded, files_of}
-use Rattle.site_image.specs.Files.{File}
-use Rattle.web_pages.specs.Pages.{pages_of}
-use Rattle.web_pages.specs.WebMeaning.{web_spec}
-use Rattle.web_pages.proofs.PageLaws.{keeps_page_laws}
-use Rattle.link_schedule.specs.Answer.{ReadsSchedule}
-use Rattle.std.specs.Prelude.{IfOk, MatchResult, Some, slice_get}
-use Rattle.link_schedule.specs.Reading.{BadText, SchedulePlan, read_text}
-use Rattle.link_schedule.specs.declared.read_schedule.ReadSchedule.{ReadSchedule}
-use Rattle.link_schedule.specs.declared.read_schedule.ReadSchedule.TheVariants.{Bad, NoMemory}
-use Rattle.uip_node.specs.Laws.{HasBytes}
-use Rattle.link_world.specs.Schedule.{plays}
-use Rattle.link_world.specs.World.{World}
-use Rattle.link_replay.specs.Opening.{plan_from}
-use Rattle.link_replay.specs.Playing.{PlaysSchedule, Reaches, Refuses}
-use Rattle.link_replay.specs.Reaching.{IsAt}
-use Rattle.link_replay.specs.Outcome.{bad_schedule, outcome}
-use Rattle.web_pages.specs.Serving.{is_served, no_hits}
-use Rattle.link_replay.specs.Due.{WritesDue, IsPlayDue, IsTextDue, TellsFault, told_of, HasReached, ServesHonest}
-use Rattle.link_replay.specs.Promises.{KeepsPromises}
-use Rattle.link_replay.specs.declared.replay_end.ReplayEnd.{ReplayEnd}
+use Rattle.link_replay.proofs.Prelude.{All, ◌≡◌, ℕ, List, Result, Ok, Err, length, sym, subst, refl, inl, inr, ap, ◌∙◌, Bool, lit<, All-replicate, AppSpec, IsByte, IsPaged, IsU32, Pages, SiteContent, IsLoaded, files_of, File, pages_of, web_spec, keeps_page_laws, ReadsSchedule, IfOk, MatchResult, Some, slice_get, BadText, SchedulePlan, read_text, ReadSchedule, Bad, HasBytes, plays, World, plan_from, PlaysSchedule, Reaches, Refuses, IsAt, bad_schedule, outcome, is_served, no_hits, WritesDue, IsPlayDue, IsTextDue, TellsFault, told_of, HasReached, ServesHonest, KeepsPromises, ReplayEnd, Telling, Report, Planned, IsPlanned, WritesEnd, SinkView}
+use Rattle.link_schedule.specs.declared.read_schedule.ReadSchedule.TheVariants.{NoMemory}
 use Rattle.link_replay.specs.declared.replay_end.ReplayEnd.TheVariants as ends
-use Rattle.link_replay.specs.declared.told_as.Telling.{Telling}
-use Rattle.link_replay.specs.declared.told_as.Telling.TheVariants.{Report}
-use Rattle.link_world.specs.History.{Planned, IsPlanned}
 use Rattle.link_replay.proofs.Honest.{honest_at}
 use Rattle.link_replay.proofs.Kept.{has_bytes, keeps_promises}
-use Rattle.uip_edge.specs.Writing.{WritesEnd}
-use Rattle.uip_edge.specs.Views.{SinkView}
 
 -- what a schedule is played for, given that the server has pages of bytes and counts that are words
 abbrev pub ForPages : List File → List ℕ → Type 0 → Type 0

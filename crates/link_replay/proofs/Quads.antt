@@ -1,11 +1,6 @@
 -- A dotted quad spells an address.
-use Rattle.std.specs.Prelude.{IfSome}
-use Rattle.std.proofs.Common.{◌≡◌, ℕ, Bool, true, false, cond, List, [], ◌∷◌, Option, Some, None, refl, ltb}
-use Rattle.std.proofs.lemmas.Bool.{ltb-true}
-use Rattle.std.proofs.lemmas.List.Elements.{All-cons, All-nil}
-use Rattle.uip_wire.specs.Addr.{cut_at_dot, part_number, quad_of, ◌>>=◌}
-use Rattle.uip_wire.specs.Numerals.{numeral}
-use Rattle.app_events.specs.Pages.{IsAddr, IsByte}
+use Rattle.link_replay.proofs.Prelude.{IfSome, ◌≡◌, ℕ, Bool, true, false, cond, List, [], ◌∷◌, Option, Some, None, refl, ltb, ltb-true, All-cons, All-nil, cut_at_dot, part_number, quad_of, numeral, IsAddr, IsByte}
+use Rattle.uip_wire.specs.Addr.{◌>>=◌}
 
 -- what passes a test
 tested : (P : ℕ → Type 0) (b : Bool) (x : ℕ) → (b ≡ true → P x) → IfSome (cond b (Some x) None) P

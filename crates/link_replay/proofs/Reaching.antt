@@ -1,23 +1,7 @@
 -- Where accepted acts lead from a world of a replay.
-use Rattle.std.specs.List.{All}
-use Rattle.std.proofs.Common.{◌≡◌, ℕ, List, [], ◌∷◌, ◌++◌, sym, ap, ◌∙◌, inl, refl, subst, Bool, Result, Ok, Err, IsErr, IsErrAnd}
-use Rattle.std.proofs.lemmas.List.Elements.{All-append}
-use Rattle.app_events.specs.AppSpec.{AppSpec}
-use Rattle.link_world.specs.World.{World}
+use Rattle.link_replay.proofs.Prelude.{All, ◌≡◌, ℕ, List, [], ◌∷◌, ◌++◌, sym, ap, ◌∙◌, inl, refl, subst, Bool, Result, Ok, Err, IsErr, IsErrAnd, All-append, AppSpec, World, acts, runs, started, Act, StepFault, IsAct, IsReached, with_mark, runs_mark, runs_joined, reached_sound, sound_marked, all_nil, all_cons, IsAt, ActsEnd, ActSteps, DamageLoses, Stops, StopsAt, NoDatagram, NoByte, AlreadyOpen, NotOpen, Full, NoMemory}
 use Rattle.link_schedule.specs.Numbers.{◌>>=◌}
-use Rattle.link_world.specs.Acts.{acts, runs}
-use Rattle.link_world.specs.History.{started}
-use Rattle.link_world.specs.declared.act.Act.{Act}
-use Rattle.link_world.specs.declared.step_fault.StepFault.{StepFault}
-use Rattle.link_world.specs.Headline.{IsAct, IsReached}
 use Rattle.link_world.proofs.DamageThere.{there}
-use Rattle.link_world.proofs.Doing.{with_mark}
-use Rattle.link_world.proofs.Lines.{runs_mark, runs_joined}
-use Rattle.link_world.proofs.Runs.{reached_sound}
-use Rattle.link_world.proofs.SoundWorlds.{sound_marked}
-use Rattle.uip_node.proofs.Fits.{all_nil, all_cons}
-use Rattle.link_replay.specs.Reaching.{IsAt, ActsEnd, ActSteps, DamageLoses, Stops, StopsAt}
-use Rattle.link_world.specs.declared.step_fault.StepFault.TheVariants.{NoDatagram, NoByte, AlreadyOpen, NotOpen, Full, NoMemory}
 
 pub handed : (r : Result (Unit {0}) StepFault) (e : StepFault) → IsErr r → IsErrAnd r (λ f. f ≡ e) → r ≡ Err e
 handed (Ok x) e h k = absurd (cc)

@@ -1,22 +1,5 @@
 -- What is known of the datagrams of a world of a replay.
-use Rattle.std.proofs.Common.{◌≡◌, ℕ, ◌-◌, ◌<◌, ◌≤◌, Bool, refl, subst, ◌∙◌, Some, get_or, length, slice_get, List}
-use Rattle.uip_wire.specs.declared.addr.Addr.{Addr}
-use Rattle.uip_wire.specs.declared.sizes.TheConstants.{LARGEST_DATAGRAM}
-use Rattle.app_events.specs.AppSpec.{AppSpec}
-use Rattle.link_world.specs.Bytes.{bytes_by, sent_bytes}
-use Rattle.link_world.specs.World.{World, Sent, Content, numbered}
-use Rattle.link_world.specs.World.Content.{OfSegment, OfPing, OfEcho}
-use Rattle.link_world.specs.declared.who.Who.{Who}
-use Rattle.link_world.specs.declared.who.Who.TheVariants.{FromClient, FromNode, Pinger}
-use Rattle.link_world.specs.Reading.{IsRead, IsSentBy}
-use Rattle.link_world.proofs.Reading.{bytes_are_read}
-use Rattle.link_world.proofs.Runs.{reached_sound}
-use Rattle.link_world.proofs.Senders.{sent_to_clients}
-use Rattle.link_world.proofs.SoundWorlds.{SoundWorld}
-use Rattle.link_replay.specs.Reaching.{IsAt}
-use Rattle.link_replay.specs.Represents.{IsLink, LinkRepresents, SentRepresents}
-use Rattle.link_replay.specs.State.{Link}
-use Rattle.link_replay.specs.Plain.{CodeSent}
+use Rattle.link_replay.proofs.Prelude.{◌≡◌, ℕ, ◌-◌, ◌<◌, ◌≤◌, Bool, refl, subst, ◌∙◌, Some, get_or, length, slice_get, List, Addr, LARGEST_DATAGRAM, AppSpec, bytes_by, sent_bytes, World, Sent, Content, numbered, OfSegment, OfPing, OfEcho, Who, FromClient, FromNode, Pinger, IsRead, IsSentBy, bytes_are_read, reached_sound, sent_to_clients, SoundWorld, IsAt, IsLink, LinkRepresents, SentRepresents, Link, CodeSent}
 use Rattle.link_replay.proofs.Pairs.{numbered_at, partner, there_is}
 use Rattle.link_replay.proofs.Reaching.{reached_at}
 

@@ -1,24 +1,5 @@
 -- To whom the node sends: to the sender of a segment, and at a periodic call to the peer of the connection, which is live.
-use Rattle.std.proofs.Common.{◌≡◌, ℕ, Bool, true, false, ◌&&◌, ◌+◌, List, refl, sym, ap, ◌∙◌, subst, arith, Option, Some, None, position, slice_index_or}
-use Rattle.std.specs.Prelude.{option_map}
-use Rattle.tcp_segment.specs.Segments.{PlainSegment, has_rst}
-use Rattle.app_events.specs.AppSpec.{AppSpec}
-use Rattle.app_events.specs.declared.now.Now.{Now}
-use Rattle.tcp_machine.specs.Connection.{Sockets, Connection, closed, is_live, same_sockets, serves}
-use Rattle.tcp_machine.specs.Ask.{Outcome, asked}
-use Rattle.tcp_machine.specs.OnSegment.{accept, on_segment}
-use Rattle.tcp_machine.specs.OnTick.{on_tick}
-use Rattle.tcp_machine.specs.Segments.{is_plain_syn, is_again, reset_for_no_connection, segment_of}
-use Rattle.uip_node.specs.Counters.{initial_number}
-use Rattle.uip_node.specs.Events.{Event, Reply}
-use Rattle.uip_node.specs.Events.Event.{Arrived, Periodic}
-use Rattle.uip_node.specs.Events.Reply.{Tcp}
-use Rattle.uip_node.specs.Node.{AbstractNode, NodeStep, arrives_at, connection_in, for_no_connection, happened, snapshot, opens, opens_in, refuses, slot_for_syn, step}
-use Rattle.uip_node.proofs.Basics.{and_true, both_ways, choose}
-use Rattle.uip_node.proofs.Peers.{asked_keeps, on_segment_keeps, on_tick_closed, on_tick_keeps}
-use Rattle.uip_node.proofs.SocketPairs.{same_is}
-use Rattle.uip_node.proofs.Connections.{find_is, finds, finds_none, index_of}
-use Rattle.uip_node.specs.Laws.{serving}
+use Rattle.link_replay.proofs.Prelude.{◌≡◌, ℕ, Bool, true, false, ◌&&◌, ◌+◌, List, refl, sym, ap, ◌∙◌, subst, arith, Option, Some, None, position, slice_index_or, option_map, PlainSegment, has_rst, AppSpec, Now, Sockets, Connection, closed, is_live, same_sockets, serves, Outcome, asked, accept, on_segment, on_tick, is_plain_syn, is_again, reset_for_no_connection, segment_of, initial_number, Event, Reply, Arrived, Periodic, Tcp, AbstractNode, NodeStep, arrives_at, connection_in, for_no_connection, happened, snapshot, opens, opens_in, refuses, slot_for_syn, step, and_true, both_ways, choose, asked_keeps, on_segment_keeps, on_tick_closed, on_tick_keeps, same_is, find_is, finds, finds_none, index_of, serving}
 
 -- a TCP datagram to these sockets
 pub record SaidTo (sockets : Sockets) (r : Reply) : Type 0 where

@@ -1,21 +1,5 @@
 -- The prefix of a text that is read of its file shows all that the whole text does.
-use Rattle.std.proofs.Common.{◌≡◌, ℕ, ◌+◌, List, length, take, Result, Ok, Err, Option, Some, None, refl, sym, ap, subst, ◌∙◌, inl, inr, Bool, arith}
-use Rattle.std.specs.Prelude.{IsSomeAnd, nat_le, ◌==◌, if◌then◌else◌, MatchResult, ⊤}
-use Rattle.std.specs.List.{slice_split}
-use Rattle.std.proofs.lemmas.Bool.{cases_lt, lt-leb}
-use Rattle.std.proofs.lemmas.List.{take_all, length-take-le}
-use Rattle.file_tree.specs.Loading.{HoldsFile}
-use Rattle.site_image.specs.Files.{File}
-use Rattle.file_tree.specs.Opening.{FindsInFiles, site_read}
-use Rattle.uip_edge.specs.Shelving.{Files}
-use Rattle.link_schedule.specs.Reading.{BadText, SchedulePlan, nothing_yet, read_lines, read_text}
-use Rattle.link_schedule.specs.declared.why.Why.TheVariants.{Long}
-use Rattle.link_replay.specs.Outcome.{bad_schedule}
-use Rattle.link_replay.specs.Ending.{IsReplayText}
-use Rattle.link_replay.specs.Due.{IsPlayDue, IsTextDue}
-use Rattle.link_replay.specs.declared.told_as.Telling.{Telling}
-use Rattle.link_replay.specs.declared.told_as.Telling.TheVariants.{Report}
-use Rattle.link_replay.specs.declared.replay_end.ReplayEnd.{ReplayEnd}
+use Rattle.link_replay.proofs.Prelude.{◌≡◌, ℕ, ◌+◌, List, length, take, Result, Ok, Err, Option, Some, None, refl, sym, ap, subst, ◌∙◌, inl, inr, Bool, arith, IsSomeAnd, nat_le, ◌==◌, if◌then◌else◌, MatchResult, ⊤, slice_split, cases_lt, lt-leb, take_all, length-take-le, HoldsFile, File, FindsInFiles, site_read, Files, BadText, SchedulePlan, nothing_yet, read_lines, read_text, Long, bad_schedule, IsReplayText, IsPlayDue, IsTextDue, Telling, Report, ReplayEnd}
 use Rattle.link_replay.specs.declared.replay_end.ReplayEnd.TheVariants as ends
 
 -- a text that is longer than the limit is so by one byte more than it

@@ -1,12 +1,5 @@
 -- What holds of the text of each world that a replay may be at, by how the call ended.
-use Rattle.std.proofs.Common.{ℕ, Bool, List, Option, Result, Ok, Err}
-use Rattle.std.specs.Prelude.{OnErr, OnOk}
-use Rattle.std.specs.Io.KnownBytes.{Appends}
-use Rattle.uip_edge.specs.Writing.{AppendsPrefix}
-use Rattle.app_events.specs.AppSpec.{AppSpec}
-use Rattle.link_world.specs.World.{World}
-use Rattle.link_replay.specs.Reaching.{IsAt}
-use Rattle.link_replay.specs.Writing.{Wrote}
+use Rattle.link_replay.proofs.Prelude.{ℕ, Bool, List, Option, Result, Ok, Err, OnErr, OnOk, Appends, AppendsPrefix, AppSpec, World, IsAt, Wrote}
 
 module _ {T E : Type 0} (StandsFor : World → Type 0) (text : World → List ℕ) (old new : Option (List ℕ)) where
   pub told_whole : (r : Result T E) → ((m : AppSpec) (served : ℕ → Bool) (w : World) → StandsFor w → IsAt m served w → Wrote old new r (text w))

@@ -1,8 +1,5 @@
 -- Texts that are written one after another.
-use Rattle.std.proofs.Common.{◌≡◌, ℕ, List, [], ◌++◌, Option, Result, Ok, Err, refl, sym, ap, ◌∙◌, append_assoc, append-nil, subst}
-use Rattle.std.specs.Io.KnownBytes.{Appends}
-use Rattle.uip_edge.proofs.Told.{Appends-none, Appends-then, appends_by, prefix_by, prefix_more, prefix_then}
-use Rattle.link_replay.specs.Writing.{Wrote}
+use Rattle.link_replay.proofs.Prelude.{◌≡◌, ℕ, List, [], ◌++◌, Option, Result, Ok, Err, refl, sym, ap, ◌∙◌, append_assoc, append-nil, subst, Appends, Appends-none, Appends-then, appends_by, prefix_by, prefix_more, prefix_then, Wrote}
 
 -- a prefix of the whole text was written, and this is the rest
 pub record Saying (first now : Option (List ℕ)) (whole rest : List ℕ) : Type 0 where

@@ -1,30 +1,5 @@
 -- A client's step in the world.
-use Rattle.std.proofs.Common.{◌≡◌, ℕ, zero, suc, ◌<◌, ◌≤◌, ◌⊎◌, inl, inr, ◌++◌, replicate, drop, false, List, [], ◌∷◌, length, take, set, refl, sym, ap, ◌∙◌, subst, arith, Option, Some, None, slice_get, length-take, if◌then◌else◌}
-use Rattle.tcp_segment.specs.Segments.{PlainSegment, datagram_bytes}
-use Rattle.std.specs.Option.{option_map_or}
-use Rattle.tcp_machine.specs.Connection.{closed}
-use Rattle.std.proofs.lemmas.List.{drop_all, take_all}
-use Rattle.uip_node.proofs.Basics.{append_nothing}
-use Rattle.link_client.specs.Calls.{standing, Sends, client_datagram, client_hands, client_hears, FitsRequest}
-use Rattle.link_client.specs.Client.{AbstractClient, ClientStep, client_takes}
-use Rattle.link_client.specs.declared.client_state.ClientState.{ClientState}
-use Rattle.link_client.specs.declared.client_state.ClientState.TheVariants.{Idle}
-use Rattle.link_client.specs.declared.setup.Setup.{Setup}
-use Rattle.link_world.proofs.Hearing.{same_hearing}
-use Rattle.uip_node.specs.Counters.{ticks_of}
-use Rattle.link_world.specs.Acts.{handed}
-use Rattle.link_world.specs.Bytes.{bytes_by, client_bytes}
-use Rattle.link_world.specs.World.{World, Side, at_side, numbered, epoch, past_connection_of, becomes_opened, client_stepped, with_client, with_side}
-use Rattle.link_world.specs.World.Content.{OfSegment}
-use Rattle.link_world.specs.declared.who.Who.TheVariants.{FromClient}
-use Rattle.uip_node.proofs.Connections.{get_set_same, set_same}
-use Rattle.link_replay.specs.Owning.{Stepped}
-use Rattle.uip_wire.specs.declared.addr.Addr.{Addr}
-use Rattle.link_replay.specs.Plain.{CodeSent}
-use Rattle.link_replay.specs.Represents.{LinkRepresents, SideRepresents, IsLink}
-use Rattle.link_replay.specs.State.{Link, link_of}
-use Rattle.link_replay.specs.Moving.{PostsOfClient}
-use Rattle.link_replay.specs.Plain.{CodeSide}
+use Rattle.link_replay.proofs.Prelude.{◌≡◌, ℕ, zero, suc, ◌<◌, ◌≤◌, ◌⊎◌, inl, inr, ◌++◌, replicate, drop, false, List, [], ◌∷◌, length, take, set, refl, sym, ap, ◌∙◌, subst, arith, Option, Some, None, slice_get, length-take, if◌then◌else◌, PlainSegment, datagram_bytes, option_map_or, closed, drop_all, take_all, append_nothing, standing, Sends, client_datagram, client_hands, client_hears, FitsRequest, AbstractClient, ClientStep, client_takes, ClientState, Idle, Setup, same_hearing, ticks_of, handed, bytes_by, client_bytes, World, Side, at_side, numbered, epoch, past_connection_of, becomes_opened, client_stepped, with_client, with_side, OfSegment, FromClient, get_set_same, set_same, Stepped, Addr, CodeSent, LinkRepresents, SideRepresents, IsLink, Link, link_of, PostsOfClient, CodeSide}
 use Rattle.link_replay.proofs.Pairs.{partner}
 use Rattle.link_replay.proofs.Places.{link_put, side_put}
 

@@ -1,18 +1,5 @@
 -- What a world shows by itself is what is shown of the world that it represents.
-use Rattle.std.proofs.Common.{◌≡◌, ℕ, Bool, true, List, [], ◌++◌, Option, Result, Ok, Err, map, refl, sym, ap, ◌∙◌, subst, append_assoc}
-use Rattle.std.specs.Prelude.{OnOk}
-use Rattle.std.specs.Io.KnownBytes.{Appends}
-use Rattle.uip_edge.proofs.Told.{Appends-none, Appends-then, appends_by}
-use Rattle.link_client.specs.Client.{AbstractClient}
-use Rattle.link_world.specs.World.{Side, World}
-use Rattle.link_replay.specs.Matched.{Matched}
-use Rattle.link_replay.specs.Plain.{CodeSide}
-use Rattle.link_replay.specs.Report.{ShownSide, lines_of_client, numbered_texts, side_shown}
-use Rattle.link_replay.specs.Shown.{AppendsShown, EndsReport, code_side_shown}
-use Rattle.link_replay.specs.Represents.{LinkRepresents, SentRepresents, SideRepresents}
-use Rattle.link_replay.specs.State.{Link}
-use Rattle.link_replay.specs.Summary.{tally_of}
-use Rattle.link_replay.specs.Writing.{Wrote}
+use Rattle.link_replay.proofs.Prelude.{◌≡◌, ℕ, Bool, true, List, [], ◌++◌, Option, Result, Ok, Err, map, refl, sym, ap, ◌∙◌, subst, append_assoc, OnOk, Appends, Appends-none, Appends-then, appends_by, AbstractClient, Side, World, Matched, CodeSide, ShownSide, lines_of_client, numbered_texts, side_shown, AppendsShown, EndsReport, code_side_shown, LinkRepresents, SentRepresents, SideRepresents, Link, tally_of, Wrote}
 use Rattle.link_replay.proofs.Matching.{same_images}
 
 -- what is reported of a client

@@ -1,11 +1,5 @@
 -- The lines of what the code holds are those of what it represents.
-use Rattle.std.proofs.Common.{◌≡◌, ℕ, Bool, ap, ◌∙◌}
-use Rattle.link_world.specs.World.{World, Sent}
-use Rattle.link_world.specs.declared.who.Who.{Who}
-use Rattle.link_replay.specs.Represents.{SentRepresents}
-use Rattle.link_replay.specs.Plain.{CodeSent}
-use Rattle.link_replay.specs.declared.kind.Kind.{Kind}
-use Rattle.link_replay.specs.Report.{counts_line, datagram_line, kind_sent, line_of_datagram}
+use Rattle.link_replay.proofs.Prelude.{◌≡◌, ℕ, Bool, ap, ◌∙◌, World, Sent, Who, SentRepresents, CodeSent, Kind, counts_line, datagram_line, kind_sent, line_of_datagram}
 
 pub datagram_stands : (w : World) (number : ℕ) (sent : CodeSent) (e : Sent) (kind : Kind) → SentRepresents w sent e → kind ≡ kind_sent e.content
     → datagram_line number sent.tick sent.who kind sent.again ≡ line_of_datagram number e

@@ -1,14 +1,5 @@
 -- What a step of the node does to the clients' addresses and ports, and to its own address: nothing.
-use Rattle.std.proofs.Common.{◌≡◌, ℕ, zero, suc, ◌&&◌, Bool, List, [], ◌∷◌, map, refl, Option, Some, None, slice_get, position}
-use Rattle.tcp_segment.specs.Segments.{PlainSegment, has_rst}
-use Rattle.app_events.specs.AppSpec.{AppSpec}
-use Rattle.tcp_machine.specs.Connection.{Sockets, Connection, serves, same_sockets}
-use Rattle.tcp_machine.specs.Segments.{is_plain_syn}
-use Rattle.uip_node.specs.Events.{Event}
-use Rattle.uip_node.specs.Events.Event.{IpRefused, IcmpRefused, TcpRefused, EchoAsked, Arrived, Overlong, Periodic}
-use Rattle.uip_node.specs.Node.{AbstractNode, NodeStep, step, happened, opens, opens_in, for_no_connection, arrives_at, slot_for_syn}
-use Rattle.link_world.specs.World.{Side, retires, retires_in, client_sockets}
-use Rattle.uip_node.proofs.Basics.{choose}
+use Rattle.link_replay.proofs.Prelude.{◌≡◌, ℕ, zero, suc, ◌&&◌, Bool, List, [], ◌∷◌, map, refl, Option, Some, None, slice_get, position, PlainSegment, has_rst, AppSpec, Sockets, Connection, serves, same_sockets, is_plain_syn, Event, IpRefused, IcmpRefused, TcpRefused, EchoAsked, Arrived, Overlong, Periodic, AbstractNode, NodeStep, step, happened, opens, opens_in, for_no_connection, arrives_at, slot_for_syn, Side, retires, retires_in, client_sockets, choose}
 use Rattle.link_replay.proofs.Places.{Sames, SamePlaces, same_places}
 
 abbrev Keeps : AbstractNode → NodeStep → Type 0

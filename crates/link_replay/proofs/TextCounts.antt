@@ -1,9 +1,5 @@
 -- How many texts are left to send, of pieces of some lengths, from an offset on.
-use Rattle.std.specs.Int.{div_ceil}
-use Rattle.std.proofs.Common.{◌≡◌, ℕ, suc, ◌+◌, ◌-◌, ◌*◌, ◌<◌, ◌≤◌, if◌then◌else◌, ◌⊎◌, inl, inr, List, [], ◌∷◌, ap, arith, nat_lt}
-use Rattle.std.proofs.lemmas.Bool.{cases_lt, lt-ltb, le-ltb}
-use Rattle.std.proofs.lemmas.Grind.{div_ceil_times}
-use Rattle.std.proofs.Math.Nat.{lt_of_mul-lt-mul_right, suc-mul}
+use Rattle.link_replay.proofs.Prelude.{div_ceil, ◌≡◌, ℕ, suc, ◌+◌, ◌-◌, ◌*◌, ◌<◌, ◌≤◌, if◌then◌else◌, ◌⊎◌, inl, inr, List, [], ◌∷◌, ap, arith, nat_lt, cases_lt, lt-ltb, le-ltb, div_ceil_times, lt_of_mul-lt-mul_right, suc-mul}
 
 module _ (mss : ℕ) (some : 0 < mss) where
   -- of more there are not fewer texts, and of a whole text more there is one more

@@ -1,21 +1,7 @@
 -- A text that was written ends the replay as is due.
-use Rattle.std.proofs.Common.{◌≡◌, ℕ, List, Option, Ok, Err, sym, subst, refl, inl, inr, Bool}
-use Rattle.std.specs.Prelude.{⊤}
-use Rattle.file_tree.specs.Loading.{HoldsFile}
-use Rattle.site_image.specs.Files.{File}
-use Rattle.site_image.specs.declared.site_error.SiteError.{SiteError}
-use Rattle.file_tree.specs.Opening.{FindsInFiles, LacksFile, site_read}
-use Rattle.uip_edge.specs.Shelving.{Files}
-use Rattle.site_report.specs.Report.{bad_line}
-use Rattle.link_replay.specs.Ending.{EndsWith, IsLoadText, IsReplayText, LacksEither, LoadEnds, ReplayEnds}
-use Rattle.link_replay.specs.Due.{WritesDue, IsPlayDue, IsShort, IsTextDue, WritesText}
-use Rattle.link_replay.specs.declared.replay_end.ReplayEnd.{ReplayEnd}
+use Rattle.link_replay.proofs.Prelude.{◌≡◌, ℕ, List, Option, Ok, Err, sym, subst, refl, inl, inr, Bool, ⊤, HoldsFile, File, SiteError, FindsInFiles, LacksFile, site_read, Files, bad_line, EndsWith, IsLoadText, IsReplayText, LacksEither, LoadEnds, ReplayEnds, WritesDue, IsPlayDue, IsShort, IsTextDue, WritesText, ReplayEnd, Summary, workload_of, WorkView, WritesEnd, WritesAll}
 use Rattle.link_replay.specs.declared.replay_end.ReplayEnd.TheVariants as ends
-use Rattle.link_replay.specs.declared.told_as.Telling.TheVariants.{Summary}
-use Rattle.workload.specs.Workload.{workload_of}
 use Rattle.link_replay.proofs.ReportTexts.{IsProperPrefixOf, holds_file, is_text, text_ends}
-use Rattle.uip_edge.specs.Views.{WorkView}
-use Rattle.uip_edge.specs.Writing.{WritesEnd, WritesAll}
 
 pub same_work : (old new : WorkView) → new.shelf.held ≡ old.shelf.held → new.sink ≡ old.sink → new.shelf.faults ≡ old.shelf.faults → new ≡ old
 same_work old new held sink faults = λ i. record { shelf = record { held = held i; faults = faults i }; sink = sink i }

@@ -1,26 +1,5 @@
 -- The clients of a text that reads have the ranges of their types.
-use Rattle.std.specs.List.{All, list_all, list_any, slice_split}
-use Rattle.std.specs.Option.{option_map_or}
-use Rattle.std.specs.Prelude.{IfSome, codes}
-use Rattle.std.specs.Str.{bytes_eq}
-use Rattle.std.proofs.Common.{◌≡◌, ℕ, ◌<◌, ◌&&◌, Bool, true, false, cond, List, [], ◌∷◌, ◌++◌, length, Option, Some, None, Result, Ok, Err, IfOk, refl, subst, arith, eqb, leb, ltb}
-use Rattle.std.proofs.lemmas.Bool.{and_parts, leb-true, ltb-true}
-use Rattle.std.proofs.lemmas.List.Elements.{All-append, All-cons, All-nil}
-use Rattle.uip_wire.specs.Addr.{quad_of}
-use Rattle.uip_wire.specs.declared.addr.Addr.{Addr}
-use Rattle.app_events.specs.Pages.{IsAddr, IsByte}
-use Rattle.hex.specs.Hex.{decode_of}
-use Rattle.hex.specs.declared.error.FromHexError.{FromHexError}
-use Rattle.link_schedule.specs.Clients.{Plan, got, is_target, plan_of, plan_with, raw, request_of, side_of}
-use Rattle.link_schedule.specs.Events.{event_of_words}
-use Rattle.link_schedule.specs.Kept.{Keeps, is_between}
-use Rattle.link_schedule.specs.Numbers.{address, within}
-use Rattle.link_schedule.specs.Reading.{BadText, SchedulePlan, meets, nothing_yet, read_lines, read_text, with_plan, with_event, with_line}
-use Rattle.link_schedule.specs.declared.sides.ClientSide.{ClientSide}
-use Rattle.link_schedule.specs.declared.why.Why.{Why}
-use Rattle.link_schedule.specs.declared.why.Why.TheVariants.{Clients, Form, Long, Ports}
-use Rattle.link_schedule.proofs.Keeping.{kept_where_read, lines_keep, of_words}
-use Rattle.link_schedule.proofs.Kept.{anything, behind, either, tested, within_range}
+use Rattle.link_replay.proofs.Prelude.{All, list_all, list_any, slice_split, option_map_or, IfSome, codes, bytes_eq, ◌≡◌, ℕ, ◌<◌, ◌&&◌, Bool, true, false, cond, List, [], ◌∷◌, ◌++◌, length, Option, Some, None, Result, Ok, Err, IfOk, refl, subst, arith, eqb, leb, ltb, and_parts, leb-true, ltb-true, All-append, All-cons, All-nil, quad_of, Addr, IsAddr, IsByte, decode_of, FromHexError, Plan, got, is_target, plan_of, plan_with, raw, request_of, side_of, event_of_words, Keeps, is_between, address, within, BadText, SchedulePlan, meets, nothing_yet, read_lines, read_text, with_plan, with_event, with_line, ClientSide, Why, Clients, Form, Long, Ports, kept_where_read, lines_keep, of_words, anything, behind, either, tested, within_range}
 use Rattle.link_replay.proofs.HexBytes.{decoded_bytes}
 use Rattle.link_replay.proofs.Quads.{quad_is_addr}
 

@@ -1,11 +1,5 @@
 -- A replay or a load that nothing outside disturbs ends as is due.
-use Rattle.std.proofs.Common.{ℕ, List, Option, refl, inl, inr, arith}
-use Rattle.uip_edge.specs.Shelving.{Files}
-use Rattle.file_tree.specs.Opening.{LacksFile, site_read}
-use Rattle.link_replay.specs.Ending.{EndsWith, IsLoadText, IsReplayText, LacksEither}
-use Rattle.link_replay.specs.Laws.{WroteDue, LoadIsTold, ReplayIsTold}
-use Rattle.link_replay.specs.declared.replay_end.ReplayEnd.{ReplayEnd}
-use Rattle.uip_edge.specs.Views.{WorkView, WorkUnfailed}
+use Rattle.link_replay.proofs.Prelude.{ℕ, List, Option, refl, inl, inr, arith, Files, LacksFile, site_read, EndsWith, IsLoadText, IsReplayText, LacksEither, WroteDue, LoadIsTold, ReplayIsTold, ReplayEnd, WorkView, WorkUnfailed}
 use Rattle.link_replay.specs.declared.replay_end.ReplayEnd.TheVariants as ends
 
 module _ (Is : Option Files → List ℕ → ReplayEnd → Type 0) (Missing : Option Files → Type 0) where

@@ -1,26 +1,5 @@
 -- The guarantee for the pages of a site.
-use Rattle.std.proofs.Common.{◌≢◌, ℕ, ◌<◌, ◌≤◌, inl, List, [], ◌∷◌, length, refl, arith}
-use Rattle.std.proofs.lemmas.Grind.{div_ceil_times}
-use Rattle.app_events.specs.AppSpec.{AppSpec}
-use Rattle.app_events.specs.Pages.{Pages}
-use Rattle.tcp_machine.specs.OnSegment.{first_mss}
-use Rattle.site_image.specs.Files.{File}
-use Rattle.file_tree.specs.Site.{files_of}
-use Rattle.link_client.specs.Client.{offered}
-use Rattle.link_world.specs.History.{IsPlanned}
-use Rattle.link_world.specs.Headline.{IsServed, IsSchedulePlayed}
-use Rattle.link_world.proofs.Prefix.{prefix_and_whole}
-use Rattle.link_world.proofs.Lines.{lines_are_acts}
-use Rattle.link_world.proofs.Honest.{honest_link}
-use Rattle.link_world.proofs.HonestNode.{mss_low}
-use Rattle.uip_node.proofs.SoundSegments.{first_low}
-use Rattle.web_pages.specs.Requests.{wanted}
-use Rattle.web_pages.specs.Requests.Wanted.{NotYet}
-use Rattle.web_pages.specs.Pages.{pages_of}
-use Rattle.web_pages.specs.WebMeaning.{web_spec}
-use Rattle.web_pages.proofs.PageLaws.{keeps_page_laws}
-use Rattle.web_pages.proofs.ByteLaws.{made_of_bytes}
-use Rattle.link_replay.specs.Web.{PagesAreReceived, HonestPages, parts_of, texts_of}
+use Rattle.link_replay.proofs.Prelude.{◌≢◌, ℕ, ◌<◌, ◌≤◌, inl, List, [], ◌∷◌, length, refl, arith, div_ceil_times, AppSpec, Pages, first_mss, File, files_of, offered, IsPlanned, IsServed, IsSchedulePlayed, prefix_and_whole, lines_are_acts, honest_link, mss_low, first_low, wanted, NotYet, pages_of, web_spec, keeps_page_laws, made_of_bytes, PagesAreReceived, HonestPages, parts_of, texts_of}
 use Rattle.link_replay.proofs.Answering.{fine, left, answers}
 
 pub pages_are_received : PagesAreReceived

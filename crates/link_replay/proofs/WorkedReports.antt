@@ -1,8 +1,5 @@
 -- Each report is computed from the definitions.
-use Rattle.std.proofs.Common.{refl}
-use Rattle.std.specs.Fmt.{digits}
-use Rattle.hex.specs.Hex.{encode_with}
-use Rattle.link_replay.specs.WorkedReports.{AreWorkedReports}
+use Rattle.link_replay.proofs.Prelude.{refl, digits, encode_with, AreWorkedReports}
 
 pub worked : AreWorkedReports
 unfolding digits encode_with

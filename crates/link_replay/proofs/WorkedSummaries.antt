@@ -1,7 +1,5 @@
 -- The worked summaries.
-use Rattle.std.proofs.Common.{refl}
-use Rattle.std.specs.Fmt.{digits}
-use Rattle.link_replay.specs.WorkedSummaries.{AreWorkedSummaries}
+use Rattle.link_replay.proofs.Prelude.{refl, digits, AreWorkedSummaries}
 
 pub worked : AreWorkedSummaries
 unfolding digits

@@ -1,13 +1,12 @@
 -- Aborting and closing at a connection of the web server. It aborts after its last poll, and otherwise closes when a complete page is
 -- acknowledged. The two never coincide, because it closes at the first opportunity.
 use Rattle.std.specs.Prelude.{◌≡◌, ◌&&◌, Bool, false, List}
-use Rattle.site_image.specs.Files.{File}
-use Rattle.app_events.specs.AppSpec.{AppState}
+use Rattle.site_image.specs.Prelude.{File}
+use Rattle.app_events.specs.Prelude.{AppState}
 use Rattle.app_events.specs.declared.state.State.TheVariants.{Established}
-use Rattle.tcp_machine.specs.Connection.{Connection}
-use Rattle.link_world.specs.Nodes.{IsOfNode}
-use Rattle.web_pages.specs.Pages.{is_page_whole}
-use Rattle.web_pages.specs.WebMeaning.{is_acknowledged, web_spec}
+use Rattle.tcp_machine.specs.Prelude.{Connection}
+use Rattle.link_world.specs.Prelude.{IsOfNode}
+use Rattle.web_pages.specs.Prelude.{is_page_whole, is_acknowledged, web_spec}
 use Rattle.web_pages.specs.declared.TheConstants.{MOST_POLLS}
 
 -- All of a complete page is acknowledged.

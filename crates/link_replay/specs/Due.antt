@@ -1,11 +1,9 @@
 -- The text that a replay writes, and how it ends.
 use Rattle.std.specs.Prelude.{◌≡◌, ◌⊎◌, ℕ, Bool, List, MatchResult, Ok}
-use Rattle.site_image.specs.Files.{File}
-use Rattle.uip_edge.specs.Views.{SinkView}
-use Rattle.uip_edge.specs.Writing.{WritesEnd}
-use Rattle.web_pages.specs.Pages.{pages_of}
-use Rattle.link_world.specs.Honest.{IsServedWhole}
-use Rattle.link_world.specs.World.{World}
+use Rattle.site_image.specs.Prelude.{File}
+use Rattle.uip_edge.specs.Prelude.{SinkView, WritesEnd}
+use Rattle.web_pages.specs.Prelude.{pages_of}
+use Rattle.link_world.specs.Prelude.{IsServedWhole, World}
 use Rattle.link_schedule.specs.Clients.{Plan}
 use Rattle.link_schedule.specs.Reading.{SchedulePlan, read_text}
 use Rattle.link_schedule.specs.declared.read_schedule.ReadSchedule.{ReadSchedule}

@@ -1,19 +1,15 @@
 -- How a replay and a load end, and what they write.
 use Rattle.std.specs.Prelude.{◌≡◌, ◌≤◌, ◌⊎◌, ℕ, Bool, List, Option, Result, Ok, Err, ⊤}
-use Rattle.file_tree.specs.Loading.{HoldsFile}
-use Rattle.site_image.specs.Files.{File}
+use Rattle.file_tree.specs.Prelude.{HoldsFile, FindsInFiles, LacksFile, site_read}
+use Rattle.site_image.specs.Prelude.{File}
 use Rattle.site_image.specs.declared.site_error.SiteError.{SiteError}
-use Rattle.file_tree.specs.Opening.{FindsInFiles, LacksFile, site_read}
-use Rattle.site_report.specs.Report.{bad_line}
-use Rattle.uip_edge.specs.Causes.{Rose}
-use Rattle.uip_edge.specs.Shelving.{Files, IsMissing}
-use Rattle.uip_edge.specs.Writing.{WritesAll, WritesPrefix}
+use Rattle.site_report.specs.Prelude.{bad_line}
+use Rattle.uip_edge.specs.Prelude.{Rose, Files, IsMissing, WritesAll, WritesPrefix, SinkView, WorkView}
 use Rattle.link_replay.specs.Due.{IsPlayDue, IsTextDue}
 use Rattle.link_replay.specs.declared.replay_end.ReplayEnd.{ReplayEnd}
 use Rattle.link_replay.specs.declared.replay_end.ReplayEnd.TheVariants as ends
 use Rattle.link_replay.specs.declared.told_as.Telling.TheVariants.{Summary}
-use Rattle.workload.specs.Workload.{workload_of}
-use Rattle.uip_edge.specs.Views.{SinkView, WorkView}
+use Rattle.workload.specs.Prelude.{workload_of}
 
 -- A text that is due was written with this end, and the fault counter of the shelf is unchanged.
 pub record Tells (Wrote : SinkView → SinkView → List ℕ → Type 0) (Is : List ℕ → Type 0) (old new : WorkView) : Type 0 where

@@ -1,6 +1,6 @@
 -- What of a client of the code is unchanged when its epoch rises.
 use Rattle.std.specs.Prelude.{◌≡◌, ◌+◌, true, if◌then◌else◌}
-use Rattle.tcp_machine.specs.Connection.{Sockets, same_sockets}
+use Rattle.tcp_machine.specs.Prelude.{Sockets, same_sockets}
 use Rattle.link_client.specs.declared.setup.Setup.{Setup}
 use Rattle.link_replay.specs.Noting.{sockets_at}
 use Rattle.link_replay.specs.Plain.{CodeSide as Side}

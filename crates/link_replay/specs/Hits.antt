@@ -1,16 +1,11 @@
 -- The hits of a file as a count over the events of a node.
 use Rattle.std.specs.Prelude.{◌≡◌, ℕ, ◌+◌, ◌==◌, ◌<◌, ◌||◌, Bool, false, List, [], ◌∷◌, length, Option, Some, None, if◌then◌else◌, slice_index}
-use Rattle.uip_wire.specs.Numbers.{wrap}
+use Rattle.uip_wire.specs.Prelude.{wrap}
 use Rattle.uip_wire.specs.declared.addr.Addr.{Addr}
-use Rattle.site_image.specs.Files.{File}
-use Rattle.tcp_machine.specs.Connection.{Connection}
-use Rattle.uip_node.specs.Events.{Event}
-use Rattle.uip_node.specs.Node.{AbstractNode, initial_node, run, step}
-use Rattle.web_pages.specs.Pages.{place_of}
-use Rattle.web_pages.specs.Requests.{Wanted, wanted}
-use Rattle.web_pages.specs.Requests.Wanted.{NotYet, Refused, Name}
-use Rattle.web_pages.specs.Serving.{is_served, no_hits}
-use Rattle.web_pages.specs.WebMeaning.{web_spec}
+use Rattle.site_image.specs.Prelude.{File}
+use Rattle.tcp_machine.specs.Prelude.{Connection}
+use Rattle.uip_node.specs.Prelude.{Event, AbstractNode, initial_node, run, step}
+use Rattle.web_pages.specs.Prelude.{place_of, Wanted, wanted, NotYet, Refused, Name, is_served, no_hits, web_spec}
 
 abbrev pub is_place : ℕ → Option ℕ → Bool
 is_place place None = false

@@ -1,8 +1,7 @@
 -- A client over a link that loses nothing: it sends a request, and every datagram is delivered once and in order.
 use Rattle.std.specs.Prelude.{◌≡◌, ◌≢◌, ◌<◌, ◌+◌, ◌*◌, ℕ, List, [], ◌∷◌, map, replicate}
-use Rattle.site_image.specs.Files.{File}
-use Rattle.web_pages.specs.Requests.{wanted}
-use Rattle.web_pages.specs.Requests.Wanted.{NotYet}
+use Rattle.site_image.specs.Prelude.{File}
+use Rattle.web_pages.specs.Prelude.{wanted, NotYet}
 use Rattle.link_schedule.specs.declared.event.Event.TheVariants.{Opens, Round}
 use Rattle.link_schedule.specs.Clients.{Plan}
 use Rattle.link_schedule.specs.Reading.{SchedulePlan}

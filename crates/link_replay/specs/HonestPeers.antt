@@ -2,19 +2,12 @@
 use Rattle.std.specs.List.{All}
 use Rattle.std.specs.Prelude.{◌≢◌, ◌<◌, ℕ, Bool, List}
 use Rattle.uip_wire.specs.declared.addr.Addr.{Addr}
-use Rattle.app_events.specs.Pages.{IsAddr, IsU32}
-use Rattle.tcp_machine.specs.Connection.{Sockets}
-use Rattle.uip_node.specs.Events.{Event}
-use Rattle.uip_node.specs.Node.{initial_node}
-use Rattle.file_tree.specs.Site.{SiteContent, IsLoaded, files_of}
-use Rattle.web_pages.specs.Requests.{wanted}
-use Rattle.web_pages.specs.Requests.Wanted.{NotYet}
-use Rattle.web_pages.specs.Pages.{pages_of}
-use Rattle.web_pages.specs.WebMeaning.{web_spec}
-use Rattle.node_laws.specs.HonestPeers.{Asker, AsksHonestly, HasItsPage, bare_acks}
-use Rattle.node_laws.specs.Traces.{TraceEntry, exchanges_with}
-use Rattle.node_laws.specs.Turns.{trace_of}
-use Rattle.node_laws.specs.Wire.{IsOfLine}
+use Rattle.app_events.specs.Prelude.{IsAddr, IsU32}
+use Rattle.tcp_machine.specs.Prelude.{Sockets}
+use Rattle.uip_node.specs.Prelude.{Event, initial_node}
+use Rattle.file_tree.specs.Prelude.{SiteContent, IsLoaded, files_of}
+use Rattle.web_pages.specs.Prelude.{wanted, NotYet, pages_of, web_spec}
+use Rattle.node_laws.specs.Prelude.{Asker, AsksHonestly, HasItsPage, bare_acks, TraceEntry, exchanges_with, trace_of, IsOfLine}
 use Rattle.link_replay.specs.Web.{pieces_for, texts_for}
 
 -- The request of a peer is decided, and is received whole before any slot is called twenty times. The peer has its whole page and a FIN

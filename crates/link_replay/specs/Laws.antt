@@ -1,23 +1,21 @@
 -- The result of a replay or a load if nothing disturbs its environment, and which line of a generated schedule is refused.
 use Rattle.std.specs.Prelude.{◌≡◌, ◌≤◌, ◌⊎◌, ℕ, Bool, List, Ok}
 use Rattle.std.specs.Io.KnownBytes.{Appends}
-use Rattle.file_tree.specs.Site.{SiteContent, IsLoaded, files_of}
-use Rattle.site_image.specs.Files.{File}
-use Rattle.file_tree.specs.Opening.{LacksFile, site_read}
-use Rattle.web_pages.specs.Pages.{pages_of}
+use Rattle.file_tree.specs.Prelude.{SiteContent, IsLoaded, files_of, LacksFile, site_read}
+use Rattle.site_image.specs.Prelude.{File}
+use Rattle.web_pages.specs.Prelude.{pages_of}
 use Rattle.link_replay.specs.Honest.{IsHonest}
-use Rattle.link_world.specs.World.{World}
+use Rattle.link_world.specs.Prelude.{World, IsServedWhole}
 use Rattle.link_schedule.specs.Clients.{Plan}
 use Rattle.link_schedule.specs.Reading.{SchedulePlan, read_text}
-use Rattle.link_world.specs.Honest.{IsServedWhole}
 use Rattle.link_replay.specs.Playing.{Refuses}
 use Rattle.link_schedule.specs.declared.why.Why.{Why}
 use Rattle.link_schedule.specs.declared.why.Why.TheVariants.{Full}
-use Rattle.workload.specs.Workload.{workload_of}
+use Rattle.workload.specs.Prelude.{workload_of}
 use Rattle.link_replay.specs.Ending.{IsLoadText, IsReplayText, LacksEither, LoadEnds, ReplayEnds}
 use Rattle.link_replay.specs.Outcome.{IsPlayed, outcome}
 use Rattle.link_replay.specs.declared.replay_end.ReplayEnd.{ReplayEnd}
-use Rattle.uip_edge.specs.Views.{WorkView, WorkUnfailed}
+use Rattle.uip_edge.specs.Prelude.{WorkView, WorkUnfailed}
 use Rattle.link_replay.specs.declared.replay_end.ReplayEnd.TheVariants as ends
 
 -- The whole text due with the end was written, or memory ran out.

@@ -28,3 +28,4 @@ pub mod HonestPeers
 pub mod Worked
 pub mod Hits
 pub mod Apart
+pub mod Prelude

@@ -1,22 +1,13 @@
 -- What the calls of a replay do to the worlds that they represent.
 use Rattle.std.specs.Prelude.{◌≡◌, ℕ, Bool, List, None, Option, Some}
 use Rattle.uip_wire.specs.declared.addr.Addr.{Addr}
-use Rattle.app_events.specs.AppSpec.{AppSpec}
+use Rattle.app_events.specs.Prelude.{AppSpec}
 use Rattle.app_events.specs.declared.app.App.{Ghosts}
-use Rattle.tcp_machine.specs.Connection.{Connection}
-use Rattle.tcp_segment.specs.Segments.{PlainSegment}
-use Rattle.uip_node.specs.Counters.{ticks_of}
-use Rattle.uip_node.specs.Edge.{event_of, reply_bytes}
-use Rattle.uip_node.specs.Events.{Event, Reply}
-use Rattle.uip_node.specs.Node.{AbstractNode, NodeStep, step}
-use Rattle.uip_node.specs.Spoken.{IsSent}
-use Rattle.uip_node.specs.Represents.{Represents}
-use Rattle.uip_node.specs.State.{Node}
-use Rattle.link_client.specs.Calls.{Sends}
-use Rattle.link_world.specs.Acts.{does, fault_of, hands_over}
-use Rattle.link_world.specs.Bytes.{bytes_by, sent_bytes}
-use Rattle.link_world.specs.Reading.{IsRead, IsSentBy}
-use Rattle.link_world.specs.World.{Content, Sent, Side, World, node_handles, node_stepped, numbered, posts, posts_of_client, posts_reply, retires}
+use Rattle.tcp_machine.specs.Prelude.{Connection}
+use Rattle.tcp_segment.specs.Prelude.{PlainSegment}
+use Rattle.uip_node.specs.Prelude.{ticks_of, event_of, reply_bytes, Event, Reply, AbstractNode, NodeStep, step, IsSent, Represents, Node}
+use Rattle.link_client.specs.Prelude.{Sends}
+use Rattle.link_world.specs.Prelude.{does, fault_of, hands_over, bytes_by, sent_bytes, IsRead, IsSentBy, Content, Sent, Side, World, node_handles, node_stepped, numbered, posts, posts_of_client, posts_reply, retires}
 use Rattle.link_world.specs.declared.act.Act.{Act}
 use Rattle.link_world.specs.declared.who.Who.{Who}
 use Rattle.link_replay.specs.Noting.{IsBefore, gone_pair, is_sent_again}

@@ -1,14 +1,11 @@
 -- What is recorded before a call of the node, and what is found after it.
 use Rattle.std.specs.Prelude.{◌≡◌, ℕ, Bool, false, List, [], ◌∷◌, map, Option, Some, None, if◌then◌else◌}
-use Rattle.uip_wire.specs.Numbers.{wrap}
-use Rattle.tcp_table.specs.Connections.{is_at}
+use Rattle.uip_wire.specs.Prelude.{wrap}
+use Rattle.tcp_table.specs.Prelude.{is_at}
 use Rattle.tcp_table.specs.declared.conn.Conn.{Conn}
-use Rattle.tcp_machine.specs.Connection.{Connection, Sockets, is_live}
-use Rattle.uip_node.specs.Counters.{raises, times}
+use Rattle.tcp_machine.specs.Prelude.{Connection, Sockets, is_live}
+use Rattle.uip_node.specs.Prelude.{raises, times, HistoryEntry, Reply, Echo, Tcp, AbstractNode}
 use Rattle.uip_node.specs.declared.counter.TheConstants.{TCP_AGAIN}
-use Rattle.uip_node.specs.Events.{HistoryEntry, Reply}
-use Rattle.uip_node.specs.Events.Reply.{Echo, Tcp}
-use Rattle.uip_node.specs.Node.{AbstractNode}
 use Rattle.link_replay.specs.declared.before.Before.{Before}
 use Rattle.link_replay.specs.declared.socket_pair.SocketPair.{SocketPair}
 

@@ -3,10 +3,9 @@ use Rattle.std.specs.List.{enumerate_from}
 use Rattle.std.specs.Prelude.{◌≡◌, ℕ, suc, ◌*◌, List, [], ◌∷◌, length, map, Some, slice_get}
 use Rattle.uip_wire.specs.declared.addr.Addr.{Addr}
 use Rattle.uip_wire.specs.declared.port.TheConstants.{WEB_PORT}
-use Rattle.link_client.specs.Calls.{FitsRequest}
+use Rattle.link_client.specs.Prelude.{FitsRequest}
 use Rattle.link_schedule.specs.Clients.{Plan}
-use Rattle.link_world.specs.World.{World}
-use Rattle.link_world.specs.History.{Planned, IsPlanned, fresh_side, initial_world}
+use Rattle.link_world.specs.Prelude.{World, Planned, IsPlanned, fresh_side, initial_world}
 use Rattle.link_replay.specs.Represents.{SideRepresents}
 use Rattle.link_replay.specs.Plain.{CodeSide}
 

@@ -1,10 +1,8 @@
 -- The outcome of a schedule with the web server of a site.
 use Rattle.std.specs.Prelude.{◌≡◌, ◌++◌, ℕ, List, codes, decimal, map, Result, Ok}
-use Rattle.site_image.specs.Files.{File}
-use Rattle.web_pages.specs.Serving.{is_served, no_hits}
-use Rattle.web_pages.specs.WebMeaning.{web_spec}
-use Rattle.link_world.specs.World.{World}
-use Rattle.link_world.specs.Schedule.{BadLine, plays}
+use Rattle.site_image.specs.Prelude.{File}
+use Rattle.web_pages.specs.Prelude.{is_served, no_hits, web_spec}
+use Rattle.link_world.specs.Prelude.{World, BadLine, plays}
 use Rattle.link_schedule.specs.Reading.{SchedulePlan, read_text}
 use Rattle.link_schedule.specs.declared.why.Why.{Why}
 use Rattle.link_schedule.specs.declared.why.Why.TheVariants as why

@@ -1,6 +1,6 @@
 -- The clients and datagrams of the code as plain data.
 use Rattle.std.specs.Prelude.{ℕ, Bool, List, Option}
-use Rattle.link_client.specs.State.{Client}
+use Rattle.link_client.specs.Prelude.{Client}
 use Rattle.link_world.specs.declared.who.Who.{Who}
 
 pub record CodeSide : Type 0 where

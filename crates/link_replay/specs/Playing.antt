@@ -1,16 +1,14 @@
 -- What the lines of a schedule do, and which of them is refused.
 use Rattle.std.specs.List.{All}
 use Rattle.std.specs.Prelude.{◌≡◌, ℕ, Bool, List, map, Result, Ok, Err, Some, slice_get, ⊤}
-use Rattle.app_events.specs.AppSpec.{AppSpec}
-use Rattle.app_events.specs.Pages.{IsPaged, IsU32, Pages}
-use Rattle.uip_node.specs.Laws.{HasBytes}
+use Rattle.app_events.specs.Prelude.{AppSpec, IsPaged, IsU32, Pages}
+use Rattle.uip_node.specs.Prelude.{HasBytes}
 use Rattle.link_schedule.specs.Reading.{SchedulePlan}
 use Rattle.link_schedule.specs.declared.line.Line.{Line}
 use Rattle.link_schedule.specs.declared.read_schedule.ReadSchedule.{ReadSchedule}
 use Rattle.link_schedule.specs.declared.read_schedule.ReadSchedule.TheVariants.{Bad, NoMemory as NoRoom}
 use Rattle.link_schedule.specs.declared.why.Why.{Why}
-use Rattle.link_world.specs.World.{World}
-use Rattle.link_world.specs.Schedule.{BadLine, plays}
+use Rattle.link_world.specs.Prelude.{World, BadLine, plays}
 use Rattle.link_schedule.specs.declared.event.Event.{Event}
 use Rattle.link_world.specs.declared.step_fault.StepFault.{StepFault}
 use Rattle.link_world.specs.declared.step_fault.StepFault.TheVariants.{NoDatagram, NoByte, AlreadyOpen, NotOpen, Full, NoMemory}

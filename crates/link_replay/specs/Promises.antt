@@ -1,9 +1,8 @@
 -- The guarantees for a world that a schedule reaches at its end.
 use Rattle.std.specs.Prelude.{◌≡◌, ℕ, true, List, Some, slice_get}
-use Rattle.site_image.specs.Files.{File}
-use Rattle.web_pages.specs.Pages.{pages_of}
-use Rattle.link_world.specs.World.{World, Side, is_clean}
-use Rattle.link_world.specs.Headline.{IsServed, MarksRepeats, RepeatsSameBytes, Tick}
+use Rattle.site_image.specs.Prelude.{File}
+use Rattle.web_pages.specs.Prelude.{pages_of}
+use Rattle.link_world.specs.Prelude.{World, Side, is_clean, IsServed, MarksRepeats, RepeatsSameBytes, Tick}
 
 -- Each client without a stale delivery has received a prefix of its page, and the whole page if it saw a normal close. A retransmission is
 -- marked and has the same bytes as the first sending; every retransmission is marked. An expired timer sends in its tick, at every node.

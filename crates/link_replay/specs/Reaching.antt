@@ -2,17 +2,12 @@
 -- [add: act] What the code does at it.
 use Rattle.std.specs.List.{All}
 use Rattle.std.specs.Prelude.{◌≡◌, ◌<◌, ◌≤◌, ℕ, Bool, List, ◌∷◌, ◌++◌, length, Some, Result, Ok, Err, ⊤}
-use Rattle.app_events.specs.AppSpec.{AppSpec}
-use Rattle.app_events.specs.Pages.{Pages, IsPaged}
-use Rattle.link_world.specs.World.{World, Sent, numbered}
-use Rattle.link_world.specs.Bytes.{sent_bytes}
-use Rattle.link_world.specs.Acts.{acts, does, runs}
-use Rattle.link_world.specs.History.{Start, started}
+use Rattle.app_events.specs.Prelude.{AppSpec, Pages, IsPaged}
+use Rattle.link_world.specs.Prelude.{World, Sent, numbered, sent_bytes, acts, does, runs, Start, started, CountsBy, IsAct, IsLoss}
 use Rattle.link_world.specs.declared.act.Act.{Act}
 use Rattle.link_world.specs.declared.step_fault.StepFault.{StepFault}
 use Rattle.link_world.specs.declared.step_fault.StepFault.TheVariants.{NoDatagram, NoByte, AlreadyOpen, NotOpen, Full, NoMemory}
-use Rattle.link_world.specs.Headline.{CountsBy, IsAct, IsLoss}
-use Rattle.uip_node.specs.Laws.{HasBytes}
+use Rattle.uip_node.specs.Prelude.{HasBytes}
 
 -- A world that accepted acts reach from the initial one, with a server whose pages are bytes. No act depends on the mark.
 pub record IsAt (m : AppSpec) (served : ℕ → Bool) (w : World) : Type 0 where

@@ -2,13 +2,12 @@
 use Rattle.std.specs.Option.{option_map_or}
 use Rattle.std.specs.Prelude.{ℕ, ◌+◌, Bool, List, [], ◌∷◌, ◌++◌, length, map, Option, codes, decimal}
 use Rattle.hex.specs.Hex.{encode_lower}
-use Rattle.text_room.specs.Words.{word_if}
-use Rattle.tcp_segment.specs.Segments.{PlainSegment, flag_letters}
-use Rattle.uip_node.specs.Counters.{ticks_of}
+use Rattle.text_room.specs.Prelude.{word_if}
+use Rattle.tcp_segment.specs.Prelude.{PlainSegment, flag_letters}
+use Rattle.uip_node.specs.Prelude.{ticks_of}
 use Rattle.link_client.specs.declared.client_state.ClientState.{ClientState}
 use Rattle.link_client.specs.declared.client_state.ClientState.TheVariants.{Idle, Opening, Opened, Closing, Closed, Ended, Reset}
-use Rattle.link_world.specs.World.{World, Side, Sent, Content}
-use Rattle.link_world.specs.World.Content.{OfSegment, OfPing, OfEcho}
+use Rattle.link_world.specs.Prelude.{World, Side, Sent, Content, OfSegment, OfPing, OfEcho}
 use Rattle.link_world.specs.declared.who.Who.{Who}
 use Rattle.link_world.specs.declared.who.Who.TheVariants.{FromClient, FromNode, Pinger}
 use Rattle.link_replay.specs.declared.kind.Kind.{Kind}

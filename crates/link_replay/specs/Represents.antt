@@ -3,10 +3,9 @@ use Rattle.std.specs.Prelude.{◌≡◌, ℕ, ◌≤◌, false, List, length, So
 use Rattle.uip_wire.specs.declared.addr.Addr.{Addr}
 use Rattle.uip_wire.specs.declared.sizes.TheConstants.{LARGEST_DATAGRAM}
 use Rattle.app_events.specs.declared.app.App.{Ghosts}
-use Rattle.uip_node.specs.Represents.{Represents}
-use Rattle.link_client.specs.Calls.{standing, FitsRequest}
-use Rattle.link_world.specs.World.{World, Side, Sent, epoch}
-use Rattle.link_world.specs.Bytes.{sent_bytes}
+use Rattle.uip_node.specs.Prelude.{Represents}
+use Rattle.link_client.specs.Prelude.{standing, FitsRequest}
+use Rattle.link_world.specs.Prelude.{World, Side, Sent, epoch, sent_bytes}
 use Rattle.link_replay.specs.Matched.{Matched}
 use Rattle.link_replay.specs.Plain.{CodeSent}
 use Rattle.link_replay.specs.Plain.{CodeSide}

@@ -1,6 +1,6 @@
 -- A world of the code as plain data.
 use Rattle.std.specs.Prelude.{ℕ, Bool, List}
-use Rattle.uip_node.specs.State.{Node}
+use Rattle.uip_node.specs.Prelude.{Node}
 use Rattle.link_replay.specs.Plain.{CodeSent, CodeSide}
 
 -- the clients, and every datagram sent, both numbered from 1

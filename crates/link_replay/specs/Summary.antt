@@ -1,6 +1,6 @@
 -- The summary of a replay in one line.
 use Rattle.std.specs.Prelude.{ℕ, Bool, List, ◌++◌, ◌==◌, length, map, not, is_none, count_by, sum_by, codes, decimal}
-use Rattle.link_world.specs.World.{World}
+use Rattle.link_world.specs.Prelude.{World}
 use Rattle.link_replay.specs.Kinds.{column}
 use Rattle.link_replay.specs.Report.{ShownSide, side_shown}
 use Rattle.link_replay.specs.declared.tally.Tally.{Tally}

@@ -3,26 +3,17 @@ use Rattle.std.specs.List.{All}
 use Rattle.std.specs.Int.{div_ceil}
 use Rattle.std.specs.Prelude.{◌≡◌, ◌≢◌, ℕ, ◌+◌, ◌*◌, ◌≤◌, Bool, true, List, [], ◌∷◌, length, replicate, sum_by, Some, Ok, slice_get}
 use Rattle.uip_wire.specs.declared.addr.Addr.{Addr}
-use Rattle.app_events.specs.Pages.{IsU32, IsByte, IsAddr}
-use Rattle.tcp_machine.specs.OnSegment.{first_mss}
+use Rattle.app_events.specs.Prelude.{IsU32, IsByte, IsAddr}
+use Rattle.tcp_machine.specs.Prelude.{first_mss}
 use Rattle.script_lang.specs.declared.function.Function.{Function}
-use Rattle.script_lang.specs.Functions.{length_at_most}
-use Rattle.site_image.specs.Files.{File}
-use Rattle.file_tree.specs.Site.{SiteContent, IsLoaded, files_of}
-use Rattle.link_client.specs.Client.{offered}
-use Rattle.link_world.specs.World.{World, Side, is_clean}
-use Rattle.link_world.specs.History.{Planned, IsPlan, Start, initial_world, started}
-use Rattle.link_world.specs.Schedule.{plays}
+use Rattle.script_lang.specs.Prelude.{length_at_most}
+use Rattle.site_image.specs.Prelude.{File}
+use Rattle.file_tree.specs.Prelude.{SiteContent, IsLoaded, files_of}
+use Rattle.link_client.specs.Prelude.{offered}
+use Rattle.link_world.specs.Prelude.{World, Side, is_clean, Planned, IsPlan, Start, initial_world, started, plays, OfLine, IsAct, IsServed, IsServedWhole}
 use Rattle.link_schedule.specs.declared.event.Event.{Event}
 use Rattle.link_schedule.specs.declared.event.Event.TheVariants.{Opens, Round}
-use Rattle.link_world.specs.Headline.{OfLine, IsAct, IsServed}
-use Rattle.link_world.specs.Honest.{IsServedWhole}
-use Rattle.web_pages.specs.Requests.{Wanted, wanted}
-use Rattle.web_pages.specs.Requests.Wanted.{NotYet, Refused, Name}
-use Rattle.web_pages.specs.Pieces.{Say, reply_pieces}
-use Rattle.web_pages.specs.Pieces.Say.{Plain, Made}
-use Rattle.web_pages.specs.Pages.{pages_of}
-use Rattle.web_pages.specs.WebMeaning.{web_spec}
+use Rattle.web_pages.specs.Prelude.{Wanted, wanted, NotYet, Refused, Name, Say, reply_pieces, Plain, Made, pages_of, web_spec}
 
 -- The lines of a schedule, each accepted, reach this world from the server of a site and some clients. Damage is a line like any other.
 pub record IsReplayed (site : SiteContent) (w : World) : Type 0 where

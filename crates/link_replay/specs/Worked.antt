@@ -1,19 +1,14 @@
 -- Whole schedules of the web server, worked by hand: what each client has at the end.
 -- [add: counter] The lists of counters.
 use Rattle.std.specs.Prelude.{◌≡◌, ℕ, ◌+◌, List, [], ◌∷◌, ◌++◌, codes, flat_map, length, map, replicate, Option, Some, None, Result, Ok, Err}
-use Rattle.site_image.specs.Files.{File}
-use Rattle.uip_node.specs.Counters.{ticks_of}
+use Rattle.site_image.specs.Prelude.{File}
+use Rattle.uip_node.specs.Prelude.{ticks_of}
 use Rattle.link_client.specs.declared.client_state.ClientState.{ClientState}
 use Rattle.link_client.specs.declared.client_state.ClientState.TheVariants.{Opening, Opened, Closed, Reset}
-use Rattle.link_world.specs.World.{World, Side, Sent, Content, numbered}
-use Rattle.link_world.specs.World.Content.{OfSegment, OfPing, OfEcho}
-use Rattle.link_world.specs.History.{Planned, initial_world}
-use Rattle.link_world.specs.Schedule.{plays, BadLine}
+use Rattle.link_world.specs.Prelude.{World, Side, Sent, Content, numbered, OfSegment, OfPing, OfEcho, Planned, initial_world, plays, BadLine}
 use Rattle.link_schedule.specs.declared.event.Event.{Event}
 use Rattle.link_schedule.specs.declared.event.Event.TheVariants.{Opens, Closes, Ping, Give, Tick, Round, Lose}
-use Rattle.web_pages.specs.Serving.{is_served}
-use Rattle.web_pages.specs.WebMeaning.{web_spec}
-use Rattle.web_pages.specs.WorkedPages.{file, ok, as_html, get, hello_site, hits_site}
+use Rattle.web_pages.specs.Prelude.{is_served, web_spec, file, ok, as_html, get, hello_site, hits_site}
 
 -- a client at 10.0.0.2: its ISS, its port, the number of bytes in each segment, and its request
 abbrev pub client : ℕ → ℕ → ℕ → List ℕ → Planned

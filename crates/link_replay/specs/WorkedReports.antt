@@ -2,18 +2,14 @@
 use Rattle.std.specs.Prelude.{◌≡◌, ℕ, ◌+◌, Bool, true, false, List, [], ◌∷◌, ◌++◌, map, Some, None, codes}
 use Rattle.uip_wire.specs.declared.addr.Addr.{Addr}
 use Rattle.tcp_segment.specs.declared.flags.TheConstants.{SYN, ACK, PSH}
-use Rattle.uip_node.specs.Events.{Event, HistoryEntry, tick}
-use Rattle.uip_node.specs.Events.Event.{EchoAsked, Overlong}
-use Rattle.uip_node.specs.Events.Answer.{Silent, EchoReplied}
-use Rattle.uip_node.specs.Node.{AbstractNode, initial_node}
-use Rattle.link_client.specs.Client.{idle}
+use Rattle.uip_node.specs.Prelude.{Event, HistoryEntry, tick, EchoAsked, Overlong, Silent, EchoReplied, AbstractNode, initial_node}
+use Rattle.link_client.specs.Prelude.{idle}
 use Rattle.link_client.specs.declared.setup.Setup.{Setup}
 use Rattle.link_client.specs.declared.client_state.ClientState.TheVariants.{Idle, Opening, Opened, Closing, Closed, Ended, Reset}
-use Rattle.link_world.specs.World.{World, Side, Sent, Content}
-use Rattle.link_world.specs.World.Content.{OfSegment, OfPing, OfEcho}
+use Rattle.link_world.specs.Prelude.{World, Side, Sent, Content, OfSegment, OfPing, OfEcho}
 use Rattle.link_world.specs.declared.who.Who.{Who}
 use Rattle.link_world.specs.declared.who.Who.TheVariants.{FromClient, FromNode, Pinger}
-use Rattle.tcp_segment.specs.Segments.{flag_letters}
+use Rattle.tcp_segment.specs.Prelude.{flag_letters}
 use Rattle.link_replay.specs.Report.{report, state_word}
 
 abbrev pub host : ℕ → Addr

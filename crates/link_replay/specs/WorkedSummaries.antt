@@ -1,13 +1,12 @@
 -- A summary worked by hand.
 use Rattle.std.specs.Prelude.{◌≡◌, ℕ, Bool, true, false, List, [], ◌∷◌, Option, Some, None, codes}
 use Rattle.uip_wire.specs.declared.addr.Addr.{Addr}
-use Rattle.uip_node.specs.Node.{initial_node}
-use Rattle.link_client.specs.Client.{idle}
+use Rattle.uip_node.specs.Prelude.{initial_node}
+use Rattle.link_client.specs.Prelude.{idle}
 use Rattle.link_client.specs.declared.setup.Setup.{Setup}
 use Rattle.link_client.specs.declared.client_state.ClientState.{ClientState}
 use Rattle.link_client.specs.declared.client_state.ClientState.TheVariants.{Opened, Closing, Closed, Reset}
-use Rattle.link_world.specs.World.{World, Side, Sent}
-use Rattle.link_world.specs.World.Content.{OfPing}
+use Rattle.link_world.specs.Prelude.{World, Side, Sent, OfPing}
 use Rattle.link_world.specs.declared.who.Who.TheVariants.{Pinger}
 use Rattle.link_replay.specs.Summary.{summary_of}
 

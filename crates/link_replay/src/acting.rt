@@ -2,14 +2,10 @@
 
 ghost use Rattle.std.specs.Prelude.{◌≡◌, ◌≤◌, ℕ, List, OnOk, Option, Some, length};
 ghost use Rattle.uip_wire.specs.declared.addr.Addr.{Addr as Address};
-ghost use Rattle.link_client.specs.Client.{advertises_window};
-ghost use Rattle.link_world.specs.Acts.{client_acts, handed};
+ghost use Rattle.link_client.specs.Prelude.{advertises_window};
+ghost use Rattle.link_world.specs.Prelude.{client_acts, handed};
 ghost use Rattle.link_world.specs.World.{World as PlainWorld, at_side};
-ghost use Rattle.link_replay.specs.Moving.{ChangesAt, KeepsLink, PostsOfClient};
-ghost use Rattle.link_replay.specs.Owning.{own_step};
-ghost use Rattle.link_replay.specs.Represents.{IsLink, LinkRepresents};
-ghost use Rattle.link_replay.specs.State.{link_of};
-ghost use Rattle.link_replay.specs.Plain.{CodeSent};
+ghost use Rattle.link_replay.specs.Prelude.{ChangesAt, KeepsLink, PostsOfClient, own_step, IsLink, LinkRepresents, link_of, CodeSent};
 
 use crate::own::Own;
 use crate::posting::post;

@@ -2,8 +2,7 @@
 
 ghost use Rattle.std.specs.Prelude.{◌≡◌, ◌==◌, ◌+◌, ◌-◌, ◌%◌, ◌≤◌, IfOk, [], ◌∷◌, filter, flat_map, length, map};
 ghost use Rattle.std.specs.List.{range_with_len};
-ghost use Rattle.link_world.specs.Acts.{needs};
-ghost use Rattle.link_world.specs.Schedule.{acts_of, mark_after};
+ghost use Rattle.link_world.specs.Prelude.{needs, acts_of, mark_after};
 ghost use Rattle.link_world.specs.World.{World as PlainWorld};
 
 use link_schedule::Event;

@@ -1,10 +1,7 @@
 //! What is recorded before a call of the node, which returns only the length of its reply, and compared after it.
 
 ghost use Rattle.std.specs.Prelude.{◌≡◌, ◌≤◌, List, length, map};
-ghost use Rattle.uip_node.specs.Counters.{counters};
-ghost use Rattle.uip_node.specs.Events.{HistoryEntry};
-ghost use Rattle.uip_node.specs.Node.{AbstractNode, connection_in, step};
-ghost use Rattle.uip_node.specs.Represents.{Represents};
+ghost use Rattle.uip_node.specs.Prelude.{counters, HistoryEntry, AbstractNode, connection_in, step, Represents};
 ghost use Rattle.link_replay.specs.Moving.{SinceBefore};
 ghost use Rattle.link_replay.specs.Noting.{IsBefore, gone_pair, is_sent_again, lost, lost_at, owner, owner_in, resent};
 

@@ -2,7 +2,7 @@
 
 ghost use Rattle.std.specs.Prelude.{◌≡◌, ◌+◌, ◌≤◌, ◌++◌, length};
 ghost use Rattle.link_replay.specs.Report.{clean_words, client_line as client_text, counts_line, state_word as word_of};
-ghost use Rattle.link_replay.specs.Shown.{code_side_shown};
+ghost use Rattle.link_replay.specs.Prelude.{code_side_shown};
 
 use crate::line::Line;
 use crate::side::Side;

@@ -1,11 +1,9 @@
 //! The lines of the clients.
 
 ghost use Rattle.std.specs.Prelude.{map};
-ghost use Rattle.uip_edge.specs.Causes.{HasCause};
-ghost use Rattle.text_room.specs.Words.{word_if};
-ghost use Rattle.link_replay.specs.Report.{lines_of_client, numbered_texts, text_line};
-ghost use Rattle.link_replay.specs.Shown.{code_side_shown};
-ghost use Rattle.link_replay.specs.Writing.{Wrote};
+ghost use Rattle.uip_edge.specs.Prelude.{HasCause};
+ghost use Rattle.text_room.specs.Prelude.{word_if};
+ghost use Rattle.link_replay.specs.Prelude.{lines_of_client, numbered_texts, text_line, code_side_shown, Wrote};
 
 use crate::client_lines::client_line;
 use crate::side::Side;

@@ -2,8 +2,7 @@
 
 ghost use Rattle.std.specs.Prelude.{◌≡◌, ◌++◌, decimal, IfOk, OnOk};
 ghost use Rattle.link_replay.specs.Outcome.{bad_schedule as line_of, reason_word as word_of};
-ghost use Rattle.uip_edge.specs.Writing.{WritesEnd};
-ghost use Rattle.uip_edge.specs.ViewsOf.{sink_view};
+ghost use Rattle.uip_edge.specs.Prelude.{WritesEnd, sink_view};
 ghost use Rattle.link_replay.specs.declared.replay_end.ReplayEnd.TheVariants as ends;
 
 use crate::replay_end::ReplayEnd;

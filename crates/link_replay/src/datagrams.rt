@@ -1,13 +1,9 @@
 //! The lines of the datagrams.
 
 ghost use Rattle.std.specs.Prelude.{OnOk, true};
-ghost use Rattle.uip_edge.specs.Causes.{HasCause};
-ghost use Rattle.link_replay.specs.Moving.{OfDatagram, OfLink};
-ghost use Rattle.text_room.specs.Words.{word_if};
-ghost use Rattle.link_replay.specs.State.{link_of};
-ghost use Rattle.link_replay.specs.Report.{line_of_datagram, numbered_texts};
-ghost use Rattle.link_replay.specs.Shown.{AppendsShown};
-ghost use Rattle.link_replay.specs.Writing.{Wrote};
+ghost use Rattle.uip_edge.specs.Prelude.{HasCause};
+ghost use Rattle.link_replay.specs.Prelude.{OfDatagram, OfLink, link_of, line_of_datagram, numbered_texts, AppendsShown, Wrote};
+ghost use Rattle.text_room.specs.Prelude.{word_if};
 
 use crate::datagram_line::datagram_line;
 use crate::kinds::kind_of;

@@ -1,18 +1,11 @@
 //! Does an act that is not refused.
 
 ghost use Rattle.std.specs.Prelude.{◌≡◌, ◌<◌, ◌≤◌, ℕ, false, None, Ok, OnOk, length};
-ghost use Rattle.uip_node.specs.Events.{tick};
-ghost use Rattle.uip_node.specs.Events.Event.{Periodic};
-ghost use Rattle.link_world.specs.Acts.{client_acts, does, handles_all};
-ghost use Rattle.link_world.specs.Bytes.{changed, ping_from};
+ghost use Rattle.uip_node.specs.Prelude.{tick, Periodic};
+ghost use Rattle.link_world.specs.Prelude.{client_acts, does, handles_all, changed, ping_from, OfPing, IsAct};
 ghost use Rattle.link_world.specs.World.{World as PlainWorld, node_handles, posts};
-ghost use Rattle.link_world.specs.World.Content.{OfPing};
 ghost use Rattle.link_world.specs.declared.who.Who.TheVariants.{Pinger};
-ghost use Rattle.link_replay.specs.Moving.{DoesAct, FromHere, HandsOver, PassesToNode};
-ghost use Rattle.link_replay.specs.Owning.{own_step};
-ghost use Rattle.link_world.specs.Headline.{IsAct};
-ghost use Rattle.link_replay.specs.Represents.{WorldRepresents};
-ghost use Rattle.link_replay.specs.Telling.{client_told};
+ghost use Rattle.link_replay.specs.Prelude.{DoesAct, FromHere, HandsOver, PassesToNode, own_step, WorldRepresents, client_told};
 
 use crate::acting::{act_alone, advertise_window, hear};
 use crate::before::Before;

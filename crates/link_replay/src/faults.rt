@@ -1,7 +1,7 @@
 //! Why an act is refused.
 
 ghost use Rattle.std.specs.Prelude.{◌≡◌, ◌≤◌, ℕ, List, IfSome, None, length};
-ghost use Rattle.link_world.specs.Acts.{fault_of, if_idle, is_idle, named_fault, state_at};
+ghost use Rattle.link_world.specs.Prelude.{fault_of, if_idle, is_idle, named_fault, state_at};
 ghost use Rattle.link_world.specs.World.{Side as PlainSide, World as PlainWorld, numbered};
 ghost use Rattle.link_replay.specs.Matched.{Matched};
 ghost use Rattle.link_replay.specs.Reaching.{IsNamed};

@@ -1,8 +1,7 @@
 //! The guarantee for the web server: what its clients receive of the pages of a site, whatever a schedule loses, repeats,
 //! reorders or damages. Each law is the clause of a function without parameters.
 
-ghost use Rattle.link_replay.specs.Web.{PagesAreReceived, HonestPages};
-ghost use Rattle.link_replay.specs.Worked.{AreWorkedReplays};
+ghost use Rattle.link_replay.specs.Prelude.{PagesAreReceived, HonestPages, AreWorkedReplays};
 
 /// A client to and from which nothing stale was delivered has received a prefix of its page, and the whole page if it saw a
 /// normal close.

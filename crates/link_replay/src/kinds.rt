@@ -1,16 +1,12 @@
 //! What a datagram is, as its receiver reads its bytes.
 
 ghost use Rattle.std.specs.Prelude.{◌≡◌, ◌≤◌, List, length, option_map};
-ghost use Rattle.uip_ipv4.specs.Head.{IsHeadOf};
-ghost use Rattle.tcp_machine.specs.Connection.{Sockets};
-ghost use Rattle.tcp_segment.specs.Received.{segment_or_fate};
-ghost use Rattle.tcp_segment.specs.Segments.{PlainSegment};
-ghost use Rattle.uip_node.specs.Edge.{by_segment, event_of};
-ghost use Rattle.uip_node.specs.Events.Event.{Arrived};
+ghost use Rattle.uip_ipv4.specs.Prelude.{IsHeadOf};
+ghost use Rattle.tcp_machine.specs.Prelude.{Sockets};
+ghost use Rattle.tcp_segment.specs.Prelude.{segment_or_fate, PlainSegment};
+ghost use Rattle.uip_node.specs.Prelude.{by_segment, event_of, Arrived};
 ghost use Rattle.link_world.specs.World.{Side as PlainSide, numbered};
-ghost use Rattle.link_replay.specs.Moving.{OfDatagram};
-ghost use Rattle.link_replay.specs.Matched.{Matched};
-ghost use Rattle.link_replay.specs.Represents.{SideRepresents};
+ghost use Rattle.link_replay.specs.Prelude.{OfDatagram, Matched, SideRepresents};
 ghost use Rattle.link_replay.specs.Report.{kind_sent as kind_meant, segment_kind};
 
 use crate::kind::Kind;

@@ -1,13 +1,7 @@
 //! The laws of the worlds of a replay; what the definitions of a report and of a summary give for worlds worked by hand; and
 //! how a replay ends if nothing disturbs it. Each law is the clause of a function without parameters.
 
-ghost use Rattle.link_replay.specs.Apart.{AbortAndCloseApart};
-ghost use Rattle.link_replay.specs.Hits.{HitsAreCounted};
-ghost use Rattle.link_replay.specs.HonestPeers.{HonestWebPeer};
-ghost use Rattle.link_replay.specs.Laws.{HonestReplay, LoadIsTold, OnlyFull, ReplayIsTold};
-ghost use Rattle.link_replay.specs.Reaching.{DamageLoses};
-ghost use Rattle.link_replay.specs.WorkedReports.{AreWorkedReports};
-ghost use Rattle.link_replay.specs.WorkedSummaries.{AreWorkedSummaries};
+ghost use Rattle.link_replay.specs.Prelude.{AbortAndCloseApart, HitsAreCounted, HonestWebPeer, HonestReplay, LoadIsTold, OnlyFull, ReplayIsTold, DamageLoses, AreWorkedReports, AreWorkedSummaries};
 
 /// The definition gives the reports that were worked by hand.
 #[tactic(auto, using(crate::proofs::WorkedReports::worked))]

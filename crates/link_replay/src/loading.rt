@@ -1,11 +1,10 @@
 //! `load`: the schedule of a seed, played by the web server of a site.
 
 ghost use Rattle.std.specs.Prelude.{◌≡◌, ◌≤◌};
-ghost use Rattle.file_tree.specs.Site.{files_of};
-ghost use Rattle.workload.specs.Workload.{workload_of};
-ghost use Rattle.link_replay.specs.Ending.{LoadEnds};
-ghost use Rattle.link_replay.specs.Due.{WritesDue, IsPlayDue};
-ghost use Rattle.uip_edge.specs.ViewsOf.{work_view, sink_view};
+ghost use Rattle.file_tree.specs.Prelude.{files_of};
+ghost use Rattle.workload.specs.Prelude.{workload_of};
+ghost use Rattle.link_replay.specs.Prelude.{LoadEnds, WritesDue, IsPlayDue};
+ghost use Rattle.uip_edge.specs.Prelude.{work_view, sink_view};
 ghost use Rattle.link_replay.specs.declared.told_as.Telling.TheVariants as tellings;
 
 use crate::replay_end::ReplayEnd;

@@ -2,9 +2,9 @@
 
 ghost use Rattle.std.specs.List.{list_all};
 ghost use Rattle.std.specs.Prelude.{◌≡◌, ◌<◌, ◌≤◌, ℕ, Some, true, IfOk, length, slice_get};
-ghost use Rattle.app_events.specs.Pages.{IsAddr};
+ghost use Rattle.app_events.specs.Prelude.{IsAddr};
 ghost use Rattle.link_schedule.specs.Kept.{client_in_range};
-ghost use Rattle.link_world.specs.History.{IsPlanned, Planned};
+ghost use Rattle.link_world.specs.Prelude.{IsPlanned, Planned};
 ghost use Rattle.link_replay.specs.Opening.{AreFresh, IsFresh, opening_for, plan_from, planned};
 ghost use Rattle.link_replay.specs.Represents.{WorldRepresents};
 

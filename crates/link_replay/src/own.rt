@@ -1,8 +1,7 @@
 //! What a client does, and what it receives.
 
 ghost use Rattle.std.specs.Prelude.{◌≡◌, ◌≤◌, IfOk, length, Some};
-ghost use Rattle.link_client.specs.Calls.{FitsRequest, client_hears, client_hands};
-ghost use Rattle.link_client.specs.Client.{advertises_window};
+ghost use Rattle.link_client.specs.Prelude.{FitsRequest, client_hears, client_hands, advertises_window};
 ghost use Rattle.link_world.specs.World.{Side as PlainSide, with_client};
 ghost use Rattle.link_replay.specs.Owning.{Stepped, own_step};
 ghost use Rattle.link_replay.specs.Represents.{SideRepresents};

@@ -2,20 +2,13 @@
 
 ghost use Rattle.std.specs.List.{list_all};
 ghost use Rattle.std.specs.Prelude.{◌≡◌, ℕ, true, IfOk, Some, map, slice_get};
-ghost use Rattle.file_tree.specs.Site.{files_of};
+ghost use Rattle.file_tree.specs.Prelude.{files_of};
 ghost use Rattle.httpd.specs.contracts.httpd.HttpdApp.TheImpl.{ghosts};
-ghost use Rattle.web_pages.specs.Serving.{is_served, no_hits};
-ghost use Rattle.web_pages.specs.WebMeaning.{web_spec};
+ghost use Rattle.web_pages.specs.Prelude.{is_served, no_hits, web_spec};
 ghost use Rattle.link_schedule.specs.Kept.{event_in_range};
-ghost use Rattle.link_world.specs.Headline.{IsAct, OfLine};
-ghost use Rattle.link_world.specs.History.{IsPlanned, Planned};
-ghost use Rattle.link_replay.specs.Moving.{FromHere};
-ghost use Rattle.link_replay.specs.Opening.{plan_from};
+ghost use Rattle.link_world.specs.Prelude.{IsAct, OfLine, IsPlanned, Planned};
+ghost use Rattle.link_replay.specs.Prelude.{FromHere, plan_from, HasReached, ServesHonest, KeepsPromises, LinesEnd, PlaysIfPaged, PlaysSchedule, event_at, refusal_at, WorldRepresents};
 ghost use Rattle.link_world.specs.Schedule.{plays as played};
-ghost use Rattle.link_replay.specs.Due.{HasReached, ServesHonest};
-ghost use Rattle.link_replay.specs.Promises.{KeepsPromises};
-ghost use Rattle.link_replay.specs.Playing.{LinesEnd, PlaysIfPaged, PlaysSchedule, event_at, refusal_at};
-ghost use Rattle.link_replay.specs.Represents.{WorldRepresents};
 
 use crate::seeing::see_loaded;
 use crate::types::{is_addr, is_short};

@@ -3,10 +3,7 @@
 ghost use Rattle.std.specs.Prelude.{◌≡◌, ◌≤◌, OnOk, List, length};
 ghost use Rattle.std.specs.Option.{option_map_or};
 ghost use Rattle.link_world.specs.World.{Side as PlainSide, epoch, epoch_of, numbered};
-ghost use Rattle.link_replay.specs.Matched.{Matched};
-ghost use Rattle.link_replay.specs.Moving.{KeepsLink, PostsBytes};
-ghost use Rattle.link_replay.specs.Represents.{SideRepresents};
-ghost use Rattle.link_replay.specs.State.{link_of};
+ghost use Rattle.link_replay.specs.Prelude.{Matched, KeepsLink, PostsBytes, SideRepresents, link_of};
 
 use crate::faults::MOST_DATAGRAMS;
 use crate::sent::Sent;

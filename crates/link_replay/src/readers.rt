@@ -1,10 +1,10 @@
 //! Reads the clients and datagrams of a world.
 
 ghost use Rattle.std.specs.Prelude.{◌≡◌, ◌≤◌, Some, is_none, length, option_map};
-ghost use Rattle.link_client.specs.Calls.{standing};
+ghost use Rattle.link_client.specs.Prelude.{standing};
 ghost use Rattle.link_world.specs.World.{Side as PlainSide, World as PlainWorld, is_clean, numbered};
-ghost use Rattle.uip_node.specs.Counters.{ticks_of};
-ghost use Rattle.link_replay.specs.Represents.{SideRepresents, WorldRepresents};
+ghost use Rattle.uip_node.specs.Prelude.{ticks_of};
+ghost use Rattle.link_replay.specs.Prelude.{SideRepresents, WorldRepresents};
 
 use crate::sent::Sent;
 use crate::side::Side;

@@ -1,11 +1,11 @@
 //! `replay`: a schedule, played by the web server of a site.
 
 ghost use Rattle.std.specs.Prelude.{◌≡◌, Bool, Err, Ok};
-ghost use Rattle.file_tree.specs.Site.{files_of};
+ghost use Rattle.file_tree.specs.Prelude.{files_of};
 ghost use Rattle.site_report.specs.Report.{bad_line as line_of};
 ghost use Rattle.link_replay.specs.Ending.{ReplayEnds, ReplayEndsFor};
 ghost use Rattle.link_replay.specs.Due.{WritesText};
-ghost use Rattle.uip_edge.specs.ViewsOf.{work_view, sink_view};
+ghost use Rattle.uip_edge.specs.Prelude.{work_view, sink_view};
 ghost use Rattle.link_replay.specs.declared.replay_end.ReplayEnd.TheVariants as ends;
 
 use crate::command_lines::write_text;

@@ -3,15 +3,11 @@
 
 ghost use Rattle.std.specs.Prelude.{ℕ, Bool, OnErr, OnOk, length, map};
 ghost use Rattle.std.specs.Io.KnownBytes.{Appends};
-ghost use Rattle.app_events.specs.AppSpec.{AppSpec};
-ghost use Rattle.uip_edge.specs.Causes.{HasCause};
-ghost use Rattle.uip_edge.specs.Writing.{AppendsPrefix};
+ghost use Rattle.app_events.specs.Prelude.{AppSpec};
+ghost use Rattle.uip_edge.specs.Prelude.{HasCause, AppendsPrefix};
 ghost use Rattle.link_world.specs.World.{World as PlainWorld};
-ghost use Rattle.link_replay.specs.Reaching.{IsAt};
-ghost use Rattle.link_replay.specs.Represents.{WorldRepresents};
+ghost use Rattle.link_replay.specs.Prelude.{IsAt, WorldRepresents, EndsReport, code_side_shown, Wrote};
 ghost use Rattle.link_replay.specs.Report.{end_of_report, report as report_of};
-ghost use Rattle.link_replay.specs.Shown.{EndsReport, code_side_shown};
-ghost use Rattle.link_replay.specs.Writing.{Wrote};
 
 use crate::client_lines::last_line;
 use crate::clients::write_clients;

@@ -1,8 +1,8 @@
 //! What the type of a site states.
 
 ghost use Rattle.std.specs.List.{All};
-ghost use Rattle.app_events.specs.Pages.{IsByte};
-ghost use Rattle.file_tree.specs.Site.{IsLoaded};
+ghost use Rattle.app_events.specs.Prelude.{IsByte};
+ghost use Rattle.file_tree.specs.Prelude.{IsLoaded};
 
 use file_tree::Site;
 

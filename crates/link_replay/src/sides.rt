@@ -2,12 +2,9 @@
 
 ghost use Rattle.std.specs.List.{Any};
 ghost use Rattle.std.specs.Prelude.{◌≡◌, ◌+◌, ◌≤◌, List, length, Some, OnErr, OnOk};
-ghost use Rattle.tcp_machine.specs.Connection.{Connection, same_sockets};
+ghost use Rattle.tcp_machine.specs.Prelude.{Connection, same_sockets};
 ghost use Rattle.link_world.specs.World.{Side as PlainSide, addressed, retires};
-ghost use Rattle.link_replay.specs.Epochs.{IsAtLast, OnlyEpoch, buried, sockets_for};
-ghost use Rattle.link_replay.specs.Matched.{Matched};
-ghost use Rattle.link_replay.specs.Noting.{pair_at, sockets_at};
-ghost use Rattle.link_replay.specs.Represents.{SideRepresents};
+ghost use Rattle.link_replay.specs.Prelude.{IsAtLast, OnlyEpoch, buried, sockets_for, Matched, pair_at, sockets_at, SideRepresents};
 
 use crate::side::Side;
 use crate::socket_pair::SocketPair;

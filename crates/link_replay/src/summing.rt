@@ -2,13 +2,9 @@
 
 ghost use Rattle.std.specs.Prelude.{◌≡◌, OnErr, OnOk, map};
 ghost use Rattle.std.specs.Io.KnownBytes.{Appends};
-ghost use Rattle.uip_edge.specs.Causes.{HasCause};
-ghost use Rattle.uip_edge.specs.Writing.{AppendsPrefix};
+ghost use Rattle.uip_edge.specs.Prelude.{HasCause, AppendsPrefix};
 ghost use Rattle.link_world.specs.World.{World as PlainWorld};
-ghost use Rattle.link_replay.specs.Represents.{WorldRepresents};
-ghost use Rattle.link_replay.specs.Shown.{code_side_shown};
-ghost use Rattle.link_replay.specs.Summary.{summary_of, tally_line, tally_of};
-ghost use Rattle.link_replay.specs.Writing.{Wrote};
+ghost use Rattle.link_replay.specs.Prelude.{WorldRepresents, code_side_shown, summary_of, tally_line, tally_of, Wrote};
 
 use crate::line::Line;
 use crate::tally::{Tally, count_up};

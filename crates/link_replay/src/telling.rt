@@ -2,10 +2,7 @@
 
 ghost use Rattle.std.specs.Prelude.{◌≡◌, ◌≤◌, List, OnOk, Option, Some, length};
 ghost use Rattle.uip_wire.specs.declared.addr.Addr.{Addr as Address};
-ghost use Rattle.link_replay.specs.Moving.{Buries, PostsReply, TellsStep};
-ghost use Rattle.link_replay.specs.Represents.{IsLink};
-ghost use Rattle.link_replay.specs.State.{link_of};
-ghost use Rattle.link_replay.specs.Plain.{CodeSent};
+ghost use Rattle.link_replay.specs.Prelude.{Buries, PostsReply, TellsStep, IsLink, link_of, CodeSent};
 
 use crate::before::Before;
 use crate::posting::post;

@@ -2,13 +2,10 @@
 
 ghost use Rattle.std.specs.Prelude.{OnErr, OnOk};
 ghost use Rattle.std.specs.Io.KnownBytes.{Appends};
-ghost use Rattle.uip_edge.specs.Causes.{HasCause};
-ghost use Rattle.uip_edge.specs.Writing.{AppendsPrefix, WritesEnd};
-ghost use Rattle.file_tree.specs.Site.{files_of};
-ghost use Rattle.link_replay.specs.Moving.{OfWorld};
+ghost use Rattle.uip_edge.specs.Prelude.{HasCause, AppendsPrefix, WritesEnd, sink_view};
+ghost use Rattle.file_tree.specs.Prelude.{files_of};
+ghost use Rattle.link_replay.specs.Prelude.{OfWorld, WritesDue, IsPlayDue, IsTextDue, WritesText, TellsFault, told_of};
 ghost use Rattle.link_replay.specs.Outcome.{bad_schedule as line_of};
-ghost use Rattle.link_replay.specs.Due.{WritesDue, IsPlayDue, IsTextDue, WritesText, TellsFault, told_of};
-ghost use Rattle.uip_edge.specs.ViewsOf.{sink_view};
 ghost use Rattle.link_replay.specs.declared.replay_end.ReplayEnd.TheVariants as ends;
 
 use crate::command_lines::{bad_schedule, write_text};

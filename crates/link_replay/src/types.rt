@@ -2,7 +2,7 @@
 
 ghost use Rattle.std.specs.List.{All};
 ghost use Rattle.std.specs.Prelude.{◌<◌};
-ghost use Rattle.app_events.specs.Pages.{IsAddr, IsByte};
+ghost use Rattle.app_events.specs.Prelude.{IsAddr, IsByte};
 
 use uip_wire::Addr;
 

@@ -4,7 +4,7 @@ ghost use Rattle.std.specs.List.{All};
 ghost use Rattle.std.specs.Prelude.{◌≡◌, ℕ, true, false, OnErr, Ok, Err, IfErr};
 ghost use Rattle.link_world.specs.Acts.{acts as acted, runs};
 ghost use Rattle.link_world.specs.Schedule.{acts_of as lines_acts, plays_line};
-ghost use Rattle.link_world.specs.Headline.{IsAct, OfLine};
+ghost use Rattle.link_world.specs.Prelude.{IsAct, OfLine};
 ghost use Rattle.link_replay.specs.Moving.{FromHere};
 ghost use Rattle.link_replay.specs.Reaching.{ActsEnd, IsNamed, ActSteps, Stops};
 ghost use Rattle.link_replay.specs.Represents.{WorldRepresents};

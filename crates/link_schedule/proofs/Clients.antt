@@ -1,12 +1,5 @@
 -- One more client of a schedule: each of its refusals, and what follows it.
-use Rattle.std.proofs.Common.{◌≡◌, ℕ, ◌<◌, ◌≤◌, Bool, true, false, cond, List, [], ◌∷◌, ◌++◌, length, Ok, Err, refl, ◌∙◌, arith, leb}
-use Rattle.std.specs.List.{list_any}
-use Rattle.std.proofs.lemmas.Bool.{le-leb, leb-true}
-use Rattle.link_schedule.specs.declared.line.Line.{Line}
-use Rattle.link_schedule.specs.declared.why.Why.TheVariants.{Clients, Ports}
-use Rattle.link_schedule.specs.Clients.{Plan}
-use Rattle.link_schedule.specs.Reading.{meets, with_plan}
-use Rattle.link_schedule.specs.Represents.{content_of}
+use Rattle.link_schedule.proofs.Prelude.{◌≡◌, ℕ, ◌<◌, ◌≤◌, Bool, true, false, cond, List, [], ◌∷◌, ◌++◌, length, Ok, Err, refl, ◌∙◌, arith, leb, list_any, le-leb, leb-true, Line, Clients, Ports, Plan, meets, with_plan, content_of}
 
 chosen : {A : Type 0} (b : Bool) (x y : A) → b ≡ true → cond b x y ≡ x
 chosen true x y e = refl

@@ -1,25 +1,6 @@
 -- Reading a text, each line preserves what holds for a schedule.
 -- [add: schedule-line] A text that has the line.
-use Rattle.std.proofs.Common.{◌≡◌, ℕ, ◌+◌, ◌≤◌, Bool, true, false, cond, not, ◌&&◌, ◌||◌, List, [], ◌∷◌, ◌++◌, length, Result, Ok, Err, IfOk, refl, ap, ◌∙◌, subst, arith, eqb, leb}
-use Rattle.std.specs.Prelude.{codes}
-use Rattle.std.specs.List.{list_all, list_any, slice_split}
-use Rattle.std.specs.Str.{bytes_eq}
-use Rattle.std.proofs.lemmas.Bool.{and_parts, and_from, le-leb, leb-true, leb-false, not-true, or_parts}
-use Rattle.std.proofs.lemmas.List.{length-append}
-use Rattle.std.proofs.lemmas.List.Folds.{list_all-append, list_any-append}
-use Rattle.hex.specs.Hex.{decode_of}
-use Rattle.hex.specs.declared.error.FromHexError.{FromHexError}
-use Rattle.link_schedule.specs.declared.event.Event.{Event}
-use Rattle.link_schedule.specs.declared.event.Event.TheVariants.{Opens, Again, Closes, Aborts, Window}
-use Rattle.link_schedule.specs.declared.line.Line.{Line}
-use Rattle.link_schedule.specs.declared.sides.ClientSide.{ClientSide}
-use Rattle.link_schedule.specs.declared.why.Why.{Why}
-use Rattle.link_schedule.specs.declared.why.Why.TheVariants.{Form, Clients, Ports}
-use Rattle.link_schedule.specs.Numbers.{◌>>=◌, address, within}
-use Rattle.link_schedule.specs.Events.{event_of_words}
-use Rattle.link_schedule.specs.Clients.{got, is_target, Plan, plan_of, plan_with, raw, request_of, side_of}
-use Rattle.link_schedule.specs.Reading.{BadText, SchedulePlan, reads_on, is_passed_over, meets, nothing_yet, read_line, read_lines, read_words, with_plan, with_event, with_line}
-use Rattle.link_schedule.specs.Kept.{are_apart, client_in_range, event_in_range, is_between, Keeps}
+use Rattle.link_schedule.proofs.Prelude.{◌≡◌, ℕ, ◌+◌, ◌≤◌, Bool, true, false, cond, not, ◌&&◌, ◌||◌, List, [], ◌∷◌, ◌++◌, length, Result, Ok, Err, IfOk, refl, ap, ◌∙◌, subst, arith, eqb, leb, codes, list_all, list_any, slice_split, bytes_eq, and_parts, and_from, le-leb, leb-true, leb-false, not-true, or_parts, length-append, list_all-append, list_any-append, decode_of, FromHexError, Event, Opens, Again, Closes, Aborts, Window, Line, ClientSide, Why, Form, Clients, Ports, ◌>>=◌, address, within, event_of_words, got, is_target, Plan, plan_of, plan_with, raw, request_of, side_of, BadText, SchedulePlan, reads_on, is_passed_over, meets, nothing_yet, read_line, read_lines, read_words, with_plan, with_event, with_line, are_apart, client_in_range, event_in_range, is_between, Keeps}
 use Rattle.link_schedule.proofs.Kept.{anything, behind, either, event_fine, tested, within_range}
 
 abbrev SideFine : ClientSide → Type 0

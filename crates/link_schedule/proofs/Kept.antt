@@ -1,15 +1,5 @@
 -- What holds for each schedule, line by line.
-use Rattle.std.proofs.Common.{◌≡◌, ℕ, Bool, true, false, cond, List, [], ◌∷◌, Option, None, Some, Result, Ok, Err, IfOk, refl}
-use Rattle.std.specs.Prelude.{codes}
-use Rattle.std.specs.Str.{bytes_eq}
-use Rattle.link_schedule.specs.declared.event.Event.{Event}
-use Rattle.link_schedule.specs.declared.event.Event.TheVariants.{Opens, Again, Closes, Aborts, Window, Ping, Give, Damage, Tick}
-use Rattle.link_schedule.specs.declared.why.Why.{Why}
-use Rattle.link_schedule.specs.declared.why.Why.TheVariants.{Form, NoClient}
-use Rattle.uip_wire.specs.Numerals.{is_numeral, numeral}
-use Rattle.link_schedule.specs.Numbers.{◌>>=◌, address, in_range, named, within}
-use Rattle.link_schedule.specs.Events.{bare, bare_forms, by_verb, event_of_words, forms_with_one, with_one, window, damage}
-use Rattle.link_schedule.specs.Kept.{event_in_range, is_between}
+use Rattle.link_schedule.proofs.Prelude.{◌≡◌, ℕ, Bool, true, false, cond, List, [], ◌∷◌, Option, None, Some, Result, Ok, Err, IfOk, refl, codes, bytes_eq, Event, Opens, Again, Closes, Aborts, Window, Ping, Give, Damage, Tick, Why, Form, NoClient, is_numeral, numeral, ◌>>=◌, address, in_range, named, within, bare, bare_forms, by_verb, event_of_words, forms_with_one, with_one, window, damage, event_in_range, is_between}
 
 -- either answer of a choice
 pub either : {A : Type 0} (P : A → Type 0) (b : Bool) (x y : Result A Why) → IfOk x P → IfOk y P → IfOk (cond b x y) P

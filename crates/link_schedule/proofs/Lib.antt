@@ -4,3 +4,4 @@ pub mod Kept
 pub mod Lines
 pub mod NoForm
 pub mod Worked
+mod Prelude

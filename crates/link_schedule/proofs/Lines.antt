@@ -1,9 +1,5 @@
 -- The lines of a text in turn.
-use Rattle.std.proofs.Common.{◌≡◌, ℕ, ◌+◌, ◌<◌, ◌≤◌, Bool, true, false, cond, List, [], ◌∷◌, length, drop, get_or, map, Ok, Err, ap, ◌∙◌, arith}
-use Rattle.std.specs.List.{onto_first, slice_split}
-use Rattle.std.proofs.lemmas.List.{drop_more}
-use Rattle.link_schedule.specs.declared.why.Why.{Why}
-use Rattle.link_schedule.specs.Reading.{SchedulePlan, reads_on, read_line, read_lines}
+use Rattle.link_schedule.proofs.Prelude.{◌≡◌, ℕ, ◌+◌, ◌<◌, ◌≤◌, Bool, true, false, cond, List, [], ◌∷◌, length, drop, get_or, map, Ok, Err, ap, ◌∙◌, arith, onto_first, slice_split, drop_more, Why, SchedulePlan, reads_on, read_line, read_lines}
 
 pub next_line : {A : Type 0} (f : A → List ℕ) (lines : List A) (i : ℕ) (d : A) (above after : SchedulePlan) → i < length lines
     → read_line (i + 1) above (f (get_or lines i d)) ≡ Ok after

@@ -1,8 +1,5 @@
 -- Words of no form's length.
-use Rattle.std.proofs.Common.{◌≡◌, ◌≤◌, List, [], ◌∷◌, ℕ, map, length, Err, refl, arith}
-use Rattle.link_schedule.specs.Clients.{plan_of}
-use Rattle.link_schedule.specs.Events.{event_of_words}
-use Rattle.link_schedule.specs.declared.why.Why.TheVariants.{Form}
+use Rattle.link_schedule.proofs.Prelude.{◌≡◌, ◌≤◌, List, [], ◌∷◌, ℕ, map, length, Err, refl, arith, plan_of, event_of_words, Form}
 
 pub no_event : {A : Type 0} (f : A → List ℕ) (clients : ℕ) (words : List A) → 5 ≤ length words → Err Form ≡ event_of_words clients (map f words)
 no_event f clients [] h = absurd (omega arith)

@@ -1,8 +1,7 @@
 -- The numbers and addresses in the words of a line.
 use Rattle.std.specs.Option.{option_map_or}
 use Rattle.std.specs.Prelude.{ℕ, ◌&&◌, nat_le, if◌then◌else◌, List, Option, Result, Ok, Err}
-use Rattle.uip_wire.specs.Addr.{quad_of}
-use Rattle.uip_wire.specs.Numerals.{is_numeral, numeral}
+use Rattle.uip_wire.specs.Prelude.{quad_of, is_numeral, numeral}
 use Rattle.uip_wire.specs.declared.addr.Addr.{Addr}
 use Rattle.link_schedule.specs.declared.why.Why.{Why}
 use Rattle.link_schedule.specs.declared.why.Why.TheVariants.{Form, NoClient}

@@ -1,33 +1,9 @@
 -- Lines that are refused only for a lack of numbers, and what they leave.
 -- [add: schedule-line] When the line is refused.
-use Rattle.std.specs.List.{All, range_with_len}
-use Rattle.std.proofs.Common.{◌≡◌, ℕ, zero, suc, ◌+◌, ◌-◌, ◌<◌, ◌≤◌, ◌%◌, Bool, true, false, List, [], ◌∷◌, ◌++◌, length, map, set, filter, replicate, reverse, Option, Some, None, Result, Ok, Err, slice_get, refl, sym, ap, subst, ◌∙◌, arith, inl, inr, eqb}
-use Rattle.std.specs.Option.{option_map_or, option_or}
-use Rattle.link_schedule.specs.Numbers.{◌>>=◌}
-use Rattle.std.specs.Prelude.{if◌then◌else◌, flat_map, nat_lt, option_map, ⊤}
-use Rattle.std.proofs.lemmas.Option.{slice_get-map}
-use Rattle.uip_wire.specs.declared.addr.Addr.{Addr}
-use Rattle.std.proofs.lemmas.List.Concat.{flat_map-cons}
-use Rattle.std.proofs.lemmas.Bool.{cases_lt}
-use Rattle.std.proofs.lemmas.List.Elements.{All-filter, All-head, All-tail}
-use Rattle.std.proofs.lemmas.List.Sorted.{All-permutation, IsPermutation-reverse}
-use Rattle.app_events.specs.AppSpec.{AppSpec}
+use Rattle.link_world.proofs.Prelude.{All, range_with_len, ◌≡◌, ℕ, zero, suc, ◌+◌, ◌-◌, ◌<◌, ◌≤◌, ◌%◌, Bool, true, false, List, [], ◌∷◌, ◌++◌, length, map, set, filter, replicate, reverse, Option, Some, None, Result, Ok, Err, slice_get, refl, sym, ap, subst, ◌∙◌, arith, inl, inr, eqb, option_map_or, option_or, ◌>>=◌, if◌then◌else◌, flat_map, nat_lt, option_map, ⊤, slice_get-map, Addr, flat_map-cons, cases_lt, All-filter, All-head, All-tail, All-permutation, IsPermutation-reverse, AppSpec, Opens, Again, Tick, Round, Twice, Reverse, Half, Lose, PlainSegment, AbstractClient, ClientStep, client_opens, opens_by, Planned, fresh_side, initial_world, does, is_idle, named_fault, needs, runs, state_at, BadLine, acts_of, mark_after, past_mark, plays_from, plays_line, Sent, Side, World, client_stepped, posts_of_client, with_client, with_side, Act, StepFault, AlreadyOpen, Full, NoDatagram, NotOpen, choose, all_cons, all_nil, get_set_other, get_set_same}
 use Rattle.link_schedule.specs.declared.event.Event.{Event}
-use Rattle.link_schedule.specs.declared.event.Event.TheVariants.{Opens, Again, Tick, Round, Twice, Reverse, Half, Lose}
-use Rattle.tcp_segment.specs.Segments.{PlainSegment}
-use Rattle.link_client.specs.Client.{AbstractClient, ClientStep, client_opens, opens_by}
 use Rattle.link_client.specs.declared.client_state.ClientState.TheVariants as Is
-use Rattle.link_world.specs.History.{Planned, fresh_side, initial_world}
-use Rattle.link_world.specs.Acts.{does, is_idle, named_fault, needs, runs, state_at}
-use Rattle.link_world.specs.Schedule.{BadLine, acts_of, mark_after, past_mark, plays_from, plays_line}
-use Rattle.link_world.specs.World.{Sent, Side, World, client_stepped, posts_of_client, with_client, with_side}
-use Rattle.link_world.specs.declared.act.Act.{Act}
-use Rattle.link_world.specs.declared.step_fault.StepFault.{StepFault}
-use Rattle.link_world.specs.declared.step_fault.StepFault.TheVariants.{AlreadyOpen, Full, NoDatagram, NotOpen}
-use Rattle.uip_node.proofs.Basics.{choose}
 use Rattle.link_world.proofs.Doing.{goes_on_with, with_mark}
-use Rattle.uip_node.proofs.Fits.{all_cons, all_nil}
-use Rattle.uip_node.proofs.Connections.{get_set_other, get_set_same}
 use Rattle.link_world.proofs.Growing.{Grows, Spoken, does_grows, grows_not, grows_on}
 
 -- it is refused only for a lack of numbers, and leaves the stated fact

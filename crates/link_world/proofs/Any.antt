@@ -1,48 +1,9 @@
 -- The world's acts, for any fact G about one client: what the acts do to the sides, the table and the list is proved once.
-use Rattle.std.specs.Option.{option_map_or}
-use Rattle.std.specs.List.{All}
-use Rattle.std.specs.Prelude.{option_map}
-use Rattle.std.proofs.Common.{◌≡◌, ℕ, zero, suc, Bool, true, false, not, ◌&&◌, List, [], ◌∷◌, ◌++◌, length, map, set, refl, sym, ap, ◌∙◌, subst, arith, Option, Some, None, slice_get, slice_index_or, if◌then◌else◌}
-use Rattle.tcp_segment.specs.Segments.{PlainSegment, has_syn, has_fin, has_rst}
-use Rattle.app_events.specs.AppSpec.{AppSpec}
-use Rattle.uip_node.specs.Steady.{IsSteady}
-use Rattle.app_events.specs.Pages.{IsSnapshot, IsNow, IsU32}
-use Rattle.app_events.specs.declared.now.Now.{Now}
-use Rattle.tcp_machine.specs.Connection.{Sockets, Connection, closed, is_live, serves, same_sockets}
-use Rattle.tcp_machine.specs.Segments.{segment_of, is_again, is_plain_syn, reset_for_no_connection, syn_ack}
-use Rattle.tcp_machine.specs.Ask.{Outcome, leaves, asked}
-use Rattle.tcp_machine.specs.OnSegment.{accepted, on_segment}
-use Rattle.tcp_machine.specs.OnTick.{on_tick}
-use Rattle.tcp_machine.specs.declared.step.Step.{Step}
-use Rattle.uip_node.specs.Events.{Event, Reply}
-use Rattle.uip_node.specs.Events.Event.{EchoAsked, Arrived, Periodic}
-use Rattle.uip_node.specs.Events.Answer.{Silent, NoSlot}
-use Rattle.uip_node.specs.Events.Reply.{Echo, Tcp}
-use Rattle.uip_node.specs.Counters.{initial_number, ticks_of}
-use Rattle.uip_node.specs.Node.{AbstractNode, NodeStep, gone_by, snapshot, happened, slot_for_syn, opens_in, opens, refuses, for_no_connection, arrives_at, step, passes}
-use Rattle.link_client.specs.declared.setup.Setup.{Setup}
-use Rattle.link_client.specs.Client.{AbstractClient, ClientStep, client_takes, client_opens, client_again, client_closes, client_aborts, advertises_window}
-use Rattle.link_world.specs.World.{World, Side, Sent, Content, numbered, client_sockets, retires, retires_in, addressed, epoch, epoch_of, posts, posts_reply, node_stepped, node_handles, with_client, with_side, posts_of_client, client_stepped, marked, delivers, is_clean, past_connection_of}
-use Rattle.link_world.specs.World.Content.{OfSegment, OfPing, OfEcho}
-use Rattle.link_world.specs.Acts.{client_acts, handles_all, does}
-use Rattle.link_world.specs.declared.act.Act.{Act}
-use Rattle.link_world.specs.declared.who.Who.{Who}
-use Rattle.link_world.specs.declared.who.Who.TheVariants.{FromClient, FromNode, Pinger}
-use Rattle.link_world.specs.History.{era}
-use Rattle.uip_node.specs.Laws.{serving}
-use Rattle.link_world.specs.Headline.{IsLoss}
-use Rattle.uip_node.proofs.Basics.{both_ways, choose, and_true, only_some}
+use Rattle.link_world.proofs.Prelude.{option_map_or, All, option_map, ◌≡◌, ℕ, zero, suc, Bool, true, false, not, ◌&&◌, List, [], ◌∷◌, ◌++◌, length, map, set, refl, sym, ap, ◌∙◌, subst, arith, Option, Some, None, slice_get, slice_index_or, if◌then◌else◌, PlainSegment, has_syn, has_fin, has_rst, AppSpec, IsSteady, IsSnapshot, IsNow, IsU32, Now, Sockets, Connection, closed, is_live, serves, same_sockets, segment_of, is_again, is_plain_syn, reset_for_no_connection, syn_ack, Outcome, leaves, asked, accepted, on_segment, on_tick, Step, Event, Reply, EchoAsked, Arrived, Periodic, Silent, NoSlot, Echo, Tcp, initial_number, ticks_of, AbstractNode, NodeStep, gone_by, snapshot, happened, slot_for_syn, opens_in, opens, refuses, for_no_connection, arrives_at, step, passes, Setup, AbstractClient, ClientStep, client_takes, client_opens, client_again, client_closes, client_aborts, advertises_window, World, Side, Sent, Content, numbered, client_sockets, retires, retires_in, addressed, epoch, epoch_of, posts, posts_reply, node_stepped, node_handles, with_client, with_side, posts_of_client, client_stepped, marked, delivers, is_clean, past_connection_of, OfSegment, OfPing, OfEcho, client_acts, handles_all, does, Act, Who, FromClient, FromNode, Pinger, era, serving, IsLoss, both_ways, choose, and_true, only_some, same_is, flip, apart, serves_not, serves_dead, serves_yes, not_peer, find_is, get_set_same, set_same, set_past, index_of, index_none, Single, Free, get_set, single_set, serving_is, serving_free, serving_new, serving_gone, serving_other, finds, finds_none, here, there, FitConn, accepted_fits, node_snapshot, serving_fits, slot_inside, on_segment_keeps, asked_keeps, on_tick_keeps, on_tick_closed}
 use Rattle.link_world.proofs.Doing.{at_number, where_there}
 use Rattle.link_world.proofs.Good.{seg, segment_in, from, to}
-use Rattle.uip_node.proofs.SocketPairs.{same_is, flip, apart, serves_not, serves_dead, serves_yes, not_peer}
-use Rattle.uip_node.proofs.Connections.{find_is, get_set_same, set_same, set_past, index_of, index_none, Single, Free, get_set, single_set, serving_is, serving_free, serving_new, serving_gone, serving_other}
-use Rattle.uip_node.proofs.Connections.Finds.{finds, finds_none}
-use Rattle.uip_node.proofs.Connections.Written.{here, there}
-use Rattle.uip_node.proofs.Fits.{FitConn, accepted_fits}
 use Rattle.link_world.proofs.FitWorlds.{FitWorld, era_fits, put_fits, periodic_fits}
-use Rattle.uip_node.proofs.FitNodes.{node_snapshot, serving_fits, slot_inside}
 use Rattle.link_world.proofs.Setups.{SameSetup, takes_setup, opens_setup, again_setup, closes_setup, aborts_setup}
-use Rattle.uip_node.proofs.Peers.{on_segment_keeps, asked_keeps, on_tick_keeps, on_tick_closed}
 use Rattle.link_world.proofs.Harmless.{Harmless}
 use Rattle.link_world.proofs.Sides.{Apart, buried, get_buried, buried_sockets, addressed_is, addressed_finds, gone_is, buried_here, buried_elsewhere, put_apart, clean_before}
 

@@ -1,29 +1,9 @@
 -- The progress of a client's request: what its steps add to what it sent, and what a step of the connection accepts of it. No
 -- premise on the other side.
-use Rattle.std.proofs.Common.{◌≡◌, ℕ, ◌+◌, ◌-◌, ◌<◌, ◌≤◌, min, Bool, true, false, not, ◌&&◌, ◌||◌, ◌⊎◌, inl, inr, List, length, length-append, drop, refl, sym, ap, ◌∙◌, arith, Some, eqb, ltb, length-take, if◌then◌else◌}
-use Rattle.uip_wire.specs.Numbers.{wrap}
-use Rattle.tcp_segment.specs.Segments.{PlainSegment, has_syn, has_fin, has_rst, has_ack}
-use Rattle.rexmit_timer.specs.declared.timer.Beat.{Beat}
-use Rattle.app_events.specs.AppSpec.{AppState, After, AppSpec}
-use Rattle.app_events.specs.Pages.{Pages, IsPaged}
-use Rattle.app_events.specs.declared.now.Now.{Now}
-use Rattle.app_events.specs.declared.state.State.{State}
-use Rattle.app_events.specs.declared.state.State.TheVariants.{Closed, SynRcvd, Established, CloseWait, FinWait1, FinWait2, Closing, TimeWait, LastAck}
-use Rattle.tcp_machine.specs.Connection.{Connection, rcv_nxt}
-use Rattle.tcp_machine.specs.Segments.{occupies_sequence_space, segment_of}
-use Rattle.tcp_machine.specs.Ask.{Outcome, ask, asked, prepared}
-use Rattle.tcp_machine.specs.OnSegment.{is_out_of_order, is_acked, has_text, hears, connects, in_established, peer_closes, stays_established, fin_acked, fin_waits, by_state, on_segment}
-use Rattle.tcp_machine.specs.OnTick.{by_beat, on_tick}
-use Rattle.tcp_machine.specs.declared.step.Step.{Step}
-use Rattle.link_client.specs.Client.{AbstractClient, ClientStep, ack_of, client_aborts, client_again, client_closes, client_opens, client_takes, fin_out, fin_sent, has_outstanding, hears_ack, is_receiving, keeps, may_finish, next_own, one_if, opened_by, own_fin, own_first, own_request, own_reset, sends_next, steps_with, syn_of, takes_in_order, takes_text, advertises_window}
-use Rattle.link_client.specs.declared.client_state.ClientState.{ClientState}
+use Rattle.link_world.proofs.Prelude.{◌≡◌, ℕ, ◌+◌, ◌-◌, ◌<◌, ◌≤◌, min, Bool, true, false, not, ◌&&◌, ◌||◌, ◌⊎◌, inl, inr, List, length, length-append, drop, refl, sym, ap, ◌∙◌, arith, Some, eqb, ltb, length-take, if◌then◌else◌, wrap, PlainSegment, has_syn, has_fin, has_rst, has_ack, Beat, AppState, After, AppSpec, Pages, IsPaged, Now, State, Closed, SynRcvd, Established, CloseWait, FinWait1, FinWait2, Closing, TimeWait, LastAck, Connection, rcv_nxt, occupies_sequence_space, segment_of, Outcome, ask, asked, prepared, is_out_of_order, is_acked, has_text, hears, connects, in_established, peer_closes, stays_established, fin_acked, fin_waits, by_state, on_segment, by_beat, on_tick, Step, AbstractClient, ClientStep, ack_of, client_aborts, client_again, client_closes, client_opens, client_takes, fin_out, fin_sent, has_outstanding, hears_ack, is_receiving, keeps, may_finish, next_own, one_if, opened_by, own_fin, own_first, own_request, own_reset, sends_next, steps_with, syn_of, takes_in_order, takes_text, advertises_window, ClientState, FinAt, choose, and_true, and_false, only_some, eqb-eq, not-false, not-true, ltb-zero, same_place, hears_is, asked_by, on_tick_by, wanted_unmoved}
 use Rattle.link_client.specs.declared.client_state.ClientState.TheVariants as Is
-use Rattle.link_client.specs.declared.fin_at.FinAt.{FinAt}
-use Rattle.uip_node.proofs.Basics.{choose, and_true, and_false, only_some, eqb-eq, not-false, not-true, ltb-zero, same_place}
 use Rattle.link_world.proofs.Good.{Steady, is_early}
 use Rattle.link_world.proofs.ClientCases.{of_aborts, of_again, of_closes, of_opens, of_order, of_sends, of_takes}
-use Rattle.uip_node.proofs.Handed.{hears_is}
-use Rattle.uip_node.proofs.Cases.{asked_by, on_tick_by, wanted_unmoved}
 
 -- how many bytes of its request the client has sent
 abbrev pub asked_bytes : AbstractClient → ℕ

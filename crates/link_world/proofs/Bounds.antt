@@ -1,34 +1,8 @@
 -- The mark, the bytes of each datagram, and what a client sends only after it opened.
 -- [add: schedule-line] What its acts leave.
-use Rattle.std.proofs.Common.{◌≡◌, ℕ, zero, suc, ◌+◌, ◌<◌, ◌≤◌, Bool, true, false, inl, inr, List, [], ◌∷◌, ◌++◌, length, map, refl, sym, ap, ◌∙◌, subst, arith, Option, Some, None, Result, Ok, Err, slice_get, is_some, length-append, length-take, length-drop}
-use Rattle.std.proofs.lemmas.Bool.{cases_lt}
-use Rattle.std.specs.Option.{option_map_or}
-use Rattle.uip_wire.specs.declared.addr.Addr.{Addr}
-use Rattle.app_events.specs.AppSpec.{AppSpec}
-use Rattle.app_events.specs.Pages.{Pages, IsPaged, IsAddr}
-use Rattle.icmp_echo.specs.Echo.{echo_reply}
-use Rattle.tcp_segment.specs.Segments.{PlainSegment, has_syn, has_fin, has_rst}
-use Rattle.tcp_machine.specs.Connection.{Connection, closed, is_live}
-use Rattle.tcp_machine.specs.Ask.{Outcome, asked}
-use Rattle.tcp_machine.specs.OnSegment.{on_segment}
-use Rattle.tcp_machine.specs.OnTick.{on_tick}
-use Rattle.link_client.specs.Client.{ClientStep}
-use Rattle.link_world.specs.World.{World, Side, Sent, marked}
-use Rattle.link_world.specs.World.Content.{OfSegment}
-use Rattle.link_world.specs.Bytes.{client_bytes, node_bytes, bytes_by}
-use Rattle.link_world.specs.Acts.{does, runs}
-use Rattle.link_world.specs.Schedule.{BadLine, acts_of, mark_after, plays_from}
+use Rattle.link_world.proofs.Prelude.{◌≡◌, ℕ, zero, suc, ◌+◌, ◌<◌, ◌≤◌, Bool, true, false, inl, inr, List, [], ◌∷◌, ◌++◌, length, map, refl, sym, ap, ◌∙◌, subst, arith, Option, Some, None, Result, Ok, Err, slice_get, is_some, length-append, length-take, length-drop, cases_lt, option_map_or, Addr, AppSpec, Pages, IsPaged, IsAddr, echo_reply, PlainSegment, has_syn, has_fin, has_rst, Connection, closed, is_live, Outcome, asked, on_segment, on_tick, ClientStep, World, Side, Sent, marked, OfSegment, client_bytes, node_bytes, bytes_by, does, runs, BadLine, acts_of, mark_after, plays_from, Round, Twice, Reverse, Half, Lose, Act, StepFault, Who, FromClient, FromNode, Pinger, Planned, fresh_side, initial_world, planned_of, started, IsSentBy, IsLater, AcknowledgedLater, MarkIsLow, NoneIsEmpty, SidesAsPlanned, steady_of, whole_length}
 use Rattle.link_schedule.specs.declared.event.Event.{Event}
-use Rattle.link_schedule.specs.declared.event.Event.TheVariants.{Round, Twice, Reverse, Half, Lose}
-use Rattle.link_world.specs.declared.act.Act.{Act}
-use Rattle.link_world.specs.declared.step_fault.StepFault.{StepFault}
-use Rattle.link_world.specs.declared.who.Who.{Who}
-use Rattle.link_world.specs.declared.who.Who.TheVariants.{FromClient, FromNode, Pinger}
-use Rattle.link_world.specs.History.{Planned, fresh_side, initial_world, planned_of, started}
-use Rattle.link_world.specs.Reading.{IsSentBy}
-use Rattle.link_world.specs.Times.{IsLater, AcknowledgedLater, MarkIsLow, NoneIsEmpty, SidesAsPlanned}
 use Rattle.link_world.proofs.Doing.{goes_on_with, with_mark}
-use Rattle.uip_node.proofs.Steadiness.{steady_of}
 use Rattle.link_world.proofs.Good.{seg, from, to}
 use Rattle.link_world.proofs.Any.{Framed, Steps, Refines, any_step, older, does_framed}
 use Rattle.link_world.proofs.Growing.{Grows, does_grows, grows_not, grows_on}
@@ -42,7 +16,6 @@ use Rattle.link_world.proofs.Sound.{IsSoundClient}
 use Rattle.link_world.proofs.SoundWorlds.{SoundWorld}
 use Rattle.link_world.proofs.SoundWorlds.SoundSent.{of_segment, of_ping, of_echo}
 use Rattle.link_world.proofs.Whole.{ping_back}
-use Rattle.uip_node.proofs.DatagramsBack.{whole_length}
 
 -- ---- the mark
 

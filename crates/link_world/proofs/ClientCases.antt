@@ -1,13 +1,6 @@
 -- A fact about a step of a client by its cases: each walk is made once, for every law.
-use Rattle.std.proofs.Common.{◌≡◌, ◌+◌, ◌-◌, min, Bool, true, false, not, ◌&&◌, length, refl, ap, eqb, ltb}
-use Rattle.uip_wire.specs.Numbers.{wrap}
-use Rattle.tcp_segment.specs.Segments.{PlainSegment, has_syn, has_rst, has_ack}
-use Rattle.tcp_machine.specs.Segments.{occupies_sequence_space}
-use Rattle.link_client.specs.Client.{AbstractClient, ClientStep, ack_of, again_by, aborts_by, client_again, client_aborts, client_closes, client_opens, client_takes, closes_by, fin_out, fin_sent, has_closed, has_outstanding, hears_ack, is_receiving, is_reset_by, keeps, may_finish, opened_by, opens_by, own_fin, own_first, own_request, own_reset, sends_next, steps_with, syn_of, takes_by, takes_in_order, takes_text}
-use Rattle.link_client.specs.declared.client_state.ClientState.{ClientState}
+use Rattle.link_world.proofs.Prelude.{◌≡◌, ◌+◌, ◌-◌, min, Bool, true, false, not, ◌&&◌, length, refl, ap, eqb, ltb, wrap, PlainSegment, has_syn, has_rst, has_ack, occupies_sequence_space, AbstractClient, ClientStep, ack_of, again_by, aborts_by, client_again, client_aborts, client_closes, client_opens, client_takes, closes_by, fin_out, fin_sent, has_closed, has_outstanding, hears_ack, is_receiving, is_reset_by, keeps, may_finish, opened_by, opens_by, own_fin, own_first, own_request, own_reset, sends_next, steps_with, syn_of, takes_by, takes_in_order, takes_text, ClientState, FinAt, and_true, choose, not-true}
 use Rattle.link_client.specs.declared.client_state.ClientState.TheVariants as Is
-use Rattle.link_client.specs.declared.fin_at.FinAt.{FinAt}
-use Rattle.uip_node.proofs.Basics.{and_true, choose, not-true}
 
 module _ (P : ClientStep → Type 0) (c : AbstractClient) where
   -- what it sends next: request bytes, its FIN, a bare ACK, or nothing

@@ -1,19 +1,6 @@
 -- One step of a client preserves what holds of it.
-use Rattle.std.specs.List.{All}
-use Rattle.std.proofs.Common.{◌≡◌, ℕ, ◌+◌, ◌-◌, ◌≤◌, min, Bool, true, false, not, ◌&&◌, ◌⊎◌, inl, inr, List, [], ◌++◌, length, refl, sym, ap, ◌∙◌, subst, arith, Option, Some, None, length-append, eqb, ltb, if◌then◌else◌}
-use Rattle.uip_wire.specs.Numbers.{wrap}
-use Rattle.tcp_segment.specs.Segments.{PlainSegment, has_syn, has_fin, has_rst, has_ack}
-use Rattle.app_events.specs.AppSpec.{Snapshot, AppSpec}
-use Rattle.app_events.specs.Pages.{IsSnapshot}
-use Rattle.tcp_machine.specs.Connection.{Connection, is_live}
-use Rattle.tcp_machine.specs.Segments.{occupies_sequence_space}
-use Rattle.link_client.specs.Client.{AbstractClient, ClientStep, sends_next, has_outstanding, is_receiving, may_finish, has_closed, own_request, ack_of, syn_of, own_fin, own_reset, keeps, steps_with, hears_ack, fin_sent, fin_out, takes_in_order, takes_text, takes_by, client_takes, is_reset_by, opened_by, opens_by, again_by, closes_by, aborts_by, after_fin, one_if, next_own, own_first}
-use Rattle.link_client.specs.declared.client_state.ClientState.{ClientState}
+use Rattle.link_world.proofs.Prelude.{All, ◌≡◌, ℕ, ◌+◌, ◌-◌, ◌≤◌, min, Bool, true, false, not, ◌&&◌, ◌⊎◌, inl, inr, List, [], ◌++◌, length, refl, sym, ap, ◌∙◌, subst, arith, Option, Some, None, length-append, eqb, ltb, if◌then◌else◌, wrap, PlainSegment, has_syn, has_fin, has_rst, has_ack, Snapshot, AppSpec, IsSnapshot, Connection, is_live, occupies_sequence_space, AbstractClient, ClientStep, sends_next, has_outstanding, is_receiving, may_finish, has_closed, own_request, ack_of, syn_of, own_fin, own_reset, keeps, steps_with, hears_ack, fin_sent, fin_out, takes_in_order, takes_text, takes_by, client_takes, is_reset_by, opened_by, opens_by, again_by, closes_by, aborts_by, after_fin, one_if, next_own, own_first, ClientState, FinAt, Sent, PastConnection, becomes_opened, era, IsPart, part_joins, part_none, choose, and_true, same_place, eqb-eq, append_nothing, cut_part, only_some, not-false, nothing_placed}
 use Rattle.link_client.specs.declared.client_state.ClientState.TheVariants as Is
-use Rattle.link_client.specs.declared.fin_at.FinAt.{FinAt}
-use Rattle.link_world.specs.World.{Sent, PastConnection, becomes_opened}
-use Rattle.link_world.specs.History.{era}
-use Rattle.uip_node.proofs.Basics.{IsPart, part_joins, part_none, choose, and_true, same_place, eqb-eq, append_nothing, cut_part, only_some, not-false, nothing_placed}
 use Rattle.link_world.proofs.Speaking.{Speaker, HasOutputModel}
 use Rattle.link_world.proofs.Counts.{reset_becomes, same_becomes}
 use Rattle.link_world.proofs.Later.{node_later}

@@ -1,14 +1,7 @@
 -- The progress of a client: what its step does to what it accepted and to RCV.NXT. No premise on the server.
-use Rattle.std.proofs.Common.{◌≡◌, ℕ, ◌+◌, Bool, true, false, not, ◌&&◌, ◌++◌, length, refl, sym, ap, ◌∙◌, Some, eqb, if◌then◌else◌}
-use Rattle.uip_wire.specs.Numbers.{wrap}
-use Rattle.tcp_segment.specs.Segments.{PlainSegment, has_syn, has_fin, has_rst, has_ack}
-use Rattle.tcp_machine.specs.Segments.{occupies_sequence_space}
-use Rattle.link_client.specs.Client.{AbstractClient, ClientStep, ack_of, after_fin, client_aborts, client_again, client_closes, client_opens, client_takes, has_closed, has_outstanding, hears_ack, is_receiving, is_reset_by, keeps, next_own, one_if, opened_by, own_fin, own_first, own_request, own_reset, sends_next, steps_with, syn_of, takes_by, takes_in_order, takes_text}
-use Rattle.link_client.specs.declared.client_state.ClientState.{ClientState}
+use Rattle.link_world.proofs.Prelude.{◌≡◌, ℕ, ◌+◌, Bool, true, false, not, ◌&&◌, ◌++◌, length, refl, sym, ap, ◌∙◌, Some, eqb, if◌then◌else◌, wrap, PlainSegment, has_syn, has_fin, has_rst, has_ack, occupies_sequence_space, AbstractClient, ClientStep, ack_of, after_fin, client_aborts, client_again, client_closes, client_opens, client_takes, has_closed, has_outstanding, hears_ack, is_receiving, is_reset_by, keeps, next_own, one_if, opened_by, own_fin, own_first, own_request, own_reset, sends_next, steps_with, syn_of, takes_by, takes_in_order, takes_text, ClientState, becomes_opened, choose, and_true, only_some, eqb-eq, not-false}
 use Rattle.link_client.specs.declared.client_state.ClientState.TheVariants as Is
-use Rattle.link_world.specs.World.{becomes_opened}
 use Rattle.link_world.proofs.ClientCases.{of_aborts, of_again, of_closes, of_opens, of_sends}
-use Rattle.uip_node.proofs.Basics.{choose, and_true, only_some, eqb-eq, not-false}
 
 -- how many numbers after the server's SYN it took: the text, and the FIN
 abbrev pub count : AbstractClient → ℕ

@@ -1,36 +1,10 @@
 -- One changed byte: a datagram that passed every check is refused at every address.
 -- [add: fate] A datagram with one changed byte and the further check.
-use Rattle.std.specs.List.{All}
-use Rattle.uip_node.specs.Events.Event.{IcmpRefused, EchoAsked}
-use Rattle.std.specs.Option.{option_map_or}
-use Rattle.std.proofs.Common.{◌≡◌, ◌≢◌, ℕ, zero, suc, ◌+◌, ◌-◌, ◌*◌, ◌%◌, ◌<◌, ◌≤◌, Bool, true, false, not, ◌||◌, ◌⊎◌, inl, inr, List, [], ◌∷◌, ◌++◌, length, take, drop, set, refl, sym, ap, ◌∙◌, subst, arith, Option, Some, None, Result, Ok, Err, slice_index, length-append, length-drop, eqb, ltb, bytes_eq, bit_xor, append_assoc, if◌then◌else◌}
-use Rattle.std.proofs.lemmas.Bool.{eqb-true, ne_eqb}
-use Rattle.std.proofs.lemmas.Slice.Eq.{bytes_eq-Decides}
-use Rattle.std.proofs.lemmas.Nat.{xor_of_8}
-use Rattle.std.specs.Int.Bits.{xor_assoc, xor_self, xor_zero_l}
-use Rattle.uip_wire.specs.Addr.{address_at}
-use Rattle.uip_wire.specs.Checksum.{checksum_of}
-use Rattle.uip_wire.specs.Fields.{word_at}
-use Rattle.uip_wire.specs.declared.addr.Addr.{Addr}
-use Rattle.uip_wire.proofs.Folding.{one_byte}
-use Rattle.uip_ipv4.specs.Head.{head_or_fate, head_by, proto_of, IsHeadOf, payload_of}
-use Rattle.uip_ipv4.specs.declared.head.IpHead.{IpHead}
-use Rattle.uip_ipv4.specs.declared.fate.IpFate.{IpFate}
+use Rattle.link_world.proofs.Prelude.{All, IcmpRefused, EchoAsked, option_map_or, ◌≡◌, ◌≢◌, ℕ, zero, suc, ◌+◌, ◌-◌, ◌*◌, ◌%◌, ◌<◌, ◌≤◌, Bool, true, false, not, ◌||◌, ◌⊎◌, inl, inr, List, [], ◌∷◌, ◌++◌, length, take, drop, set, refl, sym, ap, ◌∙◌, subst, arith, Option, Some, None, Result, Ok, Err, slice_index, length-append, length-drop, eqb, ltb, bytes_eq, bit_xor, append_assoc, if◌then◌else◌, eqb-true, ne_eqb, bytes_eq-Decides, xor_of_8, xor_assoc, xor_self, xor_zero_l, address_at, checksum_of, word_at, Addr, one_byte, head_or_fate, head_by, proto_of, IsHeadOf, payload_of, IpHead, IpFate, Proto, Icmp, head_facts, echo_fate, segment_in, segment_or_fate, header_len, pseudo_header, Segment, IsByte, event_of, by_head, by_proto, by_segment, changed, PassesBy, IsWholeDatagram, is_refused, both_ways, choose}
 use Rattle.uip_ipv4.specs.declared.fate.IpFate.TheVariants as Ip
-use Rattle.uip_ipv4.specs.declared.proto.Proto.{Proto}
-use Rattle.uip_ipv4.specs.declared.proto.Proto.TheVariants.{Icmp, Tcp}
-use Rattle.uip_ipv4.proofs.Facts.{head_facts}
-use Rattle.icmp_echo.specs.Echo.{echo_fate}
+use Rattle.uip_ipv4.specs.declared.proto.Proto.TheVariants.{Tcp}
 use Rattle.icmp_echo.specs.declared.fate.IcmpFate.TheVariants as IcmpFate
-use Rattle.tcp_segment.specs.Received.{segment_in, segment_or_fate, header_len}
-use Rattle.tcp_segment.specs.Segments.{pseudo_header}
-use Rattle.tcp_segment.specs.declared.segment.Segment.{Segment}
 use Rattle.tcp_segment.specs.declared.fate.TcpFate.TheVariants as TcpFate
-use Rattle.app_events.specs.Pages.{IsByte}
-use Rattle.uip_node.specs.Edge.{event_of, by_head, by_proto, by_segment}
-use Rattle.link_world.specs.Bytes.{changed}
-use Rattle.link_world.specs.Headline.{PassesBy, IsWholeDatagram, is_refused}
-use Rattle.uip_node.proofs.Basics.{both_ways, choose}
 
 -- a list around one of its bytes
 pub record Around (bytes : List ℕ) (at : ℕ) (other : ℕ) : Type 0 where

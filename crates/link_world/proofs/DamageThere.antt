@@ -1,13 +1,5 @@
 -- Damage in a world that is reached.
-use Rattle.std.proofs.Common.{◌≡◌, ℕ, zero, suc, ◌<◌, ◌≤◌, Bool, List, length, refl, sym, subst, Option, Some}
-use Rattle.app_events.specs.AppSpec.{AppSpec}
-use Rattle.link_world.specs.World.{World, Sent, numbered}
-use Rattle.link_world.specs.Bytes.{sent_bytes, changed}
-use Rattle.link_world.specs.Acts.{does, hands_over}
-use Rattle.link_world.specs.declared.act.Act.{Act}
-use Rattle.link_world.specs.declared.who.Who.{Who}
-use Rattle.link_world.specs.declared.who.Who.TheVariants.{FromNode}
-use Rattle.link_world.specs.Headline.{IsLoss, CountsBy, DamageIsLossThere}
+use Rattle.link_world.proofs.Prelude.{◌≡◌, ℕ, zero, suc, ◌<◌, ◌≤◌, Bool, List, length, refl, sym, subst, Option, Some, AppSpec, World, Sent, numbered, sent_bytes, changed, does, hands_over, Act, Who, FromNode, IsLoss, CountsBy, DamageIsLossThere}
 use Rattle.link_world.proofs.Doing.{damaged}
 use Rattle.link_world.proofs.Loss.{same_world, damage_is_loss}
 use Rattle.link_world.proofs.Runs.{reached_sound}

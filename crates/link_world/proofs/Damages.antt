@@ -1,26 +1,8 @@
 -- If every datagram is sound, damage is a loss.
-use Rattle.std.proofs.Common.{◌≡◌, ℕ, zero, suc, ◌<◌, ◌≤◌, ◌⊎◌, inl, inr, Bool, true, false, List, [], length, refl, sym, ap, subst, arith, Option, Some, None, slice_get, ltb, if◌then◌else◌}
-use Rattle.std.specs.Option.{option_map_or, option_or}
-use Rattle.uip_wire.specs.declared.addr.Addr.{Addr}
-use Rattle.tcp_segment.specs.Segments.{PlainSegment}
-use Rattle.app_events.specs.AppSpec.{AppSpec}
-use Rattle.app_events.specs.Pages.{IsAddr}
-use Rattle.uip_node.specs.Edge.{datagram_to}
-use Rattle.link_world.specs.World.{World, Side, Sent, Content, client_sockets}
-use Rattle.link_world.specs.World.Content.{OfSegment}
-use Rattle.link_world.specs.Bytes.{server_of, client_bytes, node_bytes, bytes_by, sent_bytes, changed}
-use Rattle.link_world.specs.Acts.{does, hands_over, fault_of}
-use Rattle.link_world.specs.declared.act.Act.{Act}
-use Rattle.link_world.specs.declared.step_fault.StepFault.{StepFault}
-use Rattle.link_world.specs.declared.step_fault.StepFault.TheVariants.{NoByte, NoDatagram}
-use Rattle.link_world.specs.declared.who.Who.{Who}
-use Rattle.link_world.specs.declared.who.Who.TheVariants.{FromClient, FromNode, Pinger}
-use Rattle.link_world.specs.Headline.{IsAct, IsLoss, IsWholeDatagram}
-use Rattle.uip_node.proofs.Basics.{ltb-lt}
+use Rattle.link_world.proofs.Prelude.{◌≡◌, ℕ, zero, suc, ◌<◌, ◌≤◌, ◌⊎◌, inl, inr, Bool, true, false, List, [], length, refl, sym, ap, subst, arith, Option, Some, None, slice_get, ltb, if◌then◌else◌, option_map_or, option_or, Addr, PlainSegment, AppSpec, IsAddr, datagram_to, World, Side, Sent, Content, client_sockets, OfSegment, server_of, client_bytes, node_bytes, bytes_by, sent_bytes, changed, does, hands_over, fault_of, Act, StepFault, NoByte, NoDatagram, Who, FromClient, FromNode, Pinger, IsAct, IsLoss, IsWholeDatagram, ltb-lt, IsSoundSegment}
 use Rattle.link_world.proofs.Doing.{damaged}
 use Rattle.link_world.proofs.Harmless.{Harmless}
 use Rattle.link_world.proofs.Loss.{same_world, loses}
-use Rattle.uip_node.proofs.SoundSegments.{IsSoundSegment}
 use Rattle.link_world.proofs.Sound.{IsSoundClient}
 use Rattle.link_world.proofs.SoundWorlds.{SoundSent, SoundWorld}
 use Rattle.link_world.proofs.SoundWorlds.SoundSent.{of_segment, of_ping, of_echo}

@@ -1,14 +1,5 @@
 -- Steps that may fail, and what follows an act or a line.
-use Rattle.std.proofs.Common.{◌≡◌, ℕ, zero, suc, Bool, List, Option, Some, None, Result, Ok, slice_get, refl}
-use Rattle.std.specs.Option.{option_map_or}
-use Rattle.std.specs.Result.{result_map_both}
-use Rattle.link_schedule.specs.Numbers.{◌>>=◌}
-use Rattle.app_events.specs.AppSpec.{AppSpec}
-use Rattle.link_world.specs.Acts.{hands_over}
-use Rattle.link_world.specs.Bytes.{changed, sent_bytes}
-use Rattle.link_world.specs.World.{World, Sent, numbered}
-use Rattle.link_world.specs.Schedule.{BadLine}
-use Rattle.link_world.specs.declared.step_fault.StepFault.{StepFault}
+use Rattle.link_world.proofs.Prelude.{◌≡◌, ℕ, zero, suc, Bool, List, Option, Some, None, Result, Ok, slice_get, refl, option_map_or, result_map_both, ◌>>=◌, AppSpec, hands_over, changed, sent_bytes, World, Sent, numbered, BadLine, StepFault}
 
 -- what holds if there is no value, and of the result if there is one
 pub where_there : {X Y : Type 0} (P : Y → Type 0) (act : X → Y) (o : Option X) (none : Y) → P none → ((x : X) → o ≡ Some x → P (act x)) → P (option_map_or act o none)

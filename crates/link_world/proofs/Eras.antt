@@ -1,34 +1,13 @@
 -- The epochs of a client: how many there are, and that each has one connection.
-use Rattle.std.specs.List.{All}
-use Rattle.std.proofs.Common.{◌≡◌, ℕ, ◌+◌, ◌≤◌, Bool, true, false, List, [], ◌∷◌, ◌++◌, length, replicate, refl, sym, ap, ◌∙◌, subst, arith, Some, slice_get}
-use Rattle.uip_wire.specs.declared.addr.Addr.{Addr}
-use Rattle.tcp_segment.specs.Segments.{has_syn, has_fin, has_rst}
-use Rattle.app_events.specs.AppSpec.{AppSpec}
-use Rattle.app_events.specs.Pages.{Pages, IsPaged, IsNow, IsU32}
-use Rattle.app_events.specs.declared.now.Now.{Now}
-use Rattle.tcp_machine.specs.Connection.{Sockets, Connection, closed, is_live}
-use Rattle.tcp_machine.specs.Segments.{is_plain_syn, syn_ack}
-use Rattle.tcp_machine.specs.Ask.{Outcome, asked}
-use Rattle.tcp_machine.specs.OnSegment.{accepted, on_segment}
-use Rattle.tcp_machine.specs.OnTick.{on_tick}
-use Rattle.link_client.specs.Client.{ClientStep, one_if}
-use Rattle.link_world.specs.World.{World, Side, Sent, PastConnection, client_sockets, is_clean, marked, past_connection_of}
-use Rattle.link_world.specs.History.{Planned, IsPlan, fresh_side, initial_world}
-use Rattle.uip_node.specs.Laws.{serving}
-use Rattle.link_world.specs.Headline.{IsReached, server_side}
-use Rattle.link_world.specs.Times.{IsLater, OneConnection, EpochsAreFew}
-use Rattle.uip_node.proofs.Steadiness.{steady_of}
+use Rattle.link_world.proofs.Prelude.{All, ◌≡◌, ℕ, ◌+◌, ◌≤◌, Bool, true, false, List, [], ◌∷◌, ◌++◌, length, replicate, refl, sym, ap, ◌∙◌, subst, arith, Some, slice_get, Addr, has_syn, has_fin, has_rst, AppSpec, Pages, IsPaged, IsNow, IsU32, Now, Sockets, Connection, closed, is_live, is_plain_syn, syn_ack, Outcome, asked, accepted, on_segment, on_tick, ClientStep, one_if, World, Side, Sent, PastConnection, client_sockets, is_clean, marked, past_connection_of, Planned, IsPlan, fresh_side, initial_world, serving, IsReached, server_side, IsLater, OneConnection, EpochsAreFew, steady_of, FitConn, asked_moves, segment_moves, tick_moves, none_serves, get_map, serving_free}
 use Rattle.link_world.proofs.Good.{seg, from, to}
-use Rattle.uip_node.proofs.Fits.{FitConn}
 use Rattle.link_world.proofs.Rounds.{one_longer}
 use Rattle.link_world.proofs.Runs.{reached, reached_on}
 use Rattle.link_world.proofs.Views.{length_push}
-use Rattle.uip_node.proofs.Moves.{asked_moves, segment_moves, tick_moves}
 use Rattle.link_world.proofs.Any.{Framed, Steps, Refines, any_step, older, model, entry, does_framed}
 use Rattle.link_world.proofs.TextNumbers.{Num, accepted_num, closed_num, segment_num, tick_num}
 use Rattle.link_world.proofs.Prefix.{everywhere}
 use Rattle.link_world.proofs.Prefix
-use Rattle.uip_node.proofs.Connections.{none_serves, get_map, serving_free}
 
 small : (b : Bool) → one_if b ≤ 1
 small true = omega arith

@@ -1,54 +1,23 @@
 -- One segment, and what is acknowledged, beside Prefix and whole and Same bytes.
-use Rattle.std.specs.List.{All}
-use Rattle.std.proofs.Common.{◌≡◌, ℕ, ◌+◌, ◌<◌, ◌≤◌, Bool, true, false, not, ◌&&◌, inl, inr, List, [], ◌∷◌, ◌++◌, length, drop, refl, sym, ap, ◌∙◌, subst, arith, Option, Some, None, slice_get, eqb, ltb, length-append, length-take, if◌then◌else◌}
-use Rattle.uip_wire.specs.Numbers.{wrap}
-use Rattle.uip_wire.specs.declared.addr.Addr.{Addr}
-use Rattle.tcp_segment.specs.Segments.{PlainSegment, has_syn, has_fin, has_rst, has_ack}
-use Rattle.app_events.specs.AppSpec.{Snapshot, AppSpec}
-use Rattle.app_events.specs.Pages.{Pages, IsSnapshot, IsNow, IsU32}
-use Rattle.app_events.specs.declared.now.Now.{Now}
-use Rattle.app_events.specs.declared.state.State.{State}
-use Rattle.app_events.specs.declared.state.State.TheVariants.{Closed, SynRcvd, Established, CloseWait, FinWait1, FinWait2, Closing, TimeWait, LastAck}
-use Rattle.tcp_machine.specs.Connection.{Sockets, Connection, closed, is_live, snd_una}
-use Rattle.tcp_machine.specs.Segments.{occupies_sequence_space, is_plain_syn, is_again, syn_ack}
-use Rattle.tcp_machine.specs.Ask.{Outcome, asked}
-use Rattle.tcp_machine.specs.OnSegment.{accepted, is_acked, on_segment}
-use Rattle.tcp_machine.specs.OnTick.{on_tick}
-use Rattle.link_client.specs.Client.{AbstractClient, ClientStep, has_closed, is_receiving, one_if, client_takes, client_opens, client_again, client_closes, client_aborts, advertises_window}
-use Rattle.link_client.specs.declared.client_state.ClientState.{ClientState}
+use Rattle.link_world.proofs.Prelude.{All, ◌≡◌, ℕ, ◌+◌, ◌<◌, ◌≤◌, Bool, true, false, not, ◌&&◌, inl, inr, List, [], ◌∷◌, ◌++◌, length, drop, refl, sym, ap, ◌∙◌, subst, arith, Option, Some, None, slice_get, eqb, ltb, length-append, length-take, if◌then◌else◌, wrap, Addr, PlainSegment, has_syn, has_fin, has_rst, has_ack, Snapshot, AppSpec, Pages, IsSnapshot, IsNow, IsU32, Now, State, Closed, SynRcvd, Established, CloseWait, FinWait1, FinWait2, Closing, TimeWait, LastAck, Sockets, Connection, closed, is_live, snd_una, occupies_sequence_space, is_plain_syn, is_again, syn_ack, Outcome, asked, accepted, is_acked, on_segment, on_tick, AbstractClient, ClientStep, has_closed, is_receiving, one_if, client_takes, client_opens, client_again, client_closes, client_aborts, advertises_window, ClientState, client_sockets, World, Side, Sent, PastConnection, becomes_opened, with_client, marked, is_clean, past_connection_of, era, Planned, IsPlan, initial_world, IsReached, IsReachedPlainly, IsInStep, OneSegment, server_side, and_true, eqb-eq, same_place, wrap_wrap, get_push, nothing_placed, not-true, older, newest, FitConn, FitOut, on_segment_fits, on_tick_fits, Safe, SafeState, IsDue, due, OutTold, segment_tells, tick_tells, Moves, asked_moves, segment_moves, tick_moves, DeliveredBytes, does, Act, HasBytes, IsSteady, asked_lens, on_segment_lens, on_tick_lens, stepped_fits, stepped_tells}
 use Rattle.link_client.specs.declared.client_state.ClientState.TheVariants as Is
-use Rattle.link_world.specs.World.{client_sockets, World, Side, Sent, PastConnection, becomes_opened, with_client, marked, is_clean, past_connection_of}
-use Rattle.link_world.specs.History.{era, Planned, IsPlan, initial_world}
-use Rattle.link_world.specs.Headline.{IsReached, IsReachedPlainly, IsInStep, OneSegment, server_side}
-use Rattle.uip_node.proofs.Basics.{and_true, eqb-eq, same_place, wrap_wrap, get_push, nothing_placed, not-true}
-use Rattle.uip_node.proofs.Basics.AtEnd.{older, newest}
 use Rattle.link_world.proofs.Speaking.{Speaker}
 use Rattle.link_world.proofs.Good.{seg, segment_in, from, to, ToGood, ClientSaid, NodeSaid, OpenedGood, HasOpened, Good, is_unasked, unopened}
 use Rattle.link_world.proofs.Good.NodeSaid.{node_reset, node_syn, node_ack, node_text, node_fin}
 use Rattle.link_world.proofs.Good.ClientSaid.{said_reset, said_syn, said_data}
 use Rattle.link_world.proofs.Views.{era_now, first_live, first_dead}
-use Rattle.uip_node.proofs.Fits.{FitConn, FitOut, on_segment_fits, on_tick_fits}
-use Rattle.uip_node.proofs.Told.{Safe, SafeState, IsDue, due, OutTold, segment_tells, tick_tells}
-use Rattle.uip_node.proofs.Moves.{Moves, asked_moves, segment_moves, tick_moves}
 use Rattle.link_world.proofs.Counts.{count, Kind, Counted, Idles, Acks, client_counted, opens_idles, again_idles, closes_idles, aborts_idles, idles_quiet, same_becomes}
 use Rattle.link_world.proofs.Counts.Kind.{kept, took_text, took_open}
 use Rattle.link_world.proofs.Sides.{clean_before}
 use Rattle.link_world.proofs.Runs.{reached_plainly, reached_where, room_plainly, room_where}
 use Rattle.link_world.proofs.Room.{HasRoom}
 use Rattle.link_world.proofs.SaidBytes.{SaysBytesWhere, pages_say_bytes}
-use Rattle.uip_node.proofs.DeliveredBytes.{DeliveredBytes}
 use Rattle.link_world.proofs.Harmless.{Harmless}
 use Rattle.link_world.proofs.FitWorlds.{FitWorld}
-use Rattle.link_world.specs.Acts.{does}
-use Rattle.link_world.specs.declared.act.Act.{Act}
-use Rattle.uip_node.specs.Laws.{HasBytes}
-use Rattle.uip_node.specs.Steady.{IsSteady}
 use Rattle.link_world.proofs.Any.{Framed, Steps, Refines, model, entry, does_framed}
 use Rattle.link_world.proofs.Any
 use Rattle.link_world.proofs.Same.{Any_low, near_by}
 use Rattle.link_world.proofs.Same
-use Rattle.uip_node.proofs.SoundSegments.{asked_lens, on_segment_lens, on_tick_lens}
-use Rattle.uip_node.proofs.Stepped.{stepped_fits, stepped_tells}
 use Rattle.link_world.proofs.Prefix.{AtPorts, everywhere}
 use Rattle.link_world.proofs.Prefix
 

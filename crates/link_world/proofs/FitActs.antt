@@ -1,27 +1,9 @@
 -- The acts preserve what holds of all connections and clients.
-use Rattle.std.specs.List.{All}
-use Rattle.std.proofs.Common.{◌≤◌, ℕ, suc, Bool, List, [], ◌∷◌, length, map, refl, sym, subst, Some}
-use Rattle.app_events.specs.AppSpec.{AppSpec}
-use Rattle.uip_node.specs.Steady.{IsSteady}
-use Rattle.app_events.specs.Pages.{IsU32}
-use Rattle.tcp_machine.specs.Connection.{Connection}
-use Rattle.uip_node.specs.Events.Event.{Arrived, EchoAsked, Periodic}
-use Rattle.uip_node.specs.Events.Answer.{EchoReplied}
-use Rattle.uip_node.specs.Events.Reply.{Echo}
-use Rattle.uip_node.specs.Node.{remembers}
-use Rattle.link_client.specs.Client.{AbstractClient, ClientStep, client_takes, client_opens, client_again, client_closes, client_aborts, advertises_window}
-use Rattle.link_world.specs.World.{World, Sent, Content, client_sockets, client_stepped, delivers, marked, node_handles, with_side}
-use Rattle.link_world.specs.World.Content.{OfSegment, OfPing, OfEcho}
-use Rattle.link_world.specs.Acts.{client_acts, handles_all, does}
-use Rattle.link_world.specs.declared.act.Act.{Act}
-use Rattle.link_world.specs.declared.who.Who.{Who}
-use Rattle.link_world.specs.declared.who.Who.TheVariants.{FromClient, FromNode, Pinger}
-use Rattle.link_world.specs.Headline.{IsLoss}
+use Rattle.link_world.proofs.Prelude.{All, ◌≤◌, ℕ, suc, Bool, List, [], ◌∷◌, length, map, refl, sym, subst, Some, AppSpec, IsSteady, IsU32, Connection, Arrived, EchoAsked, Periodic, EchoReplied, Echo, remembers, AbstractClient, ClientStep, client_takes, client_opens, client_again, client_closes, client_aborts, advertises_window, World, Sent, Content, client_sockets, client_stepped, delivers, marked, node_handles, with_side, OfSegment, OfPing, OfEcho, client_acts, handles_all, does, Act, Who, FromClient, FromNode, Pinger, IsLoss, FitConns}
 use Rattle.link_world.proofs.Doing.{at_number}
 use Rattle.link_world.proofs.Harmless.{Harmless}
 use Rattle.link_world.proofs.Setups.{SameSetup, takes_setup, opens_setup, again_setup, closes_setup, aborts_setup}
 use Rattle.link_world.proofs.FitWorlds.{FitWorld, FitSides, put_fits, client_fits, arrival_fits, periodic_fits, still_world}
-use Rattle.uip_node.proofs.FitNodes.{FitConns}
 
 pub loss_fits : (w v : World) → IsLoss w v → FitWorld w → FitWorld v
 loss_fits w v l f = record {

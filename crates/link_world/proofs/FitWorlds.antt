@@ -1,26 +1,5 @@
 -- The whole world: every connection and every past connection has captures of snapshots alone, and clients have addresses.
-use Rattle.std.specs.List.{All}
-use Rattle.std.proofs.Common.{◌≡◌, ℕ, zero, suc, ◌<◌, Bool, false, List, [], ◌∷◌, ◌++◌, length, get_or, refl, sym, ap, ◌∙◌, subst, Option, Some, None, slice_get, position, ltb}
-use Rattle.tcp_segment.specs.Segments.{PlainSegment}
-use Rattle.app_events.specs.AppSpec.{AppSpec}
-use Rattle.uip_node.specs.Steady.{IsSteady}
-use Rattle.app_events.specs.Pages.{IsSnapshot, IsAddr}
-use Rattle.tcp_machine.specs.Connection.{Sockets, Connection, closed, serves, same_sockets}
-use Rattle.tcp_machine.specs.OnTick.{on_tick}
-use Rattle.uip_node.specs.Events.{Reply}
-use Rattle.uip_node.specs.Events.Event.{Arrived, Periodic}
-use Rattle.uip_node.specs.Events.Reply.{Echo, Tcp}
-use Rattle.uip_node.specs.Node.{AbstractNode, NodeStep, snapshot, connection_in, step}
-use Rattle.link_client.specs.Client.{ClientStep}
-use Rattle.link_world.specs.World.{World, Side, PastConnection, Content, client_sockets, retires, retires_in, addressed, posts, posts_reply, node_stepped, node_handles, with_client, with_side, posts_of_client, client_stepped, past_connection_of}
-use Rattle.link_world.specs.declared.who.Who.{Who}
-use Rattle.link_world.specs.declared.who.Who.TheVariants.{FromNode}
-use Rattle.link_world.specs.History.{era}
-use Rattle.uip_node.proofs.Basics.{choose}
-use Rattle.uip_node.proofs.Connections.{get_map, get_set}
-use Rattle.uip_node.proofs.Connections.Written.{here, there}
-use Rattle.uip_node.proofs.Fits.{FitConn, all_nil, asked_fits, on_tick_fits}
-use Rattle.uip_node.proofs.FitNodes.{FitNode, FitStep, index_fits, node_snapshot, still_fits, happened_fits, arrives_fits}
+use Rattle.link_world.proofs.Prelude.{All, ◌≡◌, ℕ, zero, suc, ◌<◌, Bool, false, List, [], ◌∷◌, ◌++◌, length, get_or, refl, sym, ap, ◌∙◌, subst, Option, Some, None, slice_get, position, ltb, PlainSegment, AppSpec, IsSteady, IsSnapshot, IsAddr, Sockets, Connection, closed, serves, same_sockets, on_tick, Reply, Arrived, Periodic, Echo, Tcp, AbstractNode, NodeStep, snapshot, connection_in, step, ClientStep, World, Side, PastConnection, Content, client_sockets, retires, retires_in, addressed, posts, posts_reply, node_stepped, node_handles, with_client, with_side, posts_of_client, client_stepped, past_connection_of, Who, FromNode, era, choose, get_map, get_set, here, there, FitConn, all_nil, asked_fits, on_tick_fits, FitNode, FitStep, index_fits, node_snapshot, still_fits, happened_fits, arrives_fits}
 
 abbrev pub FitPast : List PastConnection → Type 0
 FitPast history = (n : ℕ) → All IsSnapshot (get_or history n (past_connection_of closed)).captures

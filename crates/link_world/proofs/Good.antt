@@ -1,24 +1,7 @@
 -- What holds of one client and of the connection that serves it, as long as the client is clean.
 -- [add: state] A case of each invariant, here and in some fifteen files of this folder; docs/LINK_THEOREM.md names them.
-use Rattle.std.proofs.Common.{◌≡◌, ℕ, suc, ◌+◌, ◌<◌, ◌≤◌, Bool, true, false, List, [], ◌++◌, length, Option, Some, None, slice_get, refl, if◌then◌else◌}
-use Rattle.uip_wire.specs.Numbers.{wrap}
-use Rattle.tcp_segment.specs.Segments.{PlainSegment, has_syn, has_fin, has_rst, has_ack}
-use Rattle.app_events.specs.AppSpec.{Snapshot, AppSpec}
-use Rattle.app_events.specs.Laws.{IsPrefixOf}
-use Rattle.app_events.specs.declared.state.State.{State}
-use Rattle.app_events.specs.declared.state.State.TheVariants.{Closed, SynRcvd, Established, CloseWait, FinWait1, FinWait2, Closing, TimeWait, LastAck}
-use Rattle.tcp_machine.specs.Connection.{Connection, is_live}
-use Rattle.tcp_machine.specs.Segments.{segment_of}
-use Rattle.tcp_machine.specs.Ask.{Outcome}
-use Rattle.link_client.specs.Client.{AbstractClient, ClientStep, is_receiving, has_closed, own_first}
-use Rattle.link_client.specs.declared.client_state.ClientState.{ClientState}
+use Rattle.link_world.proofs.Prelude.{◌≡◌, ℕ, suc, ◌+◌, ◌<◌, ◌≤◌, Bool, true, false, List, [], ◌++◌, length, Option, Some, None, slice_get, refl, if◌then◌else◌, wrap, PlainSegment, has_syn, has_fin, has_rst, has_ack, Snapshot, AppSpec, IsPrefixOf, State, Closed, SynRcvd, Established, CloseWait, FinWait1, FinWait2, Closing, TimeWait, LastAck, Connection, is_live, segment_of, Outcome, AbstractClient, ClientStep, is_receiving, has_closed, own_first, ClientState, Sent, Content, PastConnection, becomes_opened, OfSegment, OfPing, OfEcho, Who, FromClient, FromNode, era, IsPart}
 use Rattle.link_client.specs.declared.client_state.ClientState.TheVariants as Is
-use Rattle.link_world.specs.World.{Sent, Content, PastConnection, becomes_opened}
-use Rattle.link_world.specs.World.Content.{OfSegment, OfPing, OfEcho}
-use Rattle.link_world.specs.declared.who.Who.{Who}
-use Rattle.link_world.specs.declared.who.Who.TheVariants.{FromClient, FromNode}
-use Rattle.link_world.specs.History.{era}
-use Rattle.uip_node.proofs.Basics.{IsPart}
 use Rattle.link_world.proofs.Speaking.{Speaker}
 
 abbrev pub is_some : Option ℕ → Bool

@@ -1,26 +1,5 @@
 -- Acts only add datagrams, a client that has sent is never idle again, and every client stays as planned.
-use Rattle.std.proofs.Common.{◌≡◌, ℕ, zero, suc, ◌≤◌, Bool, false, List, [], ◌∷◌, length, map, set, Option, Some, None, slice_get, refl, sym, ap, ◌∙◌, arith}
-use Rattle.std.proofs.lemmas.Option.{slice_get-map}
-use Rattle.std.specs.Prelude.{option_map}
-use Rattle.app_events.specs.AppSpec.{AppSpec}
-use Rattle.tcp_segment.specs.Segments.{PlainSegment}
-use Rattle.tcp_machine.specs.Connection.{Connection, same_sockets}
-use Rattle.uip_node.specs.Counters.{ticks_of}
-use Rattle.uip_node.specs.Events.{Event, Reply, tick}
-use Rattle.uip_node.specs.Edge.{event_of}
-use Rattle.uip_node.specs.Events.Event.{Arrived, EchoAsked}
-use Rattle.uip_node.specs.Events.Reply.{Echo, Tcp}
-use Rattle.uip_node.specs.Node.{NodeStep, step}
-use Rattle.link_client.specs.Client.{AbstractClient, ClientStep, client_takes, keeps, advertises_window, client_opens, client_again, client_closes, client_aborts}
-use Rattle.link_world.specs.Acts.{client_acts, does, handed, handles_all, hands_over, is_idle, state_at}
-use Rattle.link_world.specs.Bytes.{changed, hears_datagram, ping_from, sent_bytes}
-use Rattle.link_world.specs.World.{Content, Sent, Side, World, retires, retires_in, client_sockets, client_stepped, delivers, epoch_of, marked, node_handles, node_stepped, posts, posts_of_client, posts_reply, with_client, with_side}
-use Rattle.link_world.specs.World.Content.{OfSegment, OfPing, OfEcho}
-use Rattle.link_world.specs.History.{planned_of}
-use Rattle.link_world.specs.declared.act.Act.{Act}
-use Rattle.link_world.specs.declared.who.Who.{Who}
-use Rattle.link_world.specs.declared.who.Who.TheVariants.{FromClient, FromNode, Pinger}
-use Rattle.uip_node.proofs.Basics.{choose}
+use Rattle.link_world.proofs.Prelude.{◌≡◌, ℕ, zero, suc, ◌≤◌, Bool, false, List, [], ◌∷◌, length, map, set, Option, Some, None, slice_get, refl, sym, ap, ◌∙◌, arith, slice_get-map, option_map, AppSpec, PlainSegment, Connection, same_sockets, ticks_of, Event, Reply, tick, event_of, Arrived, EchoAsked, Echo, Tcp, NodeStep, step, AbstractClient, ClientStep, client_takes, keeps, advertises_window, client_opens, client_again, client_closes, client_aborts, client_acts, does, handed, handles_all, hands_over, is_idle, state_at, changed, hears_datagram, ping_from, sent_bytes, Content, Sent, Side, World, retires, retires_in, client_sockets, client_stepped, delivers, epoch_of, marked, node_handles, node_stepped, posts, posts_of_client, posts_reply, with_client, with_side, OfSegment, OfPing, OfEcho, planned_of, Act, Who, FromClient, FromNode, Pinger, choose}
 use Rattle.link_world.proofs.Doing.{at_number, where_there}
 use Rattle.link_world.proofs.Rounds.{one_longer}
 use Rattle.link_world.proofs.Setups.{Keeps, again_keeps, aborts_keeps, closes_keeps, opens_keeps, planned_by, takes_keeps}

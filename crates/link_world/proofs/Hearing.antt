@@ -1,21 +1,6 @@
 -- A client's code receives in a datagram what the world defines.
-use Rattle.std.specs.Prelude.{ℕ, List, Option, Some, None, Result, Ok, Err, take}
-use Rattle.std.specs.Option.{option_map_or}
-use Rattle.std.proofs.Common.{◌≡◌, refl}
-use Rattle.uip_ipv4.specs.Head.{head_or_fate, payload_of}
-use Rattle.uip_ipv4.specs.declared.fate.IpFate.{IpFate}
-use Rattle.uip_ipv4.specs.declared.head.IpHead.{IpHead}
-use Rattle.uip_ipv4.specs.declared.proto.Proto.{Proto}
-use Rattle.uip_ipv4.specs.declared.proto.Proto.TheVariants.{Icmp, Tcp}
-use Rattle.icmp_echo.specs.Echo.{echo_fate}
-use Rattle.icmp_echo.specs.declared.fate.IcmpFate.{IcmpFate}
-use Rattle.tcp_segment.specs.Received.{segment_or_fate}
-use Rattle.tcp_segment.specs.declared.fate.TcpFate.{TcpFate}
-use Rattle.tcp_segment.specs.declared.segment.Segment.{Segment}
-use Rattle.uip_node.specs.Events.Event.{EchoAsked, IcmpRefused}
-use Rattle.uip_node.specs.Edge.{by_head, by_proto, by_segment}
-use Rattle.link_client.specs.declared.setup.Setup.{Setup}
-use Rattle.link_client.specs.Calls.{heard_in, heard_by_proto, heard_by_head, client_hears}
+use Rattle.link_world.proofs.Prelude.{ℕ, List, Option, Some, None, Result, Ok, Err, take, option_map_or, ◌≡◌, refl, head_or_fate, payload_of, IpFate, IpHead, Proto, Icmp, echo_fate, IcmpFate, segment_or_fate, TcpFate, Segment, EchoAsked, IcmpRefused, by_head, by_proto, by_segment, Setup, heard_in, heard_by_proto, heard_by_head, client_hears}
+use Rattle.uip_ipv4.specs.declared.proto.Proto.TheVariants.{Tcp}
 use Rattle.link_world.specs.Bytes.{heard_by, hears_datagram as world_hears}
 
 of_segment : (setup : Setup) (head : IpHead) (bytes : List ℕ) (r : Result Segment TcpFate) → heard_in setup head bytes r ≡ heard_by setup (by_segment head bytes r)

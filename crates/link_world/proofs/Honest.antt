@@ -1,32 +1,8 @@
 -- One client over a link that loses nothing has its whole page.
-use Rattle.std.specs.List.{All}
-use Rattle.std.proofs.Common.{◌≡◌, ℕ, zero, suc, ◌+◌, ◌-◌, ◌*◌, ◌<◌, ◌≤◌, min, Bool, true, inr, List, [], ◌∷◌, ◌++◌, length, replicate, refl, sym, ap, ◌∙◌, subst, arith, Some, None, Ok, slice_get}
-use Rattle.std.proofs.Math.Nat.{suc-mul}
-use Rattle.uip_wire.specs.Numbers.{wrap}
-use Rattle.uip_wire.specs.declared.addr.Addr.{Addr}
-use Rattle.app_events.specs.AppSpec.{AppState, AppSpec}
-use Rattle.app_events.specs.Pages.{Pages, IsPaged, IsU32, IsAddr}
-use Rattle.app_events.specs.declared.state.State.TheVariants.{SynRcvd}
-use Rattle.tcp_machine.specs.Connection.{Connection}
-use Rattle.tcp_machine.specs.OnSegment.{first_mss}
-use Rattle.tcp_segment.specs.Segments.{PlainSegment}
-use Rattle.uip_node.specs.Counters.{ticks_of}
-use Rattle.uip_node.specs.Node.{AbstractNode, initial_node}
-use Rattle.link_client.specs.Client.{AbstractClient, offered, syn_of, opens_by}
+use Rattle.link_world.proofs.Prelude.{All, ◌≡◌, ℕ, zero, suc, ◌+◌, ◌-◌, ◌*◌, ◌<◌, ◌≤◌, min, Bool, true, inr, List, [], ◌∷◌, ◌++◌, length, replicate, refl, sym, ap, ◌∙◌, subst, arith, Some, None, Ok, slice_get, suc-mul, wrap, Addr, AppState, AppSpec, Pages, IsPaged, IsU32, IsAddr, SynRcvd, Connection, first_mss, PlainSegment, ticks_of, AbstractNode, initial_node, AbstractClient, offered, syn_of, opens_by, FinAt, Setup, World, Side, Sent, plays_line, plays_from, plays, Planned, IsPlanned, IsPlan, initial_world, Opens, Round, IsAct, IsPlainAct, OfLine, IsSchedulePlayed, IsServed, AnswersIn, IsServedWhole, HonestLink, wrap_wrap, FitConn, all_nil, all_cons}
 use Rattle.link_client.specs.declared.client_state.ClientState.TheVariants as Is
-use Rattle.link_client.specs.declared.fin_at.FinAt.{FinAt}
-use Rattle.link_client.specs.declared.setup.Setup.{Setup}
-use Rattle.link_world.specs.World.{World, Side, Sent}
-use Rattle.link_world.specs.Schedule.{plays_line, plays_from, plays}
-use Rattle.link_world.specs.History.{Planned, IsPlanned, IsPlan, initial_world}
 use Rattle.link_schedule.specs.declared.event.Event.{Event}
-use Rattle.link_schedule.specs.declared.event.Event.TheVariants.{Opens, Round}
-use Rattle.link_world.specs.Headline.{IsAct, IsPlainAct, OfLine, IsSchedulePlayed, IsServed}
-use Rattle.uip_node.specs.Answering.{AnswersIn}
-use Rattle.link_world.specs.Honest.{IsServedWhole, HonestLink}
 use Rattle.link_world.proofs.Doing.{goes_on_with}
-use Rattle.uip_node.proofs.Basics.{wrap_wrap}
-use Rattle.uip_node.proofs.Fits.{FitConn, all_nil, all_cons}
 use Rattle.link_world.proofs.Prefix.{prefix_and_whole}
 use Rattle.link_world.proofs.Lines.{lines_are_acts}
 use Rattle.link_world.proofs.Rounds.{only_side, under_way}

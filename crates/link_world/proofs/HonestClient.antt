@@ -1,17 +1,7 @@
 -- A client at the other end of a link that loses nothing: what it does at each segment of the node.
-use Rattle.std.proofs.Common.{◌≡◌, ℕ, ◌+◌, ◌-◌, ◌<◌, ◌≤◌, min, Bool, true, false, if◌then◌else◌, not, ◌&&◌, ◌||◌, inl, inr, List, [], ◌++◌, length, take, drop, refl, sym, ap, ◌∙◌, subst, arith, Some, None, eqb, ltb}
-use Rattle.std.proofs.lemmas.Bool.{le-ltb, lt-ltb, cases_lt, eq-eqb}
-use Rattle.uip_wire.specs.Numbers.{wrap}
-use Rattle.tcp_segment.specs.declared.flags.TheConstants.{FIN, SYN, PSH, ACK}
-use Rattle.tcp_segment.specs.Segments.{PlainSegment, has_fin, has_rst, has_ack}
-use Rattle.tcp_machine.specs.Segments.{occupies_sequence_space}
-use Rattle.link_client.specs.Client.{AbstractClient, ClientStep, sends_next, hears_ack, takes_text, takes_in_order, takes_by, client_takes, own_request, ack_of, own_fin, next_own, has_outstanding, keeps}
+use Rattle.link_world.proofs.Prelude.{◌≡◌, ℕ, ◌+◌, ◌-◌, ◌<◌, ◌≤◌, min, Bool, true, false, if◌then◌else◌, not, ◌&&◌, ◌||◌, inl, inr, List, [], ◌++◌, length, take, drop, refl, sym, ap, ◌∙◌, subst, arith, Some, None, eqb, ltb, le-ltb, lt-ltb, cases_lt, eq-eqb, wrap, FIN, SYN, PSH, ACK, PlainSegment, has_fin, has_rst, has_ack, occupies_sequence_space, AbstractClient, ClientStep, sends_next, hears_ack, takes_text, takes_in_order, takes_by, client_takes, own_request, ack_of, own_fin, next_own, has_outstanding, keeps, ClientState, Opening, Opened, FinAt, Setup, zero_or_more, ltb-yes, choose}
 use Rattle.link_client.specs.Client as client
-use Rattle.link_client.specs.declared.client_state.ClientState.{ClientState}
-use Rattle.link_client.specs.declared.client_state.ClientState.TheVariants.{Opening, Opened, Closed}
-use Rattle.link_client.specs.declared.fin_at.FinAt.{FinAt}
-use Rattle.link_client.specs.declared.setup.Setup.{Setup}
-use Rattle.uip_node.proofs.Basics.{zero_or_more, ltb-yes, choose}
+use Rattle.link_client.specs.declared.client_state.ClientState.TheVariants.{Closed}
 
 module _ (setup : Setup) (request : List ℕ) where
   -- a client of the plan, at some point of its life

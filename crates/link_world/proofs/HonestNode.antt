@@ -1,47 +1,7 @@
 -- The node at the other end of a link that loses nothing: one connection, which sends at each segment of its client what the
 -- application has to send next.
-use Rattle.std.specs.List.{All, position_from}
-use Rattle.std.specs.Prelude.{option_map}
-use Rattle.std.specs.Option.{option_map_or}
-use Rattle.std.proofs.Common.{◌≡◌, ℕ, zero, suc, ◌+◌, ◌<◌, ◌≤◌, min, Bool, true, false, if◌then◌else◌, cond, not, ◌&&◌, ◌⊎◌, inl, inr, List, [], ◌∷◌, ◌++◌, length, take, drop, replicate, refl, sym, ap, ◌∙◌, subst, arith, Option, Some, None, eqb, ltb, position, slice_get}
-use Rattle.std.proofs.lemmas.Bool.{eq-eqb, cases_lt}
-use Rattle.std.proofs.lemmas.List.{take-append-drop, take_all}
-use Rattle.std.proofs.Math.Seq.{take-add}
-use Rattle.std.proofs.lemmas.Iterator.Adapters.{position_from-zero}
-use Rattle.uip_wire.specs.Numbers.{wrap}
-use Rattle.uip_wire.specs.declared.addr.Addr.{Addr}
-use Rattle.tcp_segment.specs.declared.flags.TheConstants.{FIN, PSH, ACK}
-use Rattle.tcp_segment.specs.Segments.{PlainSegment, has_fin, has_rst, has_ack}
-use Rattle.app_events.specs.AppSpec.{AppState, After, AppSpec, text_left}
-use Rattle.app_events.specs.Pages.{Pages, IsPaged, IsU32, IsNow, MayWant}
-use Rattle.app_events.specs.declared.now.Now.{Now}
-use Rattle.app_events.specs.declared.ending.Ending.TheVariants.{Reset}
-use Rattle.app_events.specs.declared.state.State.{State}
-use Rattle.app_events.specs.declared.state.State.TheVariants.{SynRcvd, Established, FinWait1, FinWait2, TimeWait}
-use Rattle.app_events.specs.declared.want.Want.{Want}
-use Rattle.app_events.specs.declared.want.Want.TheVariants.{Nothing, Send, Close, Abort}
-use Rattle.tcp_machine.specs.Connection.{Sockets, Connection, closed, is_live, serves, same_sockets, snd_una, rcv_nxt}
-use Rattle.tcp_machine.specs.Segments.{occupies_sequence_space, segment_of, is_again}
-use Rattle.tcp_machine.specs.Ask.{Outcome, leaves, closes, idles, does_as_wanted, ask, asked}
-use Rattle.tcp_machine.specs.OnSegment.{first_mss, told_end, peer_closes, is_out_of_order, is_acked, has_text, hears, with_window, stays_established, in_established, fin_acked, by_state, on_segment}
-use Rattle.tcp_machine.specs.declared.step.Step.{Step}
-use Rattle.uip_node.specs.Events.{Event, HistoryEntry}
-use Rattle.uip_node.specs.Events.Event.{Arrived}
-use Rattle.uip_node.specs.Events.Answer.{Silent, Spoke}
-use Rattle.uip_node.specs.Events.Reply.{Tcp}
-use Rattle.uip_node.specs.Counters.{ident_of, initial_number}
-use Rattle.uip_node.specs.Node.{AbstractNode, NodeStep, initial_node, snapshot, slot_for_syn, opens, passes, refuses, gone_by, happened, opens_in, for_no_connection, arrives_at, arrives}
-use Rattle.link_client.specs.Client.{offered, syn_of}
+use Rattle.link_world.proofs.Prelude.{All, position_from, option_map, option_map_or, ◌≡◌, ℕ, zero, suc, ◌+◌, ◌<◌, ◌≤◌, min, Bool, true, false, if◌then◌else◌, cond, not, ◌&&◌, ◌⊎◌, inl, inr, List, [], ◌∷◌, ◌++◌, length, take, drop, replicate, refl, sym, ap, ◌∙◌, subst, arith, Option, Some, None, eqb, ltb, position, slice_get, eq-eqb, cases_lt, take-append-drop, take_all, take-add, position_from-zero, wrap, Addr, FIN, PSH, ACK, PlainSegment, has_fin, has_rst, has_ack, AppState, After, AppSpec, text_left, Pages, IsPaged, IsU32, IsNow, MayWant, Now, Reset, State, SynRcvd, Established, FinWait1, FinWait2, TimeWait, Want, Nothing, Send, Close, Abort, Sockets, Connection, closed, is_live, serves, same_sockets, snd_una, rcv_nxt, occupies_sequence_space, segment_of, is_again, Outcome, leaves, closes, idles, does_as_wanted, ask, asked, first_mss, told_end, peer_closes, is_out_of_order, is_acked, has_text, hears, with_window, stays_established, in_established, fin_acked, by_state, on_segment, Step, Event, HistoryEntry, Arrived, Silent, Spoke, Tcp, ident_of, initial_number, AbstractNode, NodeStep, initial_node, snapshot, slot_for_syn, opens, passes, refuses, gone_by, happened, opens_in, for_no_connection, arrives_at, arrives, offered, syn_of, FinAt, Setup, GoesOnBy, AnswersIn, steady_of, choose, both_ways, zero_or_more, ltb-yes, cut_length, wrap_wrap, same_self, FitConn, FitOut, snapshot_fits, asked_fits, on_segment_fits, closed_fits, all_closed}
 use Rattle.link_client.specs.declared.client_state.ClientState.TheVariants as Is
-use Rattle.link_client.specs.declared.fin_at.FinAt.{FinAt}
-use Rattle.link_client.specs.declared.setup.Setup.{Setup}
-use Rattle.uip_node.specs.Answering.{GoesOnBy, AnswersIn}
-use Rattle.uip_node.proofs.Steadiness.{steady_of}
-use Rattle.uip_node.proofs.Basics.{choose, both_ways, zero_or_more, ltb-yes, cut_length, wrap_wrap}
-use Rattle.uip_node.proofs.SocketPairs.{same_self}
-use Rattle.uip_node.proofs.Fits.{FitConn, FitOut, snapshot_fits, asked_fits, on_segment_fits}
-use Rattle.uip_node.proofs.FitNodes.{closed_fits}
-use Rattle.uip_node.proofs.Connections.{all_closed}
 use Rattle.link_world.proofs.HonestClient.{client_at, node_says, node_syn_ack, Brings, next_out}
 
 pub mss_low : (o : Option ℕ) → 1 ≤ first_mss o

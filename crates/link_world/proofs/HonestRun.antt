@@ -1,31 +1,8 @@
 -- The run over a link that loses nothing. One datagram is under way at a time. Each time a datagram of the client arrives at the
 -- node, the node accepts a part of the request or a text is acknowledged, so the run ends with the FINs of both.
-use Rattle.std.specs.List.{All}
-use Rattle.std.proofs.Common.{◌≡◌, ℕ, zero, suc, ◌+◌, ◌-◌, ◌*◌, ◌<◌, ◌≤◌, Bool, false, if◌then◌else◌, ◌⊎◌, inl, inr, List, [], ◌∷◌, ◌++◌, length, replicate, refl, sym, ap, ◌∙◌, subst, arith, Option, Some, None, Result, Ok}
-use Rattle.std.proofs.Math.Nat.{suc-mul}
-use Rattle.uip_wire.specs.Numbers.{wrap}
-use Rattle.uip_wire.specs.declared.addr.Addr.{Addr}
-use Rattle.tcp_segment.specs.declared.flags.TheConstants.{FIN, PSH, ACK}
-use Rattle.tcp_segment.specs.Segments.{PlainSegment}
-use Rattle.app_events.specs.AppSpec.{AppState, AppSpec}
-use Rattle.app_events.specs.Pages.{Pages, IsPaged, IsU32}
-use Rattle.app_events.specs.declared.state.State.TheVariants.{Established, FinWait1}
-use Rattle.tcp_machine.specs.Connection.{Connection}
-use Rattle.uip_node.specs.Events.{HistoryEntry}
-use Rattle.uip_node.specs.Events.Reply.{Tcp}
-use Rattle.uip_node.specs.Counters.{ticks_of}
-use Rattle.uip_node.specs.Node.{AbstractNode, arrives}
-use Rattle.link_client.specs.Client.{AbstractClient, own_fin, client_takes}
+use Rattle.link_world.proofs.Prelude.{All, ◌≡◌, ℕ, zero, suc, ◌+◌, ◌-◌, ◌*◌, ◌<◌, ◌≤◌, Bool, false, if◌then◌else◌, ◌⊎◌, inl, inr, List, [], ◌∷◌, ◌++◌, length, replicate, refl, sym, ap, ◌∙◌, subst, arith, Option, Some, None, Result, Ok, suc-mul, wrap, Addr, FIN, PSH, ACK, PlainSegment, AppState, AppSpec, Pages, IsPaged, IsU32, Established, FinWait1, Connection, HistoryEntry, Tcp, ticks_of, AbstractNode, arrives, AbstractClient, own_fin, client_takes, Setup, World, Sent, client_sockets, becomes_opened, plays_line, plays_from, BadLine, Round, FromClient, FromNode, AnswersIn, wrap_wrap, FitConn}
 use Rattle.link_client.specs.declared.client_state.ClientState.TheVariants as Is
-use Rattle.link_client.specs.declared.setup.Setup.{Setup}
-use Rattle.link_world.specs.World.{World, Sent, client_sockets, becomes_opened}
-use Rattle.link_world.specs.Schedule.{plays_line, plays_from, BadLine}
-use Rattle.link_schedule.specs.declared.event.Event.TheVariants.{Round}
-use Rattle.link_world.specs.declared.who.Who.TheVariants.{FromClient, FromNode}
-use Rattle.uip_node.specs.Answering.{AnswersIn}
 use Rattle.link_world.proofs.Doing.{goes_on_with}
-use Rattle.uip_node.proofs.Basics.{wrap_wrap}
-use Rattle.uip_node.proofs.Fits.{FitConn}
 use Rattle.link_world.proofs.Rounds.{only_side, under_way, at_rest, sent_by, one_longer, round_of_none, node_answers, client_answers, client_is_silent}
 use Rattle.link_world.proofs.HonestClient.{open_with, closed_with, next_out, node_says, Brings, SendsNext, goes_on_at_ack, takes_a_text, takes_the_fin, rests_at_ack}
 use Rattle.link_world.proofs.HonestNode.{mss, sockets, conn_at, node_at, takes_fin, Awaits, Says, visits}

@@ -1,11 +1,5 @@
 -- What was sent stays true as captures are taken and the client continues.
-use Rattle.std.proofs.Common.{◌≡◌, ℕ, ◌+◌, ◌≤◌, true, ◌⊎◌, inl, inr, List, [], ◌++◌, length, sym, ap, ◌∙◌, subst, Option, Some}
-use Rattle.uip_wire.specs.Numbers.{wrap}
-use Rattle.tcp_segment.specs.Segments.{PlainSegment}
-use Rattle.app_events.specs.AppSpec.{Snapshot, AppSpec}
-use Rattle.app_events.specs.Laws.{IsPrefixOf}
-use Rattle.link_client.specs.Client.{AbstractClient, own_first}
-use Rattle.uip_node.proofs.Basics.{IsPart, prefix_part, append_nothing}
+use Rattle.link_world.proofs.Prelude.{◌≡◌, ℕ, ◌+◌, ◌≤◌, true, ◌⊎◌, inl, inr, List, [], ◌++◌, length, sym, ap, ◌∙◌, subst, Option, Some, wrap, PlainSegment, Snapshot, AppSpec, IsPrefixOf, AbstractClient, own_first, IsPart, prefix_part, append_nothing}
 use Rattle.link_world.proofs.Speaking.{Speaker, HasOutputModel}
 use Rattle.link_world.proofs.Good.{is_some, IsAll, NodeSaid, ClientSaid}
 use Rattle.link_world.proofs.Good.ClientSaid.{said_reset, said_syn, said_data}

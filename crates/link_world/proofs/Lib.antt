@@ -48,3 +48,4 @@ pub mod Eras
 pub mod Bounds
 pub mod TextNumbers
 pub mod NodeRuns
+mod Prelude

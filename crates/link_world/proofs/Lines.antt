@@ -1,31 +1,9 @@
 -- No act reads the mark, so a list of acts reaches what the lines of a schedule reach.
 -- [add: schedule-line] The list of its acts.
-use Rattle.std.specs.List.{All}
-use Rattle.std.proofs.Common.{◌≡◌, ℕ, zero, suc, ◌+◌, inl, inr, Bool, false, List, [], ◌∷◌, ◌++◌, length, map, flat_map, replicate, reverse, refl, sym, ap, ◌∙◌, arith, Option, Some, None, Result, Ok, Err, ltb, if◌then◌else◌}
-use Rattle.std.proofs.lemmas.List.Elements.{All-append}
-use Rattle.std.specs.Option.{option_map_or, option_or}
-use Rattle.link_schedule.specs.Numbers.{◌>>=◌}
-use Rattle.app_events.specs.AppSpec.{AppSpec}
+use Rattle.link_world.proofs.Prelude.{All, ◌≡◌, ℕ, zero, suc, ◌+◌, inl, inr, Bool, false, List, [], ◌∷◌, ◌++◌, length, map, flat_map, replicate, reverse, refl, sym, ap, ◌∙◌, arith, Option, Some, None, Result, Ok, Err, ltb, if◌then◌else◌, All-append, option_map_or, option_or, ◌>>=◌, AppSpec, EchoAsked, Arrived, Echo, Tcp, event_of, NodeStep, step, AbstractClient, ClientStep, client_takes, client_opens, client_again, client_closes, client_aborts, advertises_window, World, Side, Sent, Content, numbered, retires, posts, posts_reply, node_handles, with_client, with_side, client_stepped, marked, client_sockets, delivers, OfSegment, OfPing, OfEcho, bytes_by, sent_bytes, changed, hears_datagram, acts, client_acts, does, fault_of, handed, handles_all, hands_over, named_fault, needs, runs, past_mark, acts_of, mark_after, plays_from, Act, StepFault, Full, NoByte, NoDatagram, Who, FromClient, FromNode, Pinger, IsAct, IsPlainAct, OfLine, LinesAreActs, all_nil, all_cons}
 use Rattle.uip_node.specs.Events.{Event as NodeEvent, Reply, tick}
-use Rattle.uip_node.specs.Events.Event.{EchoAsked, Arrived}
-use Rattle.uip_node.specs.Events.Reply.{Echo, Tcp}
-use Rattle.uip_node.specs.Edge.{event_of}
-use Rattle.uip_node.specs.Node.{NodeStep, step}
-use Rattle.link_client.specs.Client.{AbstractClient, ClientStep, client_takes, client_opens, client_again, client_closes, client_aborts, advertises_window}
-use Rattle.link_world.specs.World.{World, Side, Sent, Content, numbered, retires, posts, posts_reply, node_handles, with_client, with_side, client_stepped, marked, client_sockets, delivers}
-use Rattle.link_world.specs.World.Content.{OfSegment, OfPing, OfEcho}
-use Rattle.link_world.specs.Bytes.{bytes_by, sent_bytes, changed, hears_datagram}
-use Rattle.link_world.specs.Acts.{acts, client_acts, does, fault_of, handed, handles_all, hands_over, named_fault, needs, runs}
-use Rattle.link_world.specs.Schedule.{past_mark, acts_of, mark_after, plays_from}
-use Rattle.link_world.specs.declared.act.Act.{Act}
 use Rattle.link_schedule.specs.declared.event.Event.{Event}
-use Rattle.link_world.specs.declared.step_fault.StepFault.{StepFault}
-use Rattle.link_world.specs.declared.step_fault.StepFault.TheVariants.{Full, NoByte, NoDatagram}
-use Rattle.link_world.specs.declared.who.Who.{Who}
-use Rattle.link_world.specs.declared.who.Who.TheVariants.{FromClient, FromNode, Pinger}
-use Rattle.link_world.specs.Headline.{IsAct, IsPlainAct, OfLine, LinesAreActs}
 use Rattle.link_world.proofs.Doing.{goes_on_with, with_mark}
-use Rattle.uip_node.proofs.Fits.{all_nil, all_cons}
 
 abbrev at_mark : ℕ → World → World
 at_mark x w = record w { mark = x }

@@ -1,25 +1,6 @@
 -- Damage is a loss: nothing but the node's history changes.
 -- [add: counter] An event that raises the counter.
-use Rattle.std.proofs.Common.{◌≡◌, ℕ, zero, suc, ◌+◌, ◌++◌, ◌<◌, ◌≤◌, ◌==◌, Bool, true, false, if◌then◌else◌, List, ◌∷◌, map, length, refl, sym, ap, ◌∙◌, subst, Option, Some, None}
-use Rattle.std.specs.List.{list_any, range_with_len}
-use Rattle.std.specs.Option.{option_map_or}
-use Rattle.std.proofs.lemmas.List.{append-nil}
-use Rattle.uip_wire.specs.Numbers.{wrap}
-use Rattle.app_events.specs.AppSpec.{AppSpec}
-use Rattle.uip_node.specs.Events.{Event, HistoryEntry}
-use Rattle.uip_node.specs.Events.Answer.{Silent}
-use Rattle.uip_node.specs.Counters.{times, raised_by, raised_by_answer, raises, counters}
-use Rattle.uip_node.specs.Events.Event.{IpRefused, IcmpRefused, TcpRefused}
-use Rattle.uip_node.specs.Edge.{event_of}
-use Rattle.link_client.specs.Client.{client_takes}
-use Rattle.link_client.specs.declared.setup.Setup.{Setup}
-use Rattle.link_world.specs.World.{World, Side, client_stepped, numbered, node_handles}
-use Rattle.link_world.specs.Bytes.{sent_bytes, changed, heard_by}
-use Rattle.link_world.specs.Acts.{hands_over, handed}
-use Rattle.link_world.specs.declared.who.Who.{Who}
-use Rattle.link_world.specs.declared.who.Who.TheVariants.{FromClient, FromNode, Pinger}
-use Rattle.link_world.specs.Headline.{is_refused, rise, IsLoss, OneRefusal, CountsBy, IsWholeDatagram, DamageIsLoss}
-use Rattle.uip_node.proofs.Basics.{wrap_wrap}
+use Rattle.link_world.proofs.Prelude.{◌≡◌, ℕ, zero, suc, ◌+◌, ◌++◌, ◌<◌, ◌≤◌, ◌==◌, Bool, true, false, if◌then◌else◌, List, ◌∷◌, map, length, refl, sym, ap, ◌∙◌, subst, Option, Some, None, list_any, range_with_len, option_map_or, append-nil, wrap, AppSpec, Event, HistoryEntry, Silent, times, raised_by, raised_by_answer, raises, counters, IpRefused, IcmpRefused, TcpRefused, event_of, client_takes, Setup, World, Side, client_stepped, numbered, node_handles, sent_bytes, changed, heard_by, hands_over, handed, Who, FromClient, FromNode, Pinger, is_refused, rise, IsLoss, OneRefusal, CountsBy, IsWholeDatagram, DamageIsLoss, wrap_wrap}
 use Rattle.link_world.proofs.Damage.{damage_refused}
 use Rattle.link_world.proofs.Doing.{damaged}
 

@@ -1,28 +1,5 @@
 -- What holds of every connection of a node, whatever happens to it.
-use Rattle.std.specs.List.{All}
-use Rattle.std.proofs.Common.{◌≡◌, ℕ, zero, suc, ◌<◌, Bool, ◌&&◌, List, [], ◌∷◌, length, position, set, refl, sym, subst, arith, Option, Some, None, slice_get, slice_index_or}
-use Rattle.uip_wire.specs.declared.addr.Addr.{Addr}
-use Rattle.tcp_segment.specs.Segments.{PlainSegment, has_rst}
-use Rattle.app_events.specs.AppSpec.{AppSpec}
-use Rattle.app_events.specs.Pages.{Pages, IsPaged}
-use Rattle.app_events.specs.declared.now.Now.{Now}
-use Rattle.tcp_machine.specs.Connection.{Connection, Sockets, closed, serves}
-use Rattle.tcp_machine.specs.Segments.{is_plain_syn}
-use Rattle.tcp_machine.specs.Ask.{Outcome, asked}
-use Rattle.tcp_machine.specs.OnSegment.{accept, accepted, on_segment}
-use Rattle.tcp_machine.specs.OnTick.{on_tick}
-use Rattle.uip_node.specs.Counters.{initial_number}
-use Rattle.uip_node.specs.Events.{Event}
-use Rattle.uip_node.specs.Events.Event.{IpRefused, IcmpRefused, TcpRefused, EchoAsked, Arrived, Overlong, Periodic}
-use Rattle.uip_node.specs.Node.{AbstractNode, NodeStep, arrives_at, connection_in, for_no_connection, happened, snapshot, initial_node, opens, opens_in, periodic, run, slot_for_syn, step}
-use Rattle.link_world.specs.Nodes.{CapturesFit, IsOfNode, TextNumbers, TextsAreShort}
-use Rattle.uip_node.specs.Laws.{IsEvent}
-use Rattle.uip_node.proofs.Steadiness.{steady_of}
-use Rattle.uip_node.proofs.Basics.{choose}
-use Rattle.uip_node.proofs.Connections.{get_set, set_past, all_closed}
-use Rattle.uip_node.proofs.Connections.Written.{here, there}
-use Rattle.uip_node.proofs.Fits.{FitConn}
-use Rattle.uip_node.proofs.FitNodes.{FitNode, closed_fits, event_fits, position_in}
+use Rattle.link_world.proofs.Prelude.{All, ◌≡◌, ℕ, zero, suc, ◌<◌, Bool, ◌&&◌, List, [], ◌∷◌, length, position, set, refl, sym, subst, arith, Option, Some, None, slice_get, slice_index_or, Addr, PlainSegment, has_rst, AppSpec, Pages, IsPaged, Now, Connection, Sockets, closed, serves, is_plain_syn, Outcome, asked, accept, accepted, on_segment, on_tick, initial_number, Event, IpRefused, IcmpRefused, TcpRefused, EchoAsked, Arrived, Overlong, Periodic, AbstractNode, NodeStep, arrives_at, connection_in, for_no_connection, happened, snapshot, initial_node, opens, opens_in, periodic, run, slot_for_syn, step, CapturesFit, IsOfNode, TextNumbers, TextsAreShort, IsEvent, steady_of, choose, get_set, set_past, all_closed, here, there, FitConn, FitNode, closed_fits, event_fits, position_in}
 use Rattle.link_world.proofs.TextNumbers.{Num, accepted_num, closed_num, segment_num, text_numbers, tick_num}
 
 -- ---- a fact that each step of a connection keeps at the moments of a node

@@ -1,28 +1,11 @@
 -- The parts that hold together of a clean client, from what is known of it.
-use Rattle.std.proofs.Common.{◌≡◌, ℕ, ◌+◌, ◌-◌, ◌<◌, ◌≤◌, ◌⊎◌, inl, inr, Bool, true, false, List, [], ◌++◌, length, take, refl, sym, ap, ◌∙◌, subst, arith, Option, Some, None, is_some}
-use Rattle.std.proofs.Math.Seq.{take-append-add}
-use Rattle.std.proofs.lemmas.Bool.{cases_lt}
-use Rattle.uip_wire.specs.Numbers.{wrap}
-use Rattle.tcp_segment.specs.Segments.{PlainSegment, has_syn, has_fin, has_rst, has_ack}
-use Rattle.app_events.specs.Laws.{IsPrefixOf}
-use Rattle.app_events.specs.Pages.{Pages}
-use Rattle.app_events.specs.declared.state.State.{State}
-use Rattle.app_events.specs.declared.state.State.TheVariants.{Closed, SynRcvd, Established}
-use Rattle.tcp_machine.specs.Connection.{Connection, is_live}
-use Rattle.link_client.specs.Client.{AbstractClient, fin_sent, one_if}
-use Rattle.link_world.specs.World.{Side, PastConnection, Sent}
-use Rattle.link_world.specs.History.{era}
-use Rattle.link_world.specs.Headline.{server_side}
-use Rattle.uip_node.specs.Laws.{IsSlice}
-use Rattle.link_world.specs.Parts.{SaysPage, AsksRequest, HasTaken, HasOneEpoch, CleanParts}
-use Rattle.uip_node.proofs.Basics.{IsPart}
+use Rattle.link_world.proofs.Prelude.{◌≡◌, ℕ, ◌+◌, ◌-◌, ◌<◌, ◌≤◌, ◌⊎◌, inl, inr, Bool, true, false, List, [], ◌++◌, length, take, refl, sym, ap, ◌∙◌, subst, arith, Option, Some, None, is_some, take-append-add, cases_lt, wrap, PlainSegment, has_syn, has_fin, has_rst, has_ack, IsPrefixOf, Pages, State, Closed, SynRcvd, Established, Connection, is_live, AbstractClient, fin_sent, one_if, Side, PastConnection, Sent, era, server_side, IsSlice, SaysPage, AsksRequest, HasTaken, HasOneEpoch, CleanParts, IsPart, HasTextNumbers}
 use Rattle.link_client.specs.declared.client_state.ClientState.TheVariants as Is
 use Rattle.link_world.proofs.Speaking.{paged}
 use Rattle.link_world.proofs.Good.{is_unasked, seg, segment_in, StateGood, NodeSaid, ClientSaid, OpenedGood, Good, unopened}
 use Rattle.link_world.proofs.Good.NodeSaid.{node_reset, node_syn, node_ack, node_text, node_fin}
 use Rattle.link_world.proofs.Good.ClientSaid.{said_reset, said_syn, said_data}
 use Rattle.link_world.proofs.Prefix.{all_good}
-use Rattle.link_world.specs.Nodes.{HasTextNumbers}
 use Rattle.link_world.proofs.Eras.{all_numbered}
 use Rattle.link_world.proofs.Requests.{RequestedBy, all_requested}
 use Rattle.link_world.proofs.TextNumbers.{text_numbers}

@@ -1,35 +1,9 @@
 -- Prefix and whole, for every schedule.
-use Rattle.std.specs.Option.{option_map_or}
-use Rattle.std.specs.List.{All}
-use Rattle.std.proofs.Common.{◌≡◌, ℕ, ◌≤◌, Bool, true, false, List, [], ◌∷◌, ◌++◌, length, map, replicate, refl, sym, ap, ◌∙◌, subst, arith, Option, Some, None, slice_get, take}
-use Rattle.std.proofs.Math.Seq.{take-length}
-use Rattle.std.proofs.lemmas.Bool.{eqb-true}
-use Rattle.uip_wire.specs.declared.addr.Addr.{Addr}
-use Rattle.tcp_segment.specs.declared.flags.TheConstants.{SYN}
-use Rattle.tcp_segment.specs.Segments.{PlainSegment, has_syn, has_fin, has_rst}
-use Rattle.app_events.specs.AppSpec.{AppSpec, Snapshot}
-use Rattle.app_events.specs.Laws.{IsPrefixOf}
-use Rattle.app_events.specs.Pages.{Pages, IsPaged, IsSnapshot, IsNow, IsU32}
-use Rattle.app_events.specs.declared.now.Now.{Now}
-use Rattle.tcp_machine.specs.Connection.{Sockets, Connection, closed, is_live}
-use Rattle.tcp_machine.specs.Segments.{is_again, is_plain_syn, syn_ack}
-use Rattle.tcp_machine.specs.Ask.{Outcome, asked}
-use Rattle.tcp_machine.specs.OnSegment.{accepted, on_segment}
-use Rattle.tcp_machine.specs.OnTick.{on_tick}
-use Rattle.link_client.specs.Client.{AbstractClient, ClientStep, has_closed, client_takes, client_opens, client_again, client_closes, client_aborts, advertises_window}
-use Rattle.link_client.specs.declared.client_state.ClientState.{ClientState}
-use Rattle.link_world.specs.World.{World, Side, Sent, PastConnection, client_sockets, with_client, marked, is_clean, past_connection_of}
-use Rattle.link_world.specs.History.{era, captures_of, page_of, Planned, IsPlanned, IsPlan, fresh_side, initial_world}
-use Rattle.uip_node.specs.Laws.{serving}
-use Rattle.link_world.specs.Headline.{IsReached, IsServed, PrefixAndWhole}
+use Rattle.link_world.proofs.Prelude.{option_map_or, All, ◌≡◌, ℕ, ◌≤◌, Bool, true, false, List, [], ◌∷◌, ◌++◌, length, map, replicate, refl, sym, ap, ◌∙◌, subst, arith, Option, Some, None, slice_get, take, take-length, eqb-true, Addr, SYN, PlainSegment, has_syn, has_fin, has_rst, AppSpec, Snapshot, IsPrefixOf, Pages, IsPaged, IsSnapshot, IsNow, IsU32, Now, Sockets, Connection, closed, is_live, is_again, is_plain_syn, syn_ack, Outcome, asked, accepted, on_segment, on_tick, AbstractClient, ClientStep, has_closed, client_takes, client_opens, client_again, client_closes, client_aborts, advertises_window, ClientState, World, Side, Sent, PastConnection, client_sockets, with_client, marked, is_clean, past_connection_of, era, captures_of, page_of, Planned, IsPlanned, IsPlan, fresh_side, initial_world, serving, IsReached, IsServed, PrefixAndWhole, Setup, does, Act, both_ways, append_nothing, part_prefix, serving_free, get_map, none_serves, FitConn}
 use Rattle.link_world.proofs.Speaking.{Speaker, HasOutputModel, page_by, paged, paged_speaks}
 use Rattle.link_world.proofs.Setups.{SameSetup, takes_setup, opens_setup, again_setup, closes_setup, aborts_setup}
-use Rattle.link_client.specs.declared.setup.Setup.{Setup}
-use Rattle.link_world.specs.Acts.{does}
-use Rattle.link_world.specs.declared.act.Act.{Act}
 use Rattle.link_world.proofs.FitWorlds.{FitWorld}
 use Rattle.link_world.proofs.Harmless.{Harmless}
-use Rattle.uip_node.proofs.Basics.{both_ways, append_nothing, part_prefix}
 use Rattle.link_world.proofs.Good.{is_some, seg, from, to, spoken, ClientSaid, IsSyn, SentGood, StepGood, FromGood, ToGood, OpenedGood, Good, is_early}
 use Rattle.link_world.proofs.Good.NodeSaid.{node_reset}
 use Rattle.link_world.proofs.Good.ClientSaid.{said_reset, said_syn, said_data}
@@ -37,8 +11,6 @@ use Rattle.link_world.proofs.Later.{node_later}
 use Rattle.link_world.proofs.Views.{era_now, view_live, view_dead, view_born, view_push, view_client}
 use Rattle.link_world.proofs.Steps.{asked_good, on_segment_good, on_tick_good, says_syn}
 use Rattle.link_world.proofs.Clients.{Took_it, client_takes_good, opens_by_good, again_by_good, closes_by_good, aborts_by_good, window_good}
-use Rattle.uip_node.proofs.Connections.{serving_free, get_map, none_serves}
-use Rattle.uip_node.proofs.Fits.{FitConn}
 use Rattle.link_world.proofs.Runs.{reached}
 use Rattle.link_world.proofs.Sides.{clean_before}
 use Rattle.link_world.proofs.Any.{Framed, Steps, Refines, model, entry, older, does_framed}

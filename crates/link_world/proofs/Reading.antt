@@ -1,28 +1,8 @@
 -- The bytes of each datagram are read as what was sent.
-use Rattle.std.proofs.Common.{◌≡◌, ℕ, zero, suc, ◌<◌, ◌≤◌, List, [], length, take, refl, sym, ap, ◌∙◌, subst, arith, Option, Some, None, slice_get, if◌then◌else◌, length-append, length-take, length-drop}
-use Rattle.std.proofs.Math.Seq.{take-length}
-use Rattle.std.specs.Option.{option_map_or}
-use Rattle.uip_wire.specs.declared.addr.Addr.{Addr}
-use Rattle.icmp_echo.specs.Echo.{echo_reply}
-use Rattle.tcp_segment.specs.ReadBack.{IsReadBack, head_of}
-use Rattle.tcp_segment.specs.Segments.{PlainSegment, Datagram, datagram_bytes}
-use Rattle.app_events.specs.Pages.{IsAddr}
-use Rattle.tcp_machine.specs.Connection.{Sockets}
-use Rattle.uip_node.specs.Events.Event.{EchoAsked, Arrived, IcmpRefused}
-use Rattle.uip_node.specs.Edge.{event_of, by_head, by_segment, datagram_to}
-use Rattle.link_client.specs.declared.setup.Setup.{Setup}
-use Rattle.link_world.specs.World.{World, Side, Content, client_sockets}
-use Rattle.link_world.specs.World.Content.{OfSegment, OfPing, OfEcho}
-use Rattle.link_world.specs.Bytes.{ping_from, server_of, client_bytes, node_bytes, bytes_by, hears_datagram, heard_by}
-use Rattle.link_world.specs.declared.who.Who.{Who}
-use Rattle.link_world.specs.declared.who.Who.TheVariants.{FromClient, FromNode, Pinger}
-use Rattle.link_world.specs.Reading.{IsRead, BytesAreRead}
-use Rattle.uip_node.proofs.SocketPairs.{is_same}
-use Rattle.uip_node.proofs.SoundSegments.{IsSoundSegment}
+use Rattle.link_world.proofs.Prelude.{◌≡◌, ℕ, zero, suc, ◌<◌, ◌≤◌, List, [], length, take, refl, sym, ap, ◌∙◌, subst, arith, Option, Some, None, slice_get, if◌then◌else◌, length-append, length-take, length-drop, take-length, option_map_or, Addr, echo_reply, IsReadBack, head_of, PlainSegment, Datagram, datagram_bytes, IsAddr, Sockets, EchoAsked, Arrived, IcmpRefused, event_of, by_head, by_segment, datagram_to, Setup, World, Side, Content, client_sockets, OfSegment, OfPing, OfEcho, ping_from, server_of, client_bytes, node_bytes, bytes_by, hears_datagram, heard_by, Who, FromClient, FromNode, Pinger, IsRead, BytesAreRead, is_same, IsSoundSegment, IsPlace, datagram_back, datagram_short}
 use Rattle.link_world.proofs.Sound.{IsSoundClient}
 use Rattle.link_world.proofs.SoundWorlds.{SoundSent, SoundWorld}
 use Rattle.link_world.proofs.SoundWorlds.SoundSent.{of_segment, of_ping, of_echo}
-use Rattle.uip_node.proofs.DatagramsBack.{IsPlace, datagram_back, datagram_short}
 use Rattle.link_world.proofs.Whole.{IsPingBack, ping_head, ping_back}
 use Rattle.link_world.proofs.Runs.{reached_sound}
 use Rattle.link_world.proofs.Senders.{Asked, IsAsked, has_senders}

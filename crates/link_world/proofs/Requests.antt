@@ -1,31 +1,9 @@
 -- How much of a request the server has accepted, beside Prefix and whole.
-use Rattle.std.specs.List.{All}
-use Rattle.std.proofs.Common.{◌≡◌, ℕ, ◌+◌, ◌<◌, ◌≤◌, Bool, true, false, inl, inr, List, [], ◌∷◌, ◌++◌, length, replicate, refl, sym, ap, ◌∙◌, subst, arith, Option, Some, None, slice_get, if◌then◌else◌}
-use Rattle.uip_wire.specs.Numbers.{wrap}
-use Rattle.uip_wire.specs.declared.addr.Addr.{Addr}
-use Rattle.tcp_segment.specs.Segments.{PlainSegment, has_syn, has_fin, has_rst, has_ack}
-use Rattle.app_events.specs.AppSpec.{AppSpec}
-use Rattle.app_events.specs.Pages.{Pages, IsPaged, IsSnapshot, IsNow, IsU32}
-use Rattle.app_events.specs.declared.now.Now.{Now}
-use Rattle.tcp_machine.specs.Connection.{Sockets, Connection, closed, is_live}
-use Rattle.tcp_machine.specs.Segments.{is_plain_syn, is_again, syn_ack}
-use Rattle.tcp_machine.specs.Ask.{Outcome, asked}
-use Rattle.tcp_machine.specs.OnSegment.{accepted, on_segment}
-use Rattle.tcp_machine.specs.OnTick.{on_tick}
-use Rattle.link_client.specs.Client.{AbstractClient, ClientStep, one_if, fin_sent, own_first, client_takes, client_opens, client_again, client_closes, client_aborts, advertises_window}
-use Rattle.link_world.specs.World.{World, Side, Sent, PastConnection, becomes_opened, with_client, marked, is_clean, client_sockets}
-use Rattle.link_world.specs.History.{era, fresh_side, Planned, IsPlan, initial_world}
-use Rattle.uip_node.specs.Laws.{serving}
-use Rattle.link_world.specs.Headline.{IsReached}
-use Rattle.uip_node.proofs.Steadiness.{steady_of}
-use Rattle.uip_node.proofs.Basics.{same_place, get_push, zero_or_more}
-use Rattle.uip_node.proofs.Basics.AtEnd.{older, newest}
+use Rattle.link_world.proofs.Prelude.{All, ◌≡◌, ℕ, ◌+◌, ◌<◌, ◌≤◌, Bool, true, false, inl, inr, List, [], ◌∷◌, ◌++◌, length, replicate, refl, sym, ap, ◌∙◌, subst, arith, Option, Some, None, slice_get, if◌then◌else◌, wrap, Addr, PlainSegment, has_syn, has_fin, has_rst, has_ack, AppSpec, Pages, IsPaged, IsSnapshot, IsNow, IsU32, Now, Sockets, Connection, closed, is_live, is_plain_syn, is_again, syn_ack, Outcome, asked, accepted, on_segment, on_tick, AbstractClient, ClientStep, one_if, fin_sent, own_first, client_takes, client_opens, client_again, client_closes, client_aborts, advertises_window, World, Side, Sent, PastConnection, becomes_opened, with_client, marked, is_clean, client_sockets, era, fresh_side, Planned, IsPlan, initial_world, serving, IsReached, steady_of, same_place, get_push, zero_or_more, older, newest, FitConn, get_map}
 use Rattle.link_world.proofs.Speaking.{paged}
 use Rattle.link_world.proofs.Good.{seg, no_segment, is_early, from, to, ClientSaid, OpenedGood, Good, Steady, unopened}
 use Rattle.link_world.proofs.Good.ClientSaid.{said_reset, said_syn, said_data}
-use Rattle.uip_node.proofs.Fits.{FitConn}
 use Rattle.link_world.proofs.Sides.{clean_before}
-use Rattle.uip_node.proofs.Connections.{get_map}
 use Rattle.link_world.proofs.Runs.{reached}
 use Rattle.link_world.proofs.Any.{Framed, Steps, Refines, model, entry, does_framed}
 use Rattle.link_world.proofs.Any

@@ -1,23 +1,5 @@
 -- Acts are refused before there are more than 65,535 datagrams, so a world that is reached has at most that number.
-use Rattle.std.specs.Option.{option_or}
-use Rattle.std.proofs.Common.{◌≡◌, ℕ, suc, ◌+◌, ◌≤◌, Bool, true, false, List, [], ◌∷◌, length, refl, ap, arith, Option, Some, None, ltb, if◌then◌else◌}
-use Rattle.std.proofs.lemmas.Grind.{common_steps}
-use Rattle.app_events.specs.AppSpec.{AppSpec}
-use Rattle.uip_node.specs.Counters.{ticks_of}
-use Rattle.uip_node.specs.Events.{Event, Reply, tick}
-use Rattle.uip_node.specs.Events.Event.{Arrived, EchoAsked}
-use Rattle.uip_node.specs.Events.Reply.{Echo, Tcp}
-use Rattle.uip_node.specs.Node.{NodeStep, step}
-use Rattle.link_client.specs.Client.{AbstractClient, ClientStep, client_takes, advertises_window, client_opens, client_again, client_closes, client_aborts}
-use Rattle.link_world.specs.Acts.{client_acts, does, fault_of, handles_all, named_fault, needs}
-use Rattle.link_world.specs.Bytes.{ping_from}
-use Rattle.link_world.specs.World.{Content, Sent, Side, World, addressed, retires, client_sockets, client_stepped, delivers, epoch_of, marked, node_handles, node_stepped, posts, posts_reply, with_client, with_side}
-use Rattle.link_world.specs.World.Content.{OfSegment, OfPing, OfEcho}
-use Rattle.link_world.specs.declared.act.Act.{Act}
-use Rattle.link_world.specs.declared.step_fault.StepFault.{StepFault}
-use Rattle.link_world.specs.declared.step_fault.StepFault.TheVariants.{Full}
-use Rattle.link_world.specs.declared.who.Who.{Who}
-use Rattle.link_world.specs.declared.who.Who.TheVariants.{FromClient, FromNode, Pinger}
+use Rattle.link_world.proofs.Prelude.{option_or, ◌≡◌, ℕ, suc, ◌+◌, ◌≤◌, Bool, true, false, List, [], ◌∷◌, length, refl, ap, arith, Option, Some, None, ltb, if◌then◌else◌, common_steps, AppSpec, ticks_of, Event, Reply, tick, Arrived, EchoAsked, Echo, Tcp, NodeStep, step, AbstractClient, ClientStep, client_takes, advertises_window, client_opens, client_again, client_closes, client_aborts, client_acts, does, fault_of, handles_all, named_fault, needs, ping_from, Content, Sent, Side, World, addressed, retires, client_sockets, client_stepped, delivers, epoch_of, marked, node_handles, node_stepped, posts, posts_reply, with_client, with_side, OfSegment, OfPing, OfEcho, Act, StepFault, Full, Who, FromClient, FromNode, Pinger}
 use Rattle.link_world.proofs.Doing.{at_number, where_there}
 use Rattle.link_world.proofs.Harmless.{Harmless}
 use Rattle.link_world.proofs.Rounds.{one_longer}

@@ -1,28 +1,6 @@
 -- A round with one datagram under way, and what its delivery leaves.
-use Rattle.std.proofs.Common.{◌≡◌, ℕ, suc, ◌+◌, ◌-◌, ◌≤◌, max, Bool, true, false, if◌then◌else◌, List, [], ◌∷◌, ◌++◌, length, map, refl, ap, ◌∙◌, arith, Option, Some, None, Result, Ok, Err, slice_get, length-append, ltb}
-use Rattle.std.proofs.lemmas.Bool.{le-ltb}
-use Rattle.std.specs.List.{range_with_len}
-use Rattle.std.specs.Option.{option_map_or, option_or}
-use Rattle.link_schedule.specs.Numbers.{◌>>=◌}
-use Rattle.app_events.specs.AppSpec.{AppSpec}
-use Rattle.tcp_segment.specs.Segments.{PlainSegment}
-use Rattle.tcp_machine.specs.Connection.{same_sockets}
-use Rattle.uip_node.specs.Events.Reply.{Tcp}
-use Rattle.uip_node.specs.Counters.{ticks_of}
-use Rattle.uip_node.specs.Node.{AbstractNode, NodeStep, arrives}
-use Rattle.link_client.specs.Client.{AbstractClient, ClientStep, client_takes}
-use Rattle.link_world.specs.World.{World, Side, Sent, numbered, client_sockets, becomes_opened, posts, delivers, client_stepped, node_stepped}
-use Rattle.link_world.specs.World.Content.{OfSegment}
-use Rattle.link_world.specs.Acts.{does, fault_of, acts, runs}
-use Rattle.link_world.specs.Schedule.{mark_after, plays_line}
-use Rattle.link_world.specs.declared.act.Act.{Act}
-use Rattle.link_schedule.specs.declared.event.Event.TheVariants.{Round}
-use Rattle.link_world.specs.declared.step_fault.StepFault.{StepFault}
-use Rattle.link_world.specs.declared.step_fault.StepFault.TheVariants.{Full, NoDatagram}
-use Rattle.link_world.specs.declared.who.Who.{Who}
-use Rattle.link_world.specs.declared.who.Who.TheVariants.{FromClient, FromNode}
+use Rattle.link_world.proofs.Prelude.{◌≡◌, ℕ, suc, ◌+◌, ◌-◌, ◌≤◌, max, Bool, true, false, if◌then◌else◌, List, [], ◌∷◌, ◌++◌, length, map, refl, ap, ◌∙◌, arith, Option, Some, None, Result, Ok, Err, slice_get, length-append, ltb, le-ltb, range_with_len, option_map_or, option_or, ◌>>=◌, AppSpec, PlainSegment, same_sockets, Tcp, ticks_of, AbstractNode, NodeStep, arrives, AbstractClient, ClientStep, client_takes, World, Side, Sent, numbered, client_sockets, becomes_opened, posts, delivers, client_stepped, node_stepped, OfSegment, does, fault_of, acts, runs, mark_after, plays_line, Act, Round, StepFault, Full, NoDatagram, Who, FromClient, FromNode, same_self}
 use Rattle.link_world.proofs.Doing.{with_mark}
-use Rattle.uip_node.proofs.SocketPairs.{same_self}
 
 -- the side of a client to which nothing stale came, and whose connection never became CLOSED
 abbrev pub only_side : AbstractClient → Option ℕ → Side

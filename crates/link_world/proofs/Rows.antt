@@ -1,32 +1,9 @@
 -- Whole schedules, computed from the definitions alone.
 -- [add: counter] The lists of counters, and the length of a page that has them.
 -- [add: act] A worked schedule with the act.
-use Rattle.std.proofs.Common.{◌≡◌, ◌+◌, ◌==◌, ℕ, Bool, true, false, List, [], ◌∷◌, ◌++◌, map, length, replicate, flat_map, if◌then◌else◌, refl, Option, Some, None, Result, Ok, Err}
-use Rattle.tcp_segment.specs.declared.flags.TheConstants.{FIN, SYN, RST, PSH, ACK}
-use Rattle.app_events.specs.declared.row.Row.{Row}
-use Rattle.app_events.specs.AppSpec.{Snapshot}
-use Rattle.tcp_machine.specs.Ask.{idles}
-use Rattle.tcp_machine.specs.OnSegment.{peer_closes, stays_established, in_established, fin_acked, fin_waits, on_segment}
-use Rattle.tcp_machine.specs.OnTick.{rests_on, ticks_established}
-use Rattle.uip_node.specs.Counters.{ticks_of}
-use Rattle.uip_node.specs.Node.{happened, opens_in, for_no_connection}
-use Rattle.link_client.specs.Client.{sends_next, takes_in_order, takes_by, client_takes, opens_by, again_by, closes_by, aborts_by}
-use Rattle.link_client.specs.declared.client_state.ClientState.{ClientState}
+use Rattle.link_world.proofs.Prelude.{◌≡◌, ◌+◌, ◌==◌, ℕ, Bool, true, false, List, [], ◌∷◌, ◌++◌, map, length, replicate, flat_map, if◌then◌else◌, refl, Option, Some, None, Result, Ok, Err, FIN, SYN, RST, PSH, ACK, Row, Snapshot, idles, peer_closes, stays_established, in_established, fin_acked, fin_waits, on_segment, rests_on, ticks_established, ticks_of, happened, opens_in, for_no_connection, sends_next, takes_in_order, takes_by, client_takes, opens_by, again_by, closes_by, aborts_by, ClientState, World, Side, Sent, Content, numbered, OfSegment, OfPing, OfEcho, folded, head_or_fate, head_bytes, datagram_bytes, segment_in, NoDatagram, NoByte, AlreadyOpen, ping_from, plays, BadLine, Planned, initial_world, Opens, Again, Closes, Aborts, Window, Ping, Give, Damage, Tick, Round, Lose, Who, FromClient, FromNode}
 use Rattle.link_client.specs.declared.client_state.ClientState.TheVariants as Is
-use Rattle.link_world.specs.World.{World, Side, Sent, Content, numbered}
-use Rattle.link_world.specs.World.Content.{OfSegment, OfPing, OfEcho}
-use Rattle.uip_wire.specs.Checksum.{folded}
-use Rattle.uip_ipv4.specs.Head.{head_or_fate, head_bytes}
-use Rattle.tcp_segment.specs.Segments.{datagram_bytes}
-use Rattle.tcp_segment.specs.Received.{segment_in}
-use Rattle.link_world.specs.declared.step_fault.StepFault.TheVariants.{NoDatagram, NoByte, AlreadyOpen}
-use Rattle.link_world.specs.Bytes.{ping_from}
-use Rattle.link_world.specs.Schedule.{plays, BadLine}
-use Rattle.link_world.specs.History.{Planned, initial_world}
 use Rattle.link_schedule.specs.declared.event.Event.{Event}
-use Rattle.link_schedule.specs.declared.event.Event.TheVariants.{Opens, Again, Closes, Aborts, Window, Ping, Give, Damage, Tick, Round, Lose}
-use Rattle.link_world.specs.declared.who.Who.{Who}
-use Rattle.link_world.specs.declared.who.Who.TheVariants.{FromClient, FromNode}
 use Rattle.link_world.proofs.Sample.{Piece, sample}
 use Rattle.link_world.proofs.Sample.Piece.{Plain, Made}
 

@@ -1,33 +1,11 @@
 -- What every act preserves holds in every world that is reached.
-use Rattle.std.specs.List.{All}
-use Rattle.std.proofs.Common.{◌≡◌, ℕ, suc, ◌⊎◌, inl, inr, Bool, List, [], ◌∷◌, refl, subst, arith, Option, Some, None, Result, Ok, Err}
-use Rattle.std.specs.Option.{option_map_or}
-use Rattle.uip_wire.specs.declared.addr.Addr.{Addr}
-use Rattle.app_events.specs.AppSpec.{AppSpec}
-use Rattle.app_events.specs.Pages.{Pages, IsPaged, IsSnapshot, IsU32, IsAddr}
-use Rattle.tcp_machine.specs.Connection.{Connection}
-use Rattle.link_world.specs.World.{World, Side}
-use Rattle.link_schedule.specs.Numbers.{◌>>=◌}
-use Rattle.link_world.specs.Acts.{does, fault_of, acts, runs}
-use Rattle.link_world.specs.declared.act.Act.{Act}
-use Rattle.link_world.specs.declared.step_fault.StepFault.{StepFault}
-use Rattle.link_world.specs.History.{Planned, IsPlanned, IsPlan, fresh_side, initial_world, started}
-use Rattle.uip_node.specs.Steady.{IsSteady}
-use Rattle.link_world.specs.Headline.{IsReachedPlainly, IsAct, IsPlainAct, IsReached}
-use Rattle.uip_node.specs.Laws.{HasBytes}
-use Rattle.link_world.specs.Times.{IsLater}
-use Rattle.uip_node.proofs.Steadiness.{steady_of}
-use Rattle.uip_node.proofs.Connections.{get_map, all_closed}
-use Rattle.uip_node.proofs.Fits.{FitConn, all_nil}
+use Rattle.link_world.proofs.Prelude.{All, ◌≡◌, ℕ, suc, ◌⊎◌, inl, inr, Bool, List, [], ◌∷◌, refl, subst, arith, Option, Some, None, Result, Ok, Err, option_map_or, Addr, AppSpec, Pages, IsPaged, IsSnapshot, IsU32, IsAddr, Connection, World, Side, ◌>>=◌, does, fault_of, acts, runs, Act, StepFault, Planned, IsPlanned, IsPlan, fresh_side, initial_world, started, IsSteady, IsReachedPlainly, IsAct, IsPlainAct, IsReached, HasBytes, IsLater, steady_of, get_map, all_closed, FitConn, all_nil, closed_fits, Lens, closed_lens, DeliveredBytes}
 use Rattle.link_world.proofs.FitWorlds.{FitSide, FitWorld}
-use Rattle.uip_node.proofs.FitNodes.{closed_fits}
 use Rattle.link_world.proofs.FitActs.{does_fit}
 use Rattle.link_world.proofs.Harmless.{Harmless, plain_harmless}
 use Rattle.link_world.proofs.Room.{HasRoom, keeps_room}
-use Rattle.uip_node.proofs.SoundSegments.{Lens, closed_lens}
 use Rattle.link_world.proofs.Sound.{IsSoundClient}
 use Rattle.link_world.proofs.SaidBytes.{SaysBytesWhere, pages_say_bytes}
-use Rattle.uip_node.proofs.DeliveredBytes.{DeliveredBytes}
 use Rattle.link_world.proofs.SoundWorlds.{KnownWorld, SoundWorld, does_sound}
 use Rattle.link_world.proofs.Damages.{act_harmless}
 

@@ -1,17 +1,5 @@
 -- What is known of each connection of a node, so that all that its application sends is bytes.
-use Rattle.std.specs.List.{All}
-use Rattle.std.proofs.Common.{ℕ, List}
-use Rattle.tcp_segment.specs.Segments.{PlainSegment}
-use Rattle.app_events.specs.AppSpec.{AppSpec}
-use Rattle.app_events.specs.Pages.{IsByte, IsPaged, Pages}
-use Rattle.app_events.specs.declared.now.Now.{Now}
-use Rattle.tcp_machine.specs.Connection.{Sockets, Connection, closed}
-use Rattle.tcp_machine.specs.Ask.{asked}
-use Rattle.tcp_machine.specs.OnSegment.{accepted, on_segment}
-use Rattle.tcp_machine.specs.OnTick.{on_tick}
-use Rattle.uip_node.specs.Laws.{HasBytes, SendsBytes}
-use Rattle.uip_node.proofs.DeliveredBytes.{DeliveredBytes, asked_bytes, on_segment_bytes, on_tick_bytes, page_bytes}
-use Rattle.uip_node.proofs.Fits.{FitConn, all_nil}
+use Rattle.link_world.proofs.Prelude.{All, ℕ, List, PlainSegment, AppSpec, IsByte, IsPaged, Pages, Now, Sockets, Connection, closed, asked, accepted, on_segment, on_tick, HasBytes, SendsBytes, DeliveredBytes, asked_bytes, on_segment_bytes, on_tick_bytes, page_bytes, FitConn, all_nil}
 
 -- H holds of a connection that is CLOSED or new, and of one after each event that brings bytes. If it holds, bytes are sent.
 pub record SaysBytesWhere (m : AppSpec) (H : Connection → Type 0) : Type 0 where

@@ -1,49 +1,14 @@
 -- Same bytes: a retransmission of what is outstanding is identical, and is marked.
-use Rattle.std.proofs.Common.{◌≡◌, ℕ, suc, ◌+◌, ◌*◌, length-append, ◌<◌, ◌≤◌, min, Bool, true, false, ◌⊎◌, inl, inr, List, [], ◌∷◌, ◌++◌, length, replicate, refl, sym, ap, ◌∙◌, subst, arith, Option, Some, None, slice_get, eqb, if◌then◌else◌}
-use Rattle.std.proofs.lemmas.Grind.{common_steps}
-use Rattle.uip_wire.specs.Numbers.{wrap}
-use Rattle.uip_wire.specs.declared.addr.Addr.{Addr}
-use Rattle.uip_wire.specs.declared.sizes.TheConstants.{OWN_MSS}
-use Rattle.tcp_segment.specs.Segments.{PlainSegment, has_syn, has_fin, has_rst}
-use Rattle.app_events.specs.AppSpec.{AppSpec}
-use Rattle.app_events.specs.Pages.{Pages}
-use Rattle.tcp_machine.specs.Connection.{Sockets, Connection, closed, is_live}
-use Rattle.tcp_machine.specs.Segments.{segment_of, is_again, occupies_sequence_space, is_plain_syn, syn_ack}
-use Rattle.tcp_machine.specs.Ask.{Outcome, asked}
-use Rattle.tcp_machine.specs.OnSegment.{first_mss, accepted, on_segment}
-use Rattle.tcp_machine.specs.OnTick.{on_tick}
-use Rattle.app_events.specs.declared.state.State.{State}
-use Rattle.app_events.specs.declared.state.State.TheVariants.{Closed, SynRcvd, Established, CloseWait, FinWait1, FinWait2, Closing, TimeWait, LastAck}
-use Rattle.link_client.specs.Client.{ClientStep, one_if}
-use Rattle.link_world.specs.World.{World, Side, Sent, Content, client_sockets, with_client, marked, is_clean, past_connection_of}
-use Rattle.link_world.specs.World.Content.{OfSegment, OfPing, OfEcho}
-use Rattle.link_world.specs.Acts.{does}
-use Rattle.link_world.specs.declared.act.Act.{Act}
-use Rattle.uip_node.specs.Laws.{serving, Alike}
-use Rattle.link_world.specs.History.{Planned, IsPlan, initial_world}
-use Rattle.link_world.specs.Headline.{IsReached, RepeatsSameBytes, MarksRepeats, SameBytes, SameBytesPlainly, AgainExactly, AgainExactlyPlainly, IsReachedPlainly}
-use Rattle.uip_node.specs.Steady.{IsSteady}
-use Rattle.uip_node.proofs.Steadiness.{steady_of}
-use Rattle.uip_node.proofs.Basics.{choose, cut_length, zero_or_more, same_place, get_push, nothing_placed, only_some}
-use Rattle.uip_node.proofs.Basics.AtEnd.{older, newest}
+use Rattle.link_world.proofs.Prelude.{◌≡◌, ℕ, suc, ◌+◌, ◌*◌, length-append, ◌<◌, ◌≤◌, min, Bool, true, false, ◌⊎◌, inl, inr, List, [], ◌∷◌, ◌++◌, length, replicate, refl, sym, ap, ◌∙◌, subst, arith, Option, Some, None, slice_get, eqb, if◌then◌else◌, common_steps, wrap, Addr, OWN_MSS, PlainSegment, has_syn, has_fin, has_rst, AppSpec, Pages, Sockets, Connection, closed, is_live, segment_of, is_again, occupies_sequence_space, is_plain_syn, syn_ack, Outcome, asked, first_mss, accepted, on_segment, on_tick, State, Closed, SynRcvd, Established, CloseWait, FinWait1, FinWait2, Closing, TimeWait, LastAck, ClientStep, one_if, World, Side, Sent, Content, client_sockets, with_client, marked, is_clean, past_connection_of, OfSegment, OfPing, OfEcho, does, Act, serving, Alike, Planned, IsPlan, initial_world, IsReached, RepeatsSameBytes, MarksRepeats, SameBytes, SameBytesPlainly, AgainExactly, AgainExactlyPlainly, IsReachedPlainly, IsSteady, steady_of, choose, cut_length, zero_or_more, same_place, get_push, nothing_placed, only_some, older, newest, serving_free, none_serves, FitConn, FitOut, on_segment_fits, on_tick_fits, Safe, IsDue, Onto, SafeState, Still, Tells, StepTells, due, alike_trans, alike_sym, alike_refl, segment_tells, tick_tells, closed_fits, HasBytes, DeliveredBytes, stepped_fits, stepped_tells, Moves, asked_moves, segment_moves, tick_moves, Lens, closed_lens, accepted_lens, asked_lens, on_segment_lens, on_tick_lens}
 use Rattle.link_world.proofs.Good.{seg, segment_in, from, to}
 use Rattle.link_world.proofs.Views.{length_push}
-use Rattle.uip_node.proofs.Connections.{serving_free, none_serves}
-use Rattle.uip_node.proofs.Fits.{FitConn, FitOut, on_segment_fits, on_tick_fits}
-use Rattle.uip_node.proofs.Told.{Safe, IsDue, Onto, SafeState, Still, Tells, StepTells, due, alike_trans, alike_sym, alike_refl, segment_tells, tick_tells}
 use Rattle.link_world.proofs.Prefix.{opening_apart}
 use Rattle.link_world.proofs.Harmless.{Harmless}
 use Rattle.link_world.proofs.FitWorlds.{FitWorld}
-use Rattle.uip_node.proofs.FitNodes.{closed_fits}
-use Rattle.uip_node.specs.Laws.{HasBytes}
 use Rattle.link_world.proofs.SaidBytes.{SaysBytesWhere, pages_say_bytes}
-use Rattle.uip_node.proofs.DeliveredBytes.{DeliveredBytes}
 use Rattle.link_world.proofs.Runs.{reached_plainly, reached_where, room_plainly, room_where}
 use Rattle.link_world.proofs.Any.{Framed, Steps, Refines, any_step, model, entry, does_framed}
 use Rattle.link_world.proofs.Any
-use Rattle.uip_node.proofs.Stepped.{stepped_fits, stepped_tells}
-use Rattle.uip_node.proofs.Moves.{Moves, asked_moves, segment_moves, tick_moves}
-use Rattle.uip_node.proofs.SoundSegments.{Lens, closed_lens, accepted_lens, asked_lens, on_segment_lens, on_tick_lens}
 use Rattle.link_world.proofs.Room.{HasRoom}
 
 not_zero : (w : ℕ) → eqb w 0 ≡ false → 0 < w

@@ -1,46 +1,8 @@
 -- Each datagram is a client's, a pinger's or the node's, and the node sends to clients alone.
-use Rattle.std.proofs.Common.{◌≡◌, ℕ, zero, suc, Bool, true, false, ◌&&◌, List, [], ◌∷◌, ◌++◌, map, set, refl, sym, ap, ◌∙◌, subst, arith, Option, Some, None, slice_get, slice_index_or}
-use Rattle.std.specs.Prelude.{option_map}
-use Rattle.std.specs.Option.{option_map_or}
-use Rattle.std.proofs.lemmas.Option.{slice_get-map}
-use Rattle.tcp_segment.specs.Segments.{PlainSegment, has_rst}
-use Rattle.app_events.specs.AppSpec.{AppSpec}
-use Rattle.app_events.specs.Pages.{Pages, IsPaged}
-use Rattle.tcp_machine.specs.Connection.{Sockets, Connection, closed, is_live, serves, same_sockets}
-use Rattle.tcp_machine.specs.Segments.{is_plain_syn, segment_of, is_again, reset_for_no_connection}
-use Rattle.tcp_machine.specs.Ask.{Outcome, leaves, asked}
-use Rattle.tcp_machine.specs.OnSegment.{accept, on_segment}
-use Rattle.tcp_machine.specs.OnTick.{on_tick}
-use Rattle.tcp_machine.specs.declared.step.Step.{Step}
-use Rattle.uip_node.specs.Events.{Event, Answer, HistoryEntry, Reply}
-use Rattle.uip_node.specs.Events.Event.{Arrived, EchoAsked, Periodic}
-use Rattle.uip_node.specs.Events.Answer.{Silent, Spoke, NoSlot}
-use Rattle.uip_node.specs.Events.Reply.{Echo, Tcp}
-use Rattle.uip_node.specs.Counters.{initial_number, ident_of}
-use Rattle.uip_node.specs.Node.{AbstractNode, NodeStep, snapshot, happened, connection_in, slot_for_syn, passes, refuses, opens_in, opens, for_no_connection, arrives_at, step}
-use Rattle.link_client.specs.Client.{AbstractClient, ClientStep, client_takes, client_opens, client_again, client_closes, client_aborts, advertises_window}
-use Rattle.link_client.specs.declared.setup.Setup.{Setup}
-use Rattle.link_world.specs.World.{World, Side, Sent, Content, client_sockets, retires, retires_in, addressed, posts, posts_reply, node_stepped, node_handles, with_client, with_side, client_stepped, marked, delivers}
-use Rattle.link_world.specs.World.Content.{OfSegment, OfPing, OfEcho}
-use Rattle.link_world.specs.Bytes.{ping_from}
-use Rattle.link_world.specs.Acts.{client_acts, handles_all, does}
-use Rattle.uip_node.specs.Laws.{serving}
-use Rattle.link_world.specs.History.{Planned, initial_world}
-use Rattle.link_world.specs.declared.act.Act.{Act}
-use Rattle.link_world.specs.declared.who.Who.{Who}
-use Rattle.link_world.specs.declared.who.Who.TheVariants.{FromClient, FromNode, Pinger}
-use Rattle.link_world.specs.Headline.{IsLoss, IsReached}
-use Rattle.link_world.specs.Reading.{IsNumberOf, IsSentBy, SentToClients}
-use Rattle.uip_node.proofs.Basics.{both_ways, choose, only_some, and_true, get_push}
+use Rattle.link_world.proofs.Prelude.{◌≡◌, ℕ, zero, suc, Bool, true, false, ◌&&◌, List, [], ◌∷◌, ◌++◌, map, set, refl, sym, ap, ◌∙◌, subst, arith, Option, Some, None, slice_get, slice_index_or, option_map, option_map_or, slice_get-map, PlainSegment, has_rst, AppSpec, Pages, IsPaged, Sockets, Connection, closed, is_live, serves, same_sockets, is_plain_syn, segment_of, is_again, reset_for_no_connection, Outcome, leaves, asked, accept, on_segment, on_tick, Step, Event, Answer, HistoryEntry, Reply, Arrived, EchoAsked, Periodic, Silent, Spoke, NoSlot, Echo, Tcp, initial_number, ident_of, AbstractNode, NodeStep, snapshot, happened, connection_in, slot_for_syn, passes, refuses, opens_in, opens, for_no_connection, arrives_at, step, AbstractClient, ClientStep, client_takes, client_opens, client_again, client_closes, client_aborts, advertises_window, Setup, World, Side, Sent, Content, client_sockets, retires, retires_in, addressed, posts, posts_reply, node_stepped, node_handles, with_client, with_side, client_stepped, marked, delivers, OfSegment, OfPing, OfEcho, ping_from, client_acts, handles_all, does, serving, Planned, initial_world, Act, Who, FromClient, FromNode, Pinger, IsLoss, IsReached, IsNumberOf, IsSentBy, SentToClients, both_ways, choose, only_some, and_true, get_push, older, newest, get_set, get_set_same, find_is, index_of, all_closed, here, there, finds, finds_none, same_is, asked_keeps, on_segment_keeps, on_tick_keeps, on_tick_closed}
 use Rattle.link_world.proofs.Doing.{at_number, where_there}
-use Rattle.uip_node.proofs.Basics.AtEnd.{older, newest}
-use Rattle.uip_node.proofs.Connections.{get_set, get_set_same, find_is, index_of, all_closed}
-use Rattle.uip_node.proofs.Connections.Written.{here, there}
-use Rattle.uip_node.proofs.Connections.Finds.{finds, finds_none}
-use Rattle.uip_node.proofs.SocketPairs.{same_is}
 use Rattle.link_world.proofs.Sides.{finds_one, buried_sockets}
 use Rattle.link_world.proofs.Setups.{SameSetup, takes_setup, opens_setup, again_setup, closes_setup, aborts_setup}
-use Rattle.uip_node.proofs.Peers.{asked_keeps, on_segment_keeps, on_tick_keeps, on_tick_closed}
 use Rattle.link_world.proofs.Harmless.{Harmless}
 use Rattle.link_world.proofs.Same.{get_older}
 use Rattle.link_world.proofs.Runs.{reached}

@@ -1,12 +1,6 @@
 -- What a step of a client preserves, whatever the node did: its setup and its request, and that it is not idle.
-use Rattle.std.proofs.Common.{◌≡◌, ◌&&◌, Bool, true, false, refl, ap, eqb, ◌∙◌}
-use Rattle.tcp_segment.specs.Segments.{PlainSegment, has_ack, has_fin}
-use Rattle.link_client.specs.Client.{AbstractClient, ClientStep, after_fin, client_aborts, client_again, client_closes, client_opens, client_takes, has_outstanding, hears_ack, next_own, opened_by, sends_next, takes_in_order, takes_text}
-use Rattle.link_client.specs.declared.client_state.ClientState.{ClientState}
+use Rattle.link_world.proofs.Prelude.{◌≡◌, ◌&&◌, Bool, true, false, refl, ap, eqb, ◌∙◌, PlainSegment, has_ack, has_fin, AbstractClient, ClientStep, after_fin, client_aborts, client_again, client_closes, client_opens, client_takes, has_outstanding, hears_ack, next_own, opened_by, sends_next, takes_in_order, takes_text, ClientState, is_idle, Planned, choose}
 use Rattle.link_client.specs.declared.client_state.ClientState.TheVariants as Is
-use Rattle.link_world.specs.Acts.{is_idle}
-use Rattle.link_world.specs.History.{Planned}
-use Rattle.uip_node.proofs.Basics.{choose}
 use Rattle.link_world.proofs.ClientCases.{of_aborts, of_again, of_closes, of_opens, of_order, of_sends, of_takes}
 
 -- what a plan fixes of a client

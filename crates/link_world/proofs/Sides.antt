@@ -1,12 +1,5 @@
 -- What the world's acts do to the sides, step by step.
-use Rattle.std.proofs.Common.{◌≡◌, ℕ, zero, suc, ◌+◌, Bool, true, false, not, ◌&&◌, List, [], ◌∷◌, ◌++◌, set, refl, sym, ap, ◌∙◌, arith, Option, Some, None, is_none, slice_get, if◌then◌else◌}
-use Rattle.tcp_machine.specs.Connection.{Sockets, Connection, same_sockets}
-use Rattle.link_world.specs.World.{Side, Sent, client_sockets, retires, retires_in, addressed, past_connection_of, marked, is_clean, epoch}
-use Rattle.std.specs.Option.{option_or}
-use Rattle.uip_node.proofs.Basics.{both_ways, choose, eqb-eq}
-use Rattle.uip_node.proofs.Connections.{get_map, get_set}
-use Rattle.uip_node.proofs.Connections.Written.{here, there}
-use Rattle.uip_node.proofs.SocketPairs.{same_is, is_same}
+use Rattle.link_world.proofs.Prelude.{◌≡◌, ℕ, zero, suc, ◌+◌, Bool, true, false, not, ◌&&◌, List, [], ◌∷◌, ◌++◌, set, refl, sym, ap, ◌∙◌, arith, Option, Some, None, is_none, slice_get, if◌then◌else◌, Sockets, Connection, same_sockets, Side, Sent, client_sockets, retires, retires_in, addressed, past_connection_of, marked, is_clean, epoch, option_or, both_ways, choose, eqb-eq, get_map, get_set, here, there, same_is, is_same}
 
 abbrev pub Apart : List Side → Type 0
 Apart sides = (j k : ℕ) (a b : Side) → slice_get sides j ≡ Some a → slice_get sides k ≡ Some b → client_sockets a ≡ client_sockets b → j ≡ k

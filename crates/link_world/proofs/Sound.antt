@@ -1,19 +1,9 @@
 -- Every segment that a client sends fits its fields, and its text is bytes that fit a datagram.
-use Rattle.std.specs.List.{All}
-use Rattle.std.proofs.Common.{◌≡◌, ℕ, ◌+◌, ◌-◌, ◌<◌, ◌≤◌, min, Bool, true, false, ◌&&◌, inl, inr, [], length, take, drop, refl, arith, Option, Some, None, IfSome, eqb, length-take}
-use Rattle.std.proofs.lemmas.Grind.{common_steps}
-use Rattle.std.proofs.lemmas.List.Elements.{All-take, All-drop}
-use Rattle.uip_wire.specs.Numbers.{wrap}
-use Rattle.tcp_segment.specs.Segments.{PlainSegment, has_ack}
-use Rattle.app_events.specs.Pages.{IsByte, IsAddr}
+use Rattle.link_world.proofs.Prelude.{All, ◌≡◌, ℕ, ◌+◌, ◌-◌, ◌<◌, ◌≤◌, min, Bool, true, false, ◌&&◌, inl, inr, [], length, take, drop, refl, arith, Option, Some, None, IfSome, eqb, length-take, common_steps, All-take, All-drop, wrap, PlainSegment, has_ack, IsByte, IsAddr, ClientState, choose, only_some, wrap_low, all_nil, IsSoundSegment}
 use Rattle.link_client.specs.Client.{AbstractClient, ClientStep, ack_of, client_aborts, client_again, client_closes, client_opens, client_takes, has_outstanding as client_waits, hears_ack, keeps, next_own, offered, opened_by, own_first, own_request, sends_next, syn_of, takes_in_order, takes_text}
 use Rattle.link_client.specs.Client as client
-use Rattle.link_client.specs.declared.client_state.ClientState.{ClientState}
 use Rattle.link_client.specs.declared.client_state.ClientState.TheVariants as Is
 use Rattle.link_world.proofs.ClientCases.{of_aborts, of_again, of_closes, of_opens, of_order, of_sends, of_takes}
-use Rattle.uip_node.proofs.Basics.{choose, only_some, wrap_low}
-use Rattle.uip_node.proofs.Fits.{all_nil}
-use Rattle.uip_node.proofs.SoundSegments.{IsSoundSegment}
 
 -- A client whose numbers fit their fields.
 pub record IsSoundClient (c : AbstractClient) : Type 0 where

@@ -1,30 +1,6 @@
 -- What the node sends in a step is sound.
-use Rattle.std.proofs.Common.{◌≡◌, ℕ, zero, suc, ◌<◌, Bool, false, ◌&&◌, List, [], ◌∷◌, set, refl, subst, arith, Option, Some, None, slice_get, slice_index_or, position}
-use Rattle.std.specs.Prelude.{option_map}
-use Rattle.std.specs.Option.{option_map_or}
-use Rattle.tcp_segment.specs.Segments.{PlainSegment, has_rst}
-use Rattle.app_events.specs.AppSpec.{AppSpec}
-use Rattle.app_events.specs.Pages.{IsAddr}
-use Rattle.app_events.specs.declared.now.Now.{Now}
-use Rattle.tcp_machine.specs.Connection.{Sockets, Connection, closed, serves}
-use Rattle.tcp_machine.specs.Segments.{is_plain_syn, segment_of, is_again, reset_for_no_connection}
-use Rattle.tcp_machine.specs.Ask.{Outcome, asked}
-use Rattle.tcp_machine.specs.OnSegment.{accept, on_segment}
-use Rattle.tcp_machine.specs.OnTick.{on_tick}
-use Rattle.uip_node.specs.Events.{Event, Answer, HistoryEntry, Reply}
-use Rattle.uip_node.specs.Events.Event.{Arrived, Periodic}
-use Rattle.uip_node.specs.Events.Answer.{Silent, Spoke, NoSlot}
-use Rattle.uip_node.specs.Events.Reply.{Echo, Tcp}
-use Rattle.uip_node.specs.Counters.{initial_number, ident_of}
-use Rattle.uip_node.specs.Node.{AbstractNode, NodeStep, snapshot, happened, connection_in, slot_for_syn, passes, refuses, opens_in, opens, for_no_connection, arrives_at, step}
-use Rattle.uip_node.specs.Steady.{IsSteady}
+use Rattle.link_world.proofs.Prelude.{◌≡◌, ℕ, zero, suc, ◌<◌, Bool, false, ◌&&◌, List, [], ◌∷◌, set, refl, subst, arith, Option, Some, None, slice_get, slice_index_or, position, option_map, option_map_or, PlainSegment, has_rst, AppSpec, IsAddr, Now, Sockets, Connection, closed, serves, is_plain_syn, segment_of, is_again, reset_for_no_connection, Outcome, asked, accept, on_segment, on_tick, Event, Answer, HistoryEntry, Reply, Arrived, Periodic, Silent, Spoke, NoSlot, Echo, Tcp, initial_number, ident_of, AbstractNode, NodeStep, snapshot, happened, connection_in, slot_for_syn, passes, refuses, opens_in, opens, for_no_connection, arrives_at, step, IsSteady, choose, only_some, get_set, here, there, FitConn, accepted_fits, asked_fits, on_segment_fits, on_tick_fits, FitNode, index_fits, node_snapshot, Lens, closed_lens, accepted_lens, asked_lens, on_segment_lens, on_tick_lens, IsSoundSegment, none_sound, said_sound}
 use Rattle.link_world.proofs.SaidBytes.{SaysBytesWhere}
-use Rattle.uip_node.proofs.Basics.{choose, only_some}
-use Rattle.uip_node.proofs.Connections.{get_set}
-use Rattle.uip_node.proofs.Connections.Written.{here, there}
-use Rattle.uip_node.proofs.Fits.{FitConn, accepted_fits, asked_fits, on_segment_fits, on_tick_fits}
-use Rattle.uip_node.proofs.FitNodes.{FitNode, index_fits, node_snapshot}
-use Rattle.uip_node.proofs.SoundSegments.{Lens, closed_lens, accepted_lens, asked_lens, on_segment_lens, on_tick_lens, IsSoundSegment, none_sound, said_sound}
 
 abbrev pub EachOf : (Connection → Type 0) → List Connection → Type 0
 EachOf P table = (i : ℕ) (c : Connection) → slice_get table i ≡ Some c → P c

@@ -1,31 +1,7 @@
 -- Every datagram that was ever sent is sound.
-use Rattle.std.proofs.Common.{◌≡◌, ℕ, suc, ◌<◌, Bool, false, List, [], ◌∷◌, map, refl, sym, ap, ◌∙◌, subst, arith, Option, Some, None, slice_get}
-use Rattle.uip_wire.specs.declared.addr.Addr.{Addr}
-use Rattle.tcp_segment.specs.Segments.{PlainSegment}
-use Rattle.app_events.specs.AppSpec.{AppSpec}
-use Rattle.app_events.specs.Pages.{IsAddr}
-use Rattle.tcp_machine.specs.Connection.{Connection, same_sockets}
-use Rattle.uip_node.specs.Events.{Reply}
-use Rattle.uip_node.specs.Events.Event.{Arrived, EchoAsked, Periodic}
-use Rattle.uip_node.specs.Events.Reply.{Echo, Tcp}
-use Rattle.uip_node.specs.Node.{AbstractNode, NodeStep, step}
-use Rattle.link_client.specs.Client.{AbstractClient, ClientStep, client_takes, client_opens, client_again, client_closes, client_aborts, advertises_window}
-use Rattle.link_world.specs.World.{World, Side, Sent, Content, client_sockets, retires, retires_in, addressed, posts, posts_reply, posts_of_client, node_stepped, node_handles, with_client, with_side, client_stepped, marked, delivers}
-use Rattle.link_world.specs.World.Content.{OfSegment, OfPing, OfEcho}
-use Rattle.link_world.specs.Bytes.{ping_from}
-use Rattle.link_world.specs.Acts.{client_acts, handles_all, does}
-use Rattle.link_world.specs.declared.act.Act.{Act}
-use Rattle.link_world.specs.declared.who.Who.{Who}
-use Rattle.link_world.specs.declared.who.Who.TheVariants.{FromClient, FromNode, Pinger}
-use Rattle.link_world.specs.Headline.{IsAct, IsLoss}
-use Rattle.uip_node.specs.Steady.{IsSteady}
+use Rattle.link_world.proofs.Prelude.{◌≡◌, ℕ, suc, ◌<◌, Bool, false, List, [], ◌∷◌, map, refl, sym, ap, ◌∙◌, subst, arith, Option, Some, None, slice_get, Addr, PlainSegment, AppSpec, IsAddr, Connection, same_sockets, Reply, Arrived, EchoAsked, Periodic, Echo, Tcp, AbstractNode, NodeStep, step, AbstractClient, ClientStep, client_takes, client_opens, client_again, client_closes, client_aborts, advertises_window, World, Side, Sent, Content, client_sockets, retires, retires_in, addressed, posts, posts_reply, posts_of_client, node_stepped, node_handles, with_client, with_side, client_stepped, marked, delivers, OfSegment, OfPing, OfEcho, ping_from, client_acts, handles_all, does, Act, Who, FromClient, FromNode, Pinger, IsAct, IsLoss, IsSteady, choose, only_some, get_push, older, newest, get_map, get_set, here, there, IsSoundSegment}
 use Rattle.link_world.proofs.SaidBytes.{SaysBytesWhere}
-use Rattle.uip_node.proofs.Basics.{choose, only_some, get_push}
-use Rattle.uip_node.proofs.Basics.AtEnd.{older, newest}
-use Rattle.uip_node.proofs.Connections.{get_map, get_set}
-use Rattle.uip_node.proofs.Connections.Written.{here, there}
 use Rattle.link_world.proofs.FitWorlds.{FitWorld, put_fits, periodic_fits}
-use Rattle.uip_node.proofs.SoundSegments.{IsSoundSegment}
 use Rattle.link_world.proofs.Sound.{IsSoundClient, SoundStep, takes_sound, opens_sound, again_sound, closes_sound, aborts_sound, window_sound}
 use Rattle.link_world.proofs.SoundNodes.{EachOf, LensAll, SoundReply, SoundNode, arrival_node, periodic_node}
 use Rattle.link_world.proofs.Doing.{at_number, where_there}

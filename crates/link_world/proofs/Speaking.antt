@@ -1,18 +1,7 @@
 -- The output model of an application for one client, as far as the walk of a clean client needs it: its output by what was
 -- received and captured, and what each call does to that. An application whose text is a page has it, and so has one that may
 -- give a connection up in the middle of a piece.
-use Rattle.std.specs.List.{All}
-use Rattle.std.proofs.Common.{◌≡◌, ℕ, ◌+◌, ◌<◌, ◌≤◌, Bool, true, false, ◌⊎◌, inl, inr, List, [], ◌∷◌, ◌++◌, length, drop, refl, sym, ap, ◌∙◌, subst, arith, length-drop}
-use Rattle.app_events.specs.AppSpec.{AppState, Snapshot, AppSpec}
-use Rattle.app_events.specs.Laws.{IsPrefixOf, CanSend}
-use Rattle.app_events.specs.Pages.{Pages, IsPaged, IsSnapshot, MayWant}
-use Rattle.app_events.specs.declared.now.Now.{Now}
-use Rattle.app_events.specs.declared.want.Want.{Want}
-use Rattle.app_events.specs.declared.want.Want.TheVariants.{Nothing, Send, Close, Abort}
-use Rattle.tcp_machine.specs.OnSegment.{hears}
-use Rattle.uip_node.specs.Steady.{IsSteady}
-use Rattle.uip_node.proofs.Steadiness.{steady_of}
-use Rattle.uip_node.proofs.Basics.{append_nothing}
+use Rattle.link_world.proofs.Prelude.{All, ◌≡◌, ℕ, ◌+◌, ◌<◌, ◌≤◌, Bool, true, false, ◌⊎◌, inl, inr, List, [], ◌∷◌, ◌++◌, length, drop, refl, sym, ap, ◌∙◌, subst, arith, length-drop, AppState, Snapshot, AppSpec, IsPrefixOf, CanSend, Pages, IsPaged, IsSnapshot, MayWant, Now, Want, Nothing, Send, Close, Abort, hears, IsSteady, steady_of, append_nothing}
 
 -- The output at some ports: the text of what was received and captured, and whether nothing stopped it; which states are
 -- initial there, and which of these are lost: they receive nothing more.

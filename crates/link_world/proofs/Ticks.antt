@@ -1,33 +1,7 @@
 -- An expired timer sends in that tick.
-use Rattle.std.proofs.Common.{◌≡◌, ℕ, ◌+◌, ◌<◌, ◌≤◌, true, List, [], ◌∷◌, ◌++◌, length, cond, count_by, refl, sym, ap, ◌∙◌, subst, arith, Option, Some, nat_le, ltb, if◌then◌else◌, ◌⊎◌, inl, inr}
-use Rattle.std.specs.Option.{option_map_or}
-use Rattle.std.specs.Prelude.{option_map}
-use Rattle.uip_node.specs.Counters.{ident_of}
-use Rattle.uip_node.specs.Events.Answer.{Spoke, Silent}
-use Rattle.uip_node.specs.Events.Reply.{Tcp}
-use Rattle.std.specs.List.{list_all}
-use Rattle.std.proofs.lemmas.List.Recursion.{is_count_by}
-use Rattle.std.proofs.lemmas.Grind.{common_steps}
-use Rattle.rexmit_timer.specs.Ages.{ages, give_up_age, tries_at, count_at, beat_at}
+use Rattle.link_world.proofs.Prelude.{◌≡◌, ℕ, ◌+◌, ◌<◌, ◌≤◌, true, List, [], ◌∷◌, ◌++◌, length, cond, count_by, refl, sym, ap, ◌∙◌, subst, arith, Option, Some, nat_le, ltb, if◌then◌else◌, ◌⊎◌, inl, inr, option_map_or, option_map, ident_of, Spoke, Silent, Tcp, list_all, is_count_by, common_steps, ages, give_up_age, tries_at, count_at, beat_at, Timer, repeats, PlainSegment, AppSpec, Now, State, SynRcvd, Established, CloseWait, FinWait1, Closing, LastAck, Connection, closed, tries_of, is_resting, segment_of, is_again, syn_ack, text_segment, fin_of, leaves, asked, limit_of, outstanding, grows_older, by_beat, waits_for_ack, ticks_established, tick_by, on_tick, Step, Event, Periodic, AbstractNode, snapshot, happened, may_wait, IsExpired, SendsAgain, and_true, ltb-yes, index_of}
 use Rattle.rexmit_timer.specs.declared.timer.Beat.TheVariants.{Again}
-use Rattle.rexmit_timer.specs.declared.timer.Timer.{Timer}
-use Rattle.rexmit_timer.proofs.AgeTable.{repeats}
-use Rattle.tcp_segment.specs.Segments.{PlainSegment}
-use Rattle.app_events.specs.AppSpec.{AppSpec}
-use Rattle.app_events.specs.declared.now.Now.{Now}
-use Rattle.app_events.specs.declared.state.State.{State}
-use Rattle.app_events.specs.declared.state.State.TheVariants.{SynRcvd, Established, CloseWait, FinWait1, Closing, LastAck}
-use Rattle.tcp_machine.specs.Connection.{Connection, closed, tries_of, is_resting}
-use Rattle.tcp_machine.specs.Segments.{segment_of, is_again, syn_ack, text_segment, fin_of}
-use Rattle.tcp_machine.specs.Ask.{leaves, asked}
-use Rattle.tcp_machine.specs.OnTick.{limit_of, outstanding, grows_older, by_beat, waits_for_ack, ticks_established, tick_by, on_tick}
-use Rattle.tcp_machine.specs.declared.step.Step.{Step}
-use Rattle.uip_node.specs.Events.{Event}
-use Rattle.uip_node.specs.Events.Event.{Periodic}
-use Rattle.uip_node.specs.Node.{AbstractNode, snapshot, happened}
-use Rattle.link_world.specs.Headline.{may_wait, IsExpired, SendsAgain, Tick}
-use Rattle.uip_node.proofs.Basics.{and_true, ltb-yes}
-use Rattle.uip_node.proofs.Connections.{index_of}
+use Rattle.link_world.specs.Headline.{Tick}
 
 -- how many of some ages were reached
 abbrev reached : ℕ → List ℕ → ℕ

@@ -1,23 +1,10 @@
 -- What is known of one clean client, carried over each change of its connection, its client and the list of datagrams.
-use Rattle.std.proofs.Common.{◌≡◌, ℕ, zero, suc, ◌+◌, ◌<◌, ◌≤◌, Bool, true, false, ◌⊎◌, inl, inr, List, [], ◌∷◌, ◌++◌, length, refl, sym, ap, ◌∙◌, subst, arith, Option, Some, None, get_or, length-append, ltb, if◌then◌else◌}
-use Rattle.std.proofs.lemmas.Grind.{common_steps}
-use Rattle.uip_wire.specs.Numbers.{wrap}
-use Rattle.tcp_segment.specs.Segments.{PlainSegment, has_rst}
-use Rattle.app_events.specs.AppSpec.{Snapshot, AppSpec}
-use Rattle.app_events.specs.declared.state.State.{State}
-use Rattle.app_events.specs.declared.state.State.TheVariants.{Closed, SynRcvd, Established, CloseWait, FinWait1, FinWait2, Closing, TimeWait, LastAck}
-use Rattle.tcp_machine.specs.Connection.{Connection, closed, is_live}
-use Rattle.link_client.specs.Client.{AbstractClient, ClientStep}
-use Rattle.link_world.specs.World.{Sent, PastConnection, becomes_opened, past_connection_of}
-use Rattle.link_world.specs.History.{era}
-use Rattle.uip_node.proofs.Basics.{both_ways, append_nothing, get_push}
-use Rattle.uip_node.proofs.Basics.AtEnd.{older, newest}
+use Rattle.link_world.proofs.Prelude.{◌≡◌, ℕ, zero, suc, ◌+◌, ◌<◌, ◌≤◌, Bool, true, false, ◌⊎◌, inl, inr, List, [], ◌∷◌, ◌++◌, length, refl, sym, ap, ◌∙◌, subst, arith, Option, Some, None, get_or, length-append, ltb, if◌then◌else◌, common_steps, wrap, PlainSegment, has_rst, Snapshot, AppSpec, State, Closed, SynRcvd, Established, CloseWait, FinWait1, FinWait2, Closing, TimeWait, LastAck, Connection, closed, is_live, AbstractClient, ClientStep, Sent, PastConnection, becomes_opened, past_connection_of, era, both_ways, append_nothing, get_push, older, newest, IsPrefixOf}
 use Rattle.link_world.proofs.Speaking.{Speaker, HasOutputModel}
 use Rattle.link_world.proofs.Clients.{not_opening}
 use Rattle.link_world.proofs.Later.{part_later, all_later, node_later, client_later}
 use Rattle.link_world.proofs.Good.{is_some, seg, from, to, AtText, AtFin, AtRest, StateGood, ConnGood, NodeSaid, Moved, FromGood, ToGood, HasOpened, OpenedGood, Good, TookGood}
 use Rattle.link_world.proofs.Good.NodeSaid.{node_reset}
-use Rattle.app_events.specs.Laws.{IsPrefixOf}
 
 -- the captures of an epoch only grow, and its first number stays
 pub record EraLater (a b : PastConnection) : Type 0 where

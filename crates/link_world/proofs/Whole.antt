@@ -1,22 +1,5 @@
 -- The bytes of a sound datagram pass every check.
-use Rattle.std.specs.List.{All}
-use Rattle.std.proofs.Common.{◌≡◌, ℕ, ◌+◌, List, [], ◌∷◌, length, take, refl, sym, ap, ◌∙◌, arith, None, length-append}
-use Rattle.std.proofs.lemmas.List.{drop_at}
-use Rattle.std.proofs.lemmas.List.Elements.{All-append}
-use Rattle.uip_wire.specs.Checksum.{folded}
-use Rattle.uip_wire.specs.declared.addr.Addr.{Addr}
-use Rattle.uip_ipv4.specs.Head.{head_bytes, payload_of, IsHeadOf}
-use Rattle.uip_ipv4.specs.declared.head.IpHead.{IpHead}
-use Rattle.uip_ipv4.specs.declared.proto.Proto.TheVariants.{Icmp}
-use Rattle.icmp_echo.specs.Echo.{echo_fate}
-use Rattle.uip_ipv4.proofs.Back.{length-head_bytes, reads_back}
-use Rattle.tcp_segment.specs.ReadBack.{IsReadBack, head_of, fields_sent}
-use Rattle.tcp_segment.specs.Segments.{Datagram, datagram_bytes}
-use Rattle.app_events.specs.Pages.{IsByte, IsAddr}
-use Rattle.link_world.specs.Bytes.{ping_from}
-use Rattle.link_world.specs.Headline.{IsWholeDatagram}
-use Rattle.uip_node.proofs.SoundSegments.{IsSoundSegment}
-use Rattle.uip_node.proofs.DatagramsBack.{IsPlace, whole_length, datagram_back, bytes_low, head_bytes_low, Each, each_all}
+use Rattle.link_world.proofs.Prelude.{All, ◌≡◌, ℕ, ◌+◌, List, [], ◌∷◌, length, take, refl, sym, ap, ◌∙◌, arith, None, length-append, drop_at, All-append, folded, Addr, head_bytes, payload_of, IsHeadOf, IpHead, Icmp, echo_fate, length-head_bytes, reads_back, IsReadBack, head_of, fields_sent, Datagram, datagram_bytes, IsByte, IsAddr, ping_from, IsWholeDatagram, IsSoundSegment, IsPlace, whole_length, datagram_back, bytes_low, head_bytes_low, Each, each_all}
 
 pub datagram_whole : (d : Datagram) → IsPlace d → IsSoundSegment d.segment → IsWholeDatagram (datagram_bytes d)
 datagram_whole d p h =

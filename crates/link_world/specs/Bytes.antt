@@ -2,14 +2,12 @@
 use Rattle.std.specs.Option.{option_map_or}
 use Rattle.std.specs.Prelude.{ℕ, List, [], ◌∷◌, ◌++◌, Option, Some, None, slice_index, slice_set, bit_xor, if◌then◌else◌}
 use Rattle.uip_wire.specs.declared.addr.Addr.{Addr}
-use Rattle.uip_ipv4.specs.Head.{head_bytes}
+use Rattle.uip_ipv4.specs.Prelude.{head_bytes}
 use Rattle.uip_ipv4.specs.declared.proto.Proto.TheVariants.{Icmp}
-use Rattle.icmp_echo.specs.Echo.{echo_reply}
-use Rattle.tcp_segment.specs.Segments.{PlainSegment, datagram_bytes}
-use Rattle.tcp_machine.specs.Connection.{Sockets, same_sockets}
-use Rattle.uip_node.specs.Events.{Event}
-use Rattle.uip_node.specs.Events.Event.{Arrived}
-use Rattle.uip_node.specs.Edge.{event_of, datagram_to}
+use Rattle.icmp_echo.specs.Prelude.{echo_reply}
+use Rattle.tcp_segment.specs.Prelude.{PlainSegment, datagram_bytes}
+use Rattle.tcp_machine.specs.Prelude.{Sockets, same_sockets}
+use Rattle.uip_node.specs.Prelude.{Event, Arrived, event_of, datagram_to}
 use Rattle.link_client.specs.declared.setup.Setup.{Setup}
 use Rattle.link_world.specs.World.{World, Side, Sent, Content, client_sockets, numbered}
 use Rattle.link_world.specs.World.Content.{OfSegment, OfPing, OfEcho}

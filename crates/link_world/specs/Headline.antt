@@ -4,29 +4,21 @@
 -- [add: act] Act: `IsPlainAct` and `IsAct`.
 use Rattle.std.specs.List.{All, list_any}
 use Rattle.std.specs.Prelude.{◌≡◌, ℕ, suc, ◌+◌, ◌<◌, ◌≤◌, ◌⊎◌, ◌==◌, Bool, true, false, if◌then◌else◌, List, [], ◌∷◌, length, Option, Some, None, Ok, slice_get}
-use Rattle.uip_wire.specs.Numbers.{wrap}
-use Rattle.tcp_segment.specs.Segments.{PlainSegment, has_rst, has_ack}
-use Rattle.app_events.specs.AppSpec.{AppSpec}
-use Rattle.app_events.specs.Laws.{IsPrefixOf}
-use Rattle.app_events.specs.Pages.{Pages, IsPaged, IsByte, IsAddr}
-use Rattle.link_client.specs.Client.{AbstractClient, has_closed}
+use Rattle.uip_wire.specs.Prelude.{wrap}
+use Rattle.tcp_segment.specs.Prelude.{PlainSegment, has_rst, has_ack, segment_or_fate}
+use Rattle.app_events.specs.Prelude.{AppSpec, IsPrefixOf, Pages, IsPaged, IsByte, IsAddr}
+use Rattle.link_client.specs.Prelude.{AbstractClient, has_closed}
 use Rattle.app_events.specs.declared.state.State.{State}
 use Rattle.app_events.specs.declared.state.State.TheVariants.{Closed, FinWait2, TimeWait}
-use Rattle.tcp_machine.specs.Connection.{Connection, is_live, count_of, tries_of}
-use Rattle.tcp_machine.specs.Segments.{occupies_sequence_space, segment_of}
-use Rattle.tcp_machine.specs.OnTick.{limit_of, outstanding, grows_older}
+use Rattle.tcp_machine.specs.Prelude.{Connection, is_live, count_of, tries_of, occupies_sequence_space, segment_of, limit_of, outstanding, grows_older}
 use Rattle.uip_node.specs.Events.{Event as NodeEvent, Reply}
-use Rattle.uip_node.specs.Events.Event.{IpRefused, IcmpRefused, TcpRefused, EchoAsked, Arrived, Overlong, Periodic}
-use Rattle.uip_node.specs.Events.Answer.{Silent}
+use Rattle.uip_node.specs.Prelude.{IpRefused, IcmpRefused, TcpRefused, EchoAsked, Arrived, Overlong, Periodic, Silent, ticks_of, initial_number, ident_of, counters, raised_by, AbstractNode, step, serving, HasBytes, Alike, IsSteady}
 use Rattle.uip_node.specs.Events.Reply.{Tcp as TcpReply}
-use Rattle.uip_node.specs.Counters.{ticks_of, initial_number, ident_of, counters, raised_by}
-use Rattle.uip_node.specs.Node.{AbstractNode, step}
-use Rattle.uip_ipv4.specs.Head.{IsHeadOf, payload_of}
+use Rattle.uip_ipv4.specs.Prelude.{IsHeadOf, payload_of}
 use Rattle.uip_ipv4.specs.declared.head.IpHead.{IpHead}
 use Rattle.uip_ipv4.specs.declared.proto.Proto.{Proto}
 use Rattle.uip_ipv4.specs.declared.proto.Proto.TheVariants.{Icmp as IcmpProto, Tcp as TcpProto}
-use Rattle.icmp_echo.specs.Echo.{echo_fate}
-use Rattle.tcp_segment.specs.Received.{segment_or_fate}
+use Rattle.icmp_echo.specs.Prelude.{echo_fate}
 use Rattle.tcp_segment.specs.declared.segment.Segment.{Segment}
 use Rattle.link_world.specs.Bytes.{sent_bytes}
 use Rattle.link_world.specs.World.{World, Side, Sent, numbered, client_sockets, is_clean}
@@ -35,9 +27,7 @@ use Rattle.link_world.specs.declared.who.Who.{Who}
 use Rattle.link_world.specs.declared.who.Who.TheVariants.{FromClient, FromNode, Pinger}
 use Rattle.link_world.specs.Acts.{does, runs}
 use Rattle.link_world.specs.History.{Start, started, era, page_of, is_whole}
-use Rattle.uip_node.specs.Laws.{serving, HasBytes, Alike}
 use Rattle.link_world.specs.Schedule.{plays}
-use Rattle.uip_node.specs.Steady.{IsSteady}
 use Rattle.link_world.specs.declared.act.Act.{Act}
 use Rattle.link_schedule.specs.declared.event.Event.{Event}
 

@@ -3,12 +3,10 @@ use Rattle.std.specs.List.{All}
 use Rattle.std.specs.Option.{option_map_or}
 use Rattle.std.specs.Prelude.{ℕ, ◌≡◌, ◌<◌, ◌≤◌, List, [], length, map, nat_lt, if◌then◌else◌, Bool, Some, None, slice_get, slice_index_or}
 use Rattle.uip_wire.specs.declared.addr.Addr.{Addr}
-use Rattle.app_events.specs.AppSpec.{Snapshot}
-use Rattle.app_events.specs.Pages.{Pages, IsAddr, IsByte, IsU32}
-use Rattle.tcp_machine.specs.Connection.{Sockets, Connection, closed}
-use Rattle.uip_node.specs.Laws.{serving}
-use Rattle.uip_node.specs.Node.{initial_node}
-use Rattle.link_client.specs.Client.{idle}
+use Rattle.app_events.specs.Prelude.{Snapshot, Pages, IsAddr, IsByte, IsU32}
+use Rattle.tcp_machine.specs.Prelude.{Sockets, Connection, closed}
+use Rattle.uip_node.specs.Prelude.{serving, initial_node}
+use Rattle.link_client.specs.Prelude.{idle}
 use Rattle.link_client.specs.declared.setup.Setup.{Setup}
 use Rattle.link_world.specs.World.{World, Side, PastConnection, client_sockets, past_connection_of}
 

@@ -2,11 +2,10 @@
 use Rattle.std.specs.List.{All}
 use Rattle.std.specs.Prelude.{◌≡◌, ℕ, ◌+◌, ◌*◌, ◌<◌, ◌≤◌, Bool, true, List, [], ◌∷◌, length, replicate, Some, Ok, slice_get}
 use Rattle.uip_wire.specs.declared.addr.Addr.{Addr}
-use Rattle.app_events.specs.AppSpec.{AppState, AppSpec}
-use Rattle.app_events.specs.Pages.{Pages, IsPaged, IsU32, IsAddr}
-use Rattle.tcp_machine.specs.OnSegment.{first_mss}
-use Rattle.uip_node.specs.Answering.{AnswersIn}
-use Rattle.link_client.specs.Client.{offered}
+use Rattle.app_events.specs.Prelude.{AppState, AppSpec, Pages, IsPaged, IsU32, IsAddr}
+use Rattle.tcp_machine.specs.Prelude.{first_mss}
+use Rattle.uip_node.specs.Prelude.{AnswersIn}
+use Rattle.link_client.specs.Prelude.{offered}
 use Rattle.link_client.specs.declared.client_state.ClientState.TheVariants.{Closed}
 use Rattle.link_world.specs.World.{World, Side, is_clean}
 use Rattle.link_world.specs.History.{Planned, IsPlan, initial_world, page_of, is_whole}

@@ -9,3 +9,4 @@ pub mod Honest
 pub mod Reading
 pub mod Times
 pub mod Nodes
+pub mod Prelude

@@ -2,13 +2,10 @@
 use Rattle.std.specs.List.{All}
 use Rattle.std.specs.Prelude.{◌≡◌, ℕ, ◌+◌, ◌<◌, ◌≤◌, ◌⊎◌, Bool, true, List, length, Some, slice_get}
 use Rattle.uip_wire.specs.declared.addr.Addr.{Addr}
-use Rattle.app_events.specs.AppSpec.{AppSpec}
-use Rattle.app_events.specs.Pages.{Pages, IsPaged, IsSnapshot, IsU32}
+use Rattle.app_events.specs.Prelude.{AppSpec, Pages, IsPaged, IsSnapshot, IsU32}
 use Rattle.app_events.specs.declared.state.State.TheVariants.{Established, CloseWait}
-use Rattle.tcp_machine.specs.Connection.{Connection, is_live}
-use Rattle.uip_node.specs.Events.{Event}
-use Rattle.uip_node.specs.Laws.{IsEvent}
-use Rattle.uip_node.specs.Node.{initial_node, run}
+use Rattle.tcp_machine.specs.Prelude.{Connection, is_live}
+use Rattle.uip_node.specs.Prelude.{Event, IsEvent, initial_node, run}
 
 -- a connection of a node that such events reach
 pub record IsOfNode (m : AppSpec) (c : Connection) : Type 0 where

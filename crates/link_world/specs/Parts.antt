@@ -1,15 +1,13 @@
 -- Invariants of a clean client: the slices of its page, its FINs, its epochs and its requests.
 use Rattle.std.specs.Prelude.{◌≡◌, ℕ, suc, ◌+◌, ◌<◌, ◌≤◌, ◌⊎◌, true, false, List, [], length, take, Some, None, slice_get, is_some}
-use Rattle.uip_wire.specs.Numbers.{wrap}
-use Rattle.tcp_segment.specs.Segments.{PlainSegment, has_syn, has_fin, has_rst, has_ack}
-use Rattle.app_events.specs.AppSpec.{AppSpec}
-use Rattle.app_events.specs.Laws.{IsPrefixOf}
-use Rattle.app_events.specs.Pages.{Pages, IsPaged}
+use Rattle.uip_wire.specs.Prelude.{wrap}
+use Rattle.tcp_segment.specs.Prelude.{PlainSegment, has_syn, has_fin, has_rst, has_ack}
+use Rattle.app_events.specs.Prelude.{AppSpec, IsPrefixOf, Pages, IsPaged}
 use Rattle.app_events.specs.declared.state.State.TheVariants.{SynRcvd}
-use Rattle.tcp_machine.specs.Connection.{Connection, is_live}
-use Rattle.link_client.specs.Client.{AbstractClient, own_first, fin_sent}
+use Rattle.tcp_machine.specs.Prelude.{Connection, is_live}
+use Rattle.link_client.specs.Prelude.{AbstractClient, own_first, fin_sent}
 use Rattle.link_client.specs.declared.client_state.ClientState.TheVariants.{Idle, Opening}
-use Rattle.uip_node.specs.Laws.{IsSlice}
+use Rattle.uip_node.specs.Prelude.{IsSlice}
 use Rattle.link_world.specs.World.{World, Side, Sent, PastConnection, is_clean}
 use Rattle.link_world.specs.World.Content.{OfSegment}
 use Rattle.link_world.specs.declared.who.Who.TheVariants.{FromClient, FromNode}

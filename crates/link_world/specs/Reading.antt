@@ -1,16 +1,13 @@
 -- What the bytes of a datagram contain, and who sends what to whom.
 use Rattle.std.specs.Prelude.{◌≡◌, ℕ, ◌≤◌, List, length, Some, slice_get}
 use Rattle.uip_wire.specs.declared.sizes.TheConstants.{LARGEST_DATAGRAM}
-use Rattle.app_events.specs.AppSpec.{AppSpec}
-use Rattle.app_events.specs.Pages.{Pages, IsPaged}
-use Rattle.uip_node.specs.Events.Event.{EchoAsked, Arrived}
-use Rattle.uip_node.specs.Edge.{event_of}
+use Rattle.app_events.specs.Prelude.{AppSpec, Pages, IsPaged}
+use Rattle.uip_node.specs.Prelude.{EchoAsked, Arrived, event_of, HasBytes}
 use Rattle.link_world.specs.World.{World, Side, Sent, Content, numbered, client_sockets}
 use Rattle.link_world.specs.World.Content.{OfSegment, OfPing, OfEcho}
 use Rattle.link_world.specs.Bytes.{sent_bytes, hears_datagram}
 use Rattle.link_world.specs.declared.who.Who.{Who}
 use Rattle.link_world.specs.declared.who.Who.TheVariants.{FromClient, FromNode, Pinger}
-use Rattle.uip_node.specs.Laws.{HasBytes}
 use Rattle.link_world.specs.Headline.{IsReached}
 
 -- The receiver reads in the bytes of a datagram what was sent. Between a client and the node this requires that the server of the client

@@ -3,7 +3,7 @@
 use Rattle.std.specs.List.{range_with_len}
 use Rattle.std.specs.Prelude.{ℕ, ◌+◌, ◌-◌, ◌%◌, ◌==◌, List, [], ◌∷◌, length, map, filter, flat_map, replicate, reverse, max, Bool, Result, Ok}
 use Rattle.std.specs.Result.{result_map_both}
-use Rattle.app_events.specs.AppSpec.{AppSpec}
+use Rattle.app_events.specs.Prelude.{AppSpec}
 use Rattle.link_schedule.specs.Numbers.{◌>>=◌}
 use Rattle.link_world.specs.World.{World}
 use Rattle.link_world.specs.Acts.{runs}

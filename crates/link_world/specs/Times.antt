@@ -2,10 +2,9 @@
 use Rattle.std.specs.List.{All}
 use Rattle.std.specs.Prelude.{◌≡◌, ℕ, suc, ◌+◌, ◌≤◌, ◌⊎◌, Bool, true, false, List, length, map, Some, None, Ok, slice_get}
 use Rattle.uip_wire.specs.declared.addr.Addr.{Addr}
-use Rattle.tcp_segment.specs.Segments.{PlainSegment, has_rst, has_ack}
-use Rattle.app_events.specs.AppSpec.{AppSpec}
-use Rattle.app_events.specs.Pages.{Pages, IsPaged}
-use Rattle.tcp_machine.specs.Connection.{is_live}
+use Rattle.tcp_segment.specs.Prelude.{PlainSegment, has_rst, has_ack}
+use Rattle.app_events.specs.Prelude.{AppSpec, Pages, IsPaged}
+use Rattle.tcp_machine.specs.Prelude.{is_live}
 use Rattle.link_world.specs.World.{World, Side, Sent, epoch, is_clean}
 use Rattle.link_world.specs.World.Content.{OfSegment}
 use Rattle.link_world.specs.Bytes.{sent_bytes}
@@ -15,7 +14,7 @@ use Rattle.link_world.specs.Schedule.{plays}
 use Rattle.link_schedule.specs.declared.event.Event.{Event}
 use Rattle.link_world.specs.declared.act.Act.{Act}
 use Rattle.link_world.specs.declared.who.Who.TheVariants.{FromClient}
-use Rattle.uip_node.specs.Laws.{HasBytes}
+use Rattle.uip_node.specs.Prelude.{HasBytes}
 use Rattle.link_world.specs.Headline.{IsAct, IsPlainAct, IsReached, IsSchedulePlayed, server_side}
 
 -- A world that is reached, and one that further acts reach from it, each act accepted.

@@ -1,15 +1,11 @@
 -- The world of a replay: the node, the clients, and the list of all datagrams ever sent.
 use Rattle.std.specs.Option.{option_map_or, option_or}
 use Rattle.std.specs.Prelude.{ℕ, zero, suc, ◌+◌, ◌==◌, Bool, true, false, List, [], ◌∷◌, ◌++◌, length, map, Option, Some, None, if◌then◌else◌, is_none, slice_get, slice_set}
-use Rattle.tcp_segment.specs.Segments.{PlainSegment}
-use Rattle.app_events.specs.AppSpec.{Snapshot, AppSpec}
-use Rattle.tcp_machine.specs.Connection.{Sockets, Connection, same_sockets}
-use Rattle.uip_node.specs.Events.{Event, Reply}
-use Rattle.uip_node.specs.Events.Event.{EchoAsked, Arrived}
-use Rattle.uip_node.specs.Events.Reply.{Echo, Tcp}
-use Rattle.uip_node.specs.Counters.{ticks_of}
-use Rattle.uip_node.specs.Node.{AbstractNode, NodeStep, step}
-use Rattle.link_client.specs.Client.{AbstractClient, ClientStep, client_takes}
+use Rattle.tcp_segment.specs.Prelude.{PlainSegment}
+use Rattle.app_events.specs.Prelude.{Snapshot, AppSpec}
+use Rattle.tcp_machine.specs.Prelude.{Sockets, Connection, same_sockets}
+use Rattle.uip_node.specs.Prelude.{Event, Reply, EchoAsked, Arrived, Echo, Tcp, ticks_of, AbstractNode, NodeStep, step}
+use Rattle.link_client.specs.Prelude.{AbstractClient, ClientStep, client_takes}
 use Rattle.link_client.specs.declared.client_state.ClientState.{ClientState}
 use Rattle.link_client.specs.declared.client_state.ClientState.TheVariants.{Opening, Opened}
 use Rattle.link_world.specs.declared.who.Who.{Who}

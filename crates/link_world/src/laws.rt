@@ -2,12 +2,7 @@
 //! page, and all of it if it saw a normal close. Each law is the clause of a function without parameters; docs/LINK_THEOREM.md
 //! describes the proof.
 
-ghost use Rattle.link_world.specs.Parts.{CleanParts};
-ghost use Rattle.link_world.specs.Honest.{HonestLink};
-ghost use Rattle.link_world.specs.Reading.{BytesAreRead, SentToClients};
-ghost use Rattle.link_world.specs.Headline.{PrefixAndWhole, SameBytes, SameBytesPlainly, AgainExactly, AgainExactlyPlainly, Tick, DamageIsLoss, DamageIsLossThere, OneSegment, LinesAreActs};
-ghost use Rattle.link_world.specs.Nodes.{CapturesFit, TextNumbers, TextsAreShort};
-ghost use Rattle.link_world.specs.Times.{AcknowledgedLater, EpochsAreFew, MarkIsLow, NoneIsEmpty, OneConnection, SidesAsPlanned};
+ghost use Rattle.link_world.specs.Prelude.{CleanParts, HonestLink, BytesAreRead, SentToClients, PrefixAndWhole, SameBytes, SameBytesPlainly, AgainExactly, AgainExactlyPlainly, Tick, DamageIsLoss, DamageIsLossThere, OneSegment, LinesAreActs, CapturesFit, TextNumbers, TextsAreShort, AcknowledgedLater, EpochsAreFew, MarkIsLow, NoneIsEmpty, OneConnection, SidesAsPlanned};
 
 /// A clean client has received a prefix of its page, and the whole page if it accepted the server's FIN in sequence.
 pub fn prefix_and_whole()

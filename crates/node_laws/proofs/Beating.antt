@@ -1,31 +1,5 @@
 -- A connection with something outstanding: when its timer expires, and how it ends.
-use Rattle.std.specs.List.{All, list_any}
-use Rattle.std.proofs.Common.{◌≡◌, ℕ, ◌+◌, ◌<◌, ◌≤◌, Bool, true, false, not, ◌==◌, ◌&&◌, ◌⊎◌, inl, inr, List, length, take, refl, sym, ap, ◌∙◌, subst, arith, Option, Some, None, eqb, ltb, if◌then◌else◌}
-use Rattle.std.proofs.lemmas.Bool.{eq-eqb, cases_lt}
-use Rattle.tcp_segment.specs.Segments.{PlainSegment, has_syn, has_fin, has_rst}
-use Rattle.rexmit_timer.specs.Ages.{ages, beat_at, give_up_age}
-use Rattle.rexmit_timer.specs.declared.timer.Beat.{Beat}
-use Rattle.app_events.specs.AppSpec.{AppState, AppSpec}
-use Rattle.app_events.specs.Pages.{IsSnapshot}
-use Rattle.app_events.specs.States.{is_time_wait}
-use Rattle.app_events.specs.declared.now.Now.{Now}
-use Rattle.app_events.specs.declared.state.State.{State}
-use Rattle.app_events.specs.declared.state.State.TheVariants.{Closed, SynRcvd, Established, CloseWait, FinWait1, FinWait2, Closing, TimeWait, LastAck}
-use Rattle.app_events.specs.declared.want.Want.{Want}
-use Rattle.app_events.specs.declared.want.Want.TheVariants.{Nothing, Send, Close, Abort}
-use Rattle.tcp_machine.specs.Connection.{Connection, is_live}
-use Rattle.tcp_machine.specs.Segments.{segment_of, is_again, syn_ack, text_segment, fin_of}
-use Rattle.tcp_machine.specs.Ask.{Outcome, leaves, closes, after_own_fin, peer_has_closed, idles, does_as_wanted, prepared, asked}
-use Rattle.tcp_machine.specs.OnSegment.{first_mss, is_out_of_order, is_acked, rests, has_text, with_part, peer_closes, stays_established, in_established, fin_acked, fin_waits, by_state, on_segment}
-use Rattle.tcp_machine.specs.OnTick.{limit_of, outstanding, grows_older, by_beat, polls, ticks_established, waits_for_ack, on_tick, tick_by}
-use Rattle.tcp_machine.specs.declared.step.Step.{Step}
-use Rattle.uip_node.specs.Laws.{Alike}
-use Rattle.uip_node.specs.Steady.{IsSteady}
-use Rattle.uip_node.proofs.Basics.{choose, cut_length, ltb-yes, zero_or_more}
-use Rattle.tcp_machine.specs.Represents.{is_open}
-use Rattle.uip_node.proofs.Cases.{asked_by, fin_lives, is_ask, open_live, on_tick_by}
-use Rattle.uip_node.proofs.Told.{SafeState, OutTells, due}
-use Rattle.node_laws.specs.Promise.{sequence_length}
+use Rattle.node_laws.proofs.Prelude.{All, list_any, ◌≡◌, ℕ, ◌+◌, ◌<◌, ◌≤◌, Bool, true, false, not, ◌==◌, ◌&&◌, ◌⊎◌, inl, inr, List, length, take, refl, sym, ap, ◌∙◌, subst, arith, Option, Some, None, eqb, ltb, if◌then◌else◌, eq-eqb, cases_lt, PlainSegment, has_syn, has_fin, has_rst, ages, beat_at, give_up_age, Beat, AppState, AppSpec, IsSnapshot, is_time_wait, Now, State, Closed, SynRcvd, Established, CloseWait, FinWait1, FinWait2, Closing, TimeWait, LastAck, Want, Nothing, Send, Close, Abort, Connection, is_live, segment_of, is_again, syn_ack, text_segment, fin_of, Outcome, leaves, closes, after_own_fin, peer_has_closed, idles, does_as_wanted, prepared, asked, first_mss, is_out_of_order, is_acked, rests, has_text, with_part, peer_closes, stays_established, in_established, fin_acked, fin_waits, by_state, on_segment, limit_of, outstanding, grows_older, by_beat, polls, ticks_established, waits_for_ack, on_tick, tick_by, Step, Alike, IsSteady, choose, cut_length, ltb-yes, zero_or_more, is_open, asked_by, fin_lives, is_ask, open_live, on_tick_by, SafeState, OutTells, due, sequence_length}
 
 pub mss_some : (o : Option ℕ) → 0 < first_mss o
 mss_some None = omega arith

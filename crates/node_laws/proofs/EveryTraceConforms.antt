@@ -1,32 +1,6 @@
 -- Every trace of a node.
-use Rattle.std.specs.List.{All}
-use Rattle.std.specs.Prelude.{option_map}
-use Rattle.std.proofs.Common.{◌≡◌, ℕ, Bool, ◌&&◌, List, [], ◌∷◌, map, position, true, false, inl, refl, sym, ap, subst, Option, Some, None}
-use Rattle.tcp_segment.specs.Segments.{PlainSegment, has_rst}
-use Rattle.app_events.specs.Pages.{IsAddr, IsByte, IsPaged, IsU32, MayWant, Pages}
-use Rattle.app_events.specs.AppSpec.{AppSpec, AppState}
-use Rattle.app_events.specs.declared.want.Want.TheVariants.{Close}
-use Rattle.uip_wire.specs.declared.addr.Addr.{Addr}
-use Rattle.tcp_machine.specs.Connection.{Sockets, Connection, serves}
-use Rattle.tcp_machine.specs.Segments.{is_again, is_plain_syn, segment_of}
-use Rattle.tcp_machine.specs.Ask.{Outcome}
-use Rattle.uip_node.specs.Counters.{ident_of}
-use Rattle.uip_node.specs.Events.{Event}
-use Rattle.uip_node.specs.Events.Event.{IpRefused, IcmpRefused, TcpRefused, EchoAsked, Arrived, Overlong, Periodic}
-use Rattle.uip_node.specs.Events.Reply.{Echo, Tcp}
+use Rattle.node_laws.proofs.Prelude.{All, option_map, ◌≡◌, ℕ, Bool, ◌&&◌, List, [], ◌∷◌, map, position, true, false, inl, refl, sym, ap, subst, Option, Some, None, PlainSegment, has_rst, IsAddr, IsByte, IsPaged, IsU32, MayWant, Pages, AppSpec, AppState, Close, Addr, Sockets, Connection, serves, is_again, is_plain_syn, segment_of, Outcome, ident_of, Event, IpRefused, IcmpRefused, TcpRefused, EchoAsked, Arrived, Overlong, Periodic, Echo, Tcp, append_nothing, choose, all_nil, all_cons, HasBytes, SendsBytes, IsEchoed, IsSteady, steady_of, page_bytes, OutputModel, HasOutputModel, at_every_port, EveryTraceConforms, EveryTraceOfPagesConforms, TraceConforms, TraceEntry, IsReadByPeer}
 use Rattle.uip_node.specs.Node.{AbstractNode, NodeStep, arrives_at, for_no_connection, happened, initial_node, opens as opens_at, opens_in, slot_for_syn, step}
-use Rattle.uip_node.proofs.Basics.{append_nothing, choose}
-use Rattle.uip_node.proofs.Fits.{all_nil, all_cons}
-use Rattle.uip_node.specs.Laws.{HasBytes, SendsBytes}
-use Rattle.node_laws.specs.Asked.{IsEchoed}
-use Rattle.uip_node.specs.Steady.{IsSteady}
-use Rattle.uip_node.proofs.Steadiness.{steady_of}
-use Rattle.uip_node.proofs.DeliveredBytes.{page_bytes}
-use Rattle.node_laws.specs.Promise.{OutputModel}
-use Rattle.node_laws.specs.Speakers.{HasOutputModel, at_every_port}
-use Rattle.node_laws.specs.TraceConforms.{EveryTraceConforms, EveryTraceOfPagesConforms, TraceConforms}
-use Rattle.node_laws.specs.Traces.{TraceEntry}
-use Rattle.node_laws.specs.Wire.{IsReadByPeer}
 use Rattle.node_laws.proofs.Whole.{session_ends}
 use Rattle.node_laws.proofs.PeerReads.{every_peer_reads}
 use Rattle.node_laws.proofs.Steps.{LineStep, OfNode, Changes, IsStep, all_happen, changed, turns_happen, trace_over}

@@ -1,20 +1,5 @@
 -- What every node satisfies that any events reach: no two connections of one peer, and numbers of their types.
-use Rattle.std.specs.List.{All}
-use Rattle.std.proofs.Common.{ℕ, Bool, List, ◌∷◌, length, subst, arith}
-use Rattle.std.proofs.lemmas.List.Elements.{All-head}
-use Rattle.uip_wire.specs.declared.addr.Addr.{Addr}
-use Rattle.app_events.specs.AppSpec.{AppState, AppSpec}
-use Rattle.app_events.specs.Pages.{IsSnapshot, IsU32}
-use Rattle.tcp_machine.specs.Connection.{Connection}
-use Rattle.uip_node.specs.Events.{Event}
-use Rattle.uip_node.specs.Laws.{IsEvent}
-use Rattle.uip_node.specs.Node.{AbstractNode, initial_node, step}
-use Rattle.uip_node.specs.Steady.{IsSteady}
-use Rattle.uip_node.proofs.Connections.{Single, none_serves, all_closed}
-use Rattle.uip_node.proofs.Fits.{FitConn}
-use Rattle.uip_node.proofs.FitNodes.{FitNode, closed_fits, event_fits}
-use Rattle.uip_node.proofs.Told.{Safe}
-use Rattle.node_laws.specs.Wire.{IsOfLine}
+use Rattle.node_laws.proofs.Prelude.{All, ℕ, Bool, List, ◌∷◌, length, subst, arith, All-head, Addr, AppState, AppSpec, IsSnapshot, IsU32, Connection, Event, IsEvent, AbstractNode, initial_node, step, IsSteady, Single, none_serves, all_closed, FitConn, FitNode, closed_fits, event_fits, Safe, IsOfLine}
 use Rattle.node_laws.proofs.Lines.{comes}
 use Rattle.node_laws.proofs.Wire.{line_wire, wire_event}
 

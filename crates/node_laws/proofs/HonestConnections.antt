@@ -1,39 +1,6 @@
 -- The connection with an honest peer: at each segment of its peer it sends what the application has next.
-use Rattle.std.specs.List.{All}
-use Rattle.std.specs.Option.{option_map_or}
-use Rattle.std.proofs.Common.{◌≡◌, ℕ, suc, ◌+◌, ◌<◌, ◌≤◌, ◌==◌, min, Bool, true, false, if◌then◌else◌, not, ◌&&◌, inl, inr, List, [], ◌∷◌, ◌++◌, length, take, drop, refl, sym, ap, ◌∙◌, subst, arith, Option, Some, None, is_some, eqb, ltb, length-append}
-use Rattle.std.proofs.lemmas.Bool.{eq-eqb}
-use Rattle.std.proofs.lemmas.List.{take-append-le, take_all, length-take-le}
-use Rattle.std.proofs.lemmas.Grind.{common_steps}
-use Rattle.std.proofs.Math.Seq.{take-add}
-use Rattle.uip_wire.specs.Numbers.{wrap}
-use Rattle.tcp_segment.specs.Segments.{PlainSegment, has_fin, has_rst, has_ack}
-use Rattle.rexmit_timer.specs.Ages.{beat_at}
-use Rattle.rexmit_timer.specs.declared.timer.Beat.{Beat}
-use Rattle.app_events.specs.AppSpec.{AppState, After, AppSpec}
-use Rattle.app_events.specs.Laws.{IsPrefixOf}
-use Rattle.app_events.specs.Pages.{Pages, IsPaged, IsU32, IsNow, IsSnapshot, MayWant}
-use Rattle.app_events.specs.declared.now.Now.{Now}
-use Rattle.app_events.specs.declared.ending.Ending.TheVariants.{Reset}
-use Rattle.app_events.specs.declared.state.State.{State}
-use Rattle.app_events.specs.declared.state.State.TheVariants.{SynRcvd, Established, FinWait1}
-use Rattle.app_events.specs.declared.want.Want.{Want}
-use Rattle.app_events.specs.declared.want.Want.TheVariants.{Nothing, Send, Close, Abort}
-use Rattle.tcp_machine.specs.Connection.{Sockets, Connection, is_live, serves, snd_una, rcv_nxt}
-use Rattle.tcp_machine.specs.Segments.{occupies_sequence_space, segment_of, bare_ack, fin_of, reset_of, syn_ack, text_segment}
-use Rattle.tcp_machine.specs.Ask.{Outcome, leaves, closes, idles, does_as_wanted, ask, asked}
-use Rattle.tcp_machine.specs.OnSegment.{told_end, peer_closes, is_out_of_order, is_acked, has_text, hears, with_window, stays_established, in_established, by_state, on_segment}
+use Rattle.node_laws.proofs.Prelude.{All, option_map_or, ◌≡◌, ℕ, suc, ◌+◌, ◌<◌, ◌≤◌, ◌==◌, min, Bool, true, false, if◌then◌else◌, not, ◌&&◌, inl, inr, List, [], ◌∷◌, ◌++◌, length, take, drop, refl, sym, ap, ◌∙◌, subst, arith, Option, Some, None, is_some, eqb, ltb, length-append, eq-eqb, take-append-le, take_all, length-take-le, common_steps, take-add, wrap, PlainSegment, has_fin, has_rst, has_ack, beat_at, Beat, AppState, After, AppSpec, IsPrefixOf, Pages, IsPaged, IsU32, IsNow, IsSnapshot, MayWant, Now, Reset, State, SynRcvd, Established, FinWait1, Want, Nothing, Send, Close, Abort, Sockets, Connection, is_live, serves, snd_una, rcv_nxt, occupies_sequence_space, segment_of, bare_ack, fin_of, reset_of, syn_ack, text_segment, Outcome, leaves, closes, idles, does_as_wanted, ask, asked, told_end, peer_closes, is_out_of_order, is_acked, has_text, hears, with_window, stays_established, in_established, by_state, on_segment, Step, choose, ltb-yes, cut_length, wrap_wrap, prefix_length, append_nothing, zero_or_more, same_place, is_time_wait, same_self, FitOut, prepared_captures, steady_of, hears_is, prepare_is, Exchange, AnswersPolled, GoesOnBy, Asker, text_received, awaits_ack, is_bare_ack, bare_acks, SendsNext, HasItsPage}
 use Rattle.tcp_machine.specs.OnTick.{by_beat, limit_of, on_tick, polls as polled_by, ticks_established}
-use Rattle.tcp_machine.specs.declared.step.Step.{Step}
-use Rattle.uip_node.proofs.Basics.{choose, ltb-yes, cut_length, wrap_wrap, prefix_length, append_nothing, zero_or_more, same_place}
-use Rattle.app_events.specs.States.{is_time_wait}
-use Rattle.uip_node.proofs.SocketPairs.{same_self}
-use Rattle.uip_node.proofs.Fits.{FitOut, prepared_captures}
-use Rattle.uip_node.proofs.Steadiness.{steady_of}
-use Rattle.uip_node.proofs.Handed.{hears_is, prepare_is}
-use Rattle.node_laws.specs.Traces.{Exchange}
-use Rattle.uip_node.specs.Answering.{AnswersPolled, GoesOnBy}
-use Rattle.node_laws.specs.HonestPeers.{Asker, text_received, awaits_ack, is_bare_ack, bare_acks, SendsNext, HasItsPage}
 use Rattle.node_laws.proofs.HonestSessions.{has_of, has_on, lets_go, nothing_more, takes_at}
 use Rattle.node_laws.proofs.Lines.{quiet, met}
 use Rattle.node_laws.proofs.Walk.{nil_of}

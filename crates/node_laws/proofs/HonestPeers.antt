@@ -1,38 +1,5 @@
 -- An honest peer of a node has its page, whatever other peers do.
-use Rattle.std.specs.List.{All}
-use Rattle.std.specs.Option.{option_map_or}
-use Rattle.std.proofs.Common.{◌≡◌, ℕ, zero, suc, ◌+◌, ◌<◌, ◌≤◌, ◌==◌, Bool, true, false, ◌&&◌, ◌⊎◌, inl, inr, List, [], ◌∷◌, ◌++◌, length, set, refl, sym, ap, ◌∙◌, subst, arith, Option, Some, None, slice_get, eqb, length-append, if◌then◌else◌}
-use Rattle.std.proofs.lemmas.Bool.{eq-eqb}
-use Rattle.std.proofs.lemmas.List.Elements.{All-tail}
-use Rattle.uip_wire.specs.Numbers.{wrap}
-use Rattle.uip_wire.specs.declared.addr.Addr.{Addr}
-use Rattle.tcp_segment.specs.declared.flags.TheConstants.{SYN}
-use Rattle.tcp_segment.specs.Segments.{PlainSegment, has_syn, has_rst, has_ack}
-use Rattle.app_events.specs.AppSpec.{AppState, AppSpec}
-use Rattle.app_events.specs.Laws.{IsPrefixOf}
-use Rattle.app_events.specs.Pages.{Pages, IsPaged}
-use Rattle.app_events.specs.declared.state.State.TheVariants.{SynRcvd}
-use Rattle.tcp_machine.specs.Connection.{Sockets, Connection, closed, is_live, rows_from, row_of}
-use Rattle.tcp_machine.specs.Segments.{is_plain_syn, segment_of, reset_for_no_connection, syn_ack}
-use Rattle.tcp_machine.specs.Ask.{Outcome, asked}
-use Rattle.tcp_machine.specs.OnSegment.{accepted, first_mss, on_segment}
-use Rattle.tcp_machine.specs.OnTick.{on_tick}
-use Rattle.uip_node.specs.Events.{Event}
-use Rattle.uip_node.specs.Events.Event.{Periodic}
-use Rattle.uip_node.specs.Counters.{called_by}
-use Rattle.uip_node.specs.Node.{AbstractNode, NodeStep, snapshot, initial_node, step}
-use Rattle.uip_node.specs.Laws.{serving, IsEvent}
-use Rattle.uip_node.proofs.Basics.{choose, eqb-eq, only_some, wrap_wrap, append_nothing}
-use Rattle.uip_node.proofs.Connections.{Single, get_set_same, is_served, none_serves, all_closed}
-use Rattle.uip_node.proofs.Connections.Served.{served, free}
-use Rattle.uip_node.proofs.Fits.{FitConn, on_segment_fits, on_tick_fits}
-use Rattle.uip_node.proofs.FitNodes.{node_snapshot}
-use Rattle.uip_node.proofs.Steadiness.{steady_of}
-use Rattle.uip_node.specs.Answering.{AnswersPolled}
-use Rattle.node_laws.specs.HonestPeers.{Asker, text_received, bare_acks, SendsSyn, SendsNext, IsWaitedFor, IsHonest, calls_of, HasItsPage, HonestPeer}
-use Rattle.node_laws.specs.Traces.{Exchange, TraceEntry, exchange, exchanges_onto, exchanges_with}
-use Rattle.node_laws.specs.Turns.{trace_of}
-use Rattle.node_laws.specs.Wire.{IsOfLine}
+use Rattle.node_laws.proofs.Prelude.{All, option_map_or, ◌≡◌, ℕ, zero, suc, ◌+◌, ◌<◌, ◌≤◌, ◌==◌, Bool, true, false, ◌&&◌, ◌⊎◌, inl, inr, List, [], ◌∷◌, ◌++◌, length, set, refl, sym, ap, ◌∙◌, subst, arith, Option, Some, None, slice_get, eqb, length-append, if◌then◌else◌, eq-eqb, All-tail, wrap, Addr, SYN, PlainSegment, has_syn, has_rst, has_ack, AppState, AppSpec, IsPrefixOf, Pages, IsPaged, SynRcvd, Sockets, Connection, closed, is_live, rows_from, row_of, is_plain_syn, segment_of, reset_for_no_connection, syn_ack, Outcome, asked, accepted, first_mss, on_segment, on_tick, Event, Periodic, called_by, AbstractNode, NodeStep, snapshot, initial_node, step, serving, IsEvent, choose, eqb-eq, only_some, wrap_wrap, append_nothing, Single, get_set_same, is_served, none_serves, all_closed, served, free, FitConn, on_segment_fits, on_tick_fits, node_snapshot, steady_of, AnswersPolled, Asker, text_received, bare_acks, SendsSyn, SendsNext, IsWaitedFor, IsHonest, calls_of, HasItsPage, HonestPeer, Exchange, TraceEntry, exchange, exchanges_onto, exchanges_with, trace_of, IsOfLine}
 use Rattle.node_laws.proofs.Beating.{mss_some}
 use Rattle.node_laws.proofs.GoodNodes.{Good, good_on, good_start, first_is}
 use Rattle.node_laws.proofs.HonestConnections.{conn_at, Counts, AtSyn, Stage, Snapshots, stage_quiet, answered, called, stage_serves, stage_stays, runs_out, stays_told}

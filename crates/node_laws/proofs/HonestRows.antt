@@ -1,16 +1,5 @@
 -- An honest peer, and one that is silent, computed from the definitions alone.
-use Rattle.std.proofs.Common.{◌≡◌, ◌+◌, ℕ, false, inl, inr, List, [], ◌∷◌, refl, arith, Some, None}
-use Rattle.tcp_segment.specs.Segments.{PlainSegment, has_rst}
-use Rattle.tcp_segment.specs.declared.flags.TheConstants.{SYN, PSH, ACK}
-use Rattle.app_events.specs.FixedSpec.{hello}
-use Rattle.tcp_machine.specs.Ask.{idles}
-use Rattle.tcp_machine.specs.OnSegment.{peer_closes, stays_established, in_established, fin_acked, fin_waits, on_segment}
-use Rattle.tcp_machine.specs.OnTick.{rests_on, ticks_established}
-use Rattle.uip_node.specs.Events.Event.{Periodic}
-use Rattle.uip_node.specs.Node.{happened, opens_in, for_no_connection}
-use Rattle.uip_node.proofs.Basics.{only_some}
-use Rattle.node_laws.specs.HonestPeers.{Asker, IsHonest, text_received, bare_acks, receives_all}
-use Rattle.node_laws.specs.Traces.{Exchange}
+use Rattle.node_laws.proofs.Prelude.{◌≡◌, ◌+◌, ℕ, false, inl, inr, List, [], ◌∷◌, refl, arith, Some, None, PlainSegment, has_rst, SYN, PSH, ACK, hello, idles, peer_closes, stays_established, in_established, fin_acked, fin_waits, on_segment, rests_on, ticks_established, Periodic, happened, opens_in, for_no_connection, only_some, Asker, IsHonest, text_received, bare_acks, receives_all, Exchange}
 use Rattle.node_laws.proofs.Rows.{says, session_over, told}
 
 abbrev segment : ℕ → ℕ → List ℕ → PlainSegment

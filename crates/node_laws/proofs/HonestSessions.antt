@@ -1,14 +1,5 @@
 -- The exchanges with an honest peer, one longer: what the simplest receiver has then.
-use Rattle.std.specs.Option.{option_map_or}
-use Rattle.std.proofs.Common.{◌≡◌, ℕ, suc, ◌+◌, List, [], ◌∷◌, ◌++◌, length, map, refl, ap, ◌∙◌, if◌then◌else◌, eqb}
-use Rattle.std.proofs.lemmas.Bool.{eq-eqb}
-use Rattle.uip_wire.specs.Numbers.{wrap}
-use Rattle.tcp_segment.specs.Segments.{PlainSegment}
-use Rattle.uip_node.proofs.Basics.{choose, eqb-eq, append_nothing}
-use Rattle.node_laws.specs.Traces.{Exchange, TraceEntry, sent_at, exchanges_onto}
-use Rattle.node_laws.specs.Receivers.{receives, takes_next}
-use Rattle.node_laws.specs.HonestPeers.{Asker, in_turn, IsHonest}
-use Rattle.tcp_machine.specs.Connection.{Sockets}
+use Rattle.node_laws.proofs.Prelude.{option_map_or, ◌≡◌, ℕ, suc, ◌+◌, List, [], ◌∷◌, ◌++◌, length, map, refl, ap, ◌∙◌, if◌then◌else◌, eqb, eq-eqb, wrap, PlainSegment, choose, eqb-eq, append_nothing, Exchange, TraceEntry, sent_at, exchanges_onto, receives, takes_next, Asker, in_turn, IsHonest, Sockets}
 
 joins : (iss : ℕ) (incarnation : List Exchange) (places more : List ℕ) (got : List ℕ) → receives iss incarnation (places ++ more) got ≡ receives iss incarnation more (receives iss incarnation places got)
 joins iss incarnation [] more got = refl

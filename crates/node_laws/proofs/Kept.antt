@@ -1,16 +1,6 @@
 -- What is proved of an incarnation exchange by exchange, and the guarantee that follows.
-use Rattle.std.specs.List.{All}
-use Rattle.std.proofs.Common.{◌≡◌, ℕ, zero, suc, ◌<◌, ◌≤◌, true, false, List, [], ◌∷◌, length, drop, refl, Some, slice_get}
-use Rattle.tcp_segment.specs.Segments.{PlainSegment, has_fin, has_rst}
-use Rattle.app_events.specs.Pages.{IsSnapshot}
-use Rattle.tcp_machine.specs.OnSegment.{first_mss}
-use Rattle.tcp_machine.specs.Segments.{occupies_sequence_space}
-use Rattle.uip_node.specs.Laws.{Alike}
-use Rattle.uip_node.proofs.Basics.{append_nothing, prefix_refl}
-use Rattle.node_laws.specs.Traces.{Exchange, sent_at}
+use Rattle.node_laws.proofs.Prelude.{All, ◌≡◌, ℕ, zero, suc, ◌<◌, ◌≤◌, true, false, List, [], ◌∷◌, length, drop, refl, Some, slice_get, PlainSegment, has_fin, has_rst, IsSnapshot, first_mss, occupies_sequence_space, Alike, append_nothing, prefix_refl, Exchange, sent_at, CarriesByte, IsReceived, Account, OutputModel, Begins, IsAcceptedText, SendsSlice, Acknowledges, IsAcknowledged, IsExtendedBy}
 use Rattle.node_laws.proofs.Speaking.{IsTold}
-use Rattle.node_laws.specs.Receivers.{CarriesByte, IsReceived}
-use Rattle.node_laws.specs.Promise.{Account, OutputModel, Begins, IsAcceptedText, SendsSlice, Acknowledges, IsAcknowledged, IsExtendedBy}
 
 -- a FIN was sent
 pub record HasEnded (incarnation : List Exchange) : Type 0 where

@@ -25,3 +25,4 @@ pub mod Beating
 pub mod Timers
 pub mod WindowSteps
 pub mod Windows
+mod Prelude

@@ -1,32 +1,7 @@
 -- What an event does to the connection with one peer, and what it adds to their exchanges.
-use Rattle.std.specs.List.{All}
-use Rattle.std.specs.Prelude.{option_map}
-use Rattle.std.proofs.Common.{◌≡◌, ℕ, ◌<◌, Bool, true, false, ◌&&◌, List, set, position, refl, sym, ap, ◌∙◌, subst, arith, Option, Some, None, slice_get, if◌then◌else◌}
-use Rattle.tcp_segment.specs.Segments.{PlainSegment, has_rst}
-use Rattle.app_events.specs.AppSpec.{AppSpec}
-use Rattle.app_events.specs.Pages.{IsNow, IsU32, IsAddr}
-use Rattle.app_events.specs.declared.now.Now.{Now}
-use Rattle.tcp_machine.specs.Connection.{Sockets, Connection, closed, is_live, serves, same_sockets}
-use Rattle.tcp_machine.specs.Segments.{segment_of, is_again, is_plain_syn, reset_for_no_connection, syn_ack}
-use Rattle.tcp_machine.specs.Ask.{Outcome, leaves, asked}
-use Rattle.tcp_machine.specs.OnSegment.{accepted, on_segment}
-use Rattle.tcp_machine.specs.OnTick.{on_tick}
-use Rattle.tcp_machine.specs.declared.step.Step.{Step}
-use Rattle.uip_node.specs.Counters.{initial_number, ident_of}
-use Rattle.uip_node.specs.Events.{Event, Reply}
-use Rattle.uip_node.specs.Events.Event.{IpRefused, IcmpRefused, TcpRefused, EchoAsked, Arrived, Overlong, Periodic}
-use Rattle.uip_node.specs.Events.Reply.{Tcp}
+use Rattle.node_laws.proofs.Prelude.{All, option_map, ◌≡◌, ℕ, ◌<◌, Bool, true, false, ◌&&◌, List, set, position, refl, sym, ap, ◌∙◌, subst, arith, Option, Some, None, slice_get, if◌then◌else◌, PlainSegment, has_rst, AppSpec, IsNow, IsU32, IsAddr, Now, Sockets, Connection, closed, is_live, serves, same_sockets, segment_of, is_again, is_plain_syn, reset_for_no_connection, syn_ack, Outcome, leaves, asked, accepted, on_segment, on_tick, Step, initial_number, ident_of, Event, Reply, IpRefused, IcmpRefused, TcpRefused, EchoAsked, Arrived, Overlong, Periodic, Tcp, serving, IsEvent, IsSteady, both_ways, choose, and_true, same_is, is_same, serves_not, serves_dead, serves_yes, find_is, set_same, set_past, index_of, index_none, Single, single_set, serving_is, serving_free, serving_new, serving_gone, serving_other, finds, finds_none, FitConn, accepted_fits, FitNode, node_snapshot, slot_inside, on_segment_keeps, asked_keeps, on_tick_keeps, on_tick_closed, Exchange, received_from, sent_to, exchange}
 use Rattle.uip_node.specs.Node.{AbstractNode, NodeStep, snapshot, happened, connection_in, slot_for_syn, opens_in, opens as opens_at, refuses, for_no_connection, arrives_at, periodic, step}
-use Rattle.uip_node.specs.Laws.{serving, IsEvent}
-use Rattle.uip_node.specs.Steady.{IsSteady}
-use Rattle.uip_node.proofs.Basics.{both_ways, choose, and_true}
-use Rattle.uip_node.proofs.SocketPairs.{same_is, is_same, serves_not, serves_dead, serves_yes}
-use Rattle.uip_node.proofs.Connections.{find_is, set_same, set_past, index_of, index_none, Single, Free, single_set, serving_is, serving_free, serving_new, serving_gone, serving_other}
-use Rattle.uip_node.proofs.Connections.Finds.{finds, finds_none}
-use Rattle.uip_node.proofs.Fits.{FitConn, accepted_fits}
-use Rattle.uip_node.proofs.FitNodes.{FitNode, node_snapshot, slot_inside}
-use Rattle.uip_node.proofs.Peers.{on_segment_keeps, asked_keeps, on_tick_keeps, on_tick_closed}
-use Rattle.node_laws.specs.Traces.{Exchange, received_from, sent_to, exchange}
+use Rattle.uip_node.proofs.Connections.{Free}
 
 abbrev pub quiet : Exchange
 quiet = record { received = None; output = None }

@@ -1,43 +1,12 @@
 -- An incarnation of a connection, one exchange longer.
-use Rattle.std.specs.List.{All}
-use Rattle.std.specs.Option.{option_map_or}
-use Rattle.std.proofs.Common.{◌≡◌, ℕ, zero, suc, ◌+◌, ◌<◌, ◌≤◌, min, Bool, true, false, not, ◌&&◌, ◌||◌, ◌⊎◌, inl, inr, List, [], ◌∷◌, ◌++◌, length, take, drop, refl, sym, ap, ◌∙◌, subst, arith, Option, Some, None, slice_get, eqb, ltb, if◌then◌else◌}
-use Rattle.std.proofs.lemmas.Grind.{common_steps}
-use Rattle.uip_wire.specs.Numbers.{wrap}
-use Rattle.uip_wire.specs.declared.sizes.TheConstants.{OWN_MSS}
-use Rattle.tcp_segment.specs.Segments.{PlainSegment, has_syn, has_fin, has_rst, has_ack}
-use Rattle.tcp_segment.specs.declared.flags.TheConstants.{SYN}
-use Rattle.app_events.specs.AppSpec.{AppState, Snapshot, AppSpec}
-use Rattle.app_events.specs.Laws.{IsPrefixOf}
-use Rattle.app_events.specs.Pages.{IsSnapshot}
-use Rattle.app_events.specs.declared.state.State.{State}
-use Rattle.app_events.specs.declared.state.State.TheVariants.{Closed, SynRcvd, Established, CloseWait, FinWait1, FinWait2, Closing, TimeWait, LastAck}
-use Rattle.tcp_machine.specs.Connection.{Sockets, Connection, closed, is_live, snd_una, rcv_nxt}
-use Rattle.tcp_machine.specs.Segments.{occupies_sequence_space, is_plain_syn, segment_of, is_again, syn_ack, text_segment, fin_of, reset_for_no_connection}
-use Rattle.tcp_machine.specs.Ask.{Outcome, asked}
-use Rattle.tcp_machine.specs.OnSegment.{first_mss, accepted, is_acked, on_segment}
-use Rattle.tcp_machine.specs.OnTick.{on_tick}
-use Rattle.uip_node.specs.Laws.{Alike, IsSlice}
-use Rattle.uip_node.proofs.Basics.{choose, both_ways, only_some, same_place, append_nothing, IsPart, part_grows, prefix_refl, prefix_length, and_true, eqb-eq}
-use Rattle.uip_node.proofs.Fits.{FitConn, FitOut, all_nil, on_segment_fits, on_tick_fits}
-use Rattle.uip_node.proofs.Moves.{Moves, asked_moves, segment_moves, tick_moves}
-use Rattle.uip_node.specs.Steady.{IsSteady}
-use Rattle.uip_node.proofs.Stepped.{stepped_fits, stepped_tells}
-use Rattle.uip_node.proofs.Told.{Safe, SafeState, IsDue, StepTells, due, alike_trans, alike_sym, alike_refl, segment_tells, tick_tells}
-use Rattle.node_laws.specs.Traces.{Exchange, is_opening}
-use Rattle.node_laws.specs.Promise.{Account, Begins, IsAcceptedText, SendsSlice, Acknowledges, sequence_length, IsAcknowledged, IsExtendedBy}
-use Rattle.node_laws.specs.Receivers.{IsReceived}
-use Rattle.node_laws.specs.Promise.{OutputModel}
-use Rattle.node_laws.specs.Speakers.{FollowsModelAt}
+use Rattle.node_laws.proofs.Prelude.{All, option_map_or, ◌≡◌, ℕ, zero, suc, ◌+◌, ◌<◌, ◌≤◌, min, Bool, true, false, not, ◌&&◌, ◌||◌, ◌⊎◌, inl, inr, List, [], ◌∷◌, ◌++◌, length, take, drop, refl, sym, ap, ◌∙◌, subst, arith, Option, Some, None, slice_get, eqb, ltb, if◌then◌else◌, common_steps, wrap, OWN_MSS, PlainSegment, has_syn, has_fin, has_rst, has_ack, SYN, AppState, Snapshot, AppSpec, IsPrefixOf, IsSnapshot, State, Closed, SynRcvd, Established, CloseWait, FinWait1, FinWait2, Closing, TimeWait, LastAck, Sockets, Connection, closed, is_live, snd_una, rcv_nxt, occupies_sequence_space, is_plain_syn, segment_of, is_again, syn_ack, text_segment, fin_of, reset_for_no_connection, Outcome, asked, first_mss, accepted, is_acked, on_segment, on_tick, Alike, IsSlice, choose, both_ways, only_some, same_place, append_nothing, IsPart, part_grows, prefix_refl, prefix_length, and_true, eqb-eq, FitConn, FitOut, all_nil, on_segment_fits, on_tick_fits, Moves, asked_moves, segment_moves, tick_moves, IsSteady, stepped_fits, stepped_tells, Safe, SafeState, IsDue, StepTells, due, alike_trans, alike_sym, alike_refl, segment_tells, tick_tells, Exchange, is_opening, Account, Begins, IsAcceptedText, SendsSlice, Acknowledges, sequence_length, IsAcknowledged, IsExtendedBy, IsReceived, OutputModel, FollowsModelAt, Now, LensWithin, asked_within, on_segment_within, on_tick_within}
 use Rattle.node_laws.proofs.Speaking.{IsEnd, IsTold, prefix_size, prefix_trans, slice_prefix, told_end, told_on, told_starts, told_where}
 use Rattle.node_laws.proofs.Texts.{get_append}
 use Rattle.node_laws.proofs.Texts.InBoth.{in_first, in_second}
 use Rattle.node_laws.proofs.Kept.{HasEnded, Kept, Unended, grows_refl, received_on}
-use Rattle.app_events.specs.declared.now.Now.{Now}
 use Rattle.node_laws.proofs.Walk.{IsBare, bare, Reading, AtPage, AtOpen, AtEnd, Page, Moved, Spoke, segment_moved, tick_moved, accepted_page}
 use Rattle.node_laws.proofs.Beating.{due_size}
 use Rattle.node_laws.proofs.Replying.{answer_no_syn, said_ack, step_short}
-use Rattle.uip_node.proofs.SoundSegments.{LensWithin, asked_within, on_segment_within, on_tick_within}
 use Rattle.node_laws.proofs.Lines.{OfMedium, met, left_of}
 use Rattle.node_laws.proofs.Lines.OfMedium.{passes_by, evicted, unanswered, refused, born, hears, ticks}
 

@@ -1,38 +1,6 @@
 -- What each peer reads.
-use Rattle.std.specs.List.{All}
-use Rattle.std.specs.Prelude.{option_map}
-use Rattle.std.proofs.Common.{◌≡◌, ℕ, ◌<◌, Bool, true, false, ◌&&◌, inr, List, [], ◌∷◌, position, replicate, refl, sym, ap, ◌∙◌, subst, arith, Option, Some, None, if◌then◌else◌}
-use Rattle.std.proofs.lemmas.List.Elements.{All-head, All-tail}
-use Rattle.uip_wire.specs.declared.addr.Addr.{Addr}
-use Rattle.tcp_segment.specs.ReadBack.{IsReadBack, head_of}
-use Rattle.tcp_segment.specs.Segments.{PlainSegment, Datagram, datagram_bytes, has_rst}
-use Rattle.app_events.specs.AppSpec.{AppSpec}
-use Rattle.app_events.specs.Pages.{IsAddr, IsByte, IsU32}
-use Rattle.tcp_machine.specs.Connection.{Sockets, Connection, closed, is_live, serves, same_sockets}
-use Rattle.tcp_machine.specs.Segments.{is_again, is_plain_syn, reset_for_no_connection, segment_of}
-use Rattle.tcp_machine.specs.Ask.{Outcome, asked}
-use Rattle.tcp_machine.specs.OnSegment.{accepted, on_segment}
-use Rattle.tcp_machine.specs.OnTick.{on_tick}
-use Rattle.tcp_machine.specs.declared.step.Step.{Step}
-use Rattle.uip_node.specs.Edge.{by_head, by_segment, datagram_to}
-use Rattle.uip_node.specs.Events.{Event, Reply, HistoryEntry}
-use Rattle.uip_node.specs.Events.Event.{IpRefused, IcmpRefused, TcpRefused, EchoAsked, Arrived, Overlong, Periodic}
-use Rattle.uip_node.specs.Events.Reply.{Tcp}
-use Rattle.uip_node.specs.Counters.{ident_of}
+use Rattle.node_laws.proofs.Prelude.{All, option_map, ◌≡◌, ℕ, ◌<◌, Bool, true, false, ◌&&◌, inr, List, [], ◌∷◌, position, replicate, refl, sym, ap, ◌∙◌, subst, arith, Option, Some, None, if◌then◌else◌, All-head, All-tail, Addr, IsReadBack, head_of, PlainSegment, Datagram, datagram_bytes, has_rst, AppSpec, IsAddr, IsByte, IsU32, Sockets, Connection, closed, is_live, serves, same_sockets, is_again, is_plain_syn, reset_for_no_connection, segment_of, Outcome, asked, accepted, on_segment, on_tick, Step, by_head, by_segment, datagram_to, Event, Reply, HistoryEntry, IpRefused, IcmpRefused, TcpRefused, EchoAsked, Arrived, Overlong, Periodic, Tcp, ident_of, serving, IsSteady, SendsBytes, DeliveredBytes, asked_bytes, on_segment_bytes, on_tick_bytes, both_ways, choose, only_some, wrap_low, FitConn, FitOut, all_nil, all_cons, asked_fits, on_segment_fits, on_tick_fits, FitNode, closed_fits, event_fits, none_serves, all_closed, Single, serving_free, same_is, same_self, closed_lens, Lens, accepted_lens, asked_lens, on_segment_lens, on_tick_lens, IsSoundSegment, said_sound, IsPlace, datagram_back, datagram_short, Exchange, received_from, exchange, sent_to, IsOfLine, IsReadByPeer, IsReadThere, seen_from_peer}
 use Rattle.uip_node.specs.Node.{AbstractNode, NodeStep, arrives_at, for_no_connection, happened, initial_node, opens as opens_at, opens_in, refuses, slot_for_syn, step}
-use Rattle.uip_node.specs.Laws.{serving}
-use Rattle.uip_node.specs.Steady.{IsSteady}
-use Rattle.uip_node.specs.Laws.{SendsBytes}
-use Rattle.uip_node.proofs.DeliveredBytes.{DeliveredBytes, asked_bytes, on_segment_bytes, on_tick_bytes}
-use Rattle.uip_node.proofs.Basics.{both_ways, choose, only_some, wrap_low}
-use Rattle.uip_node.proofs.Fits.{FitConn, FitOut, all_nil, all_cons, asked_fits, on_segment_fits, on_tick_fits}
-use Rattle.uip_node.proofs.FitNodes.{FitNode, closed_fits, event_fits}
-use Rattle.uip_node.proofs.Connections.{none_serves, all_closed, Single, serving_free}
-use Rattle.uip_node.proofs.SocketPairs.{same_is, same_self}
-use Rattle.uip_node.proofs.SoundSegments.{closed_lens, Lens, accepted_lens, asked_lens, on_segment_lens, on_tick_lens, IsSoundSegment, said_sound}
-use Rattle.uip_node.proofs.DatagramsBack.{IsPlace, datagram_back, datagram_short}
-use Rattle.node_laws.specs.Traces.{Exchange, received_from, exchange, sent_to}
-use Rattle.node_laws.specs.Wire.{IsOfLine, IsReadByPeer, IsReadThere, seen_from_peer}
 use Rattle.node_laws.proofs.Lines.{OfMedium, Comes, comes, left_of}
 use Rattle.node_laws.proofs.Lines.OfMedium.{passes_by, evicted, unanswered, refused, born, hears, ticks}
 use Rattle.node_laws.proofs.Steps.{LineStep, OfNode, Changes, IsStep, changed, trace_over}

@@ -1,17 +1,5 @@
 -- What any receiver of an incarnation has is a prefix of its page.
-use Rattle.std.specs.Option.{option_map_or}
-use Rattle.std.proofs.Common.{◌≡◌, ℕ, ◌+◌, ◌<◌, ◌≤◌, true, inl, inr, List, [], ◌∷◌, length, refl, sym, ap, ◌∙◌, arith, Option, Some, None, slice_get, eqb}
-use Rattle.uip_wire.specs.Numbers.{wrap}
-use Rattle.tcp_segment.specs.Segments.{PlainSegment, has_fin}
-use Rattle.app_events.specs.AppSpec.{AppSpec}
-use Rattle.app_events.specs.Laws.{IsPrefixOf}
-use Rattle.app_events.specs.Pages.{Pages}
-use Rattle.uip_node.proofs.Basics.{choose, eqb-eq, same_place, wrap_wrap, prefix_length}
-use Rattle.node_laws.specs.Traces.{Exchange, sent_at}
-use Rattle.node_laws.specs.Promise.{Account, IsAtOffset, IsPrefixOfPage, AccountHolds, TextConforms, NumbersGiveOffsets, OutputModel}
-use Rattle.node_laws.specs.Promise.OutputModel.{Paged, Interactive, Free}
-use Rattle.node_laws.specs.Speakers.{IsPagedAt, FollowsModelAt}
-use Rattle.node_laws.specs.Receivers.{CarriesByte, IsReceived, EndsAfter, PlainestReceives, receives, takes_next}
+use Rattle.node_laws.proofs.Prelude.{option_map_or, ◌≡◌, ℕ, ◌+◌, ◌<◌, ◌≤◌, true, inl, inr, List, [], ◌∷◌, length, refl, sym, ap, ◌∙◌, arith, Option, Some, None, slice_get, eqb, wrap, PlainSegment, has_fin, AppSpec, IsPrefixOf, Pages, choose, eqb-eq, same_place, wrap_wrap, prefix_length, Exchange, sent_at, Account, IsAtOffset, IsPrefixOfPage, AccountHolds, TextConforms, NumbersGiveOffsets, OutputModel, Paged, Interactive, Free, IsPagedAt, FollowsModelAt, CarriesByte, IsReceived, EndsAfter, PlainestReceives, receives, takes_next}
 use Rattle.node_laws.proofs.Texts.{all_of_it, element, get_append, get_inside, get_slice, most_or_more, prefix_by}
 use Rattle.node_laws.proofs.Texts.InBoth.{in_first, in_second}
 use Rattle.node_laws.proofs.Kept.{HasEnded, Kept, said_in}

@@ -1,22 +1,5 @@
 -- What a connection replies: never a SYN, a RST only if it is CLOSED, and no text longer than the peer accepts.
-use Rattle.std.proofs.Common.{◌≡◌, ℕ, ◌≤◌, Bool, true, false, not, ◌&&◌, List, length, take, drop, refl, arith, ltb, Some, None, length-take}
-use Rattle.tcp_segment.specs.Segments.{PlainSegment, has_fin, has_rst, has_syn}
-use Rattle.app_events.specs.AppSpec.{AppSpec}
-use Rattle.app_events.specs.declared.now.Now.{Now}
-use Rattle.app_events.specs.declared.state.State.{State}
-use Rattle.app_events.specs.declared.state.State.TheVariants.{Closed, SynRcvd, Established, CloseWait, FinWait1, FinWait2, Closing, TimeWait, LastAck}
-use Rattle.app_events.specs.declared.want.Want.{Want}
-use Rattle.app_events.specs.declared.want.Want.TheVariants.{Nothing, Send, Close, Abort}
-use Rattle.rexmit_timer.specs.declared.timer.Beat.{Beat}
-use Rattle.tcp_machine.specs.Connection.{Connection, is_live, rcv_nxt}
-use Rattle.tcp_machine.specs.Segments.{segment_of, bare_ack, syn_ack, text_segment, fin_of, reset_of}
-use Rattle.tcp_machine.specs.Ask.{Outcome, peer_has_closed, idles, does_as_wanted, prepared, asked}
-use Rattle.tcp_machine.specs.OnSegment.{is_out_of_order, is_acked, has_text, peer_closes, stays_established, in_established, fin_acked, fin_waits, by_state, on_segment, with_part, rests}
-use Rattle.tcp_machine.specs.OnTick.{outstanding, by_beat, on_tick}
-use Rattle.tcp_machine.specs.declared.step.Step.{Step}
-use Rattle.uip_node.proofs.Basics.{choose, only_some}
-use Rattle.uip_node.proofs.Cases.{asked_by, on_tick_by}
-use Rattle.uip_node.proofs.SoundSegments.{LensWithin}
+use Rattle.node_laws.proofs.Prelude.{◌≡◌, ℕ, ◌≤◌, Bool, true, false, not, ◌&&◌, List, length, take, drop, refl, arith, ltb, Some, None, length-take, PlainSegment, has_fin, has_rst, has_syn, AppSpec, Now, State, Closed, SynRcvd, Established, CloseWait, FinWait1, FinWait2, Closing, TimeWait, LastAck, Want, Nothing, Send, Close, Abort, Beat, Connection, is_live, rcv_nxt, segment_of, bare_ack, syn_ack, text_segment, fin_of, reset_of, Outcome, peer_has_closed, idles, does_as_wanted, prepared, asked, is_out_of_order, is_acked, has_text, peer_closes, stays_established, in_established, fin_acked, fin_waits, by_state, on_segment, with_part, rests, outstanding, by_beat, on_tick, Step, choose, only_some, asked_by, on_tick_by, LensWithin}
 
 abbrev is_syn_ack : Step → Bool
 is_syn_ack (Step.SynAck again) = true

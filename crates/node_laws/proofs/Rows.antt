@@ -1,18 +1,5 @@
 -- Worked incarnations, computed from the definitions alone.
-use Rattle.std.specs.Prelude.{option_map}
-use Rattle.std.proofs.Common.{◌≡◌, ◌+◌, ℕ, Bool, true, false, List, [], ◌∷◌, map, refl, Option, Some, None, ◌==◌}
-use Rattle.tcp_segment.specs.declared.flags.TheConstants.{FIN, SYN, RST, ACK}
-use Rattle.app_events.specs.FixedSpec.{fixed_spec, hello}
-use Rattle.tcp_machine.specs.Connection.{Sockets}
-use Rattle.tcp_machine.specs.Ask.{idles}
-use Rattle.tcp_machine.specs.OnSegment.{peer_closes, stays_established, in_established, fin_acked, fin_waits, on_segment}
-use Rattle.tcp_machine.specs.OnTick.{rests_on, ticks_established}
-use Rattle.uip_node.specs.Events.{Event}
-use Rattle.uip_node.specs.Events.Event.{Arrived, Periodic}
-use Rattle.uip_node.specs.Node.{happened, opens_in, for_no_connection}
-use Rattle.node_laws.specs.Traces.{Exchange, exchanges_with, is_incarnation, is_opening}
-use Rattle.uip_node.specs.Node.{initial_node}
-use Rattle.node_laws.specs.Turns.{trace_of}
+use Rattle.node_laws.proofs.Prelude.{option_map, ◌≡◌, ◌+◌, ℕ, Bool, true, false, List, [], ◌∷◌, map, refl, Option, Some, None, ◌==◌, FIN, SYN, RST, ACK, fixed_spec, hello, Sockets, idles, peer_closes, stays_established, in_established, fin_acked, fin_waits, on_segment, rests_on, ticks_established, Event, Arrived, Periodic, happened, opens_in, for_no_connection, Exchange, exchanges_with, is_incarnation, is_opening, initial_node, trace_of}
 
 abbrev pub web : ℕ → Bool
 web port = port == 80

@@ -1,32 +1,6 @@
 -- What an event does to the connection in one slot, and what it adds to the exchanges with its peer.
-use Rattle.std.specs.Option.{option_or}
-use Rattle.std.specs.Prelude.{option_map}
-use Rattle.std.proofs.Common.{◌≡◌, ℕ, zero, suc, ◌+◌, Bool, true, false, not, ◌==◌, ◌&&◌, ◌⊎◌, inl, inr, List, [], ◌∷◌, set, position, refl, sym, ap, ◌∙◌, subst, arith, Option, Some, None, slice_get, slice_index_or, eqb}
-use Rattle.std.proofs.lemmas.Bool.{eq-eqb}
-use Rattle.tcp_segment.specs.Segments.{PlainSegment, has_rst}
-use Rattle.app_events.specs.AppSpec.{AppSpec}
-use Rattle.app_events.specs.States.{is_time_wait}
-use Rattle.tcp_table.specs.Slots.{longest_wait}
-use Rattle.tcp_machine.specs.Connection.{Sockets, Connection, closed, is_live, serves, same_sockets}
-use Rattle.tcp_machine.specs.Segments.{segment_of, is_again, is_plain_syn, reset_for_no_connection, syn_ack}
-use Rattle.tcp_machine.specs.Ask.{Outcome, leaves, asked}
-use Rattle.tcp_machine.specs.OnSegment.{accepted, on_segment}
-use Rattle.tcp_machine.specs.OnTick.{on_tick}
-use Rattle.tcp_machine.specs.declared.step.Step.{Step}
-use Rattle.uip_node.specs.Counters.{initial_number, ident_of}
-use Rattle.uip_node.specs.Events.{Event}
-use Rattle.uip_node.specs.Events.Event.{IpRefused, IcmpRefused, TcpRefused, EchoAsked, Arrived, Overlong, Periodic}
-use Rattle.uip_node.specs.Events.Reply.{Tcp}
-use Rattle.uip_node.specs.Node.{AbstractNode, NodeStep, snapshot, happened, connection_in, slot_for_syn, opens_in, opens, refuses, for_no_connection, arrives_at, periodic, step}
-use Rattle.uip_node.specs.Laws.{serving}
-use Rattle.uip_node.proofs.Basics.{both_ways, choose, and_true, eqb-eq, not-true}
-use Rattle.uip_node.proofs.SocketPairs.{same_is, is_same, serves_not}
-use Rattle.uip_node.proofs.Connections.{find_is, get_set, get_set_other, index_of, Single, Free}
-use Rattle.uip_node.proofs.Connections.Written.{here, there}
-use Rattle.uip_node.proofs.Connections.Finds.{finds, finds_none}
-use Rattle.uip_node.proofs.Finding.{found}
-use Rattle.uip_node.proofs.Peers.{on_segment_keeps, asked_keeps, on_tick_keeps, on_tick_closed}
-use Rattle.node_laws.specs.Traces.{received_from, sent_to, exchange}
+use Rattle.node_laws.proofs.Prelude.{option_or, option_map, ◌≡◌, ℕ, zero, suc, ◌+◌, Bool, true, false, not, ◌==◌, ◌&&◌, ◌⊎◌, inl, inr, List, [], ◌∷◌, set, position, refl, sym, ap, ◌∙◌, subst, arith, Option, Some, None, slice_get, slice_index_or, eqb, eq-eqb, PlainSegment, has_rst, AppSpec, is_time_wait, longest_wait, Sockets, Connection, closed, is_live, serves, same_sockets, segment_of, is_again, is_plain_syn, reset_for_no_connection, syn_ack, Outcome, leaves, asked, accepted, on_segment, on_tick, Step, initial_number, ident_of, Event, IpRefused, IcmpRefused, TcpRefused, EchoAsked, Arrived, Overlong, Periodic, Tcp, AbstractNode, NodeStep, snapshot, happened, connection_in, slot_for_syn, opens_in, opens, refuses, for_no_connection, arrives_at, periodic, step, serving, both_ways, choose, and_true, eqb-eq, not-true, same_is, is_same, serves_not, find_is, get_set, get_set_other, index_of, Single, here, there, finds, finds_none, found, on_segment_keeps, asked_keeps, on_tick_keeps, on_tick_closed, received_from, sent_to, exchange}
+use Rattle.uip_node.proofs.Connections.{Free}
 use Rattle.node_laws.proofs.Lines.{quiet, met, meets, came_here, came_elsewhere, said_here, said_elsewhere}
 
 -- ---- the slot that a SYN takes

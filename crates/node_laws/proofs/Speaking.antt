@@ -1,18 +1,5 @@
 -- What is known of an application's state on a connection, by the pages that it has at its port, and of the text that was sent.
-use Rattle.std.proofs.Common.{◌≡◌, ℕ, ◌+◌, ◌≤◌, ◌⊎◌, true, false, List, [], ◌∷◌, ◌++◌, length, take, drop, refl, sym, ap, ◌∙◌, subst, arith, inl, inr, length-take, append_assoc}
-use Rattle.std.proofs.lemmas.List.{take-append-le, take-append-drop}
-use Rattle.app_events.specs.Laws.{IsPrefixOf}
-use Rattle.app_events.specs.Pages.{Pages, MayWant}
-use Rattle.app_events.specs.AppSpec.{AppState, Snapshot, AppSpec}
-use Rattle.app_events.specs.declared.now.Now.{Now}
-use Rattle.app_events.specs.declared.want.Want.TheVariants.{Close}
-use Rattle.tcp_machine.specs.OnSegment.{hears}
-use Rattle.uip_node.specs.Laws.{IsSlice}
-use Rattle.uip_node.specs.Steady.{IsSteady}
-use Rattle.uip_node.proofs.Basics.{IsPart, append_nothing, cut_part, cut_length, prefix_part, prefix_refl}
-use Rattle.node_laws.specs.Promise.{OutputModel}
-use Rattle.node_laws.specs.Promise.OutputModel.{Paged, Interactive, Free}
-use Rattle.node_laws.specs.Speakers.{AcceptsPrefix, IsPagedAt, FollowsPagesAt, LeavesDelivered, FollowsModelAt}
+use Rattle.node_laws.proofs.Prelude.{◌≡◌, ℕ, ◌+◌, ◌≤◌, ◌⊎◌, true, false, List, [], ◌∷◌, ◌++◌, length, take, drop, refl, sym, ap, ◌∙◌, subst, arith, inl, inr, length-take, append_assoc, take-append-le, take-append-drop, IsPrefixOf, Pages, MayWant, AppState, Snapshot, AppSpec, Now, Close, hears, IsSlice, IsSteady, IsPart, append_nothing, cut_part, cut_length, prefix_part, prefix_refl, OutputModel, Paged, Interactive, Free, AcceptsPrefix, IsPagedAt, FollowsPagesAt, LeavesDelivered, FollowsModelAt}
 
 -- ---- prefixes of texts
 

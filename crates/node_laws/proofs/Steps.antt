@@ -1,15 +1,5 @@
 -- The steps of a node's line: events, and between them changes of its application's numbers, as by values that a caller sets.
-use Rattle.std.specs.List.{All}
-use Rattle.std.proofs.Common.{◌≡◌, ℕ, Bool, List, [], ◌∷◌, ◌++◌, map, refl, ap}
-use Rattle.std.proofs.lemmas.List.Elements.{All-cons, All-head, All-nil, All-tail}
-use Rattle.app_events.specs.Pages.{IsU32}
-use Rattle.app_events.specs.AppSpec.{AppSpec}
-use Rattle.uip_wire.specs.declared.addr.Addr.{Addr}
-use Rattle.uip_node.specs.Events.{Event}
-use Rattle.uip_node.specs.Node.{AbstractNode, run, step}
-use Rattle.node_laws.specs.Traces.{TraceEntry}
-use Rattle.node_laws.specs.Turns.{trace_of}
-use Rattle.node_laws.specs.Wire.{IsOfLine}
+use Rattle.node_laws.proofs.Prelude.{All, ◌≡◌, ℕ, Bool, List, [], ◌∷◌, ◌++◌, map, refl, ap, All-cons, All-head, All-nil, All-tail, IsU32, AppSpec, Addr, Event, AbstractNode, run, step, TraceEntry, trace_of, IsOfLine}
 
 pub data LineStep : Type 0 where
   OfNode : (event : Event) → LineStep

@@ -1,7 +1,5 @@
 -- The offsets of bytes in a text.
-use Rattle.std.proofs.Common.{◌≡◌, ℕ, zero, suc, ◌+◌, ◌<◌, ◌≤◌, ◌⊎◌, List, [], ◌∷◌, ◌++◌, length, take, drop, refl, sym, ap, ◌∙◌, arith, Some, None, slice_get, length-append}
-use Rattle.app_events.specs.Laws.{IsPrefixOf}
-use Rattle.uip_node.proofs.Basics.{append_nothing}
+use Rattle.node_laws.proofs.Prelude.{◌≡◌, ℕ, zero, suc, ◌+◌, ◌<◌, ◌≤◌, ◌⊎◌, List, [], ◌∷◌, ◌++◌, length, take, drop, refl, sym, ap, ◌∙◌, arith, Some, None, slice_get, length-append, IsPrefixOf, append_nothing}
 use Rattle.node_laws.proofs.Walk.{nil_of}
 
 get_drop : (a : ℕ) (xs : List ℕ) (i b : ℕ) → slice_get (drop a xs) i ≡ Some b → slice_get xs (a + i) ≡ Some b

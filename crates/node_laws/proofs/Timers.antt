@@ -1,54 +1,6 @@
 -- What is outstanding in the exchanges is outstanding at the node, and its timer expires.
-use Rattle.std.specs.List.{All}
-use Rattle.std.specs.Option.{option_map_or}
-use Rattle.std.specs.Prelude.{option_map}
-use Rattle.std.proofs.Common.{◌≡◌, ℕ, zero, suc, ◌+◌, ◌<◌, ◌≤◌, ◌==◌, Bool, true, false, not, ◌&&◌, inl, inr, List, [], ◌∷◌, ◌++◌, length, set, take, refl, sym, ap, ◌∙◌, subst, arith, Option, Some, None, slice_get, ltb, if◌then◌else◌}
-use Rattle.std.proofs.lemmas.Bool.{cases_lt}
-use Rattle.std.proofs.lemmas.List.Elements.{All-head, All-tail}
-use Rattle.uip_wire.specs.Numbers.{wrap}
-use Rattle.uip_wire.specs.declared.addr.Addr.{Addr}
-use Rattle.tcp_segment.specs.Segments.{PlainSegment, has_rst, has_ack}
-use Rattle.app_events.specs.AppSpec.{AppSpec}
-use Rattle.app_events.specs.Pages.{IsNow}
-use Rattle.app_events.specs.States.{is_time_wait}
-use Rattle.rexmit_timer.specs.Ages.{beat_at}
-use Rattle.rexmit_timer.specs.declared.timer.Beat.{Beat}
-use Rattle.app_events.specs.declared.now.Now.{Now}
-use Rattle.app_events.specs.declared.state.State.{State}
-use Rattle.app_events.specs.declared.state.State.TheVariants.{Closed, SynRcvd, Established, CloseWait, FinWait1, FinWait2, Closing, TimeWait, LastAck}
-use Rattle.tcp_machine.specs.Connection.{Sockets, Connection, closed, is_live, serves, same_sockets, snd_una}
-use Rattle.tcp_machine.specs.Segments.{occupies_sequence_space, segment_of, is_again, reset_for_no_connection, reset_of, syn_ack}
-use Rattle.tcp_machine.specs.Ask.{Outcome, leaves, closes, asked}
-use Rattle.tcp_machine.specs.OnSegment.{accepted, is_acked, on_segment}
-use Rattle.tcp_machine.specs.OnTick.{by_beat, grows_older, limit_of, on_tick, outstanding}
-use Rattle.tcp_machine.specs.declared.step.Step.{Step}
-use Rattle.uip_node.specs.Events.{Event}
-use Rattle.uip_node.specs.Counters.{called_by}
-use Rattle.uip_node.specs.Events.Event.{IpRefused, IcmpRefused, TcpRefused, EchoAsked, Arrived, Overlong, Periodic}
-use Rattle.uip_node.specs.Events.Reply.{Tcp}
-use Rattle.uip_node.specs.Node.{AbstractNode, NodeStep, snapshot, initial_node, step}
-use Rattle.uip_node.specs.Laws.{serving, IsEvent, Alike}
-use Rattle.uip_node.specs.Steady.{IsSteady}
-use Rattle.uip_node.proofs.Basics.{both_ways, and_true, eqb-eq, only_some}
-use Rattle.uip_node.proofs.Connections.{Single, get_set, get_set_same, is_served, serving_free, none_serves}
-use Rattle.uip_node.proofs.Connections.Written.{here, there}
-use Rattle.uip_node.proofs.Connections.Served.{served, free}
-use Rattle.uip_node.proofs.Fits.{FitConn, on_segment_fits, on_tick_fits}
-use Rattle.uip_node.proofs.FitNodes.{node_snapshot}
-use Rattle.uip_node.proofs.Moves.{Moves, asked_moves, segment_moves, tick_moves}
-use Rattle.uip_node.proofs.Peers.{on_segment_keeps, asked_keeps, on_tick_keeps}
-use Rattle.uip_node.proofs.SocketPairs.{same_is, serves_dead, serves_yes}
-use Rattle.uip_node.proofs.Stepped.{stepped_tells}
-use Rattle.uip_node.proofs.Told.{IsDue, StepTells, OutTells, due, alike_trans, alike_sym, alike_refl, segment_tells, tick_tells}
-use Rattle.node_laws.specs.Asked.{IsWithoutReset}
-use Rattle.node_laws.specs.Promise.{sequence_length}
-use Rattle.node_laws.specs.Traces.{Exchange, TraceEntry, sent_at, exchange, received_from, exchanges_onto}
-use Rattle.node_laws.specs.Turns.{trace_of}
-use Rattle.node_laws.specs.HonestPeers.{calls_of}
-use Rattle.node_laws.specs.Timers.{IsOutstanding, IsRetried, IsRetriedIn, RetransmitsOrResets}
-use Rattle.node_laws.specs.Timers.IsRetried.{sent_again, given_up}
+use Rattle.node_laws.proofs.Prelude.{All, option_map_or, option_map, ◌≡◌, ℕ, zero, suc, ◌+◌, ◌<◌, ◌≤◌, ◌==◌, Bool, true, false, not, ◌&&◌, inl, inr, List, [], ◌∷◌, ◌++◌, length, set, take, refl, sym, ap, ◌∙◌, subst, arith, Option, Some, None, slice_get, ltb, if◌then◌else◌, cases_lt, All-head, All-tail, wrap, Addr, PlainSegment, has_rst, has_ack, AppSpec, IsNow, is_time_wait, beat_at, Beat, Now, State, Closed, SynRcvd, Established, CloseWait, FinWait1, FinWait2, Closing, TimeWait, LastAck, Sockets, Connection, closed, is_live, serves, same_sockets, snd_una, occupies_sequence_space, segment_of, is_again, reset_for_no_connection, reset_of, syn_ack, Outcome, leaves, closes, asked, accepted, is_acked, on_segment, by_beat, grows_older, limit_of, on_tick, outstanding, Step, Event, called_by, IpRefused, IcmpRefused, TcpRefused, EchoAsked, Arrived, Overlong, Periodic, Tcp, AbstractNode, NodeStep, snapshot, initial_node, step, serving, IsEvent, Alike, IsSteady, both_ways, and_true, eqb-eq, only_some, Single, get_set, get_set_same, is_served, serving_free, none_serves, here, there, served, free, FitConn, on_segment_fits, on_tick_fits, node_snapshot, Moves, asked_moves, segment_moves, tick_moves, on_segment_keeps, asked_keeps, on_tick_keeps, same_is, serves_dead, serves_yes, stepped_tells, IsDue, StepTells, OutTells, due, alike_trans, alike_sym, alike_refl, segment_tells, tick_tells, IsWithoutReset, sequence_length, Exchange, TraceEntry, sent_at, exchange, received_from, exchanges_onto, trace_of, calls_of, IsOutstanding, IsRetried, IsRetriedIn, RetransmitsOrResets, sent_again, given_up, IsOfLine}
 use Rattle.node_laws.proofs.HonestPeers.{calls_one}
-use Rattle.node_laws.specs.Wire.{IsOfLine}
 use Rattle.node_laws.proofs.Beating.{Young, asked_young, segment_young, tick_young, due_size, asked_lives, segment_lives, tick_lives, mss_some, no_wait, ticks_are, due_again, next_beat, SafeAt}
 use Rattle.node_laws.proofs.GoodNodes.{AnyLength, Good, SafeConn, first_is, good_on, good_start, low_text}
 use Rattle.node_laws.proofs.Lines.{comes, quiet, met}

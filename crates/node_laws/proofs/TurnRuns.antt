@@ -1,10 +1,5 @@
 -- The trace of a node beside its run.
-use Rattle.std.proofs.Common.{◌≡◌, ℕ, Bool, List, [], ◌∷◌, map, refl, ap, ◌∙◌, Option, Some, None}
-use Rattle.app_events.specs.AppSpec.{AppSpec}
-use Rattle.uip_node.specs.Events.{Event, Reply}
-use Rattle.uip_node.specs.Node.{AbstractNode, joined, run, step}
-use Rattle.node_laws.specs.Traces.{replies_of, with_first}
-use Rattle.node_laws.specs.Turns.{trace_of}
+use Rattle.node_laws.proofs.Prelude.{◌≡◌, ℕ, Bool, List, [], ◌∷◌, map, refl, ap, ◌∙◌, Option, Some, None, AppSpec, Event, Reply, AbstractNode, joined, run, step, replies_of, with_first, trace_of}
 
 same_first : (sent : Option Reply) (replies : List Reply) → with_first sent replies ≡ joined sent replies
 same_first None replies = refl

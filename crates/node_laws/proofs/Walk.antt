@@ -1,29 +1,5 @@
 -- What a step of a connection accepts from its peer, and what its page is then.
-use Rattle.std.proofs.Common.{◌≡◌, ℕ, ◌+◌, Bool, true, false, not, ◌&&◌, ◌||◌, ◌⊎◌, inl, inr, List, [], ◌∷◌, ◌++◌, length, refl, sym, ap, ◌∙◌, subst, arith, Option, Some, None, length-append, eqb, ltb, append_assoc, take, drop, length-drop, ◌≤◌, if◌then◌else◌}
-use Rattle.uip_wire.specs.Numbers.{wrap}
-use Rattle.tcp_segment.specs.Segments.{PlainSegment, has_fin, has_rst, has_syn}
-use Rattle.rexmit_timer.specs.declared.timer.Beat.{Beat}
-use Rattle.app_events.specs.AppSpec.{AppState, Snapshot, AppSpec}
-use Rattle.app_events.specs.Laws.{IsPrefixOf, CanSend}
-use Rattle.app_events.specs.declared.now.Now.{Now}
-use Rattle.app_events.specs.declared.state.State.{State}
-use Rattle.app_events.specs.declared.state.State.TheVariants.{Closed, SynRcvd, Established, CloseWait, FinWait1, FinWait2, Closing, TimeWait, LastAck}
-use Rattle.app_events.specs.declared.want.Want.{Want}
-use Rattle.app_events.specs.declared.want.Want.TheVariants.{Nothing, Send, Close, Abort}
-use Rattle.std.proofs.Math.Seq.{take-add}
-use Rattle.tcp_machine.specs.Connection.{Connection, Sockets, is_live, rcv_nxt}
-use Rattle.tcp_machine.specs.Segments.{occupies_sequence_space, segment_of, text_segment}
-use Rattle.tcp_machine.specs.Ask.{Outcome, after_own_fin, closes, peer_has_closed, idles, does_as_wanted, prepared, asked}
-use Rattle.tcp_machine.specs.OnSegment.{accepted, hears, is_out_of_order, is_acked, rests, has_text, in_state, takes, with_part, with_window, in_established, peer_closes, stays_established, fin_acked, fin_waits, by_state, on_segment}
-use Rattle.tcp_machine.specs.OnTick.{grows_older, by_beat, on_tick}
-use Rattle.tcp_machine.specs.declared.step.Step.{Step}
-use Rattle.uip_node.proofs.Basics.{choose, both_ways, append_nothing, ltb-zero, and_false, eqb-eq, not-false, prefix_length, prefix_refl}
-use Rattle.tcp_machine.specs.Represents.{is_open}
-use Rattle.uip_node.proofs.Cases.{asked_by, by_open, is_ask, no_ask_again, on_tick_by, open_live}
-use Rattle.uip_node.proofs.Moves.{segment_moves, tick_moves}
-use Rattle.uip_node.specs.Steady.{IsSteady}
-use Rattle.node_laws.specs.Promise.{OutputModel}
-use Rattle.node_laws.specs.Speakers.{FollowsModelAt}
+use Rattle.node_laws.proofs.Prelude.{◌≡◌, ℕ, ◌+◌, Bool, true, false, not, ◌&&◌, ◌||◌, ◌⊎◌, inl, inr, List, [], ◌∷◌, ◌++◌, length, refl, sym, ap, ◌∙◌, subst, arith, Option, Some, None, length-append, eqb, ltb, append_assoc, take, drop, length-drop, ◌≤◌, if◌then◌else◌, wrap, PlainSegment, has_fin, has_rst, has_syn, Beat, AppState, Snapshot, AppSpec, IsPrefixOf, CanSend, Now, State, Closed, SynRcvd, Established, CloseWait, FinWait1, FinWait2, Closing, TimeWait, LastAck, Want, Nothing, Send, Close, Abort, take-add, Connection, Sockets, is_live, rcv_nxt, occupies_sequence_space, segment_of, text_segment, Outcome, after_own_fin, closes, peer_has_closed, idles, does_as_wanted, prepared, asked, accepted, hears, is_out_of_order, is_acked, rests, has_text, in_state, takes, with_part, with_window, in_established, peer_closes, stays_established, fin_acked, fin_waits, by_state, on_segment, grows_older, by_beat, on_tick, Step, choose, both_ways, append_nothing, ltb-zero, and_false, eqb-eq, not-false, prefix_length, prefix_refl, is_open, asked_by, by_open, is_ask, no_ask_again, on_tick_by, open_live, segment_moves, tick_moves, IsSteady, OutputModel, FollowsModelAt}
 use Rattle.node_laws.proofs.Speaking.{IsEnd, IsTold, IsOpen, end_more, end_said, prefix_size, heard_is, open_acked, open_heard, open_new, open_polled, open_prepared, prepared_is, equal_prefix, told_said}
 
 -- the numbers that a FIN or a SYN takes up

@@ -1,30 +1,5 @@
 -- Every incarnation with every peer.
-use Rattle.std.specs.List.{All}
-use Rattle.std.specs.Option.{option_map_or}
-use Rattle.std.proofs.Common.{◌≡◌, ℕ, zero, suc, ◌<◌, length, drop, Bool, true, false, inl, inr, List, [], ◌∷◌, ◌++◌, replicate, refl, sym, ap, ◌∙◌, subst, arith, Option, Some, None, if◌then◌else◌}
-use Rattle.std.proofs.lemmas.List.Elements.{All-head, All-tail}
-use Rattle.uip_wire.specs.declared.addr.Addr.{Addr}
-use Rattle.app_events.specs.AppSpec.{AppSpec}
-use Rattle.app_events.specs.Pages.{IsU32}
-use Rattle.tcp_segment.specs.Segments.{PlainSegment, has_rst, has_syn}
-use Rattle.tcp_segment.specs.declared.flags.TheConstants.{SYN}
-use Rattle.tcp_machine.specs.Connection.{Sockets, Connection, closed, is_live}
-use Rattle.tcp_machine.specs.Segments.{is_plain_syn, segment_of, syn_ack}
-use Rattle.tcp_machine.specs.Ask.{Outcome, asked}
-use Rattle.tcp_machine.specs.OnSegment.{accepted, on_segment}
-use Rattle.tcp_machine.specs.OnTick.{on_tick}
-use Rattle.uip_node.specs.Events.{Event}
-use Rattle.uip_node.specs.Node.{AbstractNode, initial_node, step}
-use Rattle.uip_node.specs.Laws.{serving, IsEvent}
-use Rattle.uip_node.proofs.Basics.{both_ways, eqb-eq, only_some}
-use Rattle.uip_node.proofs.FitNodes.{FitNode, closed_fits, event_fits}
-use Rattle.uip_node.proofs.Fits.{FitConn, all_nil, all_cons}
-use Rattle.uip_node.proofs.Connections.{none_serves, all_closed, Single, serving_free}
-use Rattle.uip_node.specs.Steady.{IsSteady}
-use Rattle.node_laws.specs.Speakers.{HasOutputModel, FollowsModelAt}
-use Rattle.node_laws.specs.Traces.{Exchange, exchange, exchanges_onto, exchanges_with, is_opening, is_empty, is_incarnation, IsIncarnationIn}
-use Rattle.node_laws.specs.Promise.{Account, AccountHolds, TextConforms, IncarnationConforms, IsExtendedBy, OutputModel}
-use Rattle.node_laws.specs.Asked.{IsWithoutReset, LivesOn, IsSolicited, NothingUnsolicited, OpensServed}
+use Rattle.node_laws.proofs.Prelude.{All, option_map_or, ◌≡◌, ℕ, zero, suc, ◌<◌, length, drop, Bool, true, false, inl, inr, List, [], ◌∷◌, ◌++◌, replicate, refl, sym, ap, ◌∙◌, subst, arith, Option, Some, None, if◌then◌else◌, All-head, All-tail, Addr, AppSpec, IsU32, PlainSegment, has_rst, has_syn, SYN, Sockets, Connection, closed, is_live, is_plain_syn, segment_of, syn_ack, Outcome, asked, accepted, on_segment, on_tick, Event, AbstractNode, initial_node, step, serving, IsEvent, both_ways, eqb-eq, only_some, FitNode, closed_fits, event_fits, FitConn, all_nil, all_cons, none_serves, all_closed, Single, serving_free, IsSteady, HasOutputModel, FollowsModelAt, Exchange, exchange, exchanges_onto, exchanges_with, is_opening, is_empty, is_incarnation, IsIncarnationIn, Account, AccountHolds, TextConforms, IncarnationConforms, IsExtendedBy, OutputModel, IsWithoutReset, LivesOn, IsSolicited, NothingUnsolicited, OpensServed}
 use Rattle.node_laws.proofs.Steps.{LineStep, OfNode, Changes, IsStep, changed, trace_over}
 use Rattle.node_laws.proofs.Wire.{line_wire, wire_event}
 use Rattle.node_laws.proofs.Replying.{answer_no_syn, rst_silent, rst_ends, reset_ends, tick_reset_ends}

@@ -1,15 +1,5 @@
 -- The window and the timer of worked exchanges, computed from the definitions alone.
-use Rattle.std.proofs.Common.{◌≡◌, ◌+◌, ℕ, true, false, inl, inr, List, [], ◌∷◌, refl, arith, Some, None}
-use Rattle.tcp_segment.specs.Segments.{PlainSegment}
-use Rattle.tcp_segment.specs.declared.flags.TheConstants.{SYN, PSH, ACK}
-use Rattle.tcp_machine.specs.Segments.{occupies_sequence_space}
-use Rattle.uip_node.proofs.Basics.{only_some}
-use Rattle.uip_node.proofs.Fits.{all_nil}
-use Rattle.node_laws.specs.Asked.{IsWithoutReset}
-use Rattle.node_laws.specs.Traces.{Exchange}
-use Rattle.node_laws.specs.Timers.{IsOutstanding}
-use Rattle.node_laws.specs.Windows.{FitsNewest}
-use Rattle.node_laws.specs.WrongLives.{exchanged, segment}
+use Rattle.node_laws.proofs.Prelude.{◌≡◌, ◌+◌, ℕ, true, false, inl, inr, List, [], ◌∷◌, refl, arith, Some, None, PlainSegment, SYN, PSH, ACK, occupies_sequence_space, only_some, all_nil, IsWithoutReset, Exchange, IsOutstanding, FitsNewest, exchanged, segment}
 
 -- a segment of the peer with a window of three bytes, and the reply to it
 abbrev narrow : ℕ → ℕ → List ℕ → PlainSegment

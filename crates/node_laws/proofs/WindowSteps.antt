@@ -1,21 +1,5 @@
 -- What a step of a connection does to the longest text that may be sent.
-use Rattle.std.proofs.Common.{◌≡◌, ℕ, ◌≤◌, min, Bool, true, false, not, ◌&&◌, ◌⊎◌, inl, inr, List, refl, sym, ap, ◌∙◌, arith, eqb, ltb, if◌then◌else◌}
-use Rattle.tcp_segment.specs.Segments.{PlainSegment, has_fin, has_rst}
-use Rattle.rexmit_timer.specs.declared.timer.Beat.{Beat}
-use Rattle.app_events.specs.AppSpec.{AppSpec}
-use Rattle.app_events.specs.declared.now.Now.{Now}
-use Rattle.app_events.specs.declared.state.State.{State}
-use Rattle.app_events.specs.declared.state.State.TheVariants.{Closed, SynRcvd, Established, CloseWait, FinWait1, FinWait2, Closing, TimeWait, LastAck}
-use Rattle.app_events.specs.declared.want.Want.{Want}
-use Rattle.app_events.specs.declared.want.Want.TheVariants.{Nothing, Send, Close, Abort}
-use Rattle.tcp_machine.specs.Connection.{Connection}
-use Rattle.tcp_machine.specs.Ask.{Outcome, leaves, closes, after_own_fin, peer_has_closed, idles, does_as_wanted, prepared, asked}
-use Rattle.tcp_machine.specs.OnSegment.{is_out_of_order, is_acked, rests, has_text, with_part, peer_closes, stays_established, in_established, fin_acked, fin_waits, by_state, on_segment}
-use Rattle.tcp_machine.specs.OnTick.{outstanding, by_beat, on_tick}
-use Rattle.tcp_machine.specs.declared.step.Step.{Step}
-use Rattle.uip_node.proofs.Basics.{choose, eqb-eq}
-use Rattle.tcp_machine.specs.Represents.{is_open}
-use Rattle.uip_node.proofs.Cases.{asked_by, by_own_fin, is_ask, on_tick_by}
+use Rattle.node_laws.proofs.Prelude.{◌≡◌, ℕ, ◌≤◌, min, Bool, true, false, not, ◌&&◌, ◌⊎◌, inl, inr, List, refl, sym, ap, ◌∙◌, arith, eqb, ltb, if◌then◌else◌, PlainSegment, has_fin, has_rst, Beat, AppSpec, Now, State, Closed, SynRcvd, Established, CloseWait, FinWait1, FinWait2, Closing, TimeWait, LastAck, Want, Nothing, Send, Close, Abort, Connection, Outcome, leaves, closes, after_own_fin, peer_has_closed, idles, does_as_wanted, prepared, asked, is_out_of_order, is_acked, rests, has_text, with_part, peer_closes, stays_established, in_established, fin_acked, fin_waits, by_state, on_segment, outstanding, by_beat, on_tick, Step, choose, eqb-eq, is_open, asked_by, by_own_fin, is_ask, on_tick_by}
 
 -- ---- the first text
 

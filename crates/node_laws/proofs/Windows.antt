@@ -1,38 +1,5 @@
 -- Every new text fits the window of the newest segment that was not out of order.
-use Rattle.std.specs.List.{All}
-use Rattle.std.specs.Option.{option_map_or}
-use Rattle.std.proofs.Common.{◌≡◌, ℕ, zero, suc, ◌+◌, ◌<◌, ◌≤◌, ◌==◌, Bool, true, false, not, ◌&&◌, ◌||◌, inl, inr, List, [], ◌∷◌, ◌++◌, length, take, drop, refl, sym, ap, ◌∙◌, subst, arith, Option, Some, None, slice_get, eqb, ltb, length-take, if◌then◌else◌}
-use Rattle.std.proofs.lemmas.Bool.{eq-eqb}
-use Rattle.std.proofs.lemmas.List.Elements.{All-tail}
-use Rattle.uip_wire.specs.Numbers.{wrap}
-use Rattle.uip_wire.specs.declared.addr.Addr.{Addr}
-use Rattle.tcp_segment.specs.declared.flags.TheConstants.{SYN}
-use Rattle.tcp_segment.specs.Segments.{PlainSegment, has_syn, has_fin, has_ack}
-use Rattle.app_events.specs.AppSpec.{AppSpec}
-use Rattle.app_events.specs.Pages.{IsU32, IsNow}
-use Rattle.app_events.specs.declared.now.Now.{Now}
-use Rattle.app_events.specs.declared.state.State.{State}
-use Rattle.app_events.specs.declared.state.State.TheVariants.{SynRcvd, Established, CloseWait}
-use Rattle.tcp_machine.specs.Connection.{Sockets, Connection, closed, is_live, snd_una, rcv_nxt}
-use Rattle.tcp_machine.specs.Segments.{occupies_sequence_space, segment_of, is_again, is_plain_syn, reset_for_no_connection, bare_ack, fin_of, reset_of, syn_ack, text_segment}
-use Rattle.tcp_machine.specs.Ask.{Outcome, leaves, asked}
-use Rattle.tcp_machine.specs.OnSegment.{accepted, is_out_of_order, is_acked, on_segment}
-use Rattle.tcp_machine.specs.OnTick.{on_tick}
-use Rattle.tcp_machine.specs.declared.step.Step.{Step}
-use Rattle.uip_node.specs.Events.{Event}
-use Rattle.uip_node.specs.Laws.{serving, IsEvent, Alike}
-use Rattle.uip_node.specs.Node.{AbstractNode, initial_node, step}
-use Rattle.uip_node.specs.Steady.{IsSteady}
-use Rattle.uip_node.proofs.Basics.{both_ways, and_true, eqb-eq, ltb-yes, not-true, only_some}
-use Rattle.tcp_machine.specs.Represents.{is_open}
-use Rattle.uip_node.proofs.Cases.{}
-use Rattle.uip_node.proofs.Fits.{FitConn, on_segment_fits, on_tick_fits}
-use Rattle.uip_node.proofs.Stepped.{stepped_tells}
-use Rattle.uip_node.proofs.Told.{SafeState, StepTells, OutTells, due, segment_tells, tick_tells}
-use Rattle.node_laws.specs.Traces.{Exchange, sent_at, exchange, is_opening, is_incarnation, is_empty, IsIncarnationIn, exchanges_onto}
-use Rattle.node_laws.specs.Turns.{trace_of}
-use Rattle.node_laws.specs.Windows.{IsPassedOver, FitsNewest, IsNewText, FitsWindows, WindowsAreRespected}
-use Rattle.node_laws.specs.Wire.{IsOfLine}
+use Rattle.node_laws.proofs.Prelude.{All, option_map_or, ◌≡◌, ℕ, zero, suc, ◌+◌, ◌<◌, ◌≤◌, ◌==◌, Bool, true, false, not, ◌&&◌, ◌||◌, inl, inr, List, [], ◌∷◌, ◌++◌, length, take, drop, refl, sym, ap, ◌∙◌, subst, arith, Option, Some, None, slice_get, eqb, ltb, length-take, if◌then◌else◌, eq-eqb, All-tail, wrap, Addr, SYN, PlainSegment, has_syn, has_fin, has_ack, AppSpec, IsU32, IsNow, Now, State, SynRcvd, Established, CloseWait, Sockets, Connection, closed, is_live, snd_una, rcv_nxt, occupies_sequence_space, segment_of, is_again, is_plain_syn, reset_for_no_connection, bare_ack, fin_of, reset_of, syn_ack, text_segment, Outcome, leaves, asked, accepted, is_out_of_order, is_acked, on_segment, on_tick, Step, Event, serving, IsEvent, Alike, AbstractNode, initial_node, step, IsSteady, both_ways, and_true, eqb-eq, ltb-yes, not-true, only_some, is_open, FitConn, on_segment_fits, on_tick_fits, stepped_tells, SafeState, StepTells, OutTells, due, segment_tells, tick_tells, Exchange, sent_at, exchange, is_opening, is_incarnation, is_empty, IsIncarnationIn, exchanges_onto, trace_of, IsPassedOver, FitsNewest, IsNewText, FitsWindows, WindowsAreRespected, IsOfLine}
 use Rattle.node_laws.proofs.Beating.{ask_open, mss_some}
 use Rattle.node_laws.proofs.GoodNodes.{AnyLength, Good, SafeConn, first_is, good_on, good_start, low_text}
 use Rattle.node_laws.proofs.Lines.{OfMedium, Comes, comes, quiet, met, left_of}

@@ -1,32 +1,6 @@
 -- What bytes decode to fits its types.
-use Rattle.std.specs.List.{All}
-use Rattle.std.specs.Option.{option_map_or}
-use Rattle.std.proofs.Common.{ℕ, zero, suc, ◌+◌, ◌-◌, ◌%◌, ◌<◌, not, ◌||◌, List, [], ◌∷◌, ◌++◌, length, take, drop, refl, sym, subst, arith, Option, Some, None, Result, eqb, ltb, bytes_eq, slice_index}
-use Rattle.std.proofs.lemmas.List.Elements.{All-take, All-drop}
-use Rattle.uip_wire.specs.Addr.{address_at}
-use Rattle.uip_wire.specs.Checksum.{checksum_of}
-use Rattle.uip_wire.specs.Fields.{word_at, long_at}
-use Rattle.uip_wire.specs.declared.addr.Addr.{Addr}
-use Rattle.uip_ipv4.specs.Head.{proto_of, head_by, head_or_fate, payload_of}
-use Rattle.uip_ipv4.specs.declared.head.IpHead.{IpHead}
-use Rattle.uip_ipv4.specs.declared.fate.IpFate.{IpFate}
-use Rattle.uip_ipv4.specs.declared.proto.Proto.{Proto}
-use Rattle.uip_ipv4.specs.declared.proto.Proto.TheVariants.{Icmp, Tcp}
-use Rattle.icmp_echo.specs.Echo.{echo_fate}
-use Rattle.icmp_echo.specs.declared.fate.IcmpFate.{IcmpFate}
-use Rattle.tcp_segment.specs.Received.{header_len, segment_in}
-use Rattle.tcp_segment.specs.Segments.{pseudo_header}
-use Rattle.tcp_segment.specs.declared.fate.TcpFate.{TcpFate}
-use Rattle.tcp_segment.specs.declared.segment.Segment.{Segment}
-use Rattle.app_events.specs.Pages.{IsAddr, IsByte}
-use Rattle.uip_node.specs.Edge.{by_head, by_proto, by_segment, event_of}
-use Rattle.uip_node.specs.Events.{Event}
-use Rattle.uip_node.specs.Events.Event.{IpRefused, IcmpRefused, TcpRefused, EchoAsked, Arrived, Overlong, Periodic}
-use Rattle.uip_node.specs.Laws.{IsEvent}
-use Rattle.uip_node.proofs.Basics.{choose}
-use Rattle.uip_node.proofs.Fits.{all_nil, all_cons}
-use Rattle.node_laws.specs.Wire.{IsOfLine}
-use Rattle.node_laws.specs.Wire.IsOfLine.{of_bytes, of_overlong, of_call}
+use Rattle.node_laws.proofs.Prelude.{All, option_map_or, ℕ, zero, suc, ◌+◌, ◌-◌, ◌%◌, ◌<◌, not, ◌||◌, List, [], ◌∷◌, ◌++◌, length, take, drop, refl, sym, subst, arith, Option, Some, None, Result, eqb, ltb, bytes_eq, slice_index, All-take, All-drop, address_at, checksum_of, word_at, long_at, Addr, proto_of, head_by, head_or_fate, payload_of, IpHead, IpFate, Proto, Icmp, echo_fate, IcmpFate, header_len, segment_in, pseudo_header, TcpFate, Segment, IsAddr, IsByte, by_head, by_proto, by_segment, event_of, Event, IpRefused, IcmpRefused, TcpRefused, EchoAsked, Arrived, Overlong, Periodic, IsEvent, choose, all_nil, all_cons, IsOfLine, of_bytes, of_overlong, of_call}
+use Rattle.uip_ipv4.specs.declared.proto.Proto.TheVariants.{Tcp}
 
 -- what a segment that came has
 abbrev pub IsWire : Event → Type 0

@@ -1,22 +1,6 @@
 -- The guarantee alone excludes wrong incarnations.
-use Rattle.std.proofs.Common.{◌≡◌, ◌+◌, ◌<◌, ◌≤◌, ◌⊎◌, ℕ, zero, suc, Bool, true, false, List, [], ◌∷◌, ◌++◌, length, take, refl, sym, ap, ◌∙◌, subst, arith, inl, inr, Some, if◌then◌else◌}
-use Rattle.uip_wire.specs.Numbers.{wrap}
-use Rattle.tcp_segment.specs.Segments.{PlainSegment}
-use Rattle.app_events.specs.FixedSpec.{hello, fixed_text, some_heard}
-use Rattle.uip_node.specs.Events.Event.{EchoAsked}
-use Rattle.uip_node.proofs.Basics.{only_some, prefix_length, prefix_refl}
-use Rattle.app_events.specs.Laws.{IsPrefixOf}
-use Rattle.node_laws.specs.Promise.{OutputModel}
-use Rattle.node_laws.specs.Promise.OutputModel.{Paged, Interactive, Free}
-use Rattle.node_laws.specs.Receivers.{CarriesByte, IsReceived}
-use Rattle.node_laws.specs.Traces.{received_at, sent_at}
+use Rattle.node_laws.proofs.Prelude.{◌≡◌, ◌+◌, ◌<◌, ◌≤◌, ◌⊎◌, ℕ, zero, suc, Bool, true, false, List, [], ◌∷◌, ◌++◌, length, take, refl, sym, ap, ◌∙◌, subst, arith, inl, inr, Some, if◌then◌else◌, wrap, PlainSegment, hello, fixed_text, some_heard, EchoAsked, only_some, prefix_length, prefix_refl, IsPrefixOf, OutputModel, Paged, Interactive, Free, CarriesByte, IsReceived, received_at, sent_at, IsEchoed, Account, Opening, IsAcceptedText, AccountHolds, IncarnationConforms, NumbersGiveOffsets, IsAcknowledged, Pages, Exchange, IsPrefixOfPage, TextConforms, SpeaksBy, hello_pages, mirror_pages, opened, segment, cut_again, ends_early, repeats_byte, acknowledges_refused, two_under_way, tells_another, echoes_before, WrongLivesFall}
 use Rattle.node_laws.proofs.Texts.{element, get_inside, most_or_more}
-use Rattle.node_laws.specs.Asked.{IsEchoed}
-use Rattle.node_laws.specs.Promise.{Account, Opening, IsAcceptedText, AccountHolds, IncarnationConforms, NumbersGiveOffsets, IsAcknowledged}
-use Rattle.app_events.specs.Pages.{Pages}
-use Rattle.node_laws.specs.Traces.{Exchange}
-use Rattle.node_laws.specs.Promise.{IsPrefixOfPage, TextConforms}
-use Rattle.node_laws.specs.WrongLives.{SpeaksBy, hello_pages, mirror_pages, opened, segment, cut_again, ends_early, repeats_byte, acknowledges_refused, two_under_way, tells_another, echoes_before, WrongLivesFall}
 
 -- where the life begins
 record Numbers (a : Account) : Type 0 where

@@ -1,10 +1,9 @@
 -- Nothing is sent unsolicited, and connections open only at served ports.
 use Rattle.std.specs.Prelude.{◌≡◌, ℕ, ◌⊎◌, Bool, true, false, List, ◌∷◌, ◌++◌, Some, None}
 use Rattle.std.specs.List.{All}
-use Rattle.tcp_segment.specs.Segments.{PlainSegment, has_rst}
-use Rattle.tcp_machine.specs.Connection.{Sockets}
-use Rattle.uip_node.specs.Events.Event.{EchoAsked}
-use Rattle.uip_node.specs.Events.Reply.{Echo}
+use Rattle.tcp_segment.specs.Prelude.{PlainSegment, has_rst}
+use Rattle.tcp_machine.specs.Prelude.{Sockets}
+use Rattle.uip_node.specs.Prelude.{EchoAsked, Echo}
 use Rattle.node_laws.specs.Traces.{Exchange, TraceEntry, is_opening, is_incarnation}
 
 -- An echo reply answers the echo request of the same trace entry.

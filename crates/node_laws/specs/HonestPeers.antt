@@ -3,19 +3,12 @@
 use Rattle.std.specs.List.{All}
 use Rattle.std.specs.Option.{option_map_or}
 use Rattle.std.specs.Prelude.{◌≡◌, ℕ, ◌+◌, ◌<◌, ◌≤◌, ◌==◌, ◌&&◌, ◌⊎◌, Bool, true, false, not, List, [], ◌∷◌, ◌++◌, length, map, suc, drop, Some, None, is_some, if◌then◌else◌}
-use Rattle.uip_wire.specs.Numbers.{wrap}
+use Rattle.uip_wire.specs.Prelude.{wrap}
 use Rattle.uip_wire.specs.declared.addr.Addr.{Addr}
-use Rattle.tcp_segment.specs.Segments.{PlainSegment, has_syn, has_fin, has_rst, has_ack}
-use Rattle.app_events.specs.AppSpec.{AppState, AppSpec, Snapshot}
-use Rattle.app_events.specs.Laws.{IsPrefixOf}
-use Rattle.app_events.specs.Pages.{Pages, IsPaged, IsAddr, IsU32, IsSnapshot}
-use Rattle.tcp_machine.specs.Connection.{Sockets}
-use Rattle.tcp_machine.specs.OnSegment.{first_mss}
-use Rattle.tcp_machine.specs.Segments.{occupies_sequence_space}
-use Rattle.uip_node.specs.Events.{Event}
-use Rattle.uip_node.specs.Counters.{called_by}
-use Rattle.uip_node.specs.Node.{initial_node}
-use Rattle.uip_node.specs.Answering.{AnswersPolled}
+use Rattle.tcp_segment.specs.Prelude.{PlainSegment, has_syn, has_fin, has_rst, has_ack}
+use Rattle.app_events.specs.Prelude.{AppState, AppSpec, Snapshot, IsPrefixOf, Pages, IsPaged, IsAddr, IsU32, IsSnapshot}
+use Rattle.tcp_machine.specs.Prelude.{Sockets, first_mss, occupies_sequence_space}
+use Rattle.uip_node.specs.Prelude.{Event, called_by, initial_node, AnswersPolled}
 use Rattle.node_laws.specs.Receivers.{EndsAfter, receives}
 use Rattle.node_laws.specs.Traces.{Exchange, TraceEntry, exchanges_with}
 use Rattle.node_laws.specs.Turns.{trace_of}

@@ -10,3 +10,4 @@ pub mod HonestPeers
 pub mod Timers
 pub mod Windows
 pub mod WrongLives
+pub mod Prelude

@@ -2,14 +2,11 @@
 use Rattle.std.specs.List.{All}
 use Rattle.std.specs.Prelude.{◌≡◌, ℕ, suc, ◌+◌, ◌<◌, ◌≤◌, ◌⊎◌, Bool, true, false, List, [], ◌∷◌, ◌++◌, length, drop, Option, Some}
 use Rattle.std.specs.Prelude.{if◌then◌else◌}
-use Rattle.uip_wire.specs.Numbers.{wrap}
-use Rattle.tcp_segment.specs.Segments.{PlainSegment, has_syn, has_fin, has_rst, has_ack}
-use Rattle.app_events.specs.AppSpec.{Snapshot}
-use Rattle.app_events.specs.Laws.{IsPrefixOf}
-use Rattle.app_events.specs.Pages.{Pages, IsSnapshot}
-use Rattle.tcp_machine.specs.OnSegment.{first_mss}
-use Rattle.tcp_machine.specs.Segments.{occupies_sequence_space}
-use Rattle.uip_node.specs.Laws.{Alike, IsSlice}
+use Rattle.uip_wire.specs.Prelude.{wrap}
+use Rattle.tcp_segment.specs.Prelude.{PlainSegment, has_syn, has_fin, has_rst, has_ack}
+use Rattle.app_events.specs.Prelude.{Snapshot, IsPrefixOf, Pages, IsSnapshot}
+use Rattle.tcp_machine.specs.Prelude.{first_mss, occupies_sequence_space}
+use Rattle.uip_node.specs.Prelude.{Alike, IsSlice}
 use Rattle.node_laws.specs.Traces.{Exchange, sent_at, received_at}
 use Rattle.node_laws.specs.Receivers.{IsReceived, EndsAfter}
 

@@ -2,8 +2,8 @@
 -- or discard any part of them.
 use Rattle.std.specs.Option.{option_map_or}
 use Rattle.std.specs.Prelude.{◌≡◌, ℕ, ◌+◌, ◌==◌, true, List, [], ◌∷◌, ◌++◌, length, Some, slice_get, if◌then◌else◌}
-use Rattle.uip_wire.specs.Numbers.{wrap}
-use Rattle.tcp_segment.specs.Segments.{PlainSegment, has_fin}
+use Rattle.uip_wire.specs.Prelude.{wrap}
+use Rattle.tcp_segment.specs.Prelude.{PlainSegment, has_fin}
 use Rattle.node_laws.specs.Traces.{Exchange, sent_at}
 
 -- A segment of the incarnation carries this byte at offset `at` of the text; offset 0 has the sequence number after the SYN.

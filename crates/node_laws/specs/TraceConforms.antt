@@ -2,17 +2,12 @@
 use Rattle.std.specs.List.{All}
 use Rattle.std.specs.Prelude.{ℕ, Bool, List}
 use Rattle.uip_wire.specs.declared.addr.Addr.{Addr}
-use Rattle.app_events.specs.AppSpec.{AppSpec}
-use Rattle.app_events.specs.Pages.{Pages, IsPaged, IsAddr, IsU32}
-use Rattle.tcp_machine.specs.Connection.{Sockets}
-use Rattle.uip_node.specs.Events.{Event}
-use Rattle.uip_node.specs.Laws.{HasBytes}
-use Rattle.uip_node.specs.Steady.{IsSteady}
-use Rattle.uip_node.specs.Node.{initial_node}
+use Rattle.app_events.specs.Prelude.{AppSpec, Pages, IsPaged, IsAddr, IsU32}
+use Rattle.tcp_machine.specs.Prelude.{Sockets}
+use Rattle.uip_node.specs.Prelude.{Event, HasBytes, IsSteady, initial_node, SendsBytes}
 use Rattle.node_laws.specs.Traces.{Exchange, TraceEntry, exchanges_with, IsIncarnationIn}
 use Rattle.node_laws.specs.Promise.{IncarnationConforms, OutputModel}
 use Rattle.node_laws.specs.Speakers.{HasOutputModel, at_every_port}
-use Rattle.uip_node.specs.Laws.{SendsBytes}
 use Rattle.node_laws.specs.Asked.{IsEchoed, NothingUnsolicited, OpensServed}
 use Rattle.node_laws.specs.Wire.{IsOfLine, IsReadByPeer}
 use Rattle.node_laws.specs.Turns.{trace_of}

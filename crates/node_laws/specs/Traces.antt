@@ -1,11 +1,9 @@
 -- What the node and one peer exchange, event by event, and the incarnations of their connections. Only segments on the line define these.
 use Rattle.std.specs.Option.{option_map_or}
 use Rattle.std.specs.Prelude.{◌≡◌, ◌&&◌, ℕ, Bool, true, false, List, [], ◌∷◌, ◌++◌, Option, Some, None, is_some, if◌then◌else◌, slice_get}
-use Rattle.tcp_segment.specs.Segments.{PlainSegment, has_syn}
-use Rattle.tcp_machine.specs.Connection.{Sockets, same_sockets}
-use Rattle.uip_node.specs.Events.{Event, Reply}
-use Rattle.uip_node.specs.Events.Event.{Arrived}
-use Rattle.uip_node.specs.Events.Reply.{Tcp}
+use Rattle.tcp_segment.specs.Prelude.{PlainSegment, has_syn}
+use Rattle.tcp_machine.specs.Prelude.{Sockets, same_sockets}
+use Rattle.uip_node.specs.Prelude.{Event, Reply, Arrived, Tcp}
 
 -- One event as it concerns one peer: the segment received from the peer and the segment sent to it.
 pub record Exchange : Type 0 where

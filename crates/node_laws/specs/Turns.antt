@@ -1,8 +1,7 @@
 -- The trace of a node, by its definition.
 use Rattle.std.specs.Prelude.{ℕ, Bool, List, [], ◌∷◌}
-use Rattle.app_events.specs.AppSpec.{AppSpec}
-use Rattle.uip_node.specs.Events.{Event}
-use Rattle.uip_node.specs.Node.{AbstractNode, step}
+use Rattle.app_events.specs.Prelude.{AppSpec}
+use Rattle.uip_node.specs.Prelude.{Event, AbstractNode, step}
 use Rattle.node_laws.specs.Traces.{TraceEntry}
 
 -- the trace of a node over these events, the oldest first

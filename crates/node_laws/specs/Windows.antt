@@ -2,16 +2,12 @@
 -- the segment that acknowledges the SYN is not respected.
 use Rattle.std.specs.List.{All}
 use Rattle.std.specs.Prelude.{◌≡◌, ℕ, ◌+◌, ◌<◌, ◌≤◌, ◌⊎◌, Bool, true, false, List, [], ◌∷◌, length, drop, Some, None, slice_get}
-use Rattle.uip_wire.specs.Numbers.{wrap}
+use Rattle.uip_wire.specs.Prelude.{wrap}
 use Rattle.uip_wire.specs.declared.addr.Addr.{Addr}
-use Rattle.tcp_segment.specs.Segments.{PlainSegment, has_syn, has_ack}
-use Rattle.app_events.specs.AppSpec.{AppSpec}
-use Rattle.app_events.specs.Pages.{IsAddr, IsU32}
-use Rattle.tcp_machine.specs.Connection.{Sockets}
-use Rattle.tcp_machine.specs.Segments.{occupies_sequence_space}
-use Rattle.uip_node.specs.Events.{Event}
-use Rattle.uip_node.specs.Node.{initial_node}
-use Rattle.uip_node.specs.Steady.{IsSteady}
+use Rattle.tcp_segment.specs.Prelude.{PlainSegment, has_syn, has_ack}
+use Rattle.app_events.specs.Prelude.{AppSpec, IsAddr, IsU32}
+use Rattle.tcp_machine.specs.Prelude.{Sockets, occupies_sequence_space}
+use Rattle.uip_node.specs.Prelude.{Event, initial_node, IsSteady}
 use Rattle.node_laws.specs.Traces.{Exchange, sent_at, exchanges_with, IsIncarnationIn}
 use Rattle.node_laws.specs.Turns.{trace_of}
 use Rattle.node_laws.specs.Wire.{IsOfLine}

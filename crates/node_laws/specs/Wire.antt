@@ -3,13 +3,10 @@ use Rattle.std.specs.List.{All}
 use Rattle.std.specs.Prelude.{◌≡◌, ℕ, ◌≤◌, Bool, List, length, Some}
 use Rattle.uip_wire.specs.declared.addr.Addr.{Addr}
 use Rattle.uip_wire.specs.declared.sizes.TheConstants.{LARGEST_DATAGRAM}
-use Rattle.tcp_segment.specs.Segments.{PlainSegment}
-use Rattle.app_events.specs.Pages.{IsByte}
-use Rattle.tcp_machine.specs.Connection.{Sockets}
-use Rattle.uip_node.specs.Edge.{event_of, reply_bytes}
-use Rattle.uip_node.specs.Events.{Event}
-use Rattle.uip_node.specs.Events.Event.{Arrived, Overlong, Periodic}
-use Rattle.uip_node.specs.Events.Reply.{Tcp}
+use Rattle.tcp_segment.specs.Prelude.{PlainSegment}
+use Rattle.app_events.specs.Prelude.{IsByte}
+use Rattle.tcp_machine.specs.Prelude.{Sockets}
+use Rattle.uip_node.specs.Prelude.{event_of, reply_bytes, Event, Arrived, Overlong, Periodic, Tcp}
 use Rattle.node_laws.specs.Traces.{TraceEntry}
 
 -- An event that a line can bring: a datagram of any bytes, a frame that is too long, or the call of a slot.

@@ -1,12 +1,10 @@
 -- Incarnations of wrong nodes, worked by hand, which the guarantee refuses. The IRS is 1000 and the ISS is 0. The page is `hello` and a
 -- line feed once a byte was received.
 use Rattle.std.specs.Prelude.{◌≡◌, ◌⊎◌, ◌+◌, ℕ, List, [], ◌∷◌, ◌++◌, Option, Some, None, take, drop, false}
-use Rattle.tcp_segment.specs.Segments.{PlainSegment}
+use Rattle.tcp_segment.specs.Prelude.{PlainSegment}
 use Rattle.tcp_segment.specs.declared.flags.TheConstants.{FIN, SYN, PSH, ACK}
-use Rattle.app_events.specs.FixedSpec.{hello, fixed_text, some_heard}
-use Rattle.app_events.specs.Pages.{Pages}
-use Rattle.uip_node.specs.Events.Event.{EchoAsked}
-use Rattle.uip_node.specs.Events.Reply.{Echo}
+use Rattle.app_events.specs.Prelude.{hello, fixed_text, some_heard, Pages}
+use Rattle.uip_node.specs.Prelude.{EchoAsked, Echo}
 use Rattle.node_laws.specs.Traces.{Exchange, TraceEntry}
 use Rattle.node_laws.specs.Promise.{IncarnationConforms, OutputModel}
 use Rattle.node_laws.specs.Promise.OutputModel.{Paged, Interactive}

@@ -1,11 +1,6 @@
 //! The laws of a node's trace.
 
-ghost use Rattle.node_laws.specs.HonestPeers.{HonestPeer};
-ghost use Rattle.node_laws.specs.TraceConforms.{EveryTraceConforms, EveryTraceOfPagesConforms};
-ghost use Rattle.node_laws.specs.Receivers.{PlainestReceives};
-ghost use Rattle.node_laws.specs.Timers.{RetransmitsOrResets};
-ghost use Rattle.node_laws.specs.Windows.{WindowsAreRespected};
-ghost use Rattle.node_laws.specs.WrongLives.{WrongLivesFall};
+ghost use Rattle.node_laws.specs.Prelude.{HonestPeer, EveryTraceConforms, EveryTraceOfPagesConforms, PlainestReceives, RetransmitsOrResets, WindowsAreRespected, WrongLivesFall};
 
 /// Holds for any datagrams, from any peers, and every application that never retracts text. Every incarnation of every connection in a
 /// node's trace conforms to the output model of its port, and nothing is sent unsolicited.

@@ -2,7 +2,7 @@
 use Rattle.std.proofs.Common.{◌≡◌, ◌++◌, ◌∙◌, ℕ, List, ap, arith, length, take, append-nil}
 use Rattle.std.proofs.lemmas.List.{drop_all}
 use Rattle.std.proofs.Math.Seq.{take-length}
-use Rattle.packet_buffer.specs.Lending.{fitted}
+use Rattle.packet_buffer.specs.Prelude.{fitted}
 
 pub fitted_same : (old new : List ℕ) → length new ≡ length old → fitted old new ≡ new
 fitted_same old new e =

@@ -7,7 +7,7 @@ use Rattle.std.proofs.lemmas.List.Folds.{list_any_at}
 use Rattle.std.proofs.lemmas.List.Sums.{position_or_len_is}
 use Rattle.std.proofs.lemmas.List.Quantifiers.{position-Some}
 use Rattle.std.proofs.Math.Seq.{take-append-add}
-use Rattle.protosocket.specs.Lemmas.Hearing.{none_at_all, stop_fits}
+use Rattle.protosocket.specs.Prelude.{none_at_all, stop_fits}
 
 pub cut_there : (p : ℕ → Bool) (xs : List ℕ) (k : ℕ) → position p xs ≡ Some k → take k xs ≡ before_first p xs
 cut_there p xs k e =

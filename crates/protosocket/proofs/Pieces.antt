@@ -1,8 +1,7 @@
 -- Pieces that are received in turn.
 use Rattle.std.specs.List.{concat, fold}
 use Rattle.std.proofs.Common.{◌≡◌, ℕ, List, [], ◌∷◌, ◌++◌, refl, sym, ap, ◌∙◌, append_assoc, append-nil}
-use Rattle.protosocket.specs.Line.{Line, after, fresh, HearsInPieces}
-use Rattle.protosocket.specs.Lemmas.Hearing.{hears_joined}
+use Rattle.protosocket.specs.Prelude.{Line, after, fresh, HearsInPieces, hears_joined}
 
 in_turn : (line : Line) (piece : List ℕ) (pieces : List (List ℕ)) → fold after (after line piece) pieces ≡ after line (piece ++ concat pieces)
 in_turn line piece [] = ap (λ bytes. after line bytes) (sym (append-nil piece))

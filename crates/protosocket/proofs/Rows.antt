@@ -1,6 +1,6 @@
 -- Words computed from the definitions.
 use Rattle.std.proofs.Common.{◌≡◌, true, false, [], ◌++◌, codes, replicate, refl}
-use Rattle.protosocket.specs.Line.{after, fresh, delivered, part_taken}
+use Rattle.protosocket.specs.Prelude.{after, fresh, delivered, part_taken}
 use Rattle.protosocket.specs.declared.stops.Stops.TheVariants.{Space, SpaceOrLine}
 
 -- a method ends at a space, and a line's end is part of it

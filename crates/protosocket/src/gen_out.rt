@@ -1,7 +1,7 @@
 //! Generated text, sent from its record.
 
 ghost use Rattle.std.specs.Prelude.{◌≤◌, drop, length};
-ghost use Rattle.generators.specs.Text.{capture_text};
+ghost use Rattle.generators.specs.Prelude.{capture_text};
 
 use generators::{Capture, fill_at, text_len};
 use protothread::Says;

@@ -1,2 +1,3 @@
 pub mod Child
 pub mod Filling
+pub mod Prelude

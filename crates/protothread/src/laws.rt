@@ -1,7 +1,7 @@
 //! What follows for every thread that sends text.
 
 ghost use Rattle.std.specs.Prelude.{◌≡◌, ◌+◌, ◌<◌, ◌≤◌, ◌^◌, ◌++◌, length, take};
-ghost use Rattle.protothread.specs.Filling.{FillsInTurn};
+ghost use Rattle.protothread.specs.Prelude.{FillsInTurn};
 
 use crate::says::Says;
 

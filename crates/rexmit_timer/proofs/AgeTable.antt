@@ -4,7 +4,7 @@ use Rattle.std.proofs.lemmas.Bool.{agree_below, agree_below_at, and_parts, eqb-t
 use Rattle.rexmit_timer.specs.declared.timer.Beat.{Beat}
 use Rattle.rexmit_timer.specs.declared.timer.Beat.TheVariants.{Wait, Again, GiveUp}
 use Rattle.rexmit_timer.specs.declared.timer.Timer.{Timer}
-use Rattle.rexmit_timer.specs.Ages.{give_up_age, beat_at, tries_at, count_at, IsAtAge, IsBeatOfAge}
+use Rattle.rexmit_timer.specs.Prelude.{give_up_age, beat_at, tries_at, count_at, IsAtAge, IsBeatOfAge}
 
 -- whether two beats are the same
 abbrev pub is_beat : Beat → Beat → Bool

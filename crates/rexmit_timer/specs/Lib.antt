@@ -1,3 +1,4 @@
 pub mod Ages
 pub mod Beats
 pub mod ConstantValues
+pub mod Prelude

@@ -1,6 +1,6 @@
 //! What holds of the constants of this crate.
 
-ghost use Rattle.rexmit_timer.specs.ConstantValues.{ConstantValues};
+ghost use Rattle.rexmit_timer.specs.Prelude.{ConstantValues};
 
 /// The numbers that the definitions name by the code's constants.
 pub fn constant_values()

@@ -1,12 +1,8 @@
 -- Bytes that are compared at once: the offset of the first one of a kind, and the first mark.
-use Rattle.std.proofs.Common.{◌≡◌, ◌&&◌, ℕ, ◌+◌, ◌≤◌, ◌%◌, ◌^◌, false, not, cond, eqb, List, length, map, replicate, ap, ◌∙◌, sym, arith}
-use Rattle.std.specs.List.{prefix_len}
-use Rattle.std.proofs.lemmas.Simd.{bitmask_splat, first_set_mask_l, length-chunk, run_in_chunk_fails, run_in_chunk_le, run_in_chunk_stops}
+use Rattle.script_lang.proofs.Prelude.{◌≡◌, ◌&&◌, ℕ, ◌+◌, ◌≤◌, ◌%◌, ◌^◌, false, not, cond, eqb, List, length, map, replicate, ap, ◌∙◌, sym, arith, prefix_len, bitmask_splat, first_set_mask_l, length-chunk, run_in_chunk_fails, run_in_chunk_le, run_in_chunk_stops, first_place, is_byte, is_directive_mark}
 use lib.Count.{count_trailing_zeros}
 use lib.Lanes.{chunk, mask_l, top, zip2}
 use mir.Syntax.{w8}
-use Rattle.script_lang.specs.Places.{first_place, is_byte}
-use Rattle.script_lang.specs.Directives.{is_directive_mark}
 use Rattle.script_lang.proofs.PlaceLemmas.{first_place-behind, first_place-is, same-first}
 
 -- the mask of the 32 lanes from an offset on: a bit is set if the byte is there

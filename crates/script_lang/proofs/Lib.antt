@@ -4,3 +4,4 @@ pub mod OpenLemmas
 pub mod StartLemmas
 pub mod PieceLemmas
 mod Rows
+mod Prelude

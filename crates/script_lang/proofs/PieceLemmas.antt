@@ -1,12 +1,5 @@
 -- Read from offset to offset, `piece_at` gives the pieces of the whole text.
-use Rattle.std.proofs.Common.{◌≡◌, ℕ, zero, suc, ◌+◌, ◌-◌, ◌<◌, ◌≤◌, Bool, true, false, ◌||◌, cond, List, [], ◌∷◌, length, min, filter, map, eqb, refl, ap, ◌∙◌, sym, subst, inl, inr, ◌⊎◌, arith}
-use Rattle.std.specs.List.{range_with_len}
-use Rattle.std.proofs.lemmas.Bool.{cases_Bool, cond-false, cases_eq, or_left, ne_eqb, eq-eqb}
-use Rattle.script_lang.specs.declared.piece.FoundOf.{FoundOf}
-use Rattle.script_lang.specs.Places.{places}
-use Rattle.script_lang.specs.declared.piece.PieceOf.TheVariants.{Text}
-use Rattle.script_lang.specs.Directives.{is_directive_mark, is_inside_directive, line_end, directive, IsPlace}
-use Rattle.script_lang.specs.Pieces.{starts, run_end, piece_by, pieces_by}
+use Rattle.script_lang.proofs.Prelude.{◌≡◌, ℕ, zero, suc, ◌+◌, ◌-◌, ◌<◌, ◌≤◌, Bool, true, false, ◌||◌, cond, List, [], ◌∷◌, length, min, filter, map, eqb, refl, ap, ◌∙◌, sym, subst, inl, inr, ◌⊎◌, arith, range_with_len, cases_Bool, cond-false, cases_eq, or_left, ne_eqb, eq-eqb, FoundOf, places, Text, is_directive_mark, is_inside_directive, line_end, directive, IsPlace, starts, run_end, piece_by, pieces_by}
 use Rattle.script_lang.proofs.PlaceLemmas.{first_place-is, places-first, places-none}
 use Rattle.script_lang.proofs.StartLemmas.{GoesTo, directive-goes, run-goes, run-inside, run-same}
 

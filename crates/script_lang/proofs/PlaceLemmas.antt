@@ -1,8 +1,5 @@
 -- The first offset that passes a test, one offset at a time: the invariant of the search loops.
-use Rattle.std.proofs.Common.{◌≡◌, ◌==◌, ℕ, nat_lt, zero, suc, ◌+◌, ◌-◌, ◌<◌, ◌≤◌, Bool, true, false, cond, ◌∷◌, [], List, Some, refl, ap, ◌∙◌, sym, inl, inr, arith, find, unwrap_or}
-use Rattle.std.specs.List.{range_with_len}
-use Rattle.std.proofs.lemmas.Bool.{cases_eq, cases_lt, cases_order, eq-eqb, le-ltb, lt-ltb, ne_eqb, true≢false}
-use Rattle.script_lang.specs.Places.{places, first_place}
+use Rattle.script_lang.proofs.Prelude.{◌≡◌, ◌==◌, ℕ, nat_lt, zero, suc, ◌+◌, ◌-◌, ◌<◌, ◌≤◌, Bool, true, false, cond, ◌∷◌, [], List, Some, refl, ap, ◌∙◌, sym, inl, inr, arith, find, unwrap_or, range_with_len, cases_eq, cases_lt, cases_order, eq-eqb, le-ltb, lt-ltb, ne_eqb, true≢false, places, first_place}
 
 pub places-first : (a b : ℕ) → a < b → places a b ≡ a ∷ places (a + 1) b
 places-first a b h =

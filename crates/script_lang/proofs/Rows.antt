@@ -1,8 +1,5 @@
 -- Scripts worked by hand: what the definition gives for them.
-use Rattle.std.specs.Prelude.{◌≡◌, [], ◌∷◌, ◌++◌, codes, refl}
-use Rattle.script_lang.specs.declared.function.Function.TheVariants.{FileStats, NetStats, Ticks, Unknown}
-use Rattle.script_lang.specs.declared.piece.PieceOf.TheVariants.{Text, Include, Call}
-use Rattle.script_lang.specs.Pieces.{pieces}
+use Rattle.script_lang.proofs.Prelude.{◌≡◌, [], ◌∷◌, ◌++◌, codes, refl, FileStats, NetStats, Ticks, Unknown, Text, Include, Call, pieces}
 
 -- a lone `%`, an include inside a line, an unknown function, and a call without a last LF
 corners : pieces (codes "x%y%!:/e.txt" ++ 10 ∷ codes "%! nosuch" ++ 10 ∷ codes "z%! ticks")

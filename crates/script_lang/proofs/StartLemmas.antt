@@ -1,9 +1,5 @@
 -- Where the next piece starts, by the two kinds of piece.
-use Rattle.std.proofs.Common.{◌≡◌, ℕ, ◌+◌, ◌-◌, ◌<◌, ◌≤◌, true, false, not, ◌||◌, ◌&&◌, List, length, min, nat_lt, eqb, ap, ◌∙◌, sym, inl, inr, ◌⊎◌, arith, slice_index}
-use Rattle.std.proofs.lemmas.Bool.{cases_lt, cases_eq, and_from, and_left, and_right, and_parts, or_from, or_left, or_right, ne_eqb, eqb-true, not_from_true, not_from_false, true≢false, lt-ltb}
-use Rattle.std.proofs.lemmas.List.{get_or_past}
-use Rattle.script_lang.specs.Directives.{is_directive_mark, is_line_end, is_inside_directive, begins, ends, line_end, IsPlace}
-use Rattle.script_lang.specs.Pieces.{starts, run_end}
+use Rattle.script_lang.proofs.Prelude.{◌≡◌, ℕ, ◌+◌, ◌-◌, ◌<◌, ◌≤◌, true, false, not, ◌||◌, ◌&&◌, List, length, min, nat_lt, eqb, ap, ◌∙◌, sym, inl, inr, ◌⊎◌, arith, slice_index, cases_lt, cases_eq, and_from, and_left, and_right, and_parts, or_from, or_left, or_right, ne_eqb, eqb-true, not_from_true, not_from_false, true≢false, lt-ltb, get_or_past, is_directive_mark, is_line_end, is_inside_directive, begins, ends, line_end, IsPlace, starts, run_end}
 use Rattle.script_lang.proofs.PlaceLemmas.{IsFirst, first_place-is, same-first}
 use Rattle.script_lang.proofs.OpenLemmas.{open-by, closed-by, not-opens}
 

@@ -3,3 +3,4 @@ pub mod Functions
 pub mod Places
 pub mod Directives
 pub mod Pieces
+pub mod Prelude

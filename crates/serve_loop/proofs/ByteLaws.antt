@@ -1,14 +1,5 @@
 -- A serial line decodes to bytes.
-use Rattle.std.specs.List.{All}
-use Rattle.std.proofs.Common.{ℕ, ◌<◌, List, [], ◌∷◌, ◌++◌, length, map, sym, subst, arith, eqb, nat_le, append_assoc, append-nil}
-use Rattle.std.proofs.lemmas.List.Elements.{All-append, All-cons, All-head, All-nil, All-tail}
-use Rattle.uip_wire.specs.declared.sizes.TheConstants.{LARGEST_DATAGRAM}
-use Rattle.app_events.specs.Pages.{IsByte}
-use Rattle.uip_slip.specs.Frames.{Frame, Datagram, Overlong, frame_of, meant, open_part, unescaped}
-use Rattle.uip_slip.proofs.PartLaws.{open_part-end, open_part-plain, parts-byte}
-use Rattle.uip_node.proofs.Basics.{both_ways, choose}
-use Rattle.serve_loop.specs.Items.{BringsBytes, CarriesBytes}
-use Rattle.serve_loop.specs.SerialMedium.{came_by, slip_medium}
+use Rattle.serve_loop.proofs.Prelude.{All, ℕ, ◌<◌, List, [], ◌∷◌, ◌++◌, length, map, sym, subst, arith, eqb, nat_le, append_assoc, append-nil, All-append, All-cons, All-head, All-nil, All-tail, LARGEST_DATAGRAM, IsByte, Frame, Datagram, Overlong, frame_of, meant, open_part, unescaped, open_part-end, open_part-plain, parts-byte, both_ways, choose, BringsBytes, CarriesBytes, came_by, slip_medium}
 
 meant_low : (b : ℕ) → b < 256 → meant b < 256
 meant_low b h = choose (λ x. x < 256) (eqb b 220) _ _ (λ e. omega arith) (λ e. choose (λ x. x < 256) (eqb b 221) _ _ (λ f. omega arith) (λ f. h))

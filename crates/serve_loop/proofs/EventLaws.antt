@@ -1,14 +1,5 @@
 -- The events of items after others, and of bytes of which only the last may make a tick.
-use Rattle.std.proofs.Common.{◌≡◌, ℕ, ◌+◌, ◌<◌, false, List, [], ◌∷◌, ◌++◌, if◌then◌else◌, length, map, sym, ap, ◌∙◌, append-nil, append_assoc, arith, length-append, subst}
-use Rattle.std.proofs.lemmas.List.{map-append}
-use Rattle.uip_wire.specs.declared.addr.Addr.{Addr}
-use Rattle.uip_edge.specs.declared.item.Item.{Item}
-use Rattle.uip_edge.specs.declared.item.Item.TheVariants.{Byte, Quiet}
-use Rattle.serve_loop.specs.LineStationEvents.{beat_on, station_event_by, station_events_after, tick_on}
-use Rattle.serve_loop.specs.Pace.{is_beat}
-use Rattle.line_medium.specs.Media.{MediumSpec, all_decoded}
-use Rattle.uip_edge.specs.Coming.{bytes_among}
-use Rattle.uip_edge.proofs.Told.{bytes_among-map}
+use Rattle.serve_loop.proofs.Prelude.{◌≡◌, ℕ, ◌+◌, ◌<◌, false, List, [], ◌∷◌, ◌++◌, if◌then◌else◌, length, map, sym, ap, ◌∙◌, append-nil, append_assoc, arith, length-append, subst, map-append, Addr, Item, Byte, Quiet, beat_on, station_event_by, station_events_after, tick_on, is_beat, MediumSpec, all_decoded, bytes_among, bytes_among-map}
 
 -- no byte makes a tick, but maybe the last
 abbrev pub IsSilent : ℕ → ℕ → ℕ → Type 0

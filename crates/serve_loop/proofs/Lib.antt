@@ -9,3 +9,4 @@ pub mod ServeLaws
 pub mod SlipLaws
 pub mod SlipServeLaws
 pub mod TakenLaws
+mod Prelude

@@ -1,21 +1,5 @@
 -- One call of the node, for a station that represents it.
-use Rattle.std.proofs.Common.{◌≡◌, ℕ, ◌≤◌, ◌<◌, ◌+◌, ◌-◌, Bool, List, [], ◌∷◌, ◌++◌, Option, Result, OnErr, OnOk, suc, zero, map, refl, sym, ap, ◌∙◌, subst, add-one, add-suc, add-zero, append-nil, append_assoc, arith}
-use Rattle.std.specs.Io.KnownBytes.{Appends}
-use Rattle.std.proofs.lemmas.Result.{on_err_weaker, on_ok_weaker}
-use Rattle.uip_wire.specs.declared.addr.Addr.{Addr}
-use Rattle.app_events.specs.AppSpec.{AppSpec}
-use Rattle.app_events.specs.declared.app.App.{Ghosts}
-use Rattle.uip_edge.proofs.Told.{appends_by, Appends-none}
-use Rattle.uip_node.specs.State.{Node}
-use Rattle.uip_node.specs.Events.{Event, Reply, tick}
-use Rattle.uip_node.specs.Events.Event.{Periodic}
-use Rattle.uip_node.specs.Node.{AbstractNode, step}
-use Rattle.uip_node.specs.Spoken.{IsSent}
-use Rattle.uip_node.specs.Represents.{Represents, Steps}
-use Rattle.uip_edge.specs.Writing.{BreaksOff}
-use Rattle.serve_loop.specs.StationRuns.{PrefixWritten, StationEvent, OfMedium, OfNode, Station, AllSaid, station_after_all, station_after, output, reply_text}
-use Rattle.line_medium.specs.Media.{MediumSpec, all_said}
-use Rattle.serve_loop.specs.Turns.{IsHere, IsNode}
+use Rattle.serve_loop.proofs.Prelude.{◌≡◌, ℕ, ◌≤◌, ◌<◌, ◌+◌, ◌-◌, Bool, List, [], ◌∷◌, ◌++◌, Option, Result, OnErr, OnOk, suc, zero, map, refl, sym, ap, ◌∙◌, subst, add-one, add-suc, add-zero, append-nil, append_assoc, arith, Appends, on_err_weaker, on_ok_weaker, Addr, AppSpec, Ghosts, appends_by, Appends-none, Node, Event, Reply, tick, Periodic, AbstractNode, step, IsSent, Represents, Steps, BreaksOff, PrefixWritten, StationEvent, OfMedium, OfNode, Station, AllSaid, station_after_all, station_after, output, reply_text, MediumSpec, all_said, IsHere, IsNode}
 use Rattle.serve_loop.proofs.AddrLaws.{step-addr}
 use Rattle.serve_loop.proofs.RunLaws.{broke_by, broke_more, broke_one, broke_then, wrote_one}
 

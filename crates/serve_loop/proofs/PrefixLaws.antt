@@ -1,15 +1,5 @@
 -- The events of a prefix of the bytes, of which only the last may complete a frame or make a tick.
-use Rattle.std.proofs.Common.{◌≡◌, ℕ, ◌+◌, ◌<◌, ◌≤◌, Bool, true, false, List, [], ◌∷◌, ◌++◌, Option, if◌then◌else◌, length, map, take, drop, sym, ap, ◌∙◌, append-nil, arith, length-append, subst}
-use Rattle.std.proofs.lemmas.List.{length-take-le, take-append-drop, take-take}
-use Rattle.uip_wire.specs.declared.addr.Addr.{Addr}
-use Rattle.app_events.specs.AppSpec.{AppSpec}
-use Rattle.uip_edge.specs.declared.item.Item.TheVariants.{Byte}
-use Rattle.serve_loop.specs.declared.pacer.Pacer.{Pacer}
-use Rattle.serve_loop.specs.LineStationEvents.{beat_on, station_event_by, station_events_after, tick_on}
-use Rattle.serve_loop.specs.Pace.{HasPassed, is_beat}
-use Rattle.serve_loop.specs.StationRuns.{PrefixWritten, Station, AllSaid}
-use Rattle.serve_loop.specs.Turns.{HasTaken}
-use Rattle.line_medium.specs.Media.{MediumSpec, all_decoded}
+use Rattle.serve_loop.proofs.Prelude.{◌≡◌, ℕ, ◌+◌, ◌<◌, ◌≤◌, Bool, true, false, List, [], ◌∷◌, ◌++◌, Option, if◌then◌else◌, length, map, take, drop, sym, ap, ◌∙◌, append-nil, arith, length-append, subst, length-take-le, take-append-drop, take-take, Addr, AppSpec, Byte, Pacer, beat_on, station_event_by, station_events_after, tick_on, HasPassed, is_beat, PrefixWritten, Station, AllSaid, HasTaken, MediumSpec, all_decoded}
 use Rattle.serve_loop.proofs.EventLaws.{IsSilent, events-bytes, events-run}
 use Rattle.serve_loop.proofs.PaceLaws.{rests}
 use Rattle.serve_loop.proofs.RunLaws.{broke_by, broke_more, broke_then, wrote_by, wrote_then}

@@ -1,16 +1,5 @@
 -- A run over events, put together from its parts.
-use Rattle.std.proofs.Common.{◌≡◌, ℕ, Bool, List, [], ◌∷◌, ◌++◌, Option, None, Some, refl, sym, ap, ◌∙◌, append-nil, append_assoc, subst}
-use Rattle.std.specs.Io.KnownBytes.{Appends}
-use Rattle.uip_wire.specs.declared.addr.Addr.{Addr}
-use Rattle.app_events.specs.AppSpec.{AppSpec}
-use Rattle.uip_edge.specs.Writing.{BreaksOff}
-use Rattle.uip_edge.proofs.Breaking.{breaks_by, breaks_then}
-use Rattle.uip_edge.proofs.Told.{Appends-then, appends_by, Appends-none}
-use Rattle.uip_node.specs.Events.{Event, Reply}
-use Rattle.uip_node.specs.Node.{AbstractNode, NodeStep, Ran, joined, run, step}
-use Rattle.serve_loop.specs.Texts.{text_for, text_of}
-use Rattle.serve_loop.specs.StationRuns.{PrefixWritten, StationEvent, Station, StopsIn, AllSaid, station_after_all, station_after, output, output_of_event}
-use Rattle.line_medium.specs.Media.{MediumSpec}
+use Rattle.serve_loop.proofs.Prelude.{◌≡◌, ℕ, Bool, List, [], ◌∷◌, ◌++◌, Option, None, Some, refl, sym, ap, ◌∙◌, append-nil, append_assoc, subst, Appends, Addr, AppSpec, BreaksOff, breaks_by, breaks_then, Appends-then, appends_by, Appends-none, Event, Reply, AbstractNode, NodeStep, Ran, joined, run, step, text_for, text_of, PrefixWritten, StationEvent, Station, StopsIn, AllSaid, station_after_all, station_after, output, output_of_event, MediumSpec}
 
 module _ {A : Type 0} (m : AppSpec) (served : ℕ → Bool) (w : MediumSpec A) (own : Addr) where
   after-append : (xs ys : List (StationEvent A)) (s : Station A) → station_after_all m served (xs ++ ys) s ≡ station_after_all m served ys (station_after_all m served xs s)

@@ -1,30 +1,9 @@
 -- The turns of a serving, put together.
-use Rattle.std.proofs.Common.{refl, sym, ◌≡◌, ℕ, ◌+◌, ◌<◌, ◌≤◌, Bool, List, [], ◌++◌, Option, Some, length, arith}
-use Rattle.std.specs.List.{All}
-use Rattle.std.proofs.lemmas.List.Elements.{All-append}
-use Rattle.uip_wire.specs.declared.addr.Addr.{Addr}
-use Rattle.app_events.specs.AppSpec.{AppSpec}
-use Rattle.app_events.specs.declared.app.App.{Ghosts}
-use Rattle.uip_edge.specs.declared.item.Item.{Item}
-use Rattle.uip_edge.specs.declared.serve_end.ServeEnd.{ServeEnd}
+use Rattle.serve_loop.proofs.Prelude.{refl, sym, ◌≡◌, ℕ, ◌+◌, ◌<◌, ◌≤◌, Bool, List, [], ◌++◌, Option, Some, length, arith, All, All-append, Addr, AppSpec, Ghosts, Item, ServeEnd, Consumes, bytes_among, Ended, Consumes-then, taken_within, ends_by, Node, Pacer, IsItem, station_events_after, station_events_of_line, StationEvent, Station, AllSaid, MediumSpec, IsStationed, SaidBy, ServesOver, IsHere, Turns, IsCalm, LineView, LineUnfailed, EndsBy}
 use Rattle.uip_edge.specs.declared.serve_end.ServeEnd.TheVariants as ends
-use Rattle.uip_edge.specs.Coming.{Consumes, bytes_among}
-use Rattle.uip_edge.specs.declared.turn.Turn.TheVariants.{Ended}
-use Rattle.uip_edge.proofs.Told.{Consumes-then, taken_within}
-use Rattle.uip_edge.proofs.Turns.{ends_by}
-use Rattle.uip_node.specs.State.{Node}
 use Rattle.line_medium.specs.declared.medium.Medium.{Ghosts as MediumGhosts}
-use Rattle.serve_loop.specs.declared.pacer.Pacer.{Pacer}
-use Rattle.serve_loop.specs.Items.{IsItem}
-use Rattle.serve_loop.specs.LineStationEvents.{station_events_after, station_events_of_line}
-use Rattle.serve_loop.specs.StationRuns.{StationEvent, Station, AllSaid}
-use Rattle.line_medium.specs.Media.{MediumSpec}
-use Rattle.serve_loop.specs.StationServing.{IsStationed, SaidBy, ServesOver}
-use Rattle.serve_loop.specs.Turns.{IsHere, Turns}
 use Rattle.serve_loop.proofs.EventLaws.{events-then}
 use Rattle.serve_loop.proofs.RunLaws.{broke_by, broke_then, wrote_by, wrote_then}
-use Rattle.uip_edge.specs.Views.{IsCalm, LineView, LineUnfailed}
-use Rattle.uip_edge.specs.Ending.{EndsBy}
 
 -- what was written up to such an end
 written_by : {C : Type 0} (m : AppSpec) (served : ℕ → Bool) (w : MediumSpec C) (own : Addr) (xs ys zs : List (StationEvent C)) (P Q R : Station C → Type 0) (a b c : Option (List ℕ)) (end : ServeEnd)

@@ -1,10 +1,5 @@
 -- What bytes decode to over a serial line.
-use Rattle.std.proofs.Common.{◌≡◌, ℕ, List, [], ◌∷◌, ◌++◌, map, refl, sym, ap, ◌∙◌}
-use Rattle.std.proofs.lemmas.List.{map-append}
-use Rattle.uip_slip.specs.Frames.{Frame, completed, frames}
-use Rattle.uip_slip.proofs.FrameLaws.{completed_by, completed_told}
-use Rattle.serve_loop.specs.SerialMedium.{came_by, slip_medium}
-use Rattle.line_medium.specs.Media.{all_decoded}
+use Rattle.serve_loop.proofs.Prelude.{◌≡◌, ℕ, List, [], ◌∷◌, ◌++◌, map, refl, sym, ap, ◌∙◌, map-append, Frame, completed, frames, completed_by, completed_told, came_by, slip_medium, all_decoded}
 
 -- bytes bring the frames that they complete
 brought_is : (before bytes : List ℕ) → all_decoded slip_medium before bytes ≡ map came_by (completed_by before bytes)

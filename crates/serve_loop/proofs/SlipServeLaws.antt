@@ -1,19 +1,5 @@
 -- The events of a serial line, as events of its node.
-use Rattle.std.proofs.Common.{◌≡◌, ℕ, ◌+◌, Bool, true, false, List, [], ◌∷◌, ◌++◌, Option, None, Some, if◌then◌else◌, length, map, refl, sym, ap, ◌∙◌}
-use Rattle.std.proofs.lemmas.List.{map-append}
-use Rattle.uip_wire.specs.declared.addr.Addr.{Addr}
-use Rattle.app_events.specs.AppSpec.{AppSpec}
-use Rattle.uip_edge.specs.declared.item.Item.{Item}
-use Rattle.uip_edge.specs.declared.item.Item.TheVariants.{Byte, Quiet}
-use Rattle.uip_slip.specs.Frames.{Frame, Datagram, Overlong, completed}
-use Rattle.uip_node.specs.Events.{Event, Reply, tick}
-use Rattle.uip_node.specs.Node.{joined, run, step}
-use Rattle.serve_loop.specs.LineStationEvents.{beat_on, station_event_by, station_events_after, station_events_of_line, tick_on}
-use Rattle.serve_loop.specs.Pace.{is_beat}
-use Rattle.serve_loop.specs.StationRuns.{StationEvent, OfNode, Station, station_after_all, station_after, output, reply_text}
-use Rattle.serve_loop.specs.LineEvents.{beat, event_by, events_after, line_events}
-use Rattle.serve_loop.specs.SerialMedium.{NoAct, came_by, slip_medium}
-use Rattle.serve_loop.specs.Texts.{text_of}
+use Rattle.serve_loop.proofs.Prelude.{◌≡◌, ℕ, ◌+◌, Bool, true, false, List, [], ◌∷◌, ◌++◌, Option, None, Some, if◌then◌else◌, length, map, refl, sym, ap, ◌∙◌, map-append, Addr, AppSpec, Item, Byte, Quiet, Frame, Datagram, Overlong, completed, Event, Reply, tick, joined, run, step, beat_on, station_event_by, station_events_after, station_events_of_line, tick_on, is_beat, StationEvent, OfNode, Station, station_after_all, station_after, output, reply_text, beat, event_by, events_after, line_events, NoAct, came_by, slip_medium, text_of}
 
 -- each deed is an event of the node
 abbrev all_happen : List Event → List (StationEvent NoAct)

@@ -1,23 +1,8 @@
 -- What was done for a run whose last byte completed a frame.
-use Rattle.std.proofs.Common.{◌≡◌, ℕ, ◌<◌, ◌≤◌, List, [], ◌∷◌, ◌++◌, Option, length, map, take, ap, ◌∙◌, append-nil, subst, refl}
-use Rattle.std.specs.Io.KnownBytes.{Appends}
-use Rattle.uip_wire.specs.declared.addr.Addr.{Addr}
-use Rattle.app_events.specs.AppSpec.{AppSpec}
-use Rattle.app_events.specs.declared.app.App.{Ghosts}
-use Rattle.uip_edge.proofs.Told.{appends_by, Appends-none}
-use Rattle.uip_node.specs.State.{Node}
-use Rattle.uip_node.specs.Edge.{event_of}
-use Rattle.uip_node.specs.Counted.{seen}
+use Rattle.serve_loop.proofs.Prelude.{◌≡◌, ℕ, ◌<◌, ◌≤◌, List, [], ◌∷◌, ◌++◌, Option, length, map, take, ap, ◌∙◌, append-nil, subst, refl, Appends, Addr, AppSpec, Ghosts, appends_by, Appends-none, Node, event_of, seen, AbstractNode, step, Represents, BreaksOff, station_event_by, PrefixWritten, OfMedium, OfNode, Station, AllSaid, IsHere, MediumInput, Own, MediumSpec, acts_among, all_decoded, breaks_by}
 use Rattle.uip_node.specs.Events.Event.{Overlong as OverlongFrame}
-use Rattle.uip_node.specs.Node.{AbstractNode, step}
-use Rattle.uip_node.specs.Represents.{Represents}
-use Rattle.uip_edge.specs.Writing.{BreaksOff}
-use Rattle.serve_loop.specs.LineStationEvents.{station_event_by}
-use Rattle.serve_loop.specs.StationRuns.{PrefixWritten, OfMedium, OfNode, Station, AllSaid}
-use Rattle.serve_loop.specs.Turns.{IsHere}
-use Rattle.line_medium.specs.Media.{MediumInput, Datagram, Overlong, Own, MediumSpec, acts_among, all_decoded}
+use Rattle.line_medium.specs.Media.{Datagram, Overlong}
 use Rattle.serve_loop.proofs.NodeLaws.{node_on}
-use Rattle.uip_edge.proofs.Breaking.{breaks_by}
 use Rattle.serve_loop.proofs.RunLaws.{broke_by, broke_from, broke_one, wrote_by, wrote_from, wrote_none, wrote_one}
 
 module _ {A S Set C : Type 0} (g : Ghosts A S)

@@ -1,10 +1,10 @@
 -- The items of a line are bytes and silences.
 use Rattle.std.specs.List.{All}
 use Rattle.std.specs.Prelude.{◌<◌, ℕ, List, ⊤}
-use Rattle.app_events.specs.Pages.{IsByte}
+use Rattle.app_events.specs.Prelude.{IsByte}
 use Rattle.uip_edge.specs.declared.item.Item.{Item}
 use Rattle.uip_edge.specs.declared.item.Item.TheVariants.{Byte, Quiet}
-use Rattle.line_medium.specs.Media.{MediumInput, Datagram, Overlong, Own, MediumSpec}
+use Rattle.line_medium.specs.Prelude.{MediumInput, Datagram, Overlong, Own, MediumSpec}
 
 -- A byte is below 256.
 abbrev pub IsItem : Item → Type 0

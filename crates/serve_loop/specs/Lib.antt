@@ -9,3 +9,4 @@ pub mod SerialMedium
 pub mod Texts
 pub mod Turns
 pub mod TurnCalls
+pub mod Prelude

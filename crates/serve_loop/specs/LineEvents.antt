@@ -3,9 +3,8 @@ use Rattle.std.specs.Prelude.{ℕ, ◌+◌, if◌then◌else◌, List, [], ◌�
 use Rattle.uip_wire.specs.declared.addr.Addr.{Addr}
 use Rattle.uip_edge.specs.declared.item.Item.{Item}
 use Rattle.uip_edge.specs.declared.item.Item.TheVariants.{Byte, Quiet}
-use Rattle.uip_slip.specs.Frames.{Frame, Datagram, Overlong, completed}
-use Rattle.uip_node.specs.Edge.{event_of}
-use Rattle.uip_node.specs.Events.{Event, tick}
+use Rattle.uip_slip.specs.Prelude.{Frame, Datagram, Overlong, completed}
+use Rattle.uip_node.specs.Prelude.{event_of, Event, tick}
 use Rattle.uip_node.specs.Events.Event.{Overlong as OverlongFrame}
 use Rattle.serve_loop.specs.Pace.{is_beat}
 

@@ -1,10 +1,10 @@
 -- The output for the items of a line.
 use Rattle.std.specs.Prelude.{ℕ, Bool, List, []}
-use Rattle.app_events.specs.AppSpec.{AppSpec}
+use Rattle.app_events.specs.Prelude.{AppSpec}
 use Rattle.uip_edge.specs.declared.item.Item.{Item}
 use Rattle.uip_wire.specs.declared.addr.Addr.{Addr}
-use Rattle.uip_node.specs.Node.{initial_node}
-use Rattle.line_medium.specs.Media.{MediumSpec}
+use Rattle.uip_node.specs.Prelude.{initial_node}
+use Rattle.line_medium.specs.Prelude.{MediumSpec}
 use Rattle.serve_loop.specs.StationRuns.{Station, output}
 use Rattle.serve_loop.specs.LineStationEvents.{station_events_of_line}
 

@@ -3,10 +3,9 @@ use Rattle.std.specs.Prelude.{ℕ, ◌+◌, if◌then◌else◌, List, [], ◌�
 use Rattle.uip_wire.specs.declared.addr.Addr.{Addr}
 use Rattle.uip_edge.specs.declared.item.Item.{Item}
 use Rattle.uip_edge.specs.declared.item.Item.TheVariants.{Byte, Quiet}
-use Rattle.uip_node.specs.Edge.{event_of}
-use Rattle.uip_node.specs.Events.{tick}
+use Rattle.uip_node.specs.Prelude.{event_of, tick}
 use Rattle.uip_node.specs.Events.Event.{Overlong as OverlongFrame}
-use Rattle.line_medium.specs.Media.{MediumInput, Datagram, Overlong, Own, MediumSpec}
+use Rattle.line_medium.specs.Prelude.{MediumInput, Datagram, Overlong, Own, MediumSpec}
 use Rattle.serve_loop.specs.StationRuns.{StationEvent, OfMedium, OfNode}
 use Rattle.serve_loop.specs.Pace.{is_beat}
 

@@ -1,8 +1,8 @@
 -- The medium of a serial line: SLIP (RFC 1055).
 use Rattle.std.specs.Prelude.{List, [], map, ⊤}
 use Rattle.uip_slip.specs.Frames.{Frame, Datagram as DatagramFrame, Overlong as OverlongFrame, completed}
-use Rattle.uip_slip.specs.Text.{slip_text}
-use Rattle.line_medium.specs.Media.{MediumInput, Datagram, Overlong, MediumSpec}
+use Rattle.uip_slip.specs.Prelude.{slip_text}
+use Rattle.line_medium.specs.Prelude.{MediumInput, Datagram, Overlong, MediumSpec}
 
 -- A serial line has no acts of its own.
 pub data NoAct : Type 0 where

@@ -3,12 +3,10 @@ use Rattle.std.specs.Prelude.{◌≡◌, ℕ, Bool, List, [], ◌∷◌, ◌++�
 use Rattle.std.specs.Io.KnownBytes.{Appends}
 use Rattle.std.specs.Option.{option_map_or}
 use Rattle.uip_wire.specs.declared.addr.Addr.{Addr}
-use Rattle.app_events.specs.AppSpec.{AppSpec}
-use Rattle.uip_node.specs.Edge.{reply_bytes}
-use Rattle.uip_node.specs.Events.{Event, Reply}
-use Rattle.uip_node.specs.Node.{AbstractNode, step}
-use Rattle.line_medium.specs.Media.{MediumSpec}
-use Rattle.uip_edge.specs.Writing.{BreaksOff}
+use Rattle.app_events.specs.Prelude.{AppSpec}
+use Rattle.uip_node.specs.Prelude.{reply_bytes, Event, Reply, AbstractNode, step}
+use Rattle.line_medium.specs.Prelude.{MediumSpec}
+use Rattle.uip_edge.specs.Prelude.{BreaksOff}
 
 -- a medium with the acts that it has done, and the node
 pub record Station (A : Type 0) : Type 0 where

@@ -2,20 +2,17 @@
 use Rattle.std.specs.List.{All}
 use Rattle.std.specs.Prelude.{ℕ, Bool, List, Option}
 use Rattle.uip_wire.specs.declared.addr.Addr.{Addr}
-use Rattle.app_events.specs.AppSpec.{AppSpec}
+use Rattle.app_events.specs.Prelude.{AppSpec}
 use Rattle.app_events.specs.declared.app.App.{Ghosts}
 use Rattle.uip_edge.specs.declared.item.Item.{Item}
 use Rattle.uip_edge.specs.declared.serve_end.ServeEnd.{ServeEnd}
 use Rattle.uip_edge.specs.declared.serve_end.ServeEnd.TheVariants as ends
-use Rattle.uip_edge.specs.Coming.{Consumes}
-use Rattle.uip_node.specs.State.{Node}
-use Rattle.uip_node.specs.Represents.{Represents}
-use Rattle.line_medium.specs.Media.{MediumSpec}
+use Rattle.uip_edge.specs.Prelude.{Consumes, LineView, EndsBy}
+use Rattle.uip_node.specs.Prelude.{Node, Represents}
+use Rattle.line_medium.specs.Prelude.{MediumSpec}
 use Rattle.serve_loop.specs.StationRuns.{AllSaid, StationEvent, PrefixWritten, Station}
 use Rattle.serve_loop.specs.Items.{IsItem}
 use Rattle.serve_loop.specs.LineStationEvents.{station_events_of_line}
-use Rattle.uip_edge.specs.Views.{LineView}
-use Rattle.uip_edge.specs.Ending.{EndsBy}
 
 -- The output of these events was written, or a prefix of it if a write failed.
 abbrev pub SaidBy : {C : Type 0} → ServeEnd → AppSpec → (ℕ → Bool) → MediumSpec C → Addr → List (StationEvent C)

@@ -1,9 +1,8 @@
 -- The SLIP texts of what a node sends over a serial line.
 use Rattle.std.specs.Prelude.{ℕ, List, [], ◌∷◌, ◌++◌, Option, None, Some}
 use Rattle.uip_wire.specs.declared.addr.Addr.{Addr}
-use Rattle.uip_slip.specs.Text.{slip_text}
-use Rattle.uip_node.specs.Edge.{reply_bytes}
-use Rattle.uip_node.specs.Events.{Reply}
+use Rattle.uip_slip.specs.Prelude.{slip_text}
+use Rattle.uip_node.specs.Prelude.{reply_bytes, Reply}
 
 -- the SLIP text of the reply to an event, if there is one
 abbrev pub text_for : Addr → Option Reply → List ℕ

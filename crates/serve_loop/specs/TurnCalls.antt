@@ -3,12 +3,11 @@ use Rattle.std.specs.Io.KnownBytes.{Appends}
 use Rattle.std.specs.Prelude.{◌<◌, ◌≤◌, ℕ, List, [], ◌++◌, Option, length, map, take}
 use Rattle.uip_wire.specs.declared.addr.Addr.{Addr}
 use Rattle.app_events.specs.declared.app.App.{Ghosts}
-use Rattle.packet_buffer.specs.Buffer.{Buffer}
+use Rattle.packet_buffer.specs.Prelude.{Buffer}
 use Rattle.uip_edge.specs.declared.item.Item.TheVariants.{Byte}
-use Rattle.uip_edge.specs.Writing.{BreaksOff}
-use Rattle.uip_node.specs.Events.{Reply}
-use Rattle.uip_node.specs.Spoken.{IsSent}
-use Rattle.line_medium.specs.Media.{all_decoded}
+use Rattle.uip_edge.specs.Prelude.{BreaksOff}
+use Rattle.uip_node.specs.Prelude.{Reply, IsSent}
+use Rattle.line_medium.specs.Prelude.{all_decoded}
 use Rattle.line_medium.specs.declared.medium.Medium.{Ghosts as MediumGhosts}
 use Rattle.serve_loop.specs.declared.pacer.Pacer.{Pacer}
 use Rattle.serve_loop.specs.StationRuns.{StationEvent, reply_text}

@@ -2,19 +2,16 @@
 use Rattle.std.specs.List.{All}
 use Rattle.std.specs.Prelude.{◌≡◌, ◌≤◌, ℕ, Bool, List, ◌++◌, Option, length, ⊤}
 use Rattle.uip_wire.specs.declared.addr.Addr.{Addr}
-use Rattle.app_events.specs.AppSpec.{AppSpec}
+use Rattle.app_events.specs.Prelude.{AppSpec}
 use Rattle.app_events.specs.declared.app.App.{Ghosts}
 use Rattle.uip_edge.specs.declared.item.Item.{Item}
 use Rattle.uip_edge.specs.declared.serve_end.ServeEnd.{ServeEnd}
 use Rattle.uip_edge.specs.declared.serve_end.ServeEnd.TheVariants as ends
 use Rattle.uip_edge.specs.declared.turn.Turn.{Turn}
 use Rattle.uip_edge.specs.declared.turn.Turn.TheVariants as turns
-use Rattle.uip_edge.specs.Coming.{Consumes, bytes_among}
-use Rattle.uip_edge.specs.Turns.{IfTook, TurnsBy}
-use Rattle.uip_node.specs.State.{Node}
-use Rattle.uip_node.specs.Node.{AbstractNode}
-use Rattle.uip_node.specs.Represents.{Represents}
-use Rattle.line_medium.specs.Media.{MediumSpec}
+use Rattle.uip_edge.specs.Prelude.{Consumes, bytes_among, IfTook, TurnsBy, LineView}
+use Rattle.uip_node.specs.Prelude.{Node, AbstractNode, Represents}
+use Rattle.line_medium.specs.Prelude.{MediumSpec}
 use Rattle.line_medium.specs.declared.medium.Medium.{Ghosts as MediumGhosts}
 use Rattle.serve_loop.specs.declared.pacer.Pacer.{Pacer}
 use Rattle.serve_loop.specs.StationRuns.{AllSaid, StationEvent, PrefixWritten, Station}
@@ -22,7 +19,6 @@ use Rattle.serve_loop.specs.StationServing.{SaidBy}
 use Rattle.serve_loop.specs.Items.{IsItem}
 use Rattle.serve_loop.specs.LineStationEvents.{station_events_after}
 use Rattle.serve_loop.specs.Pace.{HasPassed}
-use Rattle.uip_edge.specs.Views.{LineView}
 
 -- The node represents the abstract node, which has this address, and its application has this specification.
 pub record IsNode {A S : Type 0} (g : Ghosts A S) (m : AppSpec) (own : Addr) (node : Node A S) (n : AbstractNode) : Type 0 where

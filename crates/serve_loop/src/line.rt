@@ -3,13 +3,9 @@
 ghost use Rattle.std.specs.Prelude.{◌≡◌, ◌<◌, ◌≤◌, ◌++◌, [], List, ℕ, length, take, OnOk, OnErr, IfOk};
 ghost use Rattle.std.specs.Io.KnownBytes.{Appends};
 ghost use Rattle.std.specs.List.{All};
-ghost use Rattle.app_events.specs.Pages.{IsByte};
-ghost use Rattle.uip_edge.specs.Causes.{HasCause};
-ghost use Rattle.uip_edge.specs.Turns.{TurnFits};
-ghost use Rattle.uip_edge.specs.Writing.{BreaksOff};
-ghost use Rattle.serve_loop.specs.TurnCalls.{BreaksBrought, BreaksBytes, PlaysBrought, PlaysBytes, TakesBytes};
-ghost use Rattle.serve_loop.specs.Turns.{HasTaken, IfLinkEnded, Turns, place};
-ghost use Rattle.uip_edge.specs.ViewsOf.{line_view};
+ghost use Rattle.app_events.specs.Prelude.{IsByte};
+ghost use Rattle.uip_edge.specs.Prelude.{HasCause, TurnFits, BreaksOff, line_view};
+ghost use Rattle.serve_loop.specs.Prelude.{BreaksBrought, BreaksBytes, PlaysBrought, PlaysBytes, TakesBytes, HasTaken, IfLinkEnded, Turns, place};
 
 use crate::node_calls::{take_datagram, tick};
 use crate::pacer::Pacer;

@@ -1,13 +1,9 @@
 //! Calls of the node, with their output written to the sink.
 
 ghost use Rattle.std.specs.Prelude.{◌≡◌, ◌<◌, ◌≤◌, [], ◌∷◌, List, length, Option, OnOk, OnErr};
-ghost use Rattle.uip_edge.specs.Causes.{HasCause};
-ghost use Rattle.uip_node.specs.Edge.{event_of};
-ghost use Rattle.uip_node.specs.Events.Event.{Periodic};
-ghost use Rattle.serve_loop.specs.StationRuns.{OfNode};
-ghost use Rattle.serve_loop.specs.LineStationEvents.{tick_on};
-ghost use Rattle.serve_loop.specs.TurnCalls.{BreaksStationEvents, BreaksSent, PlaysStationEvents, StaysFed, WritesSent};
-ghost use Rattle.serve_loop.specs.Turns.{place};
+ghost use Rattle.uip_edge.specs.Prelude.{HasCause};
+ghost use Rattle.uip_node.specs.Prelude.{event_of, Periodic};
+ghost use Rattle.serve_loop.specs.Prelude.{OfNode, tick_on, BreaksStationEvents, BreaksSent, PlaysStationEvents, StaysFed, WritesSent, place};
 
 use app_events::App;
 use line_medium::Medium;

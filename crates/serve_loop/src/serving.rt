@@ -1,16 +1,13 @@
 //! Serves a line: turns, until the budget of items is used up or a turn ends the line.
 
 ghost use Rattle.std.specs.Prelude.{◌≡◌, ◌<◌, [], List, ℕ, Some, length};
-ghost use Rattle.uip_edge.specs.Coming.{Consumes};
+ghost use Rattle.uip_edge.specs.Prelude.{Consumes, line_view, LineView, LineUnfailed, EndsBy};
 ghost use Rattle.uip_edge.specs.declared.item.Item.{Item};
 ghost use Rattle.uip_edge.specs.declared.serve_end.ServeEnd.{ServeEnd as AnyEnd};
 ghost use Rattle.uip_edge.specs.declared.serve_end.ServeEnd.TheVariants.{Budget, End};
 ghost use Rattle.serve_loop.specs.StationServing.{ServesOver};
 ghost use Rattle.serve_loop.specs.SerialMedium.{any_acts, slip_medium};
 ghost use Rattle.serve_loop.specs.Turns.{HasTaken};
-ghost use Rattle.uip_edge.specs.ViewsOf.{line_view};
-ghost use Rattle.uip_edge.specs.Views.{LineView, LineUnfailed};
-ghost use Rattle.uip_edge.specs.Ending.{EndsBy};
 
 use crate::line::take_turn;
 use crate::pacer::Pacer;

@@ -1,7 +1,7 @@
 //! The serial line as a medium (SLIP, RFC 1055).
 
 ghost use Rattle.std.specs.Prelude.{[]};
-ghost use Rattle.uip_slip.specs.Decoding.{WasFed};
+ghost use Rattle.uip_slip.specs.Prelude.{WasFed};
 ghost use Rattle.serve_loop.specs.SerialMedium.{NoAct, slip_medium};
 
 use line_medium::{Decoded, DecodedRun, Medium};

@@ -1,19 +1,5 @@
 -- A list that is read file by file.
-use Rattle.std.proofs.Common.{◌≡◌, ℕ, ◌+◌, ◌-◌, ◌<◌, ◌≤◌, List, [], ◌∷◌, ◌++◌, length, drop, get_or, Option, Some, None, Result, Ok, Err, refl, sym, ap, subst, inl, inr, ◌∙◌, append_assoc, append-nil, arith}
-use Rattle.std.specs.Prelude.{⊤, IsSomeAnd, nat_lt, option_map, option_and_then, if◌then◌else◌}
-use Rattle.std.proofs.lemmas.Bool.{le-ltb, lt-ltb}
-use Rattle.std.proofs.lemmas.List.{at_drop_more, at_drop_all}
-use Rattle.uip_edge.specs.Causes.{Rose}
-use Rattle.uip_edge.specs.Shelving.{Files, IsMissing, HeldFile}
-use Rattle.site_image.specs.declared.TheConstants.{LONGEST_IMAGE}
-use Rattle.site_image.specs.declared.site_error.SiteError.{SiteError}
-use Rattle.site_image.specs.declared.site_error.SiteWhy.TheVariants.{TooLong}
-use Rattle.site_image.specs.Faults.{◌>>=◌, fault}
-use Rattle.file_tree.specs.declared.load_fault.LoadFault.{LoadFault}
-use Rattle.file_tree.specs.declared.load_fault.LoadFault.TheVariants.{Shelf, Bad, NoMemory}
-use Rattle.file_tree.specs.Loading.{HoldsFile, HasLoadCause}
-use Rattle.file_tree.specs.Opening.{FindsInFiles, LacksFile}
-use Rattle.site_commands.specs.Gathering.{NamedContent, Gathers, IsTooLong, WasRead, gathered, list_of, with_first}
+use Rattle.site_commands.proofs.Prelude.{◌≡◌, ℕ, ◌+◌, ◌-◌, ◌<◌, ◌≤◌, List, [], ◌∷◌, ◌++◌, length, drop, get_or, Option, Some, None, Result, Ok, Err, refl, sym, ap, subst, inl, inr, ◌∙◌, append_assoc, append-nil, arith, ⊤, IsSomeAnd, nat_lt, option_map, option_and_then, if◌then◌else◌, le-ltb, lt-ltb, at_drop_more, at_drop_all, Rose, Files, IsMissing, HeldFile, LONGEST_IMAGE, SiteError, TooLong, ◌>>=◌, fault, LoadFault, Shelf, Bad, NoMemory, HoldsFile, HasLoadCause, FindsInFiles, LacksFile, NamedContent, Gathers, IsTooLong, WasRead, gathered, list_of, with_first}
 
 abbrev pub ReadList : Type 0
 ReadList = Result (List HeldFile) SiteError

@@ -1,3 +1,4 @@
 pub mod EndLaws
 pub mod GatherLaws
 pub mod PageEnds
+mod Prelude

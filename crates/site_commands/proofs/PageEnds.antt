@@ -1,19 +1,6 @@
 -- A page that was written ends as is due.
-use Rattle.std.proofs.Common.{ℕ, List, Option, None, Some, Result, Ok, sym, ap, subst, inl, inr}
-use Rattle.std.specs.Prelude.{option_map}
-use Rattle.uip_edge.specs.Shelving.{Files}
-use Rattle.site_image.specs.declared.site_error.SiteError.{SiteError}
-use Rattle.site_image.specs.Faults.{◌>>=◌}
-use Rattle.site_image.specs.Files.{File}
-use Rattle.file_tree.specs.Site.{SiteContent, files_of}
-use Rattle.web_pages.specs.ZeroPages.{zero_page}
-use Rattle.site_commands.specs.declared.site_end.SiteEnd.{SiteEnd}
-use Rattle.site_commands.specs.Due.{due_of, page_due}
-use Rattle.site_commands.specs.Ending.{Ends}
-use Rattle.file_tree.specs.Opening.{FindsInFiles, Opens, site_read}
-use Rattle.uip_edge.specs.Views.{WorkView}
+use Rattle.site_commands.proofs.Prelude.{ℕ, List, Option, None, Some, Result, Ok, sym, ap, subst, inl, inr, option_map, Files, SiteError, ◌>>=◌, File, SiteContent, files_of, zero_page, SiteEnd, due_of, page_due, Ends, FindsInFiles, Opens, site_read, WorkView, WritesEnd}
 use Rattle.site_commands.specs.declared.site_end.SiteEnd.TheVariants as ends
-use Rattle.uip_edge.specs.Writing.{WritesEnd}
 
 page_is_due : (name target : List ℕ) (held : Option Files) (read : Result (List File) SiteError) → FindsInFiles (site_read name) held read → FindsInFiles (page_due name target) held (due_of (read >>= λ site. Ok (zero_page site target)))
 page_is_due name target None read is = tt

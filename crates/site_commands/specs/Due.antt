@@ -1,20 +1,16 @@
 -- What is to be written for a shelf's files, and the fault of the image, if there is one.
 use Rattle.std.specs.Prelude.{◌≡◌, ⊤, ℕ, List, [], Option, None, Some, option_map, Result, Ok, Err}
-use Rattle.uip_edge.specs.Shelving.{Files}
+use Rattle.uip_edge.specs.Prelude.{Files}
 use Rattle.file_tree.specs.declared.load_fault.LoadFault.{LoadFault}
 use Rattle.file_tree.specs.declared.load_fault.LoadFault.TheVariants as fault
-use Rattle.file_tree.specs.Opening.{site_read}
-use Rattle.file_tree.specs.Packing.{listed, packed}
-use Rattle.file_tree.specs.Upgrading.{KindContent, upgraded, second_image}
-use Rattle.site_image.specs.Faults.{◌>>=◌}
+use Rattle.file_tree.specs.Prelude.{site_read, listed, packed, KindContent, upgraded, second_image}
+use Rattle.site_image.specs.Prelude.{◌>>=◌, File, read_image}
 use Rattle.site_commands.specs.declared.halt.Halt.{Halt}
 use Rattle.site_commands.specs.declared.halt.Halt.TheVariants as halt
 use Rattle.site_commands.specs.Gathering.{NamedContent, list_of}
 use Rattle.site_image.specs.declared.site_error.SiteError.{SiteError}
-use Rattle.site_image.specs.Files.{File}
-use Rattle.site_image.specs.Faults.{read_image}
-use Rattle.web_pages.specs.ZeroPages.{zero_page}
-use Rattle.site_report.specs.Report.{image_report, bad_line}
+use Rattle.web_pages.specs.Prelude.{zero_page}
+use Rattle.site_report.specs.Prelude.{image_report, bad_line}
 
 -- the text, and the first fault of the image, if it has one
 pub record Due : Type 0 where

@@ -1,11 +1,8 @@
 -- How a command for an image ends, by what is due for the shelf's files.
 use Rattle.std.specs.Prelude.{◌≡◌, ◌≤◌, ◌⊎◌, ℕ, List, Option, None, Some, Result, Ok, Err}
-use Rattle.uip_edge.specs.Causes.{Rose}
-use Rattle.uip_edge.specs.Shelving.{Files}
-use Rattle.uip_edge.specs.Views.{ShelfView, SinkView, WorkView}
-use Rattle.uip_edge.specs.Writing.{WritesAll, WritesEnd, WritesPrefix}
+use Rattle.uip_edge.specs.Prelude.{Rose, Files, ShelfView, SinkView, WorkView, WritesAll, WritesEnd, WritesPrefix}
 use Rattle.site_image.specs.declared.site_error.SiteError.{SiteError}
-use Rattle.file_tree.specs.Opening.{FindsInFiles, LacksFile}
+use Rattle.file_tree.specs.Prelude.{FindsInFiles, LacksFile}
 use Rattle.site_commands.specs.declared.halt.Halt.{Halt}
 use Rattle.site_commands.specs.declared.halt.Halt.TheVariants as halt
 use Rattle.site_commands.specs.declared.site_end.SiteEnd.{SiteEnd}

@@ -1,13 +1,11 @@
 -- Reading the files of a list to pack.
 use Rattle.std.specs.Prelude.{◌≡◌, ◌<◌, ◌≤◌, ◌⊎◌, ℕ, ◌-◌, List, [], ◌∷◌, ◌++◌, length, nat_lt, if◌then◌else◌, Option, Some, option_map, option_and_then, Result, Ok, Err, ⊤}
-use Rattle.uip_edge.specs.Causes.{Rose}
-use Rattle.uip_edge.specs.Shelving.{Files, HeldFile}
+use Rattle.uip_edge.specs.Prelude.{Rose, Files, HeldFile}
 use Rattle.site_image.specs.declared.TheConstants.{LONGEST_IMAGE}
 use Rattle.site_image.specs.declared.site_error.SiteError.{SiteError}
 use Rattle.site_image.specs.declared.site_error.SiteWhy.TheVariants.{TooLong}
-use Rattle.site_image.specs.Faults.{◌>>=◌, fault}
-use Rattle.file_tree.specs.Loading.{HoldsFile}
-use Rattle.file_tree.specs.Opening.{FindsInFiles, LacksFile}
+use Rattle.site_image.specs.Prelude.{◌>>=◌, fault}
+use Rattle.file_tree.specs.Prelude.{HoldsFile, FindsInFiles, LacksFile}
 use Rattle.file_tree.specs.declared.load_fault.LoadFault.{LoadFault}
 use Rattle.file_tree.specs.declared.load_fault.LoadFault.TheVariants.{Shelf, Bad, NoMemory}
 

@@ -1,3 +1,4 @@
 pub mod Gathering
 pub mod Due
 pub mod Ending
+pub mod Prelude

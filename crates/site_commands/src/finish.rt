@@ -1,8 +1,8 @@
 //! The end of a command.
 
 ghost use Rattle.std.specs.Prelude.{◌≡◌};
-ghost use Rattle.site_commands.specs.Ending.{end_of, WritesMade};
-ghost use Rattle.uip_edge.specs.ViewsOf.{sink_view};
+ghost use Rattle.site_commands.specs.Prelude.{end_of, WritesMade};
+ghost use Rattle.uip_edge.specs.Prelude.{sink_view};
 
 use crate::halt::Halt;
 use crate::outcome::Outcome;

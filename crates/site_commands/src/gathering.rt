@@ -2,8 +2,8 @@
 
 ghost use Rattle.std.specs.Prelude.{◌≡◌, ◌≤◌, IfOk, IfErr};
 ghost use Rattle.site_image.specs.declared.TheConstants.{LONGEST_IMAGE};
-ghost use Rattle.file_tree.specs.Loading.{HasLoadCause, HoldsFile};
-ghost use Rattle.site_commands.specs.Gathering.{Gathers, IsTooLong, WasRead};
+ghost use Rattle.file_tree.specs.Prelude.{HasLoadCause, HoldsFile};
+ghost use Rattle.site_commands.specs.Prelude.{Gathers, IsTooLong, WasRead};
 
 use crate::named_file::NamedFile;
 use file_tree::{Held, LONGEST_IMAGE, LoadFault, SiteError, SiteWhy, read_file};

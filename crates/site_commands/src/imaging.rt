@@ -2,8 +2,8 @@
 
 ghost use Rattle.std.specs.Prelude.{List, ℕ, Result};
 ghost use Rattle.site_image.specs.declared.site_error.SiteError.{SiteError as AnyError};
-ghost use Rattle.file_tree.specs.Answers.{Gives};
-ghost use Rattle.site_commands.specs.Due.{MakesImage, MadeOfFault};
+ghost use Rattle.file_tree.specs.Prelude.{Gives};
+ghost use Rattle.site_commands.specs.Prelude.{MakesImage, MadeOfFault};
 
 use crate::halt::Halt;
 use crate::outcome::Outcome;

@@ -1,9 +1,8 @@
 //! `pack`: files to an image.
 
 ghost use Rattle.std.specs.Prelude.{◌≡◌};
-ghost use Rattle.site_commands.specs.Due.{pack_due};
-ghost use Rattle.site_commands.specs.Ending.{Ends, Makes};
-ghost use Rattle.uip_edge.specs.ViewsOf.{work_view, shelf_view};
+ghost use Rattle.site_commands.specs.Prelude.{pack_due, Ends, Makes};
+ghost use Rattle.uip_edge.specs.Prelude.{work_view, shelf_view};
 
 use crate::finish::finish;
 use crate::gathering::gather;

@@ -1,13 +1,11 @@
 //! `page`: one page of a site.
 
 ghost use Rattle.std.specs.Prelude.{◌≡◌, Ok};
-ghost use Rattle.file_tree.specs.Site.{files_of};
-ghost use Rattle.web_pages.specs.ZeroPages.{zero_page};
-ghost use Rattle.site_commands.specs.Due.{page_due};
-ghost use Rattle.site_commands.specs.Ending.{Ends};
-ghost use Rattle.uip_edge.specs.ViewsOf.{sink_view, work_view};
+ghost use Rattle.file_tree.specs.Prelude.{files_of};
+ghost use Rattle.web_pages.specs.Prelude.{zero_page};
+ghost use Rattle.site_commands.specs.Prelude.{page_due, Ends};
+ghost use Rattle.uip_edge.specs.Prelude.{sink_view, work_view, WritesEnd};
 ghost use Rattle.site_commands.specs.declared.site_end.SiteEnd.TheVariants as ends;
-ghost use Rattle.uip_edge.specs.Writing.{WritesEnd};
 
 use crate::site_end::SiteEnd;
 use file_tree::{LoadFault, Site};

@@ -1,10 +1,9 @@
 //! `upgrade`: an image in version 2.
 
 ghost use Rattle.std.specs.Prelude.{◌≡◌, All, IsTrue};
-ghost use Rattle.site_image.specs.Names.{is_kind};
-ghost use Rattle.site_commands.specs.Due.{upgrade_due};
-ghost use Rattle.site_commands.specs.Ending.{Ends, Makes};
-ghost use Rattle.uip_edge.specs.ViewsOf.{work_view, shelf_view};
+ghost use Rattle.site_image.specs.Prelude.{is_kind};
+ghost use Rattle.site_commands.specs.Prelude.{upgrade_due, Ends, Makes};
+ghost use Rattle.uip_edge.specs.Prelude.{work_view, shelf_view};
 
 use crate::finish::finish;
 use crate::halt::Halt;

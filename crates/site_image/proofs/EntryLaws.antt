@@ -1,17 +1,5 @@
 -- An entry without fault is the entry that was written, and what was written is read back; and so for entries in turn.
-use Rattle.std.proofs.Common.{◌≡◌, ℕ, zero, suc, ◌+◌, ◌^◌, ◌<◌, Bool, true, false, cond, List, [], ◌∷◌, ◌++◌, length, Option, Some, None, Result, Ok, refl, sym, ap, subst, ◌∙◌, append_assoc}
-use Rattle.std.specs.List.{flat_map}
-use Rattle.std.specs.Option.{option_or}
-use Rattle.std.proofs.lemmas.List.{append-nil}
-use Rattle.site_image.specs.declared.site_error.SiteWhy.{SiteWhy}
-use Rattle.site_image.specs.declared.site_error.SiteWhy.TheVariants.{Twice}
-use Rattle.site_image.specs.declared.site_error.SiteError.{SiteError}
-use Rattle.site_image.specs.declared.version.Version.{Version}
-use Rattle.site_image.specs.declared.version.Version.TheVariants.{One, Two}
-use Rattle.site_image.specs.Files.{File, has_name}
-use Rattle.site_image.specs.Grammar.{short_text, long_text, entry, IsFile}
-use Rattle.site_image.specs.Parts.{text, after_text, content, after_content, long_length, byte_length, name_fault, kind_fault, content_fault}
-use Rattle.site_image.specs.Faults.{unless, entry_fault, entry_file, after_entry, entries}
+use Rattle.site_image.proofs.Prelude.{◌≡◌, ℕ, zero, suc, ◌+◌, ◌^◌, ◌<◌, Bool, true, false, cond, List, [], ◌∷◌, ◌++◌, length, Option, Some, None, Result, Ok, refl, sym, ap, subst, ◌∙◌, append_assoc, flat_map, option_or, append-nil, SiteWhy, Twice, SiteError, Version, One, Two, File, has_name, short_text, long_text, entry, IsFile, text, after_text, content, after_content, long_length, byte_length, name_fault, kind_fault, content_fault, unless, entry_fault, entry_file, after_entry, entries}
 use Rattle.site_image.proofs.Rows.{no-else, else-none, twice}
 use Rattle.site_image.proofs.PartLaws.{IsBytes, IsBytes-drop, name-parts, kind-parts, content-parts, name-again, kind-again, content-again, short-text, short-after, long-content, long-after}
 

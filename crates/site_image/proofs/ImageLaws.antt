@@ -1,23 +1,5 @@
 -- The two laws of the grammar: what is read of an image without fault is what its bytes spell, and what is spelled is read.
-use Rattle.std.proofs.Common.{◌≡◌, ℕ, zero, suc, ◌+◌, ◌^◌, ◌<◌, ◌≤◌, Bool, true, false, cond, ltb, List, [], ◌∷◌, ◌++◌, length, take, drop, Option, Some, None, Result, Ok, Err, refl, sym, ap, subst, ◌∙◌, append_assoc, arith, inl, inr}
-use Rattle.std.specs.Prelude.{⊤, nat_eq}
-use Rattle.std.specs.List.{flat_map, slice_get, starts_with}
-use Rattle.std.specs.Str.{bytes_eq}
-use Rattle.std.specs.Int.{w16, w32, from_be_bytes, to_be_bytes}
-use Rattle.std.proofs.lemmas.Bool.{ltb-false, le-ltb, true≢false, false_from_ne_true, or_cases, or_left, or_right}
-use Rattle.std.proofs.lemmas.List.{append-nil, length-append, length-drop, length-take-le, take-append-drop, take_at, drop_at, drop-drop, nil_from_length}
-use Rattle.std.proofs.lemmas.Nat.{be_bytes_2, from_be_bytes-to_be_bytes_2}
-use Rattle.std.proofs.lemmas.Slice.Eq.{bytes_eq-Decides}
-use Rattle.site_image.specs.declared.TheConstants.{LONGEST_IMAGE, MOST_FILES}
-use Rattle.site_image.specs.declared.site_error.SiteWhy.{SiteWhy}
-use Rattle.site_image.specs.declared.site_error.SiteWhy.TheVariants.{TooLong, Magic, Cut, TooMany, Rest}
-use Rattle.site_image.specs.declared.site_error.SiteError.{SiteError}
-use Rattle.site_image.specs.declared.version.Version.{Version}
-use Rattle.site_image.specs.declared.version.Version.TheVariants.{One, Two}
-use Rattle.site_image.specs.Files.{File, has_name}
-use Rattle.site_image.specs.Pages.{script_fault}
-use Rattle.site_image.specs.Grammar.{magic, entry, image, short_text, long_text, IsFile, IsImage}
-use Rattle.site_image.specs.Faults.{unless, fault, ◌>>=◌, refuse, version_of, file_count, image_head, entries, scripts, read_image}
+use Rattle.site_image.proofs.Prelude.{◌≡◌, ℕ, zero, suc, ◌+◌, ◌^◌, ◌<◌, ◌≤◌, Bool, true, false, cond, ltb, List, [], ◌∷◌, ◌++◌, length, take, drop, Option, Some, None, Result, Ok, Err, refl, sym, ap, subst, ◌∙◌, append_assoc, arith, inl, inr, ⊤, nat_eq, flat_map, slice_get, starts_with, bytes_eq, w16, w32, from_be_bytes, to_be_bytes, ltb-false, le-ltb, true≢false, false_from_ne_true, or_cases, or_left, or_right, append-nil, length-append, length-drop, length-take-le, take-append-drop, take_at, drop_at, drop-drop, nil_from_length, be_bytes_2, from_be_bytes-to_be_bytes_2, bytes_eq-Decides, LONGEST_IMAGE, MOST_FILES, SiteWhy, TooLong, Magic, Cut, TooMany, Rest, SiteError, Version, One, Two, File, has_name, script_fault, magic, entry, image, short_text, long_text, IsFile, IsImage, unless, fault, ◌>>=◌, refuse, version_of, file_count, image_head, entries, scripts, read_image}
 use Rattle.site_image.proofs.PartLaws.{IsBytes, IsBytes-drop, IsBytes-take}
 use Rattle.site_image.proofs.EntryLaws.{AreFresh, AreShort, entries-read, entries-again, unless-none}
 

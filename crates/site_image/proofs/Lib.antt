@@ -4,3 +4,4 @@ pub mod EntryLaws
 pub mod ImageLaws
 pub mod PartPlaces
 mod WorkedImages
+mod Prelude

@@ -1,17 +1,5 @@
 -- A part that has no fault is the part that was written, and what was written is read back.
-use Rattle.std.proofs.Common.{◌≡◌, ◌≢◌, ℕ, ◌+◌, ◌^◌, ◌<◌, ◌≤◌, not, ◌||◌, eqb, ltb, leb, ◌&&◌, List, [], ◌∷◌, ◌++◌, length, get_or, take, drop, None, refl, sym, ap, ◌∙◌, append_assoc, add-one, arith, inl, inr}
-use Rattle.std.specs.Prelude.{IsTrue}
-use Rattle.std.specs.List.{list_all}
-use Rattle.std.specs.Int.{w32, from_be_bytes, to_be_bytes}
-use Rattle.std.proofs.lemmas.Bool.{cases_lt, ltb-false, le-ltb, eqb-false, ne_eqb, or_from, not-false, not_from_true, and_parts, leb-true}
-use Rattle.std.proofs.lemmas.List.{take_at, drop_at, take-append-drop, length-append, length-take, length-drop, length-take-le, get_or-drop, get_or-take, get_or_past, drop-drop}
-use Rattle.std.proofs.lemmas.Nat.{be_bytes_4, from_be_bytes-to_be_bytes_4}
-use Rattle.site_image.specs.declared.TheConstants.{LONGEST_NAME, LONGEST_KIND}
-use Rattle.site_image.specs.declared.site_error.SiteWhy.TheVariants.{Cut, Name, Kind}
-use Rattle.site_image.specs.declared.version.Version.TheVariants.{Two}
-use Rattle.site_image.specs.Names.{is_name, is_kind, is_name_byte, is_kind_byte}
-use Rattle.site_image.specs.Grammar.{short_text, long_text}
-use Rattle.site_image.specs.Parts.{byte_length, text, after_text, long_length, content, after_content, name_fault, kind_fault, content_fault}
+use Rattle.site_image.proofs.Prelude.{◌≡◌, ◌≢◌, ℕ, ◌+◌, ◌^◌, ◌<◌, ◌≤◌, not, ◌||◌, eqb, ltb, leb, ◌&&◌, List, [], ◌∷◌, ◌++◌, length, get_or, take, drop, None, refl, sym, ap, ◌∙◌, append_assoc, add-one, arith, inl, inr, IsTrue, list_all, w32, from_be_bytes, to_be_bytes, cases_lt, ltb-false, le-ltb, eqb-false, ne_eqb, or_from, not-false, not_from_true, and_parts, leb-true, take_at, drop_at, take-append-drop, length-append, length-take, length-drop, length-take-le, get_or-drop, get_or-take, get_or_past, drop-drop, be_bytes_4, from_be_bytes-to_be_bytes_4, LONGEST_NAME, LONGEST_KIND, Cut, Name, Kind, Two, is_name, is_kind, is_name_byte, is_kind_byte, short_text, long_text, byte_length, text, after_text, long_length, content, after_content, name_fault, kind_fault, content_fault}
 use Rattle.site_image.proofs.Rows.{four-rows, two-rows, four-none, two-none}
 
 abbrev pub IsBytes : List ℕ → Type 0

@@ -1,7 +1,5 @@
 -- A part of an image by its place, and by what is left of the image from an earlier offset on.
-use Rattle.std.proofs.Common.{◌≡◌, ℕ, ◌+◌, ◌-◌, ◌≤◌, List, length, take, drop, sym, ap, ◌∙◌, arith}
-use Rattle.std.proofs.lemmas.List.{drop-drop}
-use Rattle.site_image.specs.Places.{IsPart}
+use Rattle.site_image.proofs.Prelude.{◌≡◌, ℕ, ◌+◌, ◌-◌, ◌≤◌, List, length, take, drop, sym, ap, ◌∙◌, arith, drop-drop, IsPart}
 
 -- the part of n bytes that begins k bytes after the place
 pub part-is : (image : List ℕ) (at k n m : ℕ) → at + k + n ≤ length image → n ≡ m

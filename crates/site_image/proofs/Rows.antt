@@ -1,10 +1,5 @@
 -- A table of faults, row by row.
-use Rattle.std.proofs.Common.{◌≡◌, ℕ, Bool, true, false, if◌then◌else◌, List, [], ◌∷◌, Option, Some, None, refl, ap, ◌∙◌}
-use Rattle.std.specs.Option.{option_or}
-use Rattle.site_image.specs.declared.site_error.SiteWhy.{SiteWhy}
-use Rattle.site_image.specs.declared.site_error.SiteWhy.TheVariants.{Twice}
-use Rattle.site_image.specs.Files.{File, has_name}
-use Rattle.site_image.specs.Parts.{first_of, text}
+use Rattle.site_image.proofs.Prelude.{◌≡◌, ℕ, Bool, true, false, if◌then◌else◌, List, [], ◌∷◌, Option, Some, None, refl, ap, ◌∙◌, option_or, SiteWhy, Twice, File, has_name, first_of, text}
 
 -- an earlier file has the name of the entry
 abbrev pub twice : List File → List ℕ → Option SiteWhy

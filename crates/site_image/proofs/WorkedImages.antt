@@ -1,12 +1,6 @@
 -- Images worked by hand: what the definitions give for them.
-use Rattle.std.specs.Prelude.{◌≡◌, ℕ, List, [], ◌∷◌, ◌++◌, codes, take, map, Option, None, Some, Result, Ok, Err, refl}
+use Rattle.site_image.proofs.Prelude.{◌≡◌, ℕ, List, [], ◌∷◌, ◌++◌, codes, take, map, Option, None, Some, Result, Ok, Err, refl, SiteError, One, File, page_length, image, image_head, entries, scripts, read_image, fault}
 use Rattle.site_image.specs.declared.site_error.SiteWhy.TheVariants as why
-use Rattle.site_image.specs.declared.site_error.SiteError.{SiteError}
-use Rattle.site_image.specs.declared.version.Version.TheVariants.{One}
-use Rattle.site_image.specs.Files.{File}
-use Rattle.site_image.specs.Pages.{page_length}
-use Rattle.site_image.specs.Grammar.{image}
-use Rattle.site_image.specs.Faults.{image_head, entries, scripts, read_image, fault}
 
 -- what is wrong with an image
 abbrev fault_of : Result (List File) SiteError → Option SiteError

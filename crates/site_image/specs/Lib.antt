@@ -6,3 +6,4 @@ pub mod Parts
 pub mod Faults
 pub mod Places
 pub mod ConstantValues
+pub mod Prelude

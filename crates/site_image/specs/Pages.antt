@@ -5,9 +5,7 @@ use Rattle.std.specs.Option.{option_map_or}
 use Rattle.script_lang.specs.declared.piece.PieceOf.{PieceOf}
 use Rattle.script_lang.specs.declared.piece.PieceOf.TheVariants.{Text, Include, Call}
 use Rattle.script_lang.specs.declared.function.Function.{Function}
-use Rattle.script_lang.specs.Calling.{Calling}
-use Rattle.script_lang.specs.Functions.{uip_calls}
-use Rattle.script_lang.specs.Pieces.{pieces_by}
+use Rattle.script_lang.specs.Prelude.{Calling, uip_calls, pieces_by}
 use Rattle.site_image.specs.declared.TheConstants.{HEAD_LEN, KIND_LINE_LEN, PAGE_LIMIT}
 use Rattle.site_image.specs.declared.site_error.SiteWhy.{SiteWhy}
 use Rattle.site_image.specs.declared.site_error.SiteWhy.TheVariants as why

@@ -1,7 +1,7 @@
 //! The head of an image: its version and the number of its entries.
 
 ghost use Rattle.std.specs.Prelude.{◌≡◌, ◌≤◌, length, IfOk};
-ghost use Rattle.site_image.specs.Faults.{version_of, image_head};
+ghost use Rattle.site_image.specs.Prelude.{version_of, image_head};
 
 use crate::site_error::{SiteError, SiteWhy};
 use crate::version::Version;

@@ -1,10 +1,7 @@
 //! What holds for the grammar of images.
 
 ghost use Rattle.std.specs.Prelude.{◌≡◌, ◌<◌, ℕ, List, slice_index, Ok};
-ghost use Rattle.site_image.specs.Files.{File};
-ghost use Rattle.site_image.specs.Grammar.{IsImage};
-ghost use Rattle.site_image.specs.Faults.{read_image};
-ghost use Rattle.site_image.specs.ConstantValues.{ConstantValues};
+ghost use Rattle.site_image.specs.Prelude.{File, IsImage, read_image, ConstantValues};
 
 /// What is read without a fault is what the bytes spell, and what is spelled is read. A good image therefore represents one
 /// list of files, and has no fault.

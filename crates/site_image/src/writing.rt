@@ -2,7 +2,7 @@
 
 ghost use Rattle.std.specs.Prelude.{◌≡◌, ◌≤◌, ◌<◌, ◌++◌, ◌^◌, length, OnOk};
 ghost use Rattle.std.specs.Int.{w16, to_be_bytes};
-ghost use Rattle.site_image.specs.Grammar.{magic, short_text, long_text, entry};
+ghost use Rattle.site_image.specs.Prelude.{magic, short_text, long_text, entry};
 
 use crate::version::Version;
 use crate::{LONGEST_KIND, LONGEST_NAME, MOST_FILES};

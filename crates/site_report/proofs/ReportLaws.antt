@@ -4,8 +4,8 @@ use Rattle.std.specs.Prelude.{slice_get}
 use Rattle.std.specs.List.{flat_map}
 use Rattle.std.proofs.lemmas.List.{take_more, flat_map_more}
 use Rattle.std.proofs.lemmas.Option.{slice_get-get_or}
-use Rattle.site_image.specs.Files.{File}
-use Rattle.site_report.specs.Report.{file_line}
+use Rattle.site_image.specs.Prelude.{File}
+use Rattle.site_report.specs.Prelude.{file_line}
 
 abbrev pub no_file : File
 no_file = record { name = []; kind = []; content = [] }

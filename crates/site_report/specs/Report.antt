@@ -4,8 +4,7 @@ use Rattle.std.specs.List.{flat_map}
 use Rattle.site_image.specs.declared.site_error.SiteError.{SiteError}
 use Rattle.site_image.specs.declared.site_error.SiteWhy.{SiteWhy}
 use Rattle.site_image.specs.declared.site_error.SiteWhy.TheVariants as why
-use Rattle.site_image.specs.Files.{File}
-use Rattle.site_image.specs.Pages.{page_length}
+use Rattle.site_image.specs.Prelude.{File, page_length}
 
 -- a file's name and the greatest length of its page, on a line
 abbrev pub file_line : List File → File → List ℕ

@@ -1,19 +1,5 @@
 -- A tick of the timer as a tick of the age.
-use Rattle.std.proofs.Common.{◌≡◌, ◌≢◌, ℕ, ◌+◌, ◌*◌, ◌^◌, ◌<◌, ◌≤◌, ◌==◌, Bool, true, false, List, min, refl, sym, ap, ◌∙◌, subst, arith, nat_lt, if◌then◌else◌}
-use Rattle.std.proofs.lemmas.Bool.{agree_below_at, eq-eqb, ltb-true}
-use Rattle.std.specs.List.{list_any}
-use Rattle.rexmit_timer.specs.Ages.{beat_at, give_up_age, IsAtAge, IsBeatOfAge}
-use Rattle.rexmit_timer.specs.declared.timer.Beat.{Beat}
-use Rattle.rexmit_timer.specs.declared.timer.Beat.TheVariants.{Wait, Again, GiveUp}
-use Rattle.rexmit_timer.specs.declared.timer.Timer.{Timer}
-use Rattle.app_events.specs.AppSpec.{AppSpec}
-use Rattle.app_events.specs.declared.app.App.{Ghosts}
-use Rattle.app_events.specs.declared.state.State.{State}
-use Rattle.tcp_table.specs.declared.conn.Conn.{Conn}
-use Rattle.tcp_machine.specs.Connection.{Connection, is_live}
-use Rattle.tcp_machine.specs.OnTick.{limit_of, outstanding, waits_for_ack, by_beat, grows_older}
-use Rattle.tcp_machine.specs.Represents.{ConnRepresents, Meets, TimerRepresents}
-use Rattle.tcp_machine.specs.declared.step.Step.{Step}
+use Rattle.tcp_machine.proofs.Prelude.{◌≡◌, ◌≢◌, ℕ, ◌+◌, ◌*◌, ◌^◌, ◌<◌, ◌≤◌, ◌==◌, Bool, true, false, List, min, refl, sym, ap, ◌∙◌, subst, arith, nat_lt, if◌then◌else◌, agree_below_at, eq-eqb, ltb-true, list_any, beat_at, give_up_age, IsAtAge, IsBeatOfAge, Beat, Wait, Again, GiveUp, Timer, AppSpec, Ghosts, State, Conn, Connection, is_live, limit_of, outstanding, waits_for_ack, by_beat, grows_older, ConnRepresents, Meets, TimerRepresents, Step}
 
 if_true : (b : Bool) (x y : Beat) → b ≡ true → (if b then x else y) ≡ x
 if_true true x y e = refl

@@ -1,23 +1,7 @@
 -- The text that a sound connection's application can still send.
 -- [add: state] What the application can still send in it.
-use Rattle.std.specs.Prelude.{ℕ, ◌≡◌, ◌≤◌, true, List, [], ◌∷◌, length}
-use Rattle.std.proofs.Common.{refl, subst, sym}
-use Rattle.app_events.specs.AppSpec.{AppState, AppSpec, IsRepresented, CanSay, text_left}
-use Rattle.std.proofs.Math.Logic.{∥∥₁_elim}
-use Rattle.std.specs.Coded.{le_prop}
-use Rattle.app_events.specs.Laws.{IsLawful, Grows, CanSend}
-use Rattle.app_events.specs.declared.app.App.{Ghosts}
-use Rattle.app_events.specs.declared.now.Now.{Now}
-use Rattle.app_events.specs.declared.want.Want.{Want}
-use Rattle.app_events.specs.declared.want.Want.TheVariants.{Send}
-use Rattle.app_events.proofs.Says.{has_part, has_part_after, can_nothing, can_say_after, grows_by_nothing}
-use Rattle.app_events.specs.declared.state.State.{State}
+use Rattle.tcp_machine.proofs.Prelude.{ℕ, ◌≡◌, ◌≤◌, true, List, [], ◌∷◌, length, refl, subst, sym, AppState, AppSpec, IsRepresented, CanSay, text_left, ∥∥₁_elim, le_prop, IsLawful, Grows, CanSend, Ghosts, Now, Want, Send, has_part, has_part_after, can_nothing, can_say_after, grows_by_nothing, State, Conn, is_live, hears, IsSound, is_open}
 use Rattle.tcp_machine.proofs.States.{by_state}
-use Rattle.tcp_table.specs.declared.conn.Conn.{Conn}
-use Rattle.tcp_machine.specs.Connection.{is_live}
-use Rattle.tcp_machine.specs.OnSegment.{hears}
-use Rattle.tcp_machine.specs.Sound.{IsSound}
-use Rattle.tcp_machine.specs.Represents.{is_open}
 
 pub has_part_of : {A S : Type 0} (g : Ghosts A S) (k : g.Config) (c : Conn A) → IsSound g k c → is_open c.state ≡ true → IsRepresented g.represents c.app k
 has_part_of g k c sound open_to_it = has_part g.app_spec g.represents c.app k c.len (sound.says open_to_it)

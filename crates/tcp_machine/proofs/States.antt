@@ -1,6 +1,5 @@
 -- What is proved for each of the nine states is proved for any.
-use Rattle.app_events.specs.declared.state.State.{State}
-use Rattle.app_events.specs.declared.state.State.TheVariants.{Closed, SynRcvd, Established, CloseWait, FinWait1, FinWait2, Closing, TimeWait, LastAck}
+use Rattle.tcp_machine.proofs.Prelude.{State, Closed, SynRcvd, Established, CloseWait, FinWait1, FinWait2, Closing, TimeWait, LastAck}
 
 pub by_state : (P : State → Type 0) → P Closed → P SynRcvd → P Established → P CloseWait → P FinWait1 → P FinWait2 → P Closing → P TimeWait → P LastAck → (s : State) → P s
 by_state P a b c d e f g h i Closed = a

@@ -1,18 +1,5 @@
 -- A step that does not concern the application, as one of all steps.
-use Rattle.std.proofs.Common.{◌≡◌, ℕ, Bool, true, false, List, refl, sym, ◌∙◌, subst}
-use Rattle.app_events.specs.AppSpec.{AppSpec}
-use Rattle.app_events.specs.declared.app.App.{Ghosts}
-use Rattle.app_events.specs.declared.state.State.{State}
-use Rattle.tcp_segment.specs.Segments.{PlainSegment}
-use Rattle.tcp_table.specs.declared.conn.Conn.{Conn}
-use Rattle.tcp_machine.specs.Ask.{Outcome}
-use Rattle.tcp_machine.specs.Connection.{Connection, is_live}
-use Rattle.tcp_machine.specs.OnSegment.{by_state}
-use Rattle.tcp_machine.specs.OnTick.{tick_by}
-use Rattle.tcp_machine.specs.Sound.{HasSoundNumbers, IsSound}
-use Rattle.tcp_machine.specs.Represents.{ConnRepresents, Meets, MeetsAlone, NumbersRepresent, is_open}
-use Rattle.tcp_machine.specs.Refines.{Refines, RefinesAlone}
-use Rattle.tcp_machine.specs.declared.step.Step.{Step}
+use Rattle.tcp_machine.proofs.Prelude.{◌≡◌, ℕ, Bool, true, false, List, refl, sym, ◌∙◌, subst, AppSpec, Ghosts, State, PlainSegment, Conn, Outcome, Connection, is_live, by_state, tick_by, HasSoundNumbers, IsSound, ConnRepresents, Meets, MeetsAlone, NumbersRepresent, is_open, Refines, RefinesAlone, Step}
 
 neither : (b : Bool) → b ≡ true → b ≡ false → ⊥
 neither true e f = cc

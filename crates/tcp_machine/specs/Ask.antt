@@ -1,7 +1,7 @@
 -- The request of the application, in ESTABLISHED and CLOSE-WAIT with nothing outstanding.
 -- [add: state] Whether the application is asked in it.
 use Rattle.std.specs.Prelude.{ℕ, min, Bool, true, false, List, if◌then◌else◌}
-use Rattle.app_events.specs.AppSpec.{AppSpec}
+use Rattle.app_events.specs.Prelude.{AppSpec}
 use Rattle.app_events.specs.declared.now.Now.{Now}
 use Rattle.app_events.specs.declared.state.State.{State}
 use Rattle.app_events.specs.declared.state.State.TheVariants.{Closed, CloseWait, FinWait1, LastAck}

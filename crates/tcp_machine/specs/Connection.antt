@@ -3,11 +3,11 @@
 -- [add: state] What an abstract connection has in it.
 use Rattle.std.specs.Prelude.{ℕ, ◌+◌, ◌==◌, ◌&&◌, Bool, true, false, List, [], ◌∷◌, if◌then◌else◌, nat_lt}
 use Rattle.std.specs.Prelude.{bytes_eq}
-use Rattle.uip_wire.specs.Numbers.{wrap}
+use Rattle.uip_wire.specs.Prelude.{wrap}
 use Rattle.uip_wire.specs.declared.addr.Addr.{Addr}
 use Rattle.uip_wire.specs.declared.port.Port.{Port}
-use Rattle.rexmit_timer.specs.Ages.{count_at, tries_at}
-use Rattle.app_events.specs.AppSpec.{AppState}
+use Rattle.rexmit_timer.specs.Prelude.{count_at, tries_at}
+use Rattle.app_events.specs.Prelude.{AppState}
 pub use Rattle.app_events.specs.States.{is_live}
 use Rattle.app_events.specs.declared.row.Row.{Row}
 use Rattle.app_events.specs.declared.state.State.{State}

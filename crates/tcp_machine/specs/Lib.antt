@@ -9,3 +9,4 @@ pub mod Fits
 pub mod Refines
 pub mod Kept
 pub mod ConstantValues
+pub mod Prelude

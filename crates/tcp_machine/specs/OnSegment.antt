@@ -2,10 +2,10 @@
 -- [add: state] Its row, in `by_state`, and how the application is informed of an end.
 use Rattle.std.specs.Prelude.{ℕ, ◌+◌, min, Bool, true, false, not, List, [], ◌∷◌, length, nat_lt, ◌==◌, ◌&&◌, if◌then◌else◌, Option}
 use Rattle.std.specs.Option.{option_map_or}
-use Rattle.uip_wire.specs.Numbers.{wrap}
+use Rattle.uip_wire.specs.Prelude.{wrap}
 use Rattle.uip_wire.specs.declared.sizes.TheConstants.{OWN_MSS}
-use Rattle.tcp_segment.specs.Segments.{PlainSegment, has_fin, has_rst, has_ack}
-use Rattle.app_events.specs.AppSpec.{AppState, After, AppSpec}
+use Rattle.tcp_segment.specs.Prelude.{PlainSegment, has_fin, has_rst, has_ack}
+use Rattle.app_events.specs.Prelude.{AppState, After, AppSpec}
 use Rattle.app_events.specs.declared.ending.Ending.{Ending}
 use Rattle.app_events.specs.declared.ending.Ending.TheVariants.{Reset}
 use Rattle.app_events.specs.declared.state.State.{State}

@@ -1,11 +1,11 @@
 -- The periodic call of a connection.
 -- [add: state] Its arm of the periodic call.
 use Rattle.std.specs.Prelude.{ℕ, ◌+◌, Bool, true, false, List, nat_lt, ◌==◌, if◌then◌else◌}
-use Rattle.rexmit_timer.specs.Ages.{beat_at}
+use Rattle.rexmit_timer.specs.Prelude.{beat_at}
 use Rattle.rexmit_timer.specs.declared.timer.Beat.{Beat}
 use Rattle.rexmit_timer.specs.declared.timer.Beat.TheVariants.{Wait, Again, GiveUp}
 use Rattle.rexmit_timer.specs.declared.timer.TheConstants.{SYN_ACK_LIMIT, TEXT_LIMIT}
-use Rattle.app_events.specs.AppSpec.{After, AppSpec}
+use Rattle.app_events.specs.Prelude.{After, AppSpec}
 use Rattle.app_events.specs.declared.ending.Ending.TheVariants.{TimedOut}
 use Rattle.app_events.specs.declared.state.State.{State}
 use Rattle.app_events.specs.declared.state.State.TheVariants.{Closed, SynRcvd, Established, CloseWait, FinWait1, FinWait2, Closing, TimeWait, LastAck}

@@ -1,6 +1,6 @@
 -- What all steps of a connection have in common.
 use Rattle.std.specs.Prelude.{ℕ, ◌≡◌, false, List}
-use Rattle.app_events.specs.AppSpec.{AppSpec}
+use Rattle.app_events.specs.Prelude.{AppSpec}
 use Rattle.app_events.specs.declared.app.App.{Ghosts}
 use Rattle.tcp_table.specs.declared.conn.Conn.{Conn}
 use Rattle.tcp_machine.specs.Ask.{Outcome}

@@ -2,13 +2,13 @@
 -- age. While the application may still send, its value represents the state.
 -- [add: state] What of a connection represents it.
 use Rattle.std.specs.Prelude.{ℕ, ◌≡◌, ◌<◌, Bool, true, false, List, if◌then◌else◌}
-use Rattle.rexmit_timer.specs.Ages.{IsAtAge, give_up_age}
+use Rattle.rexmit_timer.specs.Prelude.{IsAtAge, give_up_age}
 use Rattle.rexmit_timer.specs.declared.timer.Timer.{Timer}
 use Rattle.app_events.specs.declared.app.App.{Ghosts}
 use Rattle.app_events.specs.declared.state.State.{State}
 use Rattle.app_events.specs.declared.state.State.TheVariants.{Established, CloseWait}
 use Rattle.tcp_table.specs.declared.conn.Conn.{Conn}
-use Rattle.tcp_segment.specs.Segments.{PlainSegment, plain_segment}
+use Rattle.tcp_segment.specs.Prelude.{PlainSegment, plain_segment}
 use Rattle.tcp_segment.specs.declared.segment.Segment.{Segment}
 use Rattle.tcp_machine.specs.Connection.{Connection, is_live, is_resting, snd_una, rcv_nxt}
 use Rattle.tcp_machine.specs.Ask.{Outcome}

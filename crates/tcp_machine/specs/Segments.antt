@@ -1,10 +1,10 @@
 -- The segments that a connection sends (RFC 793, section 3.1). Each starts at SND.UNA.
 use Rattle.std.specs.Prelude.{◌+◌, ◌==◌, ◌||◌, Bool, false, [], length, take, nat_lt, Option, Some, None}
-use Rattle.uip_wire.specs.Numbers.{wrap}
+use Rattle.uip_wire.specs.Prelude.{wrap}
 use Rattle.uip_wire.specs.declared.sizes.TheConstants.{OWN_MSS}
 use Rattle.tcp_segment.specs.declared.flags.TheConstants.{FIN, SYN, RST, PSH, ACK}
-use Rattle.tcp_segment.specs.Segments.{PlainSegment, has_syn, has_fin}
-use Rattle.app_events.specs.AppSpec.{AppSpec, text_left}
+use Rattle.tcp_segment.specs.Prelude.{PlainSegment, has_syn, has_fin}
+use Rattle.app_events.specs.Prelude.{AppSpec, text_left}
 use Rattle.tcp_machine.specs.Connection.{Connection, snd_una, rcv_nxt}
 use Rattle.tcp_machine.specs.declared.step.Step.{Step}
 

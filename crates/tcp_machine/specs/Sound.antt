@@ -2,7 +2,7 @@
 -- [add: state] What holds of a connection in it.
 use Rattle.std.specs.Prelude.{ℕ, ◌≡◌, ◌<◌, ◌≤◌, true}
 use Rattle.uip_wire.specs.declared.sizes.TheConstants.{OWN_MSS}
-use Rattle.app_events.specs.AppSpec.{CanSay}
+use Rattle.app_events.specs.Prelude.{CanSay}
 use Rattle.app_events.specs.declared.app.App.{Ghosts}
 use Rattle.app_events.specs.declared.state.State.{State}
 use Rattle.app_events.specs.declared.state.State.TheVariants.{Closed, SynRcvd, Established, CloseWait, FinWait1, FinWait2, Closing, TimeWait, LastAck}

@@ -2,13 +2,9 @@
 //! [add: state] A function for a state after an own FIN.
 
 ghost use Rattle.std.specs.Prelude.{◌≡◌, ◌≤◌, Bool, true, false, length};
-ghost use Rattle.tcp_segment.specs.Segments.{PlainSegment};
-ghost use Rattle.app_events.specs.AppSpec.{AppSpec};
-ghost use Rattle.tcp_machine.specs.Connection.{is_live};
-ghost use Rattle.tcp_machine.specs.OnSegment.{fin_acked, by_state};
-ghost use Rattle.tcp_machine.specs.Sound.{HasSoundNumbers};
-ghost use Rattle.tcp_machine.specs.Represents.{plain};
-ghost use Rattle.tcp_machine.specs.Refines.{RefinesAlone};
+ghost use Rattle.tcp_segment.specs.Prelude.{PlainSegment};
+ghost use Rattle.app_events.specs.Prelude.{AppSpec};
+ghost use Rattle.tcp_machine.specs.Prelude.{is_live, fin_acked, by_state, HasSoundNumbers, plain, RefinesAlone};
 
 use crate::moves::{advance_rcv_nxt, begin_time_wait, clear_outstanding, enter};
 use crate::step::Step;

@@ -1,14 +1,9 @@
 //! Asks the application what to send, in ESTABLISHED and CLOSE-WAIT with nothing outstanding.
 
 ghost use Rattle.std.specs.Prelude.{◌≡◌, false};
-ghost use Rattle.app_events.specs.AppSpec.{AppState};
+ghost use Rattle.app_events.specs.Prelude.{AppState};
 ghost use Rattle.app_events.specs.declared.now.Now.{Now};
-ghost use Rattle.tcp_machine.specs.Ask.{ask, ask_prepared, does_as_wanted, idles, prepared, after_own_fin};
-ghost use Rattle.tcp_machine.specs.Connection.{Connection};
-ghost use Rattle.tcp_machine.specs.Fits.{CanBeAsked, IsAnswer, SameNumbers, SameSockets, StepFits};
-ghost use Rattle.tcp_machine.specs.Sound.{IsSound};
-ghost use Rattle.tcp_machine.specs.Refines.{Refines};
-ghost use Rattle.tcp_machine.specs.Represents.{ConnRepresents};
+ghost use Rattle.tcp_machine.specs.Prelude.{ask, ask_prepared, does_as_wanted, idles, prepared, after_own_fin, Connection, CanBeAsked, IsAnswer, SameNumbers, SameSockets, StepFits, IsSound, Refines, ConnRepresents};
 
 use crate::moves::send;
 use crate::step::Step;

@@ -1,15 +1,9 @@
 //! A segment arrives (RFC 793, section 3.9, SEGMENT ARRIVES): the checks in order, then one function for each state.
 
 ghost use Rattle.std.specs.Prelude.{◌≡◌, ◌+◌, ◌<◌, ◌≤◌, ◌&&◌, ◌==◌, if◌then◌else◌, not, nat_lt, true, length};
-ghost use Rattle.uip_wire.specs.Numbers.{wrap};
-ghost use Rattle.tcp_segment.specs.Segments.{PlainSegment, has_ack};
-ghost use Rattle.tcp_machine.specs.Connection.{Connection, is_live};
-ghost use Rattle.tcp_machine.specs.Fits.{SameNumbers, SameSockets};
-ghost use Rattle.tcp_machine.specs.OnSegment.{connects, peer_closes, stays_established, in_established, by_state, on_segment, told_end};
-ghost use Rattle.tcp_machine.specs.Segments.{occupies_sequence_space};
-ghost use Rattle.tcp_machine.specs.Sound.{IsSound};
-ghost use Rattle.tcp_machine.specs.Refines.{Refines};
-ghost use Rattle.tcp_machine.specs.Represents.{ConnRepresents, is_open, plain};
+ghost use Rattle.uip_wire.specs.Prelude.{wrap};
+ghost use Rattle.tcp_segment.specs.Prelude.{PlainSegment, has_ack};
+ghost use Rattle.tcp_machine.specs.Prelude.{Connection, is_live, SameNumbers, SameSockets, connects, peer_closes, stays_established, in_established, by_state, on_segment, told_end, occupies_sequence_space, IsSound, Refines, ConnRepresents, is_open, plain};
 
 use crate::alone::{in_closing, in_fin_wait_1, in_fin_wait_2, in_last_ack};
 use crate::moves::{advance_rcv_nxt, clear_outstanding, enter, set_window};

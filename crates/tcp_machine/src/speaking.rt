@@ -1,12 +1,8 @@
 //! Delivers acknowledgements and text to the application, in the states in which it may send.
 
 ghost use Rattle.std.specs.Prelude.{◌≡◌, true};
-ghost use Rattle.app_events.specs.AppSpec.{AppState, IsRepresented};
-ghost use Rattle.tcp_machine.specs.Connection.{Connection};
-ghost use Rattle.tcp_machine.specs.Fits.{SameSockets};
-ghost use Rattle.tcp_machine.specs.OnSegment.{hears, rests, takes, with_part, with_window};
-ghost use Rattle.tcp_machine.specs.Sound.{IsSound};
-ghost use Rattle.tcp_machine.specs.Represents.{ConnRepresents, is_open};
+ghost use Rattle.app_events.specs.Prelude.{AppState, IsRepresented};
+ghost use Rattle.tcp_machine.specs.Prelude.{Connection, SameSockets, hears, rests, takes, with_part, with_window, IsSound, ConnRepresents, is_open};
 
 use crate::moves::{advance_rcv_nxt, clear_outstanding, set_window};
 use app_events::{App, State};

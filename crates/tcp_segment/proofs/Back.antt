@@ -1,22 +1,5 @@
 -- What is sent is received.
-use Rattle.std.proofs.Common.{◌≡◌, ℕ, ◌+◌, ◌-◌, ◌*◌, ◌/◌, ◌%◌, ◌<◌, ◌≤◌, List, [], ◌∷◌, ◌++◌, length, take, drop, slice_range, refl, sym, ap, ◌∙◌, arith, Ok, Result, Option, Some, None, length-append}
-use Rattle.std.proofs.lemmas.Grind.{common_steps}
-use Rattle.std.proofs.lemmas.List.{drop-drop, drop_at}
-use Rattle.std.proofs.Math.Seq.{take-length}
-use Rattle.uip_wire.proofs.Folding.{folded_closes}
-use Rattle.uip_wire.proofs.Pieces.{join_even}
-use Rattle.uip_wire.proofs.Words.{total, sum_of_words, length-bytes_of, same_word, same_long}
-use Rattle.uip_wire.specs.Checksum.{checksum_of, folded, word_sum}
-use Rattle.uip_wire.specs.Fields.{bytes_of}
-use Rattle.uip_ipv4.proofs.Back.{passes, not_less, equal, neither, length-head_bytes, reads_back}
-use Rattle.uip_ipv4.specs.Head.{head_bytes, head_or_fate, payload_of}
-use Rattle.uip_ipv4.specs.declared.proto.Proto.TheVariants.{Tcp}
-use Rattle.tcp_segment.specs.Options.{mss_in, value_of}
-use Rattle.tcp_segment.specs.ReadBack.{IsSoundDatagram, IsReadBack, ReadsBack, head_of, fields_sent}
-use Rattle.tcp_segment.specs.Received.{header_len, segment_in}
-use Rattle.tcp_segment.specs.Segments.{Datagram, datagram_bytes, pseudo_header, segment_bytes}
-use Rattle.tcp_segment.specs.declared.fate.TcpFate.{TcpFate}
-use Rattle.tcp_segment.specs.declared.segment.Segment.{Segment}
+use Rattle.tcp_segment.proofs.Prelude.{◌≡◌, ℕ, ◌+◌, ◌-◌, ◌*◌, ◌/◌, ◌%◌, ◌<◌, ◌≤◌, List, [], ◌∷◌, ◌++◌, length, take, drop, slice_range, refl, sym, ap, ◌∙◌, arith, Ok, Result, Option, Some, None, length-append, common_steps, drop-drop, drop_at, take-length, folded_closes, join_even, total, sum_of_words, length-bytes_of, same_word, same_long, checksum_of, folded, word_sum, bytes_of, passes, not_less, equal, neither, length-head_bytes, reads_back, head_bytes, head_or_fate, payload_of, Tcp, mss_in, value_of, IsSoundDatagram, IsReadBack, ReadsBack, head_of, fields_sent, header_len, segment_in, Datagram, datagram_bytes, pseudo_header, segment_bytes, TcpFate, Segment}
 
 -- a segment with its header's length in words, its checksum, and its options as words
 abbrev words : ℕ → List ℕ → ℕ → Datagram → List ℕ

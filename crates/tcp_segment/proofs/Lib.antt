@@ -2,3 +2,4 @@ pub mod Back
 pub mod Passing
 pub mod Putting
 pub mod Rows
+mod Prelude

@@ -1,7 +1,5 @@
 -- Options that are skipped.
-use Rattle.std.proofs.Common.{◌≡◌, ℕ, zero, suc, ◌<◌, Bool, true, false, List, [], ◌∷◌, length, drop, slice_index, Some, refl, sym, ap, ◌∙◌, arith, if◌then◌else◌}
-use Rattle.std.specs.Prelude.{option_and_then}
-use Rattle.tcp_segment.specs.Options.{trailing_bytes, is_mss, mss_after, mss_in}
+use Rattle.tcp_segment.proofs.Prelude.{◌≡◌, ℕ, zero, suc, ◌<◌, Bool, true, false, List, [], ◌∷◌, length, drop, slice_index, Some, refl, sym, ap, ◌∙◌, arith, if◌then◌else◌, option_and_then, trailing_bytes, is_mss, mss_after, mss_in}
 
 skip_drop : (n : ℕ) (options : List ℕ) → mss_after n options ≡ mss_in (drop n options)
 skip_drop zero options = refl

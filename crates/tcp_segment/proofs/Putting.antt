@@ -1,17 +1,6 @@
 -- A datagram that is written around its text.
-use Rattle.std.proofs.Common.{◌≡◌, ℕ, ◌+◌, ◌-◌, ◌/◌, ◌%◌, ◌<◌, ◌≤◌, List, [], ◌∷◌, ◌++◌, length, take, drop, slice_range, slice_index_or, Option, Some, None, refl, sym, ap, ◌∙◌, subst, arith, append_assoc, length-append, length-take, length-drop}
-use Rattle.std.proofs.Math.Seq.{take-append-add}
-use Rattle.std.proofs.lemmas.List.{drop-drop, drop_all, drop_at, take-append-drop, length-take-le}
+use Rattle.tcp_segment.proofs.Prelude.{◌≡◌, ℕ, ◌+◌, ◌-◌, ◌/◌, ◌%◌, ◌<◌, ◌≤◌, List, [], ◌∷◌, ◌++◌, length, take, drop, slice_range, slice_index_or, Option, Some, None, refl, sym, ap, ◌∙◌, subst, arith, append_assoc, length-append, length-take, length-drop, take-append-add, drop-drop, drop_all, drop_at, take-append-drop, length-take-le, same_four, checksum_of, word_bytes, written, four, head_bytes, Tcp, datagram_bytes, pseudo_header, segment_bytes, segment_with, around, datagram_of, fixed_bytes, header_around, sum_around, Out}
 use borrow.Rule.Slice.PartMut.{put_mid}
-use Rattle.uip_wire.proofs.Writing.{same_four}
-use Rattle.uip_wire.specs.Checksum.{checksum_of}
-use Rattle.uip_wire.specs.Fields.{word_bytes, written}
-use Rattle.uip_ipv4.proofs.Back.{four}
-use Rattle.uip_ipv4.specs.Head.{head_bytes}
-use Rattle.uip_ipv4.specs.declared.proto.Proto.TheVariants.{Tcp}
-use Rattle.tcp_segment.specs.Segments.{datagram_bytes, pseudo_header, segment_bytes, segment_with}
-use Rattle.tcp_segment.specs.Sent.{around, datagram_of, fixed_bytes, header_around, sum_around}
-use Rattle.tcp_segment.specs.declared.out.Out.{Out}
 
 -- the pseudo header, byte by byte
 pub pseudo_is : (source target : List ℕ) (high low len : ℕ) → length source ≡ 4 → length target ≡ 4 → high ≡ len / 256 → low ≡ len % 256

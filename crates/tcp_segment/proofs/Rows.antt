@@ -1,15 +1,6 @@
 -- Options, received segments and sent datagrams worked by hand: options in every order and cut, each fate at its first and last
 -- length, and the datagrams of a reset, a SYN with ACK and a text.
-use Rattle.std.proofs.Common.{◌≡◌, ℕ, List, [], ◌∷◌, ◌++◌, map, Result, Ok, Err, Some, None, refl}
-use Rattle.tcp_segment.specs.declared.fate.TcpFate.{TcpFate}
-use Rattle.tcp_segment.specs.declared.segment.Segment.{Segment}
-use Rattle.std.specs.Prelude.{codes}
-use Rattle.uip_ipv4.specs.Head.{head_bytes}
-use Rattle.uip_wire.specs.Checksum.{folded}
-use Rattle.tcp_segment.specs.Options.{mss_in}
-use Rattle.tcp_segment.specs.Received.{segment_in}
-use Rattle.tcp_segment.specs.Segments.{datagram_bytes}
-use Rattle.tcp_segment.specs.declared.fate.TcpFate.TheVariants.{Short, Offset, Checksum}
+use Rattle.tcp_segment.proofs.Prelude.{◌≡◌, ℕ, List, [], ◌∷◌, ◌++◌, map, Result, Ok, Err, Some, None, refl, TcpFate, Segment, codes, head_bytes, folded, mss_in, segment_in, datagram_bytes, Short, Offset, Checksum}
 
 abbrev own : List ℕ
 own = 10 ∷ 0 ∷ 0 ∷ 1 ∷ []

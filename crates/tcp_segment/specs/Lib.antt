@@ -4,3 +4,4 @@ pub mod Received
 pub mod Segments
 pub mod Sent
 pub mod ConstantValues
+pub mod Prelude

@@ -1,6 +1,6 @@
 -- What is sent is received: a sound datagram passes every check and is read back as it was.
 use Rattle.std.specs.Prelude.{◌≡◌, ◌<◌, ◌+◌, ◌*◌, IfSome, length, Ok}
-use Rattle.uip_ipv4.specs.Head.{head_or_fate}
+use Rattle.uip_ipv4.specs.Prelude.{head_or_fate}
 use Rattle.uip_ipv4.specs.declared.head.IpHead.{IpHead}
 use Rattle.uip_ipv4.specs.declared.proto.Proto.TheVariants.{Tcp}
 use Rattle.tcp_segment.specs.Received.{plain_of, segment_or_fate}

@@ -1,8 +1,7 @@
 -- A TCP segment as a plain record, apart from its bytes, and the bytes of its datagram (RFC 793, section 3.1).
 use Rattle.std.specs.Prelude.{ℕ, ◌+◌, ◌*◌, ◌/◌, ◌%◌, ◌==◌, Bool, if◌then◌else◌, List, [], ◌∷◌, ◌++◌, codes, length, Option, Some, None}
-use Rattle.uip_wire.specs.Checksum.{checksum_of}
-use Rattle.uip_wire.specs.Fields.{bytes_of}
-use Rattle.uip_ipv4.specs.Head.{head_bytes}
+use Rattle.uip_wire.specs.Prelude.{checksum_of, bytes_of}
+use Rattle.uip_ipv4.specs.Prelude.{head_bytes}
 use Rattle.uip_ipv4.specs.declared.proto.Proto.TheVariants.{Tcp}
 
 pub record PlainSegment : Type 0 where

@@ -1,9 +1,8 @@
 -- The datagram that the fields of a segment to be sent represent.
 use Rattle.std.specs.Prelude.{ℕ, ◌+◌, ◌*◌, List, [], ◌++◌, length, drop, slice_range}
-use Rattle.uip_ipv4.specs.Head.{head_bytes}
+use Rattle.uip_ipv4.specs.Prelude.{head_bytes}
 use Rattle.uip_ipv4.specs.declared.proto.Proto.TheVariants.{Tcp}
-use Rattle.uip_wire.specs.Checksum.{checksum_of}
-use Rattle.uip_wire.specs.Fields.{bytes_of}
+use Rattle.uip_wire.specs.Prelude.{checksum_of, bytes_of}
 use Rattle.tcp_segment.specs.Segments.{Datagram, PlainSegment, datagram_bytes, fixed_words, offset_of, plain_segment, pseudo_header}
 use Rattle.tcp_segment.specs.declared.out.Out.{Out}
 

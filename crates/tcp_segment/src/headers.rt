@@ -1,9 +1,8 @@
 //! Writes the headers of a segment (RFC 793, section 3.1).
 
 ghost use Rattle.std.specs.Prelude.{◌≡◌, ◌+◌, ◌≤◌, ◌++◌, drop, length, slice_range};
-ghost use Rattle.tcp_segment.specs.Segments.{offset_of, pseudo_header};
-ghost use Rattle.tcp_segment.specs.Sent.{around, fixed_bytes};
-ghost use Rattle.uip_wire.specs.Checksum.{checksum_of};
+ghost use Rattle.tcp_segment.specs.Prelude.{offset_of, pseudo_header, around, fixed_bytes};
+ghost use Rattle.uip_wire.specs.Prelude.{checksum_of};
 
 use crate::out::Out;
 use crate::sums::pseudo_sum;

@@ -1,7 +1,7 @@
 //! The options of a received segment (RFC 793, section 3.1).
 
 ghost use Rattle.std.specs.Prelude.{◌≡◌};
-ghost use Rattle.tcp_segment.specs.Options.{trailing_bytes, is_mss, mss_in, value_of};
+ghost use Rattle.tcp_segment.specs.Prelude.{trailing_bytes, is_mss, mss_in, value_of};
 
 use uip_wire::get16;
 

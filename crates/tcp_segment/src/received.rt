@@ -1,8 +1,8 @@
 //! The checks of a received segment (RFC 793, section 3.1).
 
 ghost use Rattle.std.specs.Prelude.{◌≡◌, ◌+◌, ◌^◌, ◌<◌, IfOk, length};
-ghost use Rattle.tcp_segment.specs.Received.{segment_in, segment_or_fate};
-ghost use Rattle.uip_ipv4.specs.Head.{IsHeadOf};
+ghost use Rattle.tcp_segment.specs.Prelude.{segment_in, segment_or_fate, pseudo_header};
+ghost use Rattle.uip_ipv4.specs.Prelude.{IsHeadOf};
 
 use crate::fate::TcpFate;
 use crate::options::read_mss;
@@ -53,8 +53,7 @@ fn read(payload: &[u8], source: Addr, target: Addr) -> Result<Segment, TcpFate>
 }
 
 ghost use Rattle.std.specs.Prelude.{◌++◌};
-ghost use Rattle.tcp_segment.specs.Segments.{pseudo_header};
-ghost use Rattle.uip_wire.specs.Checksum.{checksum_of};
+ghost use Rattle.uip_wire.specs.Prelude.{checksum_of};
 
 /// Returns the checksum over the pseudo header and a segment.
 fn checksum(payload: &[u8], source: Addr, target: Addr) -> u16

@@ -1,9 +1,8 @@
 //! The datagram of a segment that is sent (RFC 793, section 3.1).
 
 ghost use Rattle.std.specs.Prelude.{◌≡◌, ◌+◌, ◌≤◌, [], ◌∷◌, ◌++◌, IsSome, drop, length, take};
-ghost use Rattle.tcp_segment.specs.ReadBack.{ReadsBack};
-ghost use Rattle.tcp_segment.specs.Sent.{datagram_len, sent_in};
-ghost use Rattle.uip_wire.specs.Fields.{bytes_of};
+ghost use Rattle.tcp_segment.specs.Prelude.{ReadsBack, datagram_len, sent_in};
+ghost use Rattle.uip_wire.specs.Prelude.{bytes_of};
 
 use crate::headers::put_headers;
 use crate::out::Out;

@@ -1,6 +1,6 @@
 ghost use Rattle.std.specs.Prelude.{◌≡◌};
-ghost use Rattle.tcp_segment.specs.Segments.{pseudo_header};
-ghost use Rattle.uip_wire.specs.Sums.{sum_of};
+ghost use Rattle.tcp_segment.specs.Prelude.{pseudo_header};
+ghost use Rattle.uip_wire.specs.Prelude.{sum_of};
 
 use uip_wire::{Addr, Summer};
 

@@ -3,7 +3,7 @@ use Rattle.std.specs.Prelude.{ℕ, ◌≡◌, ◌==◌, ◌&&◌, Bool, true, Li
 use Rattle.std.specs.Prelude.{bytes_eq}
 use Rattle.uip_wire.specs.declared.addr.Addr.{Addr}
 use Rattle.uip_wire.specs.declared.port.Port.{Port}
-use Rattle.app_events.specs.States.{is_live}
+use Rattle.app_events.specs.Prelude.{is_live}
 use Rattle.tcp_table.specs.declared.conn.Conn.{Conn}
 
 -- The connections of a table, by their slots, and the ISS of the next one.

@@ -2,7 +2,7 @@
 -- definitions hold for a table of any kind that has for each slot a state and the ticks in TIME-WAIT.
 use Rattle.std.specs.Prelude.{ℕ, ◌==◌, ◌&&◌, Bool, not, max, List, [], ◌∷◌, Option, position, if◌then◌else◌}
 use Rattle.std.specs.Option.{option_or}
-use Rattle.app_events.specs.States.{is_live, is_time_wait}
+use Rattle.app_events.specs.Prelude.{is_live, is_time_wait}
 use Rattle.app_events.specs.declared.state.State.{State}
 use Rattle.tcp_table.specs.declared.conn.Conn.{Conn}
 

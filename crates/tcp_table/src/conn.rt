@@ -1,5 +1,5 @@
 ghost use Rattle.std.specs.Prelude.{◌≡◌};
-ghost use Rattle.app_events.specs.States.{is_live};
+ghost use Rattle.app_events.specs.Prelude.{is_live};
 ghost use Rattle.tcp_table.specs.Connections.{is_at};
 ghost use Rattle.tcp_table.specs.Slots.{waited, has_waited};
 

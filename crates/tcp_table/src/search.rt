@@ -1,9 +1,8 @@
 //! Searches of the ten slots.
 
 ghost use Rattle.std.specs.Prelude.{◌≡◌, position, not};
-ghost use Rattle.app_events.specs.States.{is_live};
-ghost use Rattle.tcp_table.specs.Connections.{is_at};
-ghost use Rattle.tcp_table.specs.Slots.{longest_rest, has_waited, slot_to_take};
+ghost use Rattle.app_events.specs.Prelude.{is_live};
+ghost use Rattle.tcp_table.specs.Prelude.{is_at, longest_rest, has_waited, slot_to_take};
 
 use crate::conn::Conn;
 use uip_wire::{Addr, Port};

@@ -1,15 +1,5 @@
 -- The queue as commands are wholly acknowledged, and as commands arrive.
-use Rattle.std.proofs.Common.{◌≡◌, ℕ, ◌+◌, ◌-◌, ◌≤◌, ◌<◌, Bool, true, false, ◌&&◌, not, nat_le, List, [], ◌∷◌, ◌++◌, length, if◌then◌else◌, refl, sym, ap, subst, ◌∙◌, arith, append_assoc, append-nil, length-append, true≢false, slice_index_or, remove}
-use Rattle.std.proofs.lemmas.Bool.{leb-true, leb-false, and_parts}
-use Rattle.generators.specs.declared.capture.Capture.{Capture}
-use Rattle.generators.specs.declared.capture.Capture.TheVariants.{Empty}
-use Rattle.app_events.specs.AppSpec.{AppState, Snapshot}
-use Rattle.telnet_shell.specs.declared.command.Command.{Command}
-use Rattle.telnet_shell.specs.Reading.{commands_in}
-use Rattle.telnet_shell.specs.Transcript.{needs_capture, said_with, transcript}
-use Rattle.telnet_shell.specs.Saying.{stops_at, left_said, IsLeading, Shows, needed, IsTrailing, is_past, Passes}
-use Rattle.telnet_shell.specs.ShellMeaning.{with_byte}
-use Rattle.telnet_shell.specs.Lemmas.Speaking.{split, prefix_left, empty_stops, said_some}
+use Rattle.telnet_shell.proofs.Prelude.{◌≡◌, ℕ, ◌+◌, ◌-◌, ◌≤◌, ◌<◌, Bool, true, false, ◌&&◌, not, nat_le, List, [], ◌∷◌, ◌++◌, length, if◌then◌else◌, refl, sym, ap, subst, ◌∙◌, arith, append_assoc, append-nil, length-append, true≢false, slice_index_or, remove, leb-true, leb-false, and_parts, Capture, Empty, AppState, Snapshot, Command, commands_in, needs_capture, said_with, transcript, stops_at, left_said, IsLeading, Shows, needed, IsTrailing, is_past, Passes, with_byte, split, prefix_left, empty_stops, said_some}
 
 pub passes : (q new : List Command) (prefix : Command) (capture : Capture) (at len place : ℕ) → is_past q capture at ≡ true → prefix ≡ slice_index_or q 0 prefix → new ≡ remove q 0
     → len ≡ length (said_with prefix capture) → place ≡ at - len → Passes q capture at new Empty place

@@ -1,22 +1,5 @@
 -- When a capture is taken, and what the shell requests.
-use Rattle.std.proofs.Common.{◌≡◌, ℕ, suc, ◌+◌, ◌-◌, ◌==◌, ◌<◌, Bool, true, false, ◌&&◌, ◌||◌, not, min, nat_lt, List, [], ◌∷◌, ◌++◌, length, take, get_or, if◌then◌else◌, refl, sym, ap, subst, ◌∙◌, arith, append-nil, length-append, true≢false, Option, None, Some}
-use Rattle.std.specs.Prelude.{is_some}
-use Rattle.std.proofs.lemmas.Bool.{eqb-true, eqb-false, and_parts}
-use Rattle.std.proofs.Math.Seq.{take-suc}
-use Rattle.app_events.specs.AppSpec.{AppState, Snapshot}
-use Rattle.app_events.specs.declared.now.Now.{Now}
-use Rattle.app_events.specs.declared.want.Want.{Want}
-use Rattle.app_events.specs.declared.want.Want.TheVariants.{Nothing, Send, Close, Abort}
-use Rattle.generators.specs.Captures.{capture_of}
-use Rattle.generators.specs.declared.capture.Capture.{Capture}
-use Rattle.script_lang.specs.declared.function.Function.{Function}
-use Rattle.telnet_shell.specs.declared.command.Command.{Command}
-use Rattle.telnet_shell.specs.State.{Shell}
-use Rattle.telnet_shell.specs.Transcript.{function_of, needs_capture, said_with, transcript}
-use Rattle.telnet_shell.specs.Saying.{IsTrailing, IsLeading, Shows, stops_at, is_captured, left_said, due}
-use Rattle.telnet_shell.specs.Lemmas.Speaking.{session_is, waiting_is, said_some, held_goes}
-use Rattle.telnet_shell.specs.ShellMeaning.{session, is_settled, is_stopped, session_has_ended, left_of_session, shell_want, take_capture, hear_byte, hear_all}
-use Rattle.telnet_shell.specs.ShellRepresents.{ShellRepresents}
+use Rattle.telnet_shell.proofs.Prelude.{◌≡◌, ℕ, suc, ◌+◌, ◌-◌, ◌==◌, ◌<◌, Bool, true, false, ◌&&◌, ◌||◌, not, min, nat_lt, List, [], ◌∷◌, ◌++◌, length, take, get_or, if◌then◌else◌, refl, sym, ap, subst, ◌∙◌, arith, append-nil, length-append, true≢false, Option, None, Some, is_some, eqb-true, eqb-false, and_parts, take-suc, AppState, Snapshot, Now, Want, Nothing, Send, Close, Abort, capture_of, Capture, Function, Command, Shell, function_of, needs_capture, said_with, transcript, IsTrailing, IsLeading, Shows, stops_at, is_captured, left_said, due, session_is, waiting_is, said_some, held_goes, session, is_settled, is_stopped, session_has_ended, left_of_session, shell_want, take_capture, hear_byte, hear_all, ShellRepresents}
 use Rattle.telnet_shell.proofs.Standing.{own_is}
 
 eq_yes : (a b : ℕ) → a ≡ b → (a == b) ≡ true

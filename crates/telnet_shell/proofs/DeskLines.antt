@@ -1,29 +1,6 @@
 -- What the desk satisfies on a line.
-use Rattle.std.specs.List.{All}
-use Rattle.std.proofs.Common.{◌≡◌, ℕ, ◌==◌, ◌≤◌, Bool, true, false, inl, inr, List, [], length, refl, sym, ap, ◌∙◌, subst, append-nil, if◌then◌else◌}
-use Rattle.std.proofs.lemmas.Bool.{eqb-true}
-use Rattle.app_events.specs.Pages.{IsByte, IsPaged, MayWant}
-use Rattle.app_events.specs.AppSpec.{AppState}
-use Rattle.app_events.specs.declared.now.Now.{Now}
-use Rattle.site_image.specs.Files.{File}
-use Rattle.file_tree.specs.Site.{SiteContent, IsLoaded, files_of}
-use Rattle.web_pages.specs.Pages.{pages_of}
-use Rattle.web_pages.specs.Serving.{is_served}
-use Rattle.web_pages.specs.WebMeaning.{web_spec}
-use Rattle.web_pages.proofs.ByteLaws.{made_of_bytes}
-use Rattle.web_pages.proofs.PageLaws.{keeps_page_laws}
-use Rattle.node_laws.specs.Promise.OutputModel.{Paged, Interactive, Free}
-use Rattle.node_laws.specs.Speakers.{AcceptsPrefix, IsPagedAt, FollowsPagesAt, LeavesDelivered, HasOutputModel, FollowsModelAt}
-use Rattle.uip_node.specs.Laws.{SendsBytes}
-use Rattle.uip_node.proofs.DeliveredBytes.{page_bytes}
-use Rattle.telnet_shell.specs.declared.shell.TheConstants.{TELNET_PORT}
-use Rattle.telnet_shell.specs.DeskLines.{DeskSpeaksOnLines, desk_output_model}
-use Rattle.telnet_shell.specs.DeskMeaning.{desk_spec}
-use Rattle.telnet_shell.specs.DeskPorts.{DoesAs}
-use Rattle.telnet_shell.specs.ShellMeaning.{is_stopped, shell_spec, take_capture, session}
-use Rattle.telnet_shell.specs.Traces.{DeliversPrefix, sessions}
+use Rattle.telnet_shell.proofs.Prelude.{All, ◌≡◌, ℕ, ◌==◌, ◌≤◌, Bool, true, false, inl, inr, List, [], length, refl, sym, ap, ◌∙◌, subst, append-nil, if◌then◌else◌, eqb-true, IsByte, IsPaged, MayWant, AppState, Now, File, SiteContent, IsLoaded, files_of, pages_of, is_served, web_spec, made_of_bytes, keeps_page_laws, Paged, Interactive, Free, AcceptsPrefix, IsPagedAt, FollowsPagesAt, LeavesDelivered, HasOutputModel, FollowsModelAt, SendsBytes, page_bytes, TELNET_PORT, DeskSpeaksOnLines, desk_output_model, desk_spec, DoesAs, is_stopped, shell_spec, take_capture, session, DeliversPrefix, sessions, KeepsPort}
 use Rattle.telnet_shell.proofs.SessionLaws.{keeps_session}
-use Rattle.telnet_shell.specs.Lemmas.DeskLaws.{KeepsPort}
 use Rattle.telnet_shell.proofs.DeskSteady.{desk_steady}
 use Rattle.telnet_shell.proofs.TwoBytes.{desk_bytes}
 use Rattle.telnet_shell.proofs.TwoApplications.{two_applications}

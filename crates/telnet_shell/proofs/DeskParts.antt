@@ -1,19 +1,6 @@
 -- The value of a desk by cases: it represents what the application in it represents.
-use Rattle.std.proofs.Common.{◌≡◌, ℕ, ◌≤◌, ◌==◌, List, length, sym, ap, ◌∙◌, subst}
-use Rattle.std.proofs.Math.Logic.{∥∥₁_map}
-use Rattle.app_events.specs.AppSpec.{AppState, AppSpec, text_left, IsRepresented, CanSay}
-use Rattle.file_tree.specs.Site.{SiteContent, files_of}
-use Rattle.web_pages.specs.WebMeaning.{web_spec}
-use Rattle.httpd.specs.First.{Httpd}
-use Rattle.httpd.specs.HttpdRepresents.{HttpdRepresents}
-use Rattle.telnet_shell.specs.State.{Shell}
-use Rattle.telnet_shell.specs.declared.shell.TheConstants.{TELNET_PORT}
-use Rattle.telnet_shell.specs.declared.desk.Desk.{Desk}
+use Rattle.telnet_shell.proofs.Prelude.{◌≡◌, ℕ, ◌≤◌, ◌==◌, List, length, sym, ap, ◌∙◌, subst, ∥∥₁_map, AppState, AppSpec, text_left, IsRepresented, CanSay, SiteContent, files_of, web_spec, Httpd, HttpdRepresents, Shell, TELNET_PORT, Desk, shell_spec, ShellRepresents, app_spec_at, desk_spec, DeskRepresents, IsWebPart, IsShellPart, at_web, at_shell, web_left, shell_left}
 use Rattle.telnet_shell.specs.declared.desk.Desk.TheVariants as desk
-use Rattle.telnet_shell.specs.ShellMeaning.{shell_spec}
-use Rattle.telnet_shell.specs.ShellRepresents.{ShellRepresents}
-use Rattle.telnet_shell.specs.DeskMeaning.{app_spec_at, desk_spec}
-use Rattle.telnet_shell.specs.DeskRepresents.{DeskRepresents, IsWebPart, IsShellPart, at_web, at_shell, web_left, shell_left}
 
 pub web_part : (d : Desk) (a : Httpd) (site : SiteContent) (p : AppState) → d ≡ desk.Web a → DeskRepresents d site p → IsWebPart a site p
 web_part d a site p is s = subst (λ (e : Desk). DeskRepresents e site p) is s

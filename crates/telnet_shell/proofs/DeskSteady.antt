@@ -1,18 +1,5 @@
 -- The desk is steady: it takes back no text, and captures one snapshot at a time.
-use Rattle.std.proofs.Common.{◌≡◌, ℕ, ◌==◌, Bool, true, false, ◌⊎◌, inl, inr, List, [], ◌∷◌, ◌++◌, refl, if◌then◌else◌}
-use Rattle.app_events.specs.AppSpec.{AppState, Snapshot}
-use Rattle.site_image.specs.Files.{File}
-use Rattle.file_tree.specs.Site.{SiteContent, IsLoaded, files_of}
-use Rattle.web_pages.specs.Pages.{pages_of}
-use Rattle.web_pages.specs.WebMeaning.{web_spec}
-use Rattle.web_pages.proofs.PageLaws.{keeps_page_laws}
-use Rattle.uip_node.specs.Steady.{IsSteady}
-use Rattle.uip_node.proofs.Steadiness.{steady_of}
-use Rattle.telnet_shell.specs.declared.shell.TheConstants.{TELNET_PORT}
-use Rattle.telnet_shell.specs.ShellMeaning.{shell_spec, is_stopped}
-use Rattle.telnet_shell.specs.Lemmas.ShellLaws.{shell_lawful}
-use Rattle.telnet_shell.specs.DeskMeaning.{app_spec_at, desk_spec}
-use Rattle.telnet_shell.specs.Lemmas.DeskLaws.{desk_lawful}
+use Rattle.telnet_shell.proofs.Prelude.{◌≡◌, ℕ, ◌==◌, Bool, true, false, ◌⊎◌, inl, inr, List, [], ◌∷◌, ◌++◌, refl, if◌then◌else◌, AppState, Snapshot, File, SiteContent, IsLoaded, files_of, pages_of, web_spec, keeps_page_laws, IsSteady, steady_of, TELNET_PORT, shell_spec, is_stopped, shell_lawful, app_spec_at, desk_spec, desk_lawful}
 use Rattle.telnet_shell.proofs.SessionLaws.{keeps_session}
 
 either_capture : (p : AppState) (k : Snapshot) (takes : Bool)

@@ -1,23 +1,5 @@
 -- What a shell requests, when it takes a capture and when it is given up, by its session alone.
-use Rattle.std.proofs.Common.{◌≡◌, ℕ, ◌+◌, ◌-◌, ◌≤◌, ◌<◌, ◌==◌, min, Bool, true, false, ◌&&◌, not, nat_le, nat_lt, List, [], ◌∷◌, ◌++◌, codes, length, refl, sym, ap, ◌∙◌, arith, append-nil, length-append, if◌then◌else◌}
-use Rattle.std.specs.Str.{bytes_eq}
-use Rattle.std.proofs.lemmas.Bool.{leb-true, le-leb, lt-leb, lt-ltb, ltb-true, eqb-true, eq-eqb, and_parts, and_from, false_from_ne_true}
-use Rattle.std.proofs.lemmas.Slice.Eq.{bytes_eq-Decides}
-use Rattle.app_events.specs.AppSpec.{AppState, Snapshot}
-use Rattle.app_events.specs.declared.now.Now.{Now}
-use Rattle.app_events.specs.declared.want.Want.TheVariants.{Nothing, Send, Close, Abort}
-use Rattle.telnet_shell.specs.declared.command.Command.{Command}
-use Rattle.telnet_shell.specs.declared.command.Command.TheVariants.{Help, Stats, Conns, Ticks, Quit, Blank, Other}
-use Rattle.telnet_shell.specs.Reading.{Awaits, Token, tokens, told, awaits_after, commands, command_of, line_after, all_commands, commands_in, has_quit, is_quit, until_quit}
-use Rattle.telnet_shell.specs.Reading.Awaits.{Text, Second, Choice}
-use Rattle.telnet_shell.specs.Reading.Token.{Byte, Answer}
-use Rattle.telnet_shell.specs.Transcript.{behind, needs_capture, said_plainly, sent_at, transcript, unfinished}
-use Rattle.telnet_shell.specs.Saying.{needed}
-use Rattle.telnet_shell.specs.Lemmas.Growing.{commands_grow, further}
-use Rattle.telnet_shell.specs.Lemmas.Speaking.{past_said, said_some}
-use Rattle.telnet_shell.specs.ShellMeaning.{shell_spec, session, waiting, with_byte, hear_byte, is_settled, is_stopped, session_has_ended, left_of_session, take_capture}
-use Rattle.telnet_shell.specs.Traces.{sessions}
-use Rattle.telnet_shell.specs.Exactly.{IsExact, exact_want, all_acknowledged, is_given_up, capture_comes_next, completes}
+use Rattle.telnet_shell.proofs.Prelude.{◌≡◌, ℕ, ◌+◌, ◌-◌, ◌≤◌, ◌<◌, ◌==◌, min, Bool, true, false, ◌&&◌, not, nat_le, nat_lt, List, [], ◌∷◌, ◌++◌, codes, length, refl, sym, ap, ◌∙◌, arith, append-nil, length-append, if◌then◌else◌, bytes_eq, leb-true, le-leb, lt-leb, lt-ltb, ltb-true, eqb-true, eq-eqb, and_parts, and_from, false_from_ne_true, bytes_eq-Decides, AppState, Snapshot, Now, Nothing, Send, Close, Abort, Command, Help, Stats, Conns, Ticks, Quit, Blank, Other, Awaits, Token, tokens, told, awaits_after, commands, command_of, line_after, all_commands, commands_in, has_quit, is_quit, until_quit, Text, Second, Choice, Byte, Answer, behind, needs_capture, said_plainly, sent_at, transcript, unfinished, needed, commands_grow, further, past_said, said_some, shell_spec, session, waiting, with_byte, hear_byte, is_settled, is_stopped, session_has_ended, left_of_session, take_capture, sessions, IsExact, exact_want, all_acknowledged, is_given_up, capture_comes_next, completes}
 use Rattle.telnet_shell.proofs.SessionLaws.{IsSaid, settled, none_waits}
 
 -- two tests with the same result

@@ -13,3 +13,4 @@ pub mod SessionLaws
 pub mod ExactLaws
 pub mod SequenceLaws
 pub mod TwoBytes
+mod Prelude

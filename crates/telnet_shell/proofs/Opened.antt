@@ -1,17 +1,5 @@
 -- A shell that has received nothing, and what a shell can send.
-use Rattle.std.proofs.Common.{◌≡◌, ℕ, ◌+◌, ◌≤◌, ◌<◌, Bool, true, false, List, [], ◌∷◌, ◌++◌, length, refl, sym, ap, subst, ◌∙◌, arith, length-drop, length-append, if◌then◌else◌}
-use Rattle.std.proofs.Math.Logic.{∥∥₁_elim}
-use Rattle.std.specs.Coded.{le_prop}
-use Rattle.app_events.specs.AppSpec.{AppState, text_left, CanSay, IsRepresented}
-use Rattle.generators.specs.declared.capture.Capture.{Capture}
-use Rattle.generators.specs.declared.capture.Capture.TheVariants.{Empty}
-use Rattle.telnet_shell.specs.declared.command.Command.{Command}
-use Rattle.telnet_shell.specs.State.{Shell}
-use Rattle.telnet_shell.specs.Transcript.{said_with, transcript}
-use Rattle.telnet_shell.specs.Saying.{IsTrailing, IsLeading, left_said, prefix_size, stops_at}
-use Rattle.telnet_shell.specs.ShellMeaning.{shell_spec}
-use Rattle.telnet_shell.specs.ShellRepresents.{ShellRepresents, fresh_part}
-use Rattle.telnet_shell.specs.Lemmas.SameLeft.{left_of_value}
+use Rattle.telnet_shell.proofs.Prelude.{◌≡◌, ℕ, ◌+◌, ◌≤◌, ◌<◌, Bool, true, false, List, [], ◌∷◌, ◌++◌, length, refl, sym, ap, subst, ◌∙◌, arith, length-drop, length-append, if◌then◌else◌, ∥∥₁_elim, le_prop, AppState, text_left, CanSay, IsRepresented, Capture, Empty, Command, Shell, said_with, transcript, IsTrailing, IsLeading, left_said, prefix_size, stops_at, shell_spec, ShellRepresents, fresh_part, left_of_value}
 
 pub opened_after : (q : List Command) (port : ℕ) → q ≡ [] → IsTrailing q Empty 0 (fresh_part port)
 opened_after q port e = record { before = []; spoken = []; prefix = []; commands = sym e; captures = refl; took = refl; acked = refl; shows = refl }

@@ -1,10 +1,5 @@
 -- One more byte: what is open after it, and the commands that it completes.
-use Rattle.std.proofs.Common.{◌≡◌, ℕ, Bool, true, false, List, [], ◌∷◌, ◌++◌, ◌==◌, if◌then◌else◌, refl, sym, ap, subst, ◌∙◌, append-nil}
-use Rattle.telnet_shell.specs.Reading.{Awaits, Token, tokens, told, next_awaits, awaits_after, commands, line_after, all_commands}
-use Rattle.telnet_shell.specs.Reading.Awaits.{Text}
-use Rattle.telnet_shell.specs.Reading.Token.{Byte, Answer}
-use Rattle.telnet_shell.specs.Hearing.{IsLine, IsOpen, awaited}
-use Rattle.telnet_shell.specs.Lemmas.Growing.{tokens_joined, commands_joined}
+use Rattle.telnet_shell.proofs.Prelude.{◌≡◌, ℕ, Bool, true, false, List, [], ◌∷◌, ◌++◌, ◌==◌, if◌then◌else◌, refl, sym, ap, subst, ◌∙◌, append-nil, Awaits, Token, tokens, told, next_awaits, awaits_after, commands, line_after, all_commands, Text, Byte, Answer, IsLine, IsOpen, awaited, tokens_joined, commands_joined}
 
 pub awaits_one : (awaits : Awaits) (xs : List ℕ) (byte : ℕ) → awaits_after awaits (xs ++ byte ∷ []) ≡ next_awaits (awaits_after awaits xs) byte
 awaits_one awaits [] byte = refl

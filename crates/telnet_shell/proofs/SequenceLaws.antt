@@ -1,10 +1,5 @@
 -- The table of the protocol's sequences.
-use Rattle.std.proofs.Common.{◌≡◌, ℕ, ◌<◌, ◌&&◌, ◌++◌, Bool, nat_le, List, [], ◌∷◌, refl, ap, ◌∙◌, arith, if◌then◌else◌}
-use Rattle.std.proofs.lemmas.Bool.{ne_eqb, lt-leb}
-use Rattle.telnet_shell.specs.Reading.{tokens}
-use Rattle.telnet_shell.specs.Reading.Awaits.{Text, Second, Choice}
-use Rattle.telnet_shell.specs.Reading.Token.{Byte}
-use Rattle.telnet_shell.specs.Sequences.{ReadsSequences}
+use Rattle.telnet_shell.proofs.Prelude.{◌≡◌, ℕ, ◌<◌, ◌&&◌, ◌++◌, Bool, nat_le, List, [], ◌∷◌, refl, ap, ◌∙◌, arith, if◌then◌else◌, ne_eqb, lt-leb, tokens, Text, Second, Choice, Byte, ReadsSequences}
 
 -- after 255, a byte that is neither 255 nor a verb
 plain_second : (x : ℕ) (rest : List ℕ) → x < 251 → tokens Second (x ∷ rest) ≡ tokens Text rest

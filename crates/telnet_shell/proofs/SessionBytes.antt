@@ -1,27 +1,5 @@
 -- The shell sends bytes if it receives bytes.
-use Rattle.std.specs.List.{All}
-use Rattle.std.specs.Prelude.{codes}
-use Rattle.std.specs.Str.{bytes_eq}
-use Rattle.std.proofs.Common.{ℕ, ◌==◌, List, [], ◌∷◌, ◌++◌, refl, sym, subst, lit<}
-use Rattle.std.proofs.lemmas.List.Elements.{All-append, All-cons, All-head, All-nil, All-tail}
-use Rattle.generators.specs.Captures.{capture_of}
-use Rattle.generators.specs.Text.{capture_text}
-use Rattle.generators.specs.declared.capture.Capture.{Capture}
-use Rattle.generators.specs.declared.capture.Capture.TheVariants.{Empty}
-use Rattle.generators.specs.Lemmas.Bytes.{capture_bytes, either_bytes, literal_bytes}
-use Rattle.app_events.specs.Pages.{IsByte}
-use Rattle.app_events.specs.AppSpec.{AppState, Snapshot}
-use Rattle.uip_node.proofs.Basics.{choose}
-use Rattle.uip_node.specs.Laws.{SendsBytes}
-use Rattle.telnet_shell.specs.declared.hearing.TheConstants.{IAC, WILL, DO}
-use Rattle.telnet_shell.specs.declared.command.Command.{Command}
-use Rattle.telnet_shell.specs.declared.command.Command.TheVariants.{Refuse, Help, Stats, Conns, Ticks, Quit, Blank, Other}
-use Rattle.telnet_shell.specs.Reading.{Awaits, Token, all_commands, command_of, commands, commands_in, is_quit, next_awaits, told, tokens, until_quit}
-use Rattle.telnet_shell.specs.Reading.Awaits.{Text, Second, Choice}
-use Rattle.telnet_shell.specs.Reading.Token.{Byte, Answer}
-use Rattle.telnet_shell.specs.ShellMeaning.{is_stopped, shell_spec, take_capture}
-use Rattle.telnet_shell.specs.Traces.{DeliversPrefix}
-use Rattle.telnet_shell.specs.Transcript.{function_of, needs_capture, sent_at, said_plainly, said_with, transcript}
+use Rattle.telnet_shell.proofs.Prelude.{All, codes, bytes_eq, ℕ, ◌==◌, List, [], ◌∷◌, ◌++◌, refl, sym, subst, lit<, All-append, All-cons, All-head, All-nil, All-tail, capture_of, capture_text, Capture, Empty, capture_bytes, either_bytes, literal_bytes, IsByte, AppState, Snapshot, choose, SendsBytes, IAC, WILL, DO, Command, Refuse, Help, Stats, Conns, Ticks, Quit, Blank, Other, Awaits, Token, all_commands, command_of, commands, commands_in, is_quit, next_awaits, told, tokens, until_quit, Text, Second, Choice, Byte, Answer, is_stopped, shell_spec, take_capture, DeliversPrefix, function_of, needs_capture, sent_at, said_plainly, said_with, transcript}
 use Rattle.telnet_shell.proofs.SessionLaws.{keeps_session}
 
 -- ---- what is received: an offer is refused with bytes

@@ -1,19 +1,5 @@
 -- The invariants of a shell's session.
-use Rattle.std.proofs.Common.{◌≡◌, ℕ, ◌+◌, ◌-◌, ◌≤◌, ◌==◌, min, Bool, true, false, ◌&&◌, ◌||◌, ◌⊎◌, inl, inr, nat_le, nat_lt, List, [], ◌∷◌, ◌++◌, length, refl, sym, ap, subst, ◌∙◌, arith, append-nil, append_assoc, length-append, if◌then◌else◌}
-use Rattle.std.proofs.lemmas.Bool.{leb-true, le-leb, ltb-true, eqb-true, and_parts}
-use Rattle.app_events.specs.AppSpec.{AppState, Snapshot}
-use Rattle.app_events.specs.Laws.{IsPrefixOf}
-use Rattle.app_events.specs.Pages.{MayWant}
-use Rattle.app_events.specs.declared.want.Want.TheVariants.{Nothing, Send, Close, Abort}
-use Rattle.telnet_shell.specs.declared.command.Command.{Command}
-use Rattle.telnet_shell.specs.declared.TheConstants.{MOST_COMMANDS}
-use Rattle.telnet_shell.specs.Reading.{Token, tokens, awaits_after, commands, line_after, all_commands, commands_in, has_quit}
-use Rattle.telnet_shell.specs.Reading.Awaits.{Text}
-use Rattle.telnet_shell.specs.Transcript.{needs_capture, said_plainly, sent_at, transcript, unfinished}
-use Rattle.telnet_shell.specs.Saying.{needed}
-use Rattle.telnet_shell.specs.Lemmas.Growing.{tokens_joined, commands_joined, commands_grow, further, transcript_grows}
-use Rattle.telnet_shell.specs.ShellMeaning.{session, waiting, with_byte, hear_all, session_has_ended, is_settled, left_of_session}
-use Rattle.telnet_shell.specs.Traces.{sessions, DeliversPrefix, KeepsSession}
+use Rattle.telnet_shell.proofs.Prelude.{◌≡◌, ℕ, ◌+◌, ◌-◌, ◌≤◌, ◌==◌, min, Bool, true, false, ◌&&◌, ◌||◌, ◌⊎◌, inl, inr, nat_le, nat_lt, List, [], ◌∷◌, ◌++◌, length, refl, sym, ap, subst, ◌∙◌, arith, append-nil, append_assoc, length-append, if◌then◌else◌, leb-true, le-leb, ltb-true, eqb-true, and_parts, AppState, Snapshot, IsPrefixOf, MayWant, Nothing, Send, Close, Abort, Command, MOST_COMMANDS, Token, tokens, awaits_after, commands, line_after, all_commands, commands_in, has_quit, Text, needs_capture, said_plainly, sent_at, transcript, unfinished, needed, tokens_joined, commands_joined, commands_grow, further, transcript_grows, session, waiting, with_byte, hear_all, session_has_ended, is_settled, left_of_session, sessions, DeliversPrefix, KeepsSession}
 use Rattle.telnet_shell.proofs.Standing.{quit_joins}
 
 pub session_grows : (q more : List ℕ) (k later : List Snapshot) → IsPrefixOf (sessions.text q k) (sessions.text (q ++ more) (k ++ later))

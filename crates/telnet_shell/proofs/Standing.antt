@@ -1,17 +1,5 @@
 -- A shell receives a byte.
-use Rattle.std.proofs.Common.{◌≡◌, ℕ, ◌+◌, ◌==◌, ◌≤◌, ◌<◌, Bool, true, false, ◌||◌, List, [], ◌∷◌, ◌++◌, length, nat_lt, if◌then◌else◌, refl, sym, ap, subst, ◌∙◌, arith, append-nil, length-append, true≢false}
-use Rattle.std.proofs.lemmas.Bool.{le-ltb, lt-ltb, eqb-true, eqb-false}
-use Rattle.app_events.specs.AppSpec.{AppState}
-use Rattle.telnet_shell.specs.declared.command.Command.{Command}
-use Rattle.telnet_shell.specs.State.{Shell}
-use Rattle.telnet_shell.specs.Reading.{all_commands, commands_in, commands, tokens, told, awaits_after, line_after, has_quit, is_quit, until_quit}
-use Rattle.telnet_shell.specs.Reading.Awaits.{Text}
-use Rattle.telnet_shell.specs.Hearing.{IsOpen}
-use Rattle.telnet_shell.specs.Saying.{IsTrailing, IsLeading}
-use Rattle.telnet_shell.specs.Lemmas.Growing.{until_quit_joined}
-use Rattle.telnet_shell.specs.Lemmas.Speaking.{waiting_is}
-use Rattle.telnet_shell.specs.ShellMeaning.{waiting, with_byte, hear_byte}
-use Rattle.telnet_shell.specs.ShellRepresents.{ShellRepresents}
+use Rattle.telnet_shell.proofs.Prelude.{◌≡◌, ℕ, ◌+◌, ◌==◌, ◌≤◌, ◌<◌, Bool, true, false, ◌||◌, List, [], ◌∷◌, ◌++◌, length, nat_lt, if◌then◌else◌, refl, sym, ap, subst, ◌∙◌, arith, append-nil, length-append, true≢false, le-ltb, lt-ltb, eqb-true, eqb-false, AppState, Command, Shell, all_commands, commands_in, commands, tokens, told, awaits_after, line_after, has_quit, is_quit, until_quit, Text, IsOpen, IsTrailing, IsLeading, until_quit_joined, waiting_is, waiting, with_byte, hear_byte, ShellRepresents}
 use Rattle.telnet_shell.proofs.Opening.{commands_one}
 use Rattle.telnet_shell.proofs.Advancing.{come}
 

@@ -1,18 +1,6 @@
 -- What the desk is at each of its ports.
-use Rattle.std.proofs.Common.{◌≡◌, ℕ, ◌==◌, true, false, List, refl, sym, ap, ◌∙◌, true≢false}
-use Rattle.uip_wire.specs.declared.port.TheConstants.{WEB_PORT}
-use Rattle.app_events.specs.AppSpec.{AppState, AppSpec}
-use Rattle.site_image.specs.Files.{File}
-use Rattle.file_tree.specs.Site.{SiteContent}
-use Rattle.web_pages.specs.WebMeaning.{web_spec}
-use Rattle.telnet_shell.specs.declared.shell.TheConstants.{TELNET_PORT}
-use Rattle.telnet_shell.specs.declared.desk.Desk.{Desk}
+use Rattle.telnet_shell.proofs.Prelude.{◌≡◌, ℕ, ◌==◌, true, false, List, refl, sym, ap, ◌∙◌, true≢false, WEB_PORT, AppState, AppSpec, File, SiteContent, web_spec, TELNET_PORT, Desk, shell_spec, app_spec_at, desk_spec, DeskRepresents, at_web, at_shell, KeepsPort, port_at, DoesAs, IsAtWeb, IsAtShell, IsTwoApplications}
 use Rattle.telnet_shell.specs.declared.desk.Desk.TheVariants as desk
-use Rattle.telnet_shell.specs.ShellMeaning.{shell_spec}
-use Rattle.telnet_shell.specs.DeskMeaning.{app_spec_at, desk_spec}
-use Rattle.telnet_shell.specs.DeskRepresents.{DeskRepresents, at_web, at_shell}
-use Rattle.telnet_shell.specs.Lemmas.DeskLaws.{KeepsPort, port_at}
-use Rattle.telnet_shell.specs.DeskPorts.{DoesAs, IsAtWeb, IsAtShell, IsTwoApplications}
 
 is_web_port : (port : ℕ) → port ≡ WEB_PORT → (port == TELNET_PORT) ≡ false
 is_web_port port e = ap (λ (n : ℕ). n == TELNET_PORT) e

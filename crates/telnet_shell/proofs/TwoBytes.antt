@@ -1,11 +1,5 @@
 -- The desk sends bytes, if its pages are bytes and it receives bytes.
-use Rattle.std.proofs.Common.{ℕ, ◌==◌, Bool, true, false, List, if◌then◌else◌}
-use Rattle.site_image.specs.Files.{File}
-use Rattle.web_pages.specs.WebMeaning.{web_spec}
-use Rattle.uip_node.specs.Laws.{SendsBytes}
-use Rattle.telnet_shell.specs.declared.shell.TheConstants.{TELNET_PORT}
-use Rattle.telnet_shell.specs.DeskMeaning.{desk_spec, app_spec_at}
-use Rattle.telnet_shell.specs.ShellMeaning.{shell_spec}
+use Rattle.telnet_shell.proofs.Prelude.{ℕ, ◌==◌, Bool, true, false, List, if◌then◌else◌, File, web_spec, SendsBytes, TELNET_PORT, desk_spec, app_spec_at, shell_spec}
 use Rattle.telnet_shell.proofs.SessionBytes.{shell_bytes}
 
 module _ (files : List File) (pages : SendsBytes (web_spec files)) where

@@ -1,7 +1,5 @@
 -- Each session is computed from the definitions.
-use Rattle.std.proofs.Common.{rules}
-use Rattle.std.specs.Fmt.{digits}
-use Rattle.telnet_shell.specs.WorkedSessions.{AreWorkedSessions}
+use Rattle.telnet_shell.proofs.Prelude.{rules, digits, AreWorkedSessions}
 
 pub worked : AreWorkedSessions
 unfolding digits

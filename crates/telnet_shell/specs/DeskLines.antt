@@ -2,16 +2,12 @@
 -- files, at port 23 the session of the delivered bytes and the captured snapshots.
 use Rattle.std.specs.List.{All}
 use Rattle.std.specs.Prelude.{ℕ, ◌==◌, List, if◌then◌else◌}
-use Rattle.app_events.specs.Pages.{IsByte}
-use Rattle.site_image.specs.Files.{File}
-use Rattle.file_tree.specs.Site.{SiteContent, IsLoaded, files_of}
-use Rattle.uip_node.specs.Steady.{IsSteady}
-use Rattle.node_laws.specs.Promise.{OutputModel}
-use Rattle.node_laws.specs.Promise.OutputModel.{Paged, Interactive, Free}
-use Rattle.node_laws.specs.Speakers.{HasOutputModel}
-use Rattle.uip_node.specs.Laws.{SendsBytes}
-use Rattle.web_pages.specs.Pages.{pages_of}
-use Rattle.web_pages.specs.Serving.{is_served}
+use Rattle.app_events.specs.Prelude.{IsByte}
+use Rattle.site_image.specs.Prelude.{File}
+use Rattle.file_tree.specs.Prelude.{SiteContent, IsLoaded, files_of}
+use Rattle.uip_node.specs.Prelude.{IsSteady, SendsBytes}
+use Rattle.node_laws.specs.Prelude.{OutputModel, Paged, Interactive, Free, HasOutputModel}
+use Rattle.web_pages.specs.Prelude.{pages_of, is_served}
 use Rattle.telnet_shell.specs.declared.shell.TheConstants.{TELNET_PORT}
 use Rattle.telnet_shell.specs.Traces.{sessions}
 use Rattle.telnet_shell.specs.DeskMeaning.{desk_spec}

@@ -1,9 +1,8 @@
 -- The transitions of a connection of the desk: those of the shell if it was opened at port 23, otherwise those of the web server.
 use Rattle.std.specs.Prelude.{ℕ, ◌==◌, ◌||◌, Bool, List, if◌then◌else◌}
-use Rattle.site_image.specs.Files.{File}
-use Rattle.app_events.specs.AppSpec.{AppSpec}
-use Rattle.web_pages.specs.Serving.{is_served}
-use Rattle.web_pages.specs.WebMeaning.{web_spec}
+use Rattle.site_image.specs.Prelude.{File}
+use Rattle.app_events.specs.Prelude.{AppSpec}
+use Rattle.web_pages.specs.Prelude.{is_served, web_spec}
 use Rattle.telnet_shell.specs.declared.shell.TheConstants.{TELNET_PORT}
 use Rattle.telnet_shell.specs.ShellMeaning.{shell_spec}
 

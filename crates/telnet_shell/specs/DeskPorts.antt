@@ -1,12 +1,12 @@
 -- At port 80 the desk is the web server, call by call, and at port 23 the shell.
 use Rattle.std.specs.Prelude.{◌≡◌, ℕ, List}
 use Rattle.uip_wire.specs.declared.port.TheConstants.{WEB_PORT}
-use Rattle.app_events.specs.AppSpec.{AppState, AppSpec}
+use Rattle.app_events.specs.Prelude.{AppState, AppSpec}
 use Rattle.app_events.specs.declared.ending.Ending.{Ending}
 use Rattle.app_events.specs.declared.now.Now.{Now}
-use Rattle.site_image.specs.Files.{File}
-use Rattle.file_tree.specs.Site.{SiteContent}
-use Rattle.web_pages.specs.WebMeaning.{web_spec}
+use Rattle.site_image.specs.Prelude.{File}
+use Rattle.file_tree.specs.Prelude.{SiteContent}
+use Rattle.web_pages.specs.Prelude.{web_spec}
 use Rattle.httpd.specs.First.{Httpd}
 use Rattle.httpd.specs.HttpdRepresents.{HttpdRepresents}
 use Rattle.telnet_shell.specs.State.{Shell}

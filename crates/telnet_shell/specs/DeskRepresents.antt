@@ -1,9 +1,9 @@
 -- The states that a desk represents.
 use Rattle.std.proofs.Common.{◌≡◌, ℕ, ◌==◌, Bool, true, false, List, if◌then◌else◌, sym, ap, ◌∙◌}
-use Rattle.app_events.specs.AppSpec.{AppState, AppSpec, text_left}
-use Rattle.site_image.specs.Files.{File}
-use Rattle.file_tree.specs.Site.{SiteContent, files_of}
-use Rattle.web_pages.specs.WebMeaning.{web_spec}
+use Rattle.app_events.specs.Prelude.{AppState, AppSpec, text_left}
+use Rattle.site_image.specs.Prelude.{File}
+use Rattle.file_tree.specs.Prelude.{SiteContent, files_of}
+use Rattle.web_pages.specs.Prelude.{web_spec}
 use Rattle.httpd.specs.First.{Httpd}
 use Rattle.httpd.specs.HttpdRepresents.{HttpdRepresents}
 use Rattle.httpd.specs.Lemmas.SameLeft.{same_left as web_same_left}

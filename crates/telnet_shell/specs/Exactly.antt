@@ -1,7 +1,7 @@
 -- What a shell requests, when it captures a snapshot and when it is aborted, determined by its session. Each happens exactly when this
 -- states it.
 use Rattle.std.specs.Prelude.{◌≡◌, ◌<◌, ◌≤◌, ◌-◌, ◌==◌, ◌&&◌, ◌||◌, ℕ, Bool, List, [], ◌∷◌, ◌++◌, length, min, nat_lt, if◌then◌else◌}
-use Rattle.app_events.specs.AppSpec.{AppState}
+use Rattle.app_events.specs.Prelude.{AppState}
 use Rattle.app_events.specs.declared.now.Now.{Now}
 use Rattle.app_events.specs.declared.want.Want.{Want}
 use Rattle.app_events.specs.declared.want.Want.TheVariants.{Nothing, Send, Close, Abort}

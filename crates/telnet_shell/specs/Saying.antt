@@ -1,10 +1,10 @@
 -- The rest of the output of a queue of commands; a capture is held for the first, or is still to come.
 use Rattle.std.specs.Prelude.{◌≡◌, ℕ, ◌+◌, ◌<◌, ◌&&◌, Bool, true, false, not, List, [], ◌∷◌, ◌++◌, length, nat_le, if◌then◌else◌, Option, None, Some}
 use Rattle.script_lang.specs.declared.function.Function.{Function}
-use Rattle.generators.specs.Captures.{capture_of}
+use Rattle.generators.specs.Prelude.{capture_of}
 use Rattle.generators.specs.declared.capture.Capture.{Capture}
 use Rattle.generators.specs.declared.capture.Capture.TheVariants.{Empty, Hits, Ticks, Net, Rows}
-use Rattle.app_events.specs.AppSpec.{AppState, Snapshot}
+use Rattle.app_events.specs.Prelude.{AppState, Snapshot}
 use Rattle.telnet_shell.specs.declared.command.Command.{Command}
 use Rattle.telnet_shell.specs.Reading.{commands_in}
 use Rattle.telnet_shell.specs.Transcript.{function_of, needs_capture, said_with, transcript}

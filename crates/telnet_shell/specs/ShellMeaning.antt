@@ -1,7 +1,7 @@
 -- The transitions of a connection of the shell. Its output is the transcript of the delivered commands and the captured snapshots. Its own
 -- number is 1 if it was given up for a command too many.
 use Rattle.std.specs.Prelude.{ℕ, ◌+◌, ◌-◌, ◌==◌, Bool, ◌&&◌, ◌||◌, not, List, [], ◌∷◌, ◌++◌, length, min, nat_lt, if◌then◌else◌}
-use Rattle.app_events.specs.AppSpec.{AppState, AppSpec}
+use Rattle.app_events.specs.Prelude.{AppState, AppSpec}
 use Rattle.app_events.specs.declared.now.Now.{Now}
 use Rattle.app_events.specs.declared.want.Want.{Want}
 use Rattle.app_events.specs.declared.want.Want.TheVariants.{Nothing, Send, Close, Abort}

@@ -1,6 +1,6 @@
 -- The states that a shell represents.
 use Rattle.std.specs.Prelude.{◌≡◌, ℕ, ◌||◌, false, [], if◌then◌else◌}
-use Rattle.app_events.specs.AppSpec.{AppState}
+use Rattle.app_events.specs.Prelude.{AppState}
 use Rattle.telnet_shell.specs.State.{Shell}
 use Rattle.telnet_shell.specs.Reading.{all_commands, has_quit}
 use Rattle.telnet_shell.specs.Hearing.{IsOpen}

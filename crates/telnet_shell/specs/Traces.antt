@@ -2,9 +2,7 @@
 -- the web server for a page, with one difference. A shell may be given up in the middle of a piece; its input is then the prefix that it
 -- accepted.
 use Rattle.std.specs.Prelude.{◌≡◌, ℕ, ◌≤◌, ◌⊎◌, ◌&&◌, true, nat_le, List, [], ◌++◌, length}
-use Rattle.app_events.specs.AppSpec.{AppState, Snapshot}
-use Rattle.app_events.specs.Laws.{IsPrefixOf}
-use Rattle.app_events.specs.Pages.{Pages, MayWant}
+use Rattle.app_events.specs.Prelude.{AppState, Snapshot, IsPrefixOf, Pages, MayWant}
 use Rattle.app_events.specs.declared.want.Want.TheVariants.{Abort}
 use Rattle.telnet_shell.specs.Reading.{all_commands, commands_in, has_quit}
 use Rattle.telnet_shell.specs.Transcript.{transcript}

@@ -3,12 +3,11 @@
 use Rattle.std.specs.Prelude.{ℕ, ◌-◌, Bool, List, [], ◌∷◌, ◌++◌, codes, length, nat_le, if◌then◌else◌}
 use Rattle.script_lang.specs.declared.function.Function.{Function}
 use Rattle.script_lang.specs.declared.function.Function.TheVariants as function
-use Rattle.generators.specs.Captures.{capture_of}
-use Rattle.generators.specs.Text.{capture_text}
+use Rattle.generators.specs.Prelude.{capture_of, capture_text}
 use Rattle.generators.specs.declared.capture.Capture.{Capture}
 use Rattle.generators.specs.declared.capture.Capture.TheVariants.{Empty}
-use Rattle.app_events.specs.AppSpec.{Snapshot}
-use Rattle.script_lang.specs.Functions.{takes_capture}
+use Rattle.app_events.specs.Prelude.{Snapshot}
+use Rattle.script_lang.specs.Prelude.{takes_capture}
 use Rattle.telnet_shell.specs.declared.hearing.TheConstants.{IAC}
 use Rattle.telnet_shell.specs.declared.command.Command.{Command}
 use Rattle.telnet_shell.specs.declared.command.Command.TheVariants.{Refuse, Help, Stats, Conns, Ticks, Quit, Blank, Other}

@@ -2,8 +2,7 @@
 -- [add: counter] The number of zeros.
 use Rattle.std.specs.Prelude.{◌≡◌, ℕ, true, false, List, [], ◌∷◌, ◌++◌, codes, length, replicate}
 use Rattle.std.specs.List.{concat}
-use Rattle.app_events.specs.AppSpec.{AppState, Snapshot}
-use Rattle.app_events.specs.Laws.{IsLawful, StartsAnew}
+use Rattle.app_events.specs.Prelude.{AppState, Snapshot, IsLawful, StartsAnew}
 use Rattle.app_events.specs.declared.want.Want.TheVariants.{Nothing, Send, Close, Abort}
 use Rattle.uip_wire.specs.declared.port.TheConstants.{WEB_PORT}
 use Rattle.telnet_shell.specs.declared.shell.TheConstants.{TELNET_PORT}

@@ -1,11 +1,11 @@
 //! The texts of commands.
 
 ghost use Rattle.std.specs.Prelude.{◌≡◌, true, ◌+◌, ◌*◌, ◌≤◌, ◌++◌, [], length, take, drop};
-ghost use Rattle.generators.specs.Text.{capture_text};
+ghost use Rattle.generators.specs.Prelude.{capture_text};
 ghost use Rattle.generators.specs.declared.capture.Capture.TheVariants.{Empty};
 ghost use Rattle.telnet_shell.specs.Transcript.{function_of, said_with, transcript};
 ghost use Rattle.telnet_shell.specs.Saying.{IsTrailing, IsLeading, Passes, due, prefix_size, is_past, left_said, stops_at};
-ghost use Rattle.app_events.specs.AppSpec.{AppState};
+ghost use Rattle.app_events.specs.Prelude.{AppState};
 ghost use Rattle.telnet_shell.specs.declared.TheConstants.{MOST_COMMANDS};
 ghost use Rattle.telnet_shell.specs.declared.saying.TheConstants.{LONGEST_SAID};
 

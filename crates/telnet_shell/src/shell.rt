@@ -1,7 +1,7 @@
 //! The shell on one connection.
 
 ghost use Rattle.std.specs.Prelude.{◌≡◌, ◌==◌, ◌&&◌, ℕ, length};
-ghost use Rattle.app_events.specs.AppSpec.{AppState};
+ghost use Rattle.app_events.specs.Prelude.{AppState};
 ghost use Rattle.telnet_shell.specs.Reading.{is_quit};
 ghost use Rattle.telnet_shell.specs.ShellMeaning.{hear_all, hear_byte};
 

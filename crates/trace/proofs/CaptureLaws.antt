@@ -1,15 +1,5 @@
 -- A capture file that continues: with further bytes, and with a further record.
-use Rattle.std.proofs.Common.{◌≡◌, ℕ, zero, suc, ◌+◌, ◌<◌, ◌≤◌, List, [], ◌∷◌, ◌++◌, length, take, drop, refl, sym, ap, ◌∙◌, append-nil, append_assoc, arith, length-drop, inl, inr}
-use Rattle.std.proofs.lemmas.List.{get_or_append_left, length-take-le, take-append-drop, take-append-le}
-use Rattle.std.proofs.lemmas.List.Concat.{flat_map-append}
-use Rattle.std.proofs.lemmas.Bool.{cases_lt}
-use Rattle.std.proofs.Math.Seq.{take-length}
-use Rattle.std.specs.List.{AllByRecursion, flat_map}
-use Rattle.uip_wire.specs.declared.sizes.TheConstants.{LARGEST_DATAGRAM}
-use Rattle.trace.specs.CaptureReading.{BeginsWith, Captured, IsCaptured, IsReadAs, Reading, captured_in, captured_bytes, length_in, line_text, lines_of}
-use Rattle.trace.specs.CaptureReading.Reading.{BadLength, InRecord, Whole}
-use Rattle.trace.specs.declared.byte_order.ByteOrder.{ByteOrder}
-use Rattle.trace.specs.declared.byte_order.ByteOrder.TheVariants.{Big, Little}
+use Rattle.trace.proofs.Prelude.{◌≡◌, ℕ, zero, suc, ◌+◌, ◌<◌, ◌≤◌, List, [], ◌∷◌, ◌++◌, length, take, drop, refl, sym, ap, ◌∙◌, append-nil, append_assoc, arith, length-drop, inl, inr, get_or_append_left, length-take-le, take-append-drop, take-append-le, flat_map-append, cases_lt, take-length, AllByRecursion, flat_map, LARGEST_DATAGRAM, BeginsWith, Captured, IsCaptured, IsReadAs, Reading, captured_in, captured_bytes, length_in, line_text, lines_of, BadLength, InRecord, Whole, ByteOrder, Big, Little}
 
 -- the line of a record
 abbrev pub captured_line : Captured → List ℕ

@@ -1,29 +1,10 @@
 -- How the reading of a capture file ends.
-use Rattle.std.proofs.Common.{◌≡◌, ℕ, ◌<◌, ◌≤◌, List, [], ◌∷◌, ◌++◌, Option, Some, None, length, map, take, refl, sym, ap, ◌∙◌, append-nil, arith, subst}
-use Rattle.std.specs.Io.KnownBytes.{Appends}
-use Rattle.uip_edge.specs.Coming.{Consumes, bytes_among}
-use Rattle.uip_edge.specs.Ending.{EndsBy}
-use Rattle.uip_edge.specs.declared.item.Item.{Item}
-use Rattle.uip_edge.specs.declared.item.Item.TheVariants.{Byte, Quiet}
-use Rattle.uip_edge.specs.declared.serve_end.ServeEnd.{ServeEnd}
+use Rattle.trace.proofs.Prelude.{◌≡◌, ℕ, ◌<◌, ◌≤◌, List, [], ◌∷◌, ◌++◌, Option, Some, None, length, map, take, refl, sym, ap, ◌∙◌, append-nil, arith, subst, Appends, Consumes, bytes_among, EndsBy, Item, Byte, Quiet, ServeEnd, breaks_prefix, bytes_among-append, bytes_among-map, LineView, IsCalm, SinkView, Captured, IsReadAs, Reading, cut_in, captured_in, fault_in, lines_of, BadHeader, BadLength, InRecord, InHeader, Whole, Converts, HasNewFault, IsFoundSoon, SlipEndsBy, WroteLine, IsReadTo, IsOpen, IsReadSound, StopBy, Stopped, StopsAt, end_at, EndsRead, StopsRead, Reader, Stop, CaptureWhy, SlipEnd, Stage}
 use Rattle.uip_edge.specs.declared.serve_end.ServeEnd.TheVariants as line
-use Rattle.uip_edge.proofs.Breaking.{breaks_prefix}
-use Rattle.uip_edge.proofs.Told.{bytes_among-append, bytes_among-map}
-use Rattle.uip_edge.specs.Views.{LineView, IsCalm, SinkView}
-use Rattle.trace.specs.CaptureReading.{Captured, IsReadAs, Reading, cut_in, captured_in, fault_in, lines_of}
-use Rattle.trace.specs.CaptureReading.Reading.{BadHeader, BadLength, InRecord, InHeader, Whole}
-use Rattle.trace.specs.Converting.{Converts, HasNewFault, IsFoundSoon, SlipEndsBy, WroteLine}
-use Rattle.trace.specs.Gathering.{IsReadTo, IsOpen, IsReadSound, StopBy, Stopped, StopsAt, end_at}
-use Rattle.trace.specs.LineReading.{EndsRead, StopsRead}
 use Rattle.trace.specs.contracts.reader.ReaderLineReader.TheImpl.{ghosts}
-use Rattle.trace.specs.declared.reader.Reader.{Reader}
-use Rattle.trace.specs.declared.reader.Stop.{Stop}
 use Rattle.trace.specs.declared.reader.Stop.TheVariants as stops
-use Rattle.trace.specs.declared.slip_end.CaptureWhy.{CaptureWhy}
 use Rattle.trace.specs.declared.slip_end.CaptureWhy.TheVariants as whys
-use Rattle.trace.specs.declared.slip_end.SlipEnd.{SlipEnd}
 use Rattle.trace.specs.declared.slip_end.SlipEnd.TheVariants as ends
-use Rattle.trace.specs.declared.stage.Stage.{Stage}
 use Rattle.trace.specs.declared.stage.Stage.TheVariants as stages
 use Rattle.trace.proofs.ReadLaws.{part_grows, stops_prefix}
 

@@ -9,3 +9,4 @@ mod Rows
 mod SeenLaws
 mod TellLaws
 mod TextLaws
+mod Prelude

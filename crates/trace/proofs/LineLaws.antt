@@ -1,13 +1,5 @@
 -- A reader of a line that stopped among bytes.
-use Rattle.std.proofs.Common.{◌≡◌, ℕ, ◌+◌, ◌≤◌, List, ◌++◌, length, map, sym, ap, ◌∙◌, append_assoc, arith, length-append, subst}
-use Rattle.std.proofs.lemmas.List.{length-map, map-append}
-use Rattle.uip_edge.specs.Coming.{Consumes}
-use Rattle.uip_edge.proofs.Told.{Consumes-then}
-use Rattle.uip_edge.specs.Views.{IsCalm, LineView}
-use Rattle.uip_edge.specs.declared.item.Item.{Item}
-use Rattle.uip_edge.specs.declared.item.Item.TheVariants.{Byte}
-use Rattle.trace.specs.LineReading.{StopsAmong, StopsRead}
-use Rattle.trace.specs.declared.line_reader.LineReader.{Ghosts}
+use Rattle.trace.proofs.Prelude.{◌≡◌, ℕ, ◌+◌, ◌≤◌, List, ◌++◌, length, map, sym, ap, ◌∙◌, append_assoc, arith, length-append, subst, length-map, map-append, Consumes, Consumes-then, IsCalm, LineView, Item, Byte, StopsAmong, StopsRead, Ghosts}
 
 pub stops_read : {R S : Type 0} (g : Ghosts R S) (k : g.Config) (n : ℕ) (taken : List Item) (bytes : List ℕ) (old mid new : LineView) (reader : R) (stop : S)
     → Consumes old.link.coming mid.link.coming taken → Consumes mid.link.coming new.link.coming (map Byte bytes)

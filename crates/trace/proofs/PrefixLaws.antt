@@ -1,22 +1,6 @@
 -- The frames of bytes that a decoder consumed, and what is written of them.
-use Rattle.std.proofs.Common.{◌≡◌, ℕ, ◌+◌, List, [], ◌∷◌, ◌++◌, Option, Result, Ok, Err, IfErr, length, map, take, drop, refl, sym, ap, ◌∙◌, append-nil, arith, length-append, subst}
-use Rattle.std.proofs.lemmas.List.{length-map, map-append, take-append-drop}
-use Rattle.std.specs.Io.KnownBytes.{Appends}
-use Rattle.uip_edge.specs.Causes.{Rose}
-use Rattle.uip_edge.specs.Views.{SinkView}
-use Rattle.uip_edge.specs.Writing.{BreaksOff}
-use Rattle.uip_edge.proofs.Breaking.{breaks_by, breaks_then, breaks_whole}
-use Rattle.uip_edge.proofs.Told.{Appends-none, Appends-then, appends_by, bytes_among-append, bytes_among-map}
-use Rattle.uip_edge.specs.declared.item.Item.{Item}
-use Rattle.uip_edge.specs.declared.item.Item.TheVariants.{Byte, Quiet}
-use Rattle.uip_slip.specs.Decoding.{State, WasFed}
-use Rattle.uip_slip.specs.Frames.{Frame, frames}
-use Rattle.trace.specs.Seen.{seen_at, seen_after, seen_on, silences_of}
-use Rattle.trace.specs.Watching.{BrokeWatch, HasSeen, IsWatched, Saw, text_after, texts_from}
-use Rattle.trace.specs.declared.form.Form.{Form}
-use Rattle.trace.specs.declared.watch.Watch.{Watch}
+use Rattle.trace.proofs.Prelude.{◌≡◌, ℕ, ◌+◌, List, [], ◌∷◌, ◌++◌, Option, Result, Ok, Err, IfErr, length, map, take, drop, refl, sym, ap, ◌∙◌, append-nil, arith, length-append, subst, length-map, map-append, take-append-drop, Appends, Rose, SinkView, BreaksOff, breaks_by, breaks_then, breaks_whole, Appends-none, Appends-then, appends_by, bytes_among-append, bytes_among-map, Item, Byte, Quiet, State, WasFed, Frame, frames, seen_at, seen_after, seen_on, silences_of, BrokeWatch, HasSeen, IsWatched, Saw, text_after, texts_from, Form, Watch, bytes_among}
 use Rattle.trace.proofs.SeenLaws.{seen-told, seen_on-append, silences-append, silences-bytes, text-then}
-use Rattle.uip_edge.specs.Coming.{bytes_among}
 
 -- what holds of a failure, whichever it is
 pub if_err : {T E P : Type 0} (r : Result T E) → P → IfErr r (λ e. P)

@@ -1,19 +1,6 @@
 -- What the reader of a capture file knows, one step after another.
-use Rattle.std.proofs.Common.{◌≡◌, ℕ, ◌+◌, ◌-◌, ◌<◌, ◌≤◌, List, [], ◌∷◌, ◌++◌, Option, Some, None, length, take, drop, refl, sym, ap, ◌∙◌, append-nil, append_assoc, arith, length-append, length-drop, subst}
-use Rattle.std.proofs.lemmas.List.{length-take-le, take-append-drop, take_rest}
-use Rattle.std.proofs.lemmas.List.Concat.{flat_map-append}
-use Rattle.std.specs.Io.KnownBytes.{Appends}
-use Rattle.uip_edge.proofs.Told.{Appends-then, appends_by, prefix_by, prefix_more, prefix_then}
-use Rattle.uip_edge.specs.Writing.{AppendsPrefix}
-use Rattle.uip_slip.specs.Text.{slip_text}
-use Rattle.uip_wire.specs.declared.sizes.TheConstants.{LARGEST_DATAGRAM}
-use Rattle.trace.specs.CaptureReading.{BeginsWith, Captured, IsCaptured, captured_in, length_in, line_text, lines_of, order_of}
-use Rattle.trace.specs.CaptureReading.Reading.{BadHeader, BadLength}
-use Rattle.trace.specs.Gathering.{BrokeOff, IsReadTo, IsAtFault, StopsAt}
-use Rattle.trace.specs.declared.byte_order.ByteOrder.{ByteOrder}
-use Rattle.trace.specs.declared.reader.Stop.{Stop}
+use Rattle.trace.proofs.Prelude.{◌≡◌, ℕ, ◌+◌, ◌-◌, ◌<◌, ◌≤◌, List, [], ◌∷◌, ◌++◌, Option, Some, None, length, take, drop, refl, sym, ap, ◌∙◌, append-nil, append_assoc, arith, length-append, length-drop, subst, length-take-le, take-append-drop, take_rest, flat_map-append, Appends, Appends-then, appends_by, prefix_by, prefix_more, prefix_then, AppendsPrefix, slip_text, LARGEST_DATAGRAM, BeginsWith, Captured, IsCaptured, captured_in, length_in, line_text, lines_of, order_of, BadHeader, BadLength, BrokeOff, IsReadTo, IsAtFault, StopsAt, ByteOrder, Stop, Stage}
 use Rattle.trace.specs.declared.slip_end.CaptureWhy.TheVariants as whys
-use Rattle.trace.specs.declared.stage.Stage.{Stage}
 use Rattle.trace.specs.declared.stage.Stage.TheVariants as stages
 use Rattle.trace.proofs.CaptureLaws.{captured_line, prefix_of, length_in-append, lines-more, more_rest, one_more, reads_on}
 

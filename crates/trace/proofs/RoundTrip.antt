@@ -1,34 +1,11 @@
 -- A capture file that was written of a line is read as the line's datagrams.
-use Rattle.std.proofs.Common.{◌≡◌, ℕ, Bool, true, false, leb, if◌then◌else◌, ◌+◌, ◌*◌, ◌/◌, ◌%◌, ◌<◌, ◌≤◌, List, [], ◌∷◌, ◌++◌, Option, Some, None, length, map, refl, sym, ap, ◌∙◌, append-nil, arith, length-append, subst}
-use Rattle.std.specs.Io.KnownBytes.{Appends}
-use Rattle.std.specs.List.{AllByRecursion, flat_map}
-use Rattle.std.proofs.lemmas.Bool.{leb-true}
-use Rattle.std.proofs.lemmas.List.{length-map, map-append, take-append-le}
-use Rattle.std.proofs.Math.Nat.{div-add-mod}
-use Rattle.std.proofs.lemmas.List.Concat.{flat_map-append}
-use Rattle.uip_edge.specs.Coming.{Consumes, bytes_among, TookAll}
-use Rattle.uip_edge.specs.declared.item.Item.{Item}
-use Rattle.uip_edge.specs.declared.item.Item.TheVariants.{Byte}
-use Rattle.uip_slip.specs.Frames.{Frame, Datagram, Overlong, all_but_last, frame_of, frames, parts, unescaped}
-use Rattle.uip_slip.specs.Text.{slip_text}
-use Rattle.uip_wire.specs.Fields.{long_bytes}
-use Rattle.uip_wire.specs.declared.sizes.TheConstants.{LARGEST_DATAGRAM}
-use Rattle.uip_edge.proofs.Told.{appends_by, bytes_among-append, bytes_among-map, taken_within}
-use Rattle.trace.specs.CaptureReading.{Captured, HoldsJust, IsCaptured, IsReadAs, Reading, cut_in, captured_in, captured_bytes, fault_in, lines_of, order_of}
-use Rattle.trace.specs.CaptureReading.Reading.{BadHeader, BadLength, InRecord, InHeader, Whole}
-use Rattle.trace.specs.CaptureText.{capture_header, capture_file, datagrams_in, datagrams_on, frame_record}
-use Rattle.trace.specs.Converting.{Converts, IsSurely, SlipEndsBy, end_by_cut}
-use Rattle.trace.specs.Seen.{Seen, seen_on}
+use Rattle.trace.proofs.Prelude.{◌≡◌, ℕ, Bool, true, false, leb, if◌then◌else◌, ◌+◌, ◌*◌, ◌/◌, ◌%◌, ◌<◌, ◌≤◌, List, [], ◌∷◌, ◌++◌, Option, Some, None, length, map, refl, sym, ap, ◌∙◌, append-nil, arith, length-append, subst, Appends, AllByRecursion, flat_map, leb-true, length-map, map-append, take-append-le, div-add-mod, flat_map-append, Consumes, bytes_among, TookAll, Item, Byte, Frame, Datagram, Overlong, all_but_last, frame_of, frames, parts, unescaped, slip_text, long_bytes, LARGEST_DATAGRAM, appends_by, bytes_among-append, bytes_among-map, taken_within, Captured, HoldsJust, IsCaptured, IsReadAs, Reading, cut_in, captured_in, captured_bytes, fault_in, lines_of, order_of, BadHeader, BadLength, InRecord, InHeader, Whole, capture_header, capture_file, datagrams_in, datagrams_on, frame_record, Converts, IsSurely, SlipEndsBy, end_by_cut, Seen, seen_on, Big, CaptureWhy, SlipEnd, LineView, LineUnfailed}
 use Rattle.trace.proofs.CaptureLaws.{captured_line, length_in-append, more_rest}
 use Rattle.trace.proofs.OneReading.{one_reading}
 use Rattle.trace.proofs.ReadLaws.{line_some}
 use Rattle.trace.proofs.TextLaws.{seen_record}
 use Rattle.trace.proofs.SeenLaws.{frame_in, frames_seen}
-use Rattle.trace.specs.declared.byte_order.ByteOrder.TheVariants.{Big}
-use Rattle.trace.specs.declared.slip_end.CaptureWhy.{CaptureWhy}
 use Rattle.trace.specs.declared.slip_end.CaptureWhy.TheVariants as whys
-use Rattle.trace.specs.declared.slip_end.SlipEnd.{SlipEnd}
-use Rattle.uip_edge.specs.Views.{LineView, LineUnfailed}
 use Rattle.trace.specs.declared.slip_end.SlipEnd.TheVariants as ends
 
 none_is_not : {fault : ℕ × CaptureWhy} (o : Option (ℕ × CaptureWhy)) → o ≡ None → o ≡ Some fault → ⊥

@@ -1,17 +1,5 @@
 -- Worked rows, computed from the definitions.
-use Rattle.std.proofs.Common.{◌≡◌, ℕ, List, [], ◌∷◌, ◌++◌, length, map, refl, arith, None}
-use Rattle.std.specs.Fmt.{digits}
-use Rattle.std.specs.Prelude.{codes}
-use Rattle.uip_edge.specs.declared.item.Item.{Item}
-use Rattle.uip_edge.specs.declared.item.Item.TheVariants.{Byte, Quiet}
-use Rattle.uip_ipv4.specs.Head.{head_or_fate}
-use Rattle.tcp_segment.specs.Received.{segment_in}
-use Rattle.uip_slip.specs.Text.{slip_text}
-use Rattle.uip_wire.specs.Checksum.{folded}
-use Rattle.trace.specs.CaptureReading.{HoldsJust, order_of}
-use Rattle.trace.specs.CaptureText.{capture_file, capture_header}
-use Rattle.trace.specs.DumpText.{dump_text}
-use Rattle.trace.specs.declared.byte_order.ByteOrder.TheVariants.{Little}
+use Rattle.trace.proofs.Prelude.{◌≡◌, ℕ, List, [], ◌∷◌, ◌++◌, length, map, refl, arith, None, digits, codes, Item, Byte, Quiet, head_or_fate, segment_in, slip_text, folded, HoldsJust, order_of, capture_file, capture_header, dump_text, Little}
 
 -- an echo request of 10.0.0.2, its reply, and a SYN to a port where nobody listens
 request : List ℕ

@@ -1,17 +1,5 @@
 -- The frames that items complete after others, and what is written of them.
-use Rattle.std.proofs.Common.{◌≡◌, ℕ, ◌+◌, List, [], ◌∷◌, ◌++◌, length, map, refl, sym, ap, ◌∙◌, append-nil, append_assoc, arith, length-append}
-use Rattle.std.specs.List.{enumerate_from, flat_map}
-use Rattle.std.proofs.lemmas.List.{map-append}
-use Rattle.std.proofs.lemmas.List.Concat.{flat_map-append}
-use Rattle.uip_edge.specs.declared.item.Item.{Item}
-use Rattle.uip_edge.specs.declared.item.Item.TheVariants.{Byte, Quiet}
-use Rattle.uip_slip.specs.Frames.{Frame, completed, frames}
-use Rattle.uip_slip.proofs.FrameLaws.{completed_by, completed_told, frames-then}
-use Rattle.trace.specs.Seen.{Seen, seen_at, seen_after, seen_on, silences_of}
-use Rattle.trace.specs.Watching.{frame_text, text_after, texts_from}
-use Rattle.trace.specs.declared.form.Form.{Form}
-use Rattle.uip_edge.specs.Coming.{bytes_among}
-use Rattle.uip_edge.proofs.Told.{bytes_among-append}
+use Rattle.trace.proofs.Prelude.{◌≡◌, ℕ, ◌+◌, List, [], ◌∷◌, ◌++◌, length, map, refl, sym, ap, ◌∙◌, append-nil, append_assoc, arith, length-append, enumerate_from, flat_map, map-append, flat_map-append, Item, Byte, Quiet, Frame, completed, frames, completed_by, completed_told, frames-then, Seen, seen_at, seen_after, seen_on, silences_of, frame_text, text_after, texts_from, Form, bytes_among, bytes_among-append}
 
 -- bytes bring the frames that they complete
 seen-bytes : (before : List ℕ) (silences : ℕ) (bytes : List ℕ) → seen_after before silences (map Byte bytes) ≡ map (seen_at silences) (completed_by before bytes)

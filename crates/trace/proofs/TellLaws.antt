@@ -1,14 +1,6 @@
 -- What was reported of a line, under another name and after a header.
-use Rattle.std.proofs.Common.{◌≡◌, ℕ, ◌<◌, List, [], ◌++◌, Option, length, length-append, append-nil, sym, ap, ◌∙◌, arith, subst}
-use Rattle.std.specs.Io.KnownBytes.{Appends}
-use Rattle.uip_edge.specs.Coming.{Consumes, TookAll}
-use Rattle.uip_edge.proofs.Told.{Appends-then, appends_by, prefix_by, prefix_then}
-use Rattle.uip_edge.specs.declared.item.Item.{Item}
-use Rattle.uip_edge.specs.declared.serve_end.ServeEnd.{ServeEnd}
+use Rattle.trace.proofs.Prelude.{◌≡◌, ℕ, ◌<◌, List, [], ◌++◌, Option, length, length-append, append-nil, sym, ap, ◌∙◌, arith, subst, Appends, Consumes, TookAll, Appends-then, appends_by, prefix_by, prefix_then, Item, ServeEnd, TellsLine, LineView, EndsBy, WrittenBy}
 use Rattle.uip_edge.specs.declared.serve_end.ServeEnd.TheVariants as ends
-use Rattle.trace.specs.Telling.{TellsLine}
-use Rattle.uip_edge.specs.Views.{LineView}
-use Rattle.uip_edge.specs.Ending.{EndsBy, WrittenBy}
 
 -- the text was written whole, whatever the end
 pub written_by : (a b : Option (List ℕ)) (text : List ℕ) (end : ServeEnd) → Appends a b text → WrittenBy end a b text

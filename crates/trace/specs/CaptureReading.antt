@@ -2,8 +2,8 @@
 use Rattle.std.specs.Prelude.{◌≡◌, ◌<◌, ◌≤◌, ◌+◌, ◌*◌, ◌&&◌, ℕ, Bool, List, [], ◌∷◌, ◌++◌, length, map, take, drop, slice_index, Option, Some, None, if◌then◌else◌}
 use Rattle.std.specs.List.{AllByRecursion, flat_map}
 use Rattle.std.specs.Str.{bytes_eq}
-use Rattle.uip_slip.specs.Text.{slip_text}
-use Rattle.uip_wire.specs.Fields.{long_at}
+use Rattle.uip_slip.specs.Prelude.{slip_text}
+use Rattle.uip_wire.specs.Prelude.{long_at}
 use Rattle.uip_wire.specs.declared.sizes.TheConstants.{LARGEST_DATAGRAM}
 use Rattle.trace.specs.CaptureText.{link_type, signature}
 use Rattle.trace.specs.declared.byte_order.ByteOrder.{ByteOrder}

@@ -2,12 +2,12 @@
 use Rattle.std.specs.Prelude.{ℕ, ◌*◌, ◌/◌, ◌%◌, List, [], ◌∷◌, ◌++◌, length}
 use Rattle.std.specs.List.{flat_map}
 use Rattle.uip_edge.specs.declared.item.Item.{Item}
-use Rattle.uip_slip.specs.Frames.{Frame, Datagram, Overlong, frames}
-use Rattle.uip_wire.specs.Fields.{long_bytes}
+use Rattle.uip_slip.specs.Prelude.{Frame, Datagram, Overlong, frames}
+use Rattle.uip_wire.specs.Prelude.{long_bytes}
 use Rattle.trace.specs.Seen.{seen_on}
 use Rattle.trace.specs.declared.byte_order.ByteOrder.{ByteOrder}
 use Rattle.trace.specs.declared.byte_order.ByteOrder.TheVariants.{Big, Little}
-use Rattle.uip_edge.specs.Coming.{bytes_among}
+use Rattle.uip_edge.specs.Prelude.{bytes_among}
 
 -- the magic number A1B2C3D4 of a file whose times are in microseconds, and the version 2.4
 abbrev pub signature : ByteOrder → List ℕ

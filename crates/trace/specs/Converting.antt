@@ -2,19 +2,16 @@
 use Rattle.std.specs.List.{flat_map}
 use Rattle.std.specs.Prelude.{◌≡◌, ◌<◌, ◌≤◌, ℕ, List, ◌++◌, map, Option, Some, None, length, ⊤}
 use Rattle.std.specs.Io.KnownBytes.{Appends}
-use Rattle.uip_edge.specs.Coming.{Consumes, bytes_among}
-use Rattle.uip_edge.specs.Ending.{EndsBy}
-use Rattle.uip_edge.specs.Writing.{AppendsPrefix}
+use Rattle.uip_edge.specs.Prelude.{Consumes, bytes_among, EndsBy, AppendsPrefix, IsCalm, LineUnfailed, LineView}
 use Rattle.uip_edge.specs.declared.item.Item.{Item}
 use Rattle.uip_edge.specs.declared.item.Item.TheVariants.{Byte}
 use Rattle.uip_edge.specs.declared.serve_end.ServeEnd.TheVariants as line
-use Rattle.uip_slip.specs.Text.{slip_text}
+use Rattle.uip_slip.specs.Prelude.{slip_text}
 use Rattle.trace.specs.CaptureText.{capture_file, datagrams_on}
 use Rattle.trace.specs.CaptureReading.{IsReadAs, Reading, cut_in, captured_in, fault_in, lines_of}
 use Rattle.trace.specs.declared.slip_end.CaptureWhy.{CaptureWhy}
 use Rattle.trace.specs.declared.slip_end.CaptureWhy.TheVariants as whys
 use Rattle.trace.specs.declared.slip_end.SlipEnd.{SlipEnd}
-use Rattle.uip_edge.specs.Views.{IsCalm, LineUnfailed, LineView}
 use Rattle.trace.specs.declared.slip_end.SlipEnd.TheVariants as ends
 
 -- The last read of the link brought the fault: what was consumed before it has none, and it has bytes alone, and no silence.

@@ -2,24 +2,23 @@
 -- [add: fate] The word of a fate.
 use Rattle.std.specs.Prelude.{ℕ, List, [], ◌∷◌, ◌++◌, length, slice_index, Option, Some, Result, Ok, Err, codes, decimal}
 use Rattle.std.specs.List.{enumerate_from, flat_map}
-use Rattle.uip_wire.specs.Addr.{address_at, quad_text}
-use Rattle.uip_ipv4.specs.Head.{head_or_fate, payload_of}
+use Rattle.uip_wire.specs.Prelude.{address_at, quad_text}
+use Rattle.uip_ipv4.specs.Prelude.{head_or_fate, payload_of}
 use Rattle.uip_ipv4.specs.declared.fate.IpFate.{IpFate}
 use Rattle.uip_ipv4.specs.declared.fate.IpFate.TheVariants as ip
 use Rattle.uip_ipv4.specs.declared.head.IpHead.{IpHead}
 use Rattle.uip_ipv4.specs.declared.proto.Proto.{Proto}
 use Rattle.uip_ipv4.specs.declared.proto.Proto.TheVariants.{Icmp, Tcp}
-use Rattle.icmp_echo.specs.Echo.{echo_fate}
+use Rattle.icmp_echo.specs.Prelude.{echo_fate}
 use Rattle.icmp_echo.specs.declared.fate.IcmpFate.{IcmpFate}
 use Rattle.icmp_echo.specs.declared.fate.IcmpFate.TheVariants as icmp
-use Rattle.tcp_segment.specs.Received.{segment_or_fate}
-use Rattle.tcp_segment.specs.Segments.{flag_letters}
+use Rattle.tcp_segment.specs.Prelude.{segment_or_fate, flag_letters}
 use Rattle.tcp_segment.specs.declared.fate.TcpFate.{TcpFate}
 use Rattle.tcp_segment.specs.declared.fate.TcpFate.TheVariants as tcp
 use Rattle.tcp_segment.specs.declared.segment.Segment.{Segment}
 use Rattle.uip_edge.specs.declared.item.Item.{Item}
-use Rattle.uip_slip.specs.Frames.{Frame, Datagram, Overlong, frames}
-use Rattle.uip_edge.specs.Coming.{bytes_among}
+use Rattle.uip_slip.specs.Prelude.{Frame, Datagram, Overlong, frames}
+use Rattle.uip_edge.specs.Prelude.{bytes_among}
 
 -- a dash, if there are none
 abbrev pub letters_or_dash : List ℕ → List ℕ

@@ -1,9 +1,7 @@
 -- What the reader of a capture file knows of the bytes that it consumed, and what stops it.
 use Rattle.std.specs.Prelude.{◌≡◌, ◌<◌, ◌≤◌, ◌+◌, ℕ, List, [], ◌∷◌, ◌++◌, Option, Some, None, length}
 use Rattle.std.specs.Io.KnownBytes.{Appends}
-use Rattle.uip_edge.specs.Causes.{Rose}
-use Rattle.uip_edge.specs.Coming.{bytes_among}
-use Rattle.uip_edge.specs.Writing.{BreaksOff}
+use Rattle.uip_edge.specs.Prelude.{Rose, bytes_among, BreaksOff, SinkView}
 use Rattle.uip_edge.specs.declared.item.Item.{Item}
 use Rattle.trace.specs.CaptureReading.{BeginsWith, Captured, IsReadAs, Reading, captured_in, fault_in, length_in, lines_of}
 use Rattle.trace.specs.declared.area.TheConstants.{LONGEST_RECORD}
@@ -15,7 +13,6 @@ use Rattle.trace.specs.declared.slip_end.CaptureWhy.TheVariants as whys
 use Rattle.trace.specs.declared.slip_end.SlipEnd.{SlipEnd}
 use Rattle.trace.specs.declared.slip_end.SlipEnd.TheVariants as ends
 use Rattle.trace.specs.declared.stage.Stage.{Stage}
-use Rattle.uip_edge.specs.Views.{SinkView}
 use Rattle.trace.specs.declared.stage.Stage.TheVariants as stages
 
 -- the length of a complete part

@@ -8,3 +8,4 @@ pub mod Seen
 pub mod Telling
 pub mod Watching
 pub mod ConstantValues
+pub mod Prelude

@@ -1,8 +1,6 @@
 -- What a reader of a line has consumed when its reading ends.
 use Rattle.std.specs.Prelude.{◌≡◌, ◌≤◌, ℕ, List, ◌++◌, map, length, Result, Ok, Err}
-use Rattle.uip_edge.specs.Coming.{Consumes}
-use Rattle.uip_edge.specs.Ending.{EndsBy}
-use Rattle.uip_edge.specs.Views.{LineView, SinkView}
+use Rattle.uip_edge.specs.Prelude.{Consumes, EndsBy, LineView, SinkView}
 use Rattle.uip_edge.specs.declared.item.Item.{Item}
 use Rattle.uip_edge.specs.declared.item.Item.TheVariants.{Byte}
 use Rattle.uip_edge.specs.declared.serve_end.ServeEnd.{ServeEnd}

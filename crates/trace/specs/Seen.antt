@@ -2,7 +2,7 @@
 use Rattle.std.specs.Prelude.{ℕ, ◌+◌, List, [], ◌∷◌, ◌++◌, map}
 use Rattle.uip_edge.specs.declared.item.Item.{Item}
 use Rattle.uip_edge.specs.declared.item.Item.TheVariants.{Byte, Quiet}
-use Rattle.uip_slip.specs.Frames.{Frame, completed}
+use Rattle.uip_slip.specs.Prelude.{Frame, completed}
 
 -- a frame, and the number of silences on the line before the END that closes it
 pub record Seen : Type 0 where

@@ -1,11 +1,9 @@
 -- What a call that reports a serial line has consumed and written, and how it ends.
 use Rattle.std.specs.Prelude.{◌≡◌, ◌<◌, ℕ, List, length}
-use Rattle.uip_edge.specs.Coming.{Consumes}
+use Rattle.uip_edge.specs.Prelude.{Consumes, LineView, EndsBy, WrittenBy}
 use Rattle.uip_edge.specs.declared.item.Item.{Item}
 use Rattle.uip_edge.specs.declared.serve_end.ServeEnd.{ServeEnd}
 use Rattle.uip_edge.specs.declared.serve_end.ServeEnd.TheVariants.{WriteFault}
-use Rattle.uip_edge.specs.Views.{LineView}
-use Rattle.uip_edge.specs.Ending.{EndsBy, WrittenBy}
 
 -- A line was reported, up to n items. There are items that the link lost, if they are known; the end has its cause, and the
 -- text of these items was written. A write fails only if there is something to write.

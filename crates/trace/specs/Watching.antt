@@ -2,19 +2,16 @@
 use Rattle.std.specs.Prelude.{◌≡◌, ◌+◌, ℕ, List, [], Option, length, map}
 use Rattle.std.specs.List.{enumerate_from, flat_map}
 use Rattle.std.specs.Io.KnownBytes.{Appends}
-use Rattle.uip_edge.specs.Causes.{Rose}
-use Rattle.uip_edge.specs.Coming.{bytes_among}
-use Rattle.uip_edge.specs.Writing.{BreaksOff}
+use Rattle.uip_edge.specs.Prelude.{Rose, bytes_among, BreaksOff, SinkView}
 use Rattle.uip_edge.specs.declared.item.Item.{Item}
 use Rattle.uip_edge.specs.declared.item.Item.TheVariants.{Byte}
-use Rattle.uip_slip.specs.Decoding.{State, WasFed}
+use Rattle.uip_slip.specs.Prelude.{State, WasFed}
 use Rattle.trace.specs.CaptureText.{frame_record}
 use Rattle.trace.specs.DumpText.{dump_line}
 use Rattle.trace.specs.Seen.{Seen, seen_after, seen_on, silences_of}
 use Rattle.trace.specs.declared.form.Form.{Form}
 use Rattle.trace.specs.declared.form.Form.TheVariants.{Capture, Dump}
 use Rattle.trace.specs.declared.watch.Watch.{Watch}
-use Rattle.uip_edge.specs.Views.{SinkView}
 
 -- what is written of a frame with its number
 abbrev pub frame_text : Form → ℕ × Seen → List ℕ

@@ -1,7 +1,7 @@
 //! `slip`: a capture file to a serial line.
 
-ghost use Rattle.trace.specs.Converting.{Converts, IsFoundSoon};
-ghost use Rattle.uip_edge.specs.ViewsOf.{line_view};
+ghost use Rattle.trace.specs.Prelude.{Converts, IsFoundSoon};
+ghost use Rattle.uip_edge.specs.Prelude.{line_view};
 
 use crate::line_reading::read_line;
 use crate::reader::{Reader, Stop};

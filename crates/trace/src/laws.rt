@@ -2,12 +2,9 @@
 
 ghost use Rattle.std.specs.Prelude.{◌≡◌, List, ℕ};
 ghost use Rattle.uip_edge.specs.declared.item.Item.{Item};
-ghost use Rattle.trace.specs.CaptureReading.{HoldsJust, IsReadAs, Reading};
-ghost use Rattle.trace.specs.CaptureText.{capture_file, datagrams_on};
-ghost use Rattle.trace.specs.Converting.{IsSurely, LinesComeBack, SlipEndsBy};
+ghost use Rattle.trace.specs.Prelude.{HoldsJust, IsReadAs, Reading, capture_file, datagrams_on, IsSurely, LinesComeBack, SlipEndsBy, ConstantValues};
 ghost use Rattle.trace.specs.declared.slip_end.SlipEnd.{SlipEnd as AnyEnd};
-ghost use Rattle.uip_edge.specs.Views.{LineView, LineUnfailed};
-ghost use Rattle.trace.specs.ConstantValues.{ConstantValues};
+ghost use Rattle.uip_edge.specs.Prelude.{LineView, LineUnfailed};
 
 /// The bytes of a capture file have one reading.
 pub fn read_in_one_way()

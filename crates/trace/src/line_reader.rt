@@ -1,6 +1,5 @@
 ghost use Rattle.std.specs.Prelude.{◌≡◌, ◌<◌, ◌≤◌, ◌+◌, ◌^◌, ◌++◌, [], ◌∷◌, List, ℕ, Option, length, map, take, IfErr, IfOk, OnOk};
-ghost use Rattle.uip_edge.specs.ViewsOf.{sink_view};
-ghost use Rattle.uip_edge.specs.Views.{SinkView};
+ghost use Rattle.uip_edge.specs.Prelude.{sink_view, SinkView};
 ghost use Rattle.uip_edge.specs.declared.item.Item.{Item};
 ghost use Rattle.uip_edge.specs.declared.item.Item.TheVariants.{Byte, Quiet as QuietItem};
 

@@ -1,7 +1,7 @@
 //! The loop over a line, for any reader of its items.
 
 ghost use Rattle.std.specs.Prelude.{◌≡◌, ◌<◌, ◌≤◌, ◌+◌, ◌^◌, ◌++◌, [], List, length, map, IfErr, OnOk};
-ghost use Rattle.uip_edge.specs.ViewsOf.{line_view, sink_view};
+ghost use Rattle.uip_edge.specs.Prelude.{line_view, sink_view};
 ghost use Rattle.uip_edge.specs.declared.item.Item.{Item};
 ghost use Rattle.uip_edge.specs.declared.item.Item.TheVariants.{Byte};
 ghost use Rattle.trace.specs.LineReading.{ReadsLine, StopsAmong};

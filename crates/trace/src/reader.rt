@@ -1,7 +1,7 @@
 //! Reads a capture file, part by part.
 
 ghost use Rattle.std.specs.Prelude.{◌≡◌, ◌<◌, ◌≤◌, ◌+◌, ◌^◌, ◌++◌, [], List, ℕ, Option, IfErr, OnErr, OnOk};
-ghost use Rattle.uip_edge.specs.Causes.{HasCause};
+ghost use Rattle.uip_edge.specs.Prelude.{HasCause};
 ghost use Rattle.trace.specs.Gathering.{BrokeOff, HasFault, HasReadTo, IsFullIn, IsOpenIn, KeepsRead, StopBy, StopsAt, end_at};
 ghost use Rattle.trace.specs.declared.reader.Stop.TheVariants.{Bad as BadStop, WriteFault};
 ghost use Rattle.trace.specs.declared.slip_end.SlipEnd.TheVariants.{Bad as BadEnd};

@@ -1,7 +1,7 @@
 //! The header and the records of a capture file.
 
 ghost use Rattle.std.specs.Prelude.{◌≡◌, ◌≤◌, ◌+◌, ◌++◌, [], length};
-ghost use Rattle.uip_wire.specs.Fields.{long_bytes};
+ghost use Rattle.uip_wire.specs.Prelude.{long_bytes};
 ghost use Rattle.uip_wire.specs.declared.sizes.TheConstants.{LARGEST_DATAGRAM};
 ghost use Rattle.trace.specs.CaptureText.{record_bytes};
 

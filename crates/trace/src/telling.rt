@@ -1,11 +1,8 @@
 //! `dump` and `pcap`: what is written of a serial line.
 
 ghost use Rattle.std.specs.Prelude.{◌<◌, []};
-ghost use Rattle.trace.specs.CaptureText.{capture_file};
-ghost use Rattle.trace.specs.DumpText.{dump_text};
-ghost use Rattle.trace.specs.Telling.{TellsLine};
-ghost use Rattle.trace.specs.Watching.{text_after};
-ghost use Rattle.uip_edge.specs.ViewsOf.{line_view};
+ghost use Rattle.trace.specs.Prelude.{capture_file, dump_text, TellsLine, text_after};
+ghost use Rattle.uip_edge.specs.Prelude.{line_view};
 
 use crate::form::Form;
 use crate::line_reading::read_line;

@@ -2,10 +2,8 @@
 
 ghost use Rattle.std.specs.Prelude.{◌≡◌, ◌<◌, ◌≤◌, ◌+◌, ◌^◌, [], List, ℕ, Option, length, map, true, OnOk, OnErr};
 ghost use Rattle.std.specs.Io.KnownBytes.{Appends};
-ghost use Rattle.uip_edge.specs.Causes.{HasCause};
-ghost use Rattle.uip_edge.specs.Writing.{BreaksOff};
-ghost use Rattle.uip_slip.specs.Decoding.{Leaves, reported_by};
-ghost use Rattle.uip_slip.specs.Frames.{Datagram, Overlong};
+ghost use Rattle.uip_edge.specs.Prelude.{HasCause, BreaksOff};
+ghost use Rattle.uip_slip.specs.Prelude.{Leaves, reported_by, Datagram, Overlong};
 ghost use Rattle.trace.specs.Seen.{seen_at};
 ghost use Rattle.trace.specs.Watching.{IsWatched, frame_text, texts_from};
 

@@ -5,12 +5,10 @@ use Rattle.std.proofs.lemmas.List.{take_all}
 use Rattle.std.specs.Str.{bytes_eq}
 use Rattle.uip_wire.proofs.Folding.{folded_cases, folded_closes, folded_most, same_folded}
 use Rattle.uip_wire.proofs.Words.{same_word}
-use Rattle.uip_wire.specs.Addr.{address_at}
-use Rattle.uip_wire.specs.Checksum.{checksum_of, folded, word_sum}
-use Rattle.uip_wire.specs.Fields.{word_at}
+use Rattle.uip_wire.specs.Prelude.{address_at, checksum_of, folded, word_sum, word_at}
 use Rattle.uip_ipv4.proofs.Back.{equal, four, neither, not_less, numbered_passes, passes}
-use Rattle.uip_ipv4.specs.Head.{numbered_head}
-use Rattle.udp_datagram.specs.Udp.{ReadsBack, after_header, carries_udp, is_of_other_protocol, sent_sum, udp_data, udp_datagram, udp_in, udp_pseudo_header, udp_sum, udp_with}
+use Rattle.uip_ipv4.specs.Prelude.{numbered_head}
+use Rattle.udp_datagram.specs.Prelude.{ReadsBack, after_header, carries_udp, is_of_other_protocol, sent_sum, udp_data, udp_datagram, udp_in, udp_pseudo_header, udp_sum, udp_with}
 use Rattle.udp_datagram.specs.declared.way.UdpFlow.{UdpFlow}
 
 same : (n : ℕ) → eqb n n ≡ true

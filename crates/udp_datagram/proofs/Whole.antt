@@ -3,14 +3,12 @@
 use Rattle.std.proofs.Common.{◌≡◌, ℕ, ◌%◌, ◌≤◌, Bool, true, false, not, ◌||◌, List, length, take, slice_index, refl, arith, ltb, eqb, if◌then◌else◌, Err, Result}
 use Rattle.std.proofs.lemmas.Grind.{common_steps}
 use Rattle.std.specs.Str.{bytes_eq}
-use Rattle.uip_wire.specs.Addr.{address_at}
-use Rattle.uip_wire.specs.Checksum.{checksum_of}
-use Rattle.uip_wire.specs.Fields.{word_at}
+use Rattle.uip_wire.specs.Prelude.{address_at, checksum_of, word_at}
 use Rattle.uip_ipv4.specs.declared.head.IpHead.{IpHead}
 use Rattle.uip_ipv4.specs.declared.fate.IpFate.{IpFate}
 use Rattle.uip_ipv4.specs.declared.fate.IpFate.TheVariants.{Short, Version, Length, Fragment, Checksum, NotOurs}
-use Rattle.uip_ipv4.specs.Head.{head_or_fate, head_by, proto_of}
-use Rattle.udp_datagram.specs.Udp.{IsWholeUdp, is_of_other_protocol}
+use Rattle.uip_ipv4.specs.Prelude.{head_or_fate, head_by, proto_of}
+use Rattle.udp_datagram.specs.Prelude.{IsWholeUdp, is_of_other_protocol}
 
 lengths_passed : (short version length fragment sum other : Bool) (rest : Result IpHead IpFate)
     → is_of_other_protocol (if short then Err Short else if version then Err Version else if length then Err Length else if fragment then Err Fragment else if sum then Err Checksum else if other then Err NotOurs else rest) ≡ true

@@ -1,9 +1,8 @@
 //! The payload of a received datagram (RFC 768).
 
 ghost use Rattle.std.specs.Prelude.{◌≡◌, ◌<◌, ◌++◌, length, option_map, true};
-ghost use Rattle.udp_datagram.specs.Udp.{IsWholeUdp, after_header, carries_udp, udp_data, udp_in, udp_pseudo_header};
-ghost use Rattle.uip_wire.specs.Addr.{address_at};
-ghost use Rattle.uip_wire.specs.Checksum.{checksum_of};
+ghost use Rattle.udp_datagram.specs.Prelude.{IsWholeUdp, after_header, carries_udp, udp_data, udp_in, udp_pseudo_header};
+ghost use Rattle.uip_wire.specs.Prelude.{address_at, checksum_of};
 
 use crate::sums::{UDP, pseudo_sum};
 use crate::way::UdpFlow;

@@ -2,7 +2,7 @@
 
 ghost use Rattle.std.specs.Prelude.{◌≡◌, ◌+◌, ◌≤◌, ◌∷◌, ◌++◌, [], length};
 ghost use Rattle.udp_datagram.specs.Udp.{ReadsBack, sent_sum, udp_datagram, udp_sum, udp_with};
-ghost use Rattle.uip_wire.specs.Fields.{bytes_of};
+ghost use Rattle.uip_wire.specs.Prelude.{bytes_of};
 
 use crate::sums::{UDP, pseudo_sum};
 use crate::way::UdpFlow;

@@ -1,6 +1,6 @@
 ghost use Rattle.std.specs.Prelude.{◌≡◌};
 ghost use Rattle.udp_datagram.specs.Udp.{udp_pseudo_header};
-ghost use Rattle.uip_wire.specs.Sums.{sum_of};
+ghost use Rattle.uip_wire.specs.Prelude.{sum_of};
 
 use crate::way::UdpFlow;
 use uip_wire::{Summer, put16};

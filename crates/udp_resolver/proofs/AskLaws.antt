@@ -1,22 +1,6 @@
 -- The turns of a run, put together.
-use Rattle.std.proofs.Common.{◌≡◌, ℕ, ◌+◌, ◌<◌, ◌≤◌, ◌⊎◌, inr, Bool, true, false, not, List, [], ◌++◌, Option, length, refl, sym, ap, ◌∙◌, arith, length-append, subst}
-use Rattle.std.specs.Io.KnownBytes.{Appends}
-use Rattle.uip_edge.specs.declared.item.Item.{Item}
-use Rattle.uip_edge.specs.declared.serve_end.ServeEnd.{ServeEnd}
+use Rattle.udp_resolver.proofs.Prelude.{◌≡◌, ℕ, ◌+◌, ◌<◌, ◌≤◌, ◌⊎◌, inr, Bool, true, false, not, List, [], ◌++◌, Option, length, refl, sym, ap, ◌∙◌, arith, length-append, subst, Appends, Item, ServeEnd, Consumes, Appends-then, Consumes-then, appends_by, prefix_by, prefix_then, took_all, none_more, line_text, Question, events, IsOpen, LastAsked, Asks, Adds, AsksOn, Run, Ended, TurnsBy, breaks_prefix, calm_then, IsCalm, LineView}
 use Rattle.uip_edge.specs.declared.serve_end.ServeEnd.TheVariants as ends
-use Rattle.uip_edge.specs.Coming.{Consumes}
-use Rattle.uip_edge.proofs.Told.{Appends-then, Consumes-then, appends_by, prefix_by, prefix_then, took_all, none_more}
-use Rattle.udp_resolver.specs.Asked.{line_text}
-use Rattle.udp_resolver.specs.Fates.{Question}
-use Rattle.udp_resolver.specs.LineEvents.{events}
-use Rattle.udp_resolver.specs.Resolving.{IsOpen, LastAsked}
-use Rattle.udp_resolver.specs.Standing.{Asks, Adds, AsksOn}
-use Rattle.udp_resolver.specs.declared.run.Run.{Run}
-use Rattle.uip_edge.specs.declared.turn.Turn.TheVariants.{Ended}
-use Rattle.uip_edge.specs.Turns.{TurnsBy}
-use Rattle.uip_edge.proofs.Breaking.{breaks_prefix}
-use Rattle.uip_edge.proofs.Turns.{calm_then}
-use Rattle.uip_edge.specs.Views.{IsCalm, LineView}
 
 pub open_by_test : (b t : Bool) → t ≡ not b → t ≡ true → b ≡ false
 open_by_test true t e h = absurd (cc (e, h))

@@ -1,13 +1,6 @@
 -- Each end is reported if its cause holds and nothing failed.
-use Rattle.std.proofs.Common.{◌≡◌, ℕ, ◌<◌, ◌⊎◌, inl, inr, true, false, List, Option, Some, length, refl, sym, ◌∙◌, arith}
-use Rattle.uip_edge.specs.Coming.{Consumes}
-use Rattle.uip_edge.specs.declared.item.Item.{Item}
-use Rattle.uip_edge.specs.declared.serve_end.ServeEnd.{ServeEnd}
+use Rattle.udp_resolver.proofs.Prelude.{◌≡◌, ℕ, ◌<◌, ◌⊎◌, inl, inr, true, false, List, Option, Some, length, refl, sym, ◌∙◌, arith, Consumes, Item, ServeEnd, Question, ResolvesBy, IsDone, IsOpen, IsSettled, LinkFailed, OutFailed, TellFailed, Streams, StreamsUnfailed, taken_within}
 use Rattle.uip_edge.specs.declared.serve_end.ServeEnd.TheVariants as ends
-use Rattle.udp_resolver.specs.Fates.{Question}
-use Rattle.udp_resolver.specs.Resolving.{ResolvesBy, IsDone, IsOpen, IsSettled, LinkFailed, OutFailed, TellFailed}
-use Rattle.udp_resolver.specs.Streams.{Streams, StreamsUnfailed}
-use Rattle.uip_edge.proofs.Told.{taken_within}
 
 clash : true ≡ false → ⊥
 clash e = cc e

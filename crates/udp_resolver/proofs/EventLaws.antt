@@ -1,13 +1,5 @@
 -- Events followed by further events.
-use Rattle.std.proofs.Common.{◌≡◌, ℕ, ◌+◌, ◌<◌, Bool, true, false, eqb, leb, if◌then◌else◌, List, [], ◌∷◌, ◌++◌, refl, sym, ap, ◌∙◌, arith, subst}
-use Rattle.rexmit_timer.specs.Ages.{IsAtAge, IsBeatOfAge}
-use Rattle.rexmit_timer.specs.declared.timer.Beat.{Beat}
-use Rattle.rexmit_timer.specs.declared.timer.Beat.TheVariants.{Again, GiveUp, Wait}
-use Rattle.rexmit_timer.specs.declared.timer.Timer.{Timer}
-use Rattle.udp_resolver.specs.Fates.{is_given_up, silences}
-use Rattle.udp_resolver.specs.LineEvents.{LineEvent, MediumInput, Silence}
-use Rattle.udp_resolver.specs.Steps.{IsClockAt}
-use Rattle.udp_resolver.specs.declared.clock.Clock.{Clock}
+use Rattle.udp_resolver.proofs.Prelude.{◌≡◌, ℕ, ◌+◌, ◌<◌, Bool, true, false, eqb, leb, if◌then◌else◌, List, [], ◌∷◌, ◌++◌, refl, sym, ap, ◌∙◌, arith, subst, IsAtAge, IsBeatOfAge, Beat, Again, GiveUp, Wait, Timer, is_given_up, silences, LineEvent, MediumInput, Silence, IsClockAt, Clock}
 
 pub silences-append : (xs ys : List LineEvent) → silences (xs ++ ys) ≡ silences xs + silences ys
 silences-append [] ys = omega arith

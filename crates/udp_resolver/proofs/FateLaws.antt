@@ -1,14 +1,5 @@
 -- How the answers to questions grow with events.
-use Rattle.std.proofs.Common.{◌≡◌, ℕ, zero, suc, ◌+◌, ◌<◌, ◌≤◌, Bool, true, false, not, ◌&&◌, ◌||◌, cond, eqb, if◌then◌else◌, List, [], ◌∷◌, ◌++◌, map, refl, sym, ap, ◌∙◌, arith, Option, None, Some}
-use Rattle.std.specs.List.{list_all, list_any}
-use Rattle.std.specs.Option.{is_none, option_or}
-use Rattle.dns_message.specs.Replies.{answer_to}
-use Rattle.dns_message.specs.declared.answer.Answer.{Answer}
-use Rattle.udp_resolver.specs.Asked.{open_ones}
-use Rattle.udp_resolver.specs.Fates.{Question, all_settled, answer_among, fate_by, first_answer, before_silence, is_given_up, is_settled, silences}
-use Rattle.udp_resolver.specs.LineEvents.{LineEvent, MediumInput, Silence}
-use Rattle.udp_resolver.specs.Steps.{heard_now, unanswered, unless_answered}
-use Rattle.udp_resolver.specs.declared.fate.Fate.TheVariants.{Open, Timeout}
+use Rattle.udp_resolver.proofs.Prelude.{◌≡◌, ℕ, zero, suc, ◌+◌, ◌<◌, ◌≤◌, Bool, true, false, not, ◌&&◌, ◌||◌, cond, eqb, if◌then◌else◌, List, [], ◌∷◌, ◌++◌, map, refl, sym, ap, ◌∙◌, arith, Option, None, Some, list_all, list_any, is_none, option_or, answer_to, Answer, open_ones, Question, all_settled, answer_among, fate_by, first_answer, before_silence, is_given_up, is_settled, silences, LineEvent, MediumInput, Silence, heard_now, unanswered, unless_answered, Open, Timeout}
 use Rattle.udp_resolver.proofs.EventLaws.{not_over, one_more, silences-append}
 
 same_of : (a b : ℕ) → eqb a b ≡ true → a ≡ b

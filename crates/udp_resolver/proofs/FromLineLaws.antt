@@ -1,15 +1,5 @@
 -- The events of a line are its datagrams and its silences.
-use Rattle.std.proofs.Common.{◌≡◌, ℕ, List, [], ◌∷◌, ◌++◌, refl, sym, ap, ◌∙◌, arith, append-nil, append_assoc}
-use Rattle.std.proofs.lemmas.List.Concat.{flat_map-append}
-use Rattle.std.specs.List.{flat_map}
-use Rattle.uip_edge.specs.Coming.{bytes_among}
-use Rattle.uip_edge.specs.declared.item.Item.{Item}
-use Rattle.uip_edge.specs.declared.item.Item.TheVariants.{Byte, Quiet}
-use Rattle.uip_slip.specs.Frames.{Frame, Datagram, Overlong, completed, frames}
-use Rattle.uip_slip.proofs.FrameLaws.{frames-byte}
-use Rattle.udp_resolver.specs.Fates.{silences}
-use Rattle.udp_resolver.specs.FromLine.{EventsAreOfLine, came_in, carried_by, silent_items}
-use Rattle.udp_resolver.specs.LineEvents.{LineEvent, MediumInput, Silence, by_frame, received_after}
+use Rattle.udp_resolver.proofs.Prelude.{◌≡◌, ℕ, List, [], ◌∷◌, ◌++◌, refl, sym, ap, ◌∙◌, arith, append-nil, append_assoc, flat_map-append, flat_map, bytes_among, Item, Byte, Quiet, Frame, Datagram, Overlong, completed, frames, frames-byte, silences, EventsAreOfLine, came_in, carried_by, silent_items, LineEvent, MediumInput, Silence, by_frame, received_after}
 use Rattle.udp_resolver.proofs.EventLaws.{silences-append}
 use Rattle.udp_resolver.proofs.ItemLaws.{calm_byte}
 

@@ -1,14 +1,6 @@
 -- The events of further items.
-use Rattle.std.proofs.Common.{◌≡◌, ℕ, true, false, eqb, leb, if◌then◌else◌, List, [], ◌∷◌, ◌++◌, length, map, refl, sym, ap, ◌∙◌, arith, append-nil, append_assoc}
-use Rattle.std.specs.List.{flat_map}
-use Rattle.uip_edge.specs.declared.item.Item.{Item}
-use Rattle.uip_edge.specs.declared.item.Item.TheVariants.{Byte, Quiet}
-use Rattle.uip_slip.specs.Frames.{Frame, Datagram, Overlong, completed, frame_of, frames, open_part, unescaped}
-use Rattle.uip_slip.proofs.FrameLaws.{completed_told}
-use Rattle.udp_resolver.specs.Fates.{silences}
-use Rattle.udp_resolver.specs.LineEvents.{Silence, by_frame, events, received_after}
+use Rattle.udp_resolver.proofs.Prelude.{◌≡◌, ℕ, true, false, eqb, leb, if◌then◌else◌, List, [], ◌∷◌, ◌++◌, length, map, refl, sym, ap, ◌∙◌, arith, append-nil, append_assoc, flat_map, Item, Byte, Quiet, Frame, Datagram, Overlong, completed, frame_of, frames, open_part, unescaped, completed_told, silences, Silence, by_frame, events, received_after, bytes_among}
 use Rattle.udp_resolver.proofs.EventLaws.{silences-append}
-use Rattle.uip_edge.specs.Coming.{bytes_among}
 
 pub events-append : (before : List ℕ) (xs ys : List Item)
     → received_after before (xs ++ ys) ≡ received_after before xs ++ received_after (before ++ bytes_among xs) ys

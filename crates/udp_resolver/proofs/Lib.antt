@@ -9,3 +9,4 @@ pub mod RunLaws
 pub mod StepLaws
 pub mod ToldLaws
 pub mod FromLineLaws
+mod Prelude

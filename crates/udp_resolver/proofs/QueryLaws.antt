@@ -1,11 +1,5 @@
 -- How the queries grow with events.
-use Rattle.std.proofs.Common.{◌≡◌, ℕ, ◌+◌, ◌<◌, ◌≤◌, Bool, true, false, ◌&&◌, ◌||◌, eqb, leb, ltb, if◌then◌else◌, List, [], ◌∷◌, ◌++◌, take, refl, sym, ap, ◌∙◌, arith, append-nil, append_assoc}
-use Rattle.std.specs.List.{flat_map, list_any}
-use Rattle.rexmit_timer.specs.Ages.{ages}
-use Rattle.udp_resolver.specs.Asked.{asked_at, open_ones, queries}
-use Rattle.udp_resolver.specs.Fates.{Question, before_silence, silences}
-use Rattle.udp_resolver.specs.LineEvents.{LineEvent, Silence}
-use Rattle.udp_resolver.specs.Steps.{asked_next}
+use Rattle.udp_resolver.proofs.Prelude.{◌≡◌, ℕ, ◌+◌, ◌<◌, ◌≤◌, Bool, true, false, ◌&&◌, ◌||◌, eqb, leb, ltb, if◌then◌else◌, List, [], ◌∷◌, ◌++◌, take, refl, sym, ap, ◌∙◌, arith, append-nil, append_assoc, flat_map, list_any, ages, asked_at, open_ones, queries, Question, before_silence, silences, LineEvent, Silence, asked_next}
 use Rattle.udp_resolver.proofs.EventLaws.{one_more, silences-append}
 use Rattle.udp_resolver.proofs.FateLaws.{prefix_kept, prefix_last}
 

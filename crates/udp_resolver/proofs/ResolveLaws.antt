@@ -1,22 +1,6 @@
 -- The queries and the report, put together.
-use Rattle.std.proofs.Common.{◌≡◌, ◌<◌, ℕ, length, List, Option, map, refl, sym, ap, ◌∙◌, inr, subst}
-use Rattle.std.specs.Io.KnownBytes.{Appends}
-use Rattle.dns_message.specs.declared.answer.Answer.{Answer}
-use Rattle.dns_message.specs.declared.asking.Asking.{Asking}
-use Rattle.uip_edge.specs.declared.item.Item.{Item}
-use Rattle.uip_edge.specs.declared.serve_end.ServeEnd.{ServeEnd}
+use Rattle.udp_resolver.proofs.Prelude.{◌≡◌, ◌<◌, ℕ, length, List, Option, map, refl, sym, ap, ◌∙◌, inr, subst, Appends, Answer, Asking, Item, ServeEnd, Rose, AppendsPrefix, appends_by, prefix_by, Question, answer_among, questions, events, lines, Resolves, ResolvesBy, TellFailed, WroteAll, Asks, Done, RunRepresents, lines_by, Streams, Run}
 use Rattle.uip_edge.specs.declared.serve_end.ServeEnd.TheVariants as ends
-use Rattle.uip_edge.specs.Causes.{Rose}
-use Rattle.uip_edge.specs.Writing.{AppendsPrefix}
-use Rattle.uip_edge.proofs.Told.{appends_by, prefix_by}
-use Rattle.udp_resolver.specs.Fates.{Question, answer_among, questions}
-use Rattle.udp_resolver.specs.LineEvents.{events}
-use Rattle.udp_resolver.specs.Lines.{lines}
-use Rattle.udp_resolver.specs.Resolving.{Resolves, ResolvesBy, TellFailed, WroteAll}
-use Rattle.udp_resolver.specs.Standing.{Asks, Done, RunRepresents}
-use Rattle.udp_resolver.specs.Steps.{lines_by}
-use Rattle.udp_resolver.specs.Streams.{Streams}
-use Rattle.udp_resolver.specs.declared.run.Run.{Run}
 use Rattle.udp_resolver.proofs.RunLaws.{lines_told}
 
 -- the lines of what a run knows

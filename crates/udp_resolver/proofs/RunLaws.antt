@@ -1,34 +1,11 @@
 -- A run after one more item.
-use Rattle.std.proofs.Common.{◌≡◌, ℕ, zero, suc, ◌+◌, ◌<◌, Bool, true, false, not, ◌&&◌, leb, if◌then◌else◌, List, [], ◌∷◌, ◌++◌, length, map, take, replicate, get_or, refl, sym, ap, ◌∙◌, arith, append-nil, append_assoc, subst, None, Option, Result}
-use Rattle.std.proofs.lemmas.List.{drop_all, map-append, take_more}
-use Rattle.std.proofs.Math.Seq.{take-length}
-use Rattle.std.specs.List.{flat_map, list_any, refill}
-use Rattle.std.specs.Option.{is_none}
-use Rattle.rexmit_timer.specs.Ages.{IsAtAge}
-use Rattle.dns_message.specs.declared.answer.Answer.{Answer}
-use Rattle.dns_message.specs.declared.asking.Asking.{Asking}
-use Rattle.uip_edge.specs.declared.item.Item.{Item}
-use Rattle.uip_edge.specs.declared.item.Item.TheVariants.{Byte, Quiet}
-use Rattle.uip_slip.specs.Decoding.{State, WasFed, reported_by}
-use Rattle.uip_slip.specs.Frames.{completed}
-use Rattle.uip_slip.specs.declared.fed.Fed.{Fed}
+use Rattle.udp_resolver.proofs.Prelude.{◌≡◌, ℕ, zero, suc, ◌+◌, ◌<◌, Bool, true, false, not, ◌&&◌, leb, if◌then◌else◌, List, [], ◌∷◌, ◌++◌, length, map, take, replicate, get_or, refl, sym, ap, ◌∙◌, arith, append-nil, append_assoc, subst, None, Option, Result, drop_all, map-append, take_more, take-length, flat_map, list_any, refill, is_none, IsAtAge, Answer, Asking, Item, Byte, Quiet, State, WasFed, reported_by, completed, Fed, last_ident, line_text, open_ones, queries, query_texts, Question, all_settled, answer_among, fate_of, is_given_up, next_asking, questions, silences, LineEvent, MediumInput, Silence, by_frame, events, received_after, line_of, lines, Adds, RunRepresents, WritesSome, IsClockAt, asked_next, heard_now, is_due, lines_by, unanswered, Clock, Run, bytes_among, SinkView, bytes_among-append}
 use Rattle.uip_slip.specs.declared.fed.Fed.TheVariants as fed
-use Rattle.udp_resolver.specs.Asked.{last_ident, line_text, open_ones, queries, query_texts}
-use Rattle.udp_resolver.specs.Fates.{Question, all_settled, answer_among, fate_of, is_given_up, next_asking, questions, silences}
-use Rattle.udp_resolver.specs.LineEvents.{LineEvent, MediumInput, Silence, by_frame, events, received_after}
-use Rattle.udp_resolver.specs.Lines.{line_of, lines}
-use Rattle.udp_resolver.specs.Standing.{Adds, RunRepresents, WritesSome}
-use Rattle.udp_resolver.specs.Steps.{IsClockAt, asked_next, heard_now, is_due, lines_by, unanswered}
-use Rattle.udp_resolver.specs.declared.clock.Clock.{Clock}
-use Rattle.udp_resolver.specs.declared.run.Run.{Run}
 use Rattle.udp_resolver.proofs.EventLaws.{silences-append}
 use Rattle.udp_resolver.proofs.FateLaws.{heard_map, map_silence, open_told, opens}
 use Rattle.udp_resolver.proofs.ItemLaws.{calm_bytes, events-append, events_byte}
 use Rattle.udp_resolver.proofs.QueryLaws.{queries_calm, queries_first, queries_silence}
 use Rattle.udp_resolver.proofs.StepLaws.{last_ident-append, query_texts-append}
-use Rattle.uip_edge.specs.Coming.{bytes_among}
-use Rattle.uip_edge.specs.Views.{SinkView}
-use Rattle.uip_edge.proofs.Told.{bytes_among-append}
 
 pub writes_some_by : {T E : Type 0} (r : Result T E) (a b : SinkView) (xs ys : List ℕ) → ys ≡ xs → WritesSome a b r xs → WritesSome a b r ys
 writes_some_by r a b xs ys e w = subst (λ (l : List ℕ). WritesSome a b r l) (sym e) w

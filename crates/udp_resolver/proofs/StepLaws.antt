@@ -1,21 +1,5 @@
 -- The loops over names and answers, one step at a time.
-use Rattle.std.proofs.Common.{◌≡◌, ℕ, ◌+◌, ◌<◌, Bool, List, [], ◌∷◌, ◌++◌, length, drop, get_or, refl, sym, ap, ◌∙◌, append_assoc, arith, length-append, None, Option, Result, Ok, Err, OnErr}
-use Rattle.std.proofs.Math.ListN.{set}
-use Rattle.std.proofs.Math.Seq.{set-append_seam}
-use Rattle.std.proofs.lemmas.List.{drop_more}
-use Rattle.uip_edge.specs.Writing.{AppendsPrefix}
-use Rattle.uip_edge.proofs.Told.{prefix_by}
-use Rattle.uip_slip.specs.Text.{slip_text}
-use Rattle.dns_message.specs.Replies.{answer_to, query_datagram}
-use Rattle.dns_message.specs.declared.answer.Answer.{Answer}
-use Rattle.dns_message.specs.declared.asking.Asking.{Asking}
-use Rattle.udp_resolver.specs.Asked.{last_ident, next_ident, query_texts}
-use Rattle.udp_resolver.specs.Fates.{Question, fate_by, next_asking, questions}
-use Rattle.udp_resolver.specs.Lines.{fate_text, line_of}
-use Rattle.udp_resolver.specs.declared.fate.Fate.{Fate}
-use Rattle.udp_resolver.specs.Steps.{heard_now, lines_by, unanswered, unless_answered}
-use Rattle.std.specs.Option.{option_or}
-use Rattle.std.specs.Prelude.{codes}
+use Rattle.udp_resolver.proofs.Prelude.{◌≡◌, ℕ, ◌+◌, ◌<◌, Bool, List, [], ◌∷◌, ◌++◌, length, drop, get_or, refl, sym, ap, ◌∙◌, append_assoc, arith, length-append, None, Option, Result, Ok, Err, OnErr, set, set-append_seam, drop_more, AppendsPrefix, prefix_by, slip_text, answer_to, query_datagram, Answer, Asking, last_ident, next_ident, query_texts, Question, fate_by, next_asking, questions, fate_text, line_of, Fate, heard_now, lines_by, unanswered, unless_answered, option_or, codes}
 
 pub query_texts-append : (ident : ℕ) (xs ys : List Question) → query_texts ident (xs ++ ys) ≡ query_texts ident xs ++ query_texts (last_ident ident xs) ys
 query_texts-append ident [] ys = refl

@@ -1,19 +1,5 @@
 -- An address that is reported is from a matching reply.
-use Rattle.std.proofs.Common.{◌≡◌, ℕ, zero, suc, Bool, true, false, cond, eqb, ltb, if◌then◌else◌, List, [], ◌∷◌, ◌++◌, length, drop, Option, None, Some, option_and_then, refl, sym, ap, ◌∙◌, append_assoc, arith}
-use Rattle.std.specs.List.{find}
-use Rattle.uip_wire.specs.Fields.{word_at}
-use Rattle.uip_wire.specs.declared.addr.Addr.{Addr}
-use Rattle.udp_datagram.specs.Udp.{udp_data}
-use Rattle.dns_message.specs.Messages.{answer_by_message, code_of, is_reply, question_end}
-use Rattle.dns_message.specs.Records.{Record, answer_by, answer_of_records, is_address, records}
-use Rattle.dns_message.specs.Replies.{answer_to, way_back}
-use Rattle.dns_message.specs.declared.answer.Answer.{Answer}
-use Rattle.dns_message.specs.declared.answer.Answer.TheVariants.{Address, Code}
-use Rattle.udp_resolver.specs.Fates.{Question, answer_among, fate_by, first_answer, before_silence, is_given_up, last_silence}
-use Rattle.udp_resolver.specs.LineEvents.{LineEvent, MediumInput, Silence}
-use Rattle.udp_resolver.specs.Told.{AddressesAreFromReplies}
-use Rattle.udp_resolver.specs.declared.fate.Fate.TheVariants.{Answered}
-use Rattle.std.specs.Option.{option_or}
+use Rattle.udp_resolver.proofs.Prelude.{◌≡◌, ℕ, zero, suc, Bool, true, false, cond, eqb, ltb, if◌then◌else◌, List, [], ◌∷◌, ◌++◌, length, drop, Option, None, Some, option_and_then, refl, sym, ap, ◌∙◌, append_assoc, arith, find, word_at, Addr, udp_data, answer_by_message, code_of, is_reply, question_end, Record, answer_by, answer_of_records, is_address, records, answer_to, way_back, Answer, Address, Code, Question, answer_among, fate_by, first_answer, before_silence, is_given_up, last_silence, LineEvent, MediumInput, Silence, AddressesAreFromReplies, Answered, option_or}
 
 answer_of_fate : (a : Option Answer) (is_over : Bool) (answer : Answer) → fate_by a is_over ≡ Answered answer → a ≡ Some answer
 answer_of_fate (Some a) is_over answer e = cc e

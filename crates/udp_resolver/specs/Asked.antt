@@ -2,9 +2,9 @@
 use Rattle.std.specs.Prelude.{ℕ, ◌+◌, ◌%◌, nat_le, not, if◌then◌else◌, List, [], ◌∷◌, ◌++◌, take}
 use Rattle.std.specs.List.{filter, flat_map}
 use Rattle.dns_message.specs.Replies.{query_datagram}
-use Rattle.rexmit_timer.specs.Ages.{ages}
+use Rattle.rexmit_timer.specs.Prelude.{ages}
 use Rattle.rexmit_timer.specs.declared.timer.TheConstants.{TEXT_LIMIT}
-use Rattle.uip_slip.specs.Text.{slip_text}
+use Rattle.uip_slip.specs.Prelude.{slip_text}
 use Rattle.udp_resolver.specs.Fates.{Question, fate_of, before_silence, is_settled, silences}
 use Rattle.udp_resolver.specs.LineEvents.{LineEvent}
 

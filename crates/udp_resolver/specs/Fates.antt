@@ -4,7 +4,7 @@ use Rattle.std.specs.List.{list_all}
 use Rattle.dns_message.specs.Replies.{answer_to}
 use Rattle.dns_message.specs.declared.answer.Answer.{Answer}
 use Rattle.dns_message.specs.declared.asking.Asking.{Asking}
-use Rattle.rexmit_timer.specs.Ages.{give_up_age}
+use Rattle.rexmit_timer.specs.Prelude.{give_up_age}
 use Rattle.rexmit_timer.specs.declared.timer.TheConstants.{TEXT_LIMIT}
 use Rattle.udp_resolver.specs.LineEvents.{LineEvent, MediumInput, Silence}
 use Rattle.udp_resolver.specs.declared.fate.Fate.{Fate}

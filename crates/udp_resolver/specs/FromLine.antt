@@ -1,10 +1,10 @@
 -- The events of a line: its datagrams and its silences.
 use Rattle.std.specs.Prelude.{◌≡◌, ℕ, ◌+◌, List, [], ◌∷◌}
 use Rattle.std.specs.List.{flat_map}
-use Rattle.uip_edge.specs.Coming.{bytes_among}
+use Rattle.uip_edge.specs.Prelude.{bytes_among}
 use Rattle.uip_edge.specs.declared.item.Item.{Item}
 use Rattle.uip_edge.specs.declared.item.Item.TheVariants.{Byte, Quiet}
-use Rattle.uip_slip.specs.Frames.{Frame, Datagram, Overlong, frames}
+use Rattle.uip_slip.specs.Prelude.{Frame, Datagram, Overlong, frames}
 use Rattle.udp_resolver.specs.Fates.{silences}
 use Rattle.udp_resolver.specs.LineEvents.{LineEvent, MediumInput, Silence, events}
 

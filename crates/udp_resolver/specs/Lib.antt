@@ -10,3 +10,4 @@ pub mod Told
 pub mod ConstantValues
 pub mod FromLine
 pub mod ToldEnds
+pub mod Prelude

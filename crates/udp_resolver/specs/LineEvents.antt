@@ -3,7 +3,7 @@ use Rattle.std.specs.Prelude.{ℕ, List, [], ◌∷◌, ◌++◌}
 use Rattle.std.specs.List.{flat_map}
 use Rattle.uip_edge.specs.declared.item.Item.{Item}
 use Rattle.uip_edge.specs.declared.item.Item.TheVariants.{Byte, Quiet}
-use Rattle.uip_slip.specs.Frames.{Frame, Datagram, Overlong, completed}
+use Rattle.uip_slip.specs.Prelude.{Frame, Datagram, Overlong, completed}
 
 pub data LineEvent : Type 0 where
   MediumInput : List ℕ → LineEvent

@@ -1,7 +1,7 @@
 -- What is reported of the names: a line for each, with its fate.
 use Rattle.std.specs.Prelude.{ℕ, List, ◌++◌, codes, decimal}
 use Rattle.std.specs.List.{flat_map}
-use Rattle.uip_wire.specs.Addr.{quad_text}
+use Rattle.uip_wire.specs.Prelude.{quad_text}
 use Rattle.dns_message.specs.declared.answer.Answer.TheVariants.{Address, Code, NoAddress}
 use Rattle.udp_resolver.specs.Fates.{Question, fate_of}
 use Rattle.udp_resolver.specs.LineEvents.{LineEvent}

@@ -1,8 +1,6 @@
 -- What resolving names does to the streams, and how it ends.
 use Rattle.std.specs.Prelude.{◌≡◌, ◌<◌, ◌≤◌, ◌⊎◌, ℕ, List, [], ◌∷◌, ◌++◌, true, false, Option, length, map}
-use Rattle.uip_edge.specs.Causes.{Rose}
-use Rattle.uip_edge.specs.Coming.{Consumes, TookAll}
-use Rattle.uip_edge.specs.Writing.{WritesAll, WritesPrefix}
+use Rattle.uip_edge.specs.Prelude.{Rose, Consumes, TookAll, WritesAll, WritesPrefix}
 use Rattle.uip_edge.specs.declared.item.Item.{Item}
 use Rattle.uip_edge.specs.declared.item.Item.TheVariants.{Byte, Quiet}
 use Rattle.uip_edge.specs.declared.serve_end.ServeEnd.{ServeEnd}

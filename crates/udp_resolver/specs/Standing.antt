@@ -1,17 +1,13 @@
 -- What a run of the resolver knows of the items that it took, and what its turns add.
 use Rattle.std.specs.Prelude.{◌≡◌, ◌<◌, ◌≤◌, ◌⊎◌, ℕ, false, List, [], ◌++◌, length, map, OnErr, Result}
 use Rattle.std.specs.Io.KnownBytes.{Appends}
-use Rattle.uip_edge.specs.Causes.{Rose}
-use Rattle.uip_edge.specs.Coming.{Consumes, bytes_among}
-use Rattle.uip_edge.specs.Views.{LineView, IsCalm, SinkView}
-use Rattle.uip_edge.specs.Turns.{TurnsBy}
-use Rattle.uip_edge.specs.Writing.{AppendsPrefix, BreaksOff, Writes}
+use Rattle.uip_edge.specs.Prelude.{Rose, Consumes, bytes_among, LineView, IsCalm, SinkView, TurnsBy, AppendsPrefix, BreaksOff, Writes}
 use Rattle.uip_edge.specs.declared.item.Item.{Item}
 use Rattle.uip_edge.specs.declared.serve_end.ServeEnd.{ServeEnd}
 use Rattle.uip_edge.specs.declared.serve_end.ServeEnd.TheVariants as ends
 use Rattle.uip_edge.specs.declared.turn.Turn.{Turn}
 use Rattle.uip_edge.specs.declared.turn.Turn.TheVariants as turns
-use Rattle.uip_slip.specs.Decoding.{WasFed}
+use Rattle.uip_slip.specs.Prelude.{WasFed}
 use Rattle.udp_resolver.specs.Asked.{last_ident, line_text, queries, query_texts}
 use Rattle.udp_resolver.specs.Fates.{Question, answer_among, is_given_up}
 use Rattle.udp_resolver.specs.LineEvents.{events}

@@ -1,7 +1,7 @@
 -- What the parts of a run do at an event.
 use Rattle.std.specs.Prelude.{◌≡◌, ◌<◌, ◌+◌, ◌==◌, if◌then◌else◌, ℕ, Bool, List, [], ◌∷◌, ◌++◌, Option, Some, None, take}
 use Rattle.std.specs.List.{list_any}
-use Rattle.rexmit_timer.specs.Ages.{IsAtAge, ages}
+use Rattle.rexmit_timer.specs.Prelude.{IsAtAge, ages}
 use Rattle.rexmit_timer.specs.declared.timer.TheConstants.{TEXT_LIMIT}
 use Rattle.dns_message.specs.Replies.{answer_to}
 use Rattle.dns_message.specs.declared.answer.Answer.{Answer}

@@ -1,9 +1,7 @@
 -- The streams of a resolver: its line, and the sink of its report.
 use Rattle.uip_edge.specs.declared.link.Link.{Ghosts as LinkGhosts}
 use Rattle.uip_edge.specs.declared.sink.Sink.{Ghosts as SinkGhosts}
-use Rattle.uip_edge.specs.Causes.{IsUnfailed}
-use Rattle.uip_edge.specs.ViewsOf.{line_view, sink_view}
-use Rattle.uip_edge.specs.Views.{LineView, LineUnfailed, SinkView}
+use Rattle.uip_edge.specs.Prelude.{IsUnfailed, line_view, sink_view, LineView, LineUnfailed, SinkView}
 
 pub record Streams : Type 0 where
   pub line : LineView

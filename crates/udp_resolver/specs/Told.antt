@@ -1,7 +1,7 @@
 -- An address is reported only from a matching reply.
 use Rattle.std.specs.Prelude.{◌≡◌, ℕ, List, ◌∷◌, ◌++◌, Some, true, drop}
-use Rattle.uip_wire.specs.Fields.{word_at}
-use Rattle.udp_datagram.specs.Udp.{udp_data}
+use Rattle.uip_wire.specs.Prelude.{word_at}
+use Rattle.udp_datagram.specs.Prelude.{udp_data}
 use Rattle.dns_message.specs.Messages.{code_of, is_reply, question_end}
 use Rattle.dns_message.specs.Records.{Record, is_address, records}
 use Rattle.dns_message.specs.Replies.{way_back}

@@ -3,9 +3,8 @@
 ghost use Rattle.std.specs.Prelude.{◌≡◌, length};
 ghost use Rattle.std.specs.List.{list_any};
 ghost use Rattle.std.specs.Option.{is_none, option_or};
-ghost use Rattle.udp_resolver.specs.Fates.{next_asking, questions};
+ghost use Rattle.udp_resolver.specs.Prelude.{next_asking, questions, heard_now};
 ghost use Rattle.dns_message.specs.Replies.{answer_to};
-ghost use Rattle.udp_resolver.specs.Steps.{heard_now};
 
 use dns_message::{Answer, Asking, Name};
 

@@ -2,7 +2,7 @@
 
 ghost use Rattle.std.specs.Prelude.{◌≡◌, ◌≤◌, ◌+◌, ◌++◌, length};
 ghost use Rattle.udp_resolver.specs.declared.lines.TheConstants.{LONGEST_FATE, LONGEST_LINE};
-ghost use Rattle.uip_edge.specs.ViewsOf.{sink_view};
+ghost use Rattle.uip_edge.specs.Prelude.{sink_view};
 ghost use Rattle.udp_resolver.specs.Fates.{fate_by};
 ghost use Rattle.udp_resolver.specs.Lines.{fate_text, line_of};
 ghost use Rattle.udp_resolver.specs.Standing.{WritesSome};

@@ -1,9 +1,7 @@
 //! Resolves names over a line.
 
 ghost use Rattle.std.specs.Prelude.{◌≡◌, length};
-ghost use Rattle.udp_resolver.specs.Fates.{questions};
-ghost use Rattle.udp_resolver.specs.Resolving.{Resolves};
-ghost use Rattle.udp_resolver.specs.Streams.{streams};
+ghost use Rattle.udp_resolver.specs.Prelude.{questions, Resolves, streams};
 
 use crate::MOST_NAMES;
 use crate::lines::tell_all;

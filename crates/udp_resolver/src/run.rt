@@ -2,17 +2,15 @@
 
 ghost use Rattle.std.specs.Prelude.{◌≡◌, ◌≤◌, ◌<◌, ◌∷◌, [], List, None, length, map, not, replicate, OnOk};
 ghost use Rattle.rexmit_timer.specs.declared.timer.TheConstants.{TEXT_LIMIT};
-ghost use Rattle.uip_edge.specs.Causes.{HasCause};
-ghost use Rattle.uip_edge.specs.Turns.{TurnFits};
+ghost use Rattle.uip_edge.specs.Prelude.{HasCause, TurnFits, line_view, sink_view};
 ghost use Rattle.uip_edge.specs.declared.item.Item.{Item};
 ghost use Rattle.uip_edge.specs.declared.item.Item.TheVariants.{Byte, Quiet};
-ghost use Rattle.uip_slip.specs.Decoding.{WasFed};
+ghost use Rattle.uip_slip.specs.Prelude.{WasFed};
 ghost use Rattle.udp_resolver.specs.Asked.{line_text};
 ghost use Rattle.udp_resolver.specs.Fates.{all_settled, questions};
 ghost use Rattle.udp_resolver.specs.LineEvents.{events};
 ghost use Rattle.udp_resolver.specs.Standing.{Asks, RunRepresents, Learns, TurnsAfter, WritesNext, WritesSome};
 ghost use Rattle.udp_resolver.specs.Steps.{IsClockAt};
-ghost use Rattle.uip_edge.specs.ViewsOf.{line_view, sink_view};
 
 use crate::MOST_NAMES;
 use crate::answers::{any_open, hear};

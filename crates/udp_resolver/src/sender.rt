@@ -1,7 +1,6 @@
 ghost use Rattle.std.specs.Prelude.{◌≡◌, length, OnOk};
-ghost use Rattle.uip_edge.specs.ViewsOf.{sink_view};
-ghost use Rattle.uip_edge.specs.Writing.{Writes};
-ghost use Rattle.uip_slip.specs.Text.{slip_text};
+ghost use Rattle.uip_edge.specs.Prelude.{sink_view, Writes};
+ghost use Rattle.uip_slip.specs.Prelude.{slip_text};
 ghost use Rattle.dns_message.specs.Replies.{query_datagram};
 ghost use Rattle.udp_resolver.specs.Asked.{last_ident, next_ident, query_texts};
 ghost use Rattle.udp_resolver.specs.Fates.{questions};

@@ -1,32 +1,7 @@
 -- Moves on a handle over Ethernet, one after the other, are moves of its device.
-use Rattle.std.specs.List.{All}
-use Rattle.std.proofs.Common.{◌≡◌, ℕ, List, [], ◌∷◌, refl, sym, ap, ◌∙◌, subst}
-use Rattle.app_events.specs.Pages.{IsAddr, IsByte}
-use Rattle.site_image.specs.Files.{File}
-use Rattle.file_tree.specs.Site.{HasSoundScripts, IsLoaded, SiteContent, files_of}
-use Rattle.web_pages.specs.Serving.{is_served}
-use Rattle.web_pages.proofs.ByteLaws.{made_of_bytes_by}
-use Rattle.web_pages.proofs.PageLaws.{keeps_page_laws_by}
-use Rattle.device_values.specs.Words.{word_calls, words}
-use Rattle.device_values.specs.Lemmas.Laws.{words_bytes, words_short}
+use Rattle.uip_c.proofs.Prelude.{All, ◌≡◌, ℕ, List, [], ◌∷◌, refl, sym, ap, ◌∙◌, subst, IsAddr, IsByte, File, HasSoundScripts, IsLoaded, SiteContent, files_of, is_served, made_of_bytes_by, keeps_page_laws_by, word_calls, words, words_bytes, words_short, Addr, initial_station, Host, Mac, ether_brings_bytes, ether_frames, AnsweredFrame, AnswersAllFrames, AnswersFrame, AnswersFrameMove, CallsSlot, ChangesNumbers, DoesNothing, FrameCall, FrameMove, Gives, InputsFrame, Makes, handed_of, frame_moves_of, FramesConform, IsFrameOfBytes, keeps_frames, device_stands, frames_exact, same_kept, first_numbers, value_pages, value_spec, write_value, first_words, written_words, EtherRepresents, host_at, web_frames_sent, web_station_after, DidFrame, DidFrames, EtherAnswers, OpensEtherAs, HandleGives, EtherWeb, IsEther, Kept, NoDevice, OnEther, OnLine}
 use Rattle.uip_device.specs.contracts.value_pages.ValuePagesApp.TheImpl.{ghosts}
-use Rattle.uip_wire.specs.declared.addr.Addr.{Addr}
-use Rattle.serve_loop.specs.LineOutput.{initial_station}
-use Rattle.ethernet_arp.specs.Frames.{Host}
-use Rattle.ethernet_arp.specs.declared.mac.Mac.{Mac}
-use Rattle.frame_device.specs.EtherBytes.{ether_brings_bytes}
-use Rattle.frame_device.specs.EtherFrames.{ether_frames}
-use Rattle.frame_device.specs.FrameCalls.{AnsweredFrame, AnswersAllFrames, AnswersFrame, AnswersFrameMove, CallsSlot, ChangesNumbers, DoesNothing, FrameCall, FrameMove, Gives, InputsFrame, Makes, handed_of, frame_moves_of}
-use Rattle.frame_device.specs.FrameKeeping.{FramesConform, IsFrameOfBytes}
 use Rattle.frame_device.specs.contracts.ether.EthernetFrames.TheImpl.{ghosts as ether_link}
-use Rattle.frame_device.proofs.KeepLaws.{keeps_frames}
-use Rattle.frame_device.proofs.MoveLaws.{device_stands, frames_exact, same_kept}
-use Rattle.uip_device.specs.WebDevices.{first_numbers, value_pages, value_spec, write_value}
-use Rattle.uip_device.proofs.WebLaws.{first_words, written_words}
-use Rattle.uip_c.specs.EtherWebs.{EtherRepresents, host_at, web_frames_sent, web_station_after}
-use Rattle.uip_c.specs.FrameHandles.{DidFrame, DidFrames, EtherAnswers, OpensEtherAs}
-use Rattle.uip_c.specs.Handles.{HandleGives}
-use Rattle.uip_c.specs.Kept.{EtherWeb, IsEther, Kept, NoDevice, OnEther, OnLine}
 
 abbrev ether_or : EtherWeb → Kept → EtherWeb
 ether_or none (OnEther d) = d

@@ -1,27 +1,10 @@
 -- Moves on a handle, one after the other, are moves of its device.
-use Rattle.std.specs.List.{All}
+use Rattle.uip_c.proofs.Prelude.{All, IsAddr, IsByte, File, HasSoundScripts, IsLoaded, SiteContent, files_of, is_served, made_of_bytes_by, keeps_page_laws_by, word_calls, words, words_bytes, words_short, Item, Addr, Call, Calls, CallsForDatagram, Drains, Feeds, Inputs, Answered, Answers, AnswersAll, AnswersMove, Changes, datagrams_handed, left_text_of, lefts_of, line_handed, moves_of, IsOfBytes, CallsConform, Bring, Move, DeviceRepresents, WebDevice, first_numbers, value_spec, value_pages, web_datagrams_sent, web_line_sent, web_node_after, web_output, write_value, answers_nothing, datagrams_told, line_served, line_view, node_stands, keeps_calls, first_words, written_words, IsLine, Kept, NoDevice, OnEther, OnLine, Did, DidAll, HandleAnswers, HandleGives, OpensAs, left_text_in, lefts_in}
 use Rattle.std.proofs.Common.{◌≡◌, ℕ, List, [], ◌∷◌, ◌++◌, None as NothingLeft, refl, sym, ap, ◌∙◌, subst}
-use Rattle.app_events.specs.Pages.{IsAddr, IsByte}
-use Rattle.site_image.specs.Files.{File}
-use Rattle.file_tree.specs.Site.{HasSoundScripts, IsLoaded, SiteContent, files_of}
-use Rattle.web_pages.specs.Serving.{is_served}
-use Rattle.web_pages.proofs.ByteLaws.{made_of_bytes_by}
-use Rattle.web_pages.proofs.PageLaws.{keeps_page_laws_by}
-use Rattle.device_values.specs.Words.{word_calls, words}
-use Rattle.device_values.specs.Lemmas.Laws.{words_bytes, words_short}
 use Rattle.uip_device.specs.contracts.value_pages.ValuePagesApp.TheImpl.{ghosts}
-use Rattle.uip_edge.specs.declared.item.Item.{Item}
-use Rattle.uip_wire.specs.declared.addr.Addr.{Addr}
-use Rattle.uip_device.specs.Calls.{Call, Calls, CallsForDatagram, DoesNothing, Drains, Feeds, Inputs}
-use Rattle.uip_device.specs.Devices.{Answered, Answers, AnswersAll, AnswersMove, Changes, datagrams_handed, left_text_of, lefts_of, line_handed, moves_of}
-use Rattle.uip_device.specs.Keeping.{IsOfBytes, CallsConform}
-use Rattle.uip_device.specs.Moves.{Bring, Gives, Makes, Move}
-use Rattle.uip_device.specs.WebDevices.{DeviceRepresents, WebDevice, first_numbers, value_spec, value_pages, web_datagrams_sent, web_line_sent, web_node_after, web_output, write_value}
-use Rattle.uip_device.proofs.AnswerLaws.{answers_nothing, datagrams_told, line_served, line_view, node_stands, same_kept}
-use Rattle.uip_device.proofs.KeepLaws.{keeps_calls}
-use Rattle.uip_device.proofs.WebLaws.{first_words, written_words}
-use Rattle.uip_c.specs.Kept.{IsLine, Kept, NoDevice, OnEther, OnLine}
-use Rattle.uip_c.specs.Handles.{Did, DidAll, HandleAnswers, HandleGives, OpensAs, left_text_in, lefts_in}
+use Rattle.uip_device.specs.Calls.{DoesNothing}
+use Rattle.uip_device.specs.Moves.{Gives, Makes}
+use Rattle.uip_device.proofs.AnswerLaws.{same_kept}
 
 abbrev line_or : WebDevice → Kept → WebDevice
 line_or none (OnLine d) = d

@@ -3,3 +3,4 @@ pub mod HandleLaws
 pub mod Opened
 pub mod Taking
 pub mod Words
+mod Prelude

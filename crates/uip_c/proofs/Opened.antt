@@ -1,18 +1,8 @@
 -- What opening a device on Ethernet and setting a value in it give.
-use Rattle.std.proofs.Common.{◌≡◌, Bool, List, ℕ, refl, subst, sym}
-use Rattle.std.specs.Prelude.{true, false, if◌then◌else◌}
+use Rattle.uip_c.proofs.Prelude.{◌≡◌, Bool, List, ℕ, refl, subst, sym, true, false, if◌then◌else◌, files_of, Addr, Mac, ChangesNumbers, IsFreshFrameDevice, DeviceWeb, ChangesNode, IsFirstShared, IsOfImage, WebNode, first_numbers, value_spec, write_value, IsOpenedEther, host_at, EtherWeb}
 use mir.Val.{bool_byte}
-use Rattle.file_tree.specs.Site.{files_of}
-use Rattle.uip_wire.specs.declared.addr.Addr.{Addr}
-use Rattle.ethernet_arp.specs.declared.mac.Mac.{Mac}
-use Rattle.frame_device.specs.FrameCalls.{ChangesNumbers, IsFreshFrameDevice}
 use Rattle.frame_device.specs.contracts.ether.EthernetFrames.TheImpl.{ghosts as ether_link}
 use Rattle.uip_device.specs.contracts.value_pages.ValuePagesApp.TheImpl.{ghosts}
-use Rattle.uip_device.specs.declared.device_web.DeviceWeb.{DeviceWeb}
-use Rattle.uip_device.specs.Devices.{ChangesNode}
-use Rattle.uip_device.specs.WebDevices.{IsFirstShared, IsOfImage, WebNode, first_numbers, value_spec, write_value}
-use Rattle.uip_c.specs.EtherWebs.{IsOpenedEther, host_at}
-use Rattle.uip_c.specs.Kept.{EtherWeb}
 
 pub opened_ether : (image : List ℕ) (own : Addr) (mac : Mac) (d : EtherWeb) (shared : DeviceWeb) → d.node.shared ≡ shared → IsFirstShared image shared
     → IsFreshFrameDevice ghosts ether_link (host_at own mac) (value_spec (files_of shared.web.site)) (ghosts.numbers shared) own d → IsOpenedEther image own mac d

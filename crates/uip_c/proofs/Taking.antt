@@ -1,13 +1,5 @@
 -- What a handle keeps, by its kind.
-use Rattle.std.proofs.Common.{◌≡◌, refl, sym}
-use Rattle.std.proofs.lemmas.Bool.{false≢true}
-use Rattle.std.specs.Prelude.{true, false}
-use Rattle.std.specs.declared.option.Option.TheVariants.{Some}
-use Rattle.uip_device.specs.WebDevices.{WebDevice}
-use Rattle.uip_c.specs.Kept.{EtherWeb, Kept, NoDevice, OnEther, OnLine, is_on_ether, is_on_line, node_in}
-use Rattle.uip_c.specs.Taking.{kept_of, node_of}
-use Rattle.uip_c.specs.declared.handle.AnyDevice.{AnyDevice}
-use Rattle.uip_c.specs.declared.handle.AnyDevice.TheVariants.{Ether, Line}
+use Rattle.uip_c.proofs.Prelude.{◌≡◌, refl, sym, false≢true, true, false, Some, WebDevice, EtherWeb, Kept, NoDevice, OnEther, OnLine, is_on_ether, is_on_line, node_in, kept_of, node_of, AnyDevice, Ether, Line}
 
 pub line_of : (k : Kept) → is_on_line k ≡ true → (x : WebDevice) × (k ≡ OnLine x)
 line_of NoDevice there = absurd (false≢true there)

@@ -1,5 +1,5 @@
 -- The machine words of `Held`: a pointer, and the stored form of the allocator. Assumes `Logic`.
-use Rattle.std.proofs.Common.{◌≡◌, List, [], ◌∷◌, ◌++◌, refl, subst, lit<}
+use Rattle.uip_c.proofs.Prelude.{◌≡◌, List, [], ◌∷◌, ◌++◌, refl, subst, lit<, Al, handle_tells, Good, Global, ghosts, two_words, words_typed, Held, LineRow, holds, Kept}
 use seplogic.Ra.Ura.{Ura}
 use lib.Dec.{T}
 use mathlib.Core.Bool.{true, ◌&&◌}
@@ -14,17 +14,9 @@ use denote.Steps.{nothing}
 use denote.Param.{layout}
 use denote.Struct.Struct.{within}
 use denote.Struct.Owning.{shape}
-use Rattle.core.proofs.alloc.Calls.{Al, handle_tells}
-use Rattle.core.proofs.cell.Inside.{Good}
-use Rattle.std.specs.declared.alloc.Global.{Global}
 use Rattle.std.specs.contracts.alloc.Global as heap
 use Rattle.std.proofs.alloc.Global.TheLaws as heap_laws
-use Rattle.std.specs.contracts.impls.GlobalAllocator.TheImpl.{ghosts}
-use Rattle.loose_box.proofs.Words.{two_words, words_typed}
-use Rattle.uip_c.specs.declared.held.Held.{Held}
 use Rattle.uip_c.specs.contracts.held.Held as held
-use Rattle.uip_c.specs.Holding.{LineRow, holds}
-use Rattle.uip_c.specs.Kept.{Kept}
 
 -- the rows of the allocator and of `Held`
 abbrev pub HeapRow : RattleType

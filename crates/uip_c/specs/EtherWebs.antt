@@ -1,19 +1,16 @@
 -- A device on Ethernet with the web server of a site, whose scripts can show values.
 use Rattle.std.specs.Prelude.{◌≡◌, ℕ, List, Result, Ok, Err}
-use Rattle.site_image.specs.Files.{File}
-use Rattle.file_tree.specs.Site.{SiteContent, files_of}
-use Rattle.web_pages.specs.Serving.{is_served}
+use Rattle.site_image.specs.Prelude.{File}
+use Rattle.file_tree.specs.Prelude.{SiteContent, files_of}
+use Rattle.web_pages.specs.Prelude.{is_served}
 use Rattle.uip_wire.specs.declared.addr.Addr.{Addr}
-use Rattle.serve_loop.specs.LineOutput.{initial_station}
-use Rattle.serve_loop.specs.StationRuns.{Station}
-use Rattle.ethernet_arp.specs.Frames.{Host}
-use Rattle.ethernet_arp.specs.Learning.{Act}
+use Rattle.serve_loop.specs.Prelude.{initial_station, Station}
+use Rattle.ethernet_arp.specs.Prelude.{Host, Act}
 use Rattle.ethernet_arp.specs.declared.mac.Mac.{Mac}
-use Rattle.frame_device.specs.EtherFrames.{ether_frames}
-use Rattle.frame_device.specs.FrameCalls.{FrameMove, IsFreshFrameDevice, RepresentsStation, frames_sent, station_after_moves}
+use Rattle.frame_device.specs.Prelude.{ether_frames, FrameMove, IsFreshFrameDevice, RepresentsStation, frames_sent, station_after_moves}
 use Rattle.frame_device.specs.contracts.ether.EthernetFrames.TheImpl.{ghosts as ether_link}
 use Rattle.uip_device.specs.contracts.value_pages.ValuePagesApp.TheImpl.{ghosts}
-use Rattle.uip_device.specs.WebDevices.{FailsAs, IsOfImage, first_numbers, value_spec, write_value}
+use Rattle.uip_device.specs.Prelude.{FailsAs, IsOfImage, first_numbers, value_spec, write_value}
 use Rattle.uip_device.specs.declared.opening.OpenFault.{OpenFault}
 use Rattle.uip_c.specs.Kept.{EtherWeb}
 

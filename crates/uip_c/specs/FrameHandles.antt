@@ -1,9 +1,9 @@
 -- What a call over Ethernet does to what a handle keeps.
 use Rattle.std.specs.Prelude.{◌≡◌, ℕ, List, [], ◌∷◌}
-use Rattle.site_image.specs.Files.{File}
+use Rattle.site_image.specs.Prelude.{File}
 use Rattle.uip_wire.specs.declared.addr.Addr.{Addr}
 use Rattle.ethernet_arp.specs.declared.mac.Mac.{Mac}
-use Rattle.frame_device.specs.FrameCalls.{AnsweredFrame, AnswersFrame, DoesNothing, FrameCall, FrameMove, Gives, Makes}
+use Rattle.frame_device.specs.Prelude.{AnsweredFrame, AnswersFrame, DoesNothing, FrameCall, FrameMove, Gives, Makes}
 use Rattle.frame_device.specs.contracts.ether.EthernetFrames.TheImpl.{ghosts as ether_link}
 use Rattle.uip_device.specs.contracts.value_pages.ValuePagesApp.TheImpl.{ghosts}
 use Rattle.uip_c.specs.EtherWebs.{IsFreshEtherWeb}

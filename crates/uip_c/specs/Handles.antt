@@ -3,15 +3,12 @@ use Rattle.std.specs.Prelude.{◌≡◌, ◌⊎◌, ℕ, true, List, [], ◌∷�
 use Rattle.std.specs.Option.{is_some}
 use Rattle.std.specs.declared.option.Option.{Option}
 use Rattle.std.specs.declared.option.Option.TheVariants.{None, Some}
-use Rattle.site_image.specs.Files.{File}
-use Rattle.frame_device.specs.FrameCalls.{ChangesNumbers}
+use Rattle.site_image.specs.Prelude.{File}
+use Rattle.frame_device.specs.Prelude.{ChangesNumbers}
 use Rattle.frame_device.specs.contracts.ether.EthernetFrames.TheImpl.{ghosts as ether_link}
 use Rattle.uip_device.specs.contracts.value_pages.ValuePagesApp.TheImpl.{ghosts}
 use Rattle.uip_wire.specs.declared.addr.Addr.{Addr}
-use Rattle.uip_device.specs.Calls.{Call, DoesNothing}
-use Rattle.uip_device.specs.Devices.{Answered, Answers, Changes, left_text_of}
-use Rattle.uip_device.specs.Moves.{Move, Gives, Makes}
-use Rattle.uip_device.specs.WebDevices.{IsFreshWebDevice, WebDevice, write_value}
+use Rattle.uip_device.specs.Prelude.{Call, DoesNothing, Answered, Answers, Changes, left_text_of, Move, Gives, Makes, IsFreshWebDevice, WebDevice, write_value}
 use Rattle.uip_c.specs.Kept.{IsLine, Kept, NoDevice, OnEther, OnLine}
 use Rattle.uip_c.specs.declared.status.UipResult.{UipResult}
 use Rattle.uip_c.specs.declared.status.TheConstants.{BAD_ARGUMENT, OK, NO_DEVICE, OUTPUT_PENDING, WRONG_LINK}

@@ -2,7 +2,7 @@
 use Rattle.std.specs.Prelude.{◌≡◌, ℕ, Bool, true, false}
 use Rattle.std.specs.declared.option.Option.{Option}
 use Rattle.std.specs.declared.option.Option.TheVariants.{None, Some}
-use Rattle.uip_device.specs.WebDevices.{WebDevice, WebNode}
+use Rattle.uip_device.specs.Prelude.{WebDevice, WebNode}
 use Rattle.uip_device.specs.declared.device_web.DeviceWeb.{DeviceWeb}
 use Rattle.uip_device.specs.declared.value_pages.ValuePages.{ValuePages}
 use Rattle.frame_device.specs.declared.device.FrameDevice.{FrameDevice}

@@ -7,3 +7,4 @@ pub mod Opening
 pub mod Rows
 pub mod Taking
 pub mod ConstantValues
+pub mod Prelude

@@ -3,14 +3,12 @@ use Rattle.std.specs.List.{All}
 use Rattle.std.specs.Prelude.{◌≡◌, ◌⊎◌, ℕ, List, ◌++◌, replicate, take, Ok, Err}
 use Rattle.site_image.specs.declared.site_error.SiteError.{SiteError}
 use Rattle.site_image.specs.declared.site_error.SiteWhy.{SiteWhy}
-use Rattle.site_image.specs.Faults.{read_image}
-use Rattle.site_image.specs.Grammar.{IsImage}
-use Rattle.file_tree.specs.Site.{HasSoundScripts, IsLoaded, SiteContent, files_of}
-use Rattle.app_events.specs.Pages.{IsByte}
-use Rattle.site_report.specs.Report.{why_word}
-use Rattle.device_values.specs.Words.{word_calls}
-use Rattle.site_image.specs.Files.{File}
-use Rattle.uip_device.specs.WebDevices.{IsLongWithValues}
+use Rattle.site_image.specs.Prelude.{read_image, IsImage, File}
+use Rattle.file_tree.specs.Prelude.{HasSoundScripts, IsLoaded, SiteContent, files_of}
+use Rattle.app_events.specs.Prelude.{IsByte}
+use Rattle.site_report.specs.Prelude.{why_word}
+use Rattle.device_values.specs.Prelude.{word_calls}
+use Rattle.uip_device.specs.Prelude.{IsLongWithValues}
 use Rattle.uip_c.specs.FrameHandles.{OpensEtherAs}
 use Rattle.uip_c.specs.Handles.{OpensAs}
 use Rattle.uip_c.specs.Kept.{Kept}

@@ -2,7 +2,7 @@
 use Rattle.std.specs.Prelude.{◌≡◌, ◌⊎◌, ◌==◌, ℕ, Bool, true, false, ⊤, None as NothingLeft}
 use Rattle.std.specs.declared.option.Option.{Option}
 use Rattle.std.specs.declared.option.Option.TheVariants.{None, Some}
-use Rattle.uip_device.specs.WebDevices.{IsSoundWebDevice, WebDevice, WebNode}
+use Rattle.uip_device.specs.Prelude.{IsSoundWebDevice, WebDevice, WebNode}
 use Rattle.uip_c.specs.Handles.{HasText, IsTextStatus}
 use Rattle.uip_c.specs.Kept.{EtherWeb, Kept, NoDevice, OnEther, OnLine, is_on_ether}
 use Rattle.uip_c.specs.declared.handle.AnyDevice.{AnyDevice}

@@ -2,8 +2,7 @@
 
 ghost use Rattle.std.specs.Prelude.{◌≡◌, ◌==◌, ◌||◌, ◌<◌, ◌≤◌, ◌⊎◌, length, nat_le, nat_lt, take, true};
 ghost use Rattle.std.specs.Option.{is_some};
-ghost use Rattle.uip_device.specs.Calls.{Calls, Drains, Feeds, StopsAtEnd};
-ghost use Rattle.uip_device.specs.Devices.{CompleteOne, HasFilled};
+ghost use Rattle.uip_device.specs.Prelude.{Calls, Drains, Feeds, StopsAtEnd, CompleteOne, HasFilled};
 ghost use Rattle.uip_c.specs.Handles.{HandleAnswers, HasText, IsCallStatus, IsTextStatus, Refused, left_flag};
 ghost use Rattle.uip_c.specs.Kept.{IsLine, NoDevice, is_on_ether};
 

@@ -1,9 +1,8 @@
 //! The calls over a link that carries whole IP datagrams.
 
 ghost use Rattle.std.specs.Prelude.{◌≡◌, ◌==◌, ◌||◌, ◌≤◌, length, nat_le, nat_lt, take, true};
-ghost use Rattle.uip_device.specs.Calls.{CallsForDatagram, Inputs};
-ghost use Rattle.uip_c.specs.Handles.{HandleAnswers, HasText, IsTextStatus, Refused};
-ghost use Rattle.uip_c.specs.Kept.{NoDevice, is_on_ether};
+ghost use Rattle.uip_device.specs.Prelude.{CallsForDatagram, Inputs};
+ghost use Rattle.uip_c.specs.Prelude.{HandleAnswers, HasText, IsTextStatus, Refused, NoDevice, is_on_ether};
 
 use crate::handle::{UipDevice, put_line, take_idle};
 use crate::status::{BAD_ARGUMENT, NO_DEVICE, OK, OUTPUT_PENDING, UipResult, WRONG_LINK};

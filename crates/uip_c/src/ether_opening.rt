@@ -1,9 +1,7 @@
 //! Opening a device on Ethernet.
 
 ghost use Rattle.std.specs.Prelude.{◌≡◌, ◌==◌, ◌⊎◌, replicate};
-ghost use Rattle.uip_c.specs.EtherWebs.{OpensEtherWeb};
-ghost use Rattle.uip_c.specs.Kept.{has_device};
-ghost use Rattle.uip_c.specs.Opening.{OpensEther, TellsFault};
+ghost use Rattle.uip_c.specs.Prelude.{OpensEtherWeb, has_device, OpensEther, TellsFault};
 
 use crate::handle::{UipDevice, put_ether};
 use crate::held::EtherWeb;

@@ -1,10 +1,8 @@
 //! The calls over Ethernet (RFC 894) with ARP (RFC 826).
 
 ghost use Rattle.std.specs.Prelude.{◌≡◌, ◌==◌, ◌||◌, ◌≤◌, length, nat_le, nat_lt, take, true};
-ghost use Rattle.frame_device.specs.FrameCalls.{CallsSlot, InputsFrame};
-ghost use Rattle.uip_c.specs.FrameHandles.{EtherAnswers};
-ghost use Rattle.uip_c.specs.Handles.{IsCallStatus, Refused};
-ghost use Rattle.uip_c.specs.Kept.{NoDevice, is_on_line};
+ghost use Rattle.frame_device.specs.Prelude.{CallsSlot, InputsFrame};
+ghost use Rattle.uip_c.specs.Prelude.{EtherAnswers, IsCallStatus, Refused, NoDevice, is_on_line};
 
 use crate::handle::{UipDevice, put_ether, take_ether};
 use crate::status::{BAD_ARGUMENT, NO_DEVICE, OK, UipResult, WRONG_LINK};

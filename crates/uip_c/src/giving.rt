@@ -1,8 +1,7 @@
 //! The call that sets a value which scripts show.
 
 ghost use Rattle.std.specs.Prelude.{◌≡◌, ◌==◌, ◌||◌, ◌⊎◌, length, nat_lt};
-ghost use Rattle.uip_c.specs.Handles.{HandleGives};
-ghost use Rattle.uip_c.specs.Kept.{NoDevice};
+ghost use Rattle.uip_c.specs.Prelude.{HandleGives, NoDevice};
 
 use crate::handle::{UipDevice, give, put_any, take_any};
 use crate::status::{BAD_ARGUMENT, NO_DEVICE, OK};

@@ -1,7 +1,7 @@
 //! The handle of a device, and how a call takes the device out of it and puts it back.
 
 ghost use Rattle.std.specs.Prelude.{◌≡◌, ◌==◌, ◌<◌, ◌≤◌, IfErr, IfOk, IfSome, length};
-ghost use Rattle.uip_device.specs.WebDevices.{IsSoundWebDevice};
+ghost use Rattle.uip_device.specs.Prelude.{IsSoundWebDevice};
 ghost use Rattle.uip_c.specs.Handles.{HandleGives};
 ghost use Rattle.uip_c.specs.Kept.{NoDevice, OnEther, OnLine, is_on_ether, is_on_line};
 ghost use Rattle.uip_c.specs.Taking.{IsSoundAny, TakesEther, TakesIdle, TakesLine, TakesNoIdle, TakesNone, kept_by, kept_of, node_of};

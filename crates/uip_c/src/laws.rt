@@ -2,27 +2,17 @@
 
 ghost use Rattle.std.specs.List.{All};
 ghost use Rattle.std.specs.Prelude.{◌≡◌, ◌++◌, ℕ, List, None as NothingLeft};
-ghost use Rattle.app_events.specs.Pages.{IsAddr, IsByte};
-ghost use Rattle.site_image.specs.Files.{File};
-ghost use Rattle.device_values.specs.Words.{word_calls};
-ghost use Rattle.file_tree.specs.Site.{HasSoundScripts, IsLoaded, SiteContent, files_of};
-ghost use Rattle.web_pages.specs.Serving.{is_served};
+ghost use Rattle.app_events.specs.Prelude.{IsAddr, IsByte};
+ghost use Rattle.site_image.specs.Prelude.{File};
+ghost use Rattle.device_values.specs.Prelude.{word_calls};
+ghost use Rattle.file_tree.specs.Prelude.{HasSoundScripts, IsLoaded, SiteContent, files_of};
+ghost use Rattle.web_pages.specs.Prelude.{is_served};
 ghost use Rattle.uip_edge.specs.declared.item.Item.{Item};
 ghost use Rattle.uip_wire.specs.declared.addr.Addr.{Addr};
 ghost use Rattle.ethernet_arp.specs.declared.mac.Mac.{Mac};
-ghost use Rattle.frame_device.specs.EtherFrames.{ether_frames};
-ghost use Rattle.frame_device.specs.FrameCalls.{AnsweredFrame, handed_of, frame_moves_of};
-ghost use Rattle.frame_device.specs.FrameKeeping.{FramesConform, IsFrameOfBytes};
-ghost use Rattle.uip_device.specs.Devices.{Answered, datagrams_handed, left_text_of, line_handed, moves_of};
-ghost use Rattle.uip_device.specs.Keeping.{IsOfBytes, CallsConform};
-ghost use Rattle.uip_device.specs.Moves.{Bring};
-ghost use Rattle.uip_device.specs.WebDevices.{DeviceRepresents, value_pages};
-ghost use Rattle.uip_device.specs.WebDevices.{web_datagrams_sent, web_line_sent, web_node_after, web_output};
-ghost use Rattle.uip_c.specs.EtherWebs.{EtherRepresents, host_at, web_frames_sent, web_station_after};
-ghost use Rattle.uip_c.specs.FrameHandles.{DidFrames, OfFrameMoves, OpensEtherAs};
-ghost use Rattle.uip_c.specs.Handles.{DidAll, OfMoves, OpensAs, lefts_in};
-ghost use Rattle.uip_c.specs.Kept.{IsEther, IsLine, Kept};
-ghost use Rattle.uip_c.specs.ConstantValues.{ConstantValues};
+ghost use Rattle.frame_device.specs.Prelude.{ether_frames, AnsweredFrame, handed_of, frame_moves_of, FramesConform, IsFrameOfBytes};
+ghost use Rattle.uip_device.specs.Prelude.{Answered, datagrams_handed, left_text_of, line_handed, moves_of, IsOfBytes, CallsConform, Bring, DeviceRepresents, value_pages, web_datagrams_sent, web_line_sent, web_node_after, web_output};
+ghost use Rattle.uip_c.specs.Prelude.{EtherRepresents, host_at, web_frames_sent, web_station_after, DidFrames, OfFrameMoves, OpensEtherAs, DidAll, OfMoves, OpensAs, lefts_in, IsEther, IsLine, Kept, ConstantValues};
 
 /// Holds for any sequence of calls on a handle that was just opened, over either kind of link, successful or refused, with any values set
 /// between. The serial output, with what is pending, is the SLIP text of what the initial node sends over the input of the calls. Each call

@@ -1,13 +1,11 @@
 //! The calls that read a number of a device.
 
 ghost use Rattle.std.specs.Prelude.{◌≡◌, ◌==◌, ◌||◌, ◌-◌, ◌⊎◌, List, Some as IsThere, if◌then◌else◌, nat_lt, slice_get};
-ghost use Rattle.site_image.specs.Files.{File};
+ghost use Rattle.site_image.specs.Prelude.{File};
 ghost use Rattle.uip_wire.specs.declared.addr.Addr.{Addr as Address};
-ghost use Rattle.uip_node.specs.Counters.{counters, ticks_of};
-ghost use Rattle.uip_node.specs.Node.{AbstractNode};
-ghost use Rattle.uip_device.specs.Devices.{is_node_idle};
-ghost use Rattle.uip_device.specs.WebDevices.{NodeRepresents};
-ghost use Rattle.web_pages.specs.Pages.{hits_of};
+ghost use Rattle.uip_node.specs.Prelude.{counters, ticks_of, AbstractNode};
+ghost use Rattle.uip_device.specs.Prelude.{is_node_idle, NodeRepresents};
+ghost use Rattle.web_pages.specs.Prelude.{hits_of};
 ghost use Rattle.uip_c.specs.Kept.{HasNode, NoDevice};
 
 use crate::handle::{UipDevice, node_of, put_any, take_any};

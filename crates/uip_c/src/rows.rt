@@ -1,11 +1,10 @@
 //! The call that reads a connection.
 
 ghost use Rattle.std.specs.Prelude.{◌≡◌, ◌==◌, ◌⊎◌, List, nat_le};
-ghost use Rattle.site_image.specs.Files.{File};
+ghost use Rattle.site_image.specs.Prelude.{File};
 ghost use Rattle.uip_wire.specs.declared.addr.Addr.{Addr as Address};
-ghost use Rattle.uip_node.specs.Node.{AbstractNode};
-ghost use Rattle.uip_device.specs.Devices.{connection_row};
-ghost use Rattle.uip_device.specs.WebDevices.{NodeRepresents};
+ghost use Rattle.uip_node.specs.Prelude.{AbstractNode};
+ghost use Rattle.uip_device.specs.Prelude.{connection_row, NodeRepresents};
 ghost use Rattle.uip_c.specs.Kept.{HasNode, NoDevice};
 ghost use Rattle.uip_c.specs.Rows.{IsNoRow, IsToldRow, TellsRow, state_number};
 

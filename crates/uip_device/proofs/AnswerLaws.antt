@@ -1,26 +1,6 @@
 -- The output of moves, one after the other.
-use Rattle.std.proofs.Common.{◌≡◌, ℕ, Bool, true, false, List, [], ◌∷◌, ◌++◌, Option, None, if◌then◌else◌, refl, sym, ap, ◌∙◌, append-nil, append_assoc, subst}
-use Rattle.app_events.specs.AppSpec.{AppSpec}
-use Rattle.app_events.specs.declared.app.App.{Ghosts}
-use Rattle.packet_buffer.specs.Buffer.{datagram_in}
-use Rattle.uip_edge.specs.declared.item.Item.{Item}
-use Rattle.uip_slip.specs.Decoding.{WasFed}
-use Rattle.uip_node.specs.Events.{Reply}
-use Rattle.uip_node.specs.Node.{AbstractNode, initial_node}
+use Rattle.uip_device.proofs.Prelude.{◌≡◌, ℕ, Bool, true, false, List, [], ◌∷◌, ◌++◌, Option, None, if◌then◌else◌, refl, sym, ap, ◌∙◌, append-nil, append_assoc, subst, AppSpec, Ghosts, datagram_in, Item, WasFed, Reply, AbstractNode, initial_node, Addr, initial_station, output_by, slip_medium, text_of, IsNode, said_on_line, Call, DoesNothing, Drains, bytes_of_call, events_by, is_by_datagram, Answered, Answers, AnswersAll, AnswersMove, HasDelivered, IsFreshDevice, datagrams_handed, left_text_of, line_handed, moves_of, text_to_come, Bring, Gives, Makes, Move, Writing, bytes_of_move, goes_by_datagram, run_move, datagrams_sent, line_sent, node_reached, HandsOut, SendsOver, datagram_sent, Device}
 use Rattle.uip_node.specs.declared.node.Node.{Node}
-use Rattle.uip_wire.specs.declared.addr.Addr.{Addr}
-use Rattle.serve_loop.specs.LineOutput.{initial_station, output_by}
-use Rattle.serve_loop.specs.SerialMedium.{slip_medium}
-use Rattle.serve_loop.specs.Texts.{text_of}
-use Rattle.serve_loop.specs.Turns.{IsNode}
-use Rattle.serve_loop.proofs.SlipServeLaws.{said_on_line}
-use Rattle.uip_device.specs.Calls.{Call, DoesNothing, Drains, bytes_of_call, events_by, is_by_datagram}
-use Rattle.uip_device.specs.Devices.{Answered, Answers, AnswersAll, AnswersMove, HasDelivered, IsFreshDevice, datagrams_handed, left_text_of, line_handed, moves_of}
-use Rattle.uip_device.specs.Handing.{text_to_come}
-use Rattle.uip_device.specs.Moves.{Bring, Gives, Makes, Move, Writing, bytes_of_move, goes_by_datagram, run_move}
-use Rattle.uip_device.specs.Output.{datagrams_sent, line_sent, node_reached}
-use Rattle.uip_device.specs.Sending.{HandsOut, SendsOver, datagram_sent}
-use Rattle.uip_device.specs.declared.device.Device.{Device}
 use Rattle.uip_device.proofs.CallLaws.{line_text}
 use Rattle.uip_device.proofs.SendLaws.{by_datagram, sends_none}
 

@@ -1,26 +1,6 @@
 -- The events of moves with bytes are those of a line: datagrams of bytes, frames that are too long and calls of slots.
-use Rattle.std.specs.List.{All}
-use Rattle.std.proofs.Common.{ℕ, ◌+◌, List, [], ◌∷◌, ◌++◌, length, map, refl}
-use Rattle.std.proofs.lemmas.List.Elements.{All-append, All-cons, All-head, All-nil, All-tail}
-use Rattle.uip_wire.specs.declared.addr.Addr.{Addr}
-use Rattle.app_events.specs.Pages.{IsByte}
-use Rattle.uip_edge.specs.declared.item.Item.TheVariants.{Byte}
-use Rattle.uip_slip.specs.Frames.{Frame, Datagram, Overlong, completed}
-use Rattle.uip_node.specs.Events.{Event}
-use Rattle.uip_node.specs.Events.Event.{Periodic}
-use Rattle.uip_node.specs.Edge.{event_of}
-use Rattle.uip_node.proofs.Basics.{choose}
-use Rattle.serve_loop.specs.LineEvents.{beat, event_by, events_after}
-use Rattle.serve_loop.specs.Items.{CarriesBytes}
-use Rattle.serve_loop.specs.Pace.{is_beat}
-use Rattle.serve_loop.specs.SerialMedium.{came_by}
-use Rattle.serve_loop.proofs.ByteLaws.{slip_brings_bytes}
-use Rattle.node_laws.specs.Wire.{IsOfLine}
-use Rattle.node_laws.specs.Wire.IsOfLine.{of_bytes, of_overlong, of_call}
+use Rattle.uip_device.proofs.Prelude.{All, ℕ, ◌+◌, List, [], ◌∷◌, ◌++◌, length, map, refl, All-append, All-cons, All-head, All-nil, All-tail, Addr, IsByte, Byte, Frame, Datagram, Overlong, completed, Event, Periodic, event_of, choose, beat, event_by, events_after, CarriesBytes, is_beat, came_by, slip_brings_bytes, IsOfLine, of_bytes, of_overlong, of_call, Call, Calls, CallsForDatagram, DoesNothing, Drains, Feeds, Inputs, events_by, IsOfBytes, KeepsU32, Gives, Makes, Move, Writing, bytes_of_move}
 use Rattle.node_laws.proofs.Steps.{LineStep, OfNode, Changes as ChangesNumbers, IsStep, all_happen}
-use Rattle.uip_device.specs.Calls.{Call, Calls, CallsForDatagram, DoesNothing, Drains, Feeds, Inputs, events_by}
-use Rattle.uip_device.specs.Keeping.{IsOfBytes, KeepsU32}
-use Rattle.uip_device.specs.Moves.{Gives, Makes, Move, Writing, bytes_of_move}
 
 bytes_low : (move : Move) → IsOfBytes move → All IsByte (bytes_of_move move)
 bytes_low (Makes (Feeds bytes)) is = is

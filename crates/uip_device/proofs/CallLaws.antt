@@ -1,23 +1,5 @@
 -- The events that calls bring to a node, for each cut of the bytes among them.
-use Rattle.std.proofs.Common.{◌≡◌, ℕ, ◌+◌, Bool, true, false, List, [], ◌∷◌, ◌++◌, if◌then◌else◌, length, map, refl, sym, ap, ◌∙◌, append-nil, append_assoc, arith, length-append, subst}
-use Rattle.std.specs.List.{flat_map}
-use Rattle.std.specs.Prelude.{⊤}
-use Rattle.uip_wire.specs.declared.addr.Addr.{Addr}
-use Rattle.uip_edge.specs.declared.item.Item.{Item}
-use Rattle.uip_edge.specs.declared.item.Item.TheVariants.{Byte, Quiet}
-use Rattle.uip_node.specs.Events.{tick}
-use Rattle.uip_node.specs.Events.Event.{Periodic}
-use Rattle.app_events.specs.AppSpec.{AppSpec}
-use Rattle.uip_slip.specs.Frames.{completed}
-use Rattle.uip_node.specs.Edge.{event_of}
-use Rattle.uip_node.specs.Node.{AbstractNode, run}
-use Rattle.serve_loop.specs.LineEvents.{beat, event_by, events_after, line_events}
-use Rattle.serve_loop.specs.Pace.{is_beat}
-use Rattle.serve_loop.specs.Texts.{text_of}
-use Rattle.serve_loop.proofs.RunLaws.{run-text-append}
-use Rattle.uip_device.specs.Calls.{Call, Calls, CallsForDatagram, DoesNothing, Drains, Feeds, Inputs, byte_calls, bytes_of_call, calls_after, events_by, events_of_calls, is_by_datagram, tick_calls}
-use Rattle.uip_device.specs.Moves.{Bring, Makes, Move, Writing}
-use Rattle.uip_device.specs.Output.{line_sent}
+use Rattle.uip_device.proofs.Prelude.{◌≡◌, ℕ, ◌+◌, Bool, true, false, List, [], ◌∷◌, ◌++◌, if◌then◌else◌, length, map, refl, sym, ap, ◌∙◌, append-nil, append_assoc, arith, length-append, subst, flat_map, ⊤, Addr, Item, Byte, Quiet, tick, Periodic, AppSpec, completed, event_of, AbstractNode, run, beat, event_by, events_after, line_events, is_beat, text_of, run-text-append, Call, Calls, CallsForDatagram, DoesNothing, Drains, Feeds, Inputs, byte_calls, bytes_of_call, calls_after, events_by, events_of_calls, is_by_datagram, tick_calls, Bring, Makes, Move, Writing, line_sent}
 
 module _ (own : Addr) where
   -- what single bytes bring, and then other calls

@@ -1,11 +1,5 @@
 -- The events of bytes without a pace.
-use Rattle.std.proofs.Common.{◌≡◌, ℕ, List, [], ◌∷◌, ◌++◌, map, refl, sym, ap, ◌∙◌, append-nil}
-use Rattle.std.proofs.lemmas.List.{map-append}
-use Rattle.uip_wire.specs.declared.addr.Addr.{Addr}
-use Rattle.uip_edge.specs.declared.item.Item.TheVariants.{Byte}
-use Rattle.uip_slip.specs.Frames.{Frame, completed, frames}
-use Rattle.uip_slip.proofs.FrameLaws.{completed_by, completed_told}
-use Rattle.serve_loop.specs.LineEvents.{event_by, events_after}
+use Rattle.uip_device.proofs.Prelude.{◌≡◌, ℕ, List, [], ◌∷◌, ◌++◌, map, refl, sym, ap, ◌∙◌, append-nil, map-append, Addr, Byte, Frame, completed, frames, completed_by, completed_told, event_by, events_after}
 
 -- bytes bring the frames that they complete
 completed_events : (own : Addr) (before bytes : List ℕ) → events_after own 0 before (map Byte bytes) ≡ map (event_by own) (completed_by before bytes)

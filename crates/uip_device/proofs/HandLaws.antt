@@ -1,16 +1,5 @@
 -- A datagram's text in pieces.
-use Rattle.std.proofs.Common.{◌≡◌, ℕ, ◌≤◌, List, [], ◌∷◌, ◌++◌, length, take, sym, ap, ◌∙◌, append_assoc, arith, length-append, true, Option, None, Some}
-use Rattle.std.proofs.lemmas.List.{length-take-le}
-use Rattle.std.proofs.lemmas.List.Concat.{flat_map-append}
-use Rattle.std.proofs.lemmas.Bool.{false≢true}
-use Rattle.std.specs.Option.{is_some}
-use Rattle.uip_wire.specs.declared.addr.Addr.{Addr}
-use Rattle.packet_buffer.specs.Buffer.{Buffer, datagram_in}
-use Rattle.uip_slip.specs.Text.{escaped, escaped_byte, slip_text}
-use Rattle.uip_node.specs.Events.{Reply}
-use Rattle.uip_node.specs.Spoken.{IsSent}
-use Rattle.serve_loop.specs.Texts.{text_for}
-use Rattle.uip_device.specs.Handing.{rest_text}
+use Rattle.uip_device.proofs.Prelude.{◌≡◌, ℕ, ◌≤◌, List, [], ◌∷◌, ◌++◌, length, take, sym, ap, ◌∙◌, append_assoc, arith, length-append, true, Option, None, Some, length-take-le, flat_map-append, false≢true, is_some, Addr, Buffer, datagram_in, escaped, escaped_byte, slip_text, Reply, IsSent, text_for, rest_text}
 
 -- a prefix is put, and its text is no longer pending
 pub prefix_put : (before made rest prefix after : List ℕ) → made ≡ before ++ escaped prefix → rest ≡ prefix ++ after → made ++ rest_text after ≡ before ++ rest_text rest

@@ -1,28 +1,5 @@
 -- A device satisfies the guarantee of its node, move by move.
-use Rattle.std.specs.List.{All, flat_map}
-use Rattle.std.proofs.Common.{◌≡◌, ℕ, List, [], ◌∷◌, ◌++◌, map, refl, sym, ap, ◌∙◌, subst}
-use Rattle.app_events.specs.Pages.{IsAddr, IsPaged, IsU32, Pages}
-use Rattle.app_events.specs.AppSpec.{AppSpec}
-use Rattle.app_events.specs.declared.app.App.{Ghosts}
-use Rattle.uip_wire.specs.declared.addr.Addr.{Addr}
-use Rattle.uip_node.specs.Events.{Event, Reply}
-use Rattle.uip_node.specs.Laws.{HasBytes}
-use Rattle.uip_node.specs.Node.{AbstractNode, initial_node}
-use Rattle.serve_loop.specs.Turns.{IsNode}
-use Rattle.node_laws.specs.TraceConforms.{TraceConforms}
-use Rattle.node_laws.specs.Speakers.{at_every_port}
-use Rattle.node_laws.specs.Traces.{TraceEntry}
-use Rattle.node_laws.specs.Turns.{trace_of}
-use Rattle.node_laws.specs.Wire.{IsReadByPeer}
-use Rattle.node_laws.proofs.EveryTraceConforms.{every_step_of_pages}
-use Rattle.node_laws.proofs.Steps.{LineStep, trace_over, turns_then}
-use Rattle.node_laws.proofs.TurnRuns.{sends, turn_events}
-use Rattle.uip_device.specs.Calls.{events_by}
-use Rattle.uip_device.specs.Devices.{Answered, AnswersAll, HasDelivered, IsFreshDevice, left_text_of, lefts_of, moves_of}
-use Rattle.uip_device.specs.Keeping.{AllHandOutSent, IsOfBytes, OutputIsSent, CallsConform, KeepsU32, MoveTrace}
-use Rattle.uip_device.specs.Moves.{Gives, Makes, Move, Writing, bytes_of_move, events_of_move, goes_by_datagram, run_move, with_value}
-use Rattle.uip_device.specs.Sending.{HandsOut}
-use Rattle.uip_device.specs.declared.device.Device.{Device}
+use Rattle.uip_device.proofs.Prelude.{All, flat_map, ◌≡◌, ℕ, List, [], ◌∷◌, ◌++◌, map, refl, sym, ap, ◌∙◌, subst, IsAddr, IsPaged, IsU32, Pages, AppSpec, Ghosts, Addr, Event, Reply, HasBytes, AbstractNode, initial_node, IsNode, TraceConforms, at_every_port, TraceEntry, trace_of, IsReadByPeer, every_step_of_pages, LineStep, trace_over, turns_then, sends, turn_events, events_by, Answered, AnswersAll, HasDelivered, IsFreshDevice, left_text_of, lefts_of, moves_of, AllHandOutSent, IsOfBytes, OutputIsSent, CallsConform, KeepsU32, MoveTrace, Gives, Makes, Move, Writing, bytes_of_move, events_of_move, goes_by_datagram, run_move, with_value, HandsOut, Device}
 use Rattle.uip_device.proofs.AnswerLaws.{MovesOn, moves_on, none_left}
 use Rattle.uip_device.proofs.BringLaws.{steps_are, steps_of, steps_of_move}
 

@@ -6,3 +6,4 @@ pub mod HandLaws
 pub mod KeepLaws
 pub mod SendLaws
 pub mod WebLaws
+mod Prelude

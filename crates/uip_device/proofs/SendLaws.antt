@@ -1,20 +1,6 @@
 -- What a node sends at its steps.
-use Rattle.std.proofs.Common.{◌≡◌, ℕ, List, [], ◌∷◌, ◌++◌, Option, true, false, refl, sym, ap, ◌∙◌, append-nil, subst}
-use Rattle.app_events.specs.declared.app.App.{Ghosts}
-use Rattle.uip_wire.specs.declared.addr.Addr.{Addr}
-use Rattle.uip_node.specs.State.{Node}
-use Rattle.uip_node.specs.Counted.{seen}
-use Rattle.uip_node.specs.Edge.{event_of}
-use Rattle.uip_node.specs.Events.{Event, Reply}
+use Rattle.uip_device.proofs.Prelude.{◌≡◌, ℕ, List, [], ◌∷◌, ◌++◌, Option, true, false, refl, sym, ap, ◌∙◌, append-nil, subst, Ghosts, Addr, Node, seen, event_of, Event, Reply, AbstractNode, joined, run, step, IsSent, Represents, Steps, text_for, text_of, IsNode, node_on, node_step, text_of-joined, HandsOut, SendsOver, datagram_sent}
 use Rattle.uip_node.specs.Events.Event.{Overlong}
-use Rattle.uip_node.specs.Node.{AbstractNode, joined, run, step}
-use Rattle.uip_node.specs.Spoken.{IsSent}
-use Rattle.uip_node.specs.Represents.{Represents, Steps}
-use Rattle.serve_loop.specs.Texts.{text_for, text_of}
-use Rattle.serve_loop.specs.Turns.{IsNode}
-use Rattle.serve_loop.proofs.NodeLaws.{node_on, node_step}
-use Rattle.serve_loop.proofs.RunLaws.{text_of-joined}
-use Rattle.uip_device.specs.Sending.{HandsOut, SendsOver, datagram_sent}
 
 module _ {A S : Type 0} (g : Ghosts A S) where
   -- nothing happened

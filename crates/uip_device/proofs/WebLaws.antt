@@ -1,18 +1,5 @@
 -- The numbers of a device with a web server: the hits, followed by the values.
-use Rattle.std.specs.List.{All}
-use Rattle.std.proofs.Common.{◌≡◌, ℕ, ◌+◌, ◌-◌, ◌*◌, ◌≤◌, List, ◌∷◌, ◌++◌, drop, length, length-append, replicate, take, refl, sym, ap, ◌∙◌, arith, lit<, Option, option_map}
-use Rattle.std.specs.List.{slice_index_or}
-use Rattle.std.specs.Option.{option_map_or}
-use Rattle.std.proofs.lemmas.List.{drop_at, take_at}
-use Rattle.std.proofs.lemmas.List.Elements.{All-append, All-cons, All-drop, All-replicate, All-take}
-use Rattle.app_events.specs.Pages.{IsByte, IsU32}
-use Rattle.site_image.specs.Files.{File}
-use Rattle.file_tree.specs.declared.file_id.FileId.{FileId}
-use Rattle.web_pages.specs.Pages.{hits_of, place_of}
-use Rattle.web_pages.specs.Serving.{no_hits}
-use Rattle.device_values.specs.Values.{no_values, value_given}
-use Rattle.uip_device.specs.Keeping.{KeepsU32}
-use Rattle.uip_device.specs.WebDevices.{first_numbers, write_value}
+use Rattle.uip_device.proofs.Prelude.{All, ◌≡◌, ℕ, ◌+◌, ◌-◌, ◌*◌, ◌≤◌, List, ◌∷◌, ◌++◌, drop, length, length-append, replicate, take, refl, sym, ap, ◌∙◌, arith, lit<, Option, option_map, slice_index_or, option_map_or, drop_at, take_at, All-append, All-cons, All-drop, All-replicate, All-take, IsByte, IsU32, File, FileId, hits_of, place_of, no_hits, no_values, value_given, KeepsU32, first_numbers, write_value}
 
 -- a value is set after the hits, which stay
 pub written_after : (number : ℕ) (text hits values : List ℕ) → length values ≡ 528

@@ -3,11 +3,8 @@ use Rattle.std.specs.Prelude.{◌≡◌, ◌⊎◌, ℕ, Bool, true, false, ◌+
 use Rattle.uip_wire.specs.declared.addr.Addr.{Addr}
 use Rattle.uip_edge.specs.declared.item.Item.{Item}
 use Rattle.uip_edge.specs.declared.item.Item.TheVariants.{Byte, Quiet}
-use Rattle.uip_node.specs.Edge.{event_of}
-use Rattle.uip_node.specs.Events.{Event}
-use Rattle.uip_node.specs.Events.Event.{Periodic}
-use Rattle.serve_loop.specs.LineEvents.{events_after}
-use Rattle.serve_loop.specs.Pace.{is_beat}
+use Rattle.uip_node.specs.Prelude.{event_of, Event, Periodic}
+use Rattle.serve_loop.specs.Prelude.{events_after, is_beat}
 
 -- A call. Over a serial line bytes are fed, a slot is called, or pending output is drained. Over a datagram link a datagram is received,
 -- or a slot is called. A refused call, or one that reads a count, does nothing.

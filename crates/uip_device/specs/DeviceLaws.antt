@@ -1,14 +1,12 @@
 -- What the laws of a device state.
 use Rattle.std.specs.List.{All}
 use Rattle.std.specs.Prelude.{◌≡◌, ℕ, List, None}
-use Rattle.app_events.specs.AppSpec.{AppSpec}
-use Rattle.app_events.specs.Pages.{IsAddr, IsPaged, IsU32, Pages}
+use Rattle.app_events.specs.Prelude.{AppSpec, IsAddr, IsPaged, IsU32, Pages}
 use Rattle.app_events.specs.declared.app.App.{Ghosts}
 use Rattle.uip_edge.specs.declared.item.Item.{Item}
-use Rattle.uip_node.specs.Laws.{HasBytes}
+use Rattle.uip_node.specs.Prelude.{HasBytes}
 use Rattle.uip_wire.specs.declared.addr.Addr.{Addr}
-use Rattle.serve_loop.specs.LineOutput.{output_by}
-use Rattle.serve_loop.specs.SerialMedium.{slip_medium}
+use Rattle.serve_loop.specs.Prelude.{output_by, slip_medium}
 use Rattle.uip_device.specs.Devices.{Answered, AnswersAll, IsFreshDevice, lefts_of, line_handed, moves_of}
 use Rattle.uip_device.specs.Keeping.{CallsConform, IsOfBytes, KeepsU32}
 use Rattle.uip_device.specs.Moves.{Bring, Writing}

@@ -1,17 +1,15 @@
 -- A device, and the output of each call.
 use Rattle.std.specs.Prelude.{◌≡◌, ◌≤◌, ◌==◌, ◌+◌, ℕ, Bool, List, [], ◌∷◌, ◌++◌, Option, None, Some, IfSome, if◌then◌else◌, length, map}
 use Rattle.std.specs.List.{flat_map}
-use Rattle.app_events.specs.AppSpec.{AppSpec}
+use Rattle.app_events.specs.Prelude.{AppSpec}
 use Rattle.app_events.specs.declared.app.App.{Ghosts}
 use Rattle.app_events.specs.declared.row.Row.{Row}
-use Rattle.packet_buffer.specs.Buffer.{datagram_in}
-use Rattle.tcp_machine.specs.Connection.{rows_from}
-use Rattle.uip_node.specs.Node.{AbstractNode, initial_node}
-use Rattle.uip_node.specs.State.{Node}
+use Rattle.packet_buffer.specs.Prelude.{datagram_in}
+use Rattle.tcp_machine.specs.Prelude.{rows_from}
+use Rattle.uip_node.specs.Prelude.{AbstractNode, initial_node, Node}
 use Rattle.uip_wire.specs.declared.addr.Addr.{Addr}
-use Rattle.uip_slip.specs.Decoding.{WasFed}
-use Rattle.uip_slip.specs.Frames.{frames}
-use Rattle.serve_loop.specs.Turns.{IsNode}
+use Rattle.uip_slip.specs.Prelude.{WasFed, frames}
+use Rattle.serve_loop.specs.Prelude.{IsNode}
 use Rattle.uip_device.specs.Calls.{Call, bytes_of_call, events_by, is_by_datagram}
 use Rattle.uip_device.specs.Moves.{Move, Makes, Gives, Writing, goes_by_datagram, with_numbers}
 use Rattle.uip_device.specs.Handing.{FillsRoom, text_to_come}

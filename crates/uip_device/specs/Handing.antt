@@ -1,6 +1,6 @@
 -- The pending rest of an encoded datagram.
 use Rattle.std.specs.Prelude.{◌≡◌, ◌≤◌, ◌+◌, ◌⊎◌, ℕ, List, [], ◌∷◌, ◌++◌, drop, length, Option, None, Some}
-use Rattle.uip_slip.specs.Text.{escaped}
+use Rattle.uip_slip.specs.Prelude.{escaped}
 
 -- the remaining bytes, escaped, and the END after them
 abbrev pub rest_text : List ℕ → List ℕ

@@ -1,12 +1,9 @@
 -- The guarantee for a device, move by move.
 use Rattle.std.specs.List.{All, flat_map}
 use Rattle.std.specs.Prelude.{◌≡◌, ◌≤◌, ℕ, Bool, length, List, [], ◌∷◌, ◌++◌, map, ⊤}
-use Rattle.app_events.specs.Pages.{IsByte, IsU32, Pages}
+use Rattle.app_events.specs.Prelude.{IsByte, IsU32, Pages}
 use Rattle.uip_wire.specs.declared.addr.Addr.{Addr}
-use Rattle.node_laws.specs.TraceConforms.{TraceConforms}
-use Rattle.node_laws.specs.Speakers.{at_every_port}
-use Rattle.node_laws.specs.Traces.{TraceEntry, replies_of}
-use Rattle.node_laws.specs.Wire.{IsReadByPeer}
+use Rattle.node_laws.specs.Prelude.{TraceConforms, at_every_port, TraceEntry, replies_of, IsReadByPeer}
 use Rattle.uip_device.specs.Calls.{Feeds, Inputs}
 use Rattle.uip_device.specs.Moves.{Move, Makes, Gives, Writing, bytes_of_move, events_of_move, goes_by_datagram}
 use Rattle.uip_device.specs.Devices.{Answered}

@@ -8,3 +8,4 @@ pub mod Output
 pub mod Sending
 pub mod WebDevices
 pub mod ConstantValues
+pub mod Prelude

@@ -3,9 +3,8 @@ use Rattle.std.specs.Prelude.{◌≡◌, ℕ, Bool, false, List, [], map}
 use Rattle.std.specs.List.{flat_map}
 use Rattle.uip_wire.specs.declared.addr.Addr.{Addr}
 use Rattle.uip_edge.specs.declared.item.Item.{Item}
-use Rattle.uip_node.specs.Events.{Event}
-use Rattle.uip_node.specs.Node.{AbstractNode, Ran, run}
-use Rattle.app_events.specs.AppSpec.{AppSpec}
+use Rattle.uip_node.specs.Prelude.{Event, AbstractNode, Ran, run}
+use Rattle.app_events.specs.Prelude.{AppSpec}
 use Rattle.uip_device.specs.Calls.{Call, byte_calls, bytes_of_call, calls_after, events_by, is_by_datagram}
 
 -- a call, or the value with a number is this text from now on

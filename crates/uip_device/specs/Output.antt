@@ -1,9 +1,9 @@
 -- What a node sends over the moves of its device.
 use Rattle.std.specs.Prelude.{ℕ, Bool, List, [], ◌∷◌, ◌++◌, if◌then◌else◌}
-use Rattle.app_events.specs.AppSpec.{AppSpec}
-use Rattle.uip_node.specs.Node.{AbstractNode}
+use Rattle.app_events.specs.Prelude.{AppSpec}
+use Rattle.uip_node.specs.Prelude.{AbstractNode}
 use Rattle.uip_wire.specs.declared.addr.Addr.{Addr}
-use Rattle.serve_loop.specs.Texts.{text_of}
+use Rattle.serve_loop.specs.Prelude.{text_of}
 use Rattle.uip_device.specs.Moves.{Move, Writing, bytes_of_move, goes_by_datagram, run_move}
 use Rattle.uip_device.specs.Sending.{datagram_sent}
 

@@ -1,15 +1,11 @@
 -- What a device returns of what its node sends.
 use Rattle.std.specs.Prelude.{◌≡◌, ℕ, Bool, true, false, List, ◌++◌}
 use Rattle.std.specs.List.{flat_map}
-use Rattle.app_events.specs.AppSpec.{AppSpec}
+use Rattle.app_events.specs.Prelude.{AppSpec}
 use Rattle.app_events.specs.declared.app.App.{Ghosts}
 use Rattle.uip_wire.specs.declared.addr.Addr.{Addr}
-use Rattle.uip_node.specs.State.{Node}
-use Rattle.uip_node.specs.Edge.{reply_bytes}
-use Rattle.uip_node.specs.Events.{Event, Reply}
-use Rattle.uip_node.specs.Node.{AbstractNode, run}
-use Rattle.serve_loop.specs.Texts.{text_of}
-use Rattle.serve_loop.specs.Turns.{IsNode}
+use Rattle.uip_node.specs.Prelude.{Node, reply_bytes, Event, Reply, AbstractNode, run}
+use Rattle.serve_loop.specs.Prelude.{text_of, IsNode}
 
 -- A node took these events, which may depend on its address. For any abstract node that it represented, it represents the node after the
 -- run, and the property holds for what the run sends. The configuration of its application, such as a site, is unchanged.

@@ -1,29 +1,20 @@
 -- A device with the web server of a site, whose scripts can show values.
 use Rattle.std.specs.List.{All}
 use Rattle.std.specs.Prelude.{◌≡◌, ◌⊎◌, ◌-◌, ℕ, List, [], ◌++◌, drop, length, take, Result, Ok, Err, ⊤}
-use Rattle.site_image.specs.Faults.{fault, read_image}
-use Rattle.site_image.specs.Files.{File}
-use Rattle.site_image.specs.Grammar.{IsImage}
+use Rattle.site_image.specs.Prelude.{fault, read_image, File, IsImage}
 use Rattle.site_image.specs.declared.site_error.SiteError.{SiteError}
 use Rattle.site_image.specs.declared.site_error.SiteWhy.TheVariants.{PageTooLong}
-use Rattle.app_events.specs.Pages.{IsByte, Pages}
-use Rattle.app_events.specs.AppSpec.{AppSpec}
-use Rattle.file_tree.specs.Site.{HasSoundScripts, IsLoaded, SiteContent, files_of}
-use Rattle.web_pages.specs.Pages.{pages_by}
-use Rattle.web_pages.specs.Serving.{is_served, no_hits}
-use Rattle.web_pages.specs.WebMeaning.{web_spec_by}
-use Rattle.device_values.specs.Values.{no_values, value_given}
-use Rattle.device_values.specs.Words.{word_calls, words}
+use Rattle.app_events.specs.Prelude.{IsByte, Pages, AppSpec}
+use Rattle.file_tree.specs.Prelude.{HasSoundScripts, IsLoaded, SiteContent, files_of}
+use Rattle.web_pages.specs.Prelude.{pages_by, is_served, no_hits, web_spec_by}
+use Rattle.device_values.specs.Prelude.{no_values, value_given, word_calls, words}
 use Rattle.uip_device.specs.contracts.value_pages.ValuePagesApp.TheImpl.{ghosts}
 use Rattle.uip_device.specs.declared.device_web.DeviceWeb.{DeviceWeb}
 use Rattle.uip_device.specs.declared.value_pages.ValuePages.{ValuePages}
 use Rattle.uip_edge.specs.declared.item.Item.{Item}
-use Rattle.uip_node.specs.Node.{AbstractNode, initial_node}
-use Rattle.uip_node.specs.State.{Node}
+use Rattle.uip_node.specs.Prelude.{AbstractNode, initial_node, Node}
 use Rattle.uip_wire.specs.declared.addr.Addr.{Addr}
-use Rattle.serve_loop.specs.LineOutput.{output_by}
-use Rattle.serve_loop.specs.SerialMedium.{slip_medium}
-use Rattle.serve_loop.specs.Turns.{IsNode}
+use Rattle.serve_loop.specs.Prelude.{output_by, slip_medium, IsNode}
 use Rattle.uip_device.specs.Devices.{IsFreshDevice, IsSoundDevice}
 use Rattle.uip_device.specs.Moves.{Move, Writing}
 use Rattle.uip_device.specs.Output.{datagrams_sent, line_sent, node_reached}

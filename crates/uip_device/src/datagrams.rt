@@ -2,10 +2,8 @@
 
 ghost use Rattle.std.specs.Prelude.{◌≡◌, ◌≤◌, [], length, take, Option};
 ghost use Rattle.uip_wire.specs.declared.addr.Addr.{Addr as Address};
-ghost use Rattle.uip_node.specs.Events.{Reply};
-ghost use Rattle.uip_node.specs.Node.{joined};
-ghost use Rattle.uip_node.specs.Spoken.{IsSent};
-ghost use Rattle.uip_device.specs.Sending.{datagram_sent};
+ghost use Rattle.uip_node.specs.Prelude.{Reply, joined, IsSent};
+ghost use Rattle.uip_device.specs.Prelude.{datagram_sent};
 
 use app_events::App;
 use uip_node::Node;

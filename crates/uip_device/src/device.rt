@@ -1,13 +1,11 @@
 //! A device and its calls: a node with a SLIP decoder (RFC 1055) and the output that is still pending.
 
 ghost use Rattle.std.specs.Prelude.{◌≡◌, ◌<◌, ◌≤◌, ◌+◌, ◌++◌, ◌∷◌, [], List, ℕ, IfSome, None, Some, length, map, take};
-ghost use Rattle.packet_buffer.specs.Buffer.{datagram_in};
+ghost use Rattle.packet_buffer.specs.Prelude.{datagram_in};
 ghost use Rattle.uip_edge.specs.declared.item.Item.TheVariants.{Byte};
-ghost use Rattle.uip_slip.specs.Decoding.{WasFed};
-ghost use Rattle.uip_slip.specs.Frames.{frames};
-ghost use Rattle.uip_node.specs.Edge.{event_of};
-ghost use Rattle.serve_loop.specs.LineEvents.{events_after};
-ghost use Rattle.serve_loop.specs.Texts.{text_of};
+ghost use Rattle.uip_slip.specs.Prelude.{WasFed, frames};
+ghost use Rattle.uip_node.specs.Prelude.{event_of};
+ghost use Rattle.serve_loop.specs.Prelude.{events_after, text_of};
 ghost use Rattle.uip_device.specs.Calls.{StopsAtEnd};
 ghost use Rattle.uip_device.specs.Handing.{FillsRoom, text_to_come};
 ghost use Rattle.uip_device.specs.Sending.{SendsOver};

@@ -1,12 +1,11 @@
 //! The SLIP text of a datagram, written in pieces (RFC 1055).
 
 ghost use Rattle.std.specs.Prelude.{◌≡◌, ◌<◌, ◌≤◌, ◌+◌, ◌*◌, ◌-◌, ◌++◌, ◌⊎◌, [], ◌∷◌, Option, Some, None, IfSome, length, take};
-ghost use Rattle.packet_buffer.specs.Buffer.{datagram_in};
-ghost use Rattle.uip_slip.specs.Text.{escaped};
+ghost use Rattle.packet_buffer.specs.Prelude.{datagram_in};
+ghost use Rattle.uip_slip.specs.Prelude.{escaped};
 ghost use Rattle.uip_wire.specs.declared.addr.Addr.{Addr as Address};
-ghost use Rattle.uip_node.specs.Events.{Reply};
-ghost use Rattle.uip_node.specs.Spoken.{IsSent};
-ghost use Rattle.serve_loop.specs.Texts.{text_for};
+ghost use Rattle.uip_node.specs.Prelude.{Reply, IsSent};
+ghost use Rattle.serve_loop.specs.Prelude.{text_for};
 ghost use Rattle.uip_device.specs.Handing.{FillsRoom, text_to_come};
 
 use app_events::App;

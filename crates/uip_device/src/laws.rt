@@ -1,12 +1,9 @@
 //! The laws of any sequence of moves: calls, and values that are set between them.
 
 ghost use Rattle.std.specs.Prelude.{◌≡◌, ◌++◌, []};
-ghost use Rattle.uip_node.specs.Node.{initial_node};
-ghost use Rattle.serve_loop.specs.Turns.{IsNode};
-ghost use Rattle.uip_device.specs.DeviceLaws.{EveryCallConforms, EveryLineIsServed};
-ghost use Rattle.uip_device.specs.Devices.{FromFresh, datagrams_handed, left_text_of, line_handed, moves_of};
-ghost use Rattle.uip_device.specs.ConstantValues.{ConstantValues};
-ghost use Rattle.uip_device.specs.Output.{datagrams_sent, line_sent, node_reached};
+ghost use Rattle.uip_node.specs.Prelude.{initial_node};
+ghost use Rattle.serve_loop.specs.Prelude.{IsNode};
+ghost use Rattle.uip_device.specs.Prelude.{EveryCallConforms, EveryLineIsServed, FromFresh, datagrams_handed, left_text_of, line_handed, moves_of, ConstantValues, datagrams_sent, line_sent, node_reached};
 
 use app_events::App;
 

@@ -1,10 +1,8 @@
 //! What is read of a node. A device on any link passes these on.
 
 ghost use Rattle.std.specs.Prelude.{◌≡◌, ◌<◌, Some, length, slice_get};
-ghost use Rattle.uip_node.specs.Counters.{counters, ticks_of};
-ghost use Rattle.uip_node.specs.Node.{AbstractNode};
-ghost use Rattle.uip_node.specs.Represents.{Represents};
-ghost use Rattle.uip_device.specs.Devices.{connection_row, is_node_idle, row_in};
+ghost use Rattle.uip_node.specs.Prelude.{counters, ticks_of, AbstractNode, Represents};
+ghost use Rattle.uip_device.specs.Prelude.{connection_row, is_node_idle, row_in};
 
 use app_events::{App, Row};
 use uip_node::Node;

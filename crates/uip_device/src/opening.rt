@@ -2,10 +2,10 @@
 
 ghost use Rattle.std.specs.Prelude.{◌≡◌, ◌++◌, ◌↔◌, IfOk, IsTrue};
 ghost use Rattle.std.specs.List.{All};
-ghost use Rattle.app_events.specs.Pages.{IsByte};
-ghost use Rattle.device_values.specs.Words.{word_calls};
-ghost use Rattle.file_tree.specs.Site.{HasSoundScripts, IsLoaded, files_of};
-ghost use Rattle.site_image.specs.Faults.{fault};
+ghost use Rattle.app_events.specs.Prelude.{IsByte};
+ghost use Rattle.device_values.specs.Prelude.{word_calls};
+ghost use Rattle.file_tree.specs.Prelude.{HasSoundScripts, IsLoaded, files_of};
+ghost use Rattle.site_image.specs.Prelude.{fault};
 ghost use Rattle.site_image.specs.declared.site_error.SiteWhy.TheVariants.{PageTooLong};
 ghost use Rattle.uip_device.specs.WebDevices.{OpensDevice, OpensShared, first_numbers};
 

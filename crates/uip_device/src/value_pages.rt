@@ -1,12 +1,11 @@
 //! The web server of a device, on one connection.
 
 ghost use Rattle.std.specs.Prelude.{◌≡◌, ◌++◌};
-ghost use Rattle.app_events.specs.AppSpec.{AppState};
-ghost use Rattle.device_values.specs.Words.{record_text, words};
-ghost use Rattle.file_tree.specs.Site.{files_of};
+ghost use Rattle.app_events.specs.Prelude.{AppState};
+ghost use Rattle.device_values.specs.Prelude.{record_text, words};
+ghost use Rattle.file_tree.specs.Prelude.{files_of};
 ghost use Rattle.httpd.specs.Compact.{CompactRepresent};
-ghost use Rattle.web_pages.specs.Requests.{wanted};
-ghost use Rattle.web_pages.specs.WebMeaning.{hits_by};
+ghost use Rattle.web_pages.specs.Prelude.{wanted, hits_by};
 
 use crate::device_web::{DeviceWeb, FlashWeb, see_counted};
 use app_events::{App, Ending, Now, Want};

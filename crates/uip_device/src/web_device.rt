@@ -1,10 +1,9 @@
 //! What only a node with the web server of a device has: values that are set, and hits that are read.
 
 ghost use Rattle.std.specs.Prelude.{◌≡◌, ◌<◌, ◌≤◌, length};
-ghost use Rattle.file_tree.specs.Site.{files_of};
-ghost use Rattle.uip_node.specs.Node.{AbstractNode};
-ghost use Rattle.uip_node.specs.Represents.{Represents};
-ghost use Rattle.web_pages.specs.Pages.{hits_of};
+ghost use Rattle.file_tree.specs.Prelude.{files_of};
+ghost use Rattle.uip_node.specs.Prelude.{AbstractNode, Represents};
+ghost use Rattle.web_pages.specs.Prelude.{hits_of};
 ghost use Rattle.uip_device.specs.contracts.value_pages.ValuePagesApp.TheImpl.{ghosts};
 ghost use Rattle.uip_device.specs.Devices.{Changes, ChangesNode};
 ghost use Rattle.uip_device.specs.WebDevices.{IsSoundWebDevice, site_in, write_value};

@@ -3,3 +3,4 @@ pub mod Runs
 pub mod Told
 pub mod Turns
 pub mod Writes
+mod Prelude

@@ -1,10 +1,5 @@
 -- The bytes before the first silence.
-use Rattle.std.proofs.Common.{◌≡◌, ℕ, ◌+◌, ◌≤◌, ◌<◌, List, [], ◌∷◌, ◌++◌, take, drop, length, map, get_or, refl, sym, ap, ◌∙◌, arith, min, nat_lt, true, false}
-use Rattle.std.proofs.lemmas.List.{take-append-drop, drop_more, drop_all, length-take-le, drop-drop}
-use Rattle.std.proofs.lemmas.Bool.{ltb-true, ltb-false}
-use Rattle.uip_edge.specs.declared.item.Item.{Item}
-use Rattle.uip_edge.specs.declared.item.Item.TheVariants.{Byte, Quiet}
-use Rattle.uip_edge.specs.Memory.{byte_run}
+use Rattle.uip_edge.proofs.Prelude.{◌≡◌, ℕ, ◌+◌, ◌≤◌, ◌<◌, List, [], ◌∷◌, ◌++◌, take, drop, length, map, get_or, refl, sym, ap, ◌∙◌, arith, min, nat_lt, true, false, take-append-drop, drop_more, drop_all, length-take-le, drop-drop, ltb-true, ltb-false, Item, Byte, Quiet, byte_run}
 
 byte_run-append : (bs : List ℕ) (rest : List Item) → byte_run (map Byte bs ++ rest) ≡ byte_run rest + length bs
 byte_run-append [] rest = omega arith

@@ -1,12 +1,5 @@
 -- Known bytes and items, one call after the other.
-use Rattle.std.proofs.Common.{◌≡◌, ℕ, List, [], ◌∷◌, ◌++◌, Option, None, Some, refl, sym, ◌∙◌, append_assoc, append-nil, ◌-◌, take, drop, length, map, ◌+◌, ◌≤◌, arith, length-append, ap, Result, Ok, Err, OnErr}
-use Rattle.std.proofs.lemmas.List.{take_rest, take-append-drop, drop-drop}
-use Rattle.uip_edge.specs.declared.item.Item.TheVariants.{Byte, Quiet}
-use Rattle.std.specs.Io.KnownBytes.{Appends, Keeps}
-use Rattle.uip_edge.specs.Coming.{Consumes, TookAll, bytes_among}
-use Rattle.uip_edge.specs.Views.{ShelfView}
-use Rattle.uip_edge.specs.Writing.{AppendsPrefix}
-use Rattle.uip_edge.specs.declared.item.Item.{Item}
+use Rattle.uip_edge.proofs.Prelude.{◌≡◌, ℕ, List, [], ◌∷◌, ◌++◌, Option, None, Some, refl, sym, ◌∙◌, append_assoc, append-nil, ◌-◌, take, drop, length, map, ◌+◌, ◌≤◌, arith, length-append, ap, Result, Ok, Err, OnErr, take_rest, take-append-drop, drop-drop, Byte, Quiet, Appends, Keeps, Consumes, TookAll, bytes_among, ShelfView, AppendsPrefix, Item}
 
 pub Appends-none : (a : Option (List ℕ)) → Appends a a []
 Appends-none None = tt

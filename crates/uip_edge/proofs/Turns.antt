@@ -1,15 +1,6 @@
 -- Turns at a line, one after the other.
-use Rattle.std.proofs.Common.{◌≡◌, ℕ, ◌+◌, ◌<◌, ◌≤◌, List, [], ◌++◌, length, map, take, ◌∙◌, arith, length-append}
-use Rattle.std.proofs.lemmas.List.{length-map, length-take-le}
-use Rattle.uip_edge.specs.declared.item.Item.{Item}
-use Rattle.uip_edge.specs.declared.item.Item.TheVariants.{Byte}
-use Rattle.uip_edge.specs.declared.serve_end.ServeEnd.{ServeEnd}
+use Rattle.uip_edge.proofs.Prelude.{◌≡◌, ℕ, ◌+◌, ◌<◌, ◌≤◌, List, [], ◌++◌, length, map, take, ◌∙◌, arith, length-append, length-map, length-take-le, Item, Byte, ServeEnd, Ended, Consumes, EndsBy, IsCalm, LineView, TurnsBy}
 use Rattle.uip_edge.specs.declared.serve_end.ServeEnd.TheVariants as ends
-use Rattle.uip_edge.specs.declared.turn.Turn.TheVariants.{Ended}
-use Rattle.uip_edge.specs.Coming.{Consumes}
-use Rattle.uip_edge.specs.Ending.{EndsBy}
-use Rattle.uip_edge.specs.Views.{IsCalm, LineView}
-use Rattle.uip_edge.specs.Turns.{TurnsBy}
 use Rattle.uip_edge.proofs.Told.{none_more, took_all}
 
 -- how many items the bytes of a call are

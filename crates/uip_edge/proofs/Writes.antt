@@ -1,9 +1,5 @@
 -- Texts written one after the other.
-use Rattle.std.proofs.Common.{◌≡◌, ℕ, List, [], ◌++◌, refl, sym, subst, Result, Ok, Err, IsErr, arith}
-use Rattle.std.specs.Io.KnownBytes.{Appends}
-use Rattle.uip_edge.specs.Causes.{HasCause}
-use Rattle.uip_edge.specs.Views.{SinkView}
-use Rattle.uip_edge.specs.Writing.{AppendsPrefix, Writes}
+use Rattle.uip_edge.proofs.Prelude.{◌≡◌, ℕ, List, [], ◌++◌, refl, sym, subst, Result, Ok, Err, IsErr, arith, Appends, HasCause, SinkView, AppendsPrefix, Writes}
 use Rattle.uip_edge.proofs.Told.{Appends-none, Appends-then, prefix_more, prefix_then}
 
 pub writes_by : {T E : Type 0} (r : Result T E) (a b : SinkView) (xs ys : List ℕ) → ys ≡ xs → Writes a b r xs → Writes a b r ys

@@ -7,3 +7,4 @@ pub mod ViewsOf
 pub mod Views
 pub mod Turns
 pub mod Writing
+pub mod Prelude

@@ -1,16 +1,5 @@
 -- A header that was written passes every check and is read back, whatever follows it.
-use Rattle.std.proofs.Common.{◌≡◌, ℕ, ◌+◌, ◌-◌, ◌%◌, ◌≤◌, Bool, true, false, not, ◌||◌, List, [], ◌∷◌, ◌++◌, length, length-append, take, slice_index, Some, refl, ap, ◌∙◌, arith, eqb, ltb, if◌then◌else◌, Ok, Result}
-use Rattle.std.proofs.lemmas.Grind.{common_steps}
-use Rattle.std.specs.Str.{bytes_eq}
-use Rattle.uip_wire.proofs.Folding.{folded_closes}
-use Rattle.uip_wire.proofs.Words.{same_word}
-use Rattle.uip_wire.specs.Checksum.{checksum_of, folded, word_sum}
-use Rattle.uip_wire.specs.Fields.{word_at}
-use Rattle.uip_ipv4.specs.declared.proto.Proto.{Proto}
-use Rattle.uip_ipv4.specs.declared.proto.Proto.TheVariants.{Icmp, Tcp}
-use Rattle.uip_ipv4.specs.declared.head.IpHead.{IpHead}
-use Rattle.uip_ipv4.specs.declared.fate.IpFate.{IpFate}
-use Rattle.uip_ipv4.specs.Head.{head_bytes, numbered_head, numbered_with, head_or_fate, head_by, proto_of, number_of, ReadsBack}
+use Rattle.uip_ipv4.proofs.Prelude.{◌≡◌, ℕ, ◌+◌, ◌-◌, ◌%◌, ◌≤◌, Bool, true, false, not, ◌||◌, List, [], ◌∷◌, ◌++◌, length, length-append, take, slice_index, Some, refl, ap, ◌∙◌, arith, eqb, ltb, if◌then◌else◌, Ok, Result, common_steps, bytes_eq, folded_closes, same_word, checksum_of, folded, word_sum, word_at, Proto, Icmp, Tcp, IpHead, IpFate, head_bytes, numbered_head, numbered_with, head_or_fate, head_by, proto_of, number_of, ReadsBack}
 
 pub passes : {A : Type 0} (b : Bool) (x y z : A) → b ≡ false → y ≡ z → (if b then x else y) ≡ z
 passes true x y z e h = absurd (cc)

@@ -1,3 +1,4 @@
 pub mod Back
 pub mod Facts
 pub mod Rows
+mod Prelude

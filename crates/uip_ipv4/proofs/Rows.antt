@@ -1,13 +1,7 @@
 -- The checks on a header worked by hand, an echo request of 28 bytes from 10.0.0.2 to 10.0.0.1, and on changes of it: each
 -- fate at its first and its last length, and the earlier of two fates.
 -- [add: fate] IP: a row for the fate, at its first and its last length.
-use Rattle.std.proofs.Common.{◌≡◌, ℕ, List, [], ◌∷◌, map, Result, Ok, Err, refl}
-use Rattle.uip_ipv4.specs.declared.fate.IpFate.{IpFate}
-use Rattle.uip_ipv4.specs.declared.head.IpHead.{IpHead}
-use Rattle.uip_wire.specs.Checksum.{folded}
-use Rattle.uip_ipv4.specs.declared.fate.IpFate.TheVariants.{Short, Version, Length, Fragment, Checksum, NotOurs, Protocol}
-use Rattle.uip_ipv4.specs.declared.proto.Proto.TheVariants.{Icmp, Tcp}
-use Rattle.uip_ipv4.specs.Head.{head_or_fate, head_bytes}
+use Rattle.uip_ipv4.proofs.Prelude.{◌≡◌, ℕ, List, [], ◌∷◌, map, Result, Ok, Err, refl, IpFate, IpHead, folded, Short, Version, Length, Fragment, Checksum, NotOurs, Protocol, Icmp, Tcp, head_or_fate, head_bytes}
 
 abbrev own : List ℕ
 own = 10 ∷ 0 ∷ 0 ∷ 1 ∷ []

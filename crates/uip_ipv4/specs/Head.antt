@@ -3,9 +3,7 @@
 -- [add: fate] IP: its check in the list of checks.
 use Rattle.std.specs.Prelude.{◌≡◌, ◌≤◌, ℕ, ◌+◌, ◌%◌, ◌==◌, ◌||◌, nat_lt, not, if◌then◌else◌, List, [], ◌∷◌, ◌++◌, length, take, slice_index, slice_range, Option, Some, None, Result, Ok, Err}
 use Rattle.std.specs.Str.{bytes_eq}
-use Rattle.uip_wire.specs.Addr.{address_at}
-use Rattle.uip_wire.specs.Checksum.{checksum_of}
-use Rattle.uip_wire.specs.Fields.{word_at, bytes_of}
+use Rattle.uip_wire.specs.Prelude.{address_at, checksum_of, word_at, bytes_of}
 use Rattle.uip_ipv4.specs.declared.fate.IpFate.{IpFate}
 use Rattle.uip_ipv4.specs.declared.fate.IpFate.TheVariants.{Short, Version, Length, Fragment, Checksum, NotOurs, Protocol}
 use Rattle.uip_ipv4.specs.declared.head.IpHead.{IpHead}

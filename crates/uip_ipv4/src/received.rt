@@ -1,7 +1,7 @@
 //! The checks of a received header (RFC 791, section 3.1).
 
 ghost use Rattle.std.specs.Prelude.{◌≡◌, ◌≤◌, IfOk, length};
-ghost use Rattle.uip_ipv4.specs.Head.{IsHeadOf, head_or_fate};
+ghost use Rattle.uip_ipv4.specs.Prelude.{IsHeadOf, head_or_fate};
 
 use crate::fate::IpFate;
 use crate::head::IpHead;

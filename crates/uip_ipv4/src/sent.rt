@@ -1,7 +1,7 @@
 //! The header that is sent (RFC 791, section 3.1).
 
 ghost use Rattle.std.specs.Prelude.{◌≡◌, ◌≤◌, ◌++◌, length, drop};
-ghost use Rattle.uip_ipv4.specs.Head.{ReadsBack, head_bytes, numbered_head, numbered_with};
+ghost use Rattle.uip_ipv4.specs.Prelude.{ReadsBack, head_bytes, numbered_head, numbered_with};
 
 use crate::proto::Proto;
 use uip_wire::{Addr, checksum, put16};

@@ -1,25 +1,5 @@
 -- A step that is answered, or not.
-use Rattle.std.proofs.Common.{ℕ, ◌≡◌, ◌+◌, ◌%◌, length, List, ◌∷◌, Option, Some, None, sym, ap, ◌∙◌, subst, refl}
-use Rattle.uip_node.specs.Events.Reply.{Tcp}
-use Rattle.std.specs.Option.{option_map_or}
-use Rattle.std.specs.Prelude.{slice_set, option_map}
-use Rattle.app_events.specs.AppSpec.{AppSpec}
-use Rattle.app_events.specs.declared.app.App.{Ghosts}
-use Rattle.tcp_segment.specs.Segments.{PlainSegment, datagram_bytes}
-use Rattle.tcp_machine.specs.Ask.{Outcome}
-use Rattle.tcp_machine.specs.Connection.{Connection}
-use Rattle.tcp_machine.specs.Segments.{is_again, segment_of}
-use Rattle.tcp_machine.specs.declared.step.Step.{Step}
-use Rattle.uip_node.specs.Counted.{CountsRepresent, seen}
-use Rattle.uip_node.specs.Counters.{ident_of, initial_number}
-use Rattle.uip_node.specs.Edge.{datagram_to}
-use Rattle.uip_node.specs.Events.{Event}
-use Rattle.uip_node.specs.Events.Answer.{Spoke, Silent}
-use Rattle.uip_node.specs.Node.{AbstractNode, NodeStep, gone_by, happened}
-use Rattle.uip_node.specs.Slots.{MeetsAt, SlotsRepresent}
-use Rattle.uip_node.specs.Spoken.{IsSpoken}
-use Rattle.uip_node.specs.Represents.{Steps}
-use Rattle.uip_node.specs.State.{Counts, Node}
+use Rattle.uip_node.proofs.Prelude.{ℕ, ◌≡◌, ◌+◌, ◌%◌, length, List, ◌∷◌, Option, Some, None, sym, ap, ◌∙◌, subst, refl, Tcp, option_map_or, slice_set, option_map, AppSpec, Ghosts, PlainSegment, datagram_bytes, Outcome, Connection, is_again, segment_of, Step, CountsRepresent, seen, ident_of, initial_number, datagram_to, Event, Spoke, Silent, AbstractNode, NodeStep, gone_by, happened, MeetsAt, SlotsRepresent, IsSpoken, Steps, Counts, Node}
 use Rattle.uip_node.proofs.Twice.{next_ident}
 
 -- the reply to an event, by what is sent

@@ -1,12 +1,5 @@
 -- Facts about lists, parts of a text, and numbers modulo 2^32.
-use Rattle.std.proofs.Common.{◌≡◌, ℕ, zero, suc, ◌+◌, ◌<◌, ◌≤◌, Bool, true, false, if◌then◌else◌, not, ◌&&◌, ◌||◌, ◌⊎◌, inl, inr, List, [], ◌∷◌, ◌++◌, length, take, drop, refl, sym, ap, ◌∙◌, subst, arith, Some, slice_get, length-append, length-take, length-drop, append-nil, eqb, ltb}
-use Rattle.std.proofs.lemmas.Grind.{common_steps}
-use Rattle.std.proofs.lemmas.List.{take-append-le, take-append-drop}
-use Rattle.std.proofs.Math.Seq.{take-add}
-use Rattle.uip_wire.specs.Numbers.{wrap}
-use Rattle.tcp_segment.specs.Segments.{PlainSegment, has_syn, has_fin}
-use Rattle.tcp_machine.specs.Segments.{occupies_sequence_space}
-use Rattle.app_events.specs.Laws.{IsPrefixOf}
+use Rattle.uip_node.proofs.Prelude.{◌≡◌, ℕ, zero, suc, ◌+◌, ◌<◌, ◌≤◌, Bool, true, false, if◌then◌else◌, not, ◌&&◌, ◌||◌, ◌⊎◌, inl, inr, List, [], ◌∷◌, ◌++◌, length, take, drop, refl, sym, ap, ◌∙◌, subst, arith, Some, slice_get, length-append, length-take, length-drop, append-nil, eqb, ltb, common_steps, take-append-le, take-append-drop, take-add, wrap, PlainSegment, has_syn, has_fin, occupies_sequence_space, IsPrefixOf}
 
 -- a text is a slice of a page at an offset
 pub record IsPart (page text : List ℕ) (at : ℕ) : Type 0 where

@@ -1,19 +1,6 @@
 -- A fact about a step of a connection by its cases: each walk is made once, for every law.
-use Rattle.std.proofs.Common.{◌≡◌, ℕ, ◌+◌, Bool, true, false, List, refl, ap, eqb, ltb}
-use Rattle.tcp_machine.specs.declared.ticking.TheConstants.{REST_TIME}
-use Rattle.rexmit_timer.specs.Ages.{beat_at}
-use Rattle.rexmit_timer.specs.declared.timer.Beat.{Beat}
-use Rattle.app_events.specs.AppSpec.{AppSpec}
-use Rattle.app_events.specs.declared.now.Now.{Now}
-use Rattle.app_events.specs.declared.state.State.{State}
-use Rattle.app_events.specs.declared.state.State.TheVariants.{Closed, SynRcvd, Established, CloseWait, FinWait1, FinWait2, Closing, TimeWait, LastAck}
-use Rattle.app_events.specs.declared.want.Want.{Want}
-use Rattle.app_events.specs.declared.want.Want.TheVariants.{Nothing, Send, Close, Abort}
-use Rattle.tcp_machine.specs.Connection.{Connection, is_live, is_resting}
-use Rattle.tcp_machine.specs.Ask.{Outcome, after_own_fin, leaves, closes, peer_has_closed, idles, does_as_wanted, ask, asked_for, asked}
-use Rattle.tcp_machine.specs.Represents.{is_open}
-use Rattle.tcp_machine.specs.OnTick.{limit_of, grows_older, outstanding, by_beat, rests_on, polls, ticks_established, tick_by, on_tick}
-use Rattle.tcp_machine.specs.declared.step.Step.{Step}
+use Rattle.uip_node.proofs.Prelude.{◌≡◌, ℕ, ◌+◌, Bool, true, false, List, refl, ap, eqb, ltb, REST_TIME, beat_at, Beat, AppSpec, Now, State, Closed, SynRcvd, Established, CloseWait, FinWait1, FinWait2, Closing, TimeWait, LastAck, Want, Nothing, Send, Close, Abort, Connection, is_resting, Outcome, after_own_fin, leaves, closes, peer_has_closed, idles, does_as_wanted, ask, asked_for, asked, is_open, limit_of, grows_older, outstanding, by_beat, rests_on, polls, ticks_established, tick_by, on_tick, Step}
+use Rattle.tcp_machine.specs.Connection.{is_live}
 use Rattle.uip_node.proofs.Basics.{choose, ltb-zero}
 
 -- ---- the states in which the application is asked

@@ -1,9 +1,5 @@
 -- The table: which connection serves a pair of sockets.
-use Rattle.std.specs.List.{position_from}
-use Rattle.std.proofs.lemmas.Iterator.Adapters.{position_from-zero}
-use Rattle.std.proofs.Common.{◌≡◌, ℕ, zero, suc, ◌+◌, true, false, List, [], ◌∷◌, set, map, replicate, cond, position, refl, sym, ap, ◌∙◌, subst, arith, Option, Some, None, slice_get, slice_index_or, if◌then◌else◌}
-use Rattle.tcp_machine.specs.Connection.{Sockets, Connection, closed, serves}
-use Rattle.uip_node.specs.Laws.{serving}
+use Rattle.uip_node.proofs.Prelude.{position_from, position_from-zero, ◌≡◌, ℕ, zero, suc, ◌+◌, true, false, List, [], ◌∷◌, set, map, replicate, cond, position, refl, sym, ap, ◌∙◌, subst, arith, Option, Some, None, slice_get, slice_index_or, if◌then◌else◌, Sockets, Connection, closed, serves, serving}
 use Rattle.uip_node.proofs.Basics.{both_ways}
 
 pub data Written (X : Type 0) (xs : List X) (i : ℕ) (new : X) (j : ℕ) (y : X) : Type 0 where

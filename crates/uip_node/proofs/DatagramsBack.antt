@@ -1,18 +1,6 @@
 -- A datagram of a sound segment is read back as what was meant.
-use Rattle.std.specs.List.{All}
-use Rattle.std.proofs.Common.{◌≡◌, ◌⊎◌, ℕ, ◌+◌, ◌*◌, ◌/◌, ◌%◌, ◌<◌, ◌≤◌, inl, inr, List, [], ◌∷◌, ◌++◌, length, ap, ◌∙◌, arith, Option, Some, None, IfSome, length-append}
-use Rattle.std.proofs.lemmas.List.Elements.{All-append}
-use Rattle.uip_wire.specs.Checksum.{checksum_of}
-use Rattle.uip_wire.specs.Fields.{bytes_of}
-use Rattle.uip_wire.proofs.Words.{length-bytes_of}
-use Rattle.uip_ipv4.specs.Head.{head_bytes, head_with, number_of}
-use Rattle.uip_ipv4.specs.declared.proto.Proto.{Proto}
-use Rattle.uip_ipv4.specs.declared.proto.Proto.TheVariants.{Icmp, Tcp}
-use Rattle.uip_ipv4.proofs.Back.{length-head_bytes}
-use Rattle.tcp_segment.specs.ReadBack.{IsReadBack}
-use Rattle.tcp_segment.specs.Segments.{PlainSegment, Datagram, datagram_bytes, segment_bytes, segment_sum, fixed_words, option_words, offset_of}
-use Rattle.tcp_segment.proofs.Back.{segment_back}
-use Rattle.app_events.specs.Pages.{IsByte}
+use Rattle.uip_node.proofs.Prelude.{All, ◌≡◌, ◌⊎◌, ℕ, ◌+◌, ◌*◌, ◌/◌, ◌%◌, ◌<◌, ◌≤◌, inl, inr, List, [], ◌∷◌, ◌++◌, length, ap, ◌∙◌, arith, Option, Some, None, IfSome, length-append, All-append, checksum_of, bytes_of, length-bytes_of, head_bytes, head_with, number_of, Proto, Icmp, length-head_bytes, IsReadBack, PlainSegment, Datagram, datagram_bytes, segment_bytes, segment_sum, fixed_words, option_words, offset_of, segment_back, IsByte}
+use Rattle.uip_ipv4.specs.declared.proto.Proto.TheVariants.{Tcp}
 use Rattle.uip_node.proofs.Fits.{all_nil, all_cons}
 use Rattle.uip_node.proofs.SoundSegments.{IsSoundSegment}
 

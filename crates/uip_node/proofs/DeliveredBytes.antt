@@ -1,22 +1,8 @@
 -- What is delivered to an application is bytes, if bytes are received.
-use Rattle.std.specs.List.{All}
-use Rattle.std.proofs.Common.{◌≡◌, ℕ, ◌+◌, Bool, true, false, not, ◌&&◌, List, [], ◌∷◌, length, ltb, sym, subst, arith}
-use Rattle.tcp_segment.specs.Segments.{PlainSegment, has_fin, has_rst}
-use Rattle.rexmit_timer.specs.declared.timer.Beat.{Beat}
-use Rattle.app_events.specs.Pages.{IsByte, IsPaged, Pages}
-use Rattle.app_events.specs.AppSpec.{AppState, AppSpec}
-use Rattle.app_events.specs.declared.now.Now.{Now}
-use Rattle.app_events.specs.declared.state.State.{State}
-use Rattle.app_events.specs.declared.state.State.TheVariants.{Closed, SynRcvd, Established, CloseWait, FinWait1, FinWait2, Closing, TimeWait, LastAck}
-use Rattle.tcp_machine.specs.Connection.{Connection}
-use Rattle.tcp_machine.specs.Ask.{Outcome, does_as_wanted, prepared, asked}
-use Rattle.tcp_machine.specs.OnSegment.{hears, is_out_of_order, is_acked, rests, has_text, with_part, peer_closes, stays_established, in_established, fin_acked, fin_waits, by_state, on_segment}
-use Rattle.tcp_machine.specs.OnTick.{by_beat, on_tick}
+use Rattle.uip_node.proofs.Prelude.{All, ◌≡◌, ℕ, ◌+◌, Bool, true, false, not, ◌&&◌, List, [], ◌∷◌, length, ltb, sym, subst, arith, PlainSegment, has_fin, has_rst, Beat, IsByte, IsPaged, Pages, AppState, AppSpec, Now, State, Closed, SynRcvd, Established, CloseWait, FinWait1, FinWait2, Closing, TimeWait, LastAck, Connection, Outcome, does_as_wanted, prepared, asked, hears, is_out_of_order, is_acked, rests, has_text, with_part, peer_closes, stays_established, in_established, fin_acked, fin_waits, by_state, on_segment, by_beat, on_tick, All-append, HasBytes, SendsBytes}
 use Rattle.uip_node.proofs.Basics.{choose}
 use Rattle.uip_node.proofs.Fits.{all_nil}
-use Rattle.std.proofs.lemmas.List.Elements.{All-append}
 use Rattle.uip_node.proofs.Cases.{Unmoved, asked_by, on_tick_by, wanted_unmoved}
-use Rattle.uip_node.specs.Laws.{HasBytes, SendsBytes}
 
 -- bytes were delivered to its state
 abbrev pub DeliveredBytes : Connection → Type 0

@@ -1,34 +1,10 @@
 -- The slots that are found in the code's table and in the abstract node's.
 -- [add: state] Whether a slot in the state is found.
-use Rattle.std.proofs.Common.{ℕ, zero, suc, ◌≡◌, ◌+◌, ◌<◌, ◌&&◌, ◌==◌, Bool, true, false, not, max, List, [], ◌∷◌, length, Option, Some, None, ◌⊎◌, inl, inr, refl, sym, ap, ◌∙◌, subst, arith, nat_lt, if◌then◌else◌}
-use Rattle.std.specs.Prelude.{slice_get, position, bytes_eq}
-use Rattle.std.specs.List.{position_or_len}
-use Rattle.std.proofs.lemmas.Bool.{lt-ltb}
-use Rattle.std.proofs.lemmas.List.Quantifiers.{position-Some}
-use Rattle.std.proofs.lemmas.Option.{get_or_from_slice_get}
-use Rattle.app_events.specs.declared.app.App.{Ghosts}
-use Rattle.app_events.specs.States.{is_live, is_time_wait}
-use Rattle.app_events.specs.declared.state.State.{State}
-use Rattle.app_events.specs.declared.state.State.TheVariants.{TimeWait}
-use Rattle.tcp_table.specs.Connections.{is_at}
-use Rattle.tcp_table.specs.Slots.{has_waited, longest_wait, slot_by}
+use Rattle.uip_node.proofs.Prelude.{ℕ, zero, suc, ◌≡◌, ◌+◌, ◌<◌, ◌&&◌, ◌==◌, Bool, true, false, not, max, List, [], ◌∷◌, length, Option, Some, None, ◌⊎◌, inl, inr, refl, sym, ap, ◌∙◌, subst, arith, nat_lt, if◌then◌else◌, slice_get, position, bytes_eq, position_or_len, lt-ltb, position-Some, get_or_from_slice_get, Ghosts, is_live, is_time_wait, State, TimeWait, is_at, has_waited, longest_wait, slot_by, Conn, Connection, Sockets, is_resting, serves, same_sockets, HasSoundNumbers, IsSound, LenFits, ConnRepresents, IsLike, PlainSegment, AbstractNode, arrives, arrives_at, opens, slot_for_syn, AllWellFormed, SlotsRepresent, seen, counters, Arrived, Represents, Steps, Node, option_or}
 use Rattle.tcp_table.specs.Slots as table
-use Rattle.tcp_table.specs.declared.conn.Conn.{Conn}
-use Rattle.tcp_machine.specs.Connection.{Connection, Sockets, is_resting, serves, same_sockets}
-use Rattle.tcp_machine.specs.Sound.{HasSoundNumbers, IsSound, LenFits}
-use Rattle.tcp_machine.specs.Represents.{ConnRepresents, IsLike}
-use Rattle.tcp_segment.specs.Segments.{PlainSegment}
-use Rattle.uip_node.specs.Node.{AbstractNode, arrives, arrives_at, opens, slot_for_syn}
-use Rattle.uip_node.specs.Slots.{AllWellFormed, SlotsRepresent}
-use Rattle.uip_node.specs.Counted.{seen}
-use Rattle.uip_node.specs.Counters.{counters}
-use Rattle.uip_node.specs.Events.Event.{Arrived}
-use Rattle.uip_node.specs.Represents.{Represents, Steps}
 use Rattle.tcp_machine.proofs.States.{by_state}
 use Rattle.uip_node.proofs.Stepping.{stands_later}
 use Rattle.uip_node.proofs.Twice.{recounted}
-use Rattle.uip_node.specs.State.{Node}
-use Rattle.std.specs.Option.{option_or}
 
 -- place by place the same
 abbrev pub Agree : {X Y : Type 0} → (X → Bool) → (Y → Bool) → List X → List Y → Type 0

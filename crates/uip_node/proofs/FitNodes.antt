@@ -1,24 +1,8 @@
 -- Every connection of a node has captures of snapshots alone, and an address and a port that fit their types.
-use Rattle.std.specs.List.{All, position_from}
-use Rattle.std.proofs.lemmas.Iterator.Adapters.{position_from-zero}
-use Rattle.std.proofs.Common.{◌≡◌, ℕ, zero, suc, ◌+◌, ◌<◌, ◌≤◌, Bool, not, ◌&&◌, List, [], ◌∷◌, length, refl, sym, ap, ◌∙◌, subst, arith, Option, Some, None, slice_get, slice_index_or, position, cond, length-set}
-use Rattle.tcp_segment.specs.Segments.{PlainSegment, has_rst}
-use Rattle.app_events.specs.AppSpec.{AppSpec}
-use Rattle.uip_node.specs.Steady.{IsSteady}
-use Rattle.app_events.specs.Pages.{IsSnapshot, IsNow, IsU32, IsByte, IsAddr}
-use Rattle.tcp_machine.specs.Connection.{Sockets, Connection, closed, is_live, serves}
-use Rattle.tcp_machine.specs.Segments.{is_plain_syn}
-use Rattle.tcp_machine.specs.Ask.{Outcome}
-use Rattle.tcp_machine.specs.OnSegment.{accept, on_segment}
-use Rattle.tcp_machine.specs.OnTick.{on_tick}
-use Rattle.uip_node.specs.Events.{Event, Reply}
-use Rattle.uip_node.specs.Events.Answer.{EchoReplied, Silent}
-use Rattle.uip_node.specs.Events.Event.{IpRefused, IcmpRefused, TcpRefused, EchoAsked, Arrived, Overlong, Periodic}
-use Rattle.uip_node.specs.Counters.{initial_number}
-use Rattle.uip_node.specs.Node.{AbstractNode, NodeStep, snapshot, happened, connection_in, slot_for_syn, opens_in, opens, for_no_connection, arrives_at, remembers, step}
+use Rattle.uip_node.proofs.Prelude.{All, position_from, position_from-zero, ◌≡◌, ℕ, zero, suc, ◌+◌, ◌<◌, ◌≤◌, Bool, not, ◌&&◌, List, [], ◌∷◌, length, refl, sym, ap, ◌∙◌, subst, arith, Option, Some, None, slice_get, slice_index_or, position, cond, length-set, PlainSegment, has_rst, AppSpec, IsSteady, IsSnapshot, IsNow, IsU32, IsByte, IsAddr, Sockets, Connection, closed, serves, is_plain_syn, Outcome, accept, on_segment, on_tick, Event, Reply, EchoReplied, Silent, IpRefused, IcmpRefused, TcpRefused, EchoAsked, Arrived, Overlong, Periodic, initial_number, AbstractNode, NodeStep, snapshot, happened, connection_in, slot_for_syn, opens_in, opens, for_no_connection, arrives_at, remembers, step, serving, IsEvent}
+use Rattle.tcp_machine.specs.Connection.{is_live}
 use Rattle.uip_node.proofs.Finding.{syn_slot_within}
 use Rattle.uip_node.proofs.Stepping.{slice_get-element}
-use Rattle.uip_node.specs.Laws.{serving, IsEvent}
 use Rattle.uip_node.proofs.Basics.{choose, only_some}
 use Rattle.uip_node.proofs.Fits.{FitConn, FitOut, all_nil, all_cons, set_conns, snapshot_fits, asked_fits, accepted_fits, on_segment_fits, on_tick_fits}
 

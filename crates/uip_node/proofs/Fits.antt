@@ -1,32 +1,7 @@
 -- Every capture ever taken is of a snapshot that a node makes. This holds for all connections, clean or not.
 -- [add: counter] The number of counters of a snapshot.
-use Rattle.std.specs.List.{All, range_with_len}
-use Rattle.std.proofs.Common.{◌≡◌, ℕ, zero, suc, ◌+◌, ◌-◌, ◌<◌, ◌≤◌, Bool, true, false, not, ◌&&◌, List, [], ◌∷◌, length, set, refl, sym, subst, arith, Some, slice_get, slice_index, count_by, nat_le, eqb, ltb, length-set, ◌∙◌}
-use Rattle.std.proofs.lemmas.List.Elements.{All-push, All-map}
-use Rattle.std.proofs.lemmas.List.Sums.{count_by-le-length}
-use Rattle.std.proofs.lemmas.Grind.{common_steps}
-use Rattle.uip_wire.specs.Numbers.{wrap}
-use Rattle.tcp_segment.specs.Segments.{PlainSegment, has_fin, has_rst}
-use Rattle.rexmit_timer.specs.Ages.{ages, tries_at}
-use Rattle.rexmit_timer.specs.declared.timer.Beat.{Beat}
-use Rattle.app_events.specs.AppSpec.{AppState, AppSpec}
-use Rattle.uip_node.specs.Steady.{IsSteady}
-use Rattle.app_events.specs.Pages.{IsSnapshot, IsNow, IsRow, IsU32, IsAddr}
-use Rattle.app_events.specs.declared.ending.Ending.{Ending}
-use Rattle.app_events.specs.declared.now.Now.{Now}
-use Rattle.app_events.specs.declared.row.Row.{Row}
-use Rattle.app_events.specs.declared.state.State.{State}
-use Rattle.app_events.specs.declared.state.State.TheVariants.{Closed, SynRcvd, Established, CloseWait, FinWait1, FinWait2, Closing, TimeWait, LastAck}
-use Rattle.app_events.specs.declared.want.Want.{Want}
-use Rattle.app_events.specs.declared.want.Want.TheVariants.{Nothing, Send, Close, Abort}
-use Rattle.tcp_machine.specs.Connection.{Sockets, Connection, is_live, is_resting, tries_of, count_of, row_of, rows_from}
-use Rattle.tcp_machine.specs.Ask.{Outcome, closes, after_own_fin, peer_has_closed, idles, does_as_wanted, ask, asked}
-use Rattle.tcp_machine.specs.OnSegment.{accepted, told_end, is_out_of_order, is_acked, rests, has_text, hears, takes, with_part, in_state, with_window, peer_closes, stays_established, in_established, fin_acked, fin_waits, by_state, on_segment}
-use Rattle.tcp_machine.specs.OnTick.{by_beat, grows_older, on_tick, polls}
-use Rattle.uip_node.specs.Events.{Event, HistoryEntry}
-use Rattle.uip_node.specs.Events.Answer.{Silent}
-use Rattle.uip_node.specs.Counters.{counters, raises, times}
-use Rattle.uip_node.specs.Node.{AbstractNode, snapshot}
+use Rattle.uip_node.proofs.Prelude.{All, range_with_len, ◌≡◌, ℕ, zero, suc, ◌+◌, ◌-◌, ◌<◌, ◌≤◌, Bool, true, false, not, ◌&&◌, List, [], ◌∷◌, length, set, refl, sym, subst, arith, Some, slice_get, slice_index, count_by, nat_le, eqb, ltb, length-set, ◌∙◌, All-push, All-map, count_by-le-length, common_steps, wrap, PlainSegment, has_fin, has_rst, ages, tries_at, Beat, AppState, AppSpec, IsSteady, IsSnapshot, IsNow, IsRow, IsU32, IsAddr, Ending, Now, Row, State, Closed, SynRcvd, Established, CloseWait, FinWait1, FinWait2, Closing, TimeWait, LastAck, Want, Nothing, Send, Close, Abort, Sockets, Connection, is_resting, tries_of, count_of, row_of, rows_from, Outcome, closes, after_own_fin, peer_has_closed, idles, does_as_wanted, ask, asked, accepted, told_end, is_out_of_order, is_acked, rests, has_text, hears, takes, with_part, in_state, with_window, peer_closes, stays_established, in_established, fin_acked, fin_waits, by_state, on_segment, by_beat, grows_older, on_tick, polls, Event, HistoryEntry, Silent, counters, raises, times, AbstractNode, snapshot}
+use Rattle.tcp_machine.specs.Connection.{is_live}
 use Rattle.uip_node.proofs.Cases.{asked_by, by_own_fin, on_tick_by}
 use Rattle.uip_node.proofs.Basics.{choose, wrap_low}
 use Rattle.uip_node.proofs.Connections.{get_set}

@@ -1,9 +1,5 @@
 -- An application's state after text is delivered, and after captures are taken.
-use Rattle.std.proofs.Common.{◌≡◌, ℕ, inl, inr, List, [], ◌∷◌, ◌++◌, refl, sym, ◌∙◌}
-use Rattle.app_events.specs.AppSpec.{AppState, Snapshot, AppSpec}
-use Rattle.app_events.specs.Pages.{Pages, IsPaged}
-use Rattle.app_events.specs.declared.now.Now.{Now}
-use Rattle.tcp_machine.specs.OnSegment.{hears}
+use Rattle.uip_node.proofs.Prelude.{◌≡◌, ℕ, inl, inr, List, [], ◌∷◌, ◌++◌, refl, sym, ◌∙◌, AppState, Snapshot, AppSpec, Pages, IsPaged, Now, hears}
 use Rattle.uip_node.proofs.Basics.{append_nothing}
 
 module _ (m : AppSpec) (pages : Pages) (lawful : IsPaged m pages) where

@@ -1,11 +1,5 @@
 -- The length of a datagram, and the datagram in the packet that it was written into.
-use Rattle.std.proofs.Common.{◌≡◌, ℕ, ◌+◌, ◌-◌, ◌*◌, ◌≤◌, List, ◌++◌, length, take, drop, slice_range, Option, Some, None, refl, sym, ap, ◌∙◌, arith, length-take, length-drop, length-append}
-use Rattle.std.specs.Prelude.{IsSome}
-use Rattle.std.proofs.Math.Seq.{take-append_seam}
-use Rattle.uip_ipv4.specs.Head.{head_bytes}
-use Rattle.tcp_segment.specs.Segments.{datagram_bytes, offset_of, segment_bytes}
-use Rattle.tcp_segment.specs.Sent.{datagram_len, datagram_of, sent_in}
-use Rattle.tcp_segment.specs.declared.out.Out.{Out}
+use Rattle.uip_node.proofs.Prelude.{◌≡◌, ℕ, ◌+◌, ◌-◌, ◌*◌, ◌≤◌, List, ◌++◌, length, take, drop, slice_range, Option, Some, None, refl, sym, ap, ◌∙◌, arith, length-take, length-drop, length-append, IsSome, take-append_seam, head_bytes, datagram_bytes, offset_of, segment_bytes, datagram_len, datagram_of, sent_in, Out}
 
 -- both addresses have four bytes
 abbrev pub HasAddrs : Out → Type 0

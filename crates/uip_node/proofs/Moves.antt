@@ -1,15 +1,5 @@
 -- A step moves the acknowledged position to the end of what was outstanding, or leaves it.
-use Rattle.std.proofs.Common.{◌≡◌, ℕ, ◌+◌, ◌≤◌, Bool, true, false, not, ◌&&◌, ◌⊎◌, inl, inr, List, refl, ap, ◌∙◌, sym, subst, arith, ltb}
-use Rattle.tcp_segment.specs.Segments.{PlainSegment, has_fin, has_rst}
-use Rattle.rexmit_timer.specs.declared.timer.Beat.{Beat}
-use Rattle.app_events.specs.AppSpec.{AppSpec}
-use Rattle.app_events.specs.declared.now.Now.{Now}
-use Rattle.app_events.specs.declared.state.State.{State}
-use Rattle.app_events.specs.declared.state.State.TheVariants.{Closed, SynRcvd, Established, CloseWait, FinWait1, FinWait2, Closing, TimeWait, LastAck}
-use Rattle.tcp_machine.specs.Connection.{Connection}
-use Rattle.tcp_machine.specs.Ask.{Outcome, ask, asked, closes, prepared}
-use Rattle.tcp_machine.specs.OnSegment.{is_out_of_order, is_acked, rests, has_text, with_part, in_established, peer_closes, stays_established, fin_acked, fin_waits, by_state, on_segment}
-use Rattle.tcp_machine.specs.OnTick.{by_beat, grows_older, on_tick, polls}
+use Rattle.uip_node.proofs.Prelude.{◌≡◌, ℕ, ◌+◌, ◌≤◌, Bool, true, false, not, ◌&&◌, ◌⊎◌, inl, inr, List, refl, ap, ◌∙◌, sym, subst, arith, ltb, PlainSegment, has_fin, has_rst, Beat, AppSpec, Now, State, Closed, SynRcvd, Established, CloseWait, FinWait1, FinWait2, Closing, TimeWait, LastAck, Connection, Outcome, ask, asked, closes, prepared, is_out_of_order, is_acked, rests, has_text, with_part, in_established, peer_closes, stays_established, fin_acked, fin_waits, by_state, on_segment, by_beat, grows_older, on_tick, polls}
 use Rattle.uip_node.proofs.Basics.{choose, ltb-zero}
 use Rattle.uip_node.proofs.Cases.{asked_by, is_ask, no_ask_again, on_tick_by, wanted_unmoved}
 

@@ -1,25 +1,6 @@
 -- What all segments of a connection contain, after a step.
 -- [add: state] What its segments carry.
-use Rattle.std.proofs.Common.{ℕ, ◌≡◌, ◌+◌, ◌&&◌, ◌==◌, Bool, true, false, List, inl, inr, ◌⊎◌, refl, sym, ap, ◌∙◌, nat_lt, if◌then◌else◌, not}
-use Rattle.tcp_machine.specs.declared.ticking.TheConstants.{REST_TIME}
-use Rattle.app_events.specs.AppSpec.{AppSpec}
-use Rattle.app_events.specs.declared.app.App.{Ghosts}
-use Rattle.app_events.specs.States.{is_live}
-use Rattle.app_events.specs.declared.want.Want.{Want}
-use Rattle.app_events.specs.declared.state.State.{State}
-use Rattle.app_events.specs.declared.state.State.TheVariants.{Closed, SynRcvd, Established, CloseWait, FinWait1, FinWait2, Closing, TimeWait, LastAck}
-use Rattle.rexmit_timer.specs.Ages.{beat_at}
-use Rattle.rexmit_timer.specs.declared.timer.Beat.{Beat}
-use Rattle.tcp_segment.specs.Segments.{PlainSegment, has_fin, has_rst}
-use Rattle.tcp_table.specs.declared.conn.Conn.{Conn}
-use Rattle.tcp_machine.specs.Ask.{Outcome, ask_prepared, closes, does_as_wanted, idles, leaves, peer_has_closed}
-use Rattle.tcp_machine.specs.Connection.{Connection, rcv_nxt, snd_una}
-use Rattle.tcp_machine.specs.Fits.{SameNumbers, SameSockets}
-use Rattle.tcp_machine.specs.OnSegment.{by_state, fin_acked, fin_waits, stays_established, has_text, in_established, is_acked, is_out_of_order, on_segment, peer_closes}
-use Rattle.tcp_machine.specs.OnTick.{by_beat, grows_older, limit_of, on_tick, polls, rests_on, tick_by, ticks_established, waits_for_ack}
-use Rattle.tcp_machine.specs.Represents.{ConnRepresents, IsLike, Meets}
-use Rattle.tcp_machine.specs.declared.step.Step.{Step}
-use Rattle.uip_node.specs.Slots.{IsNamed}
+use Rattle.uip_node.proofs.Prelude.{ℕ, ◌≡◌, ◌+◌, ◌&&◌, ◌==◌, Bool, true, false, List, inl, inr, ◌⊎◌, refl, sym, ap, ◌∙◌, nat_lt, if◌then◌else◌, not, REST_TIME, AppSpec, Ghosts, is_live, Want, State, Closed, SynRcvd, Established, CloseWait, FinWait1, FinWait2, Closing, TimeWait, LastAck, beat_at, Beat, PlainSegment, has_fin, has_rst, Conn, Outcome, ask_prepared, closes, does_as_wanted, idles, leaves, peer_has_closed, Connection, rcv_nxt, snd_una, SameNumbers, SameSockets, by_state, fin_acked, fin_waits, stays_established, has_text, in_established, is_acked, is_out_of_order, on_segment, peer_closes, by_beat, grows_older, limit_of, on_tick, polls, rests_on, tick_by, ticks_established, waits_for_ack, ConnRepresents, IsLike, Meets, Step, IsNamed}
 
 -- two abstract connections have the same on their segments
 pub record SameNames (a b : Connection) : Type 0 where

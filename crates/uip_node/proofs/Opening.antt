@@ -1,14 +1,6 @@
 -- A new node.
-use Rattle.std.proofs.Common.{ℕ, zero, suc, ◌≡◌, List, [], ◌∷◌, length, replicate, Some, Bool, true, false, sym, ap, ◌∙◌, subst, arith, ◌<◌}
-use Rattle.std.specs.Prelude.{All, slice_get}
-use Rattle.std.proofs.lemmas.Option.{get_or_from_slice_get}
-use Rattle.app_events.specs.declared.app.App.{Ghosts}
-use Rattle.app_events.specs.States.{is_live}
-use Rattle.app_events.specs.declared.state.State.TheVariants.{Closed}
-use Rattle.tcp_machine.specs.Connection.{Connection, closed}
-use Rattle.tcp_machine.specs.Represents.{ConnRepresents, is_open}
-use Rattle.tcp_table.specs.declared.conn.Conn.{Conn}
-use Rattle.uip_node.specs.Slots.{AllWellFormed, IsWellFormedConn, SlotsRepresent}
+use Rattle.uip_node.proofs.Prelude.{ℕ, zero, suc, ◌≡◌, List, [], ◌∷◌, length, replicate, Some, Bool, true, false, sym, ap, ◌∙◌, subst, arith, ◌<◌, slice_get, get_or_from_slice_get, Ghosts, is_live, Closed, Connection, closed, ConnRepresents, is_open, Conn, AllWellFormed, IsWellFormedConn, SlotsRepresent}
+use Rattle.std.specs.Prelude.{All}
 
 not_both : (b : Bool) → b ≡ false → b ≡ true → ⊥
 not_both true f t = cc

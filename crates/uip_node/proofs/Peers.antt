@@ -1,16 +1,6 @@
 -- A step keeps the sockets of a connection, whatever its client did.
-use Rattle.std.proofs.Common.{◌≡◌, ℕ, Bool, true, false, not, ◌&&◌, List, refl, ◌∙◌, ltb}
-use Rattle.tcp_segment.specs.Segments.{PlainSegment, has_fin, has_rst}
-use Rattle.rexmit_timer.specs.declared.timer.Beat.{Beat}
-use Rattle.app_events.specs.AppSpec.{AppSpec}
-use Rattle.app_events.specs.declared.now.Now.{Now}
-use Rattle.app_events.specs.declared.state.State.{State}
-use Rattle.app_events.specs.declared.state.State.TheVariants.{Closed, SynRcvd, Established, CloseWait, FinWait1, FinWait2, Closing, TimeWait, LastAck}
-use Rattle.tcp_machine.specs.Connection.{Connection, is_live}
-use Rattle.tcp_machine.specs.Ask.{Outcome, leaves, prepared, asked}
-use Rattle.tcp_machine.specs.OnSegment.{is_out_of_order, is_acked, has_text, peer_closes, stays_established, in_established, fin_acked, fin_waits, by_state, on_segment, with_part, rests}
-use Rattle.tcp_machine.specs.OnTick.{by_beat, tick_by, on_tick}
-use Rattle.tcp_machine.specs.declared.step.Step.{Step}
+use Rattle.uip_node.proofs.Prelude.{◌≡◌, ℕ, Bool, true, false, not, ◌&&◌, List, refl, ◌∙◌, ltb, PlainSegment, has_fin, has_rst, Beat, AppSpec, Now, State, Closed, SynRcvd, Established, CloseWait, FinWait1, FinWait2, Closing, TimeWait, LastAck, Connection, Outcome, leaves, prepared, asked, is_out_of_order, is_acked, has_text, peer_closes, stays_established, in_established, fin_acked, fin_waits, by_state, on_segment, with_part, rests, by_beat, tick_by, on_tick, Step}
+use Rattle.tcp_machine.specs.Connection.{is_live}
 use Rattle.uip_node.proofs.Basics.{choose}
 use Rattle.uip_node.proofs.Cases.{asked_by, on_tick_by, wanted_unmoved}
 

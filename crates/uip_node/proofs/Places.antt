@@ -1,16 +1,5 @@
 -- A write to one slot preserves what holds for the others.
-use Rattle.std.proofs.Common.{ℕ, ◌≡◌, List, Some, inl, inr, ap, sym, ◌∙◌, subst, length, length-set}
-use Rattle.std.specs.Prelude.{slice_get, slice_set}
-use Rattle.app_events.specs.declared.app.App.{Ghosts}
-use Rattle.tcp_table.specs.Connections.{Connections}
-use Rattle.tcp_table.specs.declared.conn.Conn.{Conn}
-use Rattle.tcp_machine.specs.Ask.{Outcome}
-use Rattle.tcp_machine.specs.Connection.{Connection}
-use Rattle.tcp_machine.specs.Fits.{Rests, StepFits}
-use Rattle.tcp_machine.specs.Sound.{IsSound}
-use Rattle.tcp_machine.specs.Represents.{ConnRepresents, Meets}
-use Rattle.tcp_machine.specs.declared.step.Step.{Step}
-use Rattle.uip_node.specs.Slots.{AllWellFormed, AllSound, IsIn, IsNamed, MeetsAt, OthersStay, SlotsRepresent, TookStep}
+use Rattle.uip_node.proofs.Prelude.{ℕ, ◌≡◌, List, Some, inl, inr, ap, sym, ◌∙◌, subst, length, length-set, slice_get, slice_set, Ghosts, Connections, Conn, Outcome, Connection, Rests, StepFits, IsSound, ConnRepresents, Meets, Step, AllWellFormed, AllSound, IsIn, IsNamed, MeetsAt, OthersStay, SlotsRepresent, TookStep}
 use Rattle.uip_node.proofs.Tables.{get_after_set, get_set_same}
 
 all_sound : {A S : Type 0} (g : Ghosts A S) (k : g.Config) (cs : List (Conn A)) → AllWellFormed g k cs → AllSound g k cs

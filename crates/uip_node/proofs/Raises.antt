@@ -1,14 +1,6 @@
 -- Counters raised together, index by index, and as counts.
 -- [add: counter] A further number.
-use Rattle.std.proofs.Common.{◌≡◌, ℕ, suc, ◌+◌, ◌<◌, ◌==◌, ◌||◌, Bool, true, false, List, [], ◌∷◌, if◌then◌else◌, length, get_or, map, refl, sym, ap, ◌∙◌, arith}
-use Rattle.std.specs.List.{range_with_len}
-use Rattle.std.proofs.lemmas.Bool.{agree_below_at, eqb-true}
-use Rattle.std.proofs.lemmas.List.{get_or-map}
-use Rattle.std.proofs.Math.Nat.{mod-add-mod}
-use Rattle.uip_wire.specs.Numbers.{wrap}
-use Rattle.uip_node.specs.Raising.{marks, raise, counter_places}
-use Rattle.uip_node.specs.Counters.{counters, raises, times}
-use Rattle.uip_node.specs.Events.{HistoryEntry}
+use Rattle.uip_node.proofs.Prelude.{◌≡◌, ℕ, suc, ◌+◌, ◌<◌, ◌==◌, ◌||◌, Bool, true, false, List, [], ◌∷◌, if◌then◌else◌, length, get_or, map, refl, sym, ap, ◌∙◌, arith, range_with_len, agree_below_at, eqb-true, get_or-map, mod-add-mod, wrap, marks, raise, counter_places, counters, raises, times, HistoryEntry}
 
 pub raise_by_place : (bs : List Bool) (ns ms : List ℕ) → length ms ≡ length ns → length bs ≡ length ns →
     ((k : ℕ) → k < length ns → get_or ms k 0 ≡ (if get_or bs k false then wrap (get_or ns k 0 + 1) else get_or ns k 0)) → ms ≡ raise bs ns

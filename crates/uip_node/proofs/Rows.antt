@@ -1,15 +1,5 @@
 -- Whole conversations, computed from the definitions alone.
-use Rattle.std.proofs.Common.{◌≡◌, ◌+◌, ℕ, zero, suc, Bool, true, false, List, [], ◌∷◌, ◌++◌, map, refl, Option, Some, None, ◌==◌}
-use Rattle.tcp_segment.specs.declared.flags.TheConstants.{FIN, SYN, RST, PSH, ACK}
-use Rattle.app_events.specs.FixedSpec.{fixed_spec, hello}
-use Rattle.tcp_machine.specs.Connection.{Sockets}
-use Rattle.tcp_machine.specs.Ask.{idles}
-use Rattle.tcp_machine.specs.OnSegment.{peer_closes, stays_established, in_established, fin_acked, fin_waits, on_segment}
-use Rattle.tcp_machine.specs.OnTick.{rests_on, ticks_established}
-use Rattle.uip_node.specs.Events.{Event, Reply, tick}
-use Rattle.uip_node.specs.Events.Event.{Arrived}
-use Rattle.uip_node.specs.Events.Reply.{Echo, Tcp}
-use Rattle.uip_node.specs.Node.{initial_node, run, happened, opens_in, for_no_connection}
+use Rattle.uip_node.proofs.Prelude.{◌≡◌, ◌+◌, ℕ, zero, suc, Bool, true, false, List, [], ◌∷◌, ◌++◌, map, refl, Option, Some, None, ◌==◌, FIN, SYN, RST, PSH, ACK, fixed_spec, hello, Sockets, idles, peer_closes, stays_established, in_established, fin_acked, fin_waits, on_segment, rests_on, ticks_established, Event, Reply, tick, Arrived, Echo, Tcp, initial_node, run, happened, opens_in, for_no_connection}
 
 abbrev web : ℕ → Bool
 web port = port == 80

@@ -1,22 +1,5 @@
 -- A connection that is asked after its step.
-use Rattle.std.proofs.Common.{ℕ, zero, suc, ◌≡◌, ◌+◌, ◌<◌, Bool, true, false, List, [], ◌∷◌, length, Some, inl, inr, refl, sym, ap, ◌∙◌, subst, arith, nat_lt, if◌then◌else◌}
-use Rattle.std.specs.Prelude.{slice_get, slice_set}
-use Rattle.std.proofs.lemmas.Bool.{cases_eq, ltb-true, ltb-false}
-use Rattle.app_events.specs.AppSpec.{AppSpec}
-use Rattle.app_events.specs.declared.app.App.{Ghosts}
-use Rattle.app_events.specs.States.{is_live}
-use Rattle.app_events.specs.declared.now.Now.{Now}
-use Rattle.app_events.specs.declared.row.Row.{Row}
-use Rattle.app_events.specs.declared.state.State.{State}
-use Rattle.rexmit_timer.specs.Ages.{count_at, tries_at}
-use Rattle.tcp_table.specs.declared.conn.Conn.{Conn}
-use Rattle.tcp_machine.specs.Ask.{Outcome, ask, ask_prepared, asked, asked_for, prepared}
-use Rattle.tcp_machine.specs.Connection.{Connection, row_of, rows_from, tries_of, count_of, is_resting}
-use Rattle.tcp_machine.specs.Fits.{IsAnswer, Rests, StepFits}
-use Rattle.tcp_machine.specs.Represents.{ConnRepresents}
-use Rattle.tcp_machine.specs.declared.step.Step.{Step}
-use Rattle.uip_node.specs.Inner.{PreparesIn, StaysPrepared, TakesIn}
-use Rattle.uip_node.specs.Slots.{AllWellFormed, AllSound, IsWellFormedConn, MeetsAt, OthersRest, SlotsRepresent, live_rows, snapshot_at, row_in}
+use Rattle.uip_node.proofs.Prelude.{ℕ, zero, suc, ◌≡◌, ◌+◌, ◌<◌, Bool, true, false, List, [], ◌∷◌, length, Some, inl, inr, refl, sym, ap, ◌∙◌, subst, arith, nat_lt, if◌then◌else◌, slice_get, slice_set, cases_eq, ltb-true, ltb-false, AppSpec, Ghosts, is_live, Now, Row, State, count_at, tries_at, Conn, Outcome, ask, ask_prepared, asked, asked_for, prepared, Connection, row_of, rows_from, tries_of, count_of, is_resting, IsAnswer, Rests, StepFits, ConnRepresents, Step, PreparesIn, StaysPrepared, TakesIn, AllWellFormed, AllSound, IsWellFormedConn, MeetsAt, OthersRest, SlotsRepresent, live_rows, snapshot_at, row_in}
 use Rattle.uip_node.proofs.Tables.{get_after_set, get_set_same}
 
 pub rests_of : {A : Type 0} (d : Conn A) (step : Step) → IsAnswer step → StepFits d step → Rests d

@@ -1,8 +1,6 @@
 -- Pairs of sockets, compared.
-use Rattle.std.proofs.Common.{◌≡◌, Bool, true, false, ◌&&◌, refl, sym, ap, ◌∙◌, subst, eqb, bytes_eq}
-use Rattle.std.proofs.lemmas.Bool.{eq-eqb}
-use Rattle.std.proofs.lemmas.Slice.Eq.{bytes_eq-Decides}
-use Rattle.tcp_machine.specs.Connection.{Sockets, same_sockets, Connection, serves, is_live}
+use Rattle.uip_node.proofs.Prelude.{◌≡◌, Bool, true, false, ◌&&◌, refl, sym, ap, ◌∙◌, subst, eqb, bytes_eq, eq-eqb, bytes_eq-Decides, Sockets, same_sockets, Connection, serves}
+use Rattle.tcp_machine.specs.Connection.{is_live}
 use Rattle.uip_node.proofs.Basics.{and_true, both_ways, eqb-eq}
 
 pub same_is : (a b : Sockets) → same_sockets a b ≡ true → a ≡ b

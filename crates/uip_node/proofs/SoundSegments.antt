@@ -1,24 +1,5 @@
 -- Every segment that a node sends fits its fields, and its text is bytes that fit a datagram.
-use Rattle.std.specs.List.{All}
-use Rattle.std.proofs.Common.{◌≡◌, ℕ, ◌+◌, ◌<◌, ◌≤◌, min, Bool, true, false, not, ◌&&◌, ◌⊎◌, inl, inr, List, [], length, take, drop, refl, arith, Option, Some, None, IfSome, eqb, ltb, length-take, if◌then◌else◌}
-use Rattle.std.proofs.lemmas.List.Elements.{All-take, All-drop}
-use Rattle.uip_wire.specs.Numbers.{wrap}
-use Rattle.uip_wire.specs.declared.sizes.TheConstants.{OWN_MSS}
-use Rattle.tcp_segment.specs.Segments.{PlainSegment, has_fin, has_rst}
-use Rattle.rexmit_timer.specs.declared.timer.Beat.{Beat}
-use Rattle.app_events.specs.AppSpec.{AppSpec}
-use Rattle.app_events.specs.Pages.{IsByte}
-use Rattle.app_events.specs.declared.now.Now.{Now}
-use Rattle.app_events.specs.declared.state.State.{State}
-use Rattle.app_events.specs.declared.state.State.TheVariants.{Closed, SynRcvd, Established, CloseWait, FinWait1, FinWait2, Closing, TimeWait, LastAck}
-use Rattle.app_events.specs.declared.want.Want.{Want}
-use Rattle.app_events.specs.declared.want.Want.TheVariants.{Nothing, Send, Close, Abort}
-use Rattle.tcp_machine.specs.Connection.{Sockets, Connection, closed}
-use Rattle.tcp_machine.specs.Segments.{bare_ack, syn_ack, text_segment, fin_of, reset_of, reset_for_no_connection, segment_of}
-use Rattle.tcp_machine.specs.Ask.{Outcome, peer_has_closed, idles, does_as_wanted, prepared, asked_for, asked}
-use Rattle.tcp_machine.specs.OnSegment.{first_mss, accepted, is_out_of_order, is_acked, rests, has_text, with_part, peer_closes, stays_established, in_established, fin_acked, fin_waits, by_state, on_segment}
-use Rattle.tcp_machine.specs.OnTick.{by_beat, on_tick}
-use Rattle.tcp_machine.specs.declared.step.Step.{Step}
+use Rattle.uip_node.proofs.Prelude.{All, ◌≡◌, ℕ, ◌+◌, ◌<◌, ◌≤◌, min, Bool, true, false, not, ◌&&◌, ◌⊎◌, inl, inr, List, [], length, take, drop, refl, arith, Option, Some, None, IfSome, eqb, ltb, length-take, if◌then◌else◌, All-take, All-drop, wrap, OWN_MSS, PlainSegment, has_fin, has_rst, Beat, AppSpec, IsByte, Now, State, Closed, SynRcvd, Established, CloseWait, FinWait1, FinWait2, Closing, TimeWait, LastAck, Want, Nothing, Send, Close, Abort, Sockets, Connection, closed, bare_ack, syn_ack, text_segment, fin_of, reset_of, reset_for_no_connection, segment_of, Outcome, peer_has_closed, idles, does_as_wanted, prepared, asked_for, asked, first_mss, accepted, is_out_of_order, is_acked, rests, has_text, with_part, peer_closes, stays_established, in_established, fin_acked, fin_waits, by_state, on_segment, by_beat, on_tick, Step}
 use Rattle.uip_node.proofs.Cases.{on_tick_by}
 use Rattle.uip_node.proofs.Basics.{choose, only_some, wrap_low}
 use Rattle.uip_node.proofs.Fits.{all_nil}

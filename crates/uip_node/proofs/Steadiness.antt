@@ -1,13 +1,5 @@
 -- An application whose text is a page never retracts text.
-use Rattle.std.specs.List.{All}
-use Rattle.std.proofs.Common.{◌≡◌, ℕ, ◌<◌, inl, inr, List, [], ◌∷◌, ◌++◌, length, drop, sym, ap, ◌∙◌, subst, arith, length-drop}
-use Rattle.app_events.specs.AppSpec.{AppState, Snapshot, AppSpec}
-use Rattle.app_events.specs.Laws.{IsPrefixOf, Grows, CanSend}
-use Rattle.app_events.specs.Pages.{Pages, IsPaged, IsSnapshot, MayWant}
-use Rattle.app_events.specs.declared.now.Now.{Now}
-use Rattle.app_events.specs.declared.want.Want.{Want}
-use Rattle.app_events.specs.declared.want.Want.TheVariants.{Nothing, Send, Close, Abort}
-use Rattle.uip_node.specs.Steady.{IsSteady}
+use Rattle.uip_node.proofs.Prelude.{All, ◌≡◌, ℕ, ◌<◌, inl, inr, List, [], ◌∷◌, ◌++◌, length, drop, sym, ap, ◌∙◌, subst, arith, length-drop, AppState, Snapshot, AppSpec, IsPrefixOf, Grows, CanSend, Pages, IsPaged, IsSnapshot, MayWant, Now, Want, Nothing, Send, Close, Abort, IsSteady}
 use Rattle.uip_node.proofs.Basics.{append_nothing}
 
 can_send : (pages : Pages) (p : AppState) (output : List ℕ) → output ≡ pages.text p.delivered p.captures → (w : Want) → MayWant pages p w → CanSend w (length (drop p.acked output))

@@ -1,14 +1,5 @@
 -- A connection whose application was asked fits, and has what is outstanding; its numbers are low.
-use Rattle.std.specs.List.{All}
-use Rattle.std.proofs.Common.{ℕ, ◌<◌, ◌≤◌, length, sym, subst, arith}
-use Rattle.app_events.specs.AppSpec.{AppState, AppSpec}
-use Rattle.app_events.specs.Pages.{IsSnapshot, IsNow, IsU32}
-use Rattle.app_events.specs.declared.now.Now.{Now}
-use Rattle.app_events.specs.declared.state.State.{State}
-use Rattle.app_events.specs.declared.state.State.TheVariants.{Closed, SynRcvd, Established, CloseWait, FinWait1, FinWait2, Closing, TimeWait, LastAck}
-use Rattle.tcp_machine.specs.Connection.{Connection}
-use Rattle.tcp_machine.specs.Ask.{Outcome, asked}
-use Rattle.uip_node.specs.Steady.{IsSteady}
+use Rattle.uip_node.proofs.Prelude.{All, ℕ, ◌<◌, ◌≤◌, length, sym, subst, arith, AppState, AppSpec, IsSnapshot, IsNow, IsU32, Now, State, Closed, SynRcvd, Established, CloseWait, FinWait1, FinWait2, Closing, TimeWait, LastAck, Connection, Outcome, asked, IsSteady}
 use Rattle.uip_node.proofs.Fits.{FitConn, FitOut, asked_fits, prepared_captures}
 use Rattle.uip_node.proofs.Told.{IsNear, TextSafe, SafeState, OutTells, OutTold, asked_tells}
 

@@ -1,36 +1,7 @@
 -- The cases of a node's step.
 -- [add: state] A step in it.
-use Rattle.std.proofs.Common.{ℕ, zero, suc, ◌≡◌, ◌+◌, ◌-◌, ◌%◌, ◌&&◌, ◌<◌, ◌≤◌, Bool, true, false, List, [], ◌∷◌, ◌++◌, length, take, drop, Option, Some, None, refl, sym, ap, ◌∙◌, subst, arith, nat_lt, slice_range, length-take, length-drop, length-append}
-use Rattle.std.specs.Prelude.{is_some, slice_get, slice_set}
-use Rattle.std.proofs.Math.Nat.{mod-add-mod}
-use Rattle.std.proofs.Math.Seq.{take-append_seam}
-use Rattle.std.proofs.lemmas.Bool.{ltb-false}
-use Rattle.std.proofs.lemmas.List.{take-take}
-use Rattle.app_events.specs.AppSpec.{AppSpec}
-use Rattle.app_events.specs.declared.app.App.{Ghosts}
-use Rattle.app_events.specs.States.{is_live}
-use Rattle.app_events.specs.declared.state.State.{State}
-use Rattle.icmp_echo.specs.Echo.{answered, echo_fate, echo_message, echo_reply}
-use Rattle.packet_buffer.specs.Buffer.{Buffer, datagram_in}
-use Rattle.uip_ipv4.specs.Head.{payload_of}
-use Rattle.uip_ipv4.specs.declared.head.IpHead.{IpHead}
-use Rattle.tcp_segment.specs.Segments.{PlainSegment, has_rst}
-use Rattle.tcp_machine.specs.Ask.{Outcome, asked, leaves}
-use Rattle.tcp_machine.specs.Connection.{Connection, Sockets}
-use Rattle.tcp_machine.specs.OnSegment.{accept}
-use Rattle.tcp_machine.specs.OnTick.{on_tick, tick_by}
-use Rattle.tcp_machine.specs.Segments.{is_plain_syn}
-use Rattle.tcp_machine.specs.declared.step.Step.{Step}
+use Rattle.uip_node.proofs.Prelude.{ℕ, zero, suc, ◌≡◌, ◌+◌, ◌-◌, ◌%◌, ◌&&◌, ◌<◌, ◌≤◌, Bool, true, false, List, [], ◌∷◌, ◌++◌, length, take, drop, Option, Some, None, refl, sym, ap, ◌∙◌, subst, arith, nat_lt, slice_range, length-take, length-drop, length-append, is_some, slice_get, slice_set, mod-add-mod, take-append_seam, ltb-false, take-take, AppSpec, Ghosts, is_live, State, answered, echo_fate, echo_message, echo_reply, Buffer, datagram_in, payload_of, IpHead, PlainSegment, has_rst, Outcome, asked, leaves, Connection, Sockets, accept, on_tick, tick_by, is_plain_syn, Step, CountsRepresent, seen, called_by, initial_number, times, HistoryEntry, Arrived, Periodic, Silent, AbstractNode, connection_in, for_no_connection, happened, snapshot, opens, opens_in, passes, periodic, refuses, slot_for_syn, SlotsRepresent, Represents, Steps, Counts, Node}
 use Rattle.tcp_machine.proofs.States.{by_state}
-use Rattle.uip_node.specs.Counted.{CountsRepresent, seen}
-use Rattle.uip_node.specs.Counters.{called_by, initial_number, times}
-use Rattle.uip_node.specs.Events.{HistoryEntry}
-use Rattle.uip_node.specs.Events.Event.{Arrived, Periodic}
-use Rattle.uip_node.specs.Events.Answer.{Silent}
-use Rattle.uip_node.specs.Node.{AbstractNode, connection_in, for_no_connection, happened, snapshot, opens, opens_in, passes, periodic, refuses, slot_for_syn}
-use Rattle.uip_node.specs.Slots.{SlotsRepresent}
-use Rattle.uip_node.specs.Represents.{Represents, Steps}
-use Rattle.uip_node.specs.State.{Counts, Node}
 
 -- a node represents the abstract one after a later history, with another packet and other counts; what the abstract one remembers is not
 -- used

@@ -1,15 +1,5 @@
 -- A connection of a table changes.
-use Rattle.std.proofs.Common.{ℕ, ◌≡◌, ◌<◌, ◌&&◌, ◌==◌, Bool, true, false, zero, suc, List, [], ◌∷◌, length, Some, ◌⊎◌, inl, inr, refl, sym, ap, ◌∙◌, subst, length-set, get_or}
-use Rattle.std.specs.Prelude.{slice_get, slice_set, bytes_eq}
-use Rattle.std.proofs.lemmas.Bool.{and_from, and_parts, eq-eqb, eqb-true}
-use Rattle.std.proofs.lemmas.Option.{slice_get-get_or}
-use Rattle.std.proofs.lemmas.Slice.Eq.{bytes_eq-Decides}
-use Rattle.app_events.specs.States.{is_live}
-use Rattle.uip_wire.specs.declared.addr.Addr.{Addr}
-use Rattle.uip_wire.specs.declared.port.Port.{Port}
-use Rattle.tcp_table.specs.declared.conn.Conn.{Conn}
-use Rattle.tcp_table.specs.Connections.{Connections, IsTable, is_at}
-use Rattle.tcp_machine.specs.Fits.{SameSockets}
+use Rattle.uip_node.proofs.Prelude.{ℕ, ◌≡◌, ◌<◌, ◌&&◌, ◌==◌, Bool, true, false, zero, suc, List, [], ◌∷◌, length, Some, ◌⊎◌, inl, inr, refl, sym, ap, ◌∙◌, subst, length-set, get_or, slice_get, slice_set, bytes_eq, and_from, and_parts, eq-eqb, eqb-true, slice_get-get_or, bytes_eq-Decides, is_live, Addr, Port, Conn, Connections, IsTable, is_at, SameSockets}
 
 -- the element at an index after a write
 pub get_after_set : {X : Type 0} (xs : List X) (i j : ℕ) (d x : X) → slice_get (slice_set xs i d) j ≡ Some x → ((i ≡ j) × (x ≡ d)) ⊎ (slice_get xs j ≡ Some x)

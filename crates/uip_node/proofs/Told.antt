@@ -1,30 +1,7 @@
 -- What is outstanding stays the same until it is acknowledged, and is retransmitted unchanged.
-use Rattle.std.specs.List.{All}
-use Rattle.tcp_machine.specs.declared.ticking.TheConstants.{REST_TIME}
-use Rattle.std.proofs.Common.{◌≡◌, ℕ, ◌+◌, ◌<◌, ◌≤◌, min, Bool, true, false, not, ◌&&◌, ◌||◌, ◌⊎◌, inl, inr, List, [], ◌∷◌, ◌++◌, length, take, drop, length-drop, refl, sym, ap, ◌∙◌, subst, arith, Option, Some, None, eqb, ltb, if◌then◌else◌}
-use Rattle.std.proofs.lemmas.Grind.{common_steps}
-use Rattle.uip_wire.specs.Numbers.{wrap}
-use Rattle.tcp_segment.specs.Segments.{PlainSegment, has_fin, has_rst, has_syn}
-use Rattle.rexmit_timer.specs.Ages.{beat_at}
-use Rattle.rexmit_timer.specs.declared.timer.Beat.{Beat}
-use Rattle.app_events.specs.AppSpec.{AppState, AppSpec}
-use Rattle.app_events.specs.Laws.{IsPrefixOf, Grows, CanSend}
-use Rattle.app_events.specs.Pages.{IsSnapshot}
-use Rattle.app_events.specs.declared.now.Now.{Now}
-use Rattle.app_events.specs.declared.state.State.{State}
-use Rattle.app_events.specs.declared.state.State.TheVariants.{Closed, SynRcvd, Established, CloseWait, FinWait1, FinWait2, Closing, TimeWait, LastAck}
-use Rattle.app_events.specs.declared.want.Want.{Want}
-use Rattle.app_events.specs.declared.want.Want.TheVariants.{Nothing, Send, Close, Abort}
-use Rattle.tcp_machine.specs.Connection.{Connection, is_live, snd_una}
-use Rattle.tcp_machine.specs.Segments.{occupies_sequence_space, bare_ack, syn_ack, text_segment, fin_of, reset_of, segment_of, is_again}
-use Rattle.tcp_machine.specs.Ask.{Outcome, leaves, closes, after_own_fin, peer_has_closed, idles, does_as_wanted, prepared, ask, asked_for, asked}
-use Rattle.tcp_machine.specs.OnSegment.{is_out_of_order, is_acked, rests, has_text, hears, takes, with_part, in_state, with_window, peer_closes, stays_established, in_established, fin_acked, fin_waits, by_state, on_segment}
-use Rattle.tcp_machine.specs.OnTick.{outstanding, limit_of, grows_older, by_beat, waits_for_ack, rests_on, ticks_established, tick_by, on_tick}
-use Rattle.tcp_machine.specs.declared.step.Step.{Step}
-use Rattle.uip_node.specs.Laws.{Alike}
-use Rattle.uip_node.specs.Steady.{IsSteady}
+use Rattle.uip_node.proofs.Prelude.{All, REST_TIME, ◌≡◌, ℕ, ◌+◌, ◌<◌, ◌≤◌, min, Bool, true, false, not, ◌&&◌, ◌||◌, ◌⊎◌, inl, inr, List, [], ◌∷◌, ◌++◌, length, take, drop, length-drop, refl, sym, ap, ◌∙◌, subst, arith, Option, Some, None, eqb, ltb, if◌then◌else◌, common_steps, wrap, PlainSegment, has_fin, has_rst, has_syn, beat_at, Beat, AppState, AppSpec, IsPrefixOf, Grows, CanSend, IsSnapshot, Now, State, Closed, SynRcvd, Established, CloseWait, FinWait1, FinWait2, Closing, TimeWait, LastAck, Want, Nothing, Send, Close, Abort, Connection, snd_una, occupies_sequence_space, bare_ack, syn_ack, text_segment, fin_of, reset_of, segment_of, is_again, Outcome, leaves, closes, after_own_fin, peer_has_closed, idles, does_as_wanted, prepared, ask, asked_for, asked, is_out_of_order, is_acked, rests, has_text, hears, takes, with_part, in_state, with_window, peer_closes, stays_established, in_established, fin_acked, fin_waits, by_state, on_segment, outstanding, limit_of, grows_older, by_beat, waits_for_ack, rests_on, ticks_established, tick_by, on_tick, Step, Alike, IsSteady, is_open}
+use Rattle.tcp_machine.specs.Connection.{is_live}
 use Rattle.uip_node.proofs.Basics.{choose, append_nothing, only_some, ltb-zero, ltb-lt, ltb-yes, part_grows, cut_part, cut_length, IsPart, prefix_length}
-use Rattle.tcp_machine.specs.Represents.{is_open}
 use Rattle.uip_node.proofs.Cases.{by_open, by_own_fin, fin_lives, open_live}
 
 -- what is outstanding in a state

@@ -1,21 +1,9 @@
 -- The counters after an event, and after its answer.
 -- [add: counter] The events that raise the counter.
-use Rattle.std.proofs.Common.{◌≡◌, ℕ, ◌+◌, ◌%◌, ◌==◌, ◌||◌, ◌&&◌, not, Bool, true, false, List, [], ◌∷◌, if◌then◌else◌, refl, sym, ap, ◌∙◌, Option, None}
-use Rattle.std.specs.List.{list_any}
-use Rattle.std.specs.Option.{option_map_or}
-use Rattle.std.proofs.lemmas.Bool.{and_parts}
-use Rattle.std.proofs.Math.Nat.{mod-add-mod}
-use Rattle.uip_wire.specs.Numbers.{wrap}
+use Rattle.uip_node.proofs.Prelude.{◌≡◌, ℕ, ◌+◌, ◌%◌, ◌==◌, ◌||◌, ◌&&◌, not, Bool, true, false, List, [], ◌∷◌, if◌then◌else◌, refl, sym, ap, ◌∙◌, Option, None, list_any, option_map_or, and_parts, mod-add-mod, wrap, marks, raise, CountsRepresent, again_place, icmp_place, ip_place, seen, tcp_place, called_by, counters, ident_of, raised_by_answer, times, Counts, Answer, Event, HistoryEntry, IpRefused, IcmpRefused, TcpRefused, EchoAsked, Arrived, Overlong, Periodic, NoSlot, Silent, Spoke}
 use Rattle.uip_ipv4.specs.declared.fate.IpFate.TheVariants as Ip
 use Rattle.icmp_echo.specs.declared.fate.IcmpFate.TheVariants as Icmp
 use Rattle.tcp_segment.specs.declared.fate.TcpFate.TheVariants as Tcp
-use Rattle.uip_node.specs.Raising.{marks, raise}
-use Rattle.uip_node.specs.Counted.{CountsRepresent, again_place, icmp_place, ip_place, seen, tcp_place}
-use Rattle.uip_node.specs.Counters.{called_by, counters, ident_of, raised_by_answer, times}
-use Rattle.uip_node.specs.State.{Counts}
-use Rattle.uip_node.specs.Events.{Answer, Event, HistoryEntry}
-use Rattle.uip_node.specs.Events.Event.{IpRefused, IcmpRefused, TcpRefused, EchoAsked, Arrived, Overlong, Periodic}
-use Rattle.uip_node.specs.Events.Answer.{NoSlot, Silent, Spoke}
 use Rattle.uip_node.proofs.Raises.{counters_more, raised_at}
 
 abbrev with_answer : Event → Answer → HistoryEntry

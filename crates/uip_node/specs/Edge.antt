@@ -2,17 +2,16 @@
 use Rattle.std.specs.Prelude.{ℕ, List, take, Result, Ok, Err}
 use Rattle.std.specs.Option.{option_map_or}
 use Rattle.uip_wire.specs.declared.addr.Addr.{Addr}
-use Rattle.uip_ipv4.specs.Head.{head_or_fate, payload_of}
+use Rattle.uip_ipv4.specs.Prelude.{head_or_fate, payload_of}
 use Rattle.uip_ipv4.specs.declared.fate.IpFate.{IpFate}
 use Rattle.uip_ipv4.specs.declared.head.IpHead.{IpHead}
 use Rattle.uip_ipv4.specs.declared.proto.Proto.{Proto}
 use Rattle.uip_ipv4.specs.declared.proto.Proto.TheVariants.{Icmp, Tcp}
-use Rattle.icmp_echo.specs.Echo.{echo_fate, echo_reply}
-use Rattle.tcp_segment.specs.Received.{segment_or_fate, plain_of}
-use Rattle.tcp_segment.specs.Segments.{PlainSegment, Datagram, datagram_bytes}
+use Rattle.icmp_echo.specs.Prelude.{echo_fate, echo_reply}
+use Rattle.tcp_segment.specs.Prelude.{segment_or_fate, plain_of, PlainSegment, Datagram, datagram_bytes}
 use Rattle.tcp_segment.specs.declared.fate.TcpFate.{TcpFate}
 use Rattle.tcp_segment.specs.declared.segment.Segment.{Segment}
-use Rattle.tcp_machine.specs.Connection.{Sockets}
+use Rattle.tcp_machine.specs.Prelude.{Sockets}
 use Rattle.uip_node.specs.Events.{Event, Reply}
 use Rattle.uip_node.specs.Events.Event.{IpRefused, IcmpRefused, TcpRefused, EchoAsked, Arrived}
 use Rattle.uip_node.specs.Events.Reply.{Echo, Tcp as TcpReply}

@@ -3,8 +3,8 @@ use Rattle.std.specs.Prelude.{ℕ, Bool, List, [], ◌∷◌}
 use Rattle.uip_ipv4.specs.declared.fate.IpFate.{IpFate}
 use Rattle.icmp_echo.specs.declared.fate.IcmpFate.{IcmpFate}
 use Rattle.tcp_segment.specs.declared.fate.TcpFate.{TcpFate}
-use Rattle.tcp_segment.specs.Segments.{PlainSegment}
-use Rattle.tcp_machine.specs.Connection.{Sockets}
+use Rattle.tcp_segment.specs.Prelude.{PlainSegment}
+use Rattle.tcp_machine.specs.Prelude.{Sockets}
 
 -- An event of a line. A datagram causes exactly one: a check refuses it (`fate` names the check), or it is an echo request, or it carries
 -- a segment.

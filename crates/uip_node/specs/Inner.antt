@@ -1,17 +1,13 @@
 -- What the private calls of a node do: to the connection in a slot, and to the node.
 use Rattle.std.specs.Prelude.{ℕ, ◌≡◌, ◌+◌, ◌<◌, List, length, take, Option, None, Some, slice_get, slice_set}
-use Rattle.app_events.specs.AppSpec.{AppSpec, text_left}
+use Rattle.app_events.specs.Prelude.{AppSpec, text_left}
 use Rattle.app_events.specs.declared.app.App.{Ghosts}
 use Rattle.app_events.specs.declared.now.Now.{Now}
-use Rattle.packet_buffer.specs.Buffer.{Buffer, datagram_in}
-use Rattle.tcp_segment.specs.Segments.{PlainSegment, datagram_bytes}
+use Rattle.packet_buffer.specs.Prelude.{Buffer, datagram_in}
+use Rattle.tcp_segment.specs.Prelude.{PlainSegment, datagram_bytes}
 use Rattle.tcp_segment.specs.declared.segment.Segment.{Segment}
 use Rattle.tcp_table.specs.declared.conn.Conn.{Conn}
-use Rattle.tcp_machine.specs.Ask.{Outcome, asked, prepared}
-use Rattle.tcp_machine.specs.Connection.{Connection, Sockets}
-use Rattle.tcp_machine.specs.OnSegment.{accept, accepted}
-use Rattle.tcp_machine.specs.Segments.{segment_of}
-use Rattle.tcp_machine.specs.Represents.{plain}
+use Rattle.tcp_machine.specs.Prelude.{Outcome, asked, prepared, Connection, Sockets, accept, accepted, segment_of, plain}
 use Rattle.tcp_machine.specs.declared.step.Step.{Step}
 use Rattle.tcp_segment.specs.declared.flags.TheConstants.{ACK, PSH}
 use Rattle.uip_wire.specs.declared.addr.Addr.{Addr}

@@ -1,11 +1,10 @@
 -- Definitions that the laws of a node share.
 use Rattle.std.specs.List.{All}
 use Rattle.std.specs.Prelude.{◌≡◌, ℕ, ◌+◌, ◌<◌, ◌≤◌, List, [], ◌∷◌, length, take, drop, if◌then◌else◌}
-use Rattle.tcp_segment.specs.Segments.{PlainSegment}
-use Rattle.app_events.specs.AppSpec.{AppSpec, AppState, Snapshot}
+use Rattle.tcp_segment.specs.Prelude.{PlainSegment}
+use Rattle.app_events.specs.Prelude.{AppSpec, AppState, Snapshot, Pages, IsSnapshot, IsByte, IsAddr}
 use Rattle.app_events.specs.declared.now.Now.{Now}
-use Rattle.app_events.specs.Pages.{Pages, IsSnapshot, IsByte, IsAddr}
-use Rattle.tcp_machine.specs.Connection.{Sockets, Connection, closed, serves}
+use Rattle.tcp_machine.specs.Prelude.{Sockets, Connection, closed, serves}
 use Rattle.uip_node.specs.Events.{Event}
 use Rattle.uip_node.specs.Events.Event.{Arrived}
 

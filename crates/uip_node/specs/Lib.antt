@@ -13,3 +13,4 @@ pub mod Inner
 pub mod Steady
 pub mod Laws
 pub mod Answering
+pub mod Prelude

@@ -2,15 +2,11 @@
 use Rattle.std.specs.Prelude.{ℕ, ◌&&◌, Bool, false, not, List, [], ◌∷◌, replicate, position, slice_set, slice_index_or, Option, Some, None, option_map, if◌then◌else◌}
 use Rattle.std.specs.Option.{option_map_or}
 use Rattle.uip_wire.specs.declared.addr.Addr.{Addr}
-use Rattle.tcp_segment.specs.Segments.{PlainSegment, has_rst}
-use Rattle.app_events.specs.AppSpec.{AppSpec}
+use Rattle.tcp_segment.specs.Prelude.{PlainSegment, has_rst}
+use Rattle.app_events.specs.Prelude.{AppSpec}
 use Rattle.app_events.specs.declared.now.Now.{Now}
-use Rattle.tcp_table.specs.Slots.{slot_by}
-use Rattle.tcp_machine.specs.Connection.{Sockets, Connection, closed, is_live, serves, rows_from}
-use Rattle.tcp_machine.specs.Segments.{is_plain_syn, reset_for_no_connection, segment_of, is_again}
-use Rattle.tcp_machine.specs.Ask.{Outcome, asked}
-use Rattle.tcp_machine.specs.OnSegment.{accept, on_segment}
-use Rattle.tcp_machine.specs.OnTick.{on_tick}
+use Rattle.tcp_table.specs.Prelude.{slot_by}
+use Rattle.tcp_machine.specs.Prelude.{Sockets, Connection, closed, is_live, serves, rows_from, is_plain_syn, reset_for_no_connection, segment_of, is_again, Outcome, asked, accept, on_segment, on_tick}
 use Rattle.uip_node.specs.Events.{Event, Answer, HistoryEntry, Reply}
 use Rattle.uip_node.specs.Events.Event.{EchoAsked, Arrived, Periodic}
 use Rattle.uip_node.specs.Events.Answer.{Silent, NoSlot, EchoReplied, Spoke}

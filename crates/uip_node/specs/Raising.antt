@@ -1,7 +1,7 @@
 -- Counters raised by one, each modulo 2^32.
 -- [add: counter] `counter_places`: the numbers of all counters.
 use Rattle.std.specs.Prelude.{ℕ, ◌+◌, ◌==◌, ◌||◌, Bool, List, [], ◌∷◌, map, if◌then◌else◌}
-use Rattle.uip_wire.specs.Numbers.{wrap}
+use Rattle.uip_wire.specs.Prelude.{wrap}
 
 -- The marked counters rise by one.
 abbrev pub raise : List Bool → List ℕ → List ℕ

@@ -1,9 +1,9 @@
 -- When a node of the code represents an abstract node.
 use Rattle.std.specs.Prelude.{ℕ, ◌≡◌, Bool, List, length, Option}
-use Rattle.app_events.specs.AppSpec.{AppSpec}
+use Rattle.app_events.specs.Prelude.{AppSpec}
 use Rattle.app_events.specs.declared.app.App.{Ghosts}
 use Rattle.uip_wire.specs.declared.sizes.TheConstants.{LARGEST_DATAGRAM}
-use Rattle.packet_buffer.specs.Buffer.{Buffer}
+use Rattle.packet_buffer.specs.Prelude.{Buffer}
 use Rattle.tcp_table.specs.declared.conn.Conn.{Conn}
 use Rattle.uip_node.specs.Counted.{CountsRepresent}
 use Rattle.uip_node.specs.Counters.{initial_number}

@@ -1,18 +1,14 @@
 -- The slots of the table: each connection of the code represents the abstract one in its slot.
 use Rattle.std.specs.Prelude.{ℕ, ◌≡◌, ◌+◌, nat_lt, false, List, [], ◌∷◌, length, Some, slice_get, slice_set, if◌then◌else◌}
 use Rattle.app_events.specs.declared.app.App.{Ghosts}
-use Rattle.app_events.specs.States.{is_live}
+use Rattle.app_events.specs.Prelude.{is_live}
 use Rattle.app_events.specs.declared.now.Now.{Now}
 use Rattle.app_events.specs.declared.row.Row.{Row}
 use Rattle.uip_wire.specs.declared.addr.Addr.{Addr}
 use Rattle.uip_wire.specs.declared.port.Port.{Port}
-use Rattle.tcp_table.specs.Connections.{Connections, is_at}
+use Rattle.tcp_table.specs.Prelude.{Connections, is_at}
 use Rattle.tcp_table.specs.declared.conn.Conn.{Conn}
-use Rattle.tcp_machine.specs.Connection.{Connection, rcv_nxt, rows_from, snd_una}
-use Rattle.tcp_machine.specs.Fits.{Rests, StepFits}
-use Rattle.tcp_machine.specs.Sound.{IsSound}
-use Rattle.tcp_machine.specs.Represents.{ConnRepresents}
-use Rattle.tcp_machine.specs.Ask.{Outcome}
+use Rattle.tcp_machine.specs.Prelude.{Connection, rcv_nxt, rows_from, snd_una, Rests, StepFits, IsSound, ConnRepresents, Outcome}
 use Rattle.tcp_machine.specs.declared.step.Step.{Step}
 use Rattle.tcp_machine.specs.declared.step.Step.TheVariants.{Drop}
 

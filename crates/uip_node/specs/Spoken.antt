@@ -1,9 +1,9 @@
 -- The result of a call, and the contents of the packet after it.
 use Rattle.std.specs.Prelude.{ℕ, ◌≡◌, List, length, Option, Some, None}
 use Rattle.uip_wire.specs.declared.addr.Addr.{Addr}
-use Rattle.packet_buffer.specs.Buffer.{Buffer, datagram_in}
-use Rattle.tcp_segment.specs.Segments.{PlainSegment, datagram_bytes}
-use Rattle.tcp_machine.specs.Connection.{Connection, Sockets, rcv_nxt, snd_una}
+use Rattle.packet_buffer.specs.Prelude.{Buffer, datagram_in}
+use Rattle.tcp_segment.specs.Prelude.{PlainSegment, datagram_bytes}
+use Rattle.tcp_machine.specs.Prelude.{Connection, Sockets, rcv_nxt, snd_una}
 use Rattle.uip_node.specs.Edge.{datagram_to, reply_bytes}
 use Rattle.uip_node.specs.Events.{Reply}
 use Rattle.uip_node.specs.declared.speaking.Heading.{Heading}

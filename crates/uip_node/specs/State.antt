@@ -1,8 +1,8 @@
 -- A node of the code as plain data.
 use Rattle.std.specs.Prelude.{ℕ, List}
 use Rattle.uip_wire.specs.declared.addr.Addr.{Addr}
-use Rattle.packet_buffer.specs.Buffer.{Buffer}
-use Rattle.tcp_table.specs.Connections.{Connections}
+use Rattle.packet_buffer.specs.Prelude.{Buffer}
+use Rattle.tcp_table.specs.Prelude.{Connections}
 
 -- The numbers of a node that only rise: its counters, its ticks, and the identification of its last TCP datagram.
 pub record Counts : Type 0 where

@@ -1,8 +1,8 @@
 //! Raises counters of a node.
 
 ghost use Rattle.std.specs.Prelude.{◌≡◌, ◌+◌, ◌==◌, ◌||◌, if◌then◌else◌};
-ghost use Rattle.uip_wire.specs.Numbers.{wrap};
-ghost use Rattle.uip_node.specs.Raising.{marks, raise};
+ghost use Rattle.uip_wire.specs.Prelude.{wrap};
+ghost use Rattle.uip_node.specs.Prelude.{marks, raise};
 
 /// Adds 1, modulo 2^32, to the counters at three indices; an index of 20 or more is none.
 /// [add: counter] The length of the array.

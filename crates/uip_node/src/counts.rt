@@ -1,13 +1,9 @@
 //! What a node counts at each kind of event: its counters, its ticks, and the identification of its datagrams.
 
 ghost use Rattle.std.specs.Prelude.{◌≡◌, ℕ, ◌∷◌, List};
-ghost use Rattle.tcp_machine.specs.Connection.{Sockets};
-ghost use Rattle.tcp_segment.specs.Segments.{PlainSegment};
-ghost use Rattle.uip_node.specs.Counted.{CountsAnswer, CountsEvent, again_place, icmp_place, ip_place, seen, tcp_place};
-ghost use Rattle.uip_node.specs.Counters.{counters, ticks_of};
-ghost use Rattle.uip_node.specs.Events.{HistoryEntry};
-ghost use Rattle.uip_node.specs.Events.Event.{Arrived, EchoAsked, IcmpRefused, IpRefused, Overlong, Periodic, TcpRefused};
-ghost use Rattle.uip_node.specs.Events.Answer.{EchoReplied, NoSlot, Spoke};
+ghost use Rattle.tcp_machine.specs.Prelude.{Sockets};
+ghost use Rattle.tcp_segment.specs.Prelude.{PlainSegment};
+ghost use Rattle.uip_node.specs.Prelude.{CountsAnswer, CountsEvent, again_place, icmp_place, ip_place, seen, tcp_place, counters, ticks_of, HistoryEntry, Arrived, EchoAsked, IcmpRefused, IpRefused, Overlong, Periodic, TcpRefused, EchoReplied, NoSlot, Spoke};
 
 use crate::counter::{
     ICMP_CHECKSUM, ICMP_IN, ICMP_OUT, ICMP_REFUSED, IP_CHECKSUM, IP_FRAGMENT, IP_IN, IP_LENGTH,

@@ -1,15 +1,9 @@
 //! The events of the connection in one slot of the table.
 
 ghost use Rattle.std.specs.Prelude.{◌≡◌, ◌<◌, ◌≤◌, true, false, Some, length, slice_get};
-ghost use Rattle.app_events.specs.States.{is_live};
-ghost use Rattle.tcp_machine.specs.Ask.{ask_prepared};
-ghost use Rattle.tcp_machine.specs.Fits.{CanBeAsked, IsAnswer, StepFits};
-ghost use Rattle.tcp_machine.specs.OnSegment.{on_segment};
-ghost use Rattle.tcp_machine.specs.OnTick.{on_tick};
-ghost use Rattle.tcp_machine.specs.Represents.{plain};
-ghost use Rattle.uip_node.specs.Edge.{sockets_of};
-ghost use Rattle.uip_node.specs.Inner.{OpensIn, PreparesIn, SettlesIn, SpeaksIn, StaysPrepared, TakesIn};
-ghost use Rattle.uip_node.specs.Slots.{AllWellFormed, AllSound, IsIn, NoneAt, OthersRest, TookStep, live_rows};
+ghost use Rattle.app_events.specs.Prelude.{is_live};
+ghost use Rattle.tcp_machine.specs.Prelude.{ask_prepared, CanBeAsked, IsAnswer, StepFits, on_segment, on_tick, plain};
+ghost use Rattle.uip_node.specs.Prelude.{sockets_of, OpensIn, PreparesIn, SettlesIn, SpeaksIn, StaysPrepared, TakesIn, AllWellFormed, AllSound, IsIn, NoneAt, OthersRest, TookStep, live_rows};
 
 use crate::listing::rows_of;
 use crate::speaking::speak;

@@ -1,7 +1,7 @@
 //! The rows of the table of connections.
 
 ghost use Rattle.std.specs.Prelude.{◌≡◌, ◌≤◌, length};
-ghost use Rattle.uip_node.specs.Slots.{live_rows, row_in};
+ghost use Rattle.uip_node.specs.Prelude.{live_rows, row_in};
 
 use app_events::{Row, RowList};
 use arrayvec::ArrayVec;

@@ -1,7 +1,7 @@
 //! The node: dispatches a datagram to its protocol and connection, and sends the reply.
 
 ghost use Rattle.std.specs.Prelude.{◌≡◌, ◌==◌, ◌&&◌};
-ghost use Rattle.tcp_machine.specs.Segments.{is_again};
+ghost use Rattle.tcp_machine.specs.Prelude.{is_again};
 
 use crate::counts;
 use crate::deliver::{

@@ -1,16 +1,11 @@
 //! Output: writes the segment that a connection sends into the packet.
 
 ghost use Rattle.std.specs.Prelude.{◌≡◌, ℕ, ◌+◌, ◌≤◌, List, IsSome, length, slice_range, take};
-ghost use Rattle.app_events.specs.AppSpec.{CanSay, AppState, text_left};
-ghost use Rattle.packet_buffer.specs.Buffer.{datagram_in};
-ghost use Rattle.tcp_machine.specs.Connection.{Connection};
-ghost use Rattle.tcp_machine.specs.Fits.{IsAnswer, StepFits};
-ghost use Rattle.tcp_machine.specs.Segments.{reset_for_no_connection, segment_of};
-ghost use Rattle.tcp_machine.specs.Sound.{IsSound};
-ghost use Rattle.tcp_machine.specs.Represents.{ConnRepresents, plain};
+ghost use Rattle.app_events.specs.Prelude.{CanSay, AppState, text_left};
+ghost use Rattle.packet_buffer.specs.Prelude.{datagram_in};
+ghost use Rattle.tcp_machine.specs.Prelude.{Connection, IsAnswer, StepFits, reset_for_no_connection, segment_of, IsSound, ConnRepresents, plain};
 ghost use Rattle.tcp_machine.specs.declared.step.Step.TheVariants.{Drop};
-ghost use Rattle.tcp_segment.specs.Segments.{datagram_bytes};
-ghost use Rattle.tcp_segment.specs.Sent.{datagram_of};
+ghost use Rattle.tcp_segment.specs.Prelude.{datagram_bytes, datagram_of};
 ghost use Rattle.uip_node.specs.Edge.{datagram_to, sockets_of};
 ghost use Rattle.uip_node.specs.Inner.{WritesText};
 ghost use Rattle.uip_node.specs.Slots.{IsNamed};

@@ -1,12 +1,6 @@
 -- Bytes of ASCII that are examined together have no mark among them.
-use Rattle.std.proofs.Common.{◌≡◌, ℕ, ◌+◌, ◌%◌, ◌^◌, ◌≤◌, Bool, true, false, cond, not, leb, List, [], ◌∷◌, length, take, drop, map, replicate, ◌-◌, refl, sym, ap, ◌∙◌, arith, length-take, length-drop}
-use Rattle.std.specs.List.{prefix_len}
-use Rattle.std.specs.Prelude.{slice_range, nat_eq}
-use Rattle.std.proofs.lemmas.Bool.{eqb-true}
-use Rattle.std.proofs.lemmas.List.{length-map}
-use Rattle.std.proofs.lemmas.Simd.{leading_from_mask_l, mask_l-mod}
+use Rattle.uip_slip.proofs.Prelude.{◌≡◌, ℕ, ◌+◌, ◌%◌, ◌^◌, ◌≤◌, Bool, true, false, cond, not, leb, List, [], ◌∷◌, length, take, drop, map, replicate, ◌-◌, refl, sym, ap, ◌∙◌, arith, length-take, length-drop, prefix_len, slice_range, nat_eq, eqb-true, length-map, leading_from_mask_l, mask_l-mod, is_mark}
 use lib.Lanes.{mask_l, top, zip2}
-use Rattle.uip_slip.specs.Frames.{is_mark}
 
 top_of : (a : Bool) → top 7 (cond a 255 0) ≡ a
 top_of true = refl

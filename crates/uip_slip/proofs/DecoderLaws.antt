@@ -1,14 +1,6 @@
 -- What a decoder knows after one more byte, or a run of them.
-use Rattle.std.proofs.Common.{◌≡◌, ℕ, ◌+◌, ◌≤◌, ◌<◌, Bool, true, false, cond, eqb, nat_lt, List, [], ◌∷◌, ◌++◌, take, length, get_or, refl, sym, ap, subst, ◌-◌, ◌∙◌, append-nil, append_assoc, arith, length-take, length-append, length-drop, drop, min, ◌||◌}
-use Rattle.std.specs.List.{list_all}
-use Rattle.std.proofs.lemmas.List.{get_or-drop, get_or-take, take_all, take-append-le, take-take, length-take-le, take_more}
-use Rattle.std.proofs.Math.Seq.{take-add, take-append-add}
-use Rattle.std.proofs.lemmas.Bool.{ltb-false, ltb-true, le-ltb, lt-ltb, le-leb, lt-leb}
-use Rattle.uip_slip.specs.Frames.{Frame, meant, unescaped, frame_of, open_part, frames, Datagram, Overlong, is_plain}
-use Rattle.uip_slip.specs.declared.fed.Fed.{Fed}
+use Rattle.uip_slip.proofs.Prelude.{◌≡◌, ℕ, ◌+◌, ◌≤◌, ◌<◌, Bool, true, false, cond, eqb, nat_lt, List, [], ◌∷◌, ◌++◌, take, length, get_or, refl, sym, ap, subst, ◌-◌, ◌∙◌, append-nil, append_assoc, arith, length-take, length-append, length-drop, drop, min, ◌||◌, list_all, get_or-drop, get_or-take, take_all, take-append-le, take-take, length-take-le, take_more, take-add, take-append-add, ltb-false, ltb-true, le-ltb, lt-ltb, le-leb, lt-leb, Frame, meant, unescaped, frame_of, open_part, frames, Datagram, Overlong, is_plain, Fed, EndsFrame, State, WasFed, waits_after, open_bytes, reported_by, reopened, pushed, taken, joined_parts, Closes}
 use Rattle.uip_slip.specs.declared.fed.Fed.TheVariants as fed
-use Rattle.uip_slip.specs.Decoding.{EndsFrame, State, WasFed, waits_after, open_bytes, reported_by}
-use Rattle.uip_slip.specs.Steps.{reopened, pushed, taken, joined_parts, Closes}
 use Rattle.uip_slip.proofs.PartLaws.{frames-end, open_part-end, frames-plain, open_part-plain, parts-byte}
 use Rattle.uip_slip.proofs.PlainLaws.{adds, unescaped-push, waits_after-push, parts-plain, plain_joined}
 

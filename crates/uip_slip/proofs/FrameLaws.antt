@@ -1,6 +1,5 @@
 -- The frames that bytes complete, one byte after the other.
-use Rattle.std.proofs.Common.{◌≡◌, ℕ, true, false, List, [], ◌∷◌, ◌++◌, if◌then◌else◌, eqb, refl, sym, ap, ◌∙◌, append-nil, append_assoc}
-use Rattle.uip_slip.specs.Frames.{Frame, completed, frame_of, frames, open_part, unescaped}
+use Rattle.uip_slip.proofs.Prelude.{◌≡◌, ℕ, true, false, List, [], ◌∷◌, ◌++◌, if◌then◌else◌, eqb, refl, sym, ap, ◌∙◌, append-nil, append_assoc, Frame, completed, frame_of, frames, open_part, unescaped}
 use Rattle.uip_slip.proofs.PartLaws.{frames-end, frames-plain, parts-byte}
 
 -- the frames that bytes complete after others

@@ -1,14 +1,7 @@
 -- Bytes that are examined together: the offset of the first mark.
-use Rattle.std.proofs.Common.{◌≡◌, ℕ, ◌+◌, ◌%◌, ◌^◌, ◌<◌, ◌≤◌, Bool, true, false, cond, not, eqb, ◌||◌, List, [], ◌∷◌, length, take, drop, get_or, map, replicate, inl, inr, ◌-◌, true≢false, bit_or, refl, sym, ap, ◌∙◌, arith}
-use Rattle.std.specs.List.{prefix_len}
-use Rattle.std.proofs.lemmas.List.{length-map}
-use Rattle.std.proofs.lemmas.Simd.{first_set_mask_l, mask_l-mod, run_in_chunk_fails, run_in_chunk_le, run_in_chunk_stops}
+use Rattle.uip_slip.proofs.Prelude.{◌≡◌, ℕ, ◌+◌, ◌%◌, ◌^◌, ◌<◌, ◌≤◌, Bool, true, false, cond, not, eqb, ◌||◌, List, [], ◌∷◌, length, take, drop, get_or, map, replicate, inl, inr, ◌-◌, true≢false, bit_or, refl, sym, ap, ◌∙◌, arith, prefix_len, length-map, first_set_mask_l, mask_l-mod, run_in_chunk_fails, run_in_chunk_le, run_in_chunk_stops, slice_range, list_all, cases_lt, IsPlainPrefix, is_mark, is_plain}
 use lib.Count.{count_trailing_zeros}
 use lib.Lanes.{mask_l, top, zip2}
-use Rattle.std.specs.Prelude.{slice_range}
-use Rattle.std.specs.List.{list_all}
-use Rattle.std.proofs.lemmas.Bool.{cases_lt}
-use Rattle.uip_slip.specs.Frames.{IsPlainPrefix, is_mark, is_plain}
 use Rattle.uip_slip.proofs.PlainLaws.{none_marked}
 
 or_top : (a b : Bool) → top 7 (bit_or (cond a 255 0) (cond b 255 0)) ≡ (a || b)

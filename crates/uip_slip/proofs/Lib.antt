@@ -8,3 +8,4 @@ pub mod TextLaws
 pub mod FrameLaws
 pub mod Lanes
 pub mod TextTable
+mod Prelude

@@ -1,10 +1,5 @@
 -- Bytes without END and ESC.
-use Rattle.std.proofs.Common.{◌≡◌, ℕ, ◌≤◌, ◌<◌, Bool, true, false, cond, eqb, List, [], ◌∷◌, ◌++◌, take, length, get_or, refl, sym, ap, ◌∙◌, arith, ◌&&◌, ◌||◌, append_assoc, append-nil, zero, suc, add-one}
-use Rattle.std.specs.List.{list_all}
-use Rattle.std.proofs.lemmas.List.Folds.{list_all_more}
-use Rattle.uip_slip.specs.Frames.{is_mark, is_plain, meant, unescaped, parts}
-use Rattle.uip_slip.specs.Decoding.{waits_after}
-use Rattle.uip_slip.specs.Text.{escaped}
+use Rattle.uip_slip.proofs.Prelude.{◌≡◌, ℕ, ◌≤◌, ◌<◌, Bool, true, false, cond, eqb, List, [], ◌∷◌, ◌++◌, take, length, get_or, refl, sym, ap, ◌∙◌, arith, ◌&&◌, ◌||◌, append_assoc, append-nil, zero, suc, add-one, list_all, list_all_more, is_mark, is_plain, meant, unescaped, parts, waits_after, escaped}
 
 both_true : (a b : Bool) → (a && b) ≡ true → (a ≡ true) × (b ≡ true)
 both_true true b e = (refl, e)

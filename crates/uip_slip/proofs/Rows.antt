@@ -1,7 +1,5 @@
 -- Worked rows, computed from the definitions.
-use Rattle.std.proofs.Common.{◌≡◌, [], ◌∷◌, refl}
-use Rattle.uip_slip.specs.Frames.{Datagram, frames}
-use Rattle.uip_slip.specs.Text.{slip_text}
+use Rattle.uip_slip.proofs.Prelude.{◌≡◌, [], ◌∷◌, refl, Datagram, frames, slip_text}
 
 -- an ESC before any other byte gives that byte
 stray_escape : frames (192 ∷ 219 ∷ 65 ∷ 192 ∷ []) ≡ Datagram (65 ∷ []) ∷ []

@@ -1,8 +1,5 @@
 -- The text of a datagram, and only it, is read back as that datagram.
-use Rattle.std.proofs.Common.{◌≡◌, ℕ, ◌≤◌, ◌<◌, true, false, cond, eqb, List, [], ◌∷◌, ◌++◌, length, refl, sym, ap, ◌∙◌, arith}
-use Rattle.std.proofs.lemmas.Bool.{le-leb, eqb-true}
-use Rattle.uip_slip.specs.Frames.{Datagram, unescaped, frame_of, parts, frames, open_part}
-use Rattle.uip_slip.specs.Text.{escaped, escaped_byte, slip_text}
+use Rattle.uip_slip.proofs.Prelude.{◌≡◌, ℕ, ◌≤◌, ◌<◌, true, false, cond, eqb, List, [], ◌∷◌, ◌++◌, length, refl, sym, ap, ◌∙◌, arith, le-leb, eqb-true, Datagram, unescaped, frame_of, parts, frames, open_part, escaped, escaped_byte, slip_text}
 use Rattle.uip_slip.proofs.PartLaws.{frames-end, frames-plain, open_part-plain}
 
 plain_prefix : (b : ℕ) (rest : List ℕ) → eqb b 219 ≡ false → unescaped (b ∷ rest) ≡ b ∷ unescaped rest

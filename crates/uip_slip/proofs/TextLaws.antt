@@ -1,10 +1,5 @@
 -- The text of a datagram in parts.
-use Rattle.std.proofs.Common.{◌≡◌, ℕ, ◌+◌, ◌*◌, ◌-◌, ◌≤◌, ◌<◌, List, [], ◌∷◌, ◌++◌, take, drop, length, get_or, sym, ap, ◌∙◌, append_assoc, append-nil, arith, true, false, cond, eqb, length-append, length-take, length-drop}
-use Rattle.std.specs.List.{list_all}
-use Rattle.std.proofs.lemmas.List.{take_more, take-append-drop}
-use Rattle.std.proofs.lemmas.List.Concat.{flat_map-append}
-use Rattle.uip_slip.specs.Frames.{is_plain}
-use Rattle.uip_slip.specs.Text.{escaped, escaped_byte, slip_text}
+use Rattle.uip_slip.proofs.Prelude.{◌≡◌, ℕ, ◌+◌, ◌*◌, ◌-◌, ◌≤◌, ◌<◌, List, [], ◌∷◌, ◌++◌, take, drop, length, get_or, sym, ap, ◌∙◌, append_assoc, append-nil, arith, true, false, cond, eqb, length-append, length-take, length-drop, list_all, take_more, take-append-drop, flat_map-append, is_plain, escaped, escaped_byte, slip_text}
 use Rattle.uip_slip.proofs.PlainLaws.{escaped-plain}
 
 byte_bound : (b : ℕ) → length (escaped_byte b) ≤ 2

@@ -1,9 +1,5 @@
 -- The table of the texts of all bytes.
-use Rattle.std.proofs.Common.{◌≡◌, ℕ, ◌/◌, ◌%◌, ◌<◌, ◌≤◌, Bool, true, false, cond, eqb, [], ◌∷◌, map, get_or, refl, ap, ◌∙◌, arith}
-use Rattle.std.specs.List.{range_with_len}
-use Rattle.std.proofs.lemmas.List.FromFn.{get_or-map-range_with_len}
-use Rattle.uip_slip.specs.Text.{escaped_byte}
-use Rattle.uip_slip.specs.declared.writing.TheConstants.{TEXTS}
+use Rattle.uip_slip.proofs.Prelude.{◌≡◌, ℕ, ◌/◌, ◌%◌, ◌<◌, ◌≤◌, Bool, true, false, cond, eqb, [], ◌∷◌, map, get_or, refl, ap, ◌∙◌, arith, range_with_len, get_or-map-range_with_len, escaped_byte, TEXTS}
 
 -- the text of a byte as one number, its first byte lowest
 abbrev pub text_number : ℕ → ℕ

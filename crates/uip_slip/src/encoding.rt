@@ -1,8 +1,7 @@
 //! The encoder.
 
 ghost use Rattle.std.specs.Prelude.{◌≡◌, ◌≤◌, length};
-ghost use Rattle.uip_edge.specs.ViewsOf.{sink_view};
-ghost use Rattle.uip_edge.specs.Writing.{Writes};
+ghost use Rattle.uip_edge.specs.Prelude.{sink_view, Writes};
 ghost use Rattle.uip_slip.specs.Text.{slip_text};
 
 use crate::marks::{END, ESC};

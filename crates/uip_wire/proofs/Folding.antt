@@ -1,7 +1,5 @@
 -- Sums that differ by carries have the same folded value, and sums that differ by one byte have another.
-use Rattle.std.proofs.Common.{◌≡◌, ◌≢◌, ℕ, ◌+◌, ◌-◌, ◌*◌, ◌/◌, ◌%◌, ◌<◌, ◌≤◌, ◌⊎◌, inl, inr, List, [], ◌∷◌, ◌++◌, sym, ap, ◌∙◌, refl, arith}
-use Rattle.std.proofs.lemmas.Grind.{common_steps}
-use Rattle.uip_wire.specs.Checksum.{checksum_of, folded, word_sum, OneByteTells}
+use Rattle.uip_wire.proofs.Prelude.{◌≡◌, ◌≢◌, ℕ, ◌+◌, ◌-◌, ◌*◌, ◌/◌, ◌%◌, ◌<◌, ◌≤◌, ◌⊎◌, inl, inr, List, [], ◌∷◌, ◌++◌, sym, ap, ◌∙◌, refl, arith, common_steps, checksum_of, folded, word_sum, OneByteTells}
 
 pub folded_zero : folded 0 ≡ 0
 unfolding folded

@@ -5,3 +5,4 @@ pub mod Rows
 pub mod Wide
 pub mod Words
 pub mod Writing
+mod Prelude

@@ -1,16 +1,5 @@
 -- Numerals, and the numbers that print as them.
-use Rattle.std.proofs.Common.{◌≡◌, ℕ, ◌+◌, ◌-◌, ◌*◌, ◌^◌, ◌<◌, ◌≤◌, ◌&&◌, Bool, true, false, cond, leb, zero, suc, ◌⊎◌, inl, inr, List, [], ◌∷◌, length, take, get_or, nat_lt, eqb, eq-eqb, None, Some, rules, refl, sym, ap, ◌∙◌, arith}
-use Rattle.std.specs.Char.{digit_value, is_ascii_digit}
-use Rattle.std.specs.Fmt.{decimal}
-use Rattle.std.specs.List.{list_all}
-use Rattle.std.specs.Str.Parse.{digits_value}
-use Rattle.std.proofs.lemmas.Bool.{and_parts, leb-true, ltb-true, lt-ltb, ne_eqb}
-use Rattle.std.proofs.lemmas.Fmt.{decimal-digits_value, decimal_digit, decimal_nonempty, digits_decimal, digits_value-decimal, first_decimal}
-use Rattle.std.proofs.lemmas.Int.Digits.{digits_value_more}
-use Rattle.std.proofs.lemmas.Str.{digit_value_digit}
-use Rattle.std.proofs.lemmas.List.Folds.{list_all_at}
-use Rattle.std.proofs.lemmas.Str.Parse.{IsNumeralModel, digits_value-take-le, numerals_by_value}
-use Rattle.uip_wire.specs.Numerals.{NumeralsPrint, is_numeral, leads_badly, numeral}
+use Rattle.uip_wire.proofs.Prelude.{◌≡◌, ℕ, ◌+◌, ◌-◌, ◌*◌, ◌^◌, ◌<◌, ◌≤◌, ◌&&◌, Bool, true, false, cond, leb, zero, suc, ◌⊎◌, inl, inr, List, [], ◌∷◌, length, take, get_or, nat_lt, eqb, eq-eqb, None, Some, rules, refl, sym, ap, ◌∙◌, arith, digit_value, is_ascii_digit, decimal, list_all, digits_value, and_parts, leb-true, ltb-true, lt-ltb, ne_eqb, decimal-digits_value, decimal_digit, decimal_nonempty, digits_decimal, digits_value-decimal, first_decimal, digits_value_more, digit_value_digit, list_all_at, IsNumeralModel, digits_value-take-le, numerals_by_value, NumeralsPrint, is_numeral, leads_badly, numeral}
 
 own : IsNumeralModel (λ ds. list_all is_ascii_digit ds ≡ true) (digits_value 10)
 own = numerals_by_value _ (search rules)

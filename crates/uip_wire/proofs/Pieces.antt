@@ -1,8 +1,6 @@
 -- The sum of bytes that are added in pieces.
-use Rattle.std.proofs.Common.{◌≡◌, ℕ, ◌+◌, ◌*◌, ◌%◌, ◌≤◌, ◌⊎◌, inl, inr, Bool, true, not, ◌==◌, if◌then◌else◌, List, [], ◌∷◌, ◌++◌, length, drop, slice_index, sym, ap, ◌∙◌, refl, arith, length-append, add_comm}
+use Rattle.uip_wire.proofs.Prelude.{◌≡◌, ℕ, ◌+◌, ◌*◌, ◌%◌, ◌≤◌, ◌⊎◌, inl, inr, Bool, true, not, ◌==◌, if◌then◌else◌, List, [], ◌∷◌, ◌++◌, length, drop, slice_index, sym, ap, ◌∙◌, refl, arith, length-append, add_comm, folded, word_sum, PartSum, sum_of}
 use mathlib.Core.Bool.{beq}
-use Rattle.uip_wire.specs.Checksum.{folded, word_sum}
-use Rattle.uip_wire.specs.Sums.{PartSum, sum_of}
 use Rattle.uip_wire.proofs.Folding.{folded_add}
 
 -- the first byte after an odd number of bytes

@@ -1,8 +1,5 @@
 -- The definitions on examples worked by hand: that of RFC 1071, section 3, and texts that are or are not dotted quads.
-use Rattle.std.proofs.Common.{◌≡◌, ℕ, List, [], ◌∷◌, map, Option, None, Some, refl}
-use Rattle.std.specs.Prelude.{codes}
-use Rattle.uip_wire.specs.Addr.{quad_of}
-use Rattle.uip_wire.specs.Checksum.{checksum_of, folded}
+use Rattle.uip_wire.proofs.Prelude.{◌≡◌, ℕ, List, [], ◌∷◌, map, Option, None, Some, refl, codes, quad_of, checksum_of, folded}
 
 -- Bytes, and the checksum of each.
 abbrev checksum_rows : List (List ℕ × ℕ)

@@ -1,9 +1,5 @@
 -- Eight bytes that are added as one number of 64 bits.
-use Rattle.std.proofs.Common.{◌≡◌, ℕ, ◌+◌, ◌-◌, ◌*◌, ◌/◌, ◌%◌, ◌^◌, ◌<◌, ◌≤◌, ◌⊎◌, inl, inr, List, [], ◌∷◌, length, drop, length-drop, slice_index, sym, ap, ◌∙◌, refl, arith}
-use Rattle.std.proofs.lemmas.List.{drop-drop}
-use Rattle.byteorder.specs.Endian.{little_number}
-use Rattle.uip_wire.specs.Checksum.{folded, word_sum}
-use Rattle.uip_wire.specs.Sums.{swapped_sum}
+use Rattle.uip_wire.proofs.Prelude.{◌≡◌, ℕ, ◌+◌, ◌-◌, ◌*◌, ◌/◌, ◌%◌, ◌^◌, ◌<◌, ◌≤◌, ◌⊎◌, inl, inr, List, [], ◌∷◌, length, drop, length-drop, slice_index, sym, ap, ◌∙◌, refl, arith, drop-drop, little_number, folded, word_sum, swapped_sum}
 use Rattle.uip_wire.proofs.Folding.{folded_cases, folded_most, same_folded}
 
 zero_or_more : (n : ℕ) → (n ≡ 0) ⊎ (0 < n)

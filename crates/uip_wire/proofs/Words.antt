@@ -1,7 +1,5 @@
 -- The sum of words before other bytes.
-use Rattle.std.proofs.Common.{◌≡◌, ℕ, ◌+◌, ◌*◌, ◌/◌, ◌%◌, List, [], ◌∷◌, ◌++◌, length, refl, arith}
-use Rattle.uip_wire.specs.Checksum.{word_sum}
-use Rattle.uip_wire.specs.Fields.{bytes_of}
+use Rattle.uip_wire.proofs.Prelude.{◌≡◌, ℕ, ◌+◌, ◌*◌, ◌/◌, ◌%◌, List, [], ◌∷◌, ◌++◌, length, refl, arith, word_sum, bytes_of}
 
 abbrev pub total : List ℕ → ℕ
 total [] = 0

@@ -1,8 +1,6 @@
 -- A field that is written over a part of a list.
-use Rattle.std.proofs.Common.{◌≡◌, ◌+◌, ◌/◌, ◌%◌, ◌≤◌, ◌<◌, ◌-◌, ◌++◌, [], ◌∷◌, ◌∙◌, ap, length, take, drop, ℕ, List, arith, refl, append_assoc, append-nil, length-drop}
-use Rattle.std.proofs.lemmas.List.{take_rest, drop_all, drop-drop}
+use Rattle.uip_wire.proofs.Prelude.{◌≡◌, ◌+◌, ◌/◌, ◌%◌, ◌≤◌, ◌<◌, ◌-◌, ◌++◌, [], ◌∷◌, ◌∙◌, ap, length, take, drop, ℕ, List, arith, refl, append_assoc, append-nil, length-drop, take_rest, drop_all, drop-drop, word_bytes, long_bytes, written}
 use borrow.Rule.Slice.PartMut.{put_mid}
-use Rattle.uip_wire.specs.Fields.{word_bytes, long_bytes, written}
 
 joined : (prefix part tail ys post : List ℕ) → ys ≡ part ++ tail → post ≡ [] → prefix ++ (ys ++ post) ≡ prefix ++ part ++ tail
 joined prefix part tail ys post e p = rw (e, p, append-nil, append_assoc) refl

@@ -5,3 +5,4 @@ pub mod Numbers
 pub mod Numerals
 pub mod Sums
 pub mod ConstantValues
+pub mod Prelude

@@ -1,7 +1,7 @@
 //! Big-endian fields of headers (RFC 791, appendix B).
 
 ghost use Rattle.std.specs.Prelude.{◌≡◌, ◌+◌, ◌≤◌, length};
-ghost use Rattle.uip_wire.specs.Fields.{word_at, long_at, word_bytes, long_bytes, written};
+ghost use Rattle.uip_wire.specs.Prelude.{word_at, long_at, word_bytes, long_bytes, written};
 
 use byteorder::{BigEndian, ByteOrder};
 

@@ -1,40 +1,11 @@
 -- A run that nothing outside disturbs does what is due for its words.
 -- [add: command] The result of a command that nothing disturbs.
-use Rattle.std.proofs.Common.{◌≡◌, ℕ, ◌-◌, ◌^◌, ◌<◌, ◌≤◌, List, Option, None, Some, Ok, Err, refl, sym, ap, subst, ◌∙◌, inl, inr, arith}
-use Rattle.std.specs.Prelude.{◌⊎◌, ⊤}
-use Rattle.site_image.specs.Files.{File}
-use Rattle.file_tree.specs.declared.load_fault.LoadFault.{LoadFault}
+use Rattle.uipd.proofs.Prelude.{◌≡◌, ℕ, ◌-◌, ◌^◌, ◌<◌, ◌≤◌, List, Option, None, Some, Ok, Err, refl, sym, ap, subst, ◌∙◌, inl, inr, arith, ◌⊎◌, ⊤, File, LoadFault, FailsToOpen, LacksFile, site_read, Due, Ends, SiteEnd, EndsWith, IsLoadText, IsReplayText, LacksEither, WroteDue, ReplayEnd, as_due, LineView, LineUnfailed, Outside, WorkView, WorkUnfailed, line_in, work_in, Converts, TellsLine, SlipEnd, Rose, Files, Item, ServeEnd, CaptureDone, Completes, ImageDone, LacksFor, LineDone, OrShort, ReplayDone, RunIsComplete, ServingDone, no_hits, app_spec_of, output_of, ports_of, TaskRuns, ServeRuns, ServesBy, IsUndisturbed, SiteServes, RunsAs, status_of_fault, status_of_replay, status_of_serving, status_of_site, status_of_slip, Task, Serves, Checks, Pages, Packs, Upgrades, Replays, Loads, Dumps, Captures, PlaysBack, ShowsText, task_of, ServedLine, Status}
 use Rattle.file_tree.specs.declared.load_fault.LoadFault.TheVariants as loads
-use Rattle.file_tree.specs.Opening.{FailsToOpen, LacksFile, site_read}
-use Rattle.site_commands.specs.Due.{Due}
-use Rattle.site_commands.specs.Ending.{Ends}
-use Rattle.site_commands.specs.declared.site_end.SiteEnd.{SiteEnd}
 use Rattle.site_commands.specs.declared.site_end.SiteEnd.TheVariants as sites
-use Rattle.link_replay.specs.Ending.{EndsWith, IsLoadText, IsReplayText, LacksEither}
-use Rattle.link_replay.specs.Laws.{WroteDue}
-use Rattle.link_replay.specs.declared.replay_end.ReplayEnd.{ReplayEnd}
 use Rattle.link_replay.specs.declared.replay_end.ReplayEnd.TheVariants as replays
-use Rattle.link_replay.proofs.Undisturbed.{as_due}
-use Rattle.uip_edge.specs.Views.{LineView, LineUnfailed, Outside, WorkView, WorkUnfailed, line_in, work_in}
-use Rattle.trace.specs.Converting.{Converts}
-use Rattle.trace.specs.Telling.{TellsLine}
-use Rattle.trace.specs.declared.slip_end.SlipEnd.{SlipEnd}
 use Rattle.trace.specs.declared.slip_end.SlipEnd.TheVariants as slips
-use Rattle.uip_edge.specs.Causes.{Rose}
-use Rattle.uip_edge.specs.Shelving.{Files}
-use Rattle.uip_edge.specs.declared.item.Item.{Item}
-use Rattle.uip_edge.specs.declared.serve_end.ServeEnd.{ServeEnd}
 use Rattle.uip_edge.specs.declared.serve_end.ServeEnd.TheVariants as serves
-use Rattle.uipd.specs.Completeness.{CaptureDone, Completes, ImageDone, LacksFor, LineDone, OrShort, ReplayDone, RunIsComplete, ServingDone}
-use Rattle.web_pages.specs.Serving.{no_hits}
-use Rattle.uipd.specs.Output.{app_spec_of, output_of, ports_of}
-use Rattle.uipd.specs.Running.{TaskRuns}
-use Rattle.uipd.specs.Serving.{ServeRuns, ServesBy}
-use Rattle.uipd.specs.SiteServing.{IsUndisturbed, SiteServes}
-use Rattle.uipd.specs.Statuses.{RunsAs, status_of_fault, status_of_replay, status_of_serving, status_of_site, status_of_slip}
-use Rattle.uipd.specs.Words.{Task, Serves, Checks, Pages, Packs, Upgrades, Replays, Loads, Dumps, Captures, PlaysBack, ShowsText, task_of}
-use Rattle.uipd.specs.declared.words.ServedLine.{ServedLine}
-use Rattle.uipd.specs.declared.status.Status.{Status}
 use Rattle.uipd.specs.declared.status.Status.TheVariants as status
 
 -- a count that stays below its end value did not rise

@@ -7,3 +7,4 @@ pub mod ServeLaws
 pub mod SiteLaws
 pub mod WordLaws
 pub mod ToldCompleting
+mod Prelude

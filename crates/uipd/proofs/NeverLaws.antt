@@ -1,19 +1,9 @@
 -- Only words without a form are reported to have none.
-use Rattle.std.proofs.Common.{◌≡◌, ℕ, List, Option, sym, ◌∙◌, inl, inr}
-use Rattle.uip_edge.specs.declared.serve_end.ServeEnd.{ServeEnd}
+use Rattle.uipd.proofs.Prelude.{◌≡◌, ℕ, List, Option, sym, ◌∙◌, inl, inr, ServeEnd, LoadFault, SiteEnd, ReplayEnd, SiteServes, RunsAs, status_of_fault, status_of_replay, status_of_serving, status_of_site, ServedLine, Status, BadWords, Outside}
 use Rattle.uip_edge.specs.declared.serve_end.ServeEnd.TheVariants as serves
-use Rattle.file_tree.specs.declared.load_fault.LoadFault.{LoadFault}
 use Rattle.file_tree.specs.declared.load_fault.LoadFault.TheVariants as loads
-use Rattle.site_commands.specs.declared.site_end.SiteEnd.{SiteEnd}
 use Rattle.site_commands.specs.declared.site_end.SiteEnd.TheVariants as ends
-use Rattle.link_replay.specs.declared.replay_end.ReplayEnd.{ReplayEnd}
 use Rattle.link_replay.specs.declared.replay_end.ReplayEnd.TheVariants as replays
-use Rattle.uipd.specs.SiteServing.{SiteServes}
-use Rattle.uipd.specs.Statuses.{RunsAs, status_of_fault, status_of_replay, status_of_serving, status_of_site}
-use Rattle.uipd.specs.declared.words.ServedLine.{ServedLine}
-use Rattle.uipd.specs.declared.status.Status.{Status}
-use Rattle.uipd.specs.declared.status.Status.TheVariants.{BadWords}
-use Rattle.uip_edge.specs.Views.{Outside}
 
 serving_has_words : (end : ServeEnd) → status_of_serving end ≡ BadWords → ⊥
 serving_has_words serves.End e = cc

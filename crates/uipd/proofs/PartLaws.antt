@@ -1,13 +1,6 @@
 -- Words of two parts.
-use Rattle.std.proofs.Common.{◌≡◌, ℕ, ◌<◌, List, length, get_or, map, Bool, true, false, sym, ap, subst, ◌∙◌, string_bytes, String, Global}
-use Rattle.std.specs.Prelude.{◌&&◌, All, IsTrue, nat_lt}
-use Rattle.std.specs.List.{list_all}
-use Rattle.std.proofs.lemmas.List.Elements.{All-map, All-weaker}
-use Rattle.std.proofs.lemmas.List.Folds.{list_all-map, list_all_at}
-use Rattle.std.proofs.lemmas.List.Sums.{AllPass-from_list_all}
-use Rattle.site_image.specs.Names.{is_kind}
-use Rattle.file_tree.specs.Upgrading.{KindContent}
-use Rattle.uipd.specs.Words.{back_part, has_parts, is_kind_word, kind_word}
+use Rattle.uipd.proofs.Prelude.{◌≡◌, ℕ, ◌<◌, List, length, get_or, map, Bool, true, false, sym, ap, subst, ◌∙◌, string_bytes, String, Global, ◌&&◌, IsTrue, nat_lt, list_all, All-map, All-weaker, list_all-map, list_all_at, AllPass-from_list_all, is_kind, KindContent, back_part, has_parts, is_kind_word, kind_word}
+use Rattle.std.specs.Prelude.{All}
 
 last_of : (a b : Bool) → (a && b) ≡ true → b ≡ true
 last_of true b e = e

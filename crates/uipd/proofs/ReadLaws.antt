@@ -1,9 +1,5 @@
 -- What a read that returned bytes consumed.
-use Rattle.std.proofs.Common.{◌≡◌, ◌≤◌, ◌<◌, ℕ, List, Option, Some, Result, Ok, Err, length, take, subst}
-use Rattle.std.specs.Prelude.{IfOk}
-use Rattle.std.specs.Result.{result_ok}
-use Rattle.std.specs.Counts.{IsPrefixLen}
-use Rattle.std.specs.Io.KnownBytes.{Consumes, IsAtEnd, ReadConsumes}
+use Rattle.uipd.proofs.Prelude.{◌≡◌, ◌≤◌, ◌<◌, ℕ, List, Option, Some, Result, Ok, Err, length, take, subst, IfOk, result_ok, IsPrefixLen, Consumes, IsAtEnd, ReadConsumes}
 
 value_of : (m n : ℕ) → Some n ≡ Some m → m ≡ n
 value_of m n e = cc e

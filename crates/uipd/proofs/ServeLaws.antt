@@ -1,35 +1,7 @@
 -- Serving by a node, from the initial one on.
 -- [add: line-kind] A case for a further kind of line.
-use Rattle.std.proofs.Common.{◌≡◌, ◌<◌, ℕ, Bool, List, [], ◌∷◌, ◌++◌, Option, length, refl, subst, sym, ap, ◌∙◌, inl, append_assoc}
-use Rattle.app_events.specs.AppSpec.{AppSpec}
-use Rattle.app_events.specs.declared.app.App.{Ghosts}
-use Rattle.uip_edge.specs.declared.item.Item.{Item}
-use Rattle.uip_edge.specs.declared.serve_end.ServeEnd.{ServeEnd}
+use Rattle.uipd.proofs.Prelude.{◌≡◌, ◌<◌, ℕ, Bool, List, [], ◌∷◌, ◌++◌, Option, length, refl, subst, sym, ap, ◌∙◌, inl, append_assoc, AppSpec, Ghosts, Item, ServeEnd, WrittenBy, LineView, BreaksOff, breaks_prefix, breaks_whole, Node, initial_node, Represents, Addr, ether_medium, Host, Act, Mac, MediumSpec, StationEvent, PrefixWritten, Station, station_after, station_after_all, output, output_of_event, IsStationed, SaidBy, ServesOver, station_events_of_line, initial_station, output_by, output-append, host_at, output_over, RunsBy, status_of_serving, LineKind, Ethernet, ServedLine}
 use Rattle.uip_edge.specs.declared.serve_end.ServeEnd.TheVariants as ends
-use Rattle.uip_edge.specs.Ending.{WrittenBy}
-use Rattle.uip_edge.specs.Views.{LineView}
-use Rattle.uip_edge.specs.Writing.{BreaksOff}
-use Rattle.uip_edge.proofs.Breaking.{breaks_prefix, breaks_whole}
-use Rattle.uip_node.specs.State.{Node}
-use Rattle.uip_node.specs.Node.{initial_node}
-use Rattle.uip_node.specs.Represents.{Represents}
-use Rattle.uip_wire.specs.declared.addr.Addr.{Addr}
-use Rattle.ethernet_arp.specs.EtherWay.{ether_medium}
-use Rattle.ethernet_arp.specs.Frames.{Host}
-use Rattle.ethernet_arp.specs.Learning.{Act}
-use Rattle.ethernet_arp.specs.declared.mac.Mac.{Mac}
-use Rattle.line_medium.specs.Media.{MediumSpec}
-use Rattle.serve_loop.specs.StationRuns.{StationEvent, PrefixWritten, Station, station_after, station_after_all, output, output_of_event}
-use Rattle.serve_loop.specs.StationServing.{IsStationed, SaidBy, ServesOver}
-use Rattle.serve_loop.specs.LineStationEvents.{station_events_of_line}
-use Rattle.serve_loop.specs.LineOutput.{initial_station, output_by}
-use Rattle.serve_loop.proofs.RunLaws.{output-append}
-use Rattle.uipd.specs.Output.{host_at, output_over}
-use Rattle.uipd.specs.Serving.{RunsBy}
-use Rattle.uipd.specs.Statuses.{status_of_serving}
-use Rattle.uipd.specs.declared.words.LineKind.{LineKind}
-use Rattle.uipd.specs.declared.words.LineKind.TheVariants.{Ethernet}
-use Rattle.uipd.specs.declared.words.ServedLine.{ServedLine}
 
 -- the output was written by the end, and a write failed only where there is some
 record PutsOut (end : ServeEnd) (a b : Option (List ℕ)) (text : List ℕ) : Type 0 where

@@ -1,16 +1,7 @@
 -- Commands for an image that nothing outside disturbs.
-use Rattle.std.proofs.Common.{◌≡◌, Option, ap, inl, inr, subst, sym}
-use Rattle.std.specs.Prelude.{◌⊎◌}
-use Rattle.uip_edge.specs.Shelving.{Files}
-use Rattle.site_commands.specs.declared.site_end.SiteEnd.{SiteEnd}
-use Rattle.site_commands.specs.Due.{Due}
-use Rattle.site_commands.specs.Ending.{Ends, end_of}
-use Rattle.file_tree.specs.Opening.{FindsInFiles, LacksFile}
+use Rattle.uipd.proofs.Prelude.{◌≡◌, Option, ap, inl, inr, subst, sym, ◌⊎◌, Files, SiteEnd, Due, Ends, end_of, FindsInFiles, LacksFile, Status, RunsAs, status_of_site, WorkView, WorkUnfailed}
 use Rattle.site_commands.proofs.EndLaws.{as_due}
-use Rattle.uipd.specs.declared.status.Status.{Status}
 use Rattle.uipd.specs.declared.status.Status.TheVariants as status
-use Rattle.uipd.specs.Statuses.{RunsAs, status_of_site}
-use Rattle.uip_edge.specs.Views.{WorkView, WorkUnfailed}
 
 abbrev pub IsTold : (Files → Option Due) → WorkView → Status → Type 0
 IsTold due old result = (result ≡ status.NoMemory) ⊎ ((made : Due) × FindsInFiles due old.shelf.held made × (result ≡ status_of_site (end_of made.fault)))

@@ -1,19 +1,7 @@
 -- A run that nothing outside disturbs does what is due for its words, those of `resolve` too.
 -- [add: told-command] The result of a run that nothing disturbs.
-use Rattle.std.proofs.Common.{◌≡◌, ℕ, List, Option, None, Some, inl, inr}
-use Rattle.udp_resolver.specs.Resolving.{Resolves}
-use Rattle.udp_resolver.specs.Streams.{Streams, StreamsUnfailed}
-use Rattle.uip_edge.specs.Views.{Outside}
-use Rattle.uip_edge.specs.declared.serve_end.ServeEnd.{ServeEnd}
+use Rattle.uipd.proofs.Prelude.{◌≡◌, ℕ, List, Option, None, Some, inl, inr, Resolves, Streams, StreamsUnfailed, Outside, ServeEnd, LacksFor, OrShort, Resolving, resolving_of, IsUndisturbed, status_of_serving, ResolvingDone, ToldCompletes, ToldIsComplete, ResolveRuns, ToldBy, questions_of, task_of, Status}
 use Rattle.uip_edge.specs.declared.serve_end.ServeEnd.TheVariants as ends
-use Rattle.uipd.specs.Completeness.{LacksFor, OrShort}
-use Rattle.uipd.specs.ResolveWords.{Resolving, resolving_of}
-use Rattle.uipd.specs.SiteServing.{IsUndisturbed}
-use Rattle.uipd.specs.Statuses.{status_of_serving}
-use Rattle.uipd.specs.ToldCompleteness.{ResolvingDone, ToldCompletes, ToldIsComplete}
-use Rattle.uipd.specs.ToldRunning.{ResolveRuns, ToldBy, questions_of}
-use Rattle.uipd.specs.Words.{task_of}
-use Rattle.uipd.specs.declared.status.Status.{Status}
 use Rattle.uipd.proofs.Completing.{run_is_complete, stayed}
 
 resolved : (r : Resolving) (old new : Streams) (result : Status) (end : ServeEnd) → StreamsUnfailed old new → result ≡ status_of_serving end

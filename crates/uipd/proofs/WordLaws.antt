@@ -1,16 +1,5 @@
 -- Numbers and commands in words.
-use Rattle.std.proofs.Common.{◌≡◌, ℕ, ◌-◌, ◌^◌, ◌<◌, true, false, cond, List, [], ◌∷◌, length, nat_lt, Option, None, Some, rules, Result, Ok, Err, refl, sym, ap, ◌∙◌, arith, map, string_bytes, String, Global}
-use Rattle.std.specs.Prelude.{Bool, codes, option_map, slice_get}
-use Rattle.std.proofs.lemmas.List.{length-map}
-use Rattle.std.proofs.lemmas.Option.{slice_get-map}
-use Rattle.std.specs.Option.{option_map_or}
-use Rattle.std.specs.Str.{bytes_eq}
-use Rattle.std.specs.List.{list_all}
-use Rattle.std.specs.Result.{result_ok, OkIff}
-use Rattle.std.specs.Str.Parse.{digits_value, ParsesUnsigned}
-use Rattle.std.proofs.lemmas.Bool.{ltb-true, lt-ltb}
-use Rattle.std.proofs.lemmas.Str.Parse.{IsNumeralModel, numerals_by_value, parse_digits}
-use Rattle.uipd.specs.Words.{ether_words, optionally, says_tty}
+use Rattle.uipd.proofs.Prelude.{◌≡◌, ℕ, ◌-◌, ◌^◌, ◌<◌, true, false, cond, List, [], ◌∷◌, length, nat_lt, Option, None, Some, rules, Result, Ok, Err, refl, sym, ap, ◌∙◌, arith, map, string_bytes, String, Global, Bool, codes, option_map, slice_get, length-map, slice_get-map, option_map_or, bytes_eq, list_all, result_ok, OkIff, digits_value, ParsesUnsigned, ltb-true, lt-ltb, IsNumeralModel, numerals_by_value, parse_digits, ether_words, optionally, says_tty}
 
 -- fewer than two words name no number
 pub few : {A X : Type 0} (f : A → List ℕ) (name : List ℕ) (otherwise : ℕ) (further : ℕ → List (List ℕ) → Option X) (words : List A) → length words < 2

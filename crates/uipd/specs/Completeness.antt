@@ -1,21 +1,16 @@
 -- The result of a run that nothing disturbs: no fault counter rises, and no file that the words name is missing.
 use Rattle.std.specs.Prelude.{◌≡◌, ◌<◌, ◌⊎◌, ℕ, List, length, Option, None, Some, Err, Ok, ⊤}
 use Rattle.std.specs.Io.KnownBytes.{Appends}
-use Rattle.file_tree.specs.Opening.{FindsInFiles, LacksFile, site_read}
-use Rattle.site_image.specs.Files.{File}
+use Rattle.file_tree.specs.Prelude.{FindsInFiles, LacksFile, site_read}
+use Rattle.site_image.specs.Prelude.{File}
 use Rattle.site_image.specs.declared.site_error.SiteError.{SiteError}
-use Rattle.site_commands.specs.Due.{Due, check_due, page_due, pack_due, upgrade_due}
-use Rattle.site_commands.specs.Ending.{end_of}
-use Rattle.link_replay.specs.Ending.{IsLoadText, IsReplayText, LacksEither}
+use Rattle.site_commands.specs.Prelude.{Due, check_due, page_due, pack_due, upgrade_due, end_of}
+use Rattle.link_replay.specs.Prelude.{IsLoadText, IsReplayText, LacksEither}
 use Rattle.link_replay.specs.declared.replay_end.ReplayEnd.{ReplayEnd}
-use Rattle.trace.specs.CaptureText.{capture_file}
-use Rattle.trace.specs.Converting.{Converts}
-use Rattle.trace.specs.DumpText.{dump_text}
+use Rattle.trace.specs.Prelude.{capture_file, Converts, dump_text}
 use Rattle.trace.specs.declared.slip_end.SlipEnd.{SlipEnd}
 use Rattle.trace.specs.declared.slip_end.SlipEnd.TheVariants as slips
-use Rattle.uip_edge.specs.Coming.{Consumes, TookAll}
-use Rattle.uip_edge.specs.Views.{LineView, Outside, line_in}
-use Rattle.uip_edge.specs.Shelving.{Files}
+use Rattle.uip_edge.specs.Prelude.{Consumes, TookAll, LineView, Outside, line_in, Files}
 use Rattle.uip_edge.specs.declared.item.Item.{Item}
 use Rattle.uipd.specs.Output.{output_of}
 use Rattle.uipd.specs.Running.{Runs}

@@ -2,21 +2,16 @@
 -- [add: application] Application: `app_spec_of`, `ports_of` and `output_model_of`.
 -- [add: line-kind] Kind of line: an arm of `output_over`.
 use Rattle.std.specs.Prelude.{ℕ, Bool, List}
-use Rattle.app_events.specs.AppSpec.{AppSpec}
-use Rattle.site_image.specs.Files.{File}
-use Rattle.node_laws.specs.Promise.{OutputModel}
-use Rattle.node_laws.specs.Speakers.{at_every_port}
-use Rattle.web_pages.specs.Pages.{pages_of}
-use Rattle.web_pages.specs.Serving.{is_served, no_hits}
-use Rattle.web_pages.specs.WebMeaning.{web_spec}
+use Rattle.app_events.specs.Prelude.{AppSpec}
+use Rattle.site_image.specs.Prelude.{File}
+use Rattle.node_laws.specs.Prelude.{OutputModel, at_every_port}
+use Rattle.web_pages.specs.Prelude.{pages_of, is_served, no_hits, web_spec}
 use Rattle.telnet_shell.specs.DeskLines.{desk_output_model}
 use Rattle.telnet_shell.specs.DeskMeaning.{desk_spec, is_served_at}
 use Rattle.uip_edge.specs.declared.item.Item.{Item}
 use Rattle.uip_wire.specs.declared.addr.Addr.{Addr}
-use Rattle.serve_loop.specs.LineOutput.{output_by}
-use Rattle.serve_loop.specs.SerialMedium.{slip_medium}
-use Rattle.ethernet_arp.specs.EtherWay.{ether_medium}
-use Rattle.ethernet_arp.specs.Frames.{Host}
+use Rattle.serve_loop.specs.Prelude.{output_by, slip_medium}
+use Rattle.ethernet_arp.specs.Prelude.{ether_medium, Host}
 use Rattle.ethernet_arp.specs.declared.mac.Mac.{Mac}
 use Rattle.uipd.specs.declared.words.Application.{Application}
 use Rattle.uipd.specs.declared.words.Application.TheVariants.{Web, Desk}

@@ -3,7 +3,7 @@
 use Rattle.std.specs.Prelude.{ℕ, ◌-◌, ◌&&◌, nat_le, if◌then◌else◌, Bool, List, [], ◌∷◌, Option, None, Some, codes, length, take}
 use Rattle.std.specs.List.{list_all}
 use Rattle.std.specs.Str.{bytes_eq}
-use Rattle.uip_wire.specs.Addr.{◌>>=◌, quad_of}
+use Rattle.uip_wire.specs.Prelude.{◌>>=◌, quad_of}
 use Rattle.uip_wire.specs.declared.addr.Addr.{Addr}
 use Rattle.dns_message.specs.Names.{is_domain}
 use Rattle.udp_resolver.specs.declared.TheConstants.{MOST_NAMES}

@@ -1,18 +1,14 @@
 -- What a run does to its environment, by the task that the words name.
 use Rattle.std.specs.Prelude.{◌≡◌, ℕ, List, Option, None, Some}
-use Rattle.site_commands.specs.Due.{check_due, page_due, pack_due, upgrade_due}
-use Rattle.site_commands.specs.Ending.{Ends}
-use Rattle.link_replay.specs.Ending.{LoadEnds, ReplayEnds}
-use Rattle.trace.specs.CaptureText.{capture_file}
-use Rattle.trace.specs.Converting.{Converts}
-use Rattle.trace.specs.DumpText.{dump_text}
-use Rattle.trace.specs.Telling.{TellsLine}
+use Rattle.site_commands.specs.Prelude.{check_due, page_due, pack_due, upgrade_due, Ends}
+use Rattle.link_replay.specs.Prelude.{LoadEnds, ReplayEnds}
+use Rattle.trace.specs.Prelude.{capture_file, Converts, dump_text, TellsLine}
 use Rattle.uipd.specs.declared.status.Status.{Status}
 use Rattle.uipd.specs.declared.status.Status.TheVariants.{BadWords}
 use Rattle.uipd.specs.Help.{Shows}
 use Rattle.uipd.specs.SiteServing.{SiteServes}
 use Rattle.uipd.specs.Statuses.{RunsAs, status_of_replay, status_of_serving, status_of_site, status_of_slip}
-use Rattle.uip_edge.specs.Views.{LineView, Outside, WorkView, line_in, work_in}
+use Rattle.uip_edge.specs.Prelude.{LineView, Outside, WorkView, line_in, work_in}
 use Rattle.uipd.specs.Words.{Task, Serves, Checks, Pages, Packs, Upgrades, Replays, Loads, Dumps, Captures, PlaysBack, ShowsText, task_of}
 
 -- work on files, which leaves the line unchanged

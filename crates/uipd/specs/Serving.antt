@@ -2,23 +2,19 @@
 -- [add: line-kind] An arm of `OutputConforms`: what the line has after a run.
 use Rattle.std.specs.List.{All}
 use Rattle.std.specs.Prelude.{◌≡◌, ◌<◌, ◌⊎◌, ℕ, Bool, List, Option, length}
-use Rattle.app_events.specs.AppSpec.{AppSpec}
-use Rattle.site_image.specs.Files.{File}
+use Rattle.app_events.specs.Prelude.{AppSpec}
+use Rattle.site_image.specs.Prelude.{File}
 use Rattle.uip_edge.specs.declared.item.Item.{Item}
 use Rattle.uip_edge.specs.declared.serve_end.ServeEnd.{ServeEnd}
 use Rattle.uip_edge.specs.declared.serve_end.ServeEnd.TheVariants.{WriteFault}
-use Rattle.uip_edge.specs.Coming.{Consumes}
-use Rattle.uip_edge.specs.Views.{LineView}
-use Rattle.uip_edge.specs.Ending.{EndsBy, WrittenBy}
-use Rattle.line_medium.specs.Media.{MediumSpec}
-use Rattle.serve_loop.specs.Items.{IsItem}
-use Rattle.serve_loop.specs.LineStationEvents.{station_events_of_line}
-use Rattle.serve_loop.specs.SerialMedium.{slip_medium}
-use Rattle.line_promise.specs.Lines.{LineConformsRead}
-use Rattle.ethernet_arp.specs.EtherWay.{ether_medium}
+use Rattle.uip_edge.specs.Prelude.{Consumes, LineView, EndsBy, WrittenBy}
+use Rattle.line_medium.specs.Prelude.{MediumSpec}
+use Rattle.serve_loop.specs.Prelude.{IsItem, station_events_of_line, slip_medium}
+use Rattle.line_promise.specs.Prelude.{LineConformsRead}
+use Rattle.ethernet_arp.specs.Prelude.{ether_medium}
 use Rattle.uipd.specs.declared.status.Status.{Status}
 use Rattle.uipd.specs.declared.status.Status.TheVariants.{NoMemory}
-use Rattle.web_pages.specs.Serving.{no_hits}
+use Rattle.web_pages.specs.Prelude.{no_hits}
 use Rattle.uipd.specs.Output.{host_at, app_spec_of, output_over, ports_of, output_model_of}
 use Rattle.uipd.specs.declared.words.LineKind.{LineKind}
 use Rattle.uipd.specs.declared.words.LineKind.TheVariants.{Ethernet, Serial}

@@ -1,12 +1,10 @@
 -- What serving a line with the site that the words name does to shelf, line and output.
 use Rattle.std.specs.Prelude.{◌≡◌, ◌⊎◌, ℕ, List, Some, Result, Ok, Err}
-use Rattle.site_image.specs.Files.{File}
+use Rattle.site_image.specs.Prelude.{File}
 use Rattle.site_image.specs.declared.site_error.SiteError.{SiteError}
 use Rattle.file_tree.specs.declared.load_fault.LoadFault.{LoadFault}
-use Rattle.file_tree.specs.Opening.{FailsToOpen, FindsInFiles, site_read}
-use Rattle.uip_edge.specs.Shelving.{Files}
-use Rattle.uip_edge.specs.Causes.{IsUnfailed}
-use Rattle.uip_edge.specs.Views.{LineUnfailed, Outside, line_in}
+use Rattle.file_tree.specs.Prelude.{FailsToOpen, FindsInFiles, site_read}
+use Rattle.uip_edge.specs.Prelude.{Files, IsUnfailed, LineUnfailed, Outside, line_in}
 use Rattle.uipd.specs.Serving.{ServeRuns}
 use Rattle.uipd.specs.Statuses.{status_of_fault}
 use Rattle.uipd.specs.declared.words.ServedLine.{ServedLine}

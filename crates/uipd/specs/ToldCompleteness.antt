@@ -1,10 +1,8 @@
 -- The result of a run that nothing disturbs, `resolve` included, which has a second output.
 -- [add: told-command] Its result if nothing disturbs it.
 use Rattle.std.specs.Prelude.{◌≡◌, ℕ, List, Option, None, Some}
-use Rattle.udp_resolver.specs.Resolving.{WroteAll}
-use Rattle.udp_resolver.specs.Streams.{Streams, StreamsUnfailed}
-use Rattle.uip_edge.specs.Coming.{Consumes}
-use Rattle.uip_edge.specs.Views.{Outside}
+use Rattle.udp_resolver.specs.Prelude.{WroteAll, Streams, StreamsUnfailed}
+use Rattle.uip_edge.specs.Prelude.{Consumes, Outside}
 use Rattle.uip_edge.specs.declared.item.Item.{Item}
 use Rattle.uip_edge.specs.declared.serve_end.ServeEnd.{ServeEnd}
 use Rattle.uipd.specs.Completeness.{Completes, LacksFor, OrShort}

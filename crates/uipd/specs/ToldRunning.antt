@@ -1,13 +1,11 @@
 -- What a run does that may also write to a second output.
 -- [add: told-command] What a run of it does.
 use Rattle.std.specs.Prelude.{◌≡◌, ◌⊎◌, ℕ, List, Option, None, Some}
-use Rattle.udp_resolver.specs.Fates.{Question, questions}
-use Rattle.udp_resolver.specs.Resolving.{Resolves}
-use Rattle.udp_resolver.specs.Streams.{Streams}
+use Rattle.udp_resolver.specs.Prelude.{Question, questions, Resolves, Streams}
 use Rattle.uipd.specs.ResolveWords.{Resolving, resolving_of}
 use Rattle.uipd.specs.Running.{Runs}
 use Rattle.uipd.specs.Statuses.{RunsAs, status_of_serving}
-use Rattle.uip_edge.specs.Views.{Outside}
+use Rattle.uip_edge.specs.Prelude.{Outside}
 use Rattle.uipd.specs.declared.status.Status.{Status}
 use Rattle.uipd.specs.declared.status.Status.TheVariants.{NoMemory}
 

@@ -6,12 +6,11 @@ use Rattle.std.specs.Option.{option_map_or}
 use Rattle.std.specs.List.{list_all, list_any, before_first, after_first}
 use Rattle.std.specs.Str.{bytes_eq}
 use Rattle.std.specs.Str.Parse.{digits_value}
-use Rattle.uip_wire.specs.Numerals.{numeral}
-use Rattle.uip_wire.specs.Addr.{◌>>=◌, quad_of}
-use Rattle.ethernet_arp.specs.Words.{mac_of_text}
-use Rattle.site_image.specs.Names.{is_kind}
-use Rattle.file_tree.specs.Upgrading.{KindContent}
-use Rattle.site_commands.specs.Gathering.{NamedContent}
+use Rattle.uip_wire.specs.Prelude.{numeral, ◌>>=◌, quad_of}
+use Rattle.ethernet_arp.specs.Prelude.{mac_of_text}
+use Rattle.site_image.specs.Prelude.{is_kind}
+use Rattle.file_tree.specs.Prelude.{KindContent}
+use Rattle.site_commands.specs.Prelude.{NamedContent}
 use Rattle.uipd.specs.Help.{help_text, version_text}
 use Rattle.uipd.specs.declared.words.Command.{Command}
 use Rattle.uipd.specs.declared.words.Command.TheVariants.{Serve, Check, Page, Pack, Upgrade, Replay, Load, Dump, Pcap, Slip, Show}

@@ -1,8 +1,7 @@
 //! The program's line and its output, over any reader and any writer, and a run over them.
 
 ghost use Rattle.std.specs.Prelude.{◌≡◌, ◌≢◌, ◌<◌, length, IfOk, true, false};
-ghost use Rattle.uip_edge.specs.Causes.{HasCause};
-ghost use Rattle.uip_edge.specs.Coming.{items_of, CountFits, Consumes, IsAtEnd};
+ghost use Rattle.uip_edge.specs.Prelude.{HasCause, items_of, CountFits, Consumes, IsAtEnd};
 ghost use Rattle.uip_edge.specs.declared.got.Got.TheVariants.{End, Quiet};
 ghost use Rattle.uipd.specs.Telling.{GivesRead, IsGot, items_left};
 

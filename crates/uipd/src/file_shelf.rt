@@ -1,7 +1,7 @@
 //! The files of the system as a shelf.
 
 ghost use Rattle.std.specs.Prelude.{◌≡◌, ◌<◌, ◌≤◌, ◌+◌, ◌-◌, ◌^◌, min, length, None, IfOk, IfSome, IsSomeAnd};
-ghost use Rattle.uip_edge.specs.Shelving.{HasShelfCause};
+ghost use Rattle.uip_edge.specs.Prelude.{HasShelfCause};
 ghost use Rattle.uipd.specs.FileReading.{Passes, ReadsOn};
 
 use arrayvec::ArrayVec;

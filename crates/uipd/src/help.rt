@@ -1,6 +1,6 @@
 //! The texts of the program.
 
-ghost use Rattle.uip_edge.specs.ViewsOf.{sink_view};
+ghost use Rattle.uip_edge.specs.Prelude.{sink_view};
 ghost use Rattle.uipd.specs.Help.{Shows};
 
 use crate::status::Status;

@@ -1,9 +1,9 @@
 //! `replay` and `load`.
 
 ghost use Rattle.std.specs.Prelude.{◌≡◌, ◌≤◌};
-ghost use Rattle.link_replay.specs.Ending.{LoadEnds, ReplayEnds};
+ghost use Rattle.link_replay.specs.Prelude.{LoadEnds, ReplayEnds};
 ghost use Rattle.uipd.specs.Statuses.{RunsAs, status_of_replay};
-ghost use Rattle.uip_edge.specs.ViewsOf.{work_view};
+ghost use Rattle.uip_edge.specs.Prelude.{work_view};
 
 use crate::status::Status;
 use link_replay::{load, replay};

@@ -3,7 +3,7 @@
 ghost use Rattle.std.specs.Prelude.{◌≡◌, map, string_bytes};
 ghost use Rattle.uipd.specs.Completeness.{RunIsComplete};
 ghost use Rattle.uipd.specs.Running.{Runs};
-ghost use Rattle.uip_edge.specs.ViewsOf.{outside};
+ghost use Rattle.uip_edge.specs.Prelude.{outside};
 ghost use Rattle.uipd.specs.declared.status.Status.TheVariants.{BadWords};
 
 use crate::help::show;

@@ -1,12 +1,12 @@
 //! All commands, with `resolve`.
 
 ghost use Rattle.std.specs.Prelude.{◌≡◌, None, map, string_bytes};
-ghost use Rattle.udp_resolver.specs.Streams.{streams};
+ghost use Rattle.udp_resolver.specs.Prelude.{streams};
 ghost use Rattle.uipd.specs.ResolveWords.{resolving_of};
 ghost use Rattle.uipd.specs.ToldCompleteness.{ToldIsComplete};
 ghost use Rattle.uipd.specs.ToldRunning.{ResolveRuns, ToldRuns};
 ghost use Rattle.uipd.specs.declared.status.Status.TheVariants.{BadWords};
-ghost use Rattle.uip_edge.specs.ViewsOf.{outside};
+ghost use Rattle.uip_edge.specs.Prelude.{outside};
 
 use crate::resolve_words::{Resolving, resolving_of};
 use crate::run::run;

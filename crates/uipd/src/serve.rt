@@ -2,12 +2,12 @@
 
 ghost use Rattle.std.specs.List.{All};
 ghost use Rattle.std.specs.Prelude.{◌≡◌};
-ghost use Rattle.app_events.specs.Pages.{IsAddr, IsByte};
-ghost use Rattle.file_tree.specs.Site.{IsLoaded, files_of};
-ghost use Rattle.web_pages.specs.Serving.{no_hits};
+ghost use Rattle.app_events.specs.Prelude.{IsAddr, IsByte};
+ghost use Rattle.file_tree.specs.Prelude.{IsLoaded, files_of};
+ghost use Rattle.web_pages.specs.Prelude.{no_hits};
 ghost use Rattle.uipd.specs.Serving.{RunsBy, ServeRuns};
 ghost use Rattle.uipd.specs.SiteServing.{SiteServes};
-ghost use Rattle.uip_edge.specs.ViewsOf.{line_view, outside};
+ghost use Rattle.uip_edge.specs.Prelude.{line_view, outside};
 
 use crate::status::Status;
 use crate::words::{Application, Limits, LineKind, ServedLine};

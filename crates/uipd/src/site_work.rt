@@ -1,12 +1,11 @@
 //! The commands for images of sites.
 
 ghost use Rattle.std.specs.Prelude.{◌≡◌, ◌<◌, All, IsTrue, map, string_bytes};
-ghost use Rattle.site_image.specs.Names.{is_kind};
-ghost use Rattle.site_commands.specs.Due.{check_due, page_due, pack_due, upgrade_due};
-ghost use Rattle.site_commands.specs.Ending.{Ends};
+ghost use Rattle.site_image.specs.Prelude.{is_kind};
+ghost use Rattle.site_commands.specs.Prelude.{check_due, page_due, pack_due, upgrade_due, Ends};
 ghost use Rattle.uipd.specs.Statuses.{RunsAs, status_of_site};
 ghost use Rattle.uipd.specs.Words.{back_part, kind_word, named_file};
-ghost use Rattle.uip_edge.specs.ViewsOf.{work_view};
+ghost use Rattle.uip_edge.specs.Prelude.{work_view};
 
 use crate::parts::{kind_words, named_files};
 use crate::status::Status;

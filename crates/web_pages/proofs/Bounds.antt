@@ -1,32 +1,6 @@
 -- How long a page can be.
 -- [add: function] The greatest length of its text.
-use Rattle.std.specs.List.{All}
-use Rattle.std.proofs.Common.{◌≡◌, ℕ, ◌+◌, ◌-◌, ◌≤◌, inl, inr, Bool, true, false, List, [], ◌∷◌, ◌++◌, length, map, drop, Option, Some, None, refl, sym, ap, subst, arith, length-append, length-take, if◌then◌else◌, lit<, lit≤}
-use Rattle.std.specs.Prelude.{sum_by, slice_range, codes}
-use Rattle.std.proofs.lemmas.List.{get_or_past}
-use Rattle.std.proofs.lemmas.List.Sums.{sum_by-cons}
-use Rattle.std.proofs.lemmas.List.Elements.{All-head, All-tail, All-get_or}
-use Rattle.std.proofs.lemmas.Bool.{cases_lt}
-use Rattle.std.specs.Option.{option_map_or}
-use Rattle.std.specs.List.{slice_index_or}
-use Rattle.script_lang.specs.declared.function.Function.{Function}
-use Rattle.script_lang.specs.declared.function.Function.TheVariants.{FileStats, TcpConnections, NetStats, Ticks, Unknown}
-use Rattle.script_lang.specs.declared.piece.PieceOf.{PieceOf}
-use Rattle.script_lang.specs.declared.piece.PieceOf.TheVariants.{Text, Include, Call}
-use Rattle.script_lang.specs.declared.piece.FoundOf.{FoundOf}
-use Rattle.script_lang.specs.Calling.{Calling}
-use Rattle.script_lang.specs.Functions.{length_at_most, takes_capture}
-use Rattle.script_lang.specs.Pieces.{pieces_by}
-use Rattle.site_image.specs.Names.{is_script}
-use Rattle.site_image.specs.Files.{File, file_named, kind_of}
-use Rattle.site_image.specs.Pages.{piece_length_by, body_length_by, page_length_by}
-use Rattle.generators.specs.Giving.{Giving, AreShort}
-use Rattle.app_events.specs.AppSpec.{Snapshot}
-use Rattle.app_events.specs.Pages.{IsSnapshot, IsU32}
-use Rattle.web_pages.specs.Pieces.{Say, says, bytes_or, body_by, found_reply_by, kind_line}
-use Rattle.web_pages.specs.Pieces.Say.{Plain, Made}
-use Rattle.web_pages.specs.Pages.{made_by, hits_of, place_of, text_by}
-use Rattle.web_pages.specs.Lemmas.Growing.{silent_text, stopped_text, made_first}
+use Rattle.web_pages.proofs.Prelude.{All, ◌≡◌, ℕ, ◌+◌, ◌-◌, ◌≤◌, inl, inr, Bool, true, false, List, [], ◌∷◌, ◌++◌, length, map, drop, Option, Some, None, refl, sym, ap, subst, arith, length-append, length-take, if◌then◌else◌, lit<, lit≤, sum_by, slice_range, codes, get_or_past, sum_by-cons, All-head, All-tail, All-get_or, cases_lt, option_map_or, slice_index_or, Function, FileStats, TcpConnections, NetStats, Ticks, Unknown, PieceOf, Text, Include, Call, FoundOf, Calling, length_at_most, takes_capture, pieces_by, is_script, File, file_named, kind_of, piece_length_by, body_length_by, page_length_by, Giving, AreShort, Snapshot, IsSnapshot, IsU32, Say, says, bytes_or, body_by, found_reply_by, kind_line, Plain, Made, made_by, hits_of, place_of, text_by, silent_text, stopped_text, made_first}
 
 -- the greatest length of the text
 abbrev pub most_said : {F : Type 0} → Calling F → Say F → ℕ

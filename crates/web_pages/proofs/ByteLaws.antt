@@ -1,30 +1,6 @@
 -- The pages of a site of bytes are bytes.
 -- [add: content-type] The type is bytes.
-use Rattle.std.specs.List.{All}
-use Rattle.std.proofs.Common.{◌≡◌, ℕ, ◌+◌, ◌-◌, ◌==◌, Bool, true, false, List, [], ◌∷◌, ◌++◌, length, map, drop, Option, Some, None, refl, sym, subst, ◌∙◌, if◌then◌else◌}
-use Rattle.std.specs.Prelude.{codes, option_map, slice_get, slice_range, nat_eq}
-use Rattle.std.specs.List.{ends_with}
-use Rattle.std.proofs.lemmas.List.Elements.{All-nil, All-append, All-take, All-drop}
-use Rattle.std.proofs.lemmas.Option.{slice_get-map, same_Some}
-use Rattle.script_lang.specs.declared.piece.FoundOf.{FoundOf}
-use Rattle.script_lang.specs.declared.piece.PieceOf.{PieceOf}
-use Rattle.script_lang.specs.declared.piece.PieceOf.TheVariants.{Text, Include, Call}
-use Rattle.script_lang.specs.Pieces.{pieces_by}
-use Rattle.site_image.specs.declared.place.Place.{Place}
-use Rattle.site_image.specs.Names.{is_script, kind_by_name}
-use Rattle.site_image.specs.Files.{File, file_named, kind_of}
-use Rattle.site_image.specs.Places.{file_in}
-use Rattle.file_tree.specs.Site.{SiteContent, files_of}
-use Rattle.generators.specs.Giving.{Giving, AreBytes, uip}
-use Rattle.generators.specs.Lemmas.Bytes.{literal_bytes, either_bytes, texts_bytes}
-use Rattle.app_events.specs.AppSpec.{Snapshot}
-use Rattle.app_events.specs.Pages.{IsByte}
-use Rattle.web_pages.specs.Requests.{Wanted, wanted}
-use Rattle.web_pages.specs.Requests.Wanted.{NotYet, Refused, Name}
-use Rattle.web_pages.specs.Pieces.{Say, says, bytes_or, body_by, missing_head, found_head, kind_line, reply_to_by, reply_pieces_by}
-use Rattle.web_pages.specs.Pieces.Say.{Plain, Made}
-use Rattle.web_pages.specs.Pages.{hits_of, made_by, text_by, page_for_by}
-use Rattle.web_pages.specs.Claims.{IsMadeOfBytes, IsMadeOfBytesBy}
+use Rattle.web_pages.proofs.Prelude.{All, ◌≡◌, ℕ, ◌+◌, ◌-◌, ◌==◌, Bool, true, false, List, [], ◌∷◌, ◌++◌, length, map, drop, Option, Some, None, refl, sym, subst, ◌∙◌, if◌then◌else◌, codes, option_map, slice_get, slice_range, nat_eq, ends_with, All-nil, All-append, All-take, All-drop, slice_get-map, same_Some, FoundOf, PieceOf, Text, Include, Call, pieces_by, Place, is_script, kind_by_name, File, file_named, kind_of, file_in, SiteContent, files_of, Giving, AreBytes, uip, literal_bytes, either_bytes, texts_bytes, Snapshot, IsByte, Wanted, wanted, NotYet, Refused, Name, Say, says, bytes_or, body_by, missing_head, found_head, kind_line, reply_to_by, reply_pieces_by, Plain, Made, hits_of, made_by, text_by, page_for_by, IsMadeOfBytes, IsMadeOfBytesBy}
 use Rattle.web_pages.proofs.Found.{found_there}
 
 -- ---- pieces

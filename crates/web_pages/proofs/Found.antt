@@ -1,14 +1,5 @@
 -- The file of a name among the files of a site.
-use Rattle.std.proofs.Common.{◌≡◌, ◌≢◌, ℕ, zero, suc, ◌<◌, ◌==◌, ◌&&◌, Bool, true, false, List, [], ◌∷◌, length, slice_index, Option, Some, None, refl, sym, ap, ◌∙◌, arith, true≢false, if◌then◌else◌}
-use Rattle.std.specs.Prelude.{slice_get, nat_le}
-use Rattle.std.specs.List.{list_all}
-use Rattle.std.proofs.lemmas.Bool.{and_parts, leb-true}
-use Rattle.site_image.specs.Names.{is_name_byte}
-use Rattle.std.specs.Str.{bytes_eq}
-use Rattle.std.proofs.lemmas.Option.{same_Some}
-use Rattle.std.proofs.lemmas.Slice.Eq.{bytes_eq-Decides}
-use Rattle.site_image.specs.Files.{File, file_named}
-use Rattle.file_tree.specs.Site.{AreApart, AreGood}
+use Rattle.web_pages.proofs.Prelude.{◌≡◌, ◌≢◌, ℕ, zero, suc, ◌<◌, ◌==◌, ◌&&◌, Bool, true, false, List, [], ◌∷◌, length, slice_index, Option, Some, None, refl, sym, ap, ◌∙◌, arith, true≢false, if◌then◌else◌, slice_get, nat_le, list_all, and_parts, leb-true, is_name_byte, bytes_eq, same_Some, bytes_eq-Decides, File, file_named, AreApart, AreGood}
 
 -- a file of the name is among the files
 pub record IsThere (files : List File) (name : List ℕ) (file : File) : Type 0 where

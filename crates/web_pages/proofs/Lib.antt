@@ -9,3 +9,4 @@ pub mod ZeroLaws
 mod WorkedRequests
 mod WorkedPages
 pub mod OwnState
+mod Prelude

@@ -1,37 +1,6 @@
 -- Every page of a site is shorter than 2^30 bytes.
-use Rattle.std.specs.List.{All}
-use Rattle.std.proofs.Common.{◌≡◌, ℕ, ◌+◌, ◌-◌, ◌<◌, ◌≤◌, ◌==◌, Bool, true, false, List, [], ◌∷◌, length, drop, Option, Some, None, Result, Ok, refl, sym, ap, subst, ◌∙◌, arith, length-take, length-drop, if◌then◌else◌, lit<, lit≤}
-use Rattle.std.specs.Prelude.{slice_get, option_map, nat_le, nat_lt, codes, sum_by}
-use Rattle.std.specs.List.{list_any, list_all}
-use Rattle.std.proofs.lemmas.Bool.{leb-true, leb-false, and_parts}
-use Rattle.std.proofs.lemmas.List.Sums.{sum_by-cons}
-use Rattle.std.proofs.lemmas.Option.{slice_get-map, same_Some}
-use Rattle.script_lang.specs.Calling.{Calling}
-use Rattle.script_lang.specs.Functions.{uip_calls}
-use Rattle.script_lang.specs.Pieces.{pieces_by}
-use Rattle.site_image.specs.declared.TheConstants.{PAGE_LIMIT}
-use Rattle.site_image.specs.declared.place.Place.{Place}
-use Rattle.site_image.specs.declared.version.Version.{Version}
-use Rattle.site_image.specs.declared.site_error.SiteError.{SiteError}
-use Rattle.site_image.specs.declared.site_error.SiteWhy.TheVariants.{Rest, Include, PageTooLong}
-use Rattle.site_image.specs.Names.{is_script, is_kind, is_kind_byte, kind_by_name}
-use Rattle.site_image.specs.Files.{File, file_named, kind_of}
-use Rattle.site_image.specs.Pages.{misses, script_fault_by, piece_length_by, page_length_by, body_length_by}
-use Rattle.site_image.specs.Places.{file_in}
-use Rattle.site_image.specs.Faults.{◌>>=◌, refuse, image_head, entries, scripts, read_image}
-use Rattle.site_image.proofs.ImageLaws.{AreSound, bind_ok, scripts-sound}
-use Rattle.file_tree.specs.Site.{SiteContent, IsLoaded, HasSoundScripts, files_of, image_files}
-use Rattle.file_tree.proofs.KindLemmas.{kind-short}
-use Rattle.app_events.specs.AppSpec.{Snapshot}
-use Rattle.app_events.specs.Pages.{IsSnapshot}
-use Rattle.web_pages.specs.Requests.{Wanted, wanted}
-use Rattle.web_pages.specs.Requests.Wanted.{NotYet, Refused, Name}
-use Rattle.generators.specs.Giving.{Giving, AreShort, uip}
-use Rattle.generators.specs.Lemmas.Lengths.{texts_short}
-use Rattle.web_pages.specs.Pieces.{Say, bytes_or, missing_reply, missing_head, reply_to_by, reply_pieces_by, found_reply_by, kind_line}
-use Rattle.web_pages.specs.Pieces.Say.{Plain}
-use Rattle.web_pages.specs.Pages.{text_by, page_for_by, page_by}
-use Rattle.web_pages.specs.Claims.{IsAtMostGreatest, IsAtMostGreatestBy}
+use Rattle.web_pages.proofs.Prelude.{All, ◌≡◌, ℕ, ◌+◌, ◌-◌, ◌<◌, ◌≤◌, ◌==◌, Bool, true, false, List, [], ◌∷◌, length, drop, Option, Some, None, Result, Ok, refl, sym, ap, subst, ◌∙◌, arith, length-take, length-drop, if◌then◌else◌, lit<, lit≤, slice_get, option_map, nat_le, nat_lt, codes, sum_by, list_any, list_all, leb-true, leb-false, and_parts, sum_by-cons, slice_get-map, same_Some, Calling, uip_calls, pieces_by, PAGE_LIMIT, Place, Version, SiteError, Rest, PageTooLong, is_script, is_kind, is_kind_byte, kind_by_name, File, file_named, kind_of, misses, script_fault_by, piece_length_by, page_length_by, body_length_by, file_in, ◌>>=◌, refuse, image_head, entries, scripts, read_image, AreSound, bind_ok, scripts-sound, SiteContent, IsLoaded, HasSoundScripts, files_of, image_files, kind-short, Snapshot, IsSnapshot, Wanted, wanted, NotYet, Refused, Name, Giving, AreShort, uip, texts_short, Say, bytes_or, missing_reply, missing_head, reply_to_by, reply_pieces_by, found_reply_by, kind_line, Plain, text_by, page_for_by, page_by, IsAtMostGreatest, IsAtMostGreatestBy}
+use Rattle.site_image.specs.declared.site_error.SiteWhy.TheVariants.{Include}
 use Rattle.web_pages.proofs.Found.{found_there, found_itself}
 use Rattle.web_pages.proofs.Bounds.{all_said, most_said, text_bound, found_bound}
 

@@ -1,18 +1,5 @@
 -- The hits are the prefix of the counters. What follows them, the own state, changes no hit, and no hit changes it.
-use Rattle.std.proofs.Common.{◌≡◌, ℕ, ◌<◌, ◌+◌, ◌%◌, ◌^◌, zero, suc, List, [], ◌∷◌, ◌++◌, length, drop, refl, ap, ◌∙◌, arith, Option, Some, None}
-use Rattle.std.specs.List.{slice_index_or}
-use Rattle.std.specs.Option.{option_map_or}
-use Rattle.std.specs.Str.{bytes_eq}
-use Rattle.std.specs.Prelude.{slice_set}
-use Rattle.std.proofs.lemmas.List.{drop_at}
-use Rattle.std.proofs.lemmas.List.Quantifiers.{position-Some}
-use Rattle.site_image.specs.Files.{File}
-use Rattle.app_events.specs.declared.now.Now.{Now}
-use Rattle.generators.specs.Giving.{Giving}
-use Rattle.web_pages.specs.Requests.{Wanted}
-use Rattle.web_pages.specs.Requests.Wanted.{NotYet, Refused, Name}
-use Rattle.web_pages.specs.Pages.{place_of, hits_of, made_by}
-use Rattle.web_pages.specs.WebMeaning.{hit_at, hits_by}
+use Rattle.web_pages.proofs.Prelude.{◌≡◌, ℕ, ◌<◌, ◌+◌, ◌%◌, ◌^◌, zero, suc, List, [], ◌∷◌, ◌++◌, length, drop, refl, ap, ◌∙◌, arith, Option, Some, None, slice_index_or, option_map_or, bytes_eq, slice_set, drop_at, position-Some, File, Now, Giving, Wanted, NotYet, Refused, Name, place_of, hits_of, made_by, hit_at, hits_by}
 
 index_prefix : (xs ys : List ℕ) (place : ℕ) → place < length xs → slice_index_or (xs ++ ys) place 0 ≡ slice_index_or xs place 0
 index_prefix [] ys place lt = absurd (omega (arith, lt))

@@ -1,20 +1,5 @@
 -- The web server of a site satisfies the laws from which the guarantee follows.
-use Rattle.std.specs.List.{All}
-use Rattle.std.proofs.Common.{◌≡◌, ℕ, ◌+◌, ◌%◌, ◌^◌, Bool, true, false, ◌&&◌, List, [], ◌∷◌, ◌++◌, Option, Some, None, refl, inl, inr, ◌⊎◌, arith, if◌then◌else◌}
-use Rattle.std.specs.List.{slice_index_or}
-use Rattle.std.proofs.lemmas.List.Elements.{All-set}
-use Rattle.site_image.specs.Files.{File}
-use Rattle.file_tree.specs.Site.{files_of}
-use Rattle.app_events.specs.AppSpec.{AppState, Snapshot}
-use Rattle.app_events.specs.Pages.{IsU32}
-use Rattle.generators.specs.Giving.{Giving, AreShort, uip}
-use Rattle.web_pages.specs.Requests.{Wanted, wanted}
-use Rattle.web_pages.specs.Requests.Wanted.{NotYet, Refused, Name}
-use Rattle.web_pages.specs.Pages.{place_of}
-use Rattle.web_pages.specs.WebMeaning.{hit_at, hits_by, is_acknowledged_by, waits_for_capture_by}
-use Rattle.web_pages.specs.Lemmas.Growing.{page_grows, page_stays}
-use Rattle.web_pages.specs.Lemmas.WebLaws.{with_capture, may_want}
-use Rattle.web_pages.specs.Claims.{KeepsPageLaws, KeepsPageLawsBy}
+use Rattle.web_pages.proofs.Prelude.{All, ◌≡◌, ℕ, ◌+◌, ◌%◌, ◌^◌, Bool, true, false, ◌&&◌, List, [], ◌∷◌, ◌++◌, Option, Some, None, refl, inl, inr, ◌⊎◌, arith, if◌then◌else◌, slice_index_or, All-set, File, files_of, AppState, Snapshot, IsU32, Giving, AreShort, uip, Wanted, wanted, NotYet, Refused, Name, place_of, hit_at, hits_by, is_acknowledged_by, waits_for_capture_by, page_grows, page_stays, with_capture, may_want, KeepsPageLaws, KeepsPageLawsBy}
 use Rattle.web_pages.proofs.Limits.{page_short, uip_short, uip_sound}
 
 hit_words : (hits : List ℕ) (place : Option ℕ) → All IsU32 hits → All IsU32 (hit_at hits place)

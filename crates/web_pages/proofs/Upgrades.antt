@@ -1,31 +1,5 @@
 -- If no word of an upgrade names a file, every page stays the same.
-use Rattle.std.proofs.Common.{◌≡◌, ℕ, zero, suc, ◌-◌, ◌+◌, ◌==◌, not, Bool, true, false, List, [], ◌∷◌, ◌++◌, length, get_or, map, Option, Some, None, refl, sym, ap, ◌∙◌, arith, true≢false, if◌then◌else◌}
-use Rattle.std.specs.Prelude.{find, slice_get, option_map, unwrap_or, nat_lt, reverse, slice_range, codes}
-use Rattle.std.specs.List.{position_or_len, slice_index_or}
-use Rattle.std.specs.Str.{bytes_eq}
-use Rattle.std.proofs.lemmas.Bool.{or_left, or_right}
-use Rattle.std.proofs.lemmas.List.{length-map, get_or-reverse, length-reverse}
-use Rattle.std.proofs.lemmas.Option.{same_Some, slice_get_within, slice_get_read, get_or_from_slice_get}
-use Rattle.std.proofs.lemmas.Slice.Eq.{bytes_eq-Decides}
-use Rattle.std.specs.Option.{option_map_or}
-use Rattle.script_lang.specs.declared.function.Function.{Function}
-use Rattle.script_lang.specs.declared.piece.PieceOf.{PieceOf}
-use Rattle.script_lang.specs.declared.piece.PieceOf.TheVariants.{Text, Include, Call}
-use Rattle.script_lang.specs.declared.piece.FoundOf.{FoundOf}
-use Rattle.script_lang.specs.Pieces.{pieces}
-use Rattle.site_image.specs.Names.{is_script, kind_by_name}
-use Rattle.site_image.specs.Files.{File, has_name, file_named, kind_of}
-use Rattle.file_tree.specs.Upgrading.{KindContent, chosen, retyped, upgraded}
-use Rattle.generators.specs.Captures.{capture_of}
-use Rattle.generators.specs.Text.{capture_text}
-use Rattle.app_events.specs.AppSpec.{Snapshot}
-use Rattle.web_pages.specs.Requests.{Wanted, wanted}
-use Rattle.web_pages.specs.Requests.Wanted.{NotYet, Refused, Name}
-use Rattle.web_pages.specs.Pieces.{Say, says, bytes_or, body_of, missing_head, found_head, kind_line, reply_to, reply_pieces}
-use Rattle.web_pages.specs.Pieces.Say.{Plain, Made}
-use Rattle.script_lang.specs.Functions.{takes_capture}
-use Rattle.web_pages.specs.Pages.{place_of, made_text, page_text, reach_end, page_for, whole_for}
-use Rattle.web_pages.specs.Claims.{UpgradeKeepsPages}
+use Rattle.web_pages.proofs.Prelude.{◌≡◌, ℕ, zero, suc, ◌-◌, ◌+◌, ◌==◌, not, Bool, true, false, List, [], ◌∷◌, ◌++◌, length, get_or, map, Option, Some, None, refl, sym, ap, ◌∙◌, arith, true≢false, if◌then◌else◌, find, slice_get, option_map, unwrap_or, nat_lt, reverse, slice_range, codes, position_or_len, slice_index_or, bytes_eq, or_left, or_right, length-map, get_or-reverse, length-reverse, same_Some, slice_get_within, slice_get_read, get_or_from_slice_get, bytes_eq-Decides, option_map_or, Function, PieceOf, Text, Include, Call, FoundOf, pieces, is_script, kind_by_name, File, has_name, file_named, kind_of, KindContent, chosen, retyped, upgraded, capture_of, capture_text, Snapshot, Wanted, wanted, NotYet, Refused, Name, Say, says, bytes_or, body_of, missing_head, found_head, kind_line, reply_to, reply_pieces, Plain, Made, takes_capture, place_of, made_text, page_text, reach_end, page_for, whole_for, UpgradeKeepsPages}
 use Rattle.web_pages.proofs.Found.{found_there}
 
 -- ---- the files that are found

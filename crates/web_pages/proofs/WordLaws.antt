@@ -1,21 +1,5 @@
 -- The two words of a request, as they are stored while they are received.
-use Rattle.std.proofs.Common.{◌≡◌, ℕ, ◌<◌, ◌≤◌, ◌&&◌, ◌==◌, Bool, true, false, not, List, [], ◌∷◌, length, take, refl, sym, ap, subst, ◌∙◌, arith, length-take, if◌then◌else◌}
-use Rattle.std.specs.Prelude.{codes, nat_lt, nat_eq}
-use Rattle.std.specs.List.{before_first, list_any, starts_with, concat, fold}
-use Rattle.std.specs.Str.{bytes_eq}
-use Rattle.std.proofs.lemmas.Bool.{and_parts, not-true, ltb-true, ltb-false, eqb-true}
-use Rattle.std.proofs.lemmas.Bool.Decides.{same_from_decides}
-use Rattle.std.proofs.lemmas.List.{take_all}
-use Rattle.std.proofs.lemmas.List.Sums.{take_while-cons}
-use Rattle.std.proofs.lemmas.Slice.Eq.{bytes_eq-Decides}
-use Rattle.protosocket.specs.declared.stops.Stops.TheVariants.{Space, SpaceOrLine}
-use Rattle.protosocket.specs.Line.{Line, is_query_mark, after, fresh, delivered}
-use Rattle.protosocket.specs.Lemmas.Hearing.{none_at_all}
-use Rattle.protosocket.proofs.Pieces.{hears_in_pieces}
-use Rattle.web_pages.specs.Requests.{Wanted, wanted, wanted_by, has_ended, method_of, after_method, target_of, name_in}
-use Rattle.web_pages.specs.Requests.Wanted.{NotYet, Refused, Name}
-use Rattle.web_pages.specs.Words.{told_so_far, ToldInPieces, LongNames}
-use Rattle.web_pages.specs.Lemmas.Deciding.{by_tests}
+use Rattle.web_pages.proofs.Prelude.{◌≡◌, ℕ, ◌<◌, ◌≤◌, ◌&&◌, ◌==◌, Bool, true, false, not, List, [], ◌∷◌, length, take, refl, sym, ap, subst, ◌∙◌, arith, length-take, if◌then◌else◌, codes, nat_lt, nat_eq, before_first, list_any, starts_with, concat, fold, bytes_eq, and_parts, not-true, ltb-true, ltb-false, eqb-true, same_from_decides, take_all, take_while-cons, bytes_eq-Decides, Space, SpaceOrLine, Line, is_query_mark, after, fresh, delivered, none_at_all, hears_in_pieces, Wanted, wanted, wanted_by, has_ended, method_of, after_method, target_of, name_in, NotYet, Refused, Name, told_so_far, ToldInPieces, LongNames, by_tests}
 
 -- ---- the method
 

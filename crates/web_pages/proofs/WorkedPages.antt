@@ -1,7 +1,5 @@
 -- Each row is computed from the definitions.
-use Rattle.std.proofs.Common.{rules}
-use Rattle.std.specs.Fmt.{digits}
-use Rattle.web_pages.specs.WorkedPages.{AreWorkedPages}
+use Rattle.web_pages.proofs.Prelude.{rules, digits, AreWorkedPages}
 
 pub worked : AreWorkedPages
 unfolding digits

@@ -1,6 +1,5 @@
 -- Each row is computed from the definitions.
-use Rattle.std.proofs.Common.{rules}
-use Rattle.web_pages.specs.WorkedRequests.{AreWorkedRequests}
+use Rattle.web_pages.proofs.Prelude.{rules, AreWorkedRequests}
 
 pub worked : AreWorkedRequests
 worked = search rules

@@ -1,29 +1,6 @@
 -- The page of a target in which each call has the zero record of its kind.
 -- [add: function] Its text if nothing has happened yet.
-use Rattle.std.proofs.Common.{◌≡◌, ℕ, zero, suc, ◌≤◌, true, false, List, [], ◌∷◌, ◌++◌, length, replicate, Option, Some, None, refl, sym, ap, ◌∙◌, arith, append-nil}
-use Rattle.std.specs.List.{flat_map, list_any}
-use Rattle.std.proofs.lemmas.Bool.{or_right}
-use Rattle.std.proofs.lemmas.List.Folds.{list_any-append}
-use Rattle.std.specs.Option.{option_map_or}
-use Rattle.std.specs.List.{slice_index_or}
-use Rattle.script_lang.specs.declared.function.Function.{Function}
-use Rattle.script_lang.specs.declared.function.Function.TheVariants.{FileStats, TcpConnections, NetStats, Ticks, Unknown}
-use Rattle.generators.specs.Captures.{capture_of}
-use Rattle.generators.specs.Text.{capture_text}
-use Rattle.protosocket.specs.declared.stops.Stops.TheVariants.{SpaceOrLine}
-use Rattle.protosocket.specs.Line.{is_stop, word_of}
-use Rattle.protosocket.specs.Lemmas.Hearing.{one_before, none_before, none_at_all}
-use Rattle.site_image.specs.Files.{File, file_named}
-use Rattle.web_pages.specs.Requests.{Wanted, wanted, wanted_by, has_ended}
-use Rattle.web_pages.specs.Requests.Wanted.{NotYet, Refused, Name}
-use Rattle.web_pages.specs.Pieces.{Say, reply_pieces}
-use Rattle.web_pages.specs.Pieces.Say.{Plain, Made}
-use Rattle.script_lang.specs.Functions.{takes_capture}
-use Rattle.web_pages.specs.Pages.{place_of, made_text, page_text, page_for}
-use Rattle.web_pages.specs.ZeroPages.{zero_snapshot, zero_said, zero_reply, request_for, zero_page, most_captures}
-use Rattle.generators.specs.Giving.{uip}
-use Rattle.web_pages.specs.Lemmas.Growing.{silent_text, made_first}
-use Rattle.web_pages.specs.Lemmas.Deciding.{decided_by_target}
+use Rattle.web_pages.proofs.Prelude.{◌≡◌, ℕ, zero, suc, ◌≤◌, true, false, List, [], ◌∷◌, ◌++◌, length, replicate, Option, Some, None, refl, sym, ap, ◌∙◌, arith, append-nil, flat_map, list_any, or_right, list_any-append, option_map_or, slice_index_or, Function, FileStats, TcpConnections, NetStats, Ticks, Unknown, capture_of, capture_text, SpaceOrLine, is_stop, word_of, one_before, none_before, none_at_all, File, file_named, Wanted, wanted, wanted_by, has_ended, NotYet, Refused, Name, Say, reply_pieces, Plain, Made, takes_capture, place_of, made_text, page_text, page_for, zero_snapshot, zero_said, zero_reply, request_for, zero_page, most_captures, uip, silent_text, made_first, decided_by_target}
 
 -- ---- the text
 

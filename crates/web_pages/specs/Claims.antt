@@ -1,15 +1,12 @@
 -- What holds for the pages of every site.
 use Rattle.std.specs.List.{All}
 use Rattle.std.specs.Prelude.{◌≡◌, ◌≢◌, ◌≤◌, ℕ, false, List, ◌++◌, length, slice_get, Some}
-use Rattle.app_events.specs.AppSpec.{Snapshot}
-use Rattle.app_events.specs.Pages.{IsPaged, IsSnapshot, IsByte}
-use Rattle.site_image.specs.Files.{File, has_name}
-use Rattle.site_image.specs.Pages.{page_length_by}
-use Rattle.file_tree.specs.Site.{SiteContent, IsLoaded, HasSoundScripts, files_of}
-use Rattle.file_tree.specs.Upgrading.{KindContent, upgraded}
+use Rattle.app_events.specs.Prelude.{Snapshot, IsPaged, IsSnapshot, IsByte}
+use Rattle.site_image.specs.Prelude.{File, has_name, page_length_by}
+use Rattle.file_tree.specs.Prelude.{SiteContent, IsLoaded, HasSoundScripts, files_of, KindContent, upgraded}
 use Rattle.web_pages.specs.Requests.{wanted}
 use Rattle.web_pages.specs.Requests.Wanted.{NotYet, Name}
-use Rattle.generators.specs.Giving.{Giving, uip}
+use Rattle.generators.specs.Prelude.{Giving, uip}
 use Rattle.web_pages.specs.Pages.{page, is_page_whole, pages_of, page_by, pages_by}
 use Rattle.web_pages.specs.WebMeaning.{web_spec, web_spec_by}
 

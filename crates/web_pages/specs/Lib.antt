@@ -10,3 +10,4 @@ pub mod WorkedPages
 pub mod Serving
 pub mod Lemmas
 pub mod ConstantValues
+pub mod Prelude

@@ -5,10 +5,9 @@ use Rattle.std.specs.List.{slice_index_or}
 use Rattle.std.specs.Option.{option_map_or}
 use Rattle.std.specs.Str.{bytes_eq}
 use Rattle.script_lang.specs.declared.function.Function.{Function}
-use Rattle.site_image.specs.Files.{File}
-use Rattle.generators.specs.Giving.{Giving, uip}
-use Rattle.app_events.specs.AppSpec.{Snapshot}
-use Rattle.app_events.specs.Pages.{Pages}
+use Rattle.site_image.specs.Prelude.{File}
+use Rattle.generators.specs.Prelude.{Giving, uip}
+use Rattle.app_events.specs.Prelude.{Snapshot, Pages}
 use Rattle.web_pages.specs.Requests.{Wanted, wanted}
 use Rattle.web_pages.specs.Requests.Wanted.{NotYet, Refused, Name}
 use Rattle.web_pages.specs.Pieces.{Say, reply_pieces_by}

@@ -5,10 +5,8 @@ use Rattle.std.specs.Option.{option_map_or}
 use Rattle.script_lang.specs.declared.function.Function.{Function}
 use Rattle.script_lang.specs.declared.piece.PieceOf.{PieceOf}
 use Rattle.script_lang.specs.declared.piece.PieceOf.TheVariants.{Text, Include, Call}
-use Rattle.script_lang.specs.Functions.{function_named}
-use Rattle.script_lang.specs.Pieces.{pieces_by}
-use Rattle.site_image.specs.Names.{is_script}
-use Rattle.site_image.specs.Files.{File, file_named, kind_of}
+use Rattle.script_lang.specs.Prelude.{function_named, pieces_by}
+use Rattle.site_image.specs.Prelude.{is_script, File, file_named, kind_of}
 
 -- Bytes of the site, or a call of a function that generates text.
 pub data Say (F : Type 0) : Type 0 where

@@ -4,7 +4,7 @@ use Rattle.std.specs.List.{before_first, list_any, starts_with}
 use Rattle.std.specs.Str.{bytes_eq}
 use Rattle.protosocket.specs.declared.stops.Stops.{Stops}
 use Rattle.protosocket.specs.declared.stops.Stops.TheVariants.{Space, SpaceOrLine}
-use Rattle.protosocket.specs.Line.{is_stop, is_query_mark, word_of}
+use Rattle.protosocket.specs.Prelude.{is_stop, is_query_mark, word_of}
 
 -- Nothing is decided yet, the request is refused, or the file with a name is requested.
 pub data Wanted : Type 0 where

@@ -1,6 +1,6 @@
 -- What the web server serves, and its initial counters.
 use Rattle.std.specs.Prelude.{ℕ, ◌==◌, Bool, List, length, replicate}
-use Rattle.site_image.specs.Files.{File}
+use Rattle.site_image.specs.Prelude.{File}
 use Rattle.uip_wire.specs.declared.port.TheConstants.{WEB_PORT}
 
 -- Pages are served only at the web port.

@@ -3,13 +3,13 @@
 use Rattle.std.specs.Prelude.{ℕ, ◌+◌, ◌-◌, ◌%◌, ◌^◌, ◌==◌, Bool, ◌&&◌, false, not, List, [], ◌∷◌, ◌++◌, length, min, nat_lt, slice_set, if◌then◌else◌, Option}
 use Rattle.std.specs.List.{slice_index_or}
 use Rattle.std.specs.Option.{option_map_or}
-use Rattle.app_events.specs.AppSpec.{AppState, AppSpec}
+use Rattle.app_events.specs.Prelude.{AppState, AppSpec}
 use Rattle.app_events.specs.declared.want.Want.{Want}
 use Rattle.app_events.specs.declared.want.Want.TheVariants.{Nothing, Send, Close, Abort}
-use Rattle.site_image.specs.Files.{File}
+use Rattle.site_image.specs.Prelude.{File}
 use Rattle.web_pages.specs.Requests.{Wanted, wanted}
 use Rattle.web_pages.specs.Requests.Wanted.{NotYet, Name}
-use Rattle.generators.specs.Giving.{Giving, uip}
+use Rattle.generators.specs.Prelude.{Giving, uip}
 use Rattle.web_pages.specs.Pages.{page_by, is_whole_by, place_of}
 use Rattle.web_pages.specs.declared.TheConstants.{MOST_POLLS, LARGEST_SEGMENT}
 

@@ -3,7 +3,7 @@ use Rattle.std.specs.Prelude.{◌≡◌, ◌<◌, ℕ, Bool, ◌&&◌, false, tr
 use Rattle.std.specs.List.{concat, fold}
 use Rattle.std.specs.Str.{bytes_eq}
 use Rattle.protosocket.specs.declared.stops.Stops.TheVariants.{Space, SpaceOrLine}
-use Rattle.protosocket.specs.Line.{Line, after, fresh, longest_name}
+use Rattle.protosocket.specs.Prelude.{Line, after, fresh, longest_name}
 use Rattle.web_pages.specs.Requests.{Wanted, wanted, wanted_by, after_method}
 use Rattle.web_pages.specs.Requests.Wanted.{NotYet, Refused, Name}
 

@@ -1,8 +1,8 @@
 -- Pages worked by hand: their bytes, with the snapshots of a node at which nothing has happened yet.
 -- [add: counter] The number of zeros.
 use Rattle.std.specs.Prelude.{◌≡◌, ℕ, true, false, List, [], ◌∷◌, ◌++◌, codes, length, replicate}
-use Rattle.site_image.specs.Files.{File}
-use Rattle.app_events.specs.AppSpec.{Snapshot}
+use Rattle.site_image.specs.Prelude.{File}
+use Rattle.app_events.specs.Prelude.{Snapshot}
 use Rattle.web_pages.specs.Pages.{page, is_page_whole}
 use Rattle.web_pages.specs.ZeroPages.{zero_page}
 

@@ -2,10 +2,9 @@
 -- [add: counter] The number of zeros.
 use Rattle.std.specs.Prelude.{ℕ, List, [], ◌++◌, codes, length, replicate, Option}
 use Rattle.std.specs.List.{flat_map}
-use Rattle.app_events.specs.AppSpec.{Snapshot}
-use Rattle.generators.specs.Captures.{capture_of}
-use Rattle.generators.specs.Text.{capture_text}
-use Rattle.site_image.specs.Files.{File}
+use Rattle.app_events.specs.Prelude.{Snapshot}
+use Rattle.generators.specs.Prelude.{capture_of, capture_text}
+use Rattle.site_image.specs.Prelude.{File}
 use Rattle.web_pages.specs.Requests.{Wanted, wanted}
 use Rattle.web_pages.specs.Requests.Wanted.{Name}
 use Rattle.script_lang.specs.declared.function.Function.{Function}

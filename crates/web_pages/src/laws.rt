@@ -1,11 +1,7 @@
 //! What holds for the pages of every site.
 
-ghost use Rattle.web_pages.specs.Claims.{DecisionStays, KeepsPageLaws, KeepsPageLawsBy, IsAtMostGreatest, IsAtMostGreatestBy, IsMadeOfBytes, IsMadeOfBytesBy, UpgradeKeepsPages};
-ghost use Rattle.generators.specs.Giving.{gives};
-ghost use Rattle.web_pages.specs.Words.{ToldInPieces, LongNames};
-ghost use Rattle.web_pages.specs.WorkedRequests.{AreWorkedRequests};
-ghost use Rattle.web_pages.specs.WorkedPages.{AreWorkedPages};
-ghost use Rattle.web_pages.specs.ConstantValues.{ConstantValues};
+ghost use Rattle.web_pages.specs.Prelude.{DecisionStays, KeepsPageLaws, KeepsPageLawsBy, IsAtMostGreatest, IsAtMostGreatestBy, IsMadeOfBytes, IsMadeOfBytesBy, UpgradeKeepsPages, ToldInPieces, LongNames, AreWorkedRequests, AreWorkedPages, ConstantValues};
+ghost use Rattle.generators.specs.Prelude.{gives};
 
 use generators::Record;
 

@@ -1,24 +1,6 @@
 -- What holds for the schedule of a seed.
 -- [add: schedule-line] A line that a seed draws.
-use Rattle.std.proofs.Common.{◌≡◌, ℕ, suc, zero, ◌+◌, ◌-◌, ◌*◌, ◌/◌, ◌%◌, ◌<◌, ◌≤◌, ◌==◌, ◌&&◌, ◌||◌, nat_le, Bool, true, false, not, List, [], ◌∷◌, ◌++◌, length, map, replicate, refl, sym, ap, subst, arith, ◌∙◌, if◌then◌else◌, Result, Ok, Err, OnOk}
-use Rattle.std.proofs.lemmas.Grind.{common_steps}
-use Rattle.std.specs.Prelude.{codes, flat_map}
-use Rattle.std.specs.List.{list_all, list_any, range_with_len}
-use Rattle.std.specs.Str.{bytes_eq}
-use Rattle.std.proofs.lemmas.List.{length-append}
-use Rattle.std.proofs.lemmas.List.Concat.{flat_map-cons}
-use Rattle.std.proofs.lemmas.List.Folds.{list_all-append}
-use Rattle.std.proofs.lemmas.List.FromFn.{length-map-range_with_len}
-use Rattle.rand_core.specs.Steps.{first_words}
-use Rattle.rand_pcg.specs.Lcg.{Lcg, increment_of, started}
-use Rattle.rand_pcg.specs.Pcg.{multiplier_64, pcg32}
-use Rattle.link_schedule.specs.declared.event.Event.{Event}
-use Rattle.link_schedule.specs.declared.event.Event.TheVariants.{Opens, Again, Round, Twice, Reverse, Half, Lose}
-use Rattle.link_schedule.specs.declared.line.Line.{Line}
-use Rattle.link_schedule.specs.Clients.{Plan}
-use Rattle.link_schedule.specs.Reading.{SchedulePlan, meets}
-use Rattle.link_schedule.specs.Kept.{Keeps, are_apart, client_in_range, event_in_range, is_between}
-use Rattle.workload.specs.Workload.{client_of, event_drawn, events_of, happens, numbered_from, words_from, workload_of}
+use Rattle.workload.proofs.Prelude.{◌≡◌, ℕ, suc, zero, ◌+◌, ◌-◌, ◌*◌, ◌/◌, ◌%◌, ◌<◌, ◌≤◌, ◌==◌, ◌&&◌, ◌||◌, nat_le, Bool, true, false, not, List, [], ◌∷◌, ◌++◌, length, map, replicate, refl, sym, ap, subst, arith, ◌∙◌, if◌then◌else◌, Result, Ok, Err, OnOk, common_steps, codes, flat_map, list_all, list_any, range_with_len, bytes_eq, length-append, flat_map-cons, list_all-append, length-map-range_with_len, first_words, Lcg, increment_of, started, multiplier_64, pcg32, Event, Opens, Again, Round, Twice, Reverse, Half, Lose, Line, Plan, SchedulePlan, meets, Keeps, are_apart, client_in_range, event_in_range, is_between, client_of, event_drawn, events_of, happens, numbered_from, words_from, workload_of}
 
 pub on_ok_by : {T E P Q : Type 0} (r : Result T E) → (P → Q) → OnOk r P → OnOk r Q
 on_ok_by (Ok x) f p = f p

@@ -1,3 +1,4 @@
 pub mod Working
 pub mod Keeping
 pub mod WorkedWorkload
+mod Prelude

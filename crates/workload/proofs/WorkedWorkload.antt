@@ -1,8 +1,5 @@
 -- The worked workloads are computed from the definition, and their length by law.
-use Rattle.std.proofs.Common.{refl, ◌∙◌}
-use Rattle.rand_core.specs.Steps.{first_words}
-use Rattle.workload.specs.Workload.{events_of}
-use Rattle.workload.specs.WorkedWorkload.{AreWorkedWorkloads}
+use Rattle.workload.proofs.Prelude.{refl, ◌∙◌, first_words, events_of, AreWorkedWorkloads}
 use Rattle.workload.proofs.Keeping.{length-events}
 use Rattle.workload.proofs.Working.{length-numbered}
 

@@ -1,15 +1,5 @@
 -- Lines one after another, and the events of words.
-use Rattle.std.proofs.Common.{◌≡◌, ℕ, suc, zero, ◌+◌, ◌/◌, ◌%◌, ◌<◌, List, [], ◌∷◌, ◌++◌, length, take, get_or, refl, sym, ap, arith, ◌∙◌, append_assoc}
-use Rattle.std.specs.Prelude.{flat_map}
-use Rattle.std.proofs.lemmas.List.{take_more}
-use Rattle.std.proofs.lemmas.List.Concat.{flat_map-cons}
-use Rattle.rand_core.specs.Steps.{first_words}
-use Rattle.rand_pcg.specs.Lcg.{Lcg}
-use Rattle.rand_pcg.specs.Pcg.{pcg32}
-use Rattle.link_schedule.specs.declared.event.Event.{Event}
-use Rattle.link_schedule.specs.declared.event.Event.TheVariants.{Tick}
-use Rattle.link_schedule.specs.declared.line.Line.{Line}
-use Rattle.workload.specs.Workload.{event_drawn, happens, numbered_from}
+use Rattle.workload.proofs.Prelude.{◌≡◌, ℕ, suc, zero, ◌+◌, ◌/◌, ◌%◌, ◌<◌, List, [], ◌∷◌, ◌++◌, length, take, get_or, refl, sym, ap, arith, ◌∙◌, append_assoc, flat_map, take_more, flat_map-cons, first_words, Lcg, pcg32, Event, Tick, Line, event_drawn, happens, numbered_from}
 
 abbrev pub line_with : ℕ → Event → Line
 line_with number event = record { at = number; event = event }

@@ -1,2 +1,3 @@
 pub mod Workload
 pub mod WorkedWorkload
+pub mod Prelude

@@ -2,9 +2,7 @@
 use Rattle.std.specs.Prelude.{ℕ, ◌≡◌, ◌<◌, ◌-◌, List, [], ◌∷◌, ◌++◌, length, drop, true, false, if◌then◌else◌, nat_lt}
 use Rattle.std.proofs.Common.{refl, arith, sym, ◌∙◌, append-nil, length-drop, ap}
 use Rattle.std.proofs.lemmas.Bool.{ltb-true}
-use Rattle.app_events.specs.AppSpec.{AppState, text_left}
-use Rattle.app_events.specs.FixedSpec.{fixed_want, some_heard}
-use Rattle.app_events.specs.Laws.{IsLawful, StartsAnew, IsPrefixOf, CanSend}
+use Rattle.app_events.specs.Prelude.{AppState, text_left, fixed_want, some_heard, IsLawful, StartsAnew, IsPrefixOf, CanSend}
 use Rattle.app_events.specs.declared.want.Want.TheVariants.{Send, Close}
 use Rattle.cross_tests.specs.declared.counting.Counter.{Counter}
 use Rattle.cross_tests.specs.CounterSpec.{CounterRepresents, counter_spec, counter_text, number_after}

@@ -7,11 +7,9 @@ use Rattle.std.specs.Option.{option_map_or}
 use Rattle.std.proofs.lemmas.List.{length-map}
 use Rattle.std.proofs.lemmas.Bool.{ltb-true}
 use Rattle.std.proofs.lemmas.List.Elements.{All-nil, All-cons, All-append, All-head, All-tail}
-use Rattle.app_events.specs.Pages.{IsByte}
-use Rattle.uip_wire.specs.Numerals.{numeral}
-use Rattle.generators.specs.Giving.{AreBytes, AreShort}
-use Rattle.generators.specs.Lemmas.Bytes.{literal_bytes, either_bytes, texts_bytes}
-use Rattle.generators.specs.Lemmas.Lengths.{texts_short}
+use Rattle.app_events.specs.Prelude.{IsByte}
+use Rattle.uip_wire.specs.Prelude.{numeral}
+use Rattle.generators.specs.Prelude.{AreBytes, AreShort, literal_bytes, either_bytes, texts_bytes, texts_short}
 use Rattle.device_values.specs.declared.spelling.Spelling.{Spelling}
 use Rattle.device_values.specs.declared.spelling.Spelling.TheVariants.{Plain, Json, Html}
 use Rattle.device_values.specs.declared.word.Word.TheVariants as word

@@ -2,23 +2,17 @@
 use Rattle.std.specs.Prelude.{ℕ, ◌≡◌, List, [], drop}
 use Rattle.std.proofs.Common.{refl, sym, ap, ◌∙◌, append-nil}
 use Rattle.std.proofs.Math.Seq.{drop-nil}
-use Rattle.app_events.specs.AppSpec.{AppState, text_left}
-use Rattle.site_image.specs.Files.{File}
-use Rattle.file_tree.specs.Site.{SiteContent, files_of}
-use Rattle.web_pages.specs.Requests.{Wanted, wanted}
-use Rattle.web_pages.specs.Requests.Wanted.{NotYet, Refused}
-use Rattle.generators.specs.Giving.{Giving, uip}
-use Rattle.generators.specs.Text.{capture_text}
-use Rattle.web_pages.specs.Pieces.{reply_pieces_by}
-use Rattle.web_pages.specs.Pages.{page_for_by, text_by}
-use Rattle.web_pages.specs.WebMeaning.{web_spec, web_spec_by}
+use Rattle.app_events.specs.Prelude.{AppState, text_left}
+use Rattle.site_image.specs.Prelude.{File}
+use Rattle.file_tree.specs.Prelude.{SiteContent, files_of}
+use Rattle.web_pages.specs.Prelude.{Wanted, wanted, NotYet, Refused, reply_pieces_by, page_for_by, text_by, web_spec, web_spec_by, method_open, target_open}
+use Rattle.generators.specs.Prelude.{Giving, uip, capture_text}
 use Rattle.httpd.specs.declared.stage.Stage.{Stage}
 use Rattle.httpd.specs.declared.stage.Stage.TheVariants as stage
 use Rattle.httpd.specs.First.{Httpd}
 use Rattle.httpd.specs.declared.httpd.Pages.{Pages}
 use Rattle.httpd.specs.Reply.{left_from, reply_by}
 use Rattle.httpd.specs.HttpdRepresents.{HttpdRepresents, PagesRepresent, StandsIn}
-use Rattle.web_pages.specs.Lemmas.Deciding.{method_open, target_open}
 
 -- the text that a value has left
 abbrev pub left_in : {F R : Type 0} → Giving F → (R → List ℕ) → Pages R → SiteContent → Stage → List ℕ

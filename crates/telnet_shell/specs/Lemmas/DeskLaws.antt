@@ -1,13 +1,10 @@
 -- The desk keeps the laws of an application, at every port.
 use Rattle.std.proofs.Common.{◌≡◌, ℕ, ◌==◌, ◌&&◌, Bool, true, false, List, [], ◌∷◌, ◌++◌, length, nat_lt, refl, sym, ap, ◌∙◌, if◌then◌else◌}
-use Rattle.site_image.specs.Files.{File}
-use Rattle.app_events.specs.AppSpec.{AppState, AppSpec}
-use Rattle.app_events.specs.Laws.{IsLawful, StartsAnew, Grows}
+use Rattle.site_image.specs.Prelude.{File}
+use Rattle.app_events.specs.Prelude.{AppState, AppSpec, IsLawful, StartsAnew, Grows}
 use Rattle.app_events.specs.declared.now.Now.{Now}
-use Rattle.generators.specs.Giving.{uip}
-use Rattle.web_pages.specs.Requests.{wanted}
-use Rattle.web_pages.specs.WebMeaning.{web_spec, is_acknowledged, waits_for_capture}
-use Rattle.web_pages.specs.Lemmas.WebLaws.{web_lawful, web_starts}
+use Rattle.generators.specs.Prelude.{uip}
+use Rattle.web_pages.specs.Prelude.{wanted, web_spec, is_acknowledged, waits_for_capture, web_lawful, web_starts}
 use Rattle.telnet_shell.specs.declared.TheConstants.{MOST_COMMANDS}
 use Rattle.telnet_shell.specs.declared.shell.TheConstants.{TELNET_PORT}
 use Rattle.telnet_shell.specs.ShellMeaning.{shell_spec, waiting, with_byte, hear_byte, hear_all, is_stopped, take_capture}

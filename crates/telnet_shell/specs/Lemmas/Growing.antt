@@ -1,7 +1,6 @@
 -- More bytes only append commands, and more commands and captures only append to the transcript.
 use Rattle.std.proofs.Common.{◌≡◌, ℕ, Bool, true, false, List, [], ◌∷◌, ◌++◌, ◌==◌, if◌then◌else◌, refl, sym, ap, ◌∙◌, append_assoc}
-use Rattle.app_events.specs.AppSpec.{Snapshot}
-use Rattle.app_events.specs.Laws.{IsPrefixOf}
+use Rattle.app_events.specs.Prelude.{Snapshot, IsPrefixOf}
 use Rattle.telnet_shell.specs.declared.command.Command.{Command}
 use Rattle.telnet_shell.specs.Reading.{Awaits, Token, tokens, told, next_awaits, awaits_after, commands, command_of, line_after, is_quit, until_quit, has_quit, commands_in}
 use Rattle.telnet_shell.specs.Reading.Awaits.{Text}

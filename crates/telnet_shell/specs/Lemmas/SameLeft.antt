@@ -1,7 +1,7 @@
 -- What is left to send is a function of the value alone.
 use Rattle.std.proofs.Common.{◌≡◌, ℕ, ◌+◌, List, length, drop, sym, ap, ◌∙◌}
 use Rattle.std.proofs.Math.Seq.{drop-append-add}
-use Rattle.app_events.specs.AppSpec.{AppState, text_left}
+use Rattle.app_events.specs.Prelude.{AppState, text_left}
 use Rattle.telnet_shell.specs.State.{Shell}
 use Rattle.telnet_shell.specs.Transcript.{transcript}
 use Rattle.telnet_shell.specs.Saying.{left_said}

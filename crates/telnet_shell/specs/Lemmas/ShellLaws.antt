@@ -1,8 +1,7 @@
 -- The shell keeps the laws of an application, at every offset.
 use Rattle.std.proofs.Common.{◌≡◌, ℕ, ◌≤◌, ◌==◌, min, Bool, true, false, ◌||◌, List, [], ◌∷◌, ◌++◌, length, drop, nat_lt, refl, sym, ap, subst, ◌∙◌, arith, append-nil, append_assoc, length-drop, if◌then◌else◌}
 use Rattle.std.proofs.lemmas.Bool.{ltb-true}
-use Rattle.app_events.specs.AppSpec.{AppState, Snapshot}
-use Rattle.app_events.specs.Laws.{IsLawful, StartsAnew, IsPrefixOf, Grows, CanSend}
+use Rattle.app_events.specs.Prelude.{AppState, Snapshot, IsLawful, StartsAnew, IsPrefixOf, Grows, CanSend}
 use Rattle.app_events.specs.declared.want.Want.TheVariants.{Nothing, Send, Close, Abort}
 use Rattle.web_pages.specs.declared.TheConstants.{LARGEST_SEGMENT}
 use Rattle.telnet_shell.specs.declared.command.Command.{Command}

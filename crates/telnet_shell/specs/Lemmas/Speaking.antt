@@ -3,11 +3,10 @@ use Rattle.std.proofs.Common.{◌≡◌, ℕ, ◌+◌, ◌-◌, ◌≤◌, ◌<�
 use Rattle.std.proofs.lemmas.List.{drop-append-le, take-append-le, take_all}
 use Rattle.std.proofs.Math.Seq.{take-append-add}
 use Rattle.std.proofs.lemmas.Bool.{le-leb, lt-leb, cases_lt}
-use Rattle.generators.specs.Captures.{capture_of}
-use Rattle.generators.specs.Text.{capture_text}
+use Rattle.generators.specs.Prelude.{capture_of, capture_text}
 use Rattle.generators.specs.declared.capture.Capture.{Capture}
 use Rattle.generators.specs.declared.capture.Capture.TheVariants.{Empty}
-use Rattle.app_events.specs.AppSpec.{AppState, Snapshot}
+use Rattle.app_events.specs.Prelude.{AppState, Snapshot}
 use Rattle.telnet_shell.specs.declared.command.Command.{Command}
 use Rattle.telnet_shell.specs.declared.command.Command.TheVariants.{Refuse, Help, Stats, Conns, Ticks, Quit, Blank, Other}
 use Rattle.telnet_shell.specs.Transcript.{behind, function_of, needs_capture, said_with, said_plainly, sent_at, transcript, unfinished}

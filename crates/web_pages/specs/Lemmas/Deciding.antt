@@ -7,8 +7,7 @@ use Rattle.std.proofs.lemmas.List.{drop-append-le, drop-drop, drop_at, length-ap
 use Rattle.std.proofs.lemmas.List.Folds.{list_any-append}
 use Rattle.protosocket.specs.declared.stops.Stops.{Stops}
 use Rattle.protosocket.specs.declared.stops.Stops.TheVariants.{Space, SpaceOrLine}
-use Rattle.protosocket.specs.Line.{is_stop, word_of}
-use Rattle.protosocket.specs.Lemmas.Hearing.{one_before, none_before, stop_fits}
+use Rattle.protosocket.specs.Prelude.{is_stop, word_of, one_before, none_before, stop_fits}
 use Rattle.web_pages.specs.Requests.{Wanted, wanted, wanted_by, has_ended, method_of, after_method, target_of}
 use Rattle.web_pages.specs.Requests.Wanted.{NotYet, Refused, Name}
 

@@ -1,14 +1,13 @@
 -- More request bytes and more captures only append to a page, and leave a whole one.
 use Rattle.std.proofs.Common.{◌≡◌, ◌≢◌, ℕ, true, false, List, [], ◌∷◌, ◌++◌, refl, sym, ap, ◌∙◌, append_assoc, append-nil, true≢false, if◌then◌else◌}
-use Rattle.site_image.specs.Files.{File}
-use Rattle.app_events.specs.AppSpec.{Snapshot}
-use Rattle.app_events.specs.Laws.{IsPrefixOf}
+use Rattle.site_image.specs.Prelude.{File}
+use Rattle.app_events.specs.Prelude.{Snapshot, IsPrefixOf}
 use Rattle.web_pages.specs.Requests.{Wanted, wanted}
 use Rattle.web_pages.specs.Requests.Wanted.{NotYet, Refused, Name}
 use Rattle.web_pages.specs.Pieces.{Say, reply_pieces_by}
 use Rattle.web_pages.specs.Pieces.Say.{Plain, Made}
 use Rattle.web_pages.specs.Pages.{made_by, text_by, reach_by, page_for_by, whole_for_by, page_by, is_whole_by}
-use Rattle.generators.specs.Giving.{Giving}
+use Rattle.generators.specs.Prelude.{Giving}
 use Rattle.web_pages.specs.Lemmas.Deciding.{more_by}
 
 -- ---- a call, by whether it takes a capture

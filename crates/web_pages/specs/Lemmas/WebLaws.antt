@@ -1,14 +1,12 @@
 -- The web server keeps the laws of an application, at every offset.
 use Rattle.std.proofs.Common.{◌≡◌, ℕ, ◌≤◌, ◌==◌, min, Bool, true, false, ◌&&◌, List, [], ◌∷◌, ◌++◌, length, drop, nat_lt, refl, ap, ◌∙◌, arith, append-nil, length-drop, if◌then◌else◌}
 use Rattle.std.proofs.lemmas.Bool.{ltb-true, eqb-true, and_parts}
-use Rattle.site_image.specs.Files.{File}
-use Rattle.app_events.specs.AppSpec.{AppState, Snapshot}
-use Rattle.app_events.specs.Laws.{IsLawful, StartsAnew, IsPrefixOf, Grows, CanSend}
-use Rattle.app_events.specs.Pages.{MayWant}
+use Rattle.site_image.specs.Prelude.{File}
+use Rattle.app_events.specs.Prelude.{AppState, Snapshot, IsLawful, StartsAnew, IsPrefixOf, Grows, CanSend, MayWant}
 use Rattle.app_events.specs.declared.want.Want.{Want}
 use Rattle.app_events.specs.declared.want.Want.TheVariants.{Nothing, Send, Close, Abort}
 use Rattle.web_pages.specs.Requests.{wanted}
-use Rattle.generators.specs.Giving.{Giving}
+use Rattle.generators.specs.Prelude.{Giving}
 use Rattle.web_pages.specs.Pages.{page_by, is_whole_by, pages_by}
 use Rattle.web_pages.specs.WebMeaning.{web_spec_by, web_want_by, is_acknowledged_by, waits_for_capture_by, left_of_by}
 use Rattle.web_pages.specs.Lemmas.Growing.{page_grows, same_prefix}

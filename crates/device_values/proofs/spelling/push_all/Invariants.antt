@@ -1,4 +1,4 @@
-use Rattle.std.proofs.Common.{◌≡◌, ◌++◌, take}
+use Rattle.device_values.proofs.Prelude.{◌≡◌, ◌++◌, take}
 use Rattle.device_values.proofs.spelling.push_all.Given as goal
 
 abbrev pub invariant-loop-byte : goal.invariant-loop-byte

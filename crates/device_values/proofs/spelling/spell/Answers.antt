@@ -1,5 +1,4 @@
-use Rattle.std.proofs.Common.{arith, ap, length}
-use Rattle.device_values.specs.Lemmas.Laws.{html_all_short, json_all_short}
+use Rattle.device_values.proofs.Prelude.{arith, ap, length, html_all_short, json_all_short}
 use Rattle.device_values.proofs.spelling.spell.Goals as goal
 
 pub returns-in-Json-clause-short : goal.returns-in-Json-clause-short

@@ -1,5 +1,4 @@
-use Rattle.std.proofs.Common.{arith}
-use Rattle.device_values.specs.Spellings.{html_byte}
+use Rattle.device_values.proofs.Prelude.{arith, html_byte}
 use Rattle.device_values.proofs.Spelt.{one_more}
 use Rattle.device_values.proofs.spelling.spell_html.Goals as goal
 

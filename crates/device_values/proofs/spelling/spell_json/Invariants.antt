@@ -1,5 +1,4 @@
-use Rattle.std.proofs.Common.{◌≡◌, ◌≤◌, ◌*◌, flat_map, length, take}
-use Rattle.device_values.specs.Spellings.{json_byte}
+use Rattle.device_values.proofs.Prelude.{◌≡◌, ◌≤◌, ◌*◌, flat_map, length, take, json_byte}
 use Rattle.device_values.proofs.spelling.spell_json.Given as goal
 
 abbrev pub invariant-loop-byte : goal.invariant-loop-byte

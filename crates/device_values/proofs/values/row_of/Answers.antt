@@ -1,5 +1,4 @@
-use Rattle.std.proofs.Common.{◌≡◌, ℕ, ◌+◌, ◌-◌, List, ◌∷◌, ◌++◌, length, replicate, drop, ap, ◌∙◌, arith}
-use Rattle.std.proofs.lemmas.List.{drop-replicate}
+use Rattle.device_values.proofs.Prelude.{◌≡◌, ℕ, ◌+◌, ◌-◌, List, ◌∷◌, ◌++◌, length, replicate, drop, ap, ◌∙◌, arith, drop-replicate}
 use borrow.Rule.Slice.PartMut.{post_of}
 use Rattle.device_values.proofs.values.row_of.Goals as goal
 

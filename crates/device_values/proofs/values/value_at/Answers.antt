@@ -1,7 +1,4 @@
-use Rattle.std.proofs.Common.{◌≡◌, ℕ, List, ◌+◌, ◌-◌, ◌*◌, ap, sym, ◌∙◌, arith, drop, get_or, min, take}
-use Rattle.std.specs.Prelude.{slice_range}
-use Rattle.std.proofs.lemmas.List.Elements.{All-drop, All-take}
-use Rattle.app_events.specs.Pages.{IsByte}
+use Rattle.device_values.proofs.Prelude.{◌≡◌, ℕ, List, ◌+◌, ◌-◌, ◌*◌, ap, sym, ◌∙◌, arith, drop, get_or, min, take, slice_range, All-drop, All-take, IsByte}
 use Rattle.device_values.proofs.Bytes.{low_same}
 use Rattle.device_values.proofs.values.value_at.Goals as goal
 

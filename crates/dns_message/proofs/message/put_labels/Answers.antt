@@ -1,7 +1,4 @@
-use Rattle.std.proofs.Common.{◌≡◌, ◌++◌, ◌∷◌, [], arith, ◌∙◌, ◌+◌, ◌-◌, sym, ap, length, length-drop, length-append, length-take, drop, take, append_assoc, append-nil}
-use Rattle.std.specs.List.{flat_map}
-use Rattle.std.proofs.lemmas.List.{take_rest}
-use Rattle.dns_message.specs.Names.{label_bytes, labels}
+use Rattle.dns_message.proofs.Prelude.{◌≡◌, ◌++◌, ◌∷◌, [], arith, ◌∙◌, ◌+◌, ◌-◌, sym, ap, length, length-drop, length-append, length-take, drop, take, append_assoc, append-nil, flat_map, take_rest, label_bytes, labels}
 use Rattle.dns_message.proofs.DotLaws.{cut, uncut}
 use Rattle.dns_message.proofs.message.put_labels.Goals as goal
 

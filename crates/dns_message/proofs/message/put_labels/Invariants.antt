@@ -1,6 +1,4 @@
-use Rattle.std.proofs.Common.{◌≡◌, ◌+◌, ◌++◌, length}
-use Rattle.std.specs.List.{flat_map}
-use Rattle.dns_message.specs.Names.{label_bytes, labels}
+use Rattle.dns_message.proofs.Prelude.{◌≡◌, ◌+◌, ◌++◌, length, flat_map, label_bytes, labels}
 use Rattle.dns_message.proofs.message.put_labels.Given as goal
 
 abbrev pub invariant-loop-dot : goal.invariant-loop-dot

@@ -1,4 +1,4 @@
-use Rattle.std.proofs.Common.{arith, ◌∙◌, sym, ap, length}
+use Rattle.dns_message.proofs.Prelude.{arith, ◌∙◌, sym, ap, length}
 use Rattle.dns_message.proofs.DotLaws.{dots_told}
 use Rattle.dns_message.proofs.name.has_dot.Goals as goal
 

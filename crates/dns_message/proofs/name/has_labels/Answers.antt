@@ -1,7 +1,4 @@
-use Rattle.std.proofs.Common.{arith, ◌∙◌, ◌+◌, ◌&&◌, sym, ap, length, drop, take}
-use Rattle.std.specs.List.{list_all}
-use Rattle.std.proofs.lemmas.List.{take_rest}
-use Rattle.dns_message.specs.Names.{is_label, labels}
+use Rattle.dns_message.proofs.Prelude.{arith, ◌∙◌, ◌+◌, ◌&&◌, sym, ap, length, drop, take, list_all, take_rest, is_label, labels}
 use Rattle.dns_message.proofs.DotLaws.{and_true, cut, uncut}
 use Rattle.dns_message.proofs.name.has_labels.Goals as goal
 

@@ -1,6 +1,4 @@
-use Rattle.std.proofs.Common.{◌≡◌, length}
-use Rattle.std.specs.List.{list_all}
-use Rattle.dns_message.specs.Names.{is_label, labels}
+use Rattle.dns_message.proofs.Prelude.{◌≡◌, length, list_all, is_label, labels}
 use Rattle.dns_message.proofs.name.has_labels.Given as goal
 
 abbrev pub invariant-loop-dot : goal.invariant-loop-dot

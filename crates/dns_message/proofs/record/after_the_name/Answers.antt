@@ -1,6 +1,4 @@
-use Rattle.std.proofs.Common.{ℕ, List, ◌-◌, arith, ◌∙◌, sym, ap, length, take, drop}
-use Rattle.std.proofs.lemmas.List.{take_rest}
-use Rattle.dns_message.specs.Names.{after_the_name}
+use Rattle.dns_message.proofs.Prelude.{ℕ, List, ◌-◌, arith, ◌∙◌, sym, ap, length, take, drop, take_rest, after_the_name}
 use Rattle.dns_message.proofs.RecordLaws.{cut_off, skipped, label_first}
 use Rattle.dns_message.proofs.record.after_the_name.Goals as goal
 

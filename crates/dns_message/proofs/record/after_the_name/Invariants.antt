@@ -1,5 +1,4 @@
-use Rattle.std.proofs.Common.{◌≡◌, length}
-use Rattle.dns_message.specs.Names.{after_the_name}
+use Rattle.dns_message.proofs.Prelude.{◌≡◌, length, after_the_name}
 use Rattle.dns_message.proofs.record.after_the_name.Given as goal
 
 abbrev pub invariant-loop-rest : goal.invariant-loop-rest

@@ -1,6 +1,4 @@
-use Rattle.std.proofs.Common.{Option, option_map, ◌+◌, ◌-◌, arith, ◌∙◌, sym, ap}
-use Rattle.uip_wire.specs.declared.addr.Addr.{Addr}
-use Rattle.dns_message.specs.Records.{plain_record}
+use Rattle.dns_message.proofs.Prelude.{Option, option_map, ◌+◌, ◌-◌, arith, ◌∙◌, sym, ap, Addr, plain_record}
 use Rattle.dns_message.proofs.RecordLaws.{none_left, not_address, other_first}
 use Rattle.dns_message.proofs.record.answer_of_records.Goals as goal
 

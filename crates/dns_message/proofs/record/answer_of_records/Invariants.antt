@@ -1,5 +1,4 @@
-use Rattle.std.proofs.Common.{◌≡◌, ◌-◌}
-use Rattle.dns_message.specs.Records.{answer_of_records}
+use Rattle.dns_message.proofs.Prelude.{◌≡◌, ◌-◌, answer_of_records}
 use Rattle.dns_message.proofs.record.answer_of_records.Given as goal
 
 abbrev pub invariant-loop-number : goal.invariant-loop-number

@@ -1,7 +1,4 @@
-use Rattle.std.proofs.Common.{[], ◌∙◌, set, ap, arith, get_or}
-use Rattle.std.proofs.lemmas.List.{get_or_default}
-use Rattle.std.proofs.lemmas.List.Edits.{map_over_more}
-use Rattle.ethernet_arp.specs.Table.{aged}
+use Rattle.ethernet_arp.proofs.Prelude.{[], ◌∙◌, set, ap, arith, get_or, get_or_default, map_over_more, aged}
 use Rattle.ethernet_arp.proofs.arp.grow_older.Goals as goal
 
 pub loop-at-preserved : goal.loop-at-preserved

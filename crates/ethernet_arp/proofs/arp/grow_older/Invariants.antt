@@ -1,5 +1,4 @@
-use Rattle.std.proofs.Common.{◌≡◌, ◌++◌, drop, map, take}
-use Rattle.ethernet_arp.specs.Table.{aged}
+use Rattle.ethernet_arp.proofs.Prelude.{◌≡◌, ◌++◌, drop, map, take, aged}
 use Rattle.ethernet_arp.proofs.arp.grow_older.Given as goal
 
 abbrev pub invariant-loop-at : goal.invariant-loop-at

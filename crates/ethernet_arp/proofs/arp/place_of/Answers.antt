@@ -1,7 +1,4 @@
-use Rattle.std.proofs.Common.{◌≡◌, ◌∙◌, [], sym, arith, length}
-use Rattle.std.proofs.lemmas.List.Sums.{position_or_len_is}
-use Rattle.ethernet_arp.specs.Table.{is_of}
-use Rattle.ethernet_arp.specs.declared.arp.Entry.{Entry}
+use Rattle.ethernet_arp.proofs.Prelude.{◌≡◌, ◌∙◌, [], sym, arith, length, position_or_len_is, is_of, Entry}
 use Rattle.ethernet_arp.proofs.arp.place_of.Goals as goal
 
 pub returns-then-is_of : goal.returns-then-is_of

@@ -1,6 +1,4 @@
-use Rattle.std.proofs.Common.{◌≡◌, ℕ, ◌<◌, get_or, false}
-use Rattle.ethernet_arp.specs.Table.{is_of}
-use Rattle.ethernet_arp.specs.declared.arp.Entry.{Entry}
+use Rattle.ethernet_arp.proofs.Prelude.{◌≡◌, ℕ, ◌<◌, get_or, false, is_of, Entry}
 use Rattle.ethernet_arp.proofs.arp.place_of.Given as goal
 
 abbrev pub invariant-loop-at : goal.invariant-loop-at

@@ -1,4 +1,4 @@
-use Rattle.std.proofs.Common.{◌≡◌, ◌≤◌, ◌∙◌, ◌+◌, ◌++◌, ap, arith, length, sym, take}
+use Rattle.ethernet_arp.proofs.Prelude.{◌≡◌, ◌≤◌, ◌∙◌, ◌+◌, ◌++◌, ap, arith, length, sym, take}
 use Rattle.ethernet_arp.proofs.PartLaws.{kept_full, kept_more}
 use Rattle.ethernet_arp.proofs.frame_part.keep.Goals as goal
 

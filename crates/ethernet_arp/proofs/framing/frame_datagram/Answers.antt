@@ -1,5 +1,4 @@
-use Rattle.ethernet_arp.specs.Frames.{wrapped}
-use Rattle.ethernet_arp.specs.Table.{host_of}
+use Rattle.ethernet_arp.proofs.Prelude.{wrapped, host_of}
 use Rattle.ethernet_arp.proofs.Bytes.{framed_is}
 use Rattle.ethernet_arp.proofs.framing.frame_datagram.Goals as goal
 

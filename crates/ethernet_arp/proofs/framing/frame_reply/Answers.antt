@@ -1,8 +1,4 @@
-use Rattle.std.proofs.Common.{◌≡◌, ◌∙◌, arith, ap, length, sym}
-use Rattle.uip_wire.specs.Fields.{written}
-use Rattle.ethernet_arp.specs.Frames.{arp_reply}
-use Rattle.ethernet_arp.specs.Learning.{Pair}
-use Rattle.ethernet_arp.specs.Table.{host_of}
+use Rattle.ethernet_arp.proofs.Prelude.{◌≡◌, ◌∙◌, arith, ap, length, sym, written, arp_reply, Pair, host_of}
 use Rattle.ethernet_arp.proofs.Bytes.{framed_is}
 use Rattle.ethernet_arp.proofs.framing.frame_reply.Goals as goal
 

@@ -1,4 +1,4 @@
-use Rattle.std.proofs.Common.{arith}
+use Rattle.ethernet_arp.proofs.Prelude.{arith}
 use Rattle.ethernet_arp.proofs.Bytes.{parts_are}
 use Rattle.ethernet_arp.proofs.packets.arp_frame.Goals as goal
 

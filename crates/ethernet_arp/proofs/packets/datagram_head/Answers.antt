@@ -1,4 +1,4 @@
-use Rattle.std.proofs.Common.{arith}
+use Rattle.ethernet_arp.proofs.Prelude.{arith}
 use Rattle.ethernet_arp.proofs.Bytes.{head_is}
 use Rattle.ethernet_arp.proofs.packets.datagram_head.Goals as goal
 

@@ -1,5 +1,4 @@
-use Rattle.std.proofs.Common.{length}
-use Rattle.std.proofs.lemmas.List.{length-take-le}
+use Rattle.ethernet_arp.proofs.Prelude.{length, length-take-le}
 use Rattle.ethernet_arp.proofs.packets.put_prefix.Goals as goal
 
 pub copy_from_slice-requires : goal.copy_from_slice-requires

@@ -1,6 +1,4 @@
-use Rattle.std.proofs.Common.{ap, sym, subst, ◌≡◌}
-use Rattle.ethernet_arp.specs.Table.{Knows, host_of}
-use Rattle.ethernet_arp.specs.declared.arp.Arp.{Arp}
+use Rattle.ethernet_arp.proofs.Prelude.{ap, sym, subst, ◌≡◌, Knows, host_of, Arp}
 use Rattle.ethernet_arp.proofs.ServingLaws.{serves_told}
 use Rattle.ethernet_arp.proofs.TableLaws.{knows_same}
 use Rattle.ethernet_arp.proofs.serving.serve_ether.Goals as goal

@@ -1,10 +1,4 @@
-use Rattle.std.proofs.Common.{◌≡◌, ◌||◌, true, if◌then◌else◌, List, ℕ, [], drop, take, length, ◌-◌, subst, ap, sym, ◌∙◌}
-use Rattle.std.proofs.lemmas.List.{take_rest}
-use Rattle.std.specs.Str.{bytes_eq}
-use Rattle.uip_wire.specs.Fields.{word_at}
-use Rattle.ethernet_arp.specs.Frames.{broadcast, mac_at, payload_brings}
-use Rattle.ethernet_arp.specs.Table.{host_of}
-use Rattle.ethernet_arp.specs.Taking.{came_of}
+use Rattle.ethernet_arp.proofs.Prelude.{◌≡◌, ◌||◌, true, if◌then◌else◌, List, ℕ, [], drop, take, length, ◌-◌, subst, ap, sym, ◌∙◌, take_rest, bytes_eq, word_at, broadcast, mac_at, payload_brings, host_of, came_of}
 use Rattle.ethernet_arp.proofs.taking.sort.Goals as goal
 
 pub returns-then-is_for-clause-decodes : goal.returns-then-is_for-clause-decodes

@@ -1,10 +1,4 @@
-use Rattle.std.proofs.Common.{◌≡◌, ◌++◌, List, Some, length, length-drop, refl, arith, ap, sym, ◌∙◌, subst}
-use Rattle.line_medium.specs.Media.{MediumInput, acts_among}
-use Rattle.ethernet_arp.specs.Frames.{Host, arp_reply}
-use Rattle.ethernet_arp.specs.Learning.{Act, Asked, Pair, Replied}
-use Rattle.ethernet_arp.specs.Table.{Knows, in_table}
-use Rattle.ethernet_arp.specs.Taking.{IsTaught}
-use Rattle.ethernet_arp.specs.declared.arp.Arp.{Arp}
+use Rattle.ethernet_arp.proofs.Prelude.{◌≡◌, ◌++◌, List, Some, length, length-drop, refl, arith, ap, sym, ◌∙◌, subst, MediumInput, acts_among, Host, arp_reply, Act, Asked, Pair, Replied, Knows, in_table, IsTaught, Arp}
 use Rattle.ethernet_arp.proofs.taking.take.Goals as goal
 
 pub returns-in-Datagram-clause-told : goal.returns-in-Datagram-clause-told

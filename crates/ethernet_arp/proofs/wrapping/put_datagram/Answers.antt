@@ -1,5 +1,4 @@
-use Rattle.std.proofs.Common.{◌∙◌, ap, arith}
-use Rattle.uip_wire.specs.Fields.{written}
+use Rattle.ethernet_arp.proofs.Prelude.{◌∙◌, ap, arith, written}
 use Rattle.ethernet_arp.proofs.Bytes.{frame_is}
 use Rattle.ethernet_arp.proofs.wrapping.put_datagram.Goals as goal
 

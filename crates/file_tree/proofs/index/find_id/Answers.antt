@@ -1,9 +1,4 @@
-use Rattle.std.proofs.Common.{[], Some, sym, ap, ◌∙◌}
-use Rattle.std.specs.Prelude.{option_map}
-use Rattle.std.proofs.lemmas.Option.{slice_get-get_or}
-use Rattle.site_image.specs.Files.{File}
-use Rattle.site_image.specs.Places.{files_in}
-use Rattle.file_tree.specs.Index.{id_at}
+use Rattle.file_tree.proofs.Prelude.{[], Some, sym, ap, ◌∙◌, option_map, slice_get-get_or, File, files_in, id_at}
 use Rattle.file_tree.proofs.OrderLemmas.{found-name, slot-fresh}
 use Rattle.file_tree.proofs.NamedLemmas.{named-get, named-nowhere}
 use Rattle.file_tree.proofs.index.find_id.Goals as goal

@@ -1,9 +1,4 @@
-use Rattle.std.proofs.Common.{◌≡◌, ℕ, List, ◌+◌, ◌-◌, ◌/◌, ap, sym, ◌∙◌, arith}
-use Rattle.std.specs.Ordering.{nat_cmp}
-use Rattle.std.specs.Cmp.Lexicographic.{slice_cmp}
-use Rattle.std.specs.declared.cmp.Ordering.{Ordering}
-use Rattle.site_image.specs.Places.{files_in}
-use Rattle.file_tree.specs.Index.{name_at}
+use Rattle.file_tree.proofs.Prelude.{◌≡◌, ℕ, List, ◌+◌, ◌-◌, ◌/◌, ap, sym, ◌∙◌, arith, nat_cmp, slice_cmp, Ordering, files_in, name_at}
 use Rattle.file_tree.proofs.NameLemmas.{before-from-greater, same-from-equal}
 use Rattle.file_tree.proofs.SearchLemmas.{search-above, search-below}
 use Rattle.file_tree.proofs.index.search.Goals as goal

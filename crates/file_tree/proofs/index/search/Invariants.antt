@@ -1,5 +1,4 @@
-use Rattle.std.proofs.Common.{◌-◌}
-use Rattle.site_image.specs.Places.{files_in}
+use Rattle.file_tree.proofs.Prelude.{◌-◌, files_in}
 use Rattle.file_tree.proofs.SearchLemmas.{Searches}
 use Rattle.file_tree.proofs.index.search.Given as goal
 

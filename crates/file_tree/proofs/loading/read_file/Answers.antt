@@ -1,5 +1,4 @@
-use Rattle.std.proofs.Common.{drop, arith, ◌∙◌}
-use Rattle.std.proofs.lemmas.List.{length-take}
+use Rattle.file_tree.proofs.Prelude.{drop, arith, ◌∙◌, length-take}
 use Rattle.file_tree.proofs.LoadLemmas.{loading-stops, loading-full, loading-more}
 use Rattle.file_tree.proofs.loading.read_file.Goals as goal
 use Rattle.file_tree.proofs.loading.read_file.Goals.{else-loop-block-test, then-loop-block-test+in-Ok+then-count-eq0}

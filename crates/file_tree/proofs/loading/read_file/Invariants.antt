@@ -1,4 +1,4 @@
-use Rattle.std.proofs.Common.{◌-◌, ◌+◌}
+use Rattle.file_tree.proofs.Prelude.{◌-◌, ◌+◌}
 use Rattle.file_tree.proofs.LoadLemmas.{Loading}
 use Rattle.file_tree.proofs.loading.read_file.Given as goal
 

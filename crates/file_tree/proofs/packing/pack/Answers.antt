@@ -1,14 +1,4 @@
-use Rattle.std.proofs.Common.{◌≡◌, ◌≤◌, [], length, Ok, Err, ap, sym, subst, ◌∙◌, arith}
-use Rattle.std.proofs.lemmas.Result.{err_from_is_err_and}
-use Rattle.std.proofs.lemmas.List.{length-map}
-use Rattle.site_image.specs.declared.TheConstants.{LONGEST_IMAGE, MOST_FILES}
-use Rattle.site_image.specs.declared.version.Version.TheVariants.{One}
-use Rattle.site_image.specs.Grammar.{image}
-use Rattle.site_image.specs.Faults.{scripts, read_image}
-use Rattle.site_image.specs.Places.{files_in}
-use Rattle.file_tree.specs.Answers.{Fails}
-use Rattle.uip_edge.specs.Shelving.{HeldFile}
-use Rattle.file_tree.specs.Packing.{file_of, listed, named, packed}
+use Rattle.file_tree.proofs.Prelude.{◌≡◌, ◌≤◌, [], length, Ok, Err, ap, sym, subst, ◌∙◌, arith, err_from_is_err_and, length-map, LONGEST_IMAGE, MOST_FILES, One, image, scripts, read_image, files_in, Fails, HeldFile, file_of, listed, named, packed}
 use Rattle.file_tree.proofs.PackLemmas.{fine}
 use Rattle.file_tree.proofs.PackedLemmas.{packed-long, packed-many, packed-names, packed-scripts, packed-reads, are-listed}
 use Rattle.file_tree.proofs.ReadLemmas.{gives-fault, gives-same}

@@ -1,6 +1,4 @@
-use Rattle.std.proofs.Common.{◌+◌, arith}
-use Rattle.site_image.specs.declared.version.Version.TheVariants.{One}
-use Rattle.file_tree.specs.Packing.{listed}
+use Rattle.file_tree.proofs.Prelude.{◌+◌, arith, One, listed}
 use Rattle.file_tree.proofs.SizeLemmas.{size-more, image-size, entries-le}
 use Rattle.file_tree.proofs.packing.packed_len.Goals as goal
 

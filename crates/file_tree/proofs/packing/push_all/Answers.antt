@@ -1,11 +1,4 @@
-use Rattle.std.proofs.Common.{◌+◌, [], length, subst, sym, arith}
-use Rattle.std.proofs.lemmas.Result.{err_from_is_err_and}
-use Rattle.std.proofs.lemmas.List.{length-map}
-use Rattle.site_image.specs.Faults.{unless}
-use Rattle.site_image.specs.Places.{files_in}
-use Rattle.file_tree.specs.Answers.{Fails}
-use Rattle.uip_edge.specs.Shelving.{HeldFile}
-use Rattle.file_tree.specs.Packing.{file_of, listed, listed_fault, named}
+use Rattle.file_tree.proofs.Prelude.{◌+◌, [], length, subst, sym, arith, err_from_is_err_and, length-map, unless, files_in, Fails, HeldFile, file_of, listed, listed_fault, named}
 use Rattle.file_tree.proofs.PackLemmas.{fine, room-at, more-at, fail-at, packs-end}
 use Rattle.file_tree.proofs.ReadLemmas.{gives-same}
 use Rattle.file_tree.proofs.packing.push_all.Goals as goal

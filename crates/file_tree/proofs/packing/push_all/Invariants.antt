@@ -1,4 +1,4 @@
-use Rattle.file_tree.specs.Packing.{listed}
+use Rattle.file_tree.proofs.Prelude.{listed}
 use Rattle.file_tree.proofs.PackLemmas.{Packs}
 use Rattle.file_tree.proofs.packing.push_all.Given as goal
 

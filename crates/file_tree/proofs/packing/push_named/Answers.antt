@@ -1,10 +1,4 @@
-use Rattle.std.proofs.Common.{◌≡◌, ◌++◌, ◌∷◌, [], sym, ap, subst, ◌∙◌}
-use Rattle.std.specs.List.{insert}
-use Rattle.site_image.specs.declared.version.Version.TheVariants.{One}
-use Rattle.site_image.specs.Grammar.{entry}
-use Rattle.site_image.specs.Places.{files_in}
-use Rattle.file_tree.specs.Index.{IsSlot, IsIndex}
-use Rattle.file_tree.specs.Packing.{file_of}
+use Rattle.file_tree.proofs.Prelude.{◌≡◌, ◌++◌, ◌∷◌, [], sym, ap, subst, ◌∙◌, insert, One, entry, files_in, IsSlot, IsIndex, file_of}
 use Rattle.file_tree.proofs.GrowLemmas.{table-push}
 use Rattle.file_tree.proofs.packing.push_named.Goals as goal
 use Rattle.file_tree.proofs.packing.push_named.Goals.{In_ok-push}

@@ -1,5 +1,4 @@
-use Rattle.std.proofs.Common.{sym, ◌∙◌}
-use Rattle.site_image.specs.Places.{files_in}
+use Rattle.file_tree.proofs.Prelude.{sym, ◌∙◌, files_in}
 use Rattle.file_tree.proofs.OrderLemmas.{found-name, slot-fresh}
 use Rattle.file_tree.proofs.ListLemmas.{name-twice, name-sound}
 use Rattle.file_tree.proofs.packing.slot_of.Goals as goal

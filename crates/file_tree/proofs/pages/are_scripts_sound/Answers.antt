@@ -1,4 +1,4 @@
-use Rattle.std.proofs.Common.{arith, refl}
+use Rattle.file_tree.proofs.Prelude.{arith, refl}
 use Rattle.file_tree.proofs.FitLemmas.{sound-goes-on, sound-ends, sound-fails}
 use Rattle.file_tree.proofs.pages.are_scripts_sound.Goals as goal
 

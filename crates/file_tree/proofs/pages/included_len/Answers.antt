@@ -1,7 +1,4 @@
-use Rattle.std.proofs.Common.{◌<◌, length, arith}
-use Rattle.std.proofs.lemmas.List.{length-map}
-use Rattle.site_image.specs.Places.{file_in, files_in}
-use Rattle.file_tree.specs.Index.{id_at}
+use Rattle.file_tree.proofs.Prelude.{◌<◌, length, arith, length-map, file_in, files_in, id_at}
 use Rattle.file_tree.proofs.OrderLemmas.{found-name, slot-fresh}
 use Rattle.file_tree.proofs.NamedLemmas.{named-length, place-at}
 use Rattle.file_tree.proofs.pages.included_len.Goals as goal

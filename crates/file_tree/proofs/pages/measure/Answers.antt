@@ -1,4 +1,4 @@
-use Rattle.std.proofs.Common.{arith}
+use Rattle.file_tree.proofs.Prelude.{arith}
 use Rattle.file_tree.proofs.MeasureLemmas.{measuring-goes-on, measuring-fails, measuring-ends, measuring-measured}
 use Rattle.file_tree.proofs.pages.measure.Goals as goal
 

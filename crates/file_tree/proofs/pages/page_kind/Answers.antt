@@ -1,4 +1,4 @@
-use Rattle.std.proofs.Common.{length, ap, arith}
+use Rattle.file_tree.proofs.Prelude.{length, ap, arith}
 use Rattle.file_tree.proofs.KindLemmas.{kind-short}
 use Rattle.file_tree.proofs.pages.page_kind.Goals as goal
 

@@ -1,5 +1,4 @@
-use Rattle.std.proofs.Common.{◌-◌, length}
-use Rattle.site_image.specs.Places.{files_in}
+use Rattle.file_tree.proofs.Prelude.{◌-◌, length, files_in}
 use Rattle.file_tree.proofs.ScriptLemmas.{Measures}
 use Rattle.file_tree.proofs.pages.script_len.Given as goal
 

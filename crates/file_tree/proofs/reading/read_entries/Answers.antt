@@ -1,7 +1,4 @@
-use Rattle.std.proofs.Common.{◌∙◌, ◌+◌, drop, ap, sym, subst, arith}
-use Rattle.std.specs.List.{insert}
-use Rattle.site_image.specs.Faults.{entry_fault}
-use Rattle.site_image.specs.Places.{files_in}
+use Rattle.file_tree.proofs.Prelude.{◌∙◌, ◌+◌, drop, ap, sym, subst, arith, insert, entry_fault, files_in}
 use Rattle.file_tree.proofs.TableLemmas.{Reading, reading-goes-on, reading-fails, reading-ends, entry-seen}
 use Rattle.file_tree.proofs.reading.read_entries.Goals as goal
 

@@ -1,4 +1,4 @@
-use Rattle.std.specs.Prelude.{◌≤◌, vec_capacity}
+use Rattle.file_tree.proofs.Prelude.{◌≤◌, vec_capacity}
 use Rattle.file_tree.proofs.TableLemmas.{Reading}
 use Rattle.file_tree.proofs.reading.read_entries.Given as goal
 

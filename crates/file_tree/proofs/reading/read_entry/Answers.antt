@@ -1,10 +1,4 @@
-use Rattle.std.proofs.Common.{◌≡◌, ◌+◌, drop, ap, sym, subst, ◌∙◌, false, Some}
-use Rattle.std.specs.Prelude.{slice_range}
-use Rattle.std.proofs.lemmas.Result.{err_from_is_err_and}
-use Rattle.site_image.specs.Files.{has_name}
-use Rattle.site_image.specs.Parts.{text, after_text, kind_given, after_kind}
-use Rattle.site_image.specs.Places.{IsPart, files_in}
-use Rattle.file_tree.specs.Reading.{IsEntry}
+use Rattle.file_tree.proofs.Prelude.{◌≡◌, ◌+◌, drop, ap, sym, subst, ◌∙◌, false, Some, slice_range, err_from_is_err_and, has_name, text, after_text, kind_given, after_kind, IsPart, files_in, IsEntry}
 use Rattle.file_tree.proofs.OrderLemmas.{found-name, slot-fresh}
 use Rattle.file_tree.proofs.EntryLemmas.{fault-twice, fault-kind, fault-content, entry-by-parts}
 use Rattle.file_tree.proofs.reading.read_entry.Goals as goal

@@ -1,13 +1,5 @@
-use Rattle.std.proofs.Common.{◌≡◌, [], List, ◌++◌, length, take, drop, Ok, Err, ap, sym, subst, ◌∙◌, arith}
-use Rattle.std.proofs.lemmas.Result.{err_from_is_err_and}
-use Rattle.std.proofs.lemmas.List.{take_at, length-drop, length-map}
-use Rattle.site_image.specs.declared.place.Place.{Place}
-use Rattle.site_image.specs.Faults.{entries, scripts, read_image}
-use Rattle.site_image.specs.Places.{file_in, files_in}
-use Rattle.file_tree.specs.Answers.{Fails}
-use Rattle.file_tree.specs.Index.{IsIndex, AreMeasured}
+use Rattle.file_tree.proofs.Prelude.{◌≡◌, [], List, ◌++◌, length, take, drop, Ok, Err, ap, sym, subst, ◌∙◌, arith, err_from_is_err_and, take_at, length-drop, length-map, Place, entries, scripts, read_image, file_in, files_in, Fails, IsIndex, AreMeasured, image-reads}
 use Rattle.file_tree.proofs.ReadLemmas.{read-at-head, read-at-entries, read-at-rest, read-at-end, image-files-are, gives-fault, gives-same}
-use Rattle.site_image.proofs.ImageLaws.{image-reads}
 use Rattle.file_tree.proofs.GoodLemmas.{image-good, image-apart}
 use Rattle.file_tree.proofs.reading.read_table.Goals as goal
 use Rattle.file_tree.proofs.reading.read_table.Goals.{In_ok-measure}

@@ -1,6 +1,4 @@
-use Rattle.std.proofs.Common.{sym}
-use Rattle.std.specs.Prelude.{slice_get}
-use Rattle.file_tree.specs.Site.{files_of}
+use Rattle.file_tree.proofs.Prelude.{sym, slice_get, files_of}
 use Rattle.file_tree.proofs.GoodLemmas.{chosen-by-word, chosen-by-own}
 use Rattle.file_tree.proofs.upgrading.chosen_kind.Goals as goal
 

@@ -1,4 +1,4 @@
-use Rattle.file_tree.specs.Site.{files_of}
+use Rattle.file_tree.proofs.Prelude.{files_of}
 use Rattle.file_tree.proofs.GoodLemmas.{retyped-by-parts}
 use Rattle.file_tree.proofs.upgrading.new_file.Goals as goal
 

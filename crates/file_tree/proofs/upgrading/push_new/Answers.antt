@@ -1,9 +1,4 @@
-use Rattle.std.proofs.Common.{◌≡◌, ◌++◌, ◌∷◌, [], sym, ap, subst, ◌∙◌}
-use Rattle.site_image.specs.declared.version.Version.TheVariants.{Two}
-use Rattle.site_image.specs.Grammar.{entry}
-use Rattle.site_image.specs.Places.{files_in}
-use Rattle.site_image.specs.Files.{File}
-use Rattle.file_tree.specs.Index.{AreWithin}
+use Rattle.file_tree.proofs.Prelude.{◌≡◌, ◌++◌, ◌∷◌, [], sym, ap, subst, ◌∙◌, Two, entry, files_in, File, AreWithin}
 use Rattle.file_tree.proofs.GrowLemmas.{file-push}
 use Rattle.file_tree.proofs.upgrading.push_new.Goals as goal
 use Rattle.file_tree.proofs.upgrading.push_new.Goals.{In_ok-push}

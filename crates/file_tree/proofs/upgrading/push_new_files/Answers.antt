@@ -1,15 +1,4 @@
-use Rattle.std.proofs.Common.{subst, sym, arith}
-use Rattle.std.specs.Prelude.{nat_lt, length, IfErr}
-use Rattle.std.proofs.lemmas.Result.{err_from_is_err_and}
-use Rattle.site_image.specs.declared.TheConstants.{LONGEST_IMAGE}
-use Rattle.site_image.specs.declared.site_error.SiteWhy.TheVariants.{TooLong}
-use Rattle.site_image.specs.declared.version.Version.TheVariants.{Two}
-use Rattle.site_image.specs.Files.{File}
-use Rattle.site_image.specs.Grammar.{image}
-use Rattle.site_image.specs.Faults.{refuse}
-use Rattle.file_tree.specs.Answers.{Fails}
-use Rattle.file_tree.specs.Site.{files_of}
-use Rattle.file_tree.specs.Upgrading.{upgraded}
+use Rattle.file_tree.proofs.Prelude.{subst, sym, arith, nat_lt, length, IfErr, err_from_is_err_and, LONGEST_IMAGE, TooLong, Two, File, image, refuse, Fails, files_of, upgraded}
 use Rattle.file_tree.proofs.GoodLemmas.{upgraded-good}
 use Rattle.file_tree.proofs.UpgradeLemmas.{Upgraded, upgrades-start, upgrades-more, upgrades-long, upgrades-end}
 use Rattle.file_tree.proofs.upgrading.push_new_files.Goals as goal

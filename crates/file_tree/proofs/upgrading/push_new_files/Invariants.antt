@@ -1,5 +1,4 @@
-use Rattle.file_tree.specs.Site.{files_of}
-use Rattle.file_tree.specs.Upgrading.{upgraded}
+use Rattle.file_tree.proofs.Prelude.{files_of, upgraded}
 use Rattle.file_tree.proofs.UpgradeLemmas.{Upgrades}
 use Rattle.file_tree.proofs.upgrading.push_new_files.Given as goal
 

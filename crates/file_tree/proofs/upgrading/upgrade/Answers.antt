@@ -1,17 +1,4 @@
-use Rattle.std.proofs.Common.{◌≡◌, ◌≤◌, length, Ok, Err, ap, sym, subst, ◌∙◌, arith}
-use Rattle.std.specs.Prelude.{nat_lt}
-use Rattle.std.proofs.lemmas.Result.{err_from_is_err_and}
-use Rattle.std.proofs.lemmas.List.{length-map}
-use Rattle.site_image.specs.declared.TheConstants.{LONGEST_IMAGE}
-use Rattle.site_image.specs.declared.site_error.SiteWhy.TheVariants.{TooLong}
-use Rattle.site_image.specs.declared.version.Version.TheVariants.{Two}
-use Rattle.site_image.specs.Grammar.{image}
-use Rattle.site_image.specs.Faults.{refuse, scripts, read_image}
-use Rattle.site_image.specs.Places.{file_in, files_in}
-use Rattle.file_tree.specs.Answers.{Fails}
-use Rattle.file_tree.specs.Index.{IsIndex}
-use Rattle.file_tree.specs.Site.{SiteContent, IsLoaded, files_of}
-use Rattle.file_tree.specs.Upgrading.{upgraded, second_image}
+use Rattle.file_tree.proofs.Prelude.{◌≡◌, ◌≤◌, length, Ok, Err, ap, sym, subst, ◌∙◌, arith, nat_lt, err_from_is_err_and, length-map, LONGEST_IMAGE, TooLong, Two, image, refuse, scripts, read_image, file_in, files_in, Fails, IsIndex, SiteContent, IsLoaded, files_of, upgraded, second_image}
 use Rattle.file_tree.proofs.UpgradeLemmas.{table-upgraded, second-long, second-scripts, second-reads}
 use Rattle.file_tree.proofs.ReadLemmas.{gives-fault, gives-same}
 use Rattle.file_tree.proofs.upgrading.upgrade.Goals as goal

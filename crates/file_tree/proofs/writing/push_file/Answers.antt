@@ -1,8 +1,4 @@
-use Rattle.std.proofs.Common.{◌++◌, length, ap, ◌∙◌}
-use Rattle.site_image.specs.Files.{File}
-use Rattle.site_image.specs.Grammar.{entry}
-use Rattle.site_image.specs.Places.{file_in}
-use Rattle.file_tree.specs.Packing.{place_after}
+use Rattle.file_tree.proofs.Prelude.{◌++◌, length, ap, ◌∙◌, File, entry, file_in, place_after}
 use Rattle.file_tree.proofs.WriteLemmas.{written}
 use Rattle.file_tree.proofs.writing.push_file.Goals as goal
 

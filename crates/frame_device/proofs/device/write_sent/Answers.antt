@@ -1,5 +1,4 @@
-use Rattle.std.proofs.Common.{ap, take}
-use Rattle.std.specs.Option.{is_some}
+use Rattle.frame_device.proofs.Prelude.{ap, take, is_some}
 use Rattle.frame_device.proofs.HereLaws.{none_said, some_said}
 use Rattle.frame_device.proofs.device.write_sent.Goals as goal
 

@@ -1,10 +1,4 @@
-use Rattle.std.proofs.Common.{◌≡◌, ◌∷◌, ◌∙◌, [], arith, ap, drop, length, length-drop, length-take, take}
-use Rattle.std.proofs.lemmas.List.{drop-take}
-use Rattle.uip_wire.specs.Fields.{written}
-use Rattle.line_medium.specs.Media.{Datagram}
-use Rattle.ethernet_arp.specs.Frames.{arp_reply}
-use Rattle.ethernet_arp.specs.Learning.{Asked}
-use Rattle.ethernet_arp.specs.Table.{host_of}
+use Rattle.frame_device.proofs.Prelude.{◌≡◌, ◌∷◌, ◌∙◌, [], arith, ap, drop, length, length-drop, length-take, take, drop-take, written, Datagram, arp_reply, Asked, host_of}
 use Rattle.frame_device.proofs.EtherLaws.{brings_payload, prefix_of, is_silent}
 use Rattle.frame_device.proofs.ether.take_whole.Goals as goal
 

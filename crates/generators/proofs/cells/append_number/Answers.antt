@@ -1,5 +1,4 @@
-use Rattle.std.proofs.Common.{◌∙◌, ◌++◌, ap, sym, take}
-use Rattle.std.proofs.lemmas.Fmt.{decimal_digit}
+use Rattle.generators.proofs.Prelude.{◌∙◌, ◌++◌, ap, sym, take, decimal_digit}
 use Rattle.generators.proofs.cells.append_number.Goals as goal
 
 pub returns-then-number-lt10-clause-text : goal.returns-then-number-lt10-clause-text

@@ -1,6 +1,5 @@
 -- The parts are appended one after another.
-use Rattle.std.proofs.Common.{[]}
-use Rattle.generators.specs.Text.{row_parts}
+use Rattle.generators.proofs.Prelude.{[], row_parts}
 use Rattle.generators.proofs.Joining.{joined_is}
 use Rattle.generators.proofs.cells.row_into.Goals as goal
 

@@ -1,4 +1,4 @@
-use Rattle.generators.specs.Lemmas.Lengths.{texts_short}
+use Rattle.generators.proofs.Prelude.{texts_short}
 use Rattle.generators.proofs.laws.texts_are_short.Goals as goal
 
 pub returns : goal.returns

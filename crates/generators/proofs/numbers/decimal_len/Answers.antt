@@ -1,5 +1,5 @@
 -- One, two or three digits.
-use Rattle.generators.specs.Lemmas.Lengths.{one_digit, three_digits, two_digits}
+use Rattle.generators.proofs.Prelude.{one_digit, three_digits, two_digits}
 use Rattle.generators.proofs.numbers.decimal_len.Goals as goal
 
 pub returns-then-number-lt10-clause-length : goal.returns-then-number-lt10-clause-length

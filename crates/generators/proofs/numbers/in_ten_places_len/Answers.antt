@@ -1,6 +1,5 @@
 -- Ten places.
-use Rattle.std.proofs.Common.{arith, sym}
-use Rattle.generators.specs.Lemmas.Lengths.{in_ten}
+use Rattle.generators.proofs.Prelude.{arith, sym, in_ten}
 use Rattle.generators.proofs.numbers.in_ten_places_len.Goals as goal
 
 pub returns-clause-length : goal.returns-clause-length

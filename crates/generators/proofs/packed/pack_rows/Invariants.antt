@@ -1,5 +1,4 @@
-use Rattle.std.proofs.Common.{◌≡◌, ◌≤◌, length, map, take}
-use Rattle.generators.specs.Packed.{row_in}
+use Rattle.generators.proofs.Prelude.{◌≡◌, ◌≤◌, length, map, take, row_in}
 use Rattle.generators.proofs.packed.pack_rows.Given as goal
 
 abbrev pub invariant-loop-place : goal.invariant-loop-place

@@ -1,5 +1,5 @@
 -- The buffer holds what there is of the longer text.
-use Rattle.std.proofs.Common.{arith}
+use Rattle.generators.proofs.Prelude.{arith}
 use Rattle.generators.proofs.parts.put.Goals as goal
 use Rattle.generators.proofs.Pasting.{put_holds}
 

@@ -1,4 +1,4 @@
-use Rattle.std.proofs.Common.{◌≡◌, ◌≤◌, length, take}
+use Rattle.generators.proofs.Prelude.{◌≡◌, ◌≤◌, length, take}
 use Rattle.generators.proofs.rows.copy_rows.Given as goal
 
 abbrev pub invariant-loop-row : goal.invariant-loop-row

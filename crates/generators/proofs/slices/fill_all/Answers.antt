@@ -1,4 +1,4 @@
-use Rattle.std.proofs.Common.{[], flat_map}
+use Rattle.generators.proofs.Prelude.{[], flat_map}
 use Rattle.generators.proofs.Filling.{filled, none_held}
 use Rattle.generators.proofs.slices.fill_all.Goals as goal
 

@@ -1,5 +1,4 @@
-use Rattle.std.proofs.Common.{[]}
-use Rattle.generators.specs.Text.{in_ten_places}
+use Rattle.generators.proofs.Prelude.{[], in_ten_places}
 use Rattle.generators.proofs.Filling.{filled, none_held}
 use Rattle.generators.proofs.slices.fill_number.Goals as goal
 

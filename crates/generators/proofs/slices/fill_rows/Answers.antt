@@ -1,4 +1,4 @@
-use Rattle.std.proofs.Common.{◌+◌, ◌≤◌, List, ℕ, ◌≡◌, ap, drop, length, subst, sym, take, ◌∙◌}
+use Rattle.generators.proofs.Prelude.{◌+◌, ◌≤◌, List, ℕ, ◌≡◌, ap, drop, length, subst, sym, take, ◌∙◌}
 use Rattle.generators.proofs.Packing.{packed_text}
 use Rattle.generators.proofs.slices.fill_rows.Goals as goal
 

@@ -1,4 +1,4 @@
-use Rattle.std.proofs.Common.{ap, length, ◌∙◌}
+use Rattle.generators.proofs.Prelude.{ap, length, ◌∙◌}
 use Rattle.generators.proofs.Packing.{packed_text}
 use Rattle.generators.proofs.slices.rows_len.Goals as goal
 

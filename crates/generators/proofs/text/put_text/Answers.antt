@@ -1,6 +1,6 @@
 -- The text of each kind of record.
 -- [add: function] The arm of its capture record.
-use Rattle.std.proofs.Common.{[]}
+use Rattle.generators.proofs.Prelude.{[]}
 use Rattle.generators.proofs.text.put_text.Goals as goal
 
 pub returns-in-Hits-clause-part : goal.returns-in-Hits-clause-part

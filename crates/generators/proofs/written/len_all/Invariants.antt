@@ -1,5 +1,5 @@
 -- The lengths so far.
-use Rattle.std.proofs.Common.{◌≡◌, ◌*◌, ◌≤◌, flat_map, length, take}
+use Rattle.generators.proofs.Prelude.{◌≡◌, ◌*◌, ◌≤◌, flat_map, length, take}
 use Rattle.generators.proofs.written.len_all.Given as goal
 
 abbrev pub invariant-loop-item : goal.invariant-loop-item

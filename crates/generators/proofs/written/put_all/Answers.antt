@@ -1,6 +1,5 @@
 -- One thing more.
-use Rattle.std.proofs.Common.{ℕ, List, ◌++◌, ◌≡◌, ◌≤◌, ◌+◌, ◌*◌, arith, flat_map, length, length-append, take, sym, ap, ◌∙◌}
-use Rattle.std.proofs.Math.Nat.{mul-le-mul_left}
+use Rattle.generators.proofs.Prelude.{ℕ, List, ◌++◌, ◌≡◌, ◌≤◌, ◌+◌, ◌*◌, arith, flat_map, length, length-append, take, sym, ap, ◌∙◌, mul-le-mul_left}
 use Rattle.generators.proofs.written.put_all.Goals as goal
 use Rattle.generators.proofs.Pasting.{flat_map_next, holds_joined}
 

@@ -1,5 +1,4 @@
-use Rattle.std.proofs.Common.{◌≡◌, ◌+◌, ◌*◌, ◌≤◌, ◌++◌, ℕ, List, flat_map, length, take}
-use Rattle.generators.specs.Parts.{HoldsPart}
+use Rattle.generators.proofs.Prelude.{◌≡◌, ◌+◌, ◌*◌, ◌≤◌, ◌++◌, ℕ, List, flat_map, length, take, HoldsPart}
 use Rattle.generators.proofs.written.put_all.Given as goal
 
 abbrev pub invariant-loop-item : goal.invariant-loop-item

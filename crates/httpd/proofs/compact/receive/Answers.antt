@@ -1,5 +1,4 @@
-use Rattle.std.proofs.Common.{◌++◌, subst}
-use Rattle.httpd.specs.Compact.{HearsWord}
+use Rattle.httpd.proofs.Prelude.{◌++◌, subst, HearsWord}
 use Rattle.httpd.proofs.Compacting.{heard_as}
 use Rattle.httpd.proofs.compact.receive.Goals.{else-target, then-target}
 use Rattle.httpd.proofs.compact.receive.Goals as goal

@@ -1,5 +1,4 @@
-use Rattle.std.proofs.Common.{◌≤◌, length, sym, subst}
-use Rattle.protosocket.specs.Lemmas.Hearing.{takes_prefix}
+use Rattle.httpd.proofs.Prelude.{◌≤◌, length, sym, subst, takes_prefix}
 use Rattle.httpd.proofs.hearing.feed.Goals as goal
 
 pub returns-clause-within : goal.returns-clause-within

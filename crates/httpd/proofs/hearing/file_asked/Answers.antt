@@ -1,8 +1,4 @@
-use Rattle.std.proofs.Common.{sym, ap, ◌∙◌}
-use Rattle.site_image.specs.Files.{file_named}
-use Rattle.file_tree.specs.Site.{files_of}
-use Rattle.file_tree.proofs.NamedLemmas.{named-nowhere}
-use Rattle.web_pages.specs.Pages.{place_of}
+use Rattle.httpd.proofs.Prelude.{sym, ap, ◌∙◌, file_named, files_of, named-nowhere, place_of}
 use Rattle.httpd.proofs.Finding.{no_place}
 use Rattle.httpd.proofs.Words.{asked_name, asked_nobody}
 use Rattle.httpd.proofs.hearing.file_asked.Goals as goal

@@ -1,6 +1,4 @@
-use Rattle.std.proofs.Common.{◌++◌, sym, ap, ◌∙◌, subst}
-use Rattle.std.proofs.lemmas.List.{take_rest}
-use Rattle.httpd.specs.Hearing.{HearsTarget, HearsTo}
+use Rattle.httpd.proofs.Prelude.{◌++◌, sym, ap, ◌∙◌, subst, take_rest, HearsTarget, HearsTo}
 use Rattle.httpd.proofs.Words.{prefix_of}
 use Rattle.httpd.proofs.Requesting.{method_goes_on, method_refused, target_begins}
 use Rattle.httpd.proofs.hearing.hear_method.Goals as goal

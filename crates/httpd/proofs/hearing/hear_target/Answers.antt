@@ -1,4 +1,4 @@
-use Rattle.std.proofs.Common.{sym, ◌∙◌}
+use Rattle.httpd.proofs.Prelude.{sym, ◌∙◌}
 use Rattle.httpd.proofs.Requesting.{target_goes_on, target_named, target_refused}
 use Rattle.httpd.proofs.hearing.hear_target.Goals as goal
 

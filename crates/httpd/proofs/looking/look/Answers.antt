@@ -1,6 +1,4 @@
-use Rattle.std.proofs.Common.{ap}
-use Rattle.generators.specs.Giving.{gives}
-use Rattle.httpd.specs.Reply.{left_from, reply_by}
+use Rattle.httpd.proofs.Prelude.{ap, gives, left_from, reply_by}
 use Rattle.httpd.proofs.Seeing.{end_seen}
 use Rattle.httpd.proofs.looking.look.Goals as goal
 

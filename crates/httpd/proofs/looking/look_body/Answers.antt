@@ -1,9 +1,4 @@
-use Rattle.std.proofs.Common.{◌≤◌, length, drop, sym, ap, subst, ◌∙◌}
-use Rattle.generators.specs.Giving.{gives}
-use Rattle.httpd.specs.Reply.{left_from, reply_by}
-use Rattle.httpd.specs.Places.{Fits}
-use Rattle.httpd.specs.Looking.{Sees}
-use Rattle.httpd.specs.declared.thread.Thread.TheVariants.{Body, End}
+use Rattle.httpd.proofs.Prelude.{◌≤◌, length, drop, sym, ap, subst, ◌∙◌, gives, left_from, reply_by, Fits, Sees, Body, End}
 use Rattle.httpd.proofs.Seeing.{span_along}
 use Rattle.httpd.proofs.Threads.{plain_from, plain_seen}
 use Rattle.httpd.proofs.looking.look_body.Goals as goal

@@ -1,10 +1,4 @@
-use Rattle.std.proofs.Common.{◌+◌, ◌∙◌, sym, subst, ap, if◌then◌else◌}
-use Rattle.generators.specs.Giving.{gives}
-use Rattle.httpd.specs.declared.thread.Thread.TheVariants.{Body}
-use Rattle.web_pages.specs.Pieces.Say.{Made}
-use Rattle.web_pages.specs.Lemmas.Growing.{silent_text, silent_end}
-use Rattle.httpd.specs.Reply.{body_from, calls_in, left_from, reply_by}
-use Rattle.httpd.specs.Places.{Fits}
+use Rattle.httpd.proofs.Prelude.{◌+◌, ◌∙◌, sym, subst, ap, if◌then◌else◌, gives, Body, Made, silent_text, silent_end, body_from, calls_in, left_from, reply_by, Fits}
 use Rattle.httpd.proofs.Seeing.{keeps_all, nothing_seen}
 use Rattle.httpd.proofs.looking.look_call.Goals as goal
 

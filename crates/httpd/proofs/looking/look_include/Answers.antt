@@ -1,11 +1,4 @@
-use Rattle.std.proofs.Common.{[], ◌∷◌, sym, ap, subst, arith}
-use Rattle.web_pages.specs.Pieces.{bytes_or}
-use Rattle.web_pages.specs.Pieces.Say.{Plain}
-use Rattle.generators.specs.Giving.{gives}
-use Rattle.httpd.specs.Reply.{body_from, left_from, reply_by}
-use Rattle.httpd.specs.Places.{Fits}
-use Rattle.httpd.specs.declared.thread.Thread.TheVariants.{Body, Inside}
-use Rattle.httpd.specs.Looking.{Sees}
+use Rattle.httpd.proofs.Prelude.{[], ◌∷◌, sym, ap, subst, arith, bytes_or, Plain, gives, body_from, left_from, reply_by, Fits, Body, Inside, Sees}
 use Rattle.httpd.proofs.Seeing.{keeps_all, leads_first, nothing_seen}
 use Rattle.httpd.proofs.looking.look_include.Goals as goal
 

@@ -1,7 +1,4 @@
-use Rattle.std.proofs.Common.{◌≤◌, length, drop, sym, ap, subst}
-use Rattle.generators.specs.Giving.{gives}
-use Rattle.httpd.specs.Reply.{reply_by}
-use Rattle.httpd.specs.Places.{Fits}
+use Rattle.httpd.proofs.Prelude.{◌≤◌, length, drop, sym, ap, subst, gives, reply_by, Fits}
 use Rattle.httpd.proofs.Seeing.{span_along}
 use Rattle.httpd.proofs.Threads.{inside_seen}
 use Rattle.httpd.proofs.looking.look_inside.Goals as goal

@@ -1,8 +1,4 @@
-use Rattle.std.proofs.Common.{◌≤◌, length, drop, sym, ap, subst}
-use Rattle.web_pages.specs.Pieces.{kind_line}
-use Rattle.generators.specs.Giving.{gives}
-use Rattle.httpd.specs.Reply.{reply_by}
-use Rattle.httpd.specs.Places.{Fits}
+use Rattle.httpd.proofs.Prelude.{◌≤◌, length, drop, sym, ap, subst, kind_line, gives, reply_by, Fits}
 use Rattle.httpd.specs.declared.span.Span.TheVariants as span
 use Rattle.httpd.proofs.Threads.{kind_seen}
 use Rattle.httpd.proofs.looking.look_kind.Goals as goal

@@ -1,7 +1,4 @@
-use Rattle.std.proofs.Common.{refl, arith}
-use Rattle.generators.specs.Giving.{gives}
-use Rattle.httpd.specs.Reply.{reply_by}
-use Rattle.httpd.specs.Places.{Fits}
+use Rattle.httpd.proofs.Prelude.{refl, arith, gives, reply_by, Fits}
 use Rattle.httpd.specs.declared.span.Span.TheVariants as span
 use Rattle.httpd.proofs.Threads.{making_seen}
 use Rattle.httpd.proofs.looking.look_making.Goals as goal

@@ -1,10 +1,4 @@
-use Rattle.std.proofs.Common.{◌≡◌, ◌+◌, ◌≤◌, [], length, ap, subst, arith}
-use Rattle.std.specs.Prelude.{slice_range}
-use Rattle.script_lang.specs.Pieces.{LiesWithin, pieces_by}
-use Rattle.generators.specs.Giving.{gives}
-use Rattle.httpd.specs.Reply.{body, left_from, reply_by}
-use Rattle.httpd.specs.Looking.{Sees}
-use Rattle.httpd.specs.declared.thread.Thread.TheVariants.{Body}
+use Rattle.httpd.proofs.Prelude.{◌≡◌, ◌+◌, ◌≤◌, [], length, ap, subst, arith, slice_range, LiesWithin, pieces_by, gives, body, left_from, reply_by, Sees, Body}
 use Rattle.httpd.proofs.Seeing.{end_seen, span_along}
 use Rattle.httpd.proofs.Scripts.{Reads, call_step, ends_call, ends_include, include_step, is_place, run_seen, script_end, text_at, text_found}
 use Rattle.httpd.proofs.looking.look_piece.Goals as goal

@@ -1,7 +1,4 @@
-use Rattle.std.proofs.Common.{◌≤◌, ◌+◌, length, subst, ap, arith}
-use Rattle.std.specs.Prelude.{slice_range}
-use Rattle.generators.specs.Giving.{gives}
-use Rattle.httpd.specs.Reply.{body, reply_by}
+use Rattle.httpd.proofs.Prelude.{◌≤◌, ◌+◌, length, subst, ap, arith, slice_range, gives, body, reply_by}
 use Rattle.httpd.proofs.Seeing.{span_along}
 use Rattle.httpd.proofs.Scripts.{long_seen, run_short}
 use Rattle.httpd.proofs.looking.look_run.Goals as goal

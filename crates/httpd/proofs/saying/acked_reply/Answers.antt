@@ -1,7 +1,4 @@
-use Rattle.std.proofs.Common.{arith, ◌-◌, sym, subst}
-use Rattle.generators.specs.Giving.{gives}
-use Rattle.httpd.specs.Reply.{reply_by}
-use Rattle.httpd.specs.Kept.{KeepsDirective}
+use Rattle.httpd.proofs.Prelude.{arith, ◌-◌, sym, subst, gives, reply_by, KeepsDirective}
 use Rattle.httpd.proofs.Seeing.{keeps_in}
 use Rattle.httpd.proofs.Walking.{acked_on, less_by, nearer}
 use Rattle.httpd.proofs.saying.acked_reply.Goals as goal

@@ -1,6 +1,4 @@
-use Rattle.std.proofs.Common.{◌+◌, arith}
-use Rattle.generators.specs.Giving.{gives}
-use Rattle.httpd.specs.Reply.{left_from, reply_by}
+use Rattle.httpd.proofs.Prelude.{◌+◌, arith, gives, left_from, reply_by}
 use Rattle.httpd.proofs.Walking.{plain_seen, text_unless, walks_on, walks_to}
 use Rattle.httpd.proofs.saying.due_call.Goals as goal
 

@@ -1,6 +1,4 @@
-use Rattle.std.proofs.Common.{arith}
-use Rattle.generators.specs.Giving.{gives}
-use Rattle.httpd.specs.Reply.{reply_by}
+use Rattle.httpd.proofs.Prelude.{arith, gives, reply_by}
 use Rattle.httpd.proofs.Walking.{fills_on, less_by, nearer}
 use Rattle.httpd.proofs.saying.fill_reply.Goals as goal
 

@@ -1,6 +1,4 @@
-use Rattle.std.proofs.Common.{◌+◌, ◌-◌, length}
-use Rattle.generators.specs.Giving.{gives}
-use Rattle.httpd.specs.Reply.{left_from, reply_by}
+use Rattle.httpd.proofs.Prelude.{◌+◌, ◌-◌, length, gives, left_from, reply_by}
 use Rattle.httpd.proofs.Walking.{Fills}
 use Rattle.httpd.proofs.saying.fill_reply.Given as goal
 

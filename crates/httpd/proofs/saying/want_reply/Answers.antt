@@ -1,8 +1,4 @@
-use Rattle.std.proofs.Common.{[], refl, sym, ap, ◌∙◌, true, false, arith}
-use Rattle.app_events.specs.declared.want.Want.TheVariants.{Nothing, Close}
-use Rattle.generators.specs.Giving.{gives}
-use Rattle.httpd.specs.Reply.{left_from, reply_by}
-use Rattle.web_pages.specs.Pages.{reach_by, text_by}
+use Rattle.httpd.proofs.Prelude.{[], refl, sym, ap, ◌∙◌, true, false, arith, Nothing, Close, gives, left_from, reply_by, reach_by, text_by}
 use Rattle.httpd.proofs.Walking.{call_seen, call_stops, end_reached, less_by, plain_seen, ready_on, text_unless, want_at}
 use Rattle.httpd.proofs.saying.want_reply.Goals as goal
 

@@ -1,9 +1,4 @@
-use Rattle.std.proofs.Common.{◌≤◌, ◌+◌, ◌-◌, [], length}
-use Rattle.file_tree.specs.Site.{files_of}
-use Rattle.web_pages.specs.Pages.{text_by}
-use Rattle.web_pages.specs.declared.TheConstants.{LARGEST_SEGMENT}
-use Rattle.generators.specs.Giving.{gives}
-use Rattle.httpd.specs.Reply.{left_from, reply_by}
+use Rattle.httpd.proofs.Prelude.{◌≤◌, ◌+◌, ◌-◌, [], length, files_of, text_by, LARGEST_SEGMENT, gives, left_from, reply_by}
 use Rattle.httpd.proofs.Walking.{Walks}
 use Rattle.httpd.proofs.saying.want_reply.Given as goal
 

@@ -1,9 +1,4 @@
-use Rattle.std.proofs.Common.{Option, None, Some, ℕ, List, ◌≡◌, option_map}
-use Rattle.std.specs.Prelude.{IfSome, slice_get}
-use Rattle.site_image.specs.Files.{File}
-use Rattle.file_tree.specs.Site.{files_of}
-use Rattle.file_tree.specs.declared.file_id.FileId.{FileId}
-use Rattle.httpd.specs.Places.{IsFound}
+use Rattle.httpd.proofs.Prelude.{Option, None, Some, ℕ, List, ◌≡◌, option_map, IfSome, slice_get, File, files_of, FileId, IsFound}
 use Rattle.httpd.proofs.Finding.{found_place}
 use Rattle.httpd.proofs.Sizes.{named_within}
 use Rattle.httpd.proofs.web.place_in.Goals as goal

@@ -1,7 +1,4 @@
-use Rattle.std.proofs.Common.{◌++◌, [], ◌∷◌}
-use Rattle.std.specs.Prelude.{codes}
-use Rattle.file_tree.specs.Site.{files_of}
-use Rattle.web_pages.specs.Lemmas.Deciding.{refused_stays}
+use Rattle.httpd.proofs.Prelude.{◌++◌, [], ◌∷◌, codes, files_of, refused_stays}
 use Rattle.httpd.proofs.ZeroAsking.{hears_method, asked_name, asked_more, no_method}
 use Rattle.httpd.proofs.zero.asked.Goals as goal
 

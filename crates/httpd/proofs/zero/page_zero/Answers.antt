@@ -1,7 +1,4 @@
-use Rattle.std.proofs.Common.{ap, sym, ◌∙◌}
-use Rattle.file_tree.specs.Site.{files_of}
-use Rattle.uip_edge.proofs.Writes.{writes_by}
-use Rattle.web_pages.specs.ZeroPages.{zero_page}
+use Rattle.httpd.proofs.Prelude.{ap, sym, ◌∙◌, files_of, writes_by, zero_page}
 use Rattle.httpd.proofs.ZeroWriting.{asked_some}
 use Rattle.httpd.proofs.zero.page_zero.Goals as goal
 

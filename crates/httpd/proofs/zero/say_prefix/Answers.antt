@@ -1,8 +1,4 @@
-use Rattle.std.proofs.Common.{length, arith, ◌∙◌, sym}
-use Rattle.std.proofs.lemmas.List.{take_all}
-use Rattle.generators.specs.Text.{capture_text}
-use Rattle.httpd.specs.Looking.{span_text}
-use Rattle.uip_edge.proofs.Writes.{writes_by}
+use Rattle.httpd.proofs.Prelude.{length, arith, ◌∙◌, sym, take_all, capture_text, span_text, writes_by}
 use Rattle.httpd.proofs.zero.say_prefix.Goals as goal
 
 pub returns : goal.returns

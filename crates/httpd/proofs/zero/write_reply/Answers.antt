@@ -1,8 +1,4 @@
-use Rattle.std.proofs.Common.{◌∙◌, ap, refl}
-use Rattle.generators.specs.Captures.{capture_of}
-use Rattle.generators.specs.Text.{capture_text}
-use Rattle.generators.specs.declared.capture.Capture.TheVariants.{Empty}
-use Rattle.httpd.specs.Reply.{left_from, reply_in}
+use Rattle.httpd.proofs.Prelude.{◌∙◌, ap, refl, capture_of, capture_text, Empty, left_from, reply_in}
 use Rattle.httpd.proofs.Walking.{call_seen, end_reached, plain_seen, text_unless}
 use Rattle.httpd.proofs.ZeroWriting.{saying_ends, saying_more, saying_starts, saying_stops, saying_taken, smaller_call, smaller_text}
 use Rattle.httpd.proofs.zero.write_reply.Goals as goal

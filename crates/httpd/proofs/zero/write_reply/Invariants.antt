@@ -1,6 +1,5 @@
-use Rattle.httpd.specs.Reply.{reply_in}
+use Rattle.httpd.proofs.Prelude.{reply_in, sink_view}
 use Rattle.httpd.proofs.ZeroWriting.{Saying, zero_size}
-use Rattle.uip_edge.specs.ViewsOf.{sink_view}
 use Rattle.httpd.proofs.zero.write_reply.Given as goal
 
 abbrev pub invariant-loop-function : goal.invariant-loop-function

@@ -1,5 +1,4 @@
-use Rattle.std.proofs.Common.{◌∙◌, ap}
-use Rattle.icmp_echo.specs.Echo.{echo_fate}
+use Rattle.icmp_echo.proofs.Prelude.{◌∙◌, ap, echo_fate}
 use Rattle.icmp_echo.proofs.InPlace.{made_in_place, message_kept}
 use Rattle.icmp_echo.proofs.answer.answer_whole.Goals as goal
 

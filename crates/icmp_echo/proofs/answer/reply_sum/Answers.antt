@@ -1,5 +1,4 @@
-use Rattle.std.proofs.Common.{◌≡◌, ◌+◌, ◌-◌, ◌∙◌, ap, arith}
-use Rattle.uip_wire.specs.Fields.{word_at}
+use Rattle.icmp_echo.proofs.Prelude.{◌≡◌, ◌+◌, ◌-◌, ◌∙◌, ap, arith, word_at}
 use Rattle.icmp_echo.proofs.Sums.{passed, sums}
 use Rattle.icmp_echo.proofs.answer.reply_sum.Goals as goal
 

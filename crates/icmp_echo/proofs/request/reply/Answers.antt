@@ -1,8 +1,5 @@
-use Rattle.std.proofs.Common.{arith, ap, sym, ◌∙◌, ◌-◌, length, length-take, take, drop}
-use Rattle.icmp_echo.specs.Echo.{echo_fate}
+use Rattle.icmp_echo.proofs.Prelude.{arith, ap, sym, ◌∙◌, ◌-◌, length, length-take, take, drop, echo_fate, head_facts, datagram_in}
 use Rattle.icmp_echo.proofs.InPlace.{message_received}
-use Rattle.uip_ipv4.proofs.Facts.{head_facts}
-use Rattle.packet_buffer.specs.Buffer.{datagram_in}
 use Rattle.icmp_echo.proofs.request.reply.Goals as goal
 
 pub slice_bounds-fate_of-count : goal.slice_bounds-fate_of-count

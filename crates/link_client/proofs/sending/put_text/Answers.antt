@@ -1,8 +1,5 @@
 -- The text is at its offset, and all after it is unchanged.
-use Rattle.std.proofs.Common.{ℕ, ◌≡◌, ◌+◌, ◌-◌, ◌≤◌, List, ◌++◌, take, drop, length, slice_range, ap, ◌∙◌, arith}
-use Rattle.std.proofs.lemmas.List.{drop_at, length-take-le}
-use Rattle.std.proofs.lemmas.Slice.{drop-put_mid}
-use Rattle.std.proofs.Math.Seq.{take-append_seam}
+use Rattle.link_client.proofs.Prelude.{ℕ, ◌≡◌, ◌+◌, ◌-◌, ◌≤◌, List, ◌++◌, take, drop, length, slice_range, ap, ◌∙◌, arith, drop_at, length-take-le, drop-put_mid, take-append_seam}
 use borrow.Rule.Slice.PartMut.{post_of, put_mid}
 use Rattle.link_client.proofs.sending.put_text.Goals as goal
 

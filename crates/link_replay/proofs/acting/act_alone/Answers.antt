@@ -1,8 +1,4 @@
-use Rattle.std.proofs.Common.{◌≡◌, ℕ, ◌-◌, suc, sym, ap, ◌∙◌, arith, subst, length, List, set, ◌≤◌}
-use Rattle.link_world.specs.World.{client_stepped}
-use Rattle.link_replay.specs.Owning.{own_step}
-use Rattle.link_replay.specs.State.{Link, link_of}
-use Rattle.link_replay.specs.Plain.{CodeSide}
+use Rattle.link_replay.proofs.Prelude.{◌≡◌, ℕ, ◌-◌, suc, sym, ap, ◌∙◌, arith, subst, length, List, set, ◌≤◌, client_stepped, own_step, Link, link_of, CodeSide}
 use Rattle.link_replay.proofs.Pairs.{there_is}
 use Rattle.link_replay.proofs.Sending
 use Rattle.link_replay.proofs.acting.act_alone.Goals as goal

@@ -1,8 +1,4 @@
-use Rattle.std.proofs.Common.{◌≡◌, ℕ, ◌-◌, suc, sym, arith, refl, subst, set}
-use Rattle.link_client.specs.Client.{advertises_window}
-use Rattle.link_world.specs.World.{Side, client_stepped, with_client}
-use Rattle.link_replay.specs.Represents.{LinkRepresents}
-use Rattle.link_replay.specs.State.{Link, link_of}
+use Rattle.link_replay.proofs.Prelude.{◌≡◌, ℕ, ◌-◌, suc, sym, arith, refl, subst, set, advertises_window, Side, client_stepped, with_client, LinkRepresents, Link, link_of}
 use Rattle.link_replay.proofs.Pairs.{there_is}
 use Rattle.link_replay.proofs.Places.{side_put}
 use Rattle.link_replay.proofs.Sending

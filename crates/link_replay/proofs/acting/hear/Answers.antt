@@ -1,9 +1,4 @@
-use Rattle.std.proofs.Common.{◌≡◌, ℕ, ◌-◌, suc, sym, ap, ◌∙◌, arith, subst, length, List, set, ◌≤◌}
-use Rattle.link_client.specs.Calls.{client_hears, client_hands}
-use Rattle.link_world.specs.Acts.{handed}
-use Rattle.link_world.specs.World.{World}
-use Rattle.link_replay.specs.Represents.{LinkRepresents}
-use Rattle.link_replay.specs.State.{Link, link_of}
+use Rattle.link_replay.proofs.Prelude.{◌≡◌, ℕ, ◌-◌, suc, sym, ap, ◌∙◌, arith, subst, length, List, set, ◌≤◌, client_hears, client_hands, handed, World, LinkRepresents, Link, link_of}
 use Rattle.link_replay.proofs.Pairs.{there_is}
 use Rattle.link_replay.proofs.Sending
 use Rattle.link_replay.proofs.acting.hear.Goals as goal

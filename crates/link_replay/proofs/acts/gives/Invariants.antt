@@ -1,5 +1,4 @@
-use Rattle.std.proofs.Common.{◌≡◌, ◌++◌, drop, map}
-use Rattle.link_world.specs.declared.act.Act.{Act}
+use Rattle.link_replay.proofs.Prelude.{◌≡◌, ◌++◌, drop, map, Act}
 use Rattle.link_replay.proofs.acts.gives.Given as goal
 
 abbrev pub invariant-loop-number : goal.invariant-loop-number

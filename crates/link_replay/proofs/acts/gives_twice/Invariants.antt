@@ -1,6 +1,4 @@
-use Rattle.std.proofs.Common.{◌≡◌, ◌∷◌, [], ◌++◌, drop}
-use Rattle.std.specs.Prelude.{flat_map}
-use Rattle.link_world.specs.declared.act.Act.{Act}
+use Rattle.link_replay.proofs.Prelude.{◌≡◌, ◌∷◌, [], ◌++◌, drop, flat_map, Act}
 use Rattle.link_replay.proofs.acts.gives_twice.Given as goal
 
 abbrev pub invariant-loop-number : goal.invariant-loop-number

@@ -1,5 +1,4 @@
-use Rattle.std.proofs.Common.{◌≡◌, ◌==◌, ◌%◌, ◌++◌, drop}
-use Rattle.std.specs.Prelude.{filter}
+use Rattle.link_replay.proofs.Prelude.{◌≡◌, ◌==◌, ◌%◌, ◌++◌, drop, filter}
 use Rattle.link_replay.proofs.acts.odd.Given as goal
 
 abbrev pub invariant-loop-number : goal.invariant-loop-number

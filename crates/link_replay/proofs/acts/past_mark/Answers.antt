@@ -1,5 +1,4 @@
-use Rattle.std.proofs.Common.{◌≡◌, ◌<◌, ◌+◌, ◌-◌, ℕ, ◌∷◌, [], ◌++◌, ap, sym, ◌∙◌, arith, suc, rules, tests, append_assoc}
-use Rattle.std.specs.List.{range_with_len}
+use Rattle.link_replay.proofs.Prelude.{◌≡◌, ◌<◌, ◌+◌, ◌-◌, ℕ, ◌∷◌, [], ◌++◌, ap, sym, ◌∙◌, arith, suc, rules, tests, append_assoc, range_with_len}
 use Rattle.link_replay.proofs.acts.past_mark.Goals as goal
 
 next : (n sent : ℕ) → n < sent → range_with_len (n + 1) (sent - n) ≡ (n + 1) ∷ range_with_len (n + 1 + 1) (sent - (n + 1))

@@ -1,5 +1,4 @@
-use Rattle.std.proofs.Common.{◌≡◌, ◌+◌, ◌-◌, ◌++◌}
-use Rattle.std.specs.List.{range_with_len}
+use Rattle.link_replay.proofs.Prelude.{◌≡◌, ◌+◌, ◌-◌, ◌++◌, range_with_len}
 use Rattle.link_replay.proofs.acts.past_mark.Given as goal
 
 abbrev pub invariant-loop-number : goal.invariant-loop-number

@@ -1,4 +1,4 @@
-use Rattle.std.proofs.Common.{length}
+use Rattle.link_replay.proofs.Prelude.{length}
 use Rattle.link_replay.proofs.before.+first_lost.Given as goal
 
 abbrev pub decreases-first_lost : goal.decreases-first_lost

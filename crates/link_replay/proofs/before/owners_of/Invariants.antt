@@ -1,5 +1,4 @@
-use Rattle.std.proofs.Common.{◌≡◌, ◌≤◌, ◌++◌, drop, length, map}
-use Rattle.link_replay.specs.Noting.{owner_in}
+use Rattle.link_replay.proofs.Prelude.{◌≡◌, ◌≤◌, ◌++◌, drop, length, map, owner_in}
 use Rattle.link_replay.proofs.before.owners_of.Given as goal
 
 abbrev pub invariant-loop-conn : goal.invariant-loop-conn

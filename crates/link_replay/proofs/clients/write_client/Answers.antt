@@ -1,9 +1,4 @@
-use Rattle.std.proofs.Common.{List, ℕ, ap, ◌∙◌}
-use Rattle.std.proofs.lemmas.Result.{err_from_is_err_and}
-use Rattle.text_room.specs.Words.{word_if}
-use Rattle.link_replay.specs.Plain.{CodeSide}
-use Rattle.link_replay.specs.Report.{client_line, text_line}
-use Rattle.link_replay.specs.Shown.{code_side_shown}
+use Rattle.link_replay.proofs.Prelude.{List, ℕ, ap, ◌∙◌, err_from_is_err_and, word_if, CodeSide, client_line, text_line, code_side_shown}
 use Rattle.link_replay.proofs.Saying.{wrote_by, wrote_stop, wrote_then}
 use Rattle.link_replay.proofs.clients.write_client.Goals as goal
 

@@ -1,9 +1,4 @@
-use Rattle.std.proofs.Common.{◌≡◌, ◌+◌, length, map, refl, ◌∙◌}
-use Rattle.std.proofs.lemmas.Option.{slice_get_read}
-use Rattle.std.proofs.lemmas.Result.{err_from_is_err_and}
-use Rattle.link_replay.specs.Plain.{CodeSide}
-use Rattle.link_replay.specs.Report.{ShownSide, lines_of_client}
-use Rattle.link_replay.specs.Shown.{code_side_shown}
+use Rattle.link_replay.proofs.Prelude.{◌≡◌, ◌+◌, length, map, refl, ◌∙◌, slice_get_read, err_from_is_err_and, CodeSide, ShownSide, lines_of_client, code_side_shown}
 use Rattle.link_replay.proofs.Listing.{texts_end, texts_more, texts_stop}
 use Rattle.link_replay.proofs.Matching.{matched_image}
 use Rattle.link_replay.proofs.Shown.{lines_told}

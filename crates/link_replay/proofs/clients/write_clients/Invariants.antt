@@ -1,6 +1,4 @@
-use Rattle.std.proofs.Common.{◌≡◌, ◌+◌, drop, map}
-use Rattle.link_replay.specs.Report.{lines_of_client, numbered_texts}
-use Rattle.link_replay.specs.Shown.{code_side_shown}
+use Rattle.link_replay.proofs.Prelude.{◌≡◌, ◌+◌, drop, map, lines_of_client, numbered_texts, code_side_shown}
 use Rattle.link_replay.proofs.Saying.{Saying}
 use Rattle.link_replay.proofs.clients.write_clients.Given as goal
 

@@ -1,5 +1,4 @@
-use Rattle.std.proofs.Common.{◌≡◌, ◌∙◌}
-use Rattle.link_replay.specs.Report.{datagram_line, line_of_datagram}
+use Rattle.link_replay.proofs.Prelude.{◌≡◌, ◌∙◌, datagram_line, line_of_datagram}
 use Rattle.link_replay.proofs.Saying.{wrote_by}
 use Rattle.link_replay.proofs.Shown.{some_shown}
 use Rattle.link_replay.proofs.Standing.{datagram_stands}

@@ -1,9 +1,5 @@
-use Rattle.std.proofs.Common.{length, refl, ◌∙◌}
-use Rattle.std.proofs.lemmas.Option.{slice_get_read}
-use Rattle.std.proofs.lemmas.Result.{err_from_is_err_and}
-use Rattle.link_replay.specs.Represents.{SentRepresents}
+use Rattle.link_replay.proofs.Prelude.{length, refl, ◌∙◌, slice_get_read, err_from_is_err_and, SentRepresents, line_of_datagram}
 use Rattle.link_replay.proofs.Readable.{read_at, sent_at}
-use Rattle.link_replay.specs.Report.{line_of_datagram}
 use Rattle.link_replay.proofs.Listing.{texts_end, texts_more, texts_stop}
 use Rattle.link_replay.proofs.Shown.{more_shown, not_done}
 use Rattle.link_replay.proofs.datagrams.write_datagrams.Goals as goal

@@ -1,11 +1,4 @@
-use Rattle.std.proofs.Common.{◌≡◌, ℕ, Bool, true, ◌+◌, drop}
-use Rattle.app_events.specs.AppSpec.{AppSpec}
-use Rattle.link_world.specs.World.{World}
-use Rattle.link_replay.specs.Reaching.{IsAt}
-use Rattle.link_replay.specs.Represents.{IsLink, LinkRepresents}
-use Rattle.link_replay.specs.Shown.{AppendsShown}
-use Rattle.link_replay.specs.State.{link_of}
-use Rattle.link_replay.specs.Report.{line_of_datagram, numbered_texts}
+use Rattle.link_replay.proofs.Prelude.{◌≡◌, ℕ, Bool, true, ◌+◌, drop, AppSpec, World, IsAt, IsLink, LinkRepresents, AppendsShown, link_of, line_of_datagram, numbered_texts}
 use Rattle.link_replay.proofs.Saying.{Saying}
 use Rattle.link_replay.proofs.datagrams.write_datagrams.Given as goal
 

@@ -1,6 +1,4 @@
-use Rattle.std.proofs.Common.{Bool, ap, sym}
-use Rattle.text_room.specs.Words.{word_if}
-use Rattle.link_replay.specs.Report.{line_of_datagram, numbered_texts}
+use Rattle.link_replay.proofs.Prelude.{Bool, ap, sym, word_if, line_of_datagram, numbered_texts}
 use Rattle.link_replay.proofs.Saying.{wrote_by}
 use Rattle.link_replay.proofs.Shown.{where_shown}
 use Rattle.link_replay.proofs.datagrams.write_shown.Goals as goal

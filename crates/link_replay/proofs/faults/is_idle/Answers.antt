@@ -1,8 +1,4 @@
-use Rattle.std.proofs.Common.{◌≡◌, ◌<◌, ◌-◌, ℕ, Some, slice_get, sym, ap, ◌∙◌, arith}
-use Rattle.link_client.specs.Client.{AbstractClient}
-use Rattle.link_world.specs.Acts.{is_idle, state_at}
-use Rattle.link_replay.specs.Represents.{SideRepresents}
-use Rattle.link_replay.specs.Plain.{CodeSide}
+use Rattle.link_replay.proofs.Prelude.{◌≡◌, ◌<◌, ◌-◌, ℕ, Some, slice_get, sym, ap, ◌∙◌, arith, AbstractClient, is_idle, state_at, SideRepresents, CodeSide}
 use Rattle.link_replay.proofs.Pairs.{there_is, numbered_at, partner}
 use Rattle.link_replay.proofs.faults.is_idle.Goals as goal
 

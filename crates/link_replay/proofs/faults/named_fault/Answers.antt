@@ -1,5 +1,4 @@
-use Rattle.std.proofs.Common.{sym, ap, ◌∙◌}
-use Rattle.link_world.specs.Acts.{named_fault}
+use Rattle.link_replay.proofs.Prelude.{sym, ap, ◌∙◌, named_fault}
 use Rattle.link_replay.proofs.faults.named_fault.Goals as goal
 
 pub returns-in-Damage-clause-exact : goal.returns-in-Damage-clause-exact

@@ -1,8 +1,4 @@
-use Rattle.std.proofs.Common.{◌≡◌, ℕ, suc, ◌-◌, ap, ◌∙◌, subst, arith, Some}
-use Rattle.std.specs.Prelude.{option_map, slice_index_or}
-use Rattle.uip_wire.specs.declared.addr.Addr.{Addr}
-use Rattle.link_world.specs.World.{numbered}
-use Rattle.link_replay.specs.Plain.{CodeSide}
+use Rattle.link_replay.proofs.Prelude.{◌≡◌, ℕ, suc, ◌-◌, ap, ◌∙◌, subst, arith, Some, option_map, slice_index_or, Addr, numbered, CodeSide}
 use Rattle.link_replay.proofs.Hearing.{addr_of, address_there}
 use Rattle.link_replay.proofs.kinds.address_of.Goals as goal
 

@@ -1,13 +1,4 @@
-use Rattle.std.proofs.Common.{◌≡◌, ℕ, List, sym, ap, ◌∙◌, subst}
-use Rattle.uip_wire.specs.declared.addr.Addr.{Addr}
-use Rattle.uip_node.specs.Edge.{event_of}
-use Rattle.uip_node.specs.Events.Event.{Arrived}
-use Rattle.link_world.specs.Bytes.{sent_bytes}
-use Rattle.link_world.specs.declared.who.Who.{Who}
-use Rattle.link_world.specs.declared.who.Who.TheVariants.{FromClient, FromNode}
-use Rattle.link_world.specs.Reading.{IsRead, IsSentBy}
-use Rattle.link_replay.specs.Plain.{CodeSent}
-use Rattle.link_replay.specs.State.{link_of}
+use Rattle.link_replay.proofs.Prelude.{◌≡◌, ℕ, List, sym, ap, ◌∙◌, subst, Addr, event_of, Arrived, sent_bytes, Who, FromClient, FromNode, IsRead, IsSentBy, CodeSent, link_of}
 use Rattle.link_replay.proofs.Delivered.{speaks_to}
 use Rattle.link_replay.proofs.Hearing.{client_kind, node_kind, no_client_kind}
 use Rattle.link_replay.proofs.kinds.kind_of.Goals as goal

@@ -1,10 +1,5 @@
-use Rattle.std.proofs.Common.{Err, subst}
-use Rattle.file_tree.specs.Opening.{Opens}
-use Rattle.file_tree.specs.Site.{files_of}
-use Rattle.file_tree.specs.declared.load_fault.LoadFault.{LoadFault}
+use Rattle.link_replay.proofs.Prelude.{Err, subst, Opens, files_of, LoadFault, WorkView, work_view}
 use Rattle.link_replay.proofs.Told.{load_ends, load_image_ends}
-use Rattle.uip_edge.specs.Views.{WorkView}
-use Rattle.uip_edge.specs.ViewsOf.{work_view}
 use Rattle.link_replay.proofs.loading.load.Goals as goal
 
 pub returns-in-Ok-clause-ends : goal.returns-in-Ok-clause-ends

@@ -1,12 +1,4 @@
-use Rattle.std.proofs.Common.{◌≡◌, ℕ, ◌-◌, suc, Some, Option, slice_get, ap, ◌∙◌, sym, arith}
-use Rattle.link_client.specs.Client.{AbstractClient}
-use Rattle.link_world.specs.World.{Side, numbered}
-use Rattle.link_replay.specs.Epochs.{sockets_for}
-use Rattle.link_replay.specs.Noting.{pair_at}
-use Rattle.link_replay.specs.Represents.{SideRepresents}
-use Rattle.link_replay.specs.Telling.{pair_at_side}
-use Rattle.link_replay.specs.declared.socket_pair.SocketPair.{SocketPair}
-use Rattle.link_replay.specs.Plain.{CodeSide}
+use Rattle.link_replay.proofs.Prelude.{◌≡◌, ℕ, ◌-◌, suc, Some, Option, slice_get, ap, ◌∙◌, sym, arith, AbstractClient, Side, numbered, sockets_for, pair_at, SideRepresents, pair_at_side, SocketPair, CodeSide}
 use Rattle.link_replay.proofs.Pairs.{there_is, partner}
 use Rattle.link_replay.proofs.marks.pair_of.Goals as goal
 

@@ -1,10 +1,4 @@
-use Rattle.std.proofs.Common.{◌≡◌, ℕ, ◌-◌, suc, Some, Option, slice_get, set, refl, sym, ap, ◌∙◌, arith, subst}
-use Rattle.link_client.specs.Calls.{FitsRequest}
-use Rattle.link_world.specs.World.{Side, marked, numbered, with_side}
-use Rattle.link_replay.specs.Represents.{LinkRepresents, SideRepresents}
-use Rattle.link_replay.specs.State.{Link, link_of}
-use Rattle.link_replay.specs.Telling.{sees}
-use Rattle.link_replay.specs.Plain.{CodeSide}
+use Rattle.link_replay.proofs.Prelude.{◌≡◌, ℕ, ◌-◌, suc, Some, Option, slice_get, set, refl, sym, ap, ◌∙◌, arith, subst, FitsRequest, Side, marked, numbered, with_side, LinkRepresents, SideRepresents, Link, link_of, sees, CodeSide}
 use Rattle.link_replay.proofs.Pairs.{there_is, partner}
 use Rattle.link_replay.proofs.Places.{side_put, link_put}
 use Rattle.link_replay.proofs.marks.see.Goals as goal

@@ -1,7 +1,4 @@
-use Rattle.std.proofs.Common.{◌≡◌, ◌∙◌, ap, subst, rules}
-use Rattle.std.specs.List.{All}
-use Rattle.app_events.specs.Pages.{IsByte}
-use Rattle.link_schedule.specs.Clients.{Plan}
+use Rattle.link_replay.proofs.Prelude.{◌≡◌, ◌∙◌, ap, subst, rules, All, IsByte, Plan}
 use Rattle.link_replay.proofs.Opened.{fresh}
 use Rattle.link_replay.proofs.opening.side_for.Goals as goal
 

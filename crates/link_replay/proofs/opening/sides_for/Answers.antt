@@ -1,4 +1,4 @@
-use Rattle.std.proofs.Common.{◌≡◌, ◌++◌, ◌+◌, List, [], ◌∷◌, length, rules, tests, sym, ap, ◌∙◌, subst, length-append}
+use Rattle.link_replay.proofs.Prelude.{◌≡◌, ◌++◌, ◌+◌, List, [], ◌∷◌, length, rules, tests, sym, ap, ◌∙◌, subst, length-append}
 use Rattle.link_replay.specs.Plain.{CodeSide as Side}
 use Rattle.link_replay.proofs.Opened.{FreshTo, in_range_at, one_more}
 use Rattle.link_replay.proofs.Pairs.{there_is}

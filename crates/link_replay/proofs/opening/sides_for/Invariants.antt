@@ -1,4 +1,4 @@
-use Rattle.std.proofs.Common.{◌≡◌, length}
+use Rattle.link_replay.proofs.Prelude.{◌≡◌, length}
 use Rattle.link_replay.proofs.Opened.{FreshTo}
 use Rattle.link_replay.proofs.opening.sides_for.Given as goal
 

@@ -1,4 +1,4 @@
-use Rattle.link_replay.specs.Represents.{WorldRepresents}
+use Rattle.link_replay.proofs.Prelude.{WorldRepresents}
 use Rattle.link_replay.proofs.PlayedText.{plays_for_site, reached_keeps, reached_serves}
 use Rattle.link_replay.proofs.playing.play.Goals as goal
 

@@ -1,14 +1,4 @@
-use Rattle.std.specs.List.{list_all}
-use Rattle.std.proofs.Common.{◌≡◌, ℕ, List, Some, sym, subst, length, map, slice_get, Ok, Err, true}
-use Rattle.link_schedule.specs.Kept.{event_in_range}
-use Rattle.link_schedule.specs.Clients.{Plan}
-use Rattle.link_schedule.specs.Represents.{content_of}
-use Rattle.link_schedule.specs.declared.line.Line.{Line}
-use Rattle.link_world.specs.Schedule.{plays}
-use Rattle.link_world.specs.History.{IsPlanned, Planned}
-use Rattle.link_replay.specs.Opening.{opening_for, plan_from}
-use Rattle.link_replay.specs.Playing.{PlaysSchedule, event_at}
-use Rattle.link_replay.specs.Represents.{WorldRepresents}
+use Rattle.link_replay.proofs.Prelude.{list_all, ◌≡◌, ℕ, List, Some, sym, subst, length, map, slice_get, Ok, Err, true, event_in_range, Plan, content_of, Line, plays, IsPlanned, Planned, opening_for, plan_from, PlaysSchedule, event_at, WorldRepresents}
 use Rattle.link_replay.proofs.Played.{handed_on, same_refusal, whole_schedule}
 use Rattle.link_replay.proofs.playing.play_by.Goals as goal
 

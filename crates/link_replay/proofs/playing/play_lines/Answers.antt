@@ -1,16 +1,5 @@
-use Rattle.std.proofs.Common.{◌∷◌, ◌+◌, drop, get_or, List, ◌∙◌, sym, subst, map, Ok, Err}
-use Rattle.std.proofs.lemmas.List.Sums.{AllPass-from_list_all}
-use Rattle.std.proofs.lemmas.Option.{slice_get-get_or}
-use Rattle.link_schedule.specs.Kept.{event_in_range}
-use Rattle.link_schedule.specs.declared.line.Line.{Line}
-use Rattle.link_schedule.specs.declared.read_schedule.ReadSchedule.{ReadSchedule}
-use Rattle.link_world.specs.Headline.{IsAct, OfLine}
-use Rattle.link_world.specs.World.{World}
-use Rattle.link_world.specs.Schedule.{plays, plays_line}
+use Rattle.link_replay.proofs.Prelude.{◌∷◌, ◌+◌, drop, get_or, List, ◌∙◌, sym, subst, map, Ok, Err, AllPass-from_list_all, slice_get-get_or, event_in_range, Line, ReadSchedule, IsAct, OfLine, World, plays, plays_line, LinesEnd, event_at, refusal_at, ActsEnd, IsAt, WorldRepresents}
 use Rattle.link_schedule.specs.declared.event.Event.{Event}
-use Rattle.link_replay.specs.Playing.{LinesEnd, event_at, refusal_at}
-use Rattle.link_replay.specs.Reaching.{ActsEnd, IsAt}
-use Rattle.link_replay.specs.Represents.{WorldRepresents}
 use Rattle.link_replay.proofs.Pairs.{left_is}
 use Rattle.link_replay.proofs.Played.{AmidLines, line_further, line_refused}
 use Rattle.link_replay.proofs.playing.play_lines.Goals as goal

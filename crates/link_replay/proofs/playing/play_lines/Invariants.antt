@@ -1,9 +1,4 @@
-use Rattle.std.proofs.Common.{◌≡◌, drop, map}
-use Rattle.link_world.specs.Schedule.{plays}
-use Rattle.link_world.specs.World.{World}
-use Rattle.link_replay.specs.Playing.{event_at}
-use Rattle.link_replay.specs.Reaching.{IsAt}
-use Rattle.link_replay.specs.Represents.{WorldRepresents}
+use Rattle.link_replay.proofs.Prelude.{◌≡◌, drop, map, plays, World, event_at, IsAt, WorldRepresents}
 use Rattle.link_replay.proofs.Played.{AmidLines}
 use Rattle.link_replay.proofs.playing.play_lines.Given as goal
 

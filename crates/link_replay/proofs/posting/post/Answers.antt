@@ -1,8 +1,4 @@
-use Rattle.std.proofs.Common.{◌≡◌, ◌∷◌, [], ◌++◌, sym, refl, rules, tests, subst, List}
-use Rattle.link_world.specs.World.{posts}
-use Rattle.link_replay.specs.Matched.{Matched}
-use Rattle.link_replay.specs.Represents.{SentRepresents}
-use Rattle.link_replay.specs.Plain.{CodeSent}
+use Rattle.link_replay.proofs.Prelude.{◌≡◌, ◌∷◌, [], ◌++◌, sym, refl, rules, tests, subst, List, posts, Matched, SentRepresents, CodeSent}
 use Rattle.link_replay.proofs.Places.{posted}
 use Rattle.link_replay.proofs.posting.post.Goals as goal
 

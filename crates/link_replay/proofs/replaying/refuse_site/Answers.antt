@@ -1,5 +1,5 @@
 use Rattle.link_replay.proofs.Told.{image_ends}
-use Rattle.uip_edge.specs.ViewsOf.{work_view}
+use Rattle.link_replay.proofs.Prelude.{work_view}
 use Rattle.link_replay.proofs.replaying.refuse_site.Goals as goal
 
 pub returns-in-Ok-clause-ends : goal.returns-in-Ok-clause-ends

@@ -1,11 +1,5 @@
-use Rattle.std.proofs.Common.{Err, Option, refl, subst, sym}
-use Rattle.file_tree.specs.declared.load_fault.LoadFault.{LoadFault}
-use Rattle.uip_edge.specs.Shelving.{Files}
-use Rattle.file_tree.specs.Opening.{FindsInFiles, Opens, site_read}
-use Rattle.link_replay.specs.Ending.{ReplayEnds}
+use Rattle.link_replay.proofs.Prelude.{Err, Option, refl, subst, sym, LoadFault, Files, FindsInFiles, Opens, site_read, ReplayEnds, WorkView, work_view}
 use Rattle.link_replay.proofs.Told.{same_work}
-use Rattle.uip_edge.specs.Views.{WorkView}
-use Rattle.uip_edge.specs.ViewsOf.{work_view}
 use Rattle.link_replay.proofs.replaying.replay.Goals as goal
 
 pub returns-in-Err-Bad-clause-ends : goal.returns-in-Err-Bad-clause-ends

@@ -1,8 +1,5 @@
-use Rattle.std.proofs.Common.{ℕ, List, subst}
-use Rattle.file_tree.specs.Site.{files_of}
-use Rattle.link_replay.specs.Due.{WritesDue, IsTextDue}
+use Rattle.link_replay.proofs.Prelude.{ℕ, List, subst, files_of, WritesDue, IsTextDue, work_view, sink_view}
 use Rattle.link_replay.proofs.Told.{schedule_ends}
-use Rattle.uip_edge.specs.ViewsOf.{work_view, sink_view}
 use Rattle.link_replay.proofs.replaying.replay_site.Goals as goal
 
 pub returns-in-Ok-clause-ends : goal.returns-in-Ok-clause-ends

@@ -1,16 +1,7 @@
-use Rattle.std.proofs.Common.{◌≡◌, ◌++◌, ℕ, List, length, map, ap, subst, ◌∙◌}
-use Rattle.std.specs.Prelude.{OnOk}
-use Rattle.std.proofs.lemmas.Result.{err_from_is_err_and}
-use Rattle.link_replay.specs.Plain.{CodeSent, CodeSide}
-use Rattle.link_replay.specs.Shown.{EndsReport, code_side_shown}
-use Rattle.link_replay.specs.Represents.{IsLink, LinkRepresents}
-use Rattle.link_replay.specs.State.{Link, link_of}
-use Rattle.text_room.specs.Words.{word_if}
-use Rattle.link_replay.specs.Report.{counts_line, line_of_datagram, lines_of_client, numbered_texts, side_shown}
+use Rattle.link_replay.proofs.Prelude.{◌≡◌, ◌++◌, ℕ, List, length, map, ap, subst, ◌∙◌, OnOk, err_from_is_err_and, CodeSent, CodeSide, EndsReport, code_side_shown, IsLink, LinkRepresents, Link, link_of, word_if, counts_line, line_of_datagram, lines_of_client, numbered_texts, side_shown, ticks_of}
 use Rattle.link_replay.proofs.Places.{link_read}
 use Rattle.link_replay.proofs.Saying.{wrote_by, wrote_stop, wrote_then}
 use Rattle.link_replay.proofs.Shown.{lines_stand, not_done, report_ends}
-use Rattle.uip_node.specs.Counters.{ticks_of}
 use Rattle.link_replay.proofs.Standing.{counts_stand}
 use Rattle.link_replay.proofs.reporting.write_report.Goals as goal
 

@@ -1,8 +1,4 @@
-use Rattle.std.proofs.Common.{◌∙◌, ap, sym}
-use Rattle.tcp_machine.specs.Connection.{same_sockets}
-use Rattle.link_replay.specs.Epochs.{sockets_for}
-use Rattle.link_replay.specs.Noting.{sockets_at}
-use Rattle.link_replay.specs.Plain.{CodeSide}
+use Rattle.link_replay.proofs.Prelude.{◌∙◌, ap, sym, same_sockets, sockets_for, sockets_at, CodeSide}
 use Rattle.link_replay.proofs.Epochs.{addressed_here, addressed_later}
 use Rattle.link_replay.proofs.sides.+addressed_from.Goals as goal
 

@@ -1,4 +1,4 @@
-use Rattle.std.proofs.Common.{length}
+use Rattle.link_replay.proofs.Prelude.{length}
 use Rattle.link_replay.proofs.sides.+addressed_from.Given as goal
 
 abbrev pub decreases-addressed_from : goal.decreases-addressed_from

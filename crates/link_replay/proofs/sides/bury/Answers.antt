@@ -1,11 +1,4 @@
-use Rattle.std.proofs.Common.{◌∙◌, List, Some, set, sym, ap, subst, arith}
-use Rattle.std.specs.List.{Any}
-use Rattle.uip_edge.proofs.Told.{on_err}
-use Rattle.std.proofs.lemmas.List.Edits.{map_over_more}
-use Rattle.link_world.specs.World.{retires}
-use Rattle.link_replay.specs.Epochs.{IsAtLast, buried}
-use Rattle.link_replay.specs.Matched.{Matched}
-use Rattle.link_replay.specs.Represents.{SideRepresents}
+use Rattle.link_replay.proofs.Prelude.{◌∙◌, List, Some, set, sym, ap, subst, arith, Any, on_err, map_over_more, retires, IsAtLast, buried, Matched, SideRepresents}
 use Rattle.link_replay.specs.Plain.{CodeSide as Side}
 use Rattle.link_replay.proofs.Epochs.{all_buried, all_done, kept_more, last_found}
 use Rattle.link_replay.proofs.sides.bury.Goals as goal

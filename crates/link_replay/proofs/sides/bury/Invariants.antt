@@ -1,6 +1,4 @@
-use Rattle.std.proofs.Common.{◌≡◌, ◌++◌, drop, map, take}
-use Rattle.link_replay.specs.Epochs.{OnlyEpoch, buried}
-use Rattle.link_replay.specs.Matched.{Matched}
+use Rattle.link_replay.proofs.Prelude.{◌≡◌, ◌++◌, drop, map, take, OnlyEpoch, buried, Matched}
 use Rattle.link_replay.proofs.sides.bury.Given as goal
 
 abbrev pub invariant-loop-side : goal.invariant-loop-side

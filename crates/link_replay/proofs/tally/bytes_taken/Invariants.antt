@@ -1,4 +1,4 @@
-use Rattle.std.proofs.Common.{◌≡◌, ◌*◌, ◌≤◌, length, sum_by, take}
+use Rattle.link_replay.proofs.Prelude.{◌≡◌, ◌*◌, ◌≤◌, length, sum_by, take}
 use Rattle.link_replay.proofs.tally.bytes_taken.Given as goal
 
 abbrev pub invariant-loop-side : goal.invariant-loop-side

@@ -1,9 +1,4 @@
-use Rattle.std.proofs.Common.{Bool, List, length, sym, ◌∙◌, ◌==◌}
-use Rattle.std.proofs.lemmas.List.{length-map}
-use Rattle.std.specs.Prelude.{is_none, not}
-use Rattle.link_replay.specs.Kinds.{column}
-use Rattle.link_replay.specs.Plain.{CodeSent, CodeSide}
-use Rattle.link_replay.specs.Shown.{code_side_shown}
+use Rattle.link_replay.proofs.Prelude.{Bool, List, length, sym, ◌∙◌, ◌==◌, length-map, is_none, not, column, CodeSent, CodeSide, code_side_shown}
 use Rattle.link_replay.proofs.Counted.{count_image, same_tally, sum_image}
 use Rattle.link_replay.proofs.tally.count_up.Goals as goal
 

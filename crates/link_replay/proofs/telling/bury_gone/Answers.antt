@@ -1,8 +1,4 @@
-use Rattle.std.proofs.Common.{List, ap, length, sym, ◌∙◌, subst}
-use Rattle.link_replay.specs.Epochs.{OnlyEpoch}
-use Rattle.link_replay.specs.Matched.{Matched}
-use Rattle.link_replay.specs.Represents.{SideRepresents}
-use Rattle.link_replay.specs.State.{link_of}
+use Rattle.link_replay.proofs.Prelude.{List, ap, length, sym, ◌∙◌, subst, OnlyEpoch, Matched, SideRepresents, link_of}
 use Rattle.link_replay.specs.Plain.{CodeSide as Side}
 use Rattle.link_replay.proofs.Answered.{link_buried, none_gone, one_gone}
 use Rattle.link_replay.proofs.telling.bury_gone.Goals as goal

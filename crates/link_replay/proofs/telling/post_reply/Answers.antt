@@ -1,8 +1,4 @@
-use Rattle.std.proofs.Common.{◌≡◌, ap, sym, ◌∙◌, subst}
-use Rattle.link_world.specs.World.{World}
-use Rattle.link_replay.specs.Represents.{LinkRepresents}
-use Rattle.link_replay.specs.State.{link_of}
-use Rattle.link_replay.specs.Telling.{IsTo}
+use Rattle.link_replay.proofs.Prelude.{◌≡◌, ap, sym, ◌∙◌, subst, World, LinkRepresents, link_of, IsTo}
 use Rattle.link_replay.proofs.Answered.{IsNumber, answer_posted, meant_for, meant_nothing, meant_to_none, meant_to_one, number_of_none, number_of_some}
 use Rattle.link_replay.proofs.telling.post_reply.Goals as goal
 use Rattle.link_replay.proofs.telling.post_reply.Goals.{in-None, in-Some, then-number-eq0+then-is_some, else-number-eq0, else-number-eq0-via-then-number-eq0+else-is_some, else-number-eq0-via-else-number-eq0}

@@ -1,11 +1,4 @@
-use Rattle.std.proofs.Common.{List, ◌∙◌, subst}
-use Rattle.link_world.specs.World.{World}
-use Rattle.link_replay.specs.Moving.{PostsReply}
-use Rattle.link_replay.specs.Represents.{LinkRepresents}
-use Rattle.link_replay.specs.State.{link_of}
-use Rattle.link_replay.specs.Plain.{CodeSent}
-use Rattle.link_replay.specs.Plain.{CodeSide}
-use Rattle.uip_node.specs.Node.{NodeStep, step}
+use Rattle.link_replay.proofs.Prelude.{List, ◌∙◌, subst, World, PostsReply, LinkRepresents, link_of, CodeSent, CodeSide, NodeStep, step}
 use Rattle.link_replay.proofs.Answered.{left_by, loud, quiet}
 use Rattle.link_replay.proofs.Sending.{kept_posted}
 use Rattle.link_replay.proofs.Staying.{step_addr}

@@ -1,7 +1,5 @@
-use Rattle.std.specs.Prelude.{⊤}
-use Rattle.link_replay.specs.Represents.{WorldRepresents}
+use Rattle.link_replay.proofs.Prelude.{⊤, WorldRepresents, sink_view}
 use Rattle.link_replay.proofs.PlayedText.{played_due, refused_due}
-use Rattle.uip_edge.specs.ViewsOf.{sink_view}
 use Rattle.link_replay.proofs.text_playing.play_schedule.Goals as goal
 
 pub returns-in-Ok : goal.returns-in-Ok

@@ -1,4 +1,4 @@
-use Rattle.file_tree.specs.Site.{files_of}
+use Rattle.link_replay.proofs.Prelude.{files_of}
 use Rattle.link_replay.proofs.PlayedText.{text_answers, text_refused}
 use Rattle.link_replay.proofs.text_playing.play_text.Goals as goal
 

@@ -1,6 +1,4 @@
-use Rattle.std.proofs.Common.{ℕ, List, subst, inl, ◌∙◌}
-use Rattle.uip_edge.specs.Writing.{WritesEnd}
-use Rattle.uip_edge.specs.ViewsOf.{sink_view}
+use Rattle.link_replay.proofs.Prelude.{ℕ, List, subst, inl, ◌∙◌, WritesEnd, sink_view}
 use Rattle.link_replay.specs.declared.replay_end.ReplayEnd.TheVariants as ends
 use Rattle.link_replay.proofs.text_playing.refuse_line.Goals as goal
 

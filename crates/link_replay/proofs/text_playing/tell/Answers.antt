@@ -1,4 +1,4 @@
-use Rattle.std.proofs.Common.{refl, inl, inr}
+use Rattle.link_replay.proofs.Prelude.{refl, inl, inr}
 use Rattle.link_replay.proofs.text_playing.tell.Goals as goal
 
 pub returns-in-Ok : goal.returns-in-Ok

@@ -1,4 +1,4 @@
-use Rattle.std.proofs.lemmas.Result.{on_err_weaker}
+use Rattle.link_replay.proofs.Prelude.{on_err_weaker}
 use Rattle.link_replay.proofs.text_playing.write_world.Goals as goal
 
 pub returns-in-Report-clause-ok : goal.returns-in-Report-clause-ok

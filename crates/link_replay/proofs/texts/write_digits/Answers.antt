@@ -1,6 +1,4 @@
-use Rattle.std.proofs.Common.{◌∙◌}
-use Rattle.std.proofs.lemmas.Result.{err_from_is_err_and}
-use Rattle.hex.specs.Hex.{encode_lower}
+use Rattle.link_replay.proofs.Prelude.{◌∙◌, err_from_is_err_and, encode_lower}
 use Rattle.link_replay.proofs.Saying.{saying_more, saying_stops, saying_ends}
 use Rattle.link_replay.proofs.Listing.{digits_parts}
 use Rattle.link_replay.proofs.texts.write_digits.Goals as goal

@@ -1,5 +1,4 @@
-use Rattle.std.proofs.Common.{◌≡◌, length}
-use Rattle.hex.specs.Hex.{encode_lower}
+use Rattle.link_replay.proofs.Prelude.{◌≡◌, length, encode_lower}
 use Rattle.link_replay.proofs.Saying.{Saying}
 use Rattle.link_replay.proofs.texts.write_digits.Given as goal
 

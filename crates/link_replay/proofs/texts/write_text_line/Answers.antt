@@ -1,6 +1,4 @@
-use Rattle.std.specs.Prelude.{◌++◌, codes}
-use Rattle.std.proofs.lemmas.Result.{err_from_is_err_and}
-use Rattle.link_replay.specs.Report.{digits_or_dash}
+use Rattle.link_replay.proofs.Prelude.{◌++◌, codes, err_from_is_err_and, digits_or_dash}
 use Rattle.link_replay.proofs.Saying.{wrote_stop, wrote_then}
 use Rattle.link_replay.proofs.texts.write_text_line.Goals as goal
 

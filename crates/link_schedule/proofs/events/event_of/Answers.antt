@@ -1,4 +1,4 @@
-use Rattle.std.proofs.Common.{arith}
+use Rattle.link_schedule.proofs.Prelude.{arith}
 use Rattle.link_schedule.proofs.NoForm.{no_event}
 use Rattle.link_schedule.proofs.events.event_of.Goals as goal
 

@@ -1,7 +1,4 @@
-use Rattle.std.proofs.Common.{◌≡◌, ◌∷◌, [], ◌++◌, sym, ap, ◌∙◌, arith, length, Ok, rules, tests}
-use Rattle.std.specs.List.{list_any}
-use Rattle.link_schedule.specs.Reading.{meets}
-use Rattle.link_schedule.specs.Represents.{content_of}
+use Rattle.link_schedule.proofs.Prelude.{◌≡◌, ◌∷◌, [], ◌++◌, sym, ap, ◌∙◌, arith, length, Ok, rules, tests, list_any, meets, content_of}
 use Rattle.link_schedule.proofs.Clients.{added, taken, too_many}
 use Rattle.link_schedule.proofs.reading.add_client.Goals as goal
 

@@ -1,4 +1,4 @@
-use Rattle.std.proofs.Common.{arith}
+use Rattle.link_schedule.proofs.Prelude.{arith}
 use Rattle.link_schedule.proofs.NoForm.{no_plan}
 use Rattle.link_schedule.proofs.requests.plan_of.Goals as goal
 use Rattle.link_schedule.proofs.requests.plan_of.Goals.{in_default-via-then-words-lt6, in_default-via-else-words-lt6+else-words-lt7}

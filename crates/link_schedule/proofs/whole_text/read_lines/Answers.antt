@@ -1,7 +1,4 @@
-use Rattle.std.proofs.Common.{◌≡◌, ◌∙◌, ◌+◌, sym, ap, arith, drop, map, ℕ, List, [], Bor, Ok}
-use Rattle.std.proofs.lemmas.List.{drop_all}
-use Rattle.link_schedule.specs.Reading.{read_lines}
-use Rattle.link_schedule.specs.Represents.{content_of}
+use Rattle.link_schedule.proofs.Prelude.{◌≡◌, ◌∙◌, ◌+◌, sym, ap, arith, drop, map, ℕ, List, [], Bor, Ok, drop_all, read_lines, content_of}
 use Rattle.link_schedule.proofs.Keeping.{kept_where_read}
 use Rattle.link_schedule.proofs.whole_text.read_lines.Goals as goal
 

@@ -1,6 +1,4 @@
-use Rattle.std.proofs.Common.{◌≡◌, ◌≤◌, ◌+◌, drop, map, vec_len, Bor, List, ℕ}
-use Rattle.link_schedule.specs.Reading.{nothing_yet, read_lines}
-use Rattle.link_schedule.specs.Represents.{content_of}
+use Rattle.link_schedule.proofs.Prelude.{◌≡◌, ◌≤◌, ◌+◌, drop, map, vec_len, Bor, List, ℕ, nothing_yet, read_lines, content_of}
 use Rattle.link_schedule.proofs.whole_text.read_lines.Given as goal
 
 abbrev pub invariant-loop-at : goal.invariant-loop-at

@@ -1,7 +1,4 @@
-use Rattle.std.proofs.Common.{◌==◌, ◌+◌, ◌∙◌, ap, arith, length, sym}
-use Rattle.std.proofs.lemmas.Bool.{le-ltb}
-use Rattle.script_lang.specs.Directives.{is_directive_mark}
-use Rattle.script_lang.specs.Pieces.{run_end}
+use Rattle.script_lang.proofs.Prelude.{◌==◌, ◌+◌, ◌∙◌, ap, arith, length, sym, le-ltb, is_directive_mark, run_end}
 use Rattle.script_lang.proofs.PlaceLemmas.{first_place-is, history-prefix}
 use Rattle.script_lang.proofs.scan.runs_past.Goals as goal
 

@@ -1,5 +1,4 @@
-use Rattle.std.proofs.Common.{◌≤◌, ◌∙◌, ◌+◌, arith}
-use Rattle.script_lang.specs.Places.{is_byte}
+use Rattle.script_lang.proofs.Prelude.{◌≤◌, ◌∙◌, ◌+◌, arith, is_byte}
 use Rattle.script_lang.proofs.PlaceLemmas.{first_place-behind, first_place-prefix, first_place-is}
 use Rattle.script_lang.proofs.search.byte_from.Goals as goal
 

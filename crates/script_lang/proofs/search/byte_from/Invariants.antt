@@ -1,5 +1,4 @@
-use Rattle.std.proofs.Common.{◌≡◌, ◌≤◌, ◌-◌}
-use Rattle.script_lang.specs.Places.{is_byte, first_place}
+use Rattle.script_lang.proofs.Prelude.{◌≡◌, ◌≤◌, ◌-◌, is_byte, first_place}
 use Rattle.script_lang.proofs.search.byte_from.Given as goal
 
 abbrev pub decreases-loop-at : goal.decreases-loop-at

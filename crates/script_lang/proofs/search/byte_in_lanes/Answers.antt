@@ -1,4 +1,4 @@
-use Rattle.std.proofs.lemmas.Bool.{ne_eqb}
+use Rattle.script_lang.proofs.Prelude.{ne_eqb}
 use Rattle.script_lang.proofs.LaneLemmas.{no-lane, some-lane}
 use Rattle.script_lang.proofs.search.byte_in_lanes.Goals as goal
 

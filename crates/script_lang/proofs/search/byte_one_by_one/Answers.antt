@@ -1,6 +1,4 @@
-use Rattle.std.proofs.Common.{◌∙◌, sym, arith}
-use Rattle.std.proofs.lemmas.Bool.{ne_eqb}
-use Rattle.script_lang.specs.Places.{is_byte}
+use Rattle.script_lang.proofs.Prelude.{◌∙◌, sym, arith, ne_eqb, is_byte}
 use Rattle.script_lang.proofs.PlaceLemmas.{first_place-later}
 use Rattle.script_lang.proofs.search.byte_one_by_one.Goals as goal
 

@@ -1,5 +1,4 @@
-use Rattle.std.proofs.Common.{◌≡◌, ◌∙◌, ◌<◌, sym, arith}
-use Rattle.script_lang.specs.Directives.{is_directive_mark}
+use Rattle.script_lang.proofs.Prelude.{◌≡◌, ◌∙◌, ◌<◌, sym, arith, is_directive_mark}
 use Rattle.script_lang.proofs.PlaceLemmas.{first_place-end, first_place-here, first_place-later}
 use Rattle.script_lang.proofs.LaneLemmas.{mark-from-byte}
 use Rattle.script_lang.proofs.search.mark_from.Goals as goal

@@ -1,6 +1,4 @@
-use Rattle.std.proofs.Common.{◌≡◌, ◌≤◌, ◌-◌}
-use Rattle.script_lang.specs.Places.{first_place}
-use Rattle.script_lang.specs.Directives.{is_directive_mark}
+use Rattle.script_lang.proofs.Prelude.{◌≡◌, ◌≤◌, ◌-◌, first_place, is_directive_mark}
 use Rattle.script_lang.proofs.search.mark_from.Given as goal
 
 abbrev pub decreases-loop-at : goal.decreases-loop-at

@@ -1,6 +1,4 @@
-use Rattle.std.proofs.Common.{◌∙◌, ap, not, sym, arith}
-use Rattle.std.proofs.lemmas.Bool.{eq-eqb}
-use Rattle.script_lang.specs.Places.{is_byte}
+use Rattle.script_lang.proofs.Prelude.{◌∙◌, ap, not, sym, arith, eq-eqb, is_byte}
 use Rattle.script_lang.proofs.PlaceLemmas.{first_place-later}
 use Rattle.script_lang.proofs.search.other_from.Goals as goal
 

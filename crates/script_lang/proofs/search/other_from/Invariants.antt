@@ -1,5 +1,4 @@
-use Rattle.std.proofs.Common.{◌≡◌, not}
-use Rattle.script_lang.specs.Places.{is_byte, first_place}
+use Rattle.script_lang.proofs.Prelude.{◌≡◌, not, is_byte, first_place}
 use Rattle.script_lang.proofs.search.other_from.Given as goal
 
 abbrev pub invariant-loop-at : goal.invariant-loop-at

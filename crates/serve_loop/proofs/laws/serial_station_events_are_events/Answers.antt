@@ -1,4 +1,4 @@
-use Rattle.std.proofs.Common.{[]}
+use Rattle.serve_loop.proofs.Prelude.{[]}
 use Rattle.serve_loop.proofs.SlipServeLaws.{after_is, station_events_are, said_is}
 use Rattle.serve_loop.proofs.laws.serial_station_events_are_events.Goals as goal
 

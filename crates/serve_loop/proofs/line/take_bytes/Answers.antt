@@ -1,7 +1,4 @@
-use Rattle.std.proofs.Common.{◌≡◌, ◌++◌, [], ◌∙◌, List, ℕ, length, take, refl, sym, subst, append-nil, append_assoc}
-use Rattle.std.proofs.lemmas.Bool.{eqb-true}
-use Rattle.uip_edge.proofs.Told.{moved_on, on_err}
-use Rattle.serve_loop.specs.Turns.{HasTaken}
+use Rattle.serve_loop.proofs.Prelude.{◌≡◌, ◌++◌, [], ◌∙◌, List, ℕ, length, take, refl, sym, subst, append-nil, append_assoc, eqb-true, moved_on, on_err, HasTaken}
 use Rattle.serve_loop.proofs.PrefixLaws.{all_in_prefix, after_broke, after_wrote}
 use Rattle.serve_loop.proofs.RunLaws.{wrote_none}
 use Rattle.serve_loop.proofs.line.take_bytes.Goals as goal

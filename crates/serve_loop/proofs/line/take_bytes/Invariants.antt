@@ -1,10 +1,4 @@
-use Rattle.std.proofs.Common.{◌≡◌, ◌++◌, List, ℕ, length, map}
-use Rattle.app_events.specs.AppSpec.{AppSpec}
-use Rattle.uip_edge.specs.declared.item.Item.TheVariants.{Byte}
-use Rattle.uip_wire.specs.declared.addr.Addr.{Addr}
-use Rattle.serve_loop.specs.LineStationEvents.{station_events_after}
-use Rattle.serve_loop.specs.StationRuns.{AllSaid}
-use Rattle.serve_loop.specs.Turns.{HasTaken, IsHere}
+use Rattle.serve_loop.proofs.Prelude.{◌≡◌, ◌++◌, List, ℕ, length, map, AppSpec, Byte, Addr, station_events_after, AllSaid, HasTaken, IsHere}
 use Rattle.serve_loop.proofs.line.take_bytes.Given as goal
 
 abbrev pub invariant-loop-rest : goal.invariant-loop-rest

@@ -1,5 +1,4 @@
-use Rattle.std.proofs.Common.{arith, length-take}
-use Rattle.uip_edge.proofs.Told.{on_err}
+use Rattle.serve_loop.proofs.Prelude.{arith, length-take, on_err}
 use Rattle.serve_loop.proofs.PrefixLaws.{prefix_broke, prefix_taken, rest_wrote, tick_broke, tick_wrote}
 use Rattle.serve_loop.proofs.line.take_prefix.Goals as goal
 

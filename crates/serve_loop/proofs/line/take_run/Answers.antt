@@ -1,4 +1,4 @@
-use Rattle.uip_edge.proofs.Told.{on_err}
+use Rattle.serve_loop.proofs.Prelude.{on_err}
 use Rattle.serve_loop.proofs.TakenLaws.{datagram_broke, datagram_wrote, nothing_wrote, overlong_wrote, own_broke, own_wrote}
 use Rattle.serve_loop.proofs.line.take_run.Goals as goal
 

@@ -1,9 +1,4 @@
-use Rattle.std.proofs.Common.{◌≡◌, take, length, map, arith}
-use Rattle.std.proofs.lemmas.List.Elements.{All-map}
-use Rattle.uip_edge.specs.declared.item.Item.TheVariants.{Byte}
-use Rattle.uip_edge.proofs.Turns.{counted}
-use Rattle.uip_edge.proofs.Told.{bytes_among-map}
-use Rattle.serve_loop.specs.Items.{IsItem}
+use Rattle.serve_loop.proofs.Prelude.{◌≡◌, take, length, map, arith, All-map, Byte, counted, bytes_among-map, IsItem}
 use Rattle.serve_loop.proofs.line.take_turn.Goals as goal
 
 pub returns-in-Ok-take_bytes-clause-turns : goal.returns-in-Ok-take_bytes-clause-turns

@@ -1,4 +1,4 @@
-use Rattle.uip_node.specs.Events.Event.{Periodic}
+use Rattle.serve_loop.proofs.Prelude.{Periodic}
 use Rattle.serve_loop.proofs.NodeLaws.{call_told}
 use Rattle.serve_loop.proofs.node_calls.call_slot.Goals as goal
 

@@ -1,8 +1,4 @@
-use Rattle.std.proofs.Common.{subst}
-use Rattle.uip_wire.specs.declared.addr.Addr.{Addr}
-use Rattle.uip_node.specs.Edge.{event_of}
-use Rattle.uip_node.specs.Node.{step}
-use Rattle.uip_node.specs.Represents.{Steps}
+use Rattle.serve_loop.proofs.Prelude.{subst, Addr, event_of, step, Steps}
 use Rattle.serve_loop.proofs.NodeLaws.{call_told}
 use Rattle.serve_loop.proofs.node_calls.take_datagram.Goals as goal
 

@@ -1,7 +1,4 @@
-use Rattle.std.proofs.Common.{◌∷◌, ◌++◌, [], refl, ap, arith, ◌≡◌, ◌∙◌, append-nil, map}
-use Rattle.uip_edge.proofs.Told.{on_err}
-use Rattle.uip_node.specs.Events.Event.{Periodic}
-use Rattle.serve_loop.specs.StationRuns.{OfMedium, OfNode}
+use Rattle.serve_loop.proofs.Prelude.{◌∷◌, ◌++◌, [], refl, ap, arith, ◌≡◌, ◌∙◌, append-nil, map, on_err, Periodic, OfMedium, OfNode}
 use Rattle.serve_loop.proofs.NodeLaws.{acts_wrote, calls, calls_after, slots_broke}
 use Rattle.serve_loop.proofs.RunLaws.{wrote_by, wrote_then}
 use Rattle.serve_loop.proofs.node_calls.tick.Goals as goal

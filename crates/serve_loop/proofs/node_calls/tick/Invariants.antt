@@ -1,8 +1,4 @@
-use Rattle.std.proofs.Common.{◌≡◌, ◌++◌, ℕ, List, map}
-use Rattle.app_events.specs.AppSpec.{AppSpec}
-use Rattle.uip_wire.specs.declared.addr.Addr.{Addr}
-use Rattle.serve_loop.specs.StationRuns.{AllSaid, OfMedium}
-use Rattle.serve_loop.specs.Turns.{IsHere}
+use Rattle.serve_loop.proofs.Prelude.{◌≡◌, ◌++◌, ℕ, List, map, AppSpec, Addr, AllSaid, OfMedium, IsHere}
 use Rattle.serve_loop.proofs.NodeLaws.{calls}
 use Rattle.serve_loop.proofs.node_calls.tick.Given as goal
 

@@ -1,12 +1,6 @@
-use Rattle.std.proofs.Common.{◌++◌, [], refl, arith, ◌∙◌, length-take, length-append}
-use Rattle.std.proofs.lemmas.List.Elements.{All-append, All-nil}
-use Rattle.uip_edge.proofs.Told.{Consumes-none, Consumes-then, bytes_among-append}
-use Rattle.uip_edge.proofs.Turns.{calm_then}
+use Rattle.serve_loop.proofs.Prelude.{◌++◌, [], refl, arith, ◌∙◌, length-take, length-append, All-append, All-nil, Consumes-none, Consumes-then, bytes_among-append, calm_then, IsItem, bytes_among, line_view}
 use Rattle.serve_loop.proofs.RunLaws.{wrote_none}
 use Rattle.serve_loop.proofs.ServeLaws.{on_wrote, spent, stopped}
-use Rattle.serve_loop.specs.Items.{IsItem}
-use Rattle.uip_edge.specs.Coming.{bytes_among}
-use Rattle.uip_edge.specs.ViewsOf.{line_view}
 use Rattle.serve_loop.proofs.serving.serve_line.Goals as goal
 
 pub loop-left-init : goal.loop-left-init

@@ -1,15 +1,4 @@
-use Rattle.std.specs.List.{All}
-use Rattle.std.proofs.Common.{◌≡◌, ◌+◌, [], List, ℕ, length}
-use Rattle.app_events.specs.AppSpec.{AppSpec}
-use Rattle.uip_edge.specs.declared.item.Item.{Item}
-use Rattle.uip_edge.specs.Coming.{Consumes, bytes_among}
-use Rattle.uip_edge.specs.ViewsOf.{line_view}
-use Rattle.uip_edge.specs.Views.{IsCalm}
-use Rattle.uip_wire.specs.declared.addr.Addr.{Addr}
-use Rattle.serve_loop.specs.Items.{IsItem}
-use Rattle.serve_loop.specs.LineStationEvents.{station_events_of_line}
-use Rattle.serve_loop.specs.StationRuns.{AllSaid}
-use Rattle.serve_loop.specs.Turns.{HasTaken, IsHere}
+use Rattle.serve_loop.proofs.Prelude.{All, ◌≡◌, ◌+◌, [], List, ℕ, length, AppSpec, Item, Consumes, bytes_among, line_view, IsCalm, Addr, IsItem, station_events_of_line, AllSaid, HasTaken, IsHere}
 use Rattle.serve_loop.proofs.serving.serve_line.Given as goal
 
 abbrev pub invariant-loop-left : goal.invariant-loop-left

@@ -1,5 +1,4 @@
-use Rattle.std.proofs.Common.{refl, arith, Vec, Global}
-use Rattle.uip_edge.specs.Shelving.{HeldFile}
+use Rattle.site_commands.proofs.Prelude.{refl, arith, Vec, Global, HeldFile}
 use Rattle.site_commands.proofs.GatherLaws.{gathered-all, gathering-more, gathering-stops}
 use Rattle.site_commands.proofs.gathering.gather.Goals as goal
 

@@ -1,5 +1,5 @@
 use Rattle.site_commands.proofs.PageEnds.{page_ends}
-use Rattle.uip_edge.specs.ViewsOf.{work_view}
+use Rattle.site_commands.proofs.Prelude.{work_view}
 use Rattle.site_commands.proofs.paging.page.Goals as goal
 
 pub returns-in-Ok-clause-ends : goal.returns-in-Ok-clause-ends

@@ -1,5 +1,4 @@
-use Rattle.std.proofs.Common.{drop, arith}
-use Rattle.site_image.specs.Parts.{byte_length}
+use Rattle.site_image.proofs.Prelude.{drop, arith, byte_length}
 use Rattle.site_image.proofs.PartPlaces.{part-is}
 use Rattle.site_image.proofs.parts.short_part.Goals as goal
 

@@ -1,5 +1,5 @@
 use Rattle.std.proofs.Common.{arith}
-use Rattle.file_tree.specs.Site.{files_of}
+use Rattle.file_tree.specs.Prelude.{files_of}
 use Rattle.site_report.proofs.ReportLaws.{lines_more}
 use Rattle.site_report.proofs.telling.push_files.Goals as goal
 

@@ -1,7 +1,7 @@
 use Rattle.std.proofs.Common.{◌≡◌, ◌++◌, take}
 use Rattle.std.specs.List.{flat_map}
-use Rattle.file_tree.specs.Site.{files_of}
-use Rattle.site_report.specs.Report.{file_line}
+use Rattle.file_tree.specs.Prelude.{files_of}
+use Rattle.site_report.specs.Prelude.{file_line}
 use Rattle.site_report.proofs.telling.push_files.Given as goal
 
 abbrev pub invariant-loop-number : goal.invariant-loop-number

@@ -1,8 +1,6 @@
 -- What is sent is at least one byte, and the application has it.
-use Rattle.std.proofs.Common.{rules, arith, ap, sym, ◌∙◌}
-use Rattle.app_events.proofs.Says.{can_say_wanted, can_less}
+use Rattle.tcp_machine.proofs.Prelude.{rules, arith, ap, sym, ◌∙◌, can_say_wanted, can_less, is_open}
 use Rattle.tcp_machine.proofs.Saying.{has_part_of, open_lives, sends_some}
-use Rattle.tcp_machine.specs.Represents.{is_open}
 use Rattle.tcp_machine.proofs.asking.do_as_wanted.Goals as goal
 
 pub send-requires-in-Send-clause-some : goal.send-requires-in-Send-clause-some

@@ -1,7 +1,5 @@
 -- The state that the connection represents stays.
-use Rattle.std.proofs.Common.{ap, sym, ◌∙◌}
-use Rattle.app_events.specs.AppSpec.{AppState}
-use Rattle.tcp_machine.specs.Represents.{is_open}
+use Rattle.tcp_machine.proofs.Prelude.{ap, sym, ◌∙◌, AppState, is_open}
 use Rattle.tcp_machine.proofs.Saying.{has_part_of}
 use Rattle.tcp_machine.proofs.asking.is_due.Goals as goal
 

@@ -1,4 +1,4 @@
-use Rattle.std.proofs.Common.{rules}
+use Rattle.tcp_machine.proofs.Prelude.{rules}
 use Rattle.tcp_machine.proofs.Saying.{has_part_of, can_say_prepared}
 use Rattle.tcp_machine.proofs.asking.prepare.Goals as goal
 

@@ -1,10 +1,6 @@
 -- The rows of the states.
 -- [add: state] Its row.
-use Rattle.std.proofs.Common.{Bool, true, sym, subst}
-use Rattle.app_events.specs.declared.state.State.TheVariants.{SynRcvd, CloseWait, FinWait1, FinWait2, Closing, LastAck}
-use Rattle.tcp_machine.specs.OnSegment.{by_state}
-use Rattle.tcp_machine.specs.Represents.{plain}
-use Rattle.tcp_machine.specs.Refines.{Refines}
+use Rattle.tcp_machine.proofs.Prelude.{Bool, true, sym, subst, SynRcvd, CloseWait, FinWait1, FinWait2, Closing, LastAck, by_state, plain, Refines}
 use Rattle.tcp_machine.proofs.Unspoken.{row_alone, row_spoken}
 use Rattle.tcp_machine.proofs.segment.by_state.Goals as goal
 

@@ -1,4 +1,4 @@
-use Rattle.std.proofs.Common.{sym, ◌∙◌}
+use Rattle.tcp_machine.proofs.Prelude.{sym, ◌∙◌}
 use Rattle.tcp_machine.proofs.Saying.{has_part_of}
 use Rattle.tcp_machine.proofs.segment.drop_connection.Goals as goal
 

@@ -1,6 +1,5 @@
 -- The outstanding text can still be generated.
-use Rattle.std.proofs.Common.{rules, ap, ◌∙◌}
-use Rattle.tcp_machine.specs.Represents.{is_open}
+use Rattle.tcp_machine.proofs.Prelude.{rules, ap, ◌∙◌, is_open}
 use Rattle.tcp_machine.proofs.segment.in_close_wait.Goals as goal
 
 pub returns-then-acked : goal.returns-then-acked

@@ -1,7 +1,5 @@
 -- After a delivery the outstanding text can still be generated.
-use Rattle.std.proofs.Common.{rules, ap, ◌∙◌}
-use Rattle.tcp_machine.specs.OnSegment.{peer_closes}
-use Rattle.tcp_machine.specs.Represents.{is_open}
+use Rattle.tcp_machine.proofs.Prelude.{rules, ap, ◌∙◌, peer_closes, is_open}
 use Rattle.tcp_machine.proofs.segment.peer_closes.Goals as goal
 
 pub returns : goal.returns

@@ -1,5 +1,5 @@
 -- Nothing is outstanding after the acknowledgement.
-use Rattle.std.proofs.Common.{rules}
+use Rattle.tcp_machine.proofs.Prelude.{rules}
 use Rattle.tcp_machine.proofs.Saying.{has_part_of, can_nothing_after}
 use Rattle.tcp_machine.proofs.speaking.ack_received.Goals as goal
 

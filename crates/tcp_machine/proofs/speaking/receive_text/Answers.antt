@@ -1,5 +1,5 @@
 -- Delivered text retracts no text of the application.
-use Rattle.std.proofs.Common.{rules}
+use Rattle.tcp_machine.proofs.Prelude.{rules}
 use Rattle.tcp_machine.proofs.Saying.{has_part_of, can_say_heard}
 use Rattle.tcp_machine.proofs.speaking.receive_text.Goals as goal
 

@@ -1,5 +1,4 @@
-use Rattle.std.proofs.Common.{rules, ap}
-use Rattle.tcp_machine.specs.Represents.{is_open}
+use Rattle.tcp_machine.proofs.Prelude.{rules, ap, is_open}
 use Rattle.tcp_machine.proofs.Saying.{has_part_of, can_say_polled}
 use Rattle.tcp_machine.proofs.ticking.polls.Goals as goal
 

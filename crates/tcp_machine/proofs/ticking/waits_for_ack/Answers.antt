@@ -1,6 +1,5 @@
 -- The timer a tick later.
-use Rattle.std.proofs.Common.{rules, ◌≡◌, ◌+◌, ◌*◌, ◌^◌, min, refl, ap, arith}
-use Rattle.rexmit_timer.specs.declared.timer.Timer.{Timer}
+use Rattle.tcp_machine.proofs.Prelude.{rules, ◌≡◌, ◌+◌, ◌*◌, ◌^◌, min, refl, ap, arith, Timer}
 use Rattle.tcp_machine.proofs.Beats.{wait_meets, again_meets, wait_fits}
 use Rattle.tcp_machine.proofs.ticking.waits_for_ack.Goals as goal
 

@@ -1,5 +1,4 @@
-use Rattle.std.proofs.Common.{List, ℕ, ap, ◌++◌}
-use Rattle.tcp_segment.specs.Sent.{fixed_bytes}
+use Rattle.tcp_segment.proofs.Prelude.{List, ℕ, ap, ◌++◌, fixed_bytes}
 use Rattle.tcp_segment.proofs.Putting.{fields_over}
 use Rattle.tcp_segment.proofs.headers.put_fields.Goals as goal
 

@@ -1,5 +1,4 @@
-use Rattle.std.proofs.Common.{◌++◌, length}
-use Rattle.tcp_segment.specs.Segments.{pseudo_header}
+use Rattle.tcp_segment.proofs.Prelude.{◌++◌, length, pseudo_header}
 use Rattle.tcp_segment.proofs.headers.segment_sum.Goals as goal
 
 pub returns : goal.returns

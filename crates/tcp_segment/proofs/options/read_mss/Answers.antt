@@ -1,5 +1,4 @@
-use Rattle.std.proofs.Common.{◌∙◌, sym, arith}
-use Rattle.std.proofs.lemmas.List.{take_rest}
+use Rattle.tcp_segment.proofs.Prelude.{◌∙◌, sym, arith, take_rest}
 use Rattle.tcp_segment.proofs.Passing.{next_option}
 use Rattle.tcp_segment.proofs.options.read_mss.Goals as goal
 

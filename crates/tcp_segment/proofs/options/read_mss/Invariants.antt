@@ -1,5 +1,4 @@
-use Rattle.std.proofs.Common.{◌≡◌, length}
-use Rattle.tcp_segment.specs.Options.{mss_in}
+use Rattle.tcp_segment.proofs.Prelude.{◌≡◌, length, mss_in}
 use Rattle.tcp_segment.proofs.options.read_mss.Given as goal
 
 abbrev pub invariant-options : goal.invariant-options

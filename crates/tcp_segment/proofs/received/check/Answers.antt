@@ -1,7 +1,4 @@
-use Rattle.std.proofs.Common.{◌≡◌, ◌+◌, ◌-◌, ◌∙◌, length, take, drop, arith, length-take, length-drop}
-use Rattle.std.proofs.lemmas.Result.{IfOk-weaker}
-use Rattle.uip_ipv4.proofs.Facts.{head_facts}
-use Rattle.tcp_segment.specs.declared.segment.Segment.{Segment}
+use Rattle.tcp_segment.proofs.Prelude.{◌≡◌, ◌+◌, ◌-◌, ◌∙◌, length, take, drop, arith, length-take, length-drop, IfOk-weaker, head_facts, Segment}
 use Rattle.tcp_segment.proofs.received.check.Goals as goal
 
 pub slice_bounds-payload-count : goal.slice_bounds-payload-count

@@ -1,7 +1,4 @@
-use Rattle.std.proofs.Common.{◌≡◌, ◌+◌, ◌++◌, ◌∙◌, ap, drop, slice_range, arith, List, ℕ, Option}
-use Rattle.std.specs.Prelude.{IsSome, is_some}
-use Rattle.tcp_segment.specs.Segments.{datagram_bytes, offset_of}
-use Rattle.tcp_segment.specs.Sent.{datagram_len, datagram_of}
+use Rattle.tcp_segment.proofs.Prelude.{◌≡◌, ◌+◌, ◌++◌, ◌∙◌, ap, drop, slice_range, arith, List, ℕ, Option, IsSome, is_some, datagram_bytes, offset_of, datagram_len, datagram_of}
 use Rattle.tcp_segment.proofs.Putting.{no_option, option_put}
 use Rattle.tcp_segment.proofs.sent.put_in.Goals as goal
 

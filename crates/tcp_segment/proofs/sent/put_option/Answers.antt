@@ -1,4 +1,4 @@
-use Rattle.std.proofs.Common.{◌++◌, ◌∙◌, ap, take, drop, arith}
+use Rattle.tcp_segment.proofs.Prelude.{◌++◌, ◌∙◌, ap, take, drop, arith}
 use Rattle.tcp_segment.proofs.Putting.{option_is}
 use Rattle.tcp_segment.proofs.sent.put_option.Goals as goal
 

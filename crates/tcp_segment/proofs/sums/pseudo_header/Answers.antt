@@ -1,4 +1,4 @@
-use Rattle.std.proofs.Common.{arith}
+use Rattle.tcp_segment.proofs.Prelude.{arith}
 use Rattle.tcp_segment.proofs.Putting.{pseudo_is}
 use Rattle.tcp_segment.proofs.sums.pseudo_header.Goals as goal
 

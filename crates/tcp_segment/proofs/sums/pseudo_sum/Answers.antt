@@ -1,5 +1,4 @@
-use Rattle.std.proofs.Common.{◌∙◌, ap, []}
-use Rattle.uip_wire.specs.Sums.{sum_of}
+use Rattle.tcp_segment.proofs.Prelude.{◌∙◌, ap, [], sum_of}
 use Rattle.tcp_segment.proofs.sums.pseudo_sum.Goals as goal
 
 pub returns : goal.returns

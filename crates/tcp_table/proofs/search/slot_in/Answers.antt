@@ -1,6 +1,6 @@
 use Rattle.std.proofs.Common.{ap, ◌∙◌, sym, position}
 use Rattle.std.specs.Option.{option_or}
-use Rattle.tcp_table.specs.Slots.{longest_rest, has_waited}
+use Rattle.tcp_table.specs.Prelude.{longest_rest, has_waited}
 use Rattle.tcp_table.proofs.search.slot_in.Goals as goal
 
 -- src/search.rt:50:1

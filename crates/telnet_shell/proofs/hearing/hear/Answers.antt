@@ -1,5 +1,4 @@
-use Rattle.std.proofs.Common.{[], ◌∷◌}
-use Rattle.telnet_shell.specs.Reading.Token.{Byte, Answer}
+use Rattle.telnet_shell.proofs.Prelude.{[], ◌∷◌, Byte, Answer}
 use Rattle.telnet_shell.proofs.Opening.{goes_on}
 use Rattle.telnet_shell.proofs.hearing.hear.Goals as goal
 

@@ -1,4 +1,4 @@
-use Rattle.telnet_shell.specs.Lemmas.ShellLaws.{shell_lawful, shell_starts}
+use Rattle.telnet_shell.proofs.Prelude.{shell_lawful, shell_starts}
 use Rattle.telnet_shell.proofs.laws.shell_laws.Goals as goal
 
 pub returns : goal.returns

@@ -1,4 +1,4 @@
-use Rattle.std.proofs.Common.{length}
+use Rattle.telnet_shell.proofs.Prelude.{length}
 use Rattle.telnet_shell.proofs.saying.+fill_rest.Given as goal
 
 abbrev pub decreases-fill_rest : goal.decreases-fill_rest

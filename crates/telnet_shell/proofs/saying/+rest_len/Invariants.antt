@@ -1,4 +1,4 @@
-use Rattle.std.proofs.Common.{length}
+use Rattle.telnet_shell.proofs.Prelude.{length}
 use Rattle.telnet_shell.proofs.saying.+rest_len.Given as goal
 
 abbrev pub decreases-rest_len : goal.decreases-rest_len

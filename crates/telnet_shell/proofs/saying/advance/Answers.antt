@@ -1,6 +1,4 @@
-use Rattle.std.proofs.Common.{sym, ap, ◌∙◌, arith, List}
-use Rattle.telnet_shell.specs.declared.command.Command.{Command}
-use Rattle.telnet_shell.specs.Saying.{is_past}
+use Rattle.telnet_shell.proofs.Prelude.{sym, ap, ◌∙◌, arith, List, Command, is_past}
 use Rattle.telnet_shell.proofs.Advancing.{passed_on, enough_left, nearer}
 use Rattle.telnet_shell.proofs.saying.advance.Goals as goal
 

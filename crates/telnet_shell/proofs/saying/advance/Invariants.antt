@@ -1,6 +1,4 @@
-use Rattle.std.proofs.Common.{◌+◌, ◌≤◌, length}
-use Rattle.app_events.specs.AppSpec.{AppState}
-use Rattle.telnet_shell.specs.Saying.{IsTrailing, left_said}
+use Rattle.telnet_shell.proofs.Prelude.{◌+◌, ◌≤◌, length, AppState, IsTrailing, left_said}
 use Rattle.telnet_shell.proofs.saying.advance.Given as goal
 
 abbrev pub invariant-passing : goal.invariant-passing

@@ -1,6 +1,4 @@
-use Rattle.std.proofs.Common.{length, drop, [], arith, length-drop}
-use Rattle.telnet_shell.specs.Transcript.{said_with, transcript}
-use Rattle.telnet_shell.specs.Lemmas.Speaking.{two_parts}
+use Rattle.telnet_shell.proofs.Prelude.{length, drop, [], arith, length-drop, said_with, transcript, two_parts}
 use Rattle.telnet_shell.proofs.saying.fill_prefix.Goals as goal
 
 pub returns : goal.returns

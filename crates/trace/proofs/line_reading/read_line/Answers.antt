@@ -1,9 +1,5 @@
-use Rattle.std.proofs.Common.{rules, ◌++◌, [], ◌∷◌, map, take, refl, arith, length-append, length-take}
-use Rattle.std.proofs.lemmas.List.{length-take-le}
-use Rattle.uip_edge.proofs.Told.{Consumes-none, Consumes-then}
+use Rattle.trace.proofs.Prelude.{rules, ◌++◌, [], ◌∷◌, map, take, refl, arith, length-append, length-take, length-take-le, Consumes-none, Consumes-then, Byte, Quiet, line_view}
 use Rattle.uip_edge.proofs.Turns.{calm_then, counted as bytes_counted}
-use Rattle.uip_edge.specs.declared.item.Item.TheVariants.{Byte, Quiet}
-use Rattle.uip_edge.specs.ViewsOf.{line_view}
 use Rattle.trace.proofs.LineLaws.{stops_read}
 use Rattle.trace.proofs.line_reading.read_line.Goals as goal
 

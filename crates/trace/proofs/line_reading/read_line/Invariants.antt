@@ -1,8 +1,4 @@
-use Rattle.std.proofs.Common.{◌≡◌, ◌≤◌, ◌+◌, [], List, length}
-use Rattle.uip_edge.specs.Coming.{Consumes}
-use Rattle.uip_edge.specs.declared.item.Item.{Item}
-use Rattle.uip_edge.specs.ViewsOf.{line_view}
-use Rattle.uip_edge.specs.Views.{IsCalm}
+use Rattle.trace.proofs.Prelude.{◌≡◌, ◌≤◌, ◌+◌, [], List, length, Consumes, Item, line_view, IsCalm}
 use Rattle.trace.proofs.line_reading.read_line.Given as goal
 
 abbrev pub invariant-loop-left : goal.invariant-loop-left

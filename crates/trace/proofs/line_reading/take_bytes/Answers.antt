@@ -1,8 +1,4 @@
-use Rattle.std.proofs.Common.{◌++◌, [], ◌∙◌, take, refl, sym, ap, subst, List, map, append-nil, append_assoc, arith, length-append}
-use Rattle.std.proofs.lemmas.List.{length-take-le, map-append}
-use Rattle.uip_edge.proofs.Told.{moved_on}
-use Rattle.uip_edge.specs.declared.item.Item.{Item}
-use Rattle.uip_edge.specs.declared.item.Item.TheVariants.{Byte}
+use Rattle.trace.proofs.Prelude.{◌++◌, [], ◌∙◌, take, refl, sym, ap, subst, List, map, append-nil, append_assoc, arith, length-append, length-take-le, map-append, moved_on, Item, Byte}
 use Rattle.trace.proofs.line_reading.take_bytes.Goals as goal
 
 pub loop-rest-init : goal.loop-rest-init

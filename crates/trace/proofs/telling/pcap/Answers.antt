@@ -1,7 +1,6 @@
-use Rattle.std.proofs.Common.{refl}
+use Rattle.trace.proofs.Prelude.{refl, line_view}
 use Rattle.trace.proofs.TellLaws.{reported_after}
 use Rattle.trace.proofs.TextLaws.{capture_is}
-use Rattle.uip_edge.specs.ViewsOf.{line_view}
 use Rattle.trace.proofs.telling.pcap.Goals as goal
 
 pub returns-in-Ok : goal.returns-in-Ok

@@ -1,8 +1,4 @@
-use Rattle.std.proofs.Common.{◌++◌, [], ap, arith, length, length-append, map}
-use Rattle.uip_edge.proofs.Breaking.{breaks_prefix}
-use Rattle.uip_edge.proofs.Told.{prefix_by}
-use Rattle.uip_edge.specs.declared.item.Item.TheVariants.{Byte}
-use Rattle.trace.specs.Watching.{text_after}
+use Rattle.trace.proofs.Prelude.{◌++◌, [], ap, arith, length, length-append, map, breaks_prefix, prefix_by, Byte, text_after}
 use Rattle.trace.proofs.SeenLaws.{text-then}
 use Rattle.trace.proofs.TellLaws.{written_by}
 use Rattle.trace.proofs.telling.watch_line.Goals as goal

@@ -1,5 +1,5 @@
 use Rattle.std.proofs.Common.{Err, arith, sym, ap, ◌∙◌}
-use Rattle.udp_datagram.specs.Udp.{is_of_other_protocol}
+use Rattle.udp_datagram.specs.Prelude.{is_of_other_protocol}
 use Rattle.udp_datagram.proofs.Whole.{is_whole}
 use Rattle.udp_datagram.proofs.received.carries_udp.Goals as goal
 

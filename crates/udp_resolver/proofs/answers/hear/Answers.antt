@@ -1,8 +1,5 @@
-use Rattle.std.proofs.Common.{◌∷◌, [], ◌+◌, ◌++◌, ◌∙◌, None, refl, sym, ap, arith, drop, get_or, length-append}
-use Rattle.std.proofs.lemmas.List.{drop_all, drop_more}
-use Rattle.dns_message.specs.Replies.{answer_to}
+use Rattle.udp_resolver.proofs.Prelude.{◌∷◌, [], ◌+◌, ◌++◌, ◌∙◌, None, refl, sym, ap, arith, drop, get_or, length-append, drop_all, drop_more, answer_to, option_or}
 use Rattle.udp_resolver.proofs.StepLaws.{get_seam, heard_none, heard_step, here, set_seam}
-use Rattle.std.specs.Option.{option_or}
 use Rattle.udp_resolver.proofs.answers.hear.Goals as goal
 
 pub loop-at-init : goal.loop-at-init

@@ -1,7 +1,4 @@
-use Rattle.std.proofs.Common.{◌≡◌, ◌++◌, List, Option, length, drop}
-use Rattle.dns_message.specs.declared.answer.Answer.{Answer}
-use Rattle.udp_resolver.specs.Fates.{questions}
-use Rattle.udp_resolver.specs.Steps.{heard_now}
+use Rattle.udp_resolver.proofs.Prelude.{◌≡◌, ◌++◌, List, Option, length, drop, Answer, questions, heard_now}
 use Rattle.udp_resolver.proofs.answers.hear.Given as goal
 
 abbrev pub invariant-loop-at : goal.invariant-loop-at

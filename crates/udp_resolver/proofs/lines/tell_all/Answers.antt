@@ -1,10 +1,4 @@
-use Rattle.std.proofs.Common.{◌≡◌, ◌+◌, ◌++◌, ◌∙◌, None, sym, ap, drop, get_or}
-use Rattle.uip_edge.proofs.Told.{Appends-then, appends_by, on_err}
-use Rattle.uip_edge.specs.ViewsOf.{sink_view}
-use Rattle.uip_edge.proofs.Writes.{writes_broken, writes_by}
-use Rattle.udp_resolver.specs.Fates.{fate_by}
-use Rattle.udp_resolver.specs.Lines.{line_of}
-use Rattle.udp_resolver.specs.Steps.{lines_by}
+use Rattle.udp_resolver.proofs.Prelude.{◌≡◌, ◌+◌, ◌++◌, ◌∙◌, None, sym, ap, drop, get_or, Appends-then, appends_by, on_err, sink_view, writes_broken, writes_by, fate_by, line_of, lines_by}
 use Rattle.udp_resolver.proofs.StepLaws.{line_moves, line_some, some_moves}
 use Rattle.udp_resolver.proofs.lines.tell_all.Goals as goal
 

@@ -1,6 +1,4 @@
-use Rattle.std.proofs.Common.{◌≡◌, ◌++◌, List, ℕ, drop}
-use Rattle.std.specs.Io.KnownBytes.{Appends}
-use Rattle.udp_resolver.specs.Steps.{lines_by}
+use Rattle.udp_resolver.proofs.Prelude.{◌≡◌, ◌++◌, List, ℕ, drop, Appends, lines_by}
 use Rattle.udp_resolver.proofs.lines.tell_all.Given as goal
 
 abbrev pub invariant-loop-at : goal.invariant-loop-at

@@ -1,8 +1,4 @@
-use Rattle.std.proofs.Common.{List, ℕ, subst}
-use Rattle.dns_message.specs.declared.asking.Asking.{Asking}
-use Rattle.udp_resolver.specs.Fates.{questions}
-use Rattle.udp_resolver.specs.Resolving.{Resolves}
-use Rattle.udp_resolver.specs.Streams.{streams}
+use Rattle.udp_resolver.proofs.Prelude.{List, ℕ, subst, Asking, questions, Resolves, streams}
 use Rattle.udp_resolver.proofs.ResolveLaws.{names_part, names_told}
 use Rattle.udp_resolver.proofs.resolving.resolve.Goals as goal
 

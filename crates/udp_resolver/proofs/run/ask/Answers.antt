@@ -1,10 +1,5 @@
-use Rattle.std.proofs.Common.{◌++◌, refl, arith, length-append, length-take, inr}
-use Rattle.uip_edge.proofs.Told.{Consumes-then}
-use Rattle.uip_edge.proofs.Turns.{calm_then}
-use Rattle.udp_resolver.specs.Fates.{all_settled, questions}
-use Rattle.udp_resolver.specs.LineEvents.{events}
+use Rattle.udp_resolver.proofs.Prelude.{◌++◌, refl, arith, length-append, length-take, inr, Consumes-then, calm_then, all_settled, questions, events, line_view}
 use Rattle.udp_resolver.proofs.AskLaws.{added, open_by_test, stopped}
-use Rattle.uip_edge.specs.ViewsOf.{line_view}
 use Rattle.udp_resolver.proofs.run.ask.Goals as goal
 
 pub loop-asking-preserved : goal.loop-asking-preserved

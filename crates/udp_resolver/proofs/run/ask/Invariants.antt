@@ -1,16 +1,4 @@
-use Rattle.std.proofs.Common.{◌≡◌, ◌≤◌, ◌+◌, [], List, length, ◌⊎◌}
-use Rattle.std.specs.Io.KnownBytes.{Appends}
-use Rattle.rexmit_timer.specs.declared.timer.TheConstants.{TEXT_LIMIT}
-use Rattle.uip_edge.specs.Coming.{Consumes}
-use Rattle.uip_edge.specs.declared.item.Item.{Item}
-use Rattle.uip_edge.specs.ViewsOf.{line_view}
-use Rattle.uip_edge.specs.Views.{IsCalm}
-use Rattle.uip_wire.specs.declared.sizes.TheConstants.{LARGEST_DATAGRAM}
-use Rattle.udp_resolver.specs.Asked.{line_text}
-use Rattle.udp_resolver.specs.Fates.{questions}
-use Rattle.udp_resolver.specs.LineEvents.{events}
-use Rattle.udp_resolver.specs.Resolving.{LastAsked}
-use Rattle.udp_resolver.specs.Standing.{RunRepresents}
+use Rattle.udp_resolver.proofs.Prelude.{◌≡◌, ◌≤◌, ◌+◌, [], List, length, ◌⊎◌, Appends, TEXT_LIMIT, Consumes, Item, line_view, IsCalm, LARGEST_DATAGRAM, line_text, questions, events, LastAsked, RunRepresents}
 use Rattle.udp_resolver.proofs.run.ask.Given as goal
 
 abbrev pub invariant-loop-asking : goal.invariant-loop-asking

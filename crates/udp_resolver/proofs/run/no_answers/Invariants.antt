@@ -1,4 +1,4 @@
-use Rattle.std.proofs.Common.{◌≡◌, None, replicate}
+use Rattle.udp_resolver.proofs.Prelude.{◌≡◌, None, replicate}
 use Rattle.udp_resolver.proofs.run.no_answers.Given as goal
 
 abbrev pub invariant-loop-name : goal.invariant-loop-name

@@ -1,4 +1,4 @@
-use Rattle.uip_c.specs.EtherWebs.{host_at}
+use Rattle.uip_c.proofs.Prelude.{host_at}
 use Rattle.uip_c.proofs.Opened.{opened_ether}
 use Rattle.uip_c.proofs.ether_opening.open_ether.Goals as goal
 

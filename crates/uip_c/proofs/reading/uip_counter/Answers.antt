@@ -1,6 +1,4 @@
-use Rattle.std.proofs.Common.{◌∙◌, ap, sym}
-use Rattle.uip_c.specs.Kept.{Kept, node_in}
-use Rattle.uip_c.specs.Taking.{node_of}
+use Rattle.uip_c.proofs.Prelude.{◌∙◌, ap, sym, Kept, node_in, node_of}
 use Rattle.uip_c.proofs.Taking.{node_kept}
 use Rattle.uip_c.proofs.reading.uip_counter.Goals as goal
 

@@ -1,8 +1,4 @@
-use Rattle.std.proofs.Common.{List, ◌∙◌, ap, sym}
-use Rattle.site_image.specs.Files.{File}
-use Rattle.web_pages.specs.Pages.{hits_of}
-use Rattle.uip_c.specs.Kept.{Kept, node_in}
-use Rattle.uip_c.specs.Taking.{node_of}
+use Rattle.uip_c.proofs.Prelude.{List, ◌∙◌, ap, sym, File, hits_of, Kept, node_in, node_of}
 use Rattle.uip_c.proofs.Taking.{node_kept}
 use Rattle.uip_c.proofs.reading.uip_hits.Goals as goal
 

@@ -1,7 +1,5 @@
-use Rattle.std.proofs.Common.{Bool, ◌∙◌, ap, sym}
+use Rattle.uip_c.proofs.Prelude.{Bool, ◌∙◌, ap, sym, Kept, node_in, node_of}
 use mir.Val.{bool_byte}
-use Rattle.uip_c.specs.Kept.{Kept, node_in}
-use Rattle.uip_c.specs.Taking.{node_of}
 use Rattle.uip_c.proofs.Opened.{byte_of}
 use Rattle.uip_c.proofs.Taking.{node_kept}
 use Rattle.uip_c.proofs.reading.uip_is_idle.Goals as goal

@@ -1,8 +1,4 @@
-use Rattle.std.proofs.Common.{Option, ◌∙◌, ap, subst, sym}
-use Rattle.app_events.specs.declared.row.Row.{Row}
-use Rattle.uip_c.specs.Kept.{Kept, node_in}
-use Rattle.uip_c.specs.Rows.{TellsRow}
-use Rattle.uip_c.specs.Taking.{node_of}
+use Rattle.uip_c.proofs.Prelude.{Option, ◌∙◌, ap, subst, sym, Row, Kept, node_in, TellsRow, node_of}
 use Rattle.uip_c.proofs.Taking.{node_kept}
 use Rattle.uip_c.proofs.rows.uip_connection.Goals as goal
 

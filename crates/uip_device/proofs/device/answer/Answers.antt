@@ -1,7 +1,4 @@
-use Rattle.std.proofs.Common.{◌≡◌, ◌++◌, take}
-use Rattle.packet_buffer.specs.Buffer.{datagram_in}
-use Rattle.serve_loop.specs.Texts.{text_of}
-use Rattle.uip_device.specs.Handing.{text_to_come}
+use Rattle.uip_device.proofs.Prelude.{◌≡◌, ◌++◌, take, datagram_in, text_of, text_to_come}
 use Rattle.uip_device.proofs.SendLaws.{as_text, sends_input}
 use Rattle.uip_device.proofs.device.answer.Goals as goal
 

@@ -1,12 +1,5 @@
-use Rattle.std.proofs.Common.{◌≡◌, ◌++◌, [], ◌∷◌, ap, arith, inl, inr, List, length, length-append, map, refl, take}
-use Rattle.uip_edge.specs.declared.item.Item.TheVariants.{Byte}
-use Rattle.packet_buffer.specs.Buffer.{datagram_in}
-use Rattle.uip_slip.specs.Frames.{Datagram, Frame, Overlong, frames}
-use Rattle.uip_node.specs.Edge.{event_of}
+use Rattle.uip_device.proofs.Prelude.{◌≡◌, ◌++◌, [], ◌∷◌, ap, arith, inl, inr, List, length, length-append, map, refl, take, Byte, datagram_in, Datagram, Frame, Overlong, frames, event_of, events_after, text_of, text_to_come}
 use Rattle.uip_node.specs.Events.Event.{Overlong as OverlongFrame}
-use Rattle.serve_loop.specs.LineEvents.{events_after}
-use Rattle.serve_loop.specs.Texts.{text_of}
-use Rattle.uip_device.specs.Handing.{text_to_come}
 use Rattle.uip_device.proofs.FrameLaws.{told_events}
 use Rattle.uip_device.proofs.SendLaws.{sends_by, sends_none, sends_overlong}
 use Rattle.uip_device.proofs.device.take.Goals as goal

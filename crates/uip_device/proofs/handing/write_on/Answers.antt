@@ -1,7 +1,4 @@
-use Rattle.std.proofs.Common.{◌++◌, ◌∙◌, ◌-◌, arith, drop, length, length-drop, length-take, refl, sym, ap, take}
-use Rattle.std.proofs.lemmas.List.{take-append-drop, take_rest}
-use Rattle.uip_edge.proofs.Told.{moved_on}
-use Rattle.uip_device.specs.Handing.{rest_text}
+use Rattle.uip_device.proofs.Prelude.{◌++◌, ◌∙◌, ◌-◌, arith, drop, length, length-drop, length-take, refl, sym, ap, take, take-append-drop, take_rest, moved_on, rest_text}
 use Rattle.uip_device.proofs.HandLaws.{prefix_put}
 use Rattle.uip_device.proofs.handing.write_on.Goals as goal
 

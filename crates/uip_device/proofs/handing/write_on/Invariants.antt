@@ -1,5 +1,4 @@
-use Rattle.std.proofs.Common.{◌≡◌, ◌++◌, ◌+◌, ◌*◌, ◌-◌, ◌≤◌, List, ℕ, length, take, drop}
-use Rattle.uip_device.specs.Handing.{rest_text}
+use Rattle.uip_device.proofs.Prelude.{◌≡◌, ◌++◌, ◌+◌, ◌*◌, ◌-◌, ◌≤◌, List, ℕ, length, take, drop, rest_text}
 use Rattle.uip_device.proofs.handing.write_on.Given as goal
 
 abbrev pub invariant-loop-out : goal.invariant-loop-out

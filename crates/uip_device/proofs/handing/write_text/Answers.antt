@@ -1,7 +1,4 @@
-use Rattle.std.proofs.Common.{◌++◌, ◌∙◌, ap, take}
-use Rattle.std.specs.Option.{is_some}
-use Rattle.packet_buffer.specs.Buffer.{datagram_in}
-use Rattle.uip_device.specs.Handing.{text_to_come, rest_text}
+use Rattle.uip_device.proofs.Prelude.{◌++◌, ◌∙◌, ap, take, is_some, datagram_in, text_to_come, rest_text}
 use Rattle.uip_device.proofs.HandLaws.{sent_text}
 use Rattle.uip_device.proofs.handing.write_text.Goals as goal
 

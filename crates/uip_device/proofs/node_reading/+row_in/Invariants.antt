@@ -1,4 +1,4 @@
-use Rattle.std.proofs.Common.{length}
+use Rattle.uip_device.proofs.Prelude.{length}
 use Rattle.uip_device.proofs.node_reading.+row_in.Given as goal
 
 abbrev pub decreases-row_in : goal.decreases-row_in

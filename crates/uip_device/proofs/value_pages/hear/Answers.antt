@@ -1,10 +1,4 @@
-use Rattle.std.proofs.Common.{◌++◌, ap, sym, subst, ◌∙◌, arith}
-use Rattle.device_values.specs.Words.{record_text, words}
-use Rattle.file_tree.specs.Site.{SiteContent}
-use Rattle.web_pages.specs.Requests.{wanted}
-use Rattle.httpd.specs.Web.{WebContent}
-use Rattle.httpd.proofs.Finding.{hits_left}
-use Rattle.httpd.specs.Compact.{CompactRepresent}
+use Rattle.uip_device.proofs.Prelude.{◌++◌, ap, sym, subst, ◌∙◌, arith, record_text, words, SiteContent, wanted, WebContent, hits_left, CompactRepresent}
 use Rattle.uip_device.proofs.value_pages.hear.Goals as goal
 
 pub returns-clause-part : goal.returns-clause-part

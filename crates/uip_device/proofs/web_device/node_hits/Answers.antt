@@ -1,12 +1,4 @@
-use Rattle.std.proofs.Common.{◌≡◌, ◌<◌, List, ℕ, ◌++◌, Option, None, Some, length, ap, sym, subst, ◌∙◌, arith, get_or, option_map}
-use Rattle.std.proofs.lemmas.List.{get_or_append_left}
-use Rattle.std.proofs.lemmas.Grind.{get_or_default_zero}
-use Rattle.site_image.specs.Files.{File}
-use Rattle.file_tree.specs.Site.{AreApart, SiteContent, files_of}
-use Rattle.file_tree.specs.declared.file_id.FileId.{FileId}
-use Rattle.httpd.specs.Web.{WebContent}
-use Rattle.httpd.proofs.Finding.{found_place}
-use Rattle.web_pages.specs.Pages.{hits_of, place_of}
+use Rattle.uip_device.proofs.Prelude.{◌≡◌, ◌<◌, List, ℕ, ◌++◌, Option, None, Some, length, ap, sym, subst, ◌∙◌, arith, get_or, option_map, get_or_append_left, get_or_default_zero, File, AreApart, SiteContent, files_of, FileId, WebContent, found_place, hits_of, place_of}
 use Rattle.uip_device.proofs.WebLaws.{hits_at}
 use Rattle.uip_device.proofs.web_device.node_hits.Goals as goal
 

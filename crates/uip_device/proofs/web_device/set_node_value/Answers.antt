@@ -1,5 +1,4 @@
-use Rattle.std.proofs.Common.{List, ℕ, ◌++◌, ap, refl, sym, ◌∙◌}
-use Rattle.uip_device.specs.WebDevices.{write_value}
+use Rattle.uip_device.proofs.Prelude.{List, ℕ, ◌++◌, ap, refl, sym, ◌∙◌, write_value}
 use Rattle.uip_device.proofs.WebLaws.{written_after}
 use Rattle.uip_device.proofs.web_device.set_node_value.Goals as goal
 

@@ -1,5 +1,4 @@
-use Rattle.std.proofs.Common.{◌≡◌, ◌≤◌, ◌<◌, length, arith}
-use Rattle.uip_edge.specs.Memory.{byte_run}
+use Rattle.uip_edge.proofs.Prelude.{◌≡◌, ◌≤◌, ◌<◌, length, arith, byte_run}
 use Rattle.uip_edge.proofs.Runs.{run_to_quiet, run_to_end}
 use Rattle.uip_edge.proofs.mem_link.copy_run.Goals as goal
 

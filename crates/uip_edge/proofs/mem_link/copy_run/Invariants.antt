@@ -1,5 +1,4 @@
-use Rattle.std.proofs.Common.{◌≡◌, map, take}
-use Rattle.uip_edge.specs.declared.item.Item.TheVariants.{Byte}
+use Rattle.uip_edge.proofs.Prelude.{◌≡◌, map, take, Byte}
 use Rattle.uip_edge.proofs.mem_link.copy_run.Given as goal
 
 abbrev pub invariant-loop-at : goal.invariant-loop-at

@@ -1,5 +1,4 @@
-use Rattle.std.proofs.Common.{arith}
-use Rattle.std.proofs.lemmas.List.{length-take-le}
+use Rattle.uip_ipv4.proofs.Prelude.{arith, length-take-le}
 use Rattle.uip_ipv4.proofs.sent.put_numbered_head.Goals as goal
 
 pub copy_from_slice-requires : goal.copy_from_slice-requires

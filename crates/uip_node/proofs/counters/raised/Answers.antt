@@ -1,8 +1,6 @@
 -- The counters, index by index.
 -- [add: counter] The number of counters.
-use Rattle.std.proofs.Common.{◌≡◌, ◌≢◌, ℕ, ◌+◌, ◌<◌, ◌==◌, ◌||◌, Bool, if◌then◌else◌, length, get_or, get_or-set_other, get_or-set_same, length-set, below_more, false, sym, ap, ◌∙◌, arith}
-use Rattle.uip_wire.specs.Numbers.{wrap}
-use Rattle.uip_node.specs.Raising.{marks}
+use Rattle.uip_node.proofs.Prelude.{◌≡◌, ◌≢◌, ℕ, ◌+◌, ◌<◌, ◌==◌, ◌||◌, Bool, if◌then◌else◌, length, get_or, get_or-set_other, get_or-set_same, length-set, below_more, false, sym, ap, ◌∙◌, arith, wrap, marks}
 use Rattle.uip_node.proofs.Raises.{raise_by_place, marks_at}
 use Rattle.uip_node.proofs.counters.raised.Goals as goal
 

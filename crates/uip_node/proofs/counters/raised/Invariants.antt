@@ -1,5 +1,4 @@
-use Rattle.std.proofs.Common.{◌≡◌, ℕ, ◌+◌, ◌<◌, ◌≤◌, ◌==◌, ◌||◌, if◌then◌else◌, get_or, length}
-use Rattle.uip_wire.specs.Numbers.{wrap}
+use Rattle.uip_node.proofs.Prelude.{◌≡◌, ℕ, ◌+◌, ◌<◌, ◌≤◌, ◌==◌, ◌||◌, if◌then◌else◌, get_or, length, wrap}
 use Rattle.uip_node.proofs.counters.raised.Given as goal
 
 abbrev pub invariant-loop-place : goal.invariant-loop-place

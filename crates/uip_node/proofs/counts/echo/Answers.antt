@@ -1,8 +1,6 @@
 -- The counters represent the longer history.
 -- [add: counter] A call that raises the counter: a folder as this one.
-use Rattle.std.proofs.Common.{refl}
-use Rattle.uip_node.specs.Events.Event.{EchoAsked}
-use Rattle.uip_node.specs.Events.Answer.{EchoReplied}
+use Rattle.uip_node.proofs.Prelude.{refl, EchoAsked, EchoReplied}
 use Rattle.uip_node.proofs.Twice.{counted, second}
 use Rattle.uip_node.proofs.counts.echo.Goals as goal
 

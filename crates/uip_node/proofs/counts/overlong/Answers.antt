@@ -1,5 +1,5 @@
 -- The counters represent the longer history.
-use Rattle.uip_node.specs.Events.Event.{Overlong}
+use Rattle.uip_node.proofs.Prelude.{Overlong}
 use Rattle.uip_node.proofs.Twice.{counted}
 use Rattle.uip_node.proofs.counts.overlong.Goals as goal
 

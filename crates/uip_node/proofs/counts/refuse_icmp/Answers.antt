@@ -1,7 +1,5 @@
 -- The counters represent the longer history.
-use Rattle.std.proofs.Common.{ℕ, ap, ◌∙◌}
-use Rattle.uip_node.specs.Raising.{marks, raise}
-use Rattle.uip_node.specs.Events.Event.{IcmpRefused}
+use Rattle.uip_node.proofs.Prelude.{ℕ, ap, ◌∙◌, marks, raise, IcmpRefused}
 use Rattle.uip_node.proofs.Twice.{counted}
 use Rattle.uip_node.proofs.counts.refuse_icmp.Goals as goal
 

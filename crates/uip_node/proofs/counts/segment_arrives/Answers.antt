@@ -1,5 +1,5 @@
 -- The counters represent the longer history.
-use Rattle.uip_node.specs.Events.Event.{Arrived}
+use Rattle.uip_node.proofs.Prelude.{Arrived}
 use Rattle.uip_node.proofs.Twice.{counted}
 use Rattle.uip_node.proofs.counts.segment_arrives.Goals as goal
 

@@ -1,8 +1,5 @@
 -- The counters represent the longer history.
-use Rattle.std.proofs.Common.{ℕ, ap, ◌∙◌}
-use Rattle.uip_node.specs.Counted.{again_place}
-use Rattle.uip_node.specs.Events.Answer.{Spoke}
-use Rattle.uip_node.specs.Raising.{marks, raise}
+use Rattle.uip_node.proofs.Prelude.{ℕ, ap, ◌∙◌, again_place, Spoke, marks, raise}
 use Rattle.uip_node.proofs.Twice.{second, speaks}
 use Rattle.uip_node.proofs.counts.speak.Goals as goal
 

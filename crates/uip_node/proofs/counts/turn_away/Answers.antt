@@ -1,5 +1,5 @@
 -- The counters represent the longer history.
-use Rattle.uip_node.specs.Events.Answer.{NoSlot}
+use Rattle.uip_node.proofs.Prelude.{NoSlot}
 use Rattle.uip_node.proofs.Twice.{second, turns_away}
 use Rattle.uip_node.proofs.counts.turn_away.Goals as goal
 

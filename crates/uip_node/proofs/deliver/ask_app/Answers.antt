@@ -1,7 +1,5 @@
 -- The snapshot at which the application is asked.
-use Rattle.std.proofs.Common.{refl}
-use Rattle.app_events.specs.declared.now.Now.{Now}
-use Rattle.uip_node.specs.Slots.{live_rows}
+use Rattle.uip_node.proofs.Prelude.{refl, Now, live_rows}
 use Rattle.uip_node.proofs.Settling.{prepared_asked, settled}
 use Rattle.uip_node.proofs.deliver.ask_app.Goals as goal
 

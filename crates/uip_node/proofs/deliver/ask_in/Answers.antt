@@ -1,10 +1,5 @@
 -- The connection in its slot.
-use Rattle.std.proofs.Common.{ap, sym, ◌∙◌, length, length-set, subst}
-use Rattle.tcp_table.specs.Connections.{Connections}
-use Rattle.tcp_machine.proofs.Saying.{open_lives}
-use Rattle.tcp_machine.specs.Ask.{ask_prepared}
-use Rattle.tcp_machine.specs.Fits.{StepFits}
-use Rattle.uip_node.specs.Slots.{AllSound, OthersRest}
+use Rattle.uip_node.proofs.Prelude.{ap, sym, ◌∙◌, length, length-set, subst, Connections, open_lives, ask_prepared, StepFits, AllSound, OthersRest}
 use Rattle.uip_node.proofs.Naming.{asked_same, live_named, named_after}
 use Rattle.uip_node.proofs.Places.{is_in_after, meets_viewed}
 use Rattle.uip_node.proofs.Settling.{kept_after, rests_of}

@@ -1,14 +1,5 @@
 -- The connection in its slot.
-use Rattle.std.proofs.Common.{ℕ, ◌≡◌, List, Some, ap, sym, ◌∙◌, length, length-set, subst, false}
-use Rattle.std.specs.Prelude.{slice_get, slice_set}
-use Rattle.tcp_table.specs.Connections.{Connections}
-use Rattle.tcp_table.specs.declared.conn.Conn.{Conn}
-use Rattle.tcp_machine.specs.Connection.{Sockets}
-use Rattle.tcp_machine.specs.Fits.{StepFits}
-use Rattle.tcp_machine.specs.OnSegment.{accepted}
-use Rattle.tcp_machine.specs.declared.step.Step.{Step}
-use Rattle.tcp_machine.specs.Represents.{plain}
-use Rattle.uip_node.specs.Slots.{AllWellFormed, SlotsRepresent}
+use Rattle.uip_node.proofs.Prelude.{ℕ, ◌≡◌, List, Some, ap, sym, ◌∙◌, length, length-set, subst, false, slice_get, slice_set, Connections, Conn, Sockets, StepFits, accepted, Step, plain, AllWellFormed, SlotsRepresent}
 use Rattle.uip_node.proofs.Places.{is_in_after, stands_after}
 use Rattle.uip_node.proofs.Settling.{kept_with, rests_of}
 use Rattle.uip_node.proofs.Tables.{table_opens}

@@ -1,10 +1,5 @@
 -- The connection in its slot.
-use Rattle.std.proofs.Common.{ap, sym, ◌∙◌, length, length-set, subst}
-use Rattle.tcp_table.specs.Connections.{Connections}
-use Rattle.tcp_machine.proofs.Saying.{open_lives}
-use Rattle.tcp_machine.specs.Ask.{prepared}
-use Rattle.tcp_machine.specs.Fits.{CanBeAsked}
-use Rattle.uip_node.specs.Slots.{AllSound, OthersRest, SlotsRepresent}
+use Rattle.uip_node.proofs.Prelude.{ap, sym, ◌∙◌, length, length-set, subst, Connections, open_lives, prepared, CanBeAsked, AllSound, OthersRest, SlotsRepresent}
 use Rattle.uip_node.proofs.Places.{is_in_after, others_stay, sound_after, stands_after}
 use Rattle.uip_node.proofs.Tables.{at_inside, at_viewed, table_keeps}
 use Rattle.uip_node.proofs.deliver.prepare_in.Goals as goal

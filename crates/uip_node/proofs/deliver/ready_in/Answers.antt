@@ -1,6 +1,5 @@
 -- What is not due is not prepared.
-use Rattle.std.proofs.Common.{refl}
-use Rattle.uip_node.specs.Slots.{live_rows}
+use Rattle.uip_node.proofs.Prelude.{refl, live_rows}
 use Rattle.uip_node.proofs.Settling.{prepares_none}
 use Rattle.uip_node.proofs.deliver.ready_in.Goals as goal
 

@@ -1,8 +1,5 @@
 -- The connection in its slot.
-use Rattle.std.proofs.Common.{ap, sym, ◌∙◌}
-use Rattle.app_events.specs.States.{is_live}
-use Rattle.tcp_machine.specs.OnSegment.{on_segment}
-use Rattle.tcp_machine.specs.Represents.{plain}
+use Rattle.uip_node.proofs.Prelude.{ap, sym, ◌∙◌, is_live, on_segment, plain}
 use Rattle.uip_node.proofs.Naming.{segment_named}
 use Rattle.uip_node.proofs.Places.{meets_viewed, took_step}
 use Rattle.uip_node.proofs.Tables.{at_inside, at_viewed, table_keeps}

@@ -1,5 +1,5 @@
 -- The connection in its slot.
-use Rattle.tcp_machine.specs.OnTick.{on_tick}
+use Rattle.uip_node.proofs.Prelude.{on_tick}
 use Rattle.uip_node.proofs.Naming.{live_named, named_after, on_tick_same}
 use Rattle.uip_node.proofs.Places.{meets_viewed, took_step}
 use Rattle.uip_node.proofs.Tables.{at_inside, at_viewed, table_keeps}

@@ -1,5 +1,4 @@
-use Rattle.std.proofs.Common.{◌≡◌, ◌≤◌, ◌++◌, drop, length}
-use Rattle.uip_node.specs.Slots.{live_rows}
+use Rattle.uip_node.proofs.Prelude.{◌≡◌, ◌≤◌, ◌++◌, drop, length, live_rows}
 use Rattle.uip_node.proofs.listing.rows_of.Given as goal
 
 abbrev pub invariant-loop-slot : goal.invariant-loop-slot

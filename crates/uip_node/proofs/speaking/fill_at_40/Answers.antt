@@ -1,8 +1,5 @@
 -- The text in the area.
-use Rattle.std.proofs.Common.{ℕ, ◌≡◌, ◌+◌, ◌-◌, ◌≤◌, List, ◌++◌, take, drop, length, slice_range, sym, ap, ◌∙◌, subst, arith, length-take, length-drop}
-use Rattle.std.proofs.lemmas.List.{drop_at, length-take-le}
-use Rattle.std.proofs.Math.Seq.{take-append_seam}
-use Rattle.app_events.specs.AppSpec.{CanSay, text_left}
+use Rattle.uip_node.proofs.Prelude.{ℕ, ◌≡◌, ◌+◌, ◌-◌, ◌≤◌, List, ◌++◌, take, drop, length, slice_range, sym, ap, ◌∙◌, subst, arith, length-take, length-drop, drop_at, length-take-le, take-append_seam, CanSay, text_left}
 use borrow.Rule.Slice.PartMut.{post_of, put_mid}
 use Rattle.uip_node.proofs.speaking.fill_at_40.Goals as goal
 

@@ -1,5 +1,5 @@
 -- The datagram in the packet.
-use Rattle.std.proofs.Common.{arith, ◌∙◌}
+use Rattle.uip_node.proofs.Prelude.{arith, ◌∙◌}
 use Rattle.uip_node.proofs.Lengths.{HasAddrs, fits_area, sent_is, sent_length}
 use Rattle.uip_node.proofs.speaking.put_out.Goals as goal
 

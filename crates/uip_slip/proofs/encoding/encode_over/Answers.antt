@@ -1,8 +1,4 @@
-use Rattle.std.proofs.Common.{◌≡◌, ◌++◌, ◌∷◌, [], ◌∙◌, refl, sym, ap, arith, length, append-nil, length-append}
-use Rattle.uip_slip.specs.Text.{escaped, slip_text}
-use Rattle.uip_edge.specs.ViewsOf.{sink_view}
-use Rattle.uip_edge.proofs.Told.{Appends-none, Appends-then, appends_by}
-use Rattle.uip_edge.proofs.Writes.{writes_broken, writes_by, writes_then}
+use Rattle.uip_slip.proofs.Prelude.{◌≡◌, ◌++◌, ◌∷◌, [], ◌∙◌, refl, sym, ap, arith, length, append-nil, length-append, escaped, slip_text, sink_view, Appends-none, Appends-then, appends_by, writes_broken, writes_by, writes_then}
 use Rattle.uip_slip.proofs.TextLaws.{gathered, text_parts, split_pieces, whole_text, escaped-bound}
 use Rattle.uip_slip.proofs.encoding.encode_over.Goals as goal
 

@@ -1,6 +1,4 @@
-use Rattle.std.proofs.Common.{◌≡◌, ◌∷◌, ◌++◌, ◌≤◌, List, ℕ, length}
-use Rattle.std.specs.Io.KnownBytes.{Appends}
-use Rattle.uip_slip.specs.Text.{escaped}
+use Rattle.uip_slip.proofs.Prelude.{◌≡◌, ◌∷◌, ◌++◌, ◌≤◌, List, ℕ, length, Appends, escaped}
 use Rattle.uip_slip.proofs.encoding.encode_over.Given as goal
 
 abbrev pub invariant-loop-rest : goal.invariant-loop-rest

@@ -1,6 +1,4 @@
-use Rattle.std.proofs.Common.{◌≡◌, ◌<◌, ◌-◌, ℕ, false}
-use Rattle.std.specs.Prelude.{slice_index}
-use Rattle.uip_slip.specs.Frames.{is_mark}
+use Rattle.uip_slip.proofs.Prelude.{◌≡◌, ◌<◌, ◌-◌, ℕ, false, slice_index, is_mark}
 use Rattle.uip_slip.proofs.marks.plain_after.Given as goal
 
 abbrev pub invariant-loop-at : goal.invariant-loop-at

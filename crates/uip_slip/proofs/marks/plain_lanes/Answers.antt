@@ -1,7 +1,5 @@
-use Rattle.std.proofs.Common.{◌≡◌, ◌∙◌, ◌+◌, ◌-◌, not, sym, ap, arith, take, drop, length-take, length-drop}
+use Rattle.uip_slip.proofs.Prelude.{◌≡◌, ◌∙◌, ◌+◌, ◌-◌, not, sym, ap, arith, take, drop, length-take, length-drop, prefix_len, is_mark}
 use Rattle.std.proofs.lemmas.Bool.{ne_eqb}
-use Rattle.std.specs.List.{prefix_len}
-use Rattle.uip_slip.specs.Frames.{is_mark}
 use Rattle.uip_slip.proofs.Lanes.{counted, none_set, one_set, window}
 use Rattle.uip_slip.proofs.marks.plain_lanes.Goals as goal
 

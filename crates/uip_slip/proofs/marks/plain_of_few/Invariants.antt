@@ -1,6 +1,4 @@
-use Rattle.std.proofs.Common.{◌≡◌, take, true}
-use Rattle.std.specs.List.{list_all}
-use Rattle.uip_slip.specs.Frames.{is_plain}
+use Rattle.uip_slip.proofs.Prelude.{◌≡◌, take, true, list_all, is_plain}
 use Rattle.uip_slip.proofs.marks.plain_of_few.Given as goal
 
 abbrev pub invariant-loop-at : goal.invariant-loop-at

@@ -1,4 +1,4 @@
-use Rattle.std.proofs.Common.{arith}
+use Rattle.uip_slip.proofs.Prelude.{arith}
 use Rattle.uip_slip.proofs.Lanes.{prefix_alone, prefix_plain, window}
 use Rattle.uip_slip.proofs.marks.plain_of_many.Goals as goal
 

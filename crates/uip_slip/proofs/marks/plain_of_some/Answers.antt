@@ -1,4 +1,4 @@
-use Rattle.std.proofs.Common.{◌+◌, ◌-◌, length, arith}
+use Rattle.uip_slip.proofs.Prelude.{◌+◌, ◌-◌, length, arith}
 use Rattle.uip_slip.proofs.Lanes.{all_plain, prefix_alone, prefix_plain, none_before, window}
 use Rattle.uip_slip.proofs.marks.plain_of_some.Goals as goal
 

@@ -1,5 +1,4 @@
-use Rattle.std.proofs.Common.{◌++◌, ◌∙◌, ◌-◌, arith, drop, length, length-drop, length-take, take}
-use Rattle.uip_edge.proofs.Told.{moved_on}
+use Rattle.uip_slip.proofs.Prelude.{◌++◌, ◌∙◌, ◌-◌, arith, drop, length, length-drop, length-take, take, moved_on}
 use Rattle.uip_slip.proofs.TextLaws.{escaped_then}
 use Rattle.uip_slip.proofs.writing.put_escaped.Goals as goal
 

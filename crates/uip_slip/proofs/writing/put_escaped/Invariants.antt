@@ -1,5 +1,4 @@
-use Rattle.std.proofs.Common.{◌≡◌, ◌++◌, ◌+◌, ◌*◌, ◌≤◌, List, ℕ, length, take}
-use Rattle.uip_slip.specs.Text.{escaped}
+use Rattle.uip_slip.proofs.Prelude.{◌≡◌, ◌++◌, ◌+◌, ◌*◌, ◌≤◌, List, ℕ, length, take, escaped}
 use Rattle.uip_slip.proofs.writing.put_escaped.Given as goal
 
 abbrev pub invariant-loop-rest : goal.invariant-loop-rest

@@ -1,4 +1,4 @@
-use Rattle.std.proofs.Common.{arith, length-take, rules}
+use Rattle.uip_slip.proofs.Prelude.{arith, length-take, rules}
 use Rattle.uip_slip.proofs.TextLaws.{byte_text, run_text}
 use Rattle.uip_slip.proofs.writing.put_run.Goals as goal
 

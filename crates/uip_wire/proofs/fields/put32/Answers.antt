@@ -1,4 +1,4 @@
-use Rattle.std.proofs.Common.{◌∙◌, arith, refl}
+use Rattle.uip_wire.proofs.Prelude.{◌∙◌, arith, refl}
 use Rattle.uip_wire.proofs.Writing.{put_part, long_is}
 use Rattle.uip_wire.proofs.fields.put32.Goals as goal
 

@@ -1,5 +1,4 @@
-use Rattle.std.proofs.Common.{◌+◌, ◌-◌, ◌*◌, ◌≤◌, ◌^◌, get_or, take, arith}
-use Rattle.std.specs.Str.Parse.{digits_value}
+use Rattle.uip_wire.proofs.Prelude.{◌+◌, ◌-◌, ◌*◌, ◌≤◌, ◌^◌, get_or, take, arith, digits_value}
 use Rattle.uip_wire.proofs.NumeralLaws.{none_over, too_great, value_more}
 use Rattle.uip_wire.proofs.numerals.value.Goals as goal
 

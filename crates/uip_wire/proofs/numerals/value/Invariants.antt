@@ -1,5 +1,4 @@
-use Rattle.std.proofs.Common.{◌≡◌, take}
-use Rattle.std.specs.Str.Parse.{digits_value}
+use Rattle.uip_wire.proofs.Prelude.{◌≡◌, take, digits_value}
 use Rattle.uip_wire.proofs.numerals.value.Given as goal
 
 abbrev pub invariant-loop-byte : goal.invariant-loop-byte

@@ -1,5 +1,4 @@
-use Rattle.std.proofs.Common.{◌∙◌}
-use Rattle.std.proofs.lemmas.List.{take_rest}
+use Rattle.uip_wire.proofs.Prelude.{◌∙◌, take_rest}
 use Rattle.uip_wire.proofs.Pieces.{low_first}
 use Rattle.uip_wire.proofs.summer.sum_after.Goals as goal
 

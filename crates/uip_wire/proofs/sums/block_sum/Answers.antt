@@ -1,6 +1,4 @@
-use Rattle.std.proofs.Common.{◌∙◌, ap}
-use Rattle.std.proofs.lemmas.List.{take_rest}
-use Rattle.byteorder.specs.Endian.{little_number}
+use Rattle.uip_wire.proofs.Prelude.{◌∙◌, ap, take_rest, little_number}
 use Rattle.uip_wire.proofs.Wide.{next_block}
 use Rattle.uip_wire.proofs.sums.block_sum.Goals as goal
 

@@ -1,8 +1,4 @@
-use Rattle.std.proofs.Common.{ℕ, ◌+◌, ◌-◌, List, take, drop, length, ap, ◌∙◌}
-use Rattle.std.proofs.lemmas.List.{take_rest}
-use Rattle.byteorder.specs.Endian.{little_number}
-use Rattle.uip_wire.specs.Checksum.{folded}
-use Rattle.uip_wire.specs.Sums.{swapped_sum}
+use Rattle.uip_wire.proofs.Prelude.{ℕ, ◌+◌, ◌-◌, List, take, drop, length, ap, ◌∙◌, take_rest, little_number, folded, swapped_sum}
 use Rattle.uip_wire.proofs.Wide.{next_four}
 use Rattle.uip_wire.proofs.sums.first_four.Goals as goal
 

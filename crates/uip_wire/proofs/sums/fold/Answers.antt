@@ -1,5 +1,4 @@
-use Rattle.std.proofs.Common.{◌∙◌, sym, ap, arith}
-use Rattle.uip_wire.specs.Checksum.{folded}
+use Rattle.uip_wire.proofs.Prelude.{◌∙◌, sym, ap, arith, folded}
 use Rattle.uip_wire.proofs.Folding.{folded_halves, folded_pos, folded_zero}
 use Rattle.uip_wire.proofs.sums.fold.Goals as goal
 

@@ -1,4 +1,4 @@
-use Rattle.std.proofs.Common.{◌+◌, ◌≤◌, ◌<◌, arith}
+use Rattle.uip_wire.proofs.Prelude.{◌+◌, ◌≤◌, ◌<◌, arith}
 use Rattle.uip_wire.proofs.Folding.{folded_pos, folded_small}
 use Rattle.uip_wire.proofs.sums.ones_add.Goals as goal
 

@@ -1,4 +1,4 @@
-use Rattle.std.proofs.Common.{◌∙◌}
+use Rattle.uip_wire.proofs.Prelude.{◌∙◌}
 use Rattle.uip_wire.proofs.Wide.{swapped_back}
 use Rattle.uip_wire.proofs.sums.ones_sum.Goals as goal
 

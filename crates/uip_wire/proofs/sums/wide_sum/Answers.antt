@@ -1,7 +1,4 @@
-use Rattle.std.proofs.Common.{◌+◌, ap, ◌∙◌, arith, drop, length-drop, ℕ}
-use Rattle.std.proofs.lemmas.List.{take_rest}
-use Rattle.uip_wire.specs.Checksum.{folded}
-use Rattle.uip_wire.specs.Sums.{swapped_sum}
+use Rattle.uip_wire.proofs.Prelude.{◌+◌, ap, ◌∙◌, arith, drop, length-drop, ℕ, take_rest, folded, swapped_sum}
 use Rattle.uip_wire.proofs.Wide.{next_eight}
 use Rattle.uip_wire.proofs.sums.wide_sum.Goals as goal
 

@@ -1,5 +1,5 @@
 use Rattle.uip_wire.proofs.Wide.{Adding}
-use Rattle.std.proofs.Common.{length}
+use Rattle.uip_wire.proofs.Prelude.{length}
 use Rattle.uip_wire.proofs.sums.wide_sum.Given as goal
 
 abbrev pub invariant-eights : goal.invariant-eights

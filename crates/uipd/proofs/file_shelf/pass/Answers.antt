@@ -1,5 +1,4 @@
-use Rattle.std.proofs.Common.{rules, ◌≤◌, ◌++◌, arith, length-append, length, length-take, take}
-use Rattle.std.proofs.KnownBytes.{Consumes-trans}
+use Rattle.uipd.proofs.Prelude.{rules, ◌≤◌, ◌++◌, arith, length-append, length, length-take, take, Consumes-trans}
 use Rattle.uipd.proofs.ReadLaws.{read_fits, read_took}
 use Rattle.uipd.proofs.file_shelf.pass.Goals as goal
 

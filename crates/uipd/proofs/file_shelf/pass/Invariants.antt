@@ -1,5 +1,4 @@
-use Rattle.std.proofs.Common.{◌≡◌, ℕ, ◌+◌, List, length}
-use Rattle.std.specs.Io.KnownBytes.{Consumes}
+use Rattle.uipd.proofs.Prelude.{◌≡◌, ℕ, ◌+◌, List, length, Consumes}
 use Rattle.uipd.proofs.file_shelf.pass.Given as goal
 
 abbrev pub invariant-loop-left : goal.invariant-loop-left

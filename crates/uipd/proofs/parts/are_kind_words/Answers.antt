@@ -1,5 +1,4 @@
-use Rattle.std.proofs.Common.{◌∙◌, ap, sym}
-use Rattle.uipd.specs.Words.{is_kind_word}
+use Rattle.uipd.proofs.Prelude.{◌∙◌, ap, sym, is_kind_word}
 use Rattle.uipd.proofs.PartLaws.{all_fails}
 use Rattle.uipd.proofs.parts.are_kind_words.Goals as goal
 

@@ -1,6 +1,4 @@
-use Rattle.std.proofs.Common.{◌≡◌, true, map, take, string_bytes}
-use Rattle.std.specs.List.{list_all}
-use Rattle.uipd.specs.Words.{is_kind_word}
+use Rattle.uipd.proofs.Prelude.{◌≡◌, true, map, take, string_bytes, list_all, is_kind_word}
 use Rattle.uipd.proofs.parts.are_kind_words.Given as goal
 
 abbrev pub invariant-loop-word : goal.invariant-loop-word

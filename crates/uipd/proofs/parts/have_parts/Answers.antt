@@ -1,5 +1,4 @@
-use Rattle.std.proofs.Common.{◌∙◌, ap, sym}
-use Rattle.uipd.specs.Words.{has_parts}
+use Rattle.uipd.proofs.Prelude.{◌∙◌, ap, sym, has_parts}
 use Rattle.uipd.proofs.PartLaws.{all_fails}
 use Rattle.uipd.proofs.parts.have_parts.Goals as goal
 

@@ -1,6 +1,4 @@
-use Rattle.std.proofs.Common.{◌≡◌, true, map, take, string_bytes}
-use Rattle.std.specs.List.{list_all}
-use Rattle.uipd.specs.Words.{has_parts}
+use Rattle.uipd.proofs.Prelude.{◌≡◌, true, map, take, string_bytes, list_all, has_parts}
 use Rattle.uipd.proofs.parts.have_parts.Given as goal
 
 abbrev pub invariant-loop-word : goal.invariant-loop-word

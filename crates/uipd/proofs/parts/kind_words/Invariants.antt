@@ -1,5 +1,4 @@
-use Rattle.std.proofs.Common.{◌≡◌, map, take, string_bytes}
-use Rattle.uipd.specs.Words.{kind_word}
+use Rattle.uipd.proofs.Prelude.{◌≡◌, map, take, string_bytes, kind_word}
 use Rattle.uipd.proofs.parts.kind_words.Given as goal
 
 abbrev pub invariant-loop-word : goal.invariant-loop-word

@@ -1,5 +1,4 @@
-use Rattle.std.proofs.Common.{◌≡◌, map, take, string_bytes}
-use Rattle.uipd.specs.Words.{named_file}
+use Rattle.uipd.proofs.Prelude.{◌≡◌, map, take, string_bytes, named_file}
 use Rattle.uipd.proofs.parts.named_files.Given as goal
 
 abbrev pub invariant-loop-word : goal.invariant-loop-word

@@ -1,5 +1,4 @@
-use Rattle.std.proofs.Common.{◌<◌, ap, arith, length, length-take, string_bytes, take}
-use Rattle.std.proofs.lemmas.List.{length-map}
+use Rattle.uipd.proofs.Prelude.{◌<◌, ap, arith, length, length-take, string_bytes, take, length-map}
 use Rattle.uipd.proofs.resolve_words.names_of.Goals as goal
 
 pub push-requires : goal.push-requires

@@ -1,6 +1,4 @@
-use Rattle.std.proofs.Common.{◌≡◌, map, string_bytes, take, true}
-use Rattle.std.specs.List.{list_all}
-use Rattle.dns_message.specs.Names.{is_domain}
+use Rattle.uipd.proofs.Prelude.{◌≡◌, map, string_bytes, take, true, list_all, is_domain}
 use Rattle.uipd.proofs.resolve_words.names_of.Given as goal
 
 abbrev pub invariant-loop-word : goal.invariant-loop-word

@@ -1,6 +1,5 @@
 -- [add: told-command] Words: a folder for each function that reads them, as this one.
-use Rattle.std.proofs.Common.{◌≡◌, ◌<◌, ℕ, List, [], ◌∷◌, None, refl, sym, arith, length, map, string_bytes}
-use Rattle.uipd.specs.ResolveWords.{resolve_words}
+use Rattle.uipd.proofs.Prelude.{◌≡◌, ◌<◌, ℕ, List, [], ◌∷◌, None, refl, sym, arith, length, map, string_bytes, resolve_words}
 use Rattle.uipd.proofs.resolve_words.resolve_words.Goals as goal
 
 -- fewer than three words have not the form

@@ -1,5 +1,4 @@
-use Rattle.std.proofs.Common.{◌≡◌, ◌∙◌, ◌-◌, if◌then◌else◌, sym, ap, length, map, take, string_bytes}
-use Rattle.std.proofs.lemmas.List.{length-map, take-map}
+use Rattle.uipd.proofs.Prelude.{◌≡◌, ◌∙◌, ◌-◌, if◌then◌else◌, sym, ap, length, map, take, string_bytes, length-map, take-map}
 use Rattle.uipd.proofs.resolve_words.without_tty.Goals as goal
 
 pub returns-then-says_tty : goal.returns-then-says_tty

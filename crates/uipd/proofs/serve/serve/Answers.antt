@@ -1,7 +1,4 @@
-use Rattle.std.proofs.Common.{refl, inl, inr}
-use Rattle.file_tree.specs.Site.{files_of}
-use Rattle.uip_edge.specs.ViewsOf.{shelf_view}
-use Rattle.uip_edge.proofs.Told.{same_shelf}
+use Rattle.uipd.proofs.Prelude.{refl, inl, inr, files_of, shelf_view, same_shelf}
 use Rattle.uipd.proofs.serve.serve.Goals as goal
 
 pub returns-in-Ok-clause-runs : goal.returns-in-Ok-clause-runs

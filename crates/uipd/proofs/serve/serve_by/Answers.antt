@@ -1,11 +1,5 @@
 -- [add: line-kind] The arm of a kind of line.
-use Rattle.std.proofs.Common.{refl, sym, subst}
-use Rattle.uip_edge.specs.ViewsOf.{line_view}
-use Rattle.serve_loop.specs.SerialMedium.{any_acts, slip_medium}
-use Rattle.uipd.specs.Serving.{RunsBy}
-use Rattle.uipd.specs.Statuses.{status_of_serving}
-use Rattle.uipd.specs.declared.words.LineKind.{LineKind}
-use Rattle.uipd.specs.declared.words.LineKind.TheVariants.{Serial}
+use Rattle.uipd.proofs.Prelude.{refl, sym, subst, line_view, any_acts, slip_medium, RunsBy, status_of_serving, LineKind, Serial}
 use Rattle.uipd.proofs.ServeLaws.{ether_run, line_run}
 use Rattle.uipd.proofs.serve.serve_by.Goals as goal
 

@@ -1,13 +1,5 @@
 -- [add: application] The arm of an application.
-use Rattle.std.proofs.Common.{ℕ, List, sym, subst}
-use Rattle.file_tree.specs.Site.{files_of}
-use Rattle.web_pages.specs.Serving.{no_hits, is_served}
-use Rattle.web_pages.specs.WebMeaning.{web_spec}
-use Rattle.telnet_shell.specs.DeskMeaning.{desk_spec, is_served_at}
-use Rattle.uip_edge.specs.ViewsOf.{line_view}
-use Rattle.uipd.specs.Output.{app_spec_of, ports_of}
-use Rattle.uipd.specs.Serving.{RunsBy}
-use Rattle.uipd.specs.declared.words.Application.{Application}
+use Rattle.uipd.proofs.Prelude.{ℕ, List, sym, subst, files_of, no_hits, is_served, web_spec, desk_spec, is_served_at, line_view, app_spec_of, ports_of, RunsBy, Application}
 use Rattle.uipd.proofs.PromiseLaws.{site_runs}
 use Rattle.uipd.proofs.serve.serve_web.Goals as goal
 

@@ -1,4 +1,4 @@
-use Rattle.std.proofs.Common.{rules}
+use Rattle.uipd.proofs.Prelude.{rules}
 use Rattle.uipd.proofs.site_work.check_site.Goals as goal
 
 pub returns-clause-runs : goal.returns-clause-runs

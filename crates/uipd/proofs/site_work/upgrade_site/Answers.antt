@@ -1,5 +1,4 @@
-use Rattle.std.proofs.Common.{◌∙◌, refl, rules}
-use Rattle.site_commands.specs.declared.site_end.SiteEnd.TheVariants.{NoMemory}
+use Rattle.uipd.proofs.Prelude.{◌∙◌, refl, rules, NoMemory}
 use Rattle.uipd.proofs.PartLaws.{kinds_made}
 use Rattle.uipd.proofs.site_work.upgrade_site.Goals as goal
 

@@ -1,6 +1,4 @@
-use Rattle.std.proofs.Common.{◌∙◌, string_bytes}
-use Rattle.std.specs.Prelude.{codes}
-use Rattle.uipd.specs.Words.{all_items, limited}
+use Rattle.uipd.proofs.Prelude.{◌∙◌, string_bytes, codes, all_items, limited}
 use Rattle.uipd.proofs.WordLaws.{few}
 use Rattle.uipd.proofs.words.limits_at.Goals as goal
 

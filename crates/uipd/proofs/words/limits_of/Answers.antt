@@ -1,7 +1,5 @@
 -- [add: command] Words of a command: a folder for each function that reads them, as this one.
-use Rattle.std.proofs.Common.{◌∙◌, string_bytes}
-use Rattle.std.specs.Prelude.{codes}
-use Rattle.uipd.specs.Words.{limits_at}
+use Rattle.uipd.proofs.Prelude.{◌∙◌, string_bytes, codes, limits_at}
 use Rattle.uipd.proofs.WordLaws.{few}
 use Rattle.uipd.proofs.words.limits_of.Goals as goal
 

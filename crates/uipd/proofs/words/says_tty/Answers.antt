@@ -1,6 +1,4 @@
-use Rattle.std.proofs.Common.{Some, None, ap, ◌∙◌}
-use Rattle.std.specs.Prelude.{codes}
-use Rattle.std.specs.Str.{bytes_eq}
+use Rattle.uipd.proofs.Prelude.{Some, None, ap, ◌∙◌, codes, bytes_eq}
 use Rattle.uipd.proofs.WordLaws.{last_told}
 use Rattle.uipd.proofs.words.says_tty.Goals as goal
 

@@ -1,4 +1,4 @@
-use Rattle.std.proofs.Common.{◌∙◌, ◌-◌, length, take, drop, sym}
+use Rattle.uipd.proofs.Prelude.{◌∙◌, ◌-◌, length, take, drop, sym}
 use Rattle.uipd.proofs.PartLaws.{kinds_allowed}
 use Rattle.uipd.proofs.words.upgrade_words.Goals as goal
 

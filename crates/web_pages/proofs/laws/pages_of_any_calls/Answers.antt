@@ -1,4 +1,4 @@
-use Rattle.generators.specs.Giving.{gives}
+use Rattle.web_pages.proofs.Prelude.{gives}
 use Rattle.web_pages.proofs.PageLaws.{keeps_page_laws_by}
 use Rattle.web_pages.proofs.Limits.{at_most_greatest_by}
 use Rattle.web_pages.proofs.ByteLaws.{made_of_bytes_by}

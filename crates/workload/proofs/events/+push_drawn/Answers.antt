@@ -1,9 +1,4 @@
-use Rattle.std.proofs.Common.{◌++◌, ◌-◌, ◌%◌, List, append-nil, sym, ap, ◌∙◌}
-use Rattle.std.specs.Prelude.{flat_map}
-use Rattle.rand_core.specs.Steps.{first_words}
-use Rattle.rand_pcg.specs.Pcg.{pcg32}
-use Rattle.link_schedule.specs.declared.event.Event.{Event}
-use Rattle.workload.specs.Workload.{event_drawn, happens}
+use Rattle.workload.proofs.Prelude.{◌++◌, ◌-◌, ◌%◌, List, append-nil, sym, ap, ◌∙◌, flat_map, first_words, pcg32, Event, event_drawn, happens}
 use Rattle.workload.proofs.Keeping.{more_from, on_ok_by}
 use Rattle.workload.proofs.Working.{drawn_step, none_drawn}
 use Rattle.workload.proofs.events.+push_drawn.Goals as goal

@@ -1,5 +1,4 @@
-use Rattle.std.proofs.Common.{◌≡◌, ◌++◌, ◌+◌, List, [], ◌∷◌, rules, tests, get_or, sym, ap, ◌∙◌}
-use Rattle.link_schedule.specs.declared.line.Line.{Line}
+use Rattle.workload.proofs.Prelude.{◌≡◌, ◌++◌, ◌+◌, List, [], ◌∷◌, rules, tests, get_or, sym, ap, ◌∙◌, Line}
 use Rattle.workload.proofs.Working.{line_with, numbered_more}
 use Rattle.workload.proofs.events.lines_from.Goals as goal
 

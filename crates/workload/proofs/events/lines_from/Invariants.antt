@@ -1,5 +1,4 @@
-use Rattle.std.proofs.Common.{◌≡◌, take}
-use Rattle.workload.specs.Workload.{numbered_from}
+use Rattle.workload.proofs.Prelude.{◌≡◌, take, numbered_from}
 use Rattle.workload.proofs.events.lines_from.Given as goal
 
 abbrev pub invariant-loop-place : goal.invariant-loop-place

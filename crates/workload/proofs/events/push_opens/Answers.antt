@@ -1,8 +1,4 @@
-use Rattle.std.proofs.Common.{◌++◌, ◌+◌, List, [], ◌∷◌, map, sym, ap, ◌∙◌, append_assoc, arith}
-use Rattle.std.specs.List.{range_with_len}
-use Rattle.std.proofs.lemmas.List.FromFn.{map-range_with_len_more}
-use Rattle.link_schedule.specs.declared.event.Event.{Event}
-use Rattle.link_schedule.specs.declared.event.Event.TheVariants.{Opens}
+use Rattle.workload.proofs.Prelude.{◌++◌, ◌+◌, List, [], ◌∷◌, map, sym, ap, ◌∙◌, append_assoc, arith, range_with_len, map-range_with_len_more, Event, Opens}
 use Rattle.workload.proofs.events.push_opens.Goals as goal
 
 pub loop-place-preserved : goal.loop-place-preserved

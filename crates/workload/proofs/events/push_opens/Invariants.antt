@@ -1,6 +1,4 @@
-use Rattle.std.proofs.Common.{◌≡◌, ◌++◌, map}
-use Rattle.std.specs.List.{range_with_len}
-use Rattle.link_schedule.specs.declared.event.Event.TheVariants.{Opens}
+use Rattle.workload.proofs.Prelude.{◌≡◌, ◌++◌, map, range_with_len, Opens}
 use Rattle.workload.proofs.events.push_opens.Given as goal
 
 abbrev pub invariant-loop-place : goal.invariant-loop-place

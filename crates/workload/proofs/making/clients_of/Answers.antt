@@ -1,8 +1,4 @@
-use Rattle.std.proofs.Common.{◌≡◌, ◌++◌, ◌+◌, List, [], ◌∷◌, map, sym, ap, ◌∙◌, arith, rules, tests}
-use Rattle.std.specs.List.{range_with_len}
-use Rattle.std.proofs.lemmas.List.FromFn.{map-range_with_len_more}
-use Rattle.link_schedule.specs.Clients.{Plan}
-use Rattle.workload.specs.Workload.{client_of}
+use Rattle.workload.proofs.Prelude.{◌≡◌, ◌++◌, ◌+◌, List, [], ◌∷◌, map, sym, ap, ◌∙◌, arith, rules, tests, range_with_len, map-range_with_len_more, Plan, client_of}
 use Rattle.workload.proofs.making.clients_of.Goals as goal
 
 pub loop-place-preserved : goal.loop-place-preserved

@@ -1,6 +1,4 @@
-use Rattle.std.proofs.Common.{◌≡◌, map}
-use Rattle.std.specs.List.{range_with_len}
-use Rattle.workload.specs.Workload.{client_of}
+use Rattle.workload.proofs.Prelude.{◌≡◌, map, range_with_len, client_of}
 use Rattle.workload.proofs.making.clients_of.Given as goal
 
 abbrev pub invariant-loop-place : goal.invariant-loop-place

@@ -1,7 +1,4 @@
-use Rattle.std.proofs.Common.{◌+◌, List, length, sym, ap, subst, arith, ◌∙◌}
-use Rattle.link_schedule.specs.Kept.{Keeps}
-use Rattle.link_schedule.specs.declared.event.Event.{Event}
-use Rattle.workload.specs.Workload.{events_of, numbered_from}
+use Rattle.workload.proofs.Prelude.{◌+◌, List, length, sym, ap, subst, arith, ◌∙◌, Keeps, Event, events_of, numbered_from}
 use Rattle.workload.proofs.Keeping.{all_events, keeps, length-events, same_content}
 use Rattle.workload.proofs.making.make.Goals as goal
 

@@ -1,4 +1,4 @@
-use Rattle.std.proofs.Common.{arith}
+use Rattle.app_events.proofs.Prelude.{arith}
 use Rattle.app_events.proofs.FixedSays.{room, moves}
 use Rattle.app_events.proofs.fixed.FixedApp.acked.Goals as goal
 

@@ -1,4 +1,4 @@
-use Rattle.std.proofs.Common.{arith, length, ◌∙◌}
+use Rattle.app_events.proofs.Prelude.{arith, length, ◌∙◌}
 use Rattle.app_events.proofs.FixedSays.{room, written}
 use Rattle.app_events.proofs.fixed.FixedApp.fill.Goals as goal
 

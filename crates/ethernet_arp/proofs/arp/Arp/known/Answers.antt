@@ -1,4 +1,4 @@
-use Rattle.std.proofs.Common.{arith}
+use Rattle.ethernet_arp.proofs.Prelude.{arith}
 use Rattle.ethernet_arp.proofs.TableLaws.{known_is, unknown_is, found_in, none_in}
 use Rattle.ethernet_arp.proofs.arp.Arp.known.Goals as goal
 

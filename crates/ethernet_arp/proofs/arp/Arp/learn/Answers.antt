@@ -1,4 +1,4 @@
-use Rattle.std.proofs.Common.{◌∙◌, ap, min, refl}
+use Rattle.ethernet_arp.proofs.Prelude.{◌∙◌, ap, min, refl}
 use Rattle.ethernet_arp.proofs.TableLaws.{knows_learnt, learnt_is, moved_prefix_is}
 use Rattle.ethernet_arp.proofs.arp.Arp.learn.Goals as goal
 

@@ -1,8 +1,4 @@
-use Rattle.std.proofs.Common.{◌-◌, ◌∷◌, ◌∙◌, [], length, take, drop, refl, arith, ap, sym}
-use Rattle.line_medium.specs.Media.{Datagram}
-use Rattle.ethernet_arp.specs.Frames.{Host, frame_brings, framed, arp_reply}
-use Rattle.ethernet_arp.specs.Learning.{Asked, Pair, Replied}
-use Rattle.ethernet_arp.specs.Table.{host_of}
+use Rattle.ethernet_arp.proofs.Prelude.{◌-◌, ◌∷◌, ◌∙◌, [], length, take, drop, refl, arith, ap, sym, Datagram, Host, frame_brings, framed, arp_reply, Asked, Pair, Replied, host_of}
 use Rattle.ethernet_arp.proofs.Bytes.{payload_is}
 use Rattle.ethernet_arp.proofs.TakenLaws.{brings_act, brings_datagram, brings_none}
 use Rattle.ethernet_arp.proofs.ether_line.EtherLine.take_whole.Goals as goal

@@ -1,10 +1,4 @@
-use Rattle.std.proofs.Common.{◌++◌, ◌∙◌, [], take, sym, subst}
-use Rattle.std.proofs.lemmas.Bool.{ltb-false, ltb-true}
-use Rattle.ethernet_arp.specs.EtherWay.{open_from}
-use Rattle.ethernet_arp.specs.Parts.{Holds}
-use Rattle.ethernet_arp.specs.Shown.{shown_of}
-use Rattle.ethernet_arp.specs.Table.{host_of}
-use Rattle.ethernet_arp.specs.declared.frame_part.FramePart.{FramePart}
+use Rattle.ethernet_arp.proofs.Prelude.{◌++◌, ◌∙◌, [], take, sym, subst, ltb-false, ltb-true, open_from, Holds, shown_of, host_of, FramePart}
 use Rattle.ethernet_arp.proofs.LineLaws.{brings_nothing, did_nothing, did_whole, fed_more, told_whole, whole_none}
 use Rattle.ethernet_arp.proofs.ether_line.EtherLineMedium.feed_run.Goals as goal
 

@@ -1,5 +1,4 @@
-use Rattle.std.proofs.Common.{◌≡◌, ◌+◌, ◌∙◌, ap, arith, length, sym, refl, take}
-use Rattle.std.proofs.lemmas.List.{length-take-le}
+use Rattle.ethernet_arp.proofs.Prelude.{◌≡◌, ◌+◌, ◌∙◌, ap, arith, length, sym, refl, take, length-take-le}
 use Rattle.ethernet_arp.proofs.PartLaws.{takes_in}
 use Rattle.ethernet_arp.proofs.frame_part.FramePart.take_frame.Goals as goal
 

@@ -1,4 +1,4 @@
-use Rattle.file_tree.specs.Site.{files_of}
+use Rattle.file_tree.proofs.Prelude.{files_of}
 use Rattle.file_tree.proofs.LoadLemmas.{loads-by}
 use Rattle.file_tree.proofs.site.SiteOf+Vec+u8.load.Goals as goal
 

@@ -1,9 +1,4 @@
-use Rattle.std.proofs.Common.{subst, arith}
-use Rattle.site_image.specs.Faults.{read_image}
-use Rattle.site_image.specs.Grammar.{IsImage}
-use Rattle.site_image.proofs.ImageLaws.{image-reads, image-again}
-use Rattle.file_tree.specs.Answers.{Gives}
-use Rattle.file_tree.specs.Site.{files_of}
+use Rattle.file_tree.proofs.Prelude.{subst, arith, read_image, IsImage, image-reads, image-again, Gives, files_of}
 use Rattle.file_tree.proofs.ReadLemmas.{gives-ok}
 use Rattle.file_tree.proofs.site.SiteOf+ref+slice+u8.read_in_place.Goals as goal
 

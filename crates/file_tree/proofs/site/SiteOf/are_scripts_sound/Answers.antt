@@ -1,8 +1,4 @@
-use Rattle.std.proofs.Common.{List, ℕ, subst}
-use Rattle.std.specs.Prelude.{IsTrue, ◌↔◌}
-use Rattle.site_image.specs.Places.{files_in}
-use Rattle.site_image.specs.declared.place.Place.{Place}
-use Rattle.file_tree.specs.Site.{HasSoundScripts, SiteContent, files_of}
+use Rattle.file_tree.proofs.Prelude.{List, ℕ, subst, IsTrue, ◌↔◌, files_in, Place, HasSoundScripts, SiteContent, files_of}
 use Rattle.file_tree.proofs.site.SiteOf.are_scripts_sound.Goals as goal
 
 pub returns : goal.returns

@@ -1,5 +1,4 @@
-use Rattle.std.proofs.Common.{ℕ, ◌+◌, ◌-◌, ◌∷◌, ◌∙◌, [], ap, arith, refl, drop, take}
-use Rattle.line_medium.specs.Media.{Datagram}
+use Rattle.frame_device.proofs.Prelude.{ℕ, ◌+◌, ◌-◌, ◌∷◌, ◌∙◌, [], ap, arith, refl, drop, take, Datagram}
 use Rattle.frame_device.proofs.HereLaws.{brings_datagram, brings_own, brings_silent}
 use Rattle.frame_device.proofs.device.FrameDevice.input.Goals as goal
 

@@ -1,6 +1,4 @@
-use Rattle.std.proofs.Common.{take}
-use Rattle.uip_node.specs.Events.Event.{Periodic}
-use Rattle.frame_device.specs.FrameSpecs.{acts_before}
+use Rattle.frame_device.proofs.Prelude.{take, Periodic, acts_before}
 use Rattle.frame_device.proofs.HereLaws.{calls_event}
 use Rattle.frame_device.proofs.device.FrameDevice.periodic.Goals as goal
 

@@ -1,6 +1,5 @@
 -- The cells of a row.
-use Rattle.std.proofs.Common.{◌+◌, ◌∙◌, length, sym}
-use Rattle.generators.specs.Lemmas.Lengths.{row_long}
+use Rattle.generators.proofs.Prelude.{◌+◌, ◌∙◌, length, sym, row_long}
 use Rattle.generators.proofs.cells.RowWritten.len.Goals as goal
 
 pub returns-clause-length : goal.returns-clause-length

@@ -1,6 +1,5 @@
 -- A counter has ten places and a line end.
-use Rattle.std.proofs.Common.{arith, sym}
-use Rattle.generators.specs.Lemmas.Lengths.{line_long}
+use Rattle.generators.proofs.Prelude.{arith, sym, line_long}
 use Rattle.generators.proofs.numbers.U32Written.len.Goals as goal
 
 pub returns-clause-length : goal.returns-clause-length

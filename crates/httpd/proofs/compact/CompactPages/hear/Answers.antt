@@ -1,9 +1,4 @@
-use Rattle.std.proofs.Common.{false, true, ◌++◌, ap, refl, subst, sym, ◌∙◌}
-use Rattle.file_tree.specs.Site.{files_of}
-use Rattle.generators.specs.Giving.{gives}
-use Rattle.web_pages.specs.Requests.{wanted}
-use Rattle.httpd.specs.Compact.{CompactRepresent, is_target_stage, pages_kept}
-use Rattle.httpd.specs.Hearing.{IsDecided}
+use Rattle.httpd.proofs.Prelude.{false, true, ◌++◌, ap, refl, subst, sym, ◌∙◌, files_of, gives, wanted, CompactRepresent, is_target_stage, pages_kept, IsDecided}
 use Rattle.httpd.specs.declared.compact.CompactPages.TheVariants as compact
 use Rattle.httpd.proofs.Compacting.{enters_refused, enters_reply, enters_word, word_heard, word_open}
 use Rattle.httpd.proofs.Telling.{hits_opened, refused_stays, reply_stays, with_more}

@@ -1,8 +1,4 @@
-use Rattle.std.proofs.Common.{refl, subst, sym}
-use Rattle.generators.specs.Giving.{gives}
-use Rattle.httpd.specs.Compact.{CompactRepresent, pages_kept}
-use Rattle.httpd.specs.Reply.{reply_by}
-use Rattle.httpd.specs.Saying.{IsNotDue}
+use Rattle.httpd.proofs.Prelude.{refl, subst, sym, gives, CompactRepresent, pages_kept, reply_by, IsNotDue}
 use Rattle.httpd.specs.declared.compact.CompactPages.TheVariants as compact
 use Rattle.httpd.proofs.Asking.{head_not_due, none_due}
 use Rattle.httpd.proofs.Compacting.{sent_found}

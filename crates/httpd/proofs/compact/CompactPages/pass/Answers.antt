@@ -1,7 +1,4 @@
-use Rattle.std.proofs.Common.{refl, subst}
-use Rattle.app_events.specs.AppSpec.{CanSay}
-use Rattle.generators.specs.Giving.{gives}
-use Rattle.httpd.specs.Compact.{CompactRepresent, pages_kept}
+use Rattle.httpd.proofs.Prelude.{refl, subst, CanSay, gives, CompactRepresent, pages_kept}
 use Rattle.httpd.specs.declared.compact.CompactPages.TheVariants as compact
 use Rattle.httpd.proofs.Compacting.{sent_enough, sent_fits, sent_found, sent_some, word_quiet}
 use Rattle.httpd.proofs.Standing.{means, quiet_acked, reply_acked}

@@ -1,8 +1,4 @@
-use Rattle.std.proofs.Common.{◌++◌, ap, refl, subst, sym, ◌∙◌}
-use Rattle.file_tree.specs.Site.{files_of}
-use Rattle.generators.specs.Giving.{gives}
-use Rattle.web_pages.proofs.OwnState.{made_prefix}
-use Rattle.httpd.specs.Compact.{CompactRepresent, pages_kept}
+use Rattle.httpd.proofs.Prelude.{◌++◌, ap, refl, subst, sym, ◌∙◌, files_of, gives, made_prefix, CompactRepresent, pages_kept}
 use Rattle.httpd.specs.declared.compact.CompactPages.TheVariants as compact
 use Rattle.httpd.proofs.Asking.{due_stands, not_due}
 use Rattle.httpd.proofs.Compacting.{sent_fits, sent_found}

@@ -1,4 +1,4 @@
-use Rattle.generators.specs.Giving.{gives}
+use Rattle.httpd.proofs.Prelude.{gives}
 use Rattle.httpd.proofs.Compacting.{sent_fits, sent_found}
 use Rattle.httpd.proofs.compact.CompactPages.want_of.Goals as goal
 

@@ -1,9 +1,4 @@
-use Rattle.std.proofs.Common.{ap, ◌+◌, sym, subst}
-use Rattle.app_events.specs.AppSpec.{CanSay}
-use Rattle.file_tree.specs.Site.{SiteContent, files_of}
-use Rattle.web_pages.specs.WebMeaning.{web_spec}
-use Rattle.httpd.specs.Web.{WebContent}
-use Rattle.httpd.specs.HttpdRepresents.{HttpdRepresents}
+use Rattle.httpd.proofs.Prelude.{ap, ◌+◌, sym, subst, CanSay, SiteContent, files_of, web_spec, WebContent, HttpdRepresents}
 use Rattle.httpd.proofs.httpd.HttpdApp.acked.Goals as goal
 
 pub pass-requires : goal.pass-requires

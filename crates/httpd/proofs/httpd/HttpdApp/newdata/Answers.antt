@@ -1,9 +1,5 @@
-use Rattle.std.proofs.Common.{◌++◌, ap, sym, subst, ◌∙◌, arith}
-use Rattle.file_tree.specs.Site.{SiteContent}
-use Rattle.web_pages.specs.Requests.{wanted}
-use Rattle.httpd.specs.Web.{WebContent}
+use Rattle.httpd.proofs.Prelude.{◌++◌, ap, sym, subst, ◌∙◌, arith, SiteContent, wanted, WebContent, HttpdRepresents}
 use Rattle.httpd.proofs.Finding.{hits_left}
-use Rattle.httpd.specs.HttpdRepresents.{HttpdRepresents}
 use Rattle.httpd.proofs.httpd.HttpdApp.newdata.Goals as goal
 
 pub returns-clause-part : goal.returns-clause-part

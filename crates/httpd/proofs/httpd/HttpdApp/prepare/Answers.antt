@@ -1,9 +1,4 @@
-use Rattle.std.proofs.Common.{ℕ, List, [], ◌++◌, append-nil, ap, sym, subst, ◌∙◌}
-use Rattle.app_events.specs.AppSpec.{IsRepresented}
-use Rattle.file_tree.specs.Site.{SiteContent, files_of}
-use Rattle.web_pages.specs.WebMeaning.{web_spec}
-use Rattle.httpd.specs.Web.{WebContent}
-use Rattle.httpd.specs.HttpdRepresents.{HttpdRepresents}
+use Rattle.httpd.proofs.Prelude.{ℕ, List, [], ◌++◌, append-nil, ap, sym, subst, ◌∙◌, IsRepresented, SiteContent, files_of, web_spec, WebContent, HttpdRepresents}
 use Rattle.httpd.proofs.httpd.HttpdApp.prepare.Goals as goal
 
 pub prepare_at-requires-clause-part : goal.prepare_at-requires-clause-part

@@ -1,8 +1,4 @@
-use Rattle.std.proofs.Common.{ap, sym, subst}
-use Rattle.app_events.specs.AppSpec.{IsRepresented}
-use Rattle.file_tree.specs.Site.{SiteContent}
-use Rattle.httpd.specs.Web.{WebContent}
-use Rattle.httpd.specs.HttpdRepresents.{HttpdRepresents}
+use Rattle.httpd.proofs.Prelude.{ap, sym, subst, IsRepresented, SiteContent, WebContent, HttpdRepresents}
 use Rattle.httpd.proofs.httpd.HttpdApp.want.Goals as goal
 
 pub want_of-requires : goal.want_of-requires

@@ -1,5 +1,4 @@
-use Rattle.std.proofs.Common.{◌≡◌, ◌≤◌, ℕ, List, [], ◌∷◌, length, take, sym, ap, subst, ◌∙◌, arith}
-use Rattle.generators.specs.Giving.{gives}
+use Rattle.httpd.proofs.Prelude.{◌≡◌, ◌≤◌, ℕ, List, [], ◌∷◌, length, take, sym, ap, subst, ◌∙◌, arith, gives}
 use Rattle.httpd.specs.declared.stage.Stage.TheVariants as stage
 use Rattle.httpd.proofs.Standing.{can_say, quiet_zero, reply_fits, reply_found, some_part}
 use Rattle.httpd.proofs.httpd.Pages.fill_from.Goals as goal

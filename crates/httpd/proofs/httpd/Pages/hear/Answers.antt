@@ -1,5 +1,4 @@
-use Rattle.std.proofs.Common.{◌++◌, refl}
-use Rattle.generators.specs.Giving.{gives}
+use Rattle.httpd.proofs.Prelude.{◌++◌, refl, gives}
 use Rattle.httpd.proofs.Telling.{heard_stands, method_heard, refused_stays, reply_stays, target_heard}
 use Rattle.httpd.proofs.httpd.Pages.hear.Goals as goal
 

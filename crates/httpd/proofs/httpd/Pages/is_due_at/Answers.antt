@@ -1,7 +1,4 @@
-use Rattle.std.proofs.Common.{subst, sym, ◌∙◌}
-use Rattle.generators.specs.Giving.{gives}
-use Rattle.httpd.specs.Reply.{reply_by}
-use Rattle.httpd.specs.Saying.{IsNotDue}
+use Rattle.httpd.proofs.Prelude.{subst, sym, ◌∙◌, gives, reply_by, IsNotDue}
 use Rattle.httpd.proofs.Asking.{head_not_due, none_due, plain_whole}
 use Rattle.httpd.proofs.Standing.{reply_fits, reply_found}
 use Rattle.httpd.proofs.httpd.Pages.is_due_at.Goals as goal

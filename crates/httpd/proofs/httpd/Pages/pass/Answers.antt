@@ -1,4 +1,4 @@
-use Rattle.generators.specs.Giving.{gives}
+use Rattle.httpd.proofs.Prelude.{gives}
 use Rattle.httpd.specs.declared.stage.Stage.TheVariants as stage
 use Rattle.httpd.proofs.Standing.{can_say, quiet_acked, reply_acked, reply_fits, reply_found, some_part}
 use Rattle.httpd.proofs.httpd.Pages.pass.Goals as goal

@@ -1,7 +1,4 @@
-use Rattle.std.proofs.Common.{◌++◌, ap, sym, ◌∙◌}
-use Rattle.file_tree.specs.Site.{files_of}
-use Rattle.generators.specs.Giving.{gives}
-use Rattle.web_pages.proofs.OwnState.{made_prefix}
+use Rattle.httpd.proofs.Prelude.{◌++◌, ap, sym, ◌∙◌, files_of, gives, made_prefix}
 use Rattle.httpd.proofs.Standing.{reply_fits, reply_found}
 use Rattle.httpd.proofs.Asking.{due_stands, not_due}
 use Rattle.httpd.proofs.httpd.Pages.prepare_at.Goals as goal

@@ -1,4 +1,4 @@
-use Rattle.generators.specs.Giving.{gives}
+use Rattle.httpd.proofs.Prelude.{gives}
 use Rattle.httpd.proofs.Standing.{reply_fits, reply_found}
 use Rattle.httpd.proofs.httpd.Pages.want_of.Goals as goal
 

@@ -1,9 +1,5 @@
 -- An open client sends what is next of its request, or its FIN.
-use Rattle.std.proofs.Common.{◌≡◌, ◌&&◌, ◌||◌, Bool, true, false, [], refl, sym, ap, ◌∙◌}
-use Rattle.link_client.specs.State.{Client}
-use Rattle.link_client.specs.Calls.{has_more_to_send, is_opened, standing}
-use Rattle.link_client.specs.declared.client_state.ClientState.{ClientState}
-use Rattle.link_client.specs.declared.client_state.ClientState.TheVariants.{Closing}
+use Rattle.link_client.proofs.Prelude.{◌≡◌, ◌&&◌, ◌||◌, Bool, true, false, [], refl, sym, ap, ◌∙◌, Client, has_more_to_send, is_opened, standing, ClientState, Closing}
 use Rattle.link_client.proofs.client.Client.close_now.Goals as goal
 
 or_false : (b : Bool) → b || false ≡ b

@@ -1,9 +1,5 @@
 -- The text is taken, and an answer goes out.
-use Rattle.std.proofs.Common.{◌++◌, true, sym, ap, ◌∙◌, subst}
-use Rattle.tcp_machine.specs.Represents.{plain}
-use Rattle.link_client.specs.Calls.{Did, received_with, standing}
-use Rattle.link_client.specs.Client.{ClientStep, sends_next, takes_in_order}
-use Rattle.link_client.specs.declared.steps.Heard.{Heard}
+use Rattle.link_client.proofs.Prelude.{◌++◌, true, sym, ap, ◌∙◌, subst, plain, Did, received_with, standing, ClientStep, sends_next, takes_in_order, Heard}
 use Rattle.link_client.proofs.Taking.{takes_next}
 use Rattle.link_client.proofs.client.Client.take_in_order.Goals as goal
 

@@ -1,9 +1,5 @@
 -- A RST counts or does not.
-use Rattle.std.proofs.Common.{Bool, sym, ap, ◌∙◌, if◌then◌else◌}
-use Rattle.link_client.specs.Calls.{standing}
-use Rattle.link_client.specs.State.{Client}
-use Rattle.link_client.specs.Client.{AbstractClient}
-use Rattle.link_client.specs.declared.client_state.ClientState.TheVariants.{Reset}
+use Rattle.link_client.proofs.Prelude.{Bool, sym, ap, ◌∙◌, if◌then◌else◌, standing, Client, AbstractClient, Reset}
 use Rattle.link_client.proofs.client.Client.take_reset.Goals as goal
 
 abbrev by : AbstractClient → Bool → AbstractClient

@@ -1,5 +1,5 @@
 -- Two clients are equal where all their fields are: the code compares the numbers first.
-use Rattle.std.proofs.Common.{◌≡◌, ◌&&◌, Bool, true, false, refl, rules}
+use Rattle.link_client.proofs.Prelude.{◌≡◌, ◌&&◌, Bool, true, false, refl, rules}
 use Rattle.link_client.proofs.client.ClientPartialEq.eq.Goals as goal
 
 in_order : (acked out window setup state fin rcv : Bool)

@@ -1,6 +1,4 @@
-use Rattle.std.proofs.Common.{ℕ, ◌∙◌, ap, not, nat_eq}
-use Rattle.uip_node.specs.Node.{step}
-use Rattle.link_replay.specs.Noting.{resent}
+use Rattle.link_replay.proofs.Prelude.{ℕ, ◌∙◌, ap, not, nat_eq, step, resent}
 use Rattle.link_replay.proofs.Counting.{resent_differs}
 use Rattle.link_replay.proofs.before.Before.again.Goals as goal
 

@@ -1,4 +1,4 @@
-use Rattle.std.proofs.Common.{◌∙◌}
+use Rattle.link_replay.proofs.Prelude.{◌∙◌}
 use Rattle.link_replay.proofs.Losing.{lost_is_gone}
 use Rattle.link_replay.proofs.before.Before.gone.Goals as goal
 

@@ -1,4 +1,4 @@
-use Rattle.std.proofs.Common.{◌∙◌}
+use Rattle.link_replay.proofs.Prelude.{◌∙◌}
 use Rattle.link_replay.proofs.Losing.{owners_stand}
 use Rattle.link_replay.proofs.before.Before.of.Goals as goal
 

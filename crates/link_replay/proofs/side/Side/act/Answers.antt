@@ -1,8 +1,4 @@
-use Rattle.std.proofs.Common.{sym, ap, ◌∙◌, subst, None}
-use Rattle.link_world.specs.Acts.{is_idle}
-use Rattle.link_replay.specs.Plain.{CodeSide}
-use Rattle.link_replay.specs.Owning.{Stepped, own_step}
-use Rattle.link_replay.specs.declared.own.Own.{Own}
+use Rattle.link_replay.proofs.Prelude.{sym, ap, ◌∙◌, subst, None, is_idle, CodeSide, Stepped, own_step, Own}
 use Rattle.link_replay.proofs.Owning.{not_opened}
 use Rattle.link_replay.proofs.side.Side.act.Goals as goal
 

@@ -1,5 +1,4 @@
-use Rattle.std.proofs.Common.{ap, ◌∙◌, sym}
-use Rattle.link_client.specs.Client.{AbstractClient, advertises_window}
+use Rattle.link_replay.proofs.Prelude.{ap, ◌∙◌, sym, AbstractClient, advertises_window}
 use Rattle.link_replay.proofs.side.Side.advertise_window.Goals as goal
 
 pub returns-clause-step : goal.returns-clause-step

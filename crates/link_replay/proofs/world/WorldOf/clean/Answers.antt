@@ -1,7 +1,6 @@
-use Rattle.std.proofs.Common.{◌≡◌, ℕ, Bool, Option, Some, sym, ap, ◌∙◌}
-use Rattle.std.proofs.Math.Bool.{not, not-not}
-use Rattle.std.specs.Prelude.{is_none, is_some, option_map}
-use Rattle.link_replay.specs.Plain.{CodeSide}
+use Rattle.link_replay.proofs.Prelude.{◌≡◌, ℕ, Bool, Option, Some, sym, ap, ◌∙◌, not-not, is_none, option_map, CodeSide}
+use Rattle.std.proofs.Math.Bool.{not}
+use Rattle.std.specs.Prelude.{is_some}
 use Rattle.link_replay.proofs.world.WorldOf.clean.Goals as goal
 
 told_none : {X : Type 0} (o : Option X) (b : Bool) → is_some o ≡ not b → b ≡ is_none o

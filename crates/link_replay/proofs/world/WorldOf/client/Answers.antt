@@ -1,8 +1,4 @@
-use Rattle.std.proofs.Common.{Option, Some, sym, ap, ◌∙◌}
-use Rattle.std.specs.Prelude.{option_map}
-use Rattle.link_client.specs.Calls.{standing}
-use Rattle.link_client.specs.Client.{AbstractClient}
-use Rattle.link_replay.specs.Plain.{CodeSide}
+use Rattle.link_replay.proofs.Prelude.{Option, Some, sym, ap, ◌∙◌, option_map, standing, AbstractClient, CodeSide}
 use Rattle.link_replay.proofs.world.WorldOf.client.Goals as goal
 
 pub returns-clause-shows : goal.returns-clause-shows

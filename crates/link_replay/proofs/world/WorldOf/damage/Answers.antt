@@ -1,20 +1,5 @@
-use Rattle.std.proofs.Common.{◌≡◌, ◌⊎◌, ℕ, ◌-◌, ◌<◌, ◌≤◌, length, List, Option, sym, ap, ◌∙◌, arith, subst, rules, tests}
-use Rattle.std.proofs.lemmas.Grind.{common_steps}
-use Rattle.uip_node.specs.Edge.{event_of}
-use Rattle.uip_node.specs.Events.{Reply}
-use Rattle.uip_node.specs.Node.{step}
-use Rattle.link_world.specs.Acts.{does, hands_over}
-use Rattle.link_world.specs.declared.act.Act.{Act}
-use Rattle.link_world.proofs.Doing.{damaged}
-use Rattle.link_world.specs.Bytes.{sent_bytes, changed}
-use Rattle.link_world.specs.World.{World, Sent}
-use Rattle.link_world.specs.declared.who.Who.{Who}
-use Rattle.link_replay.specs.Represents.{SentRepresents, WorldRepresents}
-use Rattle.link_replay.specs.Plain.{CodeSent}
-use Rattle.link_replay.specs.State.{link_of}
-use Rattle.link_replay.specs.Telling.{AnswersTo}
+use Rattle.link_replay.proofs.Prelude.{◌≡◌, ◌⊎◌, ℕ, ◌-◌, ◌<◌, ◌≤◌, length, List, Option, sym, ap, ◌∙◌, arith, subst, rules, tests, common_steps, event_of, Reply, step, does, hands_over, Act, damaged, sent_bytes, changed, World, Sent, Who, SentRepresents, WorldRepresents, CodeSent, link_of, AnswersTo, LARGEST_DATAGRAM}
 use Rattle.link_replay.proofs.Damaging.{damage_answers}
-use Rattle.uip_wire.specs.declared.sizes.TheConstants.{LARGEST_DATAGRAM}
 use Rattle.link_replay.proofs.Readable.{sent_fits, sent_there}
 use Rattle.link_replay.proofs.Sending.{area_is, none_numbered}
 use Rattle.link_replay.proofs.world.WorldOf.damage.Goals as goal

@@ -1,6 +1,4 @@
-use Rattle.std.proofs.Common.{Option, Some, sym, ap, ◌∙◌}
-use Rattle.std.specs.Prelude.{option_map}
-use Rattle.link_replay.specs.Plain.{CodeSide}
+use Rattle.link_replay.proofs.Prelude.{Option, Some, sym, ap, ◌∙◌, option_map, CodeSide}
 use Rattle.link_replay.proofs.world.WorldOf.first_stale.Goals as goal
 
 pub returns-clause-shows : goal.returns-clause-shows

@@ -1,19 +1,4 @@
-use Rattle.std.proofs.Common.{◌≡◌, ◌⊎◌, ℕ, ◌-◌, ◌<◌, ◌≤◌, List, Option, length, sym, ap, ◌∙◌, arith, subst, rules, tests}
-use Rattle.std.proofs.lemmas.Grind.{common_steps}
-use Rattle.uip_wire.specs.declared.sizes.TheConstants.{LARGEST_DATAGRAM}
-use Rattle.uip_node.specs.Edge.{event_of}
-use Rattle.uip_node.specs.Events.{Reply}
-use Rattle.uip_node.specs.Node.{step}
-use Rattle.std.specs.Option.{option_map_or}
-use Rattle.link_world.specs.Acts.{does, hands_over}
-use Rattle.link_world.specs.declared.act.Act.{Act}
-use Rattle.link_world.specs.Bytes.{sent_bytes}
-use Rattle.link_world.specs.World.{World, Sent, delivers, numbered}
-use Rattle.link_world.specs.declared.who.Who.{Who}
-use Rattle.link_replay.specs.Represents.{LinkRepresents, SentRepresents, WorldRepresents}
-use Rattle.link_replay.specs.State.{Link, link_of}
-use Rattle.link_replay.specs.Telling.{AnswersTo, client_told, sees}
-use Rattle.link_replay.specs.Plain.{CodeSent}
+use Rattle.link_replay.proofs.Prelude.{◌≡◌, ◌⊎◌, ℕ, ◌-◌, ◌<◌, ◌≤◌, List, Option, length, sym, ap, ◌∙◌, arith, subst, rules, tests, common_steps, LARGEST_DATAGRAM, event_of, Reply, step, option_map_or, does, hands_over, Act, sent_bytes, World, Sent, delivers, numbered, Who, LinkRepresents, SentRepresents, WorldRepresents, Link, link_of, AnswersTo, client_told, sees, CodeSent}
 use Rattle.link_replay.proofs.Delivered.{answers_seen, hands, seen, speaks_to}
 use Rattle.link_replay.proofs.Readable.{read_at, sent_at, sent_fits, sent_there}
 use Rattle.link_replay.proofs.Handling.{still_linked}

@@ -1,8 +1,4 @@
-use Rattle.std.proofs.Common.{◌∙◌, sym, subst}
-use Rattle.link_world.specs.Acts.{hands_over}
-use Rattle.link_world.specs.declared.who.Who.{Who}
-use Rattle.link_replay.specs.Represents.{WorldRepresents}
-use Rattle.link_replay.specs.State.{link_of}
+use Rattle.link_replay.proofs.Prelude.{◌∙◌, sym, subst, hands_over, Who, WorldRepresents, link_of}
 use Rattle.link_replay.proofs.Handling.{handed_done, still_linked}
 use Rattle.link_replay.proofs.world.WorldOf.hand.Goals as goal
 

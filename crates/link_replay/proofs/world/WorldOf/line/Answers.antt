@@ -1,12 +1,5 @@
-use Rattle.std.proofs.Common.{◌≡◌, List, sym, ap, ◌∙◌, subst, Ok, arith, length}
-use Rattle.std.specs.List.{All}
-use Rattle.link_world.specs.Acts.{runs}
-use Rattle.link_world.specs.Schedule.{acts_of}
-use Rattle.link_world.specs.declared.act.Act.{Act}
-use Rattle.link_world.specs.Headline.{IsAct}
-use Rattle.link_replay.specs.Reaching.{ActsEnd, Stops}
+use Rattle.link_replay.proofs.Prelude.{◌≡◌, List, sym, ap, ◌∙◌, subst, Ok, arith, length, All, runs, acts_of, Act, IsAct, ActsEnd, Stops, WorldRepresents}
 use Rattle.link_replay.proofs.Reaching.{handed}
-use Rattle.link_replay.specs.Represents.{WorldRepresents}
 use Rattle.link_replay.proofs.Lines.{all_acts, line_done}
 use Rattle.link_replay.proofs.world.WorldOf.line.Goals as goal
 

@@ -1,4 +1,4 @@
-use Rattle.uip_node.specs.Edge.{event_of}
+use Rattle.link_replay.proofs.Prelude.{event_of}
 use Rattle.link_replay.proofs.Handling.{handled, still_linked}
 use Rattle.link_replay.proofs.world.WorldOf.node_hears.Goals as goal
 

@@ -1,4 +1,4 @@
-use Rattle.uip_node.specs.Events.Event.{Periodic}
+use Rattle.link_replay.proofs.Prelude.{Periodic}
 use Rattle.link_replay.proofs.Handling.{handled, periodic_to, still_linked}
 use Rattle.link_replay.proofs.world.WorldOf.node_ticks.Goals as goal
 

@@ -1,5 +1,4 @@
-use Rattle.std.proofs.Common.{◌≡◌, length, refl, rules}
-use Rattle.link_replay.specs.Opening.{server}
+use Rattle.link_replay.proofs.Prelude.{◌≡◌, length, refl, rules, server}
 use Rattle.link_replay.proofs.Opened.{all_planned, link_opened, none_stand, sides_stand}
 use Rattle.link_replay.proofs.world.WorldOf.opening.Goals as goal
 

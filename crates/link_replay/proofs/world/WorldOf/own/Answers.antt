@@ -1,6 +1,4 @@
-use Rattle.std.proofs.Common.{◌∙◌}
-use Rattle.link_replay.specs.Owning.{own_step}
-use Rattle.link_replay.specs.State.{link_of}
+use Rattle.link_replay.proofs.Prelude.{◌∙◌, own_step, link_of}
 use Rattle.link_replay.proofs.Handling.{own_done, still_linked}
 use Rattle.link_replay.proofs.world.WorldOf.own.Goals as goal
 

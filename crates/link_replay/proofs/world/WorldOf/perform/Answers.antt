@@ -1,9 +1,4 @@
-use Rattle.std.proofs.Common.{sym, subst}
-use Rattle.link_client.specs.Client.{advertises_window}
-use Rattle.link_world.specs.Acts.{does}
-use Rattle.link_world.specs.declared.act.Act.{Act}
-use Rattle.link_replay.specs.Represents.{WorldRepresents}
-use Rattle.link_replay.specs.State.{link_of}
+use Rattle.link_replay.proofs.Prelude.{sym, subst, advertises_window, does, Act, WorldRepresents, link_of}
 use Rattle.link_replay.proofs.Handling.{own_done, still_linked}
 use Rattle.link_replay.proofs.world.WorldOf.perform.Goals as goal
 

@@ -1,11 +1,4 @@
-use Rattle.std.proofs.Common.{◌≡◌, List, false, refl, sym, ap, ◌∙◌, rules, subst, tests}
-use Rattle.link_world.specs.Bytes.{ping_from}
-use Rattle.link_world.specs.World.{posts}
-use Rattle.link_world.specs.World.Content.{OfPing}
-use Rattle.link_world.specs.declared.who.Who.TheVariants.{Pinger}
-use Rattle.link_replay.specs.Represents.{LinkRepresents}
-use Rattle.link_replay.specs.State.{link_of}
-use Rattle.link_replay.specs.Plain.{CodeSide}
+use Rattle.link_replay.proofs.Prelude.{◌≡◌, List, false, refl, sym, ap, ◌∙◌, rules, subst, tests, ping_from, posts, OfPing, Pinger, LinkRepresents, link_of, CodeSide}
 use Rattle.link_replay.proofs.Handling.{linked, still_linked}
 use Rattle.link_replay.proofs.Sending.{kept_posted}
 use Rattle.link_replay.proofs.world.WorldOf.ping.Goals as goal

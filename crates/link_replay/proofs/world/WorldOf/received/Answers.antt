@@ -1,7 +1,4 @@
-use Rattle.std.proofs.Common.{ℕ, List, Option, Some, sym, ap, ◌∙◌}
-use Rattle.std.specs.Prelude.{option_map}
-use Rattle.link_client.specs.Client.{AbstractClient}
-use Rattle.link_replay.specs.Plain.{CodeSide}
+use Rattle.link_replay.proofs.Prelude.{ℕ, List, Option, Some, sym, ap, ◌∙◌, option_map, AbstractClient, CodeSide}
 use Rattle.link_replay.proofs.world.WorldOf.received.Goals as goal
 
 pub returns-clause-shows : goal.returns-clause-shows

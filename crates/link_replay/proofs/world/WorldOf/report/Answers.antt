@@ -1,5 +1,4 @@
-use Rattle.link_replay.specs.Represents.{WorldRepresents}
-use Rattle.link_replay.specs.Report.{report}
+use Rattle.link_replay.proofs.Prelude.{WorldRepresents, report}
 use Rattle.link_replay.proofs.ReportTold.{told_prefix, told_whole}
 use Rattle.link_replay.proofs.world.WorldOf.report.Goals as goal
 

@@ -1,11 +1,4 @@
-use Rattle.std.proofs.Common.{◌∷◌, [], ◌+◌, drop, get_or, List, ◌∙◌, refl, sym, subst, arith, Ok, Err}
-use Rattle.std.proofs.lemmas.List.{drop_all}
-use Rattle.link_world.specs.World.{World}
-use Rattle.link_world.specs.Acts.{acts}
-use Rattle.link_world.specs.declared.act.Act.{Act}
-use Rattle.link_world.specs.Headline.{IsAct}
-use Rattle.link_replay.specs.Reaching.{IsAt, ActSteps, Stops}
-use Rattle.link_replay.specs.Represents.{WorldRepresents}
+use Rattle.link_replay.proofs.Prelude.{◌∷◌, [], ◌+◌, drop, get_or, List, ◌∙◌, refl, sym, subst, arith, Ok, Err, drop_all, World, acts, Act, IsAct, IsAt, ActSteps, Stops, WorldRepresents}
 use Rattle.link_replay.proofs.Pairs.{left_is}
 use Rattle.link_replay.proofs.Reaching.{Gone, all_gone, ends_stopped, gone_on, handed, stopped}
 use Rattle.link_replay.proofs.world.WorldOf.run.Goals as goal

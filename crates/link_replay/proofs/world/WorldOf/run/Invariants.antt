@@ -1,7 +1,4 @@
-use Rattle.std.proofs.Common.{drop}
-use Rattle.link_world.specs.World.{World}
-use Rattle.link_replay.specs.Reaching.{IsAt}
-use Rattle.link_replay.specs.Represents.{Follows, WorldRepresents}
+use Rattle.link_replay.proofs.Prelude.{drop, World, IsAt, Follows, WorldRepresents}
 use Rattle.link_replay.proofs.Reaching.{Gone}
 use Rattle.link_replay.proofs.world.WorldOf.run.Given as goal
 

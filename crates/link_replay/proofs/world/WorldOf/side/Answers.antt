@@ -1,5 +1,4 @@
-use Rattle.std.proofs.Common.{◌≡◌, ℕ, ◌-◌, ◌<◌, Some, slice_get, length, sym, ap, ◌∙◌, arith}
-use Rattle.link_replay.specs.Plain.{CodeSide}
+use Rattle.link_replay.proofs.Prelude.{◌≡◌, ℕ, ◌-◌, ◌<◌, Some, slice_get, length, sym, ap, ◌∙◌, arith, CodeSide}
 use Rattle.link_replay.proofs.Pairs.{numbered_at, there_is}
 use Rattle.link_replay.proofs.world.WorldOf.side.Goals as goal
 

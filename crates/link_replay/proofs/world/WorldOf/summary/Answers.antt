@@ -1,15 +1,5 @@
 -- The line is that of the world's clients and datagrams.
-use Rattle.std.proofs.Common.{◌≡◌, ℕ, List, map, ap, subst, ◌∙◌}
-use Rattle.std.proofs.lemmas.Result.{on_err_weaker, on_ok_weaker}
-use Rattle.std.specs.Io.KnownBytes.{Appends}
-use Rattle.uip_edge.specs.Writing.{AppendsPrefix}
-use Rattle.link_replay.specs.Plain.{CodeSent, CodeSide}
-use Rattle.link_replay.specs.Shown.{code_side_shown}
-use Rattle.link_world.specs.World.{World}
-use Rattle.link_replay.specs.Represents.{LinkRepresents}
-use Rattle.link_replay.specs.State.{Link}
-use Rattle.link_replay.specs.Summary.{summary_of, tally_line, tally_of}
-use Rattle.link_replay.specs.declared.tally.Tally.{Tally}
+use Rattle.link_replay.proofs.Prelude.{◌≡◌, ℕ, List, map, ap, subst, ◌∙◌, on_err_weaker, on_ok_weaker, Appends, AppendsPrefix, CodeSent, CodeSide, code_side_shown, World, LinkRepresents, Link, summary_of, tally_line, tally_of, Tally}
 use Rattle.link_replay.proofs.Saying.{wrote_by}
 use Rattle.link_replay.proofs.Shown.{tally_told}
 use Rattle.link_replay.proofs.world.WorldOf.summary.Goals as goal

@@ -1,9 +1,4 @@
-use Rattle.std.proofs.Common.{ℕ, List, sym, ap, ◌∙◌, subst}
-use Rattle.uip_node.specs.Events.{Event}
-use Rattle.uip_node.specs.Events.Event.{Periodic}
-use Rattle.link_world.specs.Acts.{handles_all}
-use Rattle.link_world.specs.World.{World, node_handles}
-use Rattle.link_replay.specs.Represents.{WorldRepresents}
+use Rattle.link_replay.proofs.Prelude.{ℕ, List, sym, ap, ◌∙◌, subst, Event, Periodic, handles_all, World, node_handles, WorldRepresents}
 use Rattle.link_replay.proofs.Handling.{next_call}
 use Rattle.link_replay.proofs.world.WorldOf.tick.Goals as goal
 

@@ -1,8 +1,4 @@
-use Rattle.std.proofs.Common.{◌≡◌, drop}
-use Rattle.uip_node.specs.Events.{tick}
-use Rattle.link_world.specs.Acts.{handles_all}
-use Rattle.link_world.specs.World.{World}
-use Rattle.link_replay.specs.Represents.{Follows, WorldRepresents}
+use Rattle.link_replay.proofs.Prelude.{◌≡◌, drop, tick, handles_all, World, Follows, WorldRepresents}
 use Rattle.link_replay.proofs.world.WorldOf.tick.Given as goal
 
 abbrev pub invariant-loop-slot : goal.invariant-loop-slot

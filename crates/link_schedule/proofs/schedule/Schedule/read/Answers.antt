@@ -1,6 +1,4 @@
-use Rattle.std.proofs.Common.{◌≡◌, ◌∙◌, sym, ap, arith, length, ℕ, List, Bor, eqb}
-use Rattle.std.specs.List.{slice_split}
-use Rattle.std.proofs.lemmas.List.{length-map}
+use Rattle.link_schedule.proofs.Prelude.{◌≡◌, ◌∙◌, sym, ap, arith, length, ℕ, List, Bor, eqb, slice_split, length-map}
 use Rattle.link_schedule.proofs.Lines.{few_parts}
 use Rattle.link_schedule.proofs.schedule.Schedule.read.Goals as goal
 

@@ -1,5 +1,4 @@
-use Rattle.std.proofs.Common.{[], ◌∷◌}
-use Rattle.uip_slip.specs.Frames.{Datagram, Overlong}
+use Rattle.serve_loop.proofs.Prelude.{[], ◌∷◌, Datagram, Overlong}
 use Rattle.serve_loop.proofs.SlipLaws.{brought_told}
 use Rattle.serve_loop.proofs.slip.SlipMedium.feed_run.Goals as goal
 

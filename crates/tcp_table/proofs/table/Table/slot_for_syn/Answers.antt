@@ -1,6 +1,5 @@
 use Rattle.std.proofs.Common.{ap, ◌∙◌}
-use Rattle.tcp_table.specs.Connections.{Connections}
-use Rattle.tcp_table.specs.Slots.{slot_to_take}
+use Rattle.tcp_table.specs.Prelude.{Connections, slot_to_take}
 use Rattle.tcp_table.proofs.table.Table.slot_for_syn.Goals as goal
 
 -- src/table.rt:55:5

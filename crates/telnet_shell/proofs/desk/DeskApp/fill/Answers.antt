@@ -1,5 +1,4 @@
-use Rattle.std.proofs.Common.{length, take}
-use Rattle.app_events.specs.AppSpec.{text_left}
+use Rattle.telnet_shell.proofs.Prelude.{length, take, text_left}
 use Rattle.telnet_shell.proofs.DeskParts.{web_can, shell_can, web_tells, shell_tells}
 use Rattle.telnet_shell.proofs.desk.DeskApp.fill.Goals as goal
 

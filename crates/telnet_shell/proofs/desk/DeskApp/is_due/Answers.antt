@@ -1,5 +1,4 @@
-use Rattle.std.proofs.Common.{◌≡◌}
-use Rattle.app_events.specs.AppSpec.{AppSpec}
+use Rattle.telnet_shell.proofs.Prelude.{◌≡◌, AppSpec}
 use Rattle.telnet_shell.proofs.DeskParts.{by_shell, by_web, shell_has, web_has}
 use Rattle.telnet_shell.proofs.desk.DeskApp.is_due.Goals as goal
 

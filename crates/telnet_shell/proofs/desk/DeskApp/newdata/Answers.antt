@@ -1,5 +1,4 @@
-use Rattle.file_tree.specs.Site.{files_of}
-use Rattle.telnet_shell.specs.Lemmas.DeskLaws.{web_port, shell_port}
+use Rattle.telnet_shell.proofs.Prelude.{files_of, web_port, shell_port}
 use Rattle.telnet_shell.proofs.DeskParts.{web_has, shell_has, web_moves, shell_moves, web_tells, shell_tells}
 use Rattle.telnet_shell.proofs.desk.DeskApp.newdata.Goals as goal
 

@@ -1,7 +1,4 @@
-use Rattle.std.proofs.Common.{take, sym, subst, arith}
-use Rattle.app_events.specs.AppSpec.{AppState}
-use Rattle.telnet_shell.specs.ShellMeaning.{hear_all}
-use Rattle.telnet_shell.specs.ShellRepresents.{ShellRepresents}
+use Rattle.telnet_shell.proofs.Prelude.{take, sym, subst, arith, AppState, hear_all, ShellRepresents}
 use Rattle.telnet_shell.proofs.Asking.{next_byte}
 use Rattle.telnet_shell.proofs.shell.Shell.hear_piece.Goals as goal
 

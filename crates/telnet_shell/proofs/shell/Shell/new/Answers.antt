@@ -1,4 +1,4 @@
-use Rattle.std.proofs.Common.{refl}
+use Rattle.telnet_shell.proofs.Prelude.{refl}
 use Rattle.telnet_shell.proofs.Opened.{opened_after, opened_place}
 use Rattle.telnet_shell.proofs.shell.Shell.new.Goals as goal
 

@@ -1,7 +1,5 @@
 use Rattle.telnet_shell.proofs.Opened.{room, acked_after}
-use Rattle.std.proofs.Common.{refl, ◌+◌, ◌≤◌, length, sym, subst}
-use Rattle.telnet_shell.specs.State.{Shell}
-use Rattle.telnet_shell.specs.Saying.{left_said}
+use Rattle.telnet_shell.proofs.Prelude.{refl, ◌+◌, ◌≤◌, length, sym, subst, Shell, left_said}
 use Rattle.telnet_shell.proofs.shell.ShellApp.acked.Goals as goal
 
 pub advance-self-inside-requires : goal.advance-self-inside-requires

@@ -1,8 +1,4 @@
-use Rattle.std.proofs.Common.{◌+◌, ◌≤◌, ℕ, List, length, take, drop, sym, ap, subst, ◌∙◌}
-use Rattle.telnet_shell.specs.declared.command.Command.{Command}
-use Rattle.telnet_shell.specs.State.{Shell}
-use Rattle.telnet_shell.specs.Saying.{left_said, prefix_size}
-use Rattle.telnet_shell.specs.Lemmas.SameLeft.{left_of_value}
+use Rattle.telnet_shell.proofs.Prelude.{◌+◌, ◌≤◌, ℕ, List, length, take, drop, sym, ap, subst, ◌∙◌, Command, Shell, left_said, prefix_size, left_of_value}
 use Rattle.telnet_shell.proofs.Opened.{place_of, room}
 use Rattle.telnet_shell.proofs.shell.ShellApp.fill.Goals as goal
 

@@ -1,6 +1,4 @@
-use Rattle.std.proofs.Common.{List, sym, ap, ◌∙◌}
-use Rattle.telnet_shell.specs.declared.command.Command.{Command}
-use Rattle.telnet_shell.specs.Saying.{due}
+use Rattle.telnet_shell.proofs.Prelude.{List, sym, ap, ◌∙◌, Command, due}
 use Rattle.telnet_shell.proofs.Asking.{none_of, stays}
 use Rattle.telnet_shell.proofs.shell.ShellApp.is_due.Goals as goal
 

@@ -1,9 +1,4 @@
-use Rattle.std.proofs.Common.{◌≡◌, ◌==◌, ◌&&◌, ℕ, ◌-◌, ◌≤◌, ◌<◌, Bool, List, length, min, if◌then◌else◌, sym, ap, subst, ◌∙◌, arith}
-use Rattle.std.proofs.lemmas.Bool.{le-ltb, lt-ltb}
-use Rattle.app_events.specs.declared.want.Want.TheVariants.{Nothing, Send}
-use Rattle.telnet_shell.specs.declared.command.Command.{Command}
-use Rattle.telnet_shell.specs.State.{Shell}
-use Rattle.telnet_shell.specs.Saying.{left_said}
+use Rattle.telnet_shell.proofs.Prelude.{◌≡◌, ◌==◌, ◌&&◌, ℕ, ◌-◌, ◌≤◌, ◌<◌, Bool, List, length, min, if◌then◌else◌, sym, ap, subst, ◌∙◌, arith, le-ltb, lt-ltb, Nothing, Send, Command, Shell, left_said}
 use Rattle.telnet_shell.proofs.Opened.{place_in}
 use Rattle.telnet_shell.proofs.Asking.{wanted, want_from}
 use Rattle.telnet_shell.proofs.shell.ShellApp.want.Goals as goal

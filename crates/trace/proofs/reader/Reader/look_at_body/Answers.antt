@@ -1,6 +1,4 @@
-use Rattle.std.proofs.Common.{◌∙◌, ap, sym, arith}
-use Rattle.uip_edge.proofs.Told.{appends_by, on_err}
-use Rattle.uip_slip.specs.Text.{slip_text}
+use Rattle.trace.proofs.Prelude.{◌∙◌, ap, sym, arith, appends_by, on_err, slip_text}
 use Rattle.trace.proofs.ReadLaws.{IsBody, body_done, body_part, broke_all}
 use Rattle.trace.proofs.reader.Reader.look_at_body.Goals as goal
 

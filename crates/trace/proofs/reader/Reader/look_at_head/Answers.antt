@@ -1,6 +1,4 @@
-use Rattle.std.proofs.Common.{◌<◌, ◌∙◌, ℕ, ap, sym, subst}
-use Rattle.trace.specs.CaptureReading.{length_in}
-use Rattle.uip_wire.specs.declared.sizes.TheConstants.{LARGEST_DATAGRAM}
+use Rattle.trace.proofs.Prelude.{◌<◌, ◌∙◌, ℕ, ap, sym, subst, length_in, LARGEST_DATAGRAM}
 use Rattle.trace.proofs.ReadLaws.{empty_captured, length_fault}
 use Rattle.trace.proofs.reader.Reader.look_at_head.Goals as goal
 

@@ -1,5 +1,4 @@
-use Rattle.std.proofs.Common.{◌∙◌, ap, sym}
-use Rattle.trace.specs.CaptureReading.{order_of}
+use Rattle.trace.proofs.Prelude.{◌∙◌, ap, sym, order_of}
 use Rattle.trace.proofs.ReadLaws.{header_fault}
 use Rattle.trace.proofs.reader.Reader.look_at_header.Goals as goal
 

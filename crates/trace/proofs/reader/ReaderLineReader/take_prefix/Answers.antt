@@ -1,7 +1,4 @@
-use Rattle.std.proofs.Common.{rules, ◌≡◌, ◌++◌, Err, map, take}
-use Rattle.uip_edge.specs.Coming.{bytes_among}
-use Rattle.uip_edge.specs.ViewsOf.{sink_view}
-use Rattle.uip_edge.specs.declared.item.Item.TheVariants.{Byte}
+use Rattle.trace.proofs.Prelude.{rules, ◌≡◌, ◌++◌, Err, map, take, bytes_among, sink_view, Byte}
 use Rattle.trace.proofs.ConvertLaws.{grown, stopped_prefix}
 use Rattle.trace.proofs.reader.ReaderLineReader.take_prefix.Goals as goal
 

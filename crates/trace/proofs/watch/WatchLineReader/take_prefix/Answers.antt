@@ -1,7 +1,4 @@
-use Rattle.std.proofs.Common.{take, ◌∙◌, ap, sym, map}
-use Rattle.uip_edge.specs.declared.item.Item.TheVariants.{Byte}
-use Rattle.uip_edge.specs.ViewsOf.{sink_view}
-use Rattle.uip_slip.specs.Decoding.{reported_by}
+use Rattle.trace.proofs.Prelude.{take, ◌∙◌, ap, sym, map, Byte, sink_view, reported_by}
 use Rattle.trace.proofs.PrefixLaws.{broke_watch, prefix_broke, prefix_seen, prefix_text, if_err, wrote_on}
 use Rattle.trace.proofs.watch.WatchLineReader.take_prefix.Goals as goal
 

@@ -1,4 +1,4 @@
-use Rattle.udp_resolver.specs.Fates.{silences}
+use Rattle.udp_resolver.proofs.Prelude.{silences}
 use Rattle.udp_resolver.proofs.EventLaws.{not_over, ticked_again, ticked_over, ticked_wait}
 use Rattle.udp_resolver.proofs.clock.Clock.tick.Goals as goal
 

@@ -1,8 +1,5 @@
-use Rattle.std.proofs.Common.{◌∙◌, ap}
-use Rattle.std.specs.List.{list_any}
-use Rattle.std.specs.Option.{is_none}
+use Rattle.udp_resolver.proofs.Prelude.{◌∙◌, ap, list_any, is_none, questions}
 use Rattle.udp_resolver.proofs.RunLaws.{open_by, open_else, open_then}
-use Rattle.udp_resolver.specs.Fates.{questions}
 use Rattle.udp_resolver.proofs.run.Run.is_open.Goals as goal
 
 pub returns-then-not-self : goal.returns-then-not-self

@@ -1,8 +1,4 @@
-use Rattle.std.proofs.Common.{◌∙◌, ap, sym, length}
-use Rattle.std.proofs.lemmas.Result.{on_ok_weaker}
-use Rattle.udp_resolver.specs.Asked.{last_ident, query_texts}
-use Rattle.udp_resolver.specs.Fates.{questions}
-use Rattle.udp_resolver.specs.Steps.{unanswered}
+use Rattle.udp_resolver.proofs.Prelude.{◌∙◌, ap, sym, length, on_ok_weaker, last_ident, query_texts, questions, unanswered}
 use Rattle.udp_resolver.proofs.RunLaws.{first_asked, none_yet, questions-length, writes_some_by}
 use Rattle.udp_resolver.proofs.run.Run.send_first.Goals as goal
 

@@ -1,9 +1,4 @@
-use Rattle.std.proofs.Common.{◌∙◌, ◌++◌, List, map, take, subst}
-use Rattle.std.proofs.lemmas.List.{take_all}
-use Rattle.uip_edge.specs.declared.item.Item.{Item}
-use Rattle.uip_edge.specs.declared.item.Item.TheVariants.{Byte}
-use Rattle.udp_resolver.specs.Fates.{questions}
-use Rattle.udp_resolver.specs.Standing.{RunRepresents}
+use Rattle.udp_resolver.proofs.Prelude.{◌∙◌, ◌++◌, List, map, take, subst, take_all, Item, Byte, questions, RunRepresents}
 use Rattle.udp_resolver.proofs.RunLaws.{byte_more, calm_over}
 use Rattle.udp_resolver.proofs.run.Run.take.Goals as goal
 

@@ -1,9 +1,4 @@
-use Rattle.std.proofs.Common.{◌≡◌, ◌++◌, List, false, length, map, take}
-use Rattle.uip_edge.specs.declared.item.Item.{Item}
-use Rattle.uip_edge.specs.declared.item.Item.TheVariants.{Byte}
-use Rattle.udp_resolver.specs.Fates.{is_given_up, questions}
-use Rattle.udp_resolver.specs.LineEvents.{events}
-use Rattle.udp_resolver.specs.Standing.{RunRepresents}
+use Rattle.udp_resolver.proofs.Prelude.{◌≡◌, ◌++◌, List, false, length, map, take, Item, Byte, is_given_up, questions, events, RunRepresents}
 use Rattle.udp_resolver.proofs.run.Run.take.Given as goal
 
 abbrev pub invariant-loop-byte : goal.invariant-loop-byte

@@ -1,11 +1,6 @@
-use Rattle.std.proofs.Common.{◌∙◌, ◌∷◌, [], length, refl, ap, sym}
-use Rattle.udp_resolver.specs.Fates.{questions}
-use Rattle.udp_resolver.specs.Steps.{heard_now}
-use Rattle.uip_slip.specs.Decoding.{reported_by}
-use Rattle.uip_slip.specs.Frames.{Datagram}
+use Rattle.udp_resolver.proofs.Prelude.{◌∙◌, ◌∷◌, [], length, refl, ap, sym, questions, heard_now, reported_by, Datagram, bytes_among}
 use Rattle.udp_resolver.proofs.ItemLaws.{by_told}
 use Rattle.udp_resolver.proofs.RunLaws.{heard-length, knows_byte, knows_came, questions-length, refill_same, told_none}
-use Rattle.uip_edge.specs.Coming.{bytes_among}
 use Rattle.udp_resolver.proofs.run.Run.take_byte.Goals as goal
 
 pub returns-in-Datagram-clause-knows : goal.returns-in-Datagram-clause-knows

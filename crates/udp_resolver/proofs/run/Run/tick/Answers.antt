@@ -1,9 +1,4 @@
-use Rattle.std.proofs.Common.{◌∙◌, refl, ap, sym}
-use Rattle.std.proofs.lemmas.Result.{on_ok_weaker}
-use Rattle.udp_resolver.specs.Asked.{last_ident, query_texts}
-use Rattle.udp_resolver.specs.Fates.{questions}
-use Rattle.udp_resolver.specs.LineEvents.{events}
-use Rattle.uip_edge.proofs.Writes.{writes_none}
+use Rattle.udp_resolver.proofs.Prelude.{◌∙◌, refl, ap, sym, on_ok_weaker, last_ident, query_texts, questions, events, writes_none}
 use Rattle.udp_resolver.proofs.RunLaws.{knows_silence, next_by, next_none, writes_some_by}
 use Rattle.udp_resolver.proofs.run.Run.tick.Goals as goal
 

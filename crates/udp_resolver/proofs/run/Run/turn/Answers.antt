@@ -1,11 +1,4 @@
-use Rattle.std.proofs.Common.{◌≡◌, ◌∷◌, [], refl, arith, map, take, length, inl, inr}
-use Rattle.uip_edge.specs.declared.item.Item.TheVariants.{Byte, Quiet}
-use Rattle.uip_edge.proofs.Told.{Appends-none}
-use Rattle.uip_edge.proofs.Turns.{counted}
-use Rattle.udp_resolver.specs.Asked.{query_texts}
-use Rattle.udp_resolver.specs.Fates.{questions}
-use Rattle.udp_resolver.specs.LineEvents.{events}
-use Rattle.udp_resolver.specs.Steps.{asked_next}
+use Rattle.udp_resolver.proofs.Prelude.{◌≡◌, ◌∷◌, [], refl, arith, map, take, length, inl, inr, Byte, Quiet, Appends-none, counted, query_texts, questions, events, asked_next}
 use Rattle.udp_resolver.proofs.FateLaws.{not_given_up}
 use Rattle.udp_resolver.proofs.RunLaws.{adds_bytes, adds_quiet}
 use Rattle.udp_resolver.proofs.run.Run.turn.Goals as goal

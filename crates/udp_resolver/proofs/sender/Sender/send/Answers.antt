@@ -1,8 +1,4 @@
-use Rattle.std.proofs.Common.{◌∙◌, refl, sym, ap, length, take, drop}
-use Rattle.std.proofs.lemmas.List.{take_at}
-use Rattle.packet_buffer.specs.Buffer.{Buffer}
-use Rattle.uip_slip.specs.Text.{slip_text}
-use Rattle.uip_edge.proofs.Writes.{writes_by}
+use Rattle.udp_resolver.proofs.Prelude.{◌∙◌, refl, sym, ap, length, take, drop, take_at, Buffer, slip_text, writes_by}
 use Rattle.udp_resolver.proofs.sender.Sender.send.Goals as goal
 
 pub returns-clause-writes : goal.returns-clause-writes

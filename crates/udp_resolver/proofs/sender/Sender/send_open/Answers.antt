@@ -1,10 +1,4 @@
-use Rattle.std.proofs.Common.{◌≡◌, ◌+◌, ◌++◌, ◌∙◌, None, refl, sym, ap, drop, get_or}
-use Rattle.uip_edge.proofs.Told.{Appends-then, appends_by, on_err}
-use Rattle.uip_edge.specs.ViewsOf.{sink_view}
-use Rattle.uip_edge.proofs.Writes.{writes_broken}
-use Rattle.udp_resolver.specs.Asked.{last_ident, query_texts}
-use Rattle.udp_resolver.specs.Fates.{next_asking, questions}
-use Rattle.udp_resolver.specs.Steps.{unanswered, unless_answered}
+use Rattle.udp_resolver.proofs.Prelude.{◌≡◌, ◌+◌, ◌++◌, ◌∙◌, None, refl, sym, ap, drop, get_or, Appends-then, appends_by, on_err, sink_view, writes_broken, last_ident, query_texts, next_asking, questions, unanswered, unless_answered}
 use Rattle.udp_resolver.proofs.StepLaws.{last_ident-append, query_texts-append, query_texts-moves, question_moves, some_moves}
 use Rattle.udp_resolver.proofs.sender.Sender.send_open.Goals as goal
 

@@ -1,9 +1,4 @@
-use Rattle.std.proofs.Common.{◌≡◌, ◌++◌, List, length, drop}
-use Rattle.std.specs.Io.KnownBytes.{Appends}
-use Rattle.uip_wire.specs.declared.sizes.TheConstants.{LARGEST_DATAGRAM}
-use Rattle.udp_resolver.specs.Asked.{last_ident, query_texts}
-use Rattle.udp_resolver.specs.Fates.{Question, questions}
-use Rattle.udp_resolver.specs.Steps.{unanswered}
+use Rattle.udp_resolver.proofs.Prelude.{◌≡◌, ◌++◌, List, length, drop, Appends, LARGEST_DATAGRAM, last_ident, query_texts, Question, questions, unanswered}
 use Rattle.udp_resolver.proofs.sender.Sender.send_open.Given as goal
 
 abbrev pub invariant-loop-at : goal.invariant-loop-at

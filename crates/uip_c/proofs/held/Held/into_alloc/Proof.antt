@@ -1,5 +1,5 @@
 -- Proves `into_alloc` by hand, since it opens a struct that owns memory, though here it owns none.
-use Rattle.std.proofs.Common.{◌≡◌, List, [], ◌∷◌, ◌++◌, refl, sym, subst}
+use Rattle.uip_c.proofs.Prelude.{◌≡◌, List, [], ◌∷◌, ◌++◌, refl, sym, subst, Goes-blank, proved_at, leaves, two_words, holds, Kept, NoDevice}
 use mir.Val.{Val}
 use base.Logic.{SProp, ent, emp, id⊢}
 use base.Fml.{ftrue}
@@ -15,11 +15,6 @@ use denote.Signature.{plain}
 use denote.RawPtr.{ptr_val}
 use denote.Steps.{nothing, heard}
 use denote.Triple.Walked.{Stays, stay_dropped, walk_of}
-use Rattle.core.proofs.alloc.Calls.{Goes-blank}
-use Rattle.std.proofs.raw_atomic.Walks.{proved_at, leaves}
-use Rattle.loose_box.proofs.Words.{two_words}
-use Rattle.uip_c.specs.Holding.{holds}
-use Rattle.uip_c.specs.Kept.{Kept, NoDevice}
 use Rattle.uip_c.proofs.Words.{HeldRow, held_out, held_typed, pointer_typed}
 use Rattle.uip_c.specs.contracts.held.Held.into_alloc.{ended, clauses}
 use Rattle.uip_c.specs.contracts.held.Held.into_alloc.Key.{name as #self}

@@ -1,5 +1,5 @@
 -- Proves `into_parts` by hand, since it opens a struct that owns memory and makes another.
-use Rattle.std.proofs.Common.{◌≡◌, List, [], ◌∷◌, ◌++◌, refl, sym, subst}
+use Rattle.uip_c.proofs.Prelude.{◌≡◌, List, [], ◌∷◌, ◌++◌, refl, sym, subst, Goes-blank, proved_at, leaves, true, box_owns, ghosts, two_words, words_typed, parts_in, WebDevice, IsSoundWebDevice, LineRow, holds, Kept, OnLine, is_on_line}
 use mir.Raw.{raw as bare}
 use mir.Val.{Val, vptr}
 use base.Logic.{SProp, ent, emp, never, id⊢, fst∗}
@@ -18,17 +18,7 @@ use denote.Signature.{plain}
 use denote.RawPtr.{Ptr, block_ptr, null_ptr, ptr_val, in_a_block}
 use denote.Steps.{nothing, heard}
 use denote.Triple.Walked.{Stays, stay_dropped, walk_of}
-use Rattle.core.proofs.alloc.Calls.{Goes-blank}
-use Rattle.std.proofs.raw_atomic.Walks.{proved_at, leaves}
-use Rattle.std.specs.Prelude.{true}
-use Rattle.std.specs.Box.Ownership.{box_owns}
 use Rattle.std.proofs.alloc.Global.TheLaws as heap_laws
-use Rattle.std.specs.contracts.impls.GlobalAllocator.TheImpl.{ghosts}
-use Rattle.loose_box.proofs.Words.{two_words, words_typed, parts_in}
-use Rattle.uip_device.specs.WebDevices.{WebDevice}
-use Rattle.uip_device.specs.WebDevices.{IsSoundWebDevice}
-use Rattle.uip_c.specs.Holding.{LineRow, holds}
-use Rattle.uip_c.specs.Kept.{Kept, OnLine, is_on_line}
 use Rattle.uip_c.proofs.Taking.{line_of}
 use Rattle.uip_c.proofs.Words.{HeapRow, HeldRow, held_out}
 use Rattle.uip_c.specs.contracts.held.Held.into_parts.{ended, clauses}

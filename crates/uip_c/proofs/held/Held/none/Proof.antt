@@ -1,5 +1,5 @@
 -- Proves `none` by hand, since it makes a struct that owns memory, though here it owns none.
-use Rattle.std.proofs.Common.{◌≡◌, List, [], ◌∷◌, ◌++◌, refl, sym, subst, lit<}
+use Rattle.uip_c.proofs.Prelude.{◌≡◌, List, [], ◌∷◌, ◌++◌, refl, sym, subst, lit<, handle_tells, proved_at, leaves, ghosts, two_words, words_typed, LineRow, Kept, NoDevice}
 use mir.Val.{Val}
 use base.Logic.{SProp, ent, emp, id⊢}
 use base.Fml.{ftrue}
@@ -15,13 +15,7 @@ use denote.Signature.{plain}
 use denote.RawPtr.{null_ptr, ptr_val}
 use denote.Steps.{nothing}
 use denote.Triple.Walked.{Stays, stay_dropped, walk_of, Goes-dropped}
-use Rattle.core.proofs.alloc.Calls.{handle_tells}
-use Rattle.std.proofs.raw_atomic.Walks.{proved_at, leaves}
 use Rattle.std.proofs.alloc.Global.TheLaws as heap_laws
-use Rattle.std.specs.contracts.impls.GlobalAllocator.TheImpl.{ghosts}
-use Rattle.loose_box.proofs.Words.{two_words, words_typed}
-use Rattle.uip_c.specs.Holding.{LineRow}
-use Rattle.uip_c.specs.Kept.{Kept, NoDevice}
 use Rattle.uip_c.proofs.Words.{HeapRow, allocator, held_in}
 use Rattle.uip_c.specs.contracts.held.Held.none.{ended, clauses}
 use Rattle.uip_c.specs.contracts.held.Held.none.Key.{name as #self}

@@ -1,7 +1,7 @@
 -- Proves `of` by hand, since it makes a struct that owns memory: the parts of the box are opened, and the handle takes them with the fact
 -- that the device is sound.
 -- [add: c-application] A handle: proofs as those of this folder.
-use Rattle.std.proofs.Common.{◌≡◌, List, [], ◌∷◌, ◌++◌, refl, sym, subst}
+use Rattle.uip_c.proofs.Prelude.{◌≡◌, List, [], ◌∷◌, ◌++◌, refl, sym, subst, Goes-blank, proved_at, leaves, box_owns, ghosts, two_words, Parts, words_typed, parts_out, IsSoundWebDevice, LineRow, OnLine}
 use mir.Val.{Val, vptr}
 use base.Logic.{SProp, ent, emp, id⊢}
 use base.Fml.{ftrue}
@@ -17,15 +17,7 @@ use denote.Signature.{plain}
 use denote.RawPtr.{block_ptr}
 use denote.Steps.{nothing, heard}
 use denote.Triple.Walked.{Stays, stay_dropped, walk_of}
-use Rattle.core.proofs.alloc.Calls.{Goes-blank}
-use Rattle.std.proofs.raw_atomic.Walks.{proved_at, leaves}
-use Rattle.std.specs.Box.Ownership.{box_owns}
 use Rattle.std.proofs.alloc.Global.TheLaws as heap_laws
-use Rattle.std.specs.contracts.impls.GlobalAllocator.TheImpl.{ghosts}
-use Rattle.loose_box.proofs.Words.{two_words, Parts, words_typed, parts_out}
-use Rattle.uip_device.specs.WebDevices.{IsSoundWebDevice}
-use Rattle.uip_c.specs.Holding.{LineRow}
-use Rattle.uip_c.specs.Kept.{OnLine}
 use Rattle.uip_c.proofs.Words.{HeapRow, held_in}
 use Rattle.uip_c.specs.contracts.held.Held.of.{ended, clauses}
 use Rattle.uip_c.specs.contracts.held.Held.of.Key.{name as #self}

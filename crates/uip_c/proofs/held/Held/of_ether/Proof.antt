@@ -1,5 +1,5 @@
 -- Proves `of_ether` by hand, since it makes a struct that owns memory: the parts of the box are opened, and the handle takes them.
-use Rattle.std.proofs.Common.{◌≡◌, List, [], ◌∷◌, ◌++◌, refl, sym, subst}
+use Rattle.uip_c.proofs.Prelude.{◌≡◌, List, [], ◌∷◌, ◌++◌, refl, sym, subst, Goes-blank, proved_at, leaves, box_owns, ghosts, two_words, Parts, words_typed, parts_out, EtherRow, OnEther}
 use mir.Val.{Val, vptr}
 use base.Logic.{SProp, ent, emp, id⊢}
 use base.Fml.{ftrue}
@@ -15,14 +15,7 @@ use denote.Signature.{plain}
 use denote.RawPtr.{block_ptr}
 use denote.Steps.{nothing, heard}
 use denote.Triple.Walked.{Stays, stay_dropped, walk_of}
-use Rattle.core.proofs.alloc.Calls.{Goes-blank}
-use Rattle.std.proofs.raw_atomic.Walks.{proved_at, leaves}
-use Rattle.std.specs.Box.Ownership.{box_owns}
 use Rattle.std.proofs.alloc.Global.TheLaws as heap_laws
-use Rattle.std.specs.contracts.impls.GlobalAllocator.TheImpl.{ghosts}
-use Rattle.loose_box.proofs.Words.{two_words, Parts, words_typed, parts_out}
-use Rattle.uip_c.specs.Holding.{EtherRow}
-use Rattle.uip_c.specs.Kept.{OnEther}
 use Rattle.uip_c.proofs.Words.{HeapRow, held_in}
 use Rattle.uip_c.specs.contracts.held.Held.of_ether.{ended, clauses}
 use Rattle.uip_c.specs.contracts.held.Held.of_ether.Key.{name as #self}

@@ -1,6 +1,4 @@
-use Rattle.std.proofs.Common.{◌∙◌, ap, sym, refl, take, []}
-use Rattle.packet_buffer.specs.Buffer.{datagram_in}
-use Rattle.uip_device.specs.Handing.{text_to_come}
+use Rattle.uip_device.proofs.Prelude.{◌∙◌, ap, sym, refl, take, [], datagram_in, text_to_come}
 use Rattle.uip_device.proofs.AnswerLaws.{answers_on}
 use Rattle.uip_device.proofs.device.Device.drain.Goals as goal
 

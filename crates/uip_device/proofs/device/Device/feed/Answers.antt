@@ -1,9 +1,4 @@
-use Rattle.std.proofs.Common.{map, take}
-use Rattle.uip_edge.specs.declared.item.Item.TheVariants.{Byte}
-use Rattle.packet_buffer.specs.Buffer.{datagram_in}
-use Rattle.serve_loop.specs.LineEvents.{events_after}
-use Rattle.uip_device.specs.Devices.{left_text_of}
-use Rattle.uip_device.specs.Handing.{text_to_come}
+use Rattle.uip_device.proofs.Prelude.{map, take, Byte, datagram_in, events_after, left_text_of, text_to_come}
 use Rattle.uip_device.proofs.AnswerLaws.{none_left}
 use Rattle.uip_device.proofs.SendLaws.{on_line}
 use Rattle.uip_device.proofs.device.Device.feed.Goals as goal

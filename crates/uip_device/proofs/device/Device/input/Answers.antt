@@ -1,6 +1,4 @@
-use Rattle.std.proofs.Common.{◌≡◌, refl, take}
-use Rattle.uip_device.specs.Calls.{Inputs}
-use Rattle.uip_device.specs.Sending.{datagram_sent}
+use Rattle.uip_device.proofs.Prelude.{◌≡◌, refl, take, Inputs, datagram_sent}
 use Rattle.uip_device.proofs.AnswerLaws.{answers_whole}
 use Rattle.uip_device.proofs.SendLaws.{sends_input}
 use Rattle.uip_device.proofs.device.Device.input.Goals as goal

@@ -1,10 +1,4 @@
-use Rattle.std.proofs.Common.{◌≡◌, ◌++◌, List, ℕ, [], ◌∷◌, append-nil, subst, sym, take}
-use Rattle.packet_buffer.specs.Buffer.{datagram_in}
-use Rattle.uip_slip.specs.Decoding.{WasFed}
-use Rattle.uip_node.specs.Events.Event.{Periodic}
-use Rattle.serve_loop.specs.Texts.{text_of}
-use Rattle.uip_device.specs.Devices.{left_text_of}
-use Rattle.uip_device.specs.Handing.{text_to_come}
+use Rattle.uip_device.proofs.Prelude.{◌≡◌, ◌++◌, List, ℕ, [], ◌∷◌, append-nil, subst, sym, take, datagram_in, WasFed, Periodic, text_of, left_text_of, text_to_come}
 use Rattle.uip_device.proofs.AnswerLaws.{none_left}
 use Rattle.uip_device.proofs.SendLaws.{as_text, on_line, sends_at}
 use Rattle.uip_device.proofs.device.Device.periodic.Goals as goal

@@ -1,7 +1,4 @@
-use Rattle.std.proofs.Common.{◌≡◌, refl, take}
-use Rattle.uip_node.specs.Events.Event.{Periodic}
-use Rattle.uip_device.specs.Calls.{CallsForDatagram}
-use Rattle.uip_device.specs.Sending.{datagram_sent}
+use Rattle.uip_device.proofs.Prelude.{◌≡◌, refl, take, Periodic, CallsForDatagram, datagram_sent}
 use Rattle.uip_device.proofs.AnswerLaws.{answers_whole}
 use Rattle.uip_device.proofs.SendLaws.{sends_at}
 use Rattle.uip_device.proofs.device.Device.periodic_datagram.Goals as goal

@@ -1,7 +1,4 @@
-use Rattle.std.proofs.Common.{◌++◌, ap, sym, ◌∙◌}
-use Rattle.file_tree.specs.Site.{files_of}
-use Rattle.web_pages.specs.Requests.{wanted}
-use Rattle.web_pages.proofs.OwnState.{hits_by_prefix}
+use Rattle.uip_device.proofs.Prelude.{◌++◌, ap, sym, ◌∙◌, files_of, wanted, hits_by_prefix}
 use Rattle.uip_device.proofs.value_pages.ValuePagesApp.newdata.Goals as goal
 
 pub returns-clause-numbers : goal.returns-clause-numbers

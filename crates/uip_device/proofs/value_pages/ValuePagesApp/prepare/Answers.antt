@@ -1,10 +1,4 @@
-use Rattle.std.proofs.Common.{ℕ, List, ◌++◌, ap, sym, subst, ◌∙◌}
-use Rattle.app_events.specs.AppSpec.{IsRepresented}
-use Rattle.device_values.specs.Words.{record_text, words}
-use Rattle.file_tree.specs.Site.{SiteContent, files_of}
-use Rattle.web_pages.specs.WebMeaning.{web_spec_by}
-use Rattle.httpd.specs.Web.{WebContent}
-use Rattle.httpd.specs.Compact.{CompactRepresent}
+use Rattle.uip_device.proofs.Prelude.{ℕ, List, ◌++◌, ap, sym, subst, ◌∙◌, IsRepresented, record_text, words, SiteContent, files_of, web_spec_by, WebContent, CompactRepresent}
 use Rattle.uip_device.proofs.value_pages.ValuePagesApp.prepare.Goals as goal
 
 pub prepare_at-requires-clause-part : goal.prepare_at-requires-clause-part

@@ -1,6 +1,4 @@
-use Rattle.std.proofs.Common.{ap}
-use Rattle.packet_buffer.specs.Buffer.{datagram_in}
-use Rattle.uip_device.specs.Handing.{text_to_come}
+use Rattle.uip_device.proofs.Prelude.{ap, datagram_in, text_to_come}
 use Rattle.uip_device.proofs.web_device.WebDevice.set_value.Goals as goal
 
 pub returns-clause-gives : goal.returns-clause-gives

@@ -1,4 +1,4 @@
-use Rattle.std.proofs.Common.{ap, sym}
+use Rattle.uip_edge.proofs.Prelude.{ap, sym}
 use Rattle.uip_edge.proofs.Runs.{rest_moved}
 use Rattle.uip_edge.proofs.mem_link.MemLinkLink.next.Goals as goal
 

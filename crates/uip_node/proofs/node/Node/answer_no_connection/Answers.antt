@@ -1,9 +1,5 @@
 -- The three replies to a segment of no connection.
-use Rattle.std.proofs.Common.{None, sym, ◌∙◌, subst, refl}
-use Rattle.tcp_machine.specs.Represents.{plain}
-use Rattle.uip_node.specs.Edge.{sockets_of}
-use Rattle.uip_node.specs.Node.{NodeStep}
-use Rattle.uip_node.specs.Represents.{Steps}
+use Rattle.uip_node.proofs.Prelude.{None, sym, ◌∙◌, subst, refl, plain, sockets_of, NodeStep, Steps}
 use Rattle.uip_node.proofs.Stepping.{stranger_opens, stranger_passes, stranger_refused}
 use Rattle.uip_node.proofs.node.Node.answer_no_connection.Goals as goal
 

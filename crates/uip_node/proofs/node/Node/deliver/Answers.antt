@@ -1,17 +1,5 @@
 -- The step of the connection, and what follows.
-use Rattle.std.proofs.Common.{ℕ, ◌≡◌, List, Some, length, arith, ap, sym, ◌∙◌, subst}
-use Rattle.std.specs.Prelude.{slice_get}
-use Rattle.std.proofs.lemmas.Option.{slice_get-get_or}
-use Rattle.tcp_machine.specs.Ask.{Outcome, asked}
-use Rattle.tcp_machine.specs.Connection.{Connection, closed}
-use Rattle.tcp_machine.specs.OnSegment.{on_segment}
-use Rattle.tcp_machine.specs.Represents.{plain}
-use Rattle.tcp_segment.specs.Received.{plain_of}
-use Rattle.packet_buffer.specs.Buffer.{datagram_in}
-use Rattle.uip_node.specs.Node.{connection_in, happened, snapshot}
-use Rattle.uip_node.specs.Slots.{MeetsAt}
-use Rattle.uip_node.specs.Represents.{Steps}
-use Rattle.uip_node.specs.State.{Counts}
+use Rattle.uip_node.proofs.Prelude.{ℕ, ◌≡◌, List, Some, length, arith, ap, sym, ◌∙◌, subst, slice_get, slice_get-get_or, Outcome, asked, Connection, closed, on_segment, plain, plain_of, datagram_in, connection_in, happened, snapshot, MeetsAt, Steps, Counts}
 use Rattle.uip_node.proofs.Finishing.{finished}
 use Rattle.uip_node.proofs.node.Node.deliver.Goals as goal
 

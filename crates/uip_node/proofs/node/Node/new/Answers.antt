@@ -1,7 +1,5 @@
 -- Ten CLOSED connections and an empty history.
-use Rattle.std.proofs.Common.{ℕ, length, ap, ◌∙◌, refl}
-use Rattle.std.proofs.lemmas.List.{length-replicate}
-use Rattle.packet_buffer.specs.Buffer.{Buffer}
+use Rattle.uip_node.proofs.Prelude.{ℕ, length, ap, ◌∙◌, refl, length-replicate, Buffer}
 use Rattle.uip_node.proofs.Opening.{all_kept, all_stand}
 use Rattle.uip_node.proofs.node.Node.new.Goals as goal
 

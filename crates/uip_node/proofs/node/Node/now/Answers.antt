@@ -1,8 +1,5 @@
 -- The rows are the abstract node's.
-use Rattle.std.proofs.Common.{ℕ, List, ap, ◌∙◌}
-use Rattle.app_events.specs.declared.now.Now.{Now}
-use Rattle.app_events.specs.declared.row.Row.{Row}
-use Rattle.uip_node.specs.Counters.{counters, ticks_of}
+use Rattle.uip_node.proofs.Prelude.{ℕ, List, ap, ◌∙◌, Now, Row, counters, ticks_of}
 use Rattle.uip_node.proofs.Settling.{rows_stand}
 use Rattle.uip_node.proofs.node.Node.now.Goals as goal
 

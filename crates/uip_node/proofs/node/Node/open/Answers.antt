@@ -1,13 +1,5 @@
 -- The connection that was opened.
-use Rattle.std.proofs.Common.{ℕ, arith, ap, length, ◌∙◌, subst, refl}
-use Rattle.std.specs.Prelude.{slice_set}
-use Rattle.tcp_machine.specs.Connection.{Connection}
-use Rattle.tcp_machine.specs.OnSegment.{accept, accepted}
-use Rattle.tcp_machine.specs.Represents.{plain}
-use Rattle.uip_node.specs.Counted.{seen}
-use Rattle.uip_node.specs.Counters.{initial_number}
-use Rattle.uip_node.specs.Edge.{sockets_of}
-use Rattle.uip_node.specs.Slots.{SlotsRepresent}
+use Rattle.uip_node.proofs.Prelude.{ℕ, arith, ap, length, ◌∙◌, subst, refl, slice_set, Connection, accept, accepted, plain, seen, initial_number, sockets_of, SlotsRepresent}
 use Rattle.uip_node.proofs.Naming.{like_named}
 use Rattle.uip_node.proofs.Settling.{get_set}
 use Rattle.uip_node.proofs.node.Node.open.Goals as goal

@@ -1,13 +1,5 @@
 -- The slot that a plain SYN takes.
-use Rattle.std.proofs.Common.{◌<◌, List, ◌∷◌, Some, None, ap, arith, sym, subst, ◌∙◌, length, refl}
-use Rattle.tcp_machine.specs.Represents.{plain}
-use Rattle.uip_node.specs.Edge.{sockets_of}
-use Rattle.uip_node.specs.Events.{HistoryEntry}
-use Rattle.uip_node.specs.Events.Answer.{NoSlot}
-use Rattle.uip_node.specs.Events.Event.{Arrived}
-use Rattle.uip_node.specs.Node.{connection_in}
-use Rattle.uip_node.specs.Slots.{AllWellFormed}
-use Rattle.tcp_table.specs.Slots.{slot_to_take}
+use Rattle.uip_node.proofs.Prelude.{◌<◌, List, ◌∷◌, Some, None, ap, arith, sym, subst, ◌∙◌, length, refl, plain, sockets_of, HistoryEntry, NoSlot, Arrived, connection_in, AllWellFormed, slot_to_take}
 use Rattle.uip_node.proofs.Finding.{opens_by, slot_within}
 use Rattle.uip_node.proofs.Stepping.{opened, stands_later}
 use Rattle.uip_node.proofs.node.Node.passive_open.Goals as goal

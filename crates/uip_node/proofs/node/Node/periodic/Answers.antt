@@ -1,19 +1,5 @@
 -- A CLOSED connection does nothing, and any other counts its tick.
-use Rattle.std.proofs.Common.{rules, ℕ, ◌≡◌, ◌+◌, ◌%◌, ◌<◌, List, Some, arith, ap, sym, ◌∙◌, subst, length, false}
-use Rattle.std.specs.Prelude.{slice_get}
-use Rattle.std.proofs.lemmas.Option.{slice_get-get_or}
-use Rattle.app_events.specs.States.{is_live}
-use Rattle.tcp_table.specs.declared.conn.Conn.{Conn}
-use Rattle.tcp_machine.specs.Ask.{Outcome, asked}
-use Rattle.tcp_machine.specs.Connection.{Connection, closed}
-use Rattle.tcp_machine.specs.OnTick.{on_tick}
-use Rattle.uip_node.specs.Events.{Event}
-use Rattle.uip_node.specs.Events.Event.{Periodic}
-use Rattle.uip_node.specs.Node.{connection_in, happened, snapshot}
-use Rattle.uip_node.specs.Slots.{AllWellFormed, MeetsAt, SlotsRepresent}
-use Rattle.uip_node.specs.Represents.{Steps}
-use Rattle.uip_node.specs.Counted.{CountsRepresent, seen}
-use Rattle.uip_node.specs.State.{Counts}
+use Rattle.uip_node.proofs.Prelude.{rules, ℕ, ◌≡◌, ◌+◌, ◌%◌, ◌<◌, List, Some, arith, ap, sym, ◌∙◌, subst, length, false, slice_get, slice_get-get_or, is_live, Conn, Outcome, asked, Connection, closed, on_tick, Event, Periodic, connection_in, happened, snapshot, AllWellFormed, MeetsAt, SlotsRepresent, Steps, CountsRepresent, seen, Counts}
 use Rattle.uip_node.proofs.Finishing.{finished}
 use Rattle.uip_node.proofs.Stepping.{next_first, rests_at, slice_get-element}
 use Rattle.uip_node.proofs.node.Node.periodic.Goals as goal

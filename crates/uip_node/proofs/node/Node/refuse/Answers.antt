@@ -1,12 +1,5 @@
 -- The reset.
-use Rattle.std.proofs.Common.{ℕ, List, Some, ap, ◌∙◌, length, false}
-use Rattle.tcp_machine.specs.Segments.{reset_for_no_connection}
-use Rattle.tcp_machine.specs.Represents.{plain}
-use Rattle.tcp_segment.specs.Segments.{datagram_bytes}
-use Rattle.uip_node.specs.Edge.{datagram_to, sockets_of}
-use Rattle.uip_node.specs.Events.{Event}
-use Rattle.uip_node.specs.Events.Event.{Arrived}
-use Rattle.uip_node.specs.State.{Counts}
+use Rattle.uip_node.proofs.Prelude.{ℕ, List, Some, ap, ◌∙◌, length, false, reset_for_no_connection, plain, datagram_bytes, datagram_to, sockets_of, Event, Arrived, Counts}
 use Rattle.uip_node.proofs.Twice.{next_ident, said_counted}
 use Rattle.uip_node.proofs.node.Node.refuse.Goals as goal
 

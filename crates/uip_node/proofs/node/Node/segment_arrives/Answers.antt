@@ -1,12 +1,5 @@
 -- The connection that a segment belongs to.
-use Rattle.std.proofs.Common.{rules, ◌≡◌, ◌<◌, Some, None, arith, sym, ◌∙◌, length}
-use Rattle.std.specs.Prelude.{position}
-use Rattle.std.proofs.lemmas.Bool.{and_parts}
-use Rattle.packet_buffer.specs.Buffer.{datagram_in}
-use Rattle.tcp_segment.specs.Received.{plain_of}
-use Rattle.tcp_table.specs.Connections.{is_at}
-use Rattle.uip_node.specs.Edge.{sockets_of}
-use Rattle.uip_node.specs.Events.Event.{Arrived}
+use Rattle.uip_node.proofs.Prelude.{rules, ◌≡◌, ◌<◌, Some, None, arith, sym, ◌∙◌, length, position, and_parts, datagram_in, plain_of, is_at, sockets_of, Arrived}
 use Rattle.uip_node.proofs.Finding.{arrived, found, not_found}
 use Rattle.uip_node.proofs.node.Node.segment_arrives.Goals as goal
 

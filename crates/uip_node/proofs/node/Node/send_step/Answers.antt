@@ -1,8 +1,5 @@
 -- The reply is that of the definition.
-use Rattle.std.proofs.Common.{◌∷◌, ap, ◌∙◌, Bool, ◌+◌, ◌%◌}
-use Rattle.uip_node.specs.Counters.{counters}
-use Rattle.uip_node.specs.Events.Answer.{Spoke}
-use Rattle.uip_node.specs.State.{Counts}
+use Rattle.uip_node.proofs.Prelude.{◌∷◌, ap, ◌∙◌, Bool, ◌+◌, ◌%◌, counters, Spoke, Counts}
 use Rattle.uip_node.proofs.Answering.{says_nothing, speaks}
 use Rattle.uip_node.proofs.Twice.{said_counted}
 use Rattle.uip_node.proofs.node.Node.send_step.Goals as goal

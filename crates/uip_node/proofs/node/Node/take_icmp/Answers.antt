@@ -1,12 +1,5 @@
 -- The reply in the packet.
-use Rattle.std.proofs.Common.{rules, ℕ, ◌≤◌, List, Option, Some, ap, sym, ◌∙◌, subst, length, take}
-use Rattle.uip_node.specs.Events.Event.{IcmpRefused, EchoAsked}
-use Rattle.std.specs.Option.{option_map_or}
-use Rattle.icmp_echo.specs.declared.fate.IcmpFate.{IcmpFate}
-use Rattle.packet_buffer.specs.Buffer.{datagram_in}
-use Rattle.uip_node.specs.Node.{step}
-use Rattle.uip_node.specs.State.{Counts}
-use Rattle.uip_node.specs.Represents.{Steps}
+use Rattle.uip_node.proofs.Prelude.{rules, ℕ, ◌≤◌, List, Option, Some, ap, sym, ◌∙◌, subst, length, take, IcmpRefused, EchoAsked, option_map_or, IcmpFate, datagram_in, step, Counts, Steps}
 use Rattle.uip_node.proofs.Stepping.{answered_long, payload_long, reply_is, stands_later}
 use Rattle.uip_node.proofs.node.Node.take_icmp.Goals as goal
 

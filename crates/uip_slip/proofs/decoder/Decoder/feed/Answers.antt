@@ -1,4 +1,4 @@
-use Rattle.std.proofs.Common.{eq-eqb, ne_eqb}
+use Rattle.uip_slip.proofs.Prelude.{eq-eqb, ne_eqb}
 use Rattle.uip_slip.proofs.DecoderLaws.{fed_byte, fed_end}
 use Rattle.uip_slip.proofs.decoder.Decoder.feed.Goals as goal
 

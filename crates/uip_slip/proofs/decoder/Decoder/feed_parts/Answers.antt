@@ -1,7 +1,5 @@
-use Rattle.std.proofs.Common.{◌∙◌, ◌++◌, ◌-◌, ap, append-nil, arith, drop, length, length-drop, length-take, rules, subst}
+use Rattle.uip_slip.proofs.Prelude.{◌∙◌, ◌++◌, ◌-◌, ap, append-nil, arith, drop, length, length-drop, length-take, rules, subst, Leaves, reported_by, frames}
 use Rattle.uip_slip.proofs.DecoderLaws.{ends_on, fed_on}
-use Rattle.uip_slip.specs.Decoding.{Leaves, reported_by}
-use Rattle.uip_slip.specs.Frames.{frames}
 use Rattle.uip_slip.proofs.decoder.Decoder.feed_parts.Goals as goal
 
 pub returns-in_default-clause-prefix : goal.returns-in_default-clause-prefix

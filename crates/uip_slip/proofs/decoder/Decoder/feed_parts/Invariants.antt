@@ -1,6 +1,4 @@
-use Rattle.std.proofs.Common.{◌≡◌, ◌<◌, ◌≤◌, ◌++◌, ℕ, List, false, length, take, ◌-◌}
-use Rattle.uip_slip.specs.Decoding.{WasFed}
-use Rattle.uip_slip.specs.Frames.{frames}
+use Rattle.uip_slip.proofs.Prelude.{◌≡◌, ◌<◌, ◌≤◌, ◌++◌, ℕ, List, false, length, take, ◌-◌, WasFed, frames}
 use Rattle.uip_slip.proofs.decoder.Decoder.feed_parts.Given as goal
 
 abbrev pub invariant-loop-count : goal.invariant-loop-count

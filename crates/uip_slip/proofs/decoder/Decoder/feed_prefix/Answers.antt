@@ -1,6 +1,5 @@
-use Rattle.std.proofs.Common.{◌∙◌, append-nil, arith, rules}
+use Rattle.uip_slip.proofs.Prelude.{◌∙◌, append-nil, arith, rules, frames}
 use Rattle.uip_slip.proofs.DecoderLaws.{ends_on, fed_on, fed_run}
-use Rattle.uip_slip.specs.Frames.{frames}
 use Rattle.uip_slip.proofs.decoder.Decoder.feed_prefix.Goals as goal
 
 pub returns-then-count-bytes : goal.returns-then-count-bytes

@@ -1,7 +1,5 @@
-use Rattle.std.proofs.Common.{◌≡◌, ◌∙◌, ◌++◌, ◌∷◌, [], ap, append-nil, get_or, rules, subst, sym, take}
+use Rattle.uip_slip.proofs.Prelude.{◌≡◌, ◌∙◌, ◌++◌, ◌∷◌, [], ap, append-nil, get_or, rules, subst, sym, take, WasFed, frames}
 use Rattle.uip_slip.proofs.DecoderLaws.{ends_on, fed_on, take_first}
-use Rattle.uip_slip.specs.Decoding.{WasFed}
-use Rattle.uip_slip.specs.Frames.{frames}
 use Rattle.uip_slip.proofs.decoder.Decoder.feed_run.Goals as goal
 
 pub returns-in-More-clause-prefix : goal.returns-in-More-clause-prefix

@@ -1,7 +1,4 @@
-use Rattle.std.proofs.Common.{◌∙◌, ◌≤◌, ap, arith, take}
-use Rattle.std.proofs.lemmas.List.{length-take-le}
-use Rattle.uip_slip.specs.Decoding.{State}
-use Rattle.uip_slip.specs.Steps.{joined_parts}
+use Rattle.uip_slip.proofs.Prelude.{◌∙◌, ◌≤◌, ap, arith, take, length-take-le, State, joined_parts}
 use Rattle.uip_slip.proofs.DecoderLaws.{joined_is}
 use Rattle.uip_slip.proofs.decoder.Decoder.join.Goals as goal
 

@@ -1,4 +1,4 @@
-use Rattle.std.proofs.Common.{◌∙◌}
+use Rattle.uip_wire.proofs.Prelude.{◌∙◌}
 use Rattle.uip_wire.proofs.Pieces.{add_piece}
 use Rattle.uip_wire.proofs.summer.Summer.add.Goals as goal
 

@@ -1,0 +1,14 @@
+-- The names that the proofs of this crate cite: of std, of the crates below, and of its own definitions. Declares nothing.
+pub use Rattle.generators.specs.Prelude.{HoldsPart, in_ten, in_ten_places, line_long, one_digit, row_in, row_long, row_text, rows_in, texts_short, three_digits, two_digits}
+unfoldable pub use Rattle.generators.specs.Prelude.{row_parts}
+pub use Rattle.generators.specs.declared.packed_rows.PackedRow.{PackedRow}
+pub use Rattle.generators.specs.declared.packed_rows.PackedRows.{PackedRows}
+pub use Rattle.generators.specs.declared.parts.Place.{Place}
+pub use Rattle.std.proofs.Common.{List, [], ap, append-nil, append_assoc, arith, drop, flat_map, get_or, inl, inr, length, length-append, length-drop, map, min, refl, replicate, slice_range, subst, sym, take, ℕ, ◌*◌, ◌++◌, ◌+◌, ◌-◌, ◌<◌, ◌∙◌, ◌∷◌, ◌≡◌, ◌≤◌}
+pub use Rattle.std.proofs.Math.Nat.{mul-le-mul_left}
+pub use Rattle.std.proofs.lemmas.Bool.{cases_lt}
+pub use Rattle.std.proofs.lemmas.Fmt.{decimal_digit}
+pub use Rattle.std.proofs.lemmas.Grind.{same_number_lists}
+pub use Rattle.std.proofs.lemmas.List.{drop-replicate, flat_map_more, get_or-append_right, get_or-drop, get_or-take, get_or_append_left, length-replicate, length-take, take_all, take_more}
+pub use Rattle.std.proofs.lemmas.List.Folds.{flat_map-map}
+pub use Rattle.std.specs.List.{concat}
