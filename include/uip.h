@@ -63,6 +63,7 @@
  *   1. Get the library: from an archive that release.sh made, by `rt lib` in crates/uip_c (x86-64), or by ports/run.sh.
  *   2. Pack the site: `python3 tools/pack.py FOLDER site.c` writes a constant array, which stays in flash. `uipd pack`
  *      writes an image, for example to include in assembly (examples/board/site.S). Any alignment will do.
+ *      For Ethernet an archive of ports/run.sh is libuip_c_ether.a; libuip_c.a there has no calls for frames.
  *   3. Link your program, a heap (examples/heap.c: one array, of UIP_HEAP_SIZE bytes, which you define for the
  *      compiler as UIP_MEMORY of the number of files; examples/linux-c/heap.c: malloc) and the library.
  *

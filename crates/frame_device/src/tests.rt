@@ -8,6 +8,7 @@ use std::test::Fail;
 use uip_wire::Addr;
 
 const NODE: Addr = Addr([10, 0, 0, 1]);
+
 const MAC: Mac = Mac([2, 0, 0, 0, 0, 1]);
 
 // 02:00:00:00:00:02 at 10.0.0.2 asks all stations for 10.0.0.1, and the reply; then what the node asks if 10.0.0.2 is unknown.
