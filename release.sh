@@ -33,6 +33,7 @@ libraries() {
     for target in $(sh ports/run.sh targets); do
         sh ports/run.sh "$target" library || fail "no library for $target"
         put "lib/$target" "ports/out/$target/libuip_c.a"
+        put "lib/$target" "ports/out/$target/libuip_c_ether.a"
     done
     sh examples/board/run.sh build >/dev/null || fail "no library for aarch64"
     put lib/aarch64 examples/board/out/libuip_c.a

@@ -104,6 +104,7 @@
  * To build a program:
  *   1. Get the library, libuip_c.a: from lib/ of an archive that release.sh made, or in the repository by `rt lib` in
  *      crates/uip_c (x86-64) or `sh ports/run.sh TARGET library` (see rule 10). The last two need the Rattle kit.
+ *      For Ethernet ports/run.sh and an archive have libuip_c_ether.a: libuip_c.a there has no calls for frames.
  *   2. Pack the site: `python3 tools/pack.py FOLDER site.c` writes a constant array, which stays in flash. With the
  *      name site.img it writes the image alone, for example for .incbin of an assembler. Any alignment will do.
  *   3. Compile your program, and link the library, for example

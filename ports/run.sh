@@ -9,7 +9,8 @@
 #                                                  status, number, byte and call of the heap must be the same
 #     sh ports/run.sh TARGET speed                 counts the instructions of a ping and of a small file (not for wasm)
 #     sh ports/run.sh TARGET planted [CALLS]       plants faults in the conversion of the module: each must be found
-#     sh ports/run.sh TARGET library               builds the library alone: ports/out/TARGET/libuip_c.a
+#     sh ports/run.sh TARGET library               builds the library alone: ports/out/TARGET/libuip_c.a, and with the calls for
+#                                                  Ethernet libuip_c_ether.a
 #     sh ports/run.sh targets                      lists the targets
 #
 # TARGET is m0 (Cortex-M0+), m4, m7, m33, rv32 (rv32imac), rv64 (rv64imac), aarch64-small (compiled for size, beside the library of `rt lib`)
@@ -22,7 +23,7 @@
 #
 # The first run proves the library (module.sh). Needs python3 and the kit of `rt`; for fetch, usage and state qemu-system-arm or
 # qemu-system-misc, `ip` and /dev/net/tun; for same and planted qemu-user and a C compiler for this machine; for wasm node.
-case "$1" in -h|--help|"") sed -n '2,29s/^# \{0,1\}//p' "$0"; exit 0;; esac
+case "$1" in -h|--help|"") sed -n '2,30s/^# \{0,1\}//p' "$0"; exit 0;; esac
 ports=$(cd "$(dirname "$0")" && pwd)
 top=$(cd "$ports/.." && pwd)
 example=$top/examples/board
@@ -75,10 +76,19 @@ library() {
     fi
     python3 "${RETARGET:-$ports/retarget.py}" "$module" "$to/layout.ll" "$to/module.ll" "$to/calls.h" ${CHECKED:+--checked} \
         || fail "the module was not converted"
-    clang $words $opt -ffreestanding -fno-builtin $sections -c -x ir "$to/module.ll" -o "$to/module.o" || fail "clang failed"
-    c_code -Os "$ports/uip_calls.c" -o "$to/uip_calls.o"
-    rm -f "$to/libuip_c.a"
-    llvm-ar rcsD "$to/libuip_c.a" "$to/module.o" "$to/uip_calls.o" || fail "llvm-ar failed"
+    # The calls for Ethernet share functions with uip_open. A firmware without Ethernet has them built in only if its module has no such call.
+    sed -E 's/^define ([a-z0-9]+) @port_uip_(open_ether|input_frame|periodic_frame)\(/define internal \1 @port_uip_\2(/' \
+        "$to/module.ll" >"$to/serial.ll" || fail "the calls for Ethernet were not removed"
+    [ "$(cmp -l "$to/module.ll" "$to/serial.ll" 2>/dev/null | head -1)" ] || fail "there was no call for Ethernet to remove"
+    c_code -Os "$ports/uip_calls.c" -o "$to/module_calls.o"
+    c_code -Os -DUIP_NO_ETHERNET "$ports/uip_calls.c" -o "$to/serial_calls.o"
+    archive module libuip_c_ether.a
+    archive serial libuip_c.a
+}
+archive() {
+    clang $words $opt -ffreestanding -fno-builtin $sections -c -x ir "$to/$1.ll" -o "$to/$1.o" || fail "clang failed"
+    rm -f "$to/$2"
+    llvm-ar rcsD "$to/$2" "$to/$1.o" "$to/$1_calls.o" || fail "llvm-ar failed"
 }
 library
 

@@ -74,6 +74,7 @@ uip_result uip_periodic_datagram(uip_device *device, size_t slot, unsigned char 
     return of_result(&result);
 }
 
+#ifndef UIP_NO_ETHERNET
 uip_opened uip_open_ether(uip_device *device, const unsigned char *image, size_t len, const unsigned char own[4], const unsigned char mac[6]) {
     module_device d = of_device(device);
     _Alignas(8) uip_opened opened;
@@ -97,6 +98,7 @@ uip_result uip_periodic_frame(uip_device *device, size_t slot, unsigned char *fr
     put_device(device, &d);
     return of_result(&result);
 }
+#endif
 
 uip_number uip_ticks(uip_device *device) {
     module_device d = of_device(device);

@@ -15,7 +15,7 @@ recorder() {
 replayer() {
     c_code -O2 "$ports/same/replay.c" -o "$to/replay.o"
     c_code -O2 "$example/runtime.c" -o "$to/replay_runtime.o"
-    set -- "$to/replay.o" "$to/replay_runtime.o" "$to/module.o" "$to/uip_calls.o"
+    set -- "$to/replay.o" "$to/replay_runtime.o" "$to/module.o" "$to/module_calls.o"
     case "$target" in
     wasm) replay=$to/replay.wasm
         wasm_link --export=main --allow-undefined --initial-memory=67108864 "$@" -o "$replay";;

@@ -91,13 +91,21 @@ pub fn open_shared(alloc: Global, image: &'static [u8]) -> Result<DeviceWeb, Ope
 }
 
 /// Opens a device at an address with the site of an image, which is read in place and not copied. No later call allocates memory
-/// (measured).
+/// (measured). It repeats `open_shared`, since by a call of it a device is copied on the stack.
 pub fn open_web(alloc: Global, image: &'static [u8], own: Addr) -> Result<WebDevice, OpenFault>
     ensures { OpensDevice image.now own result }
 {
-    let shared = match open_shared(alloc, image) {
-        Ok(shared) => shared,
-        Err(fault) => return Err(fault),
+    let site = match FlashSite::read_in_place(alloc, image) {
+        Ok(site) => site,
+        Err(LoadFault::Bad(error)) => return Err(OpenFault::BadSite(error)),
+        Err(_) => return Err(OpenFault::NoMemory),
+    };
+    if !is_sound(&site) {
+        return Err(OpenFault::BadSite(too_long()));
+    }
+    see_loaded(&site);
+    let Ok(shared) = web_of(alloc, site) else {
+        return Err(OpenFault::NoMemory);
     };
     match Device::<ValuePages>::new(alloc, own, shared) {
         Ok(device) => Ok(device),
