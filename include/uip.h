@@ -8,6 +8,16 @@
  * THIS IS NOT THE uip.h OF uIP 1.0, although the names begin alike. Never include both in one file: both define
  * uip_input and uip_periodic.
  *
+ * The calls, by the link of the device:
+ *   a serial line    uip_open; uip_feed, uip_periodic, uip_drain; or uip_feed_all, uip_tick_all, uip_drain_all
+ *   datagrams        uip_open; uip_input, uip_periodic_datagram
+ *   Ethernet         uip_open_ether; uip_input_frame, uip_periodic_frame
+ *   any              uip_set_value, uip_hits, uip_ticks, uip_counter, uip_is_idle, uip_connection; uip_close
+ *
+ * This comment has two loops, how to build, sizes, buffering, ten rules for the caller, errors, RTOS and time. The heap
+ * is at the end of the file. There is no authentication and no encryption, sequence numbers are predictable, and ten
+ * SYNs fill the node: read docs/LIMITS.md first.
+ *
  *     #include "uip.h"
  *     #include "site.c"                                // site_image, SITE_IMAGE_LEN, SITE_IMAGE_FILES: tools/pack.py
  *     #define UIP_HEAP_SIZE UIP_MEMORY(SITE_IMAGE_FILES)
@@ -41,7 +51,8 @@
  * of `out` changes only the pieces in which the output is written. Without values and clicks leave work out.
  *
  * The same without waiting, for a port that sends by DMA or by interrupts. Each call of `step` makes one call of the
- * library at most, and sends sizeof out bytes at most. It returns 0 if there was nothing to do:
+ * library at most, and sends sizeof out bytes at most. It returns 0 if there was nothing to do, if the
+ * DMA is busy, and after a call that failed:
  *
  *     int dma_is_busy(void);                           // yours, as half_a_second_passed and work; 1 while it sends
  *     void dma_send(const unsigned char *bytes, size_t len);    // begins to send, and returns
@@ -97,7 +108,7 @@
  *
  * Without RTS a circular DMA may overtake the reader: that breaks rule 7. Then copy up to 64 bytes to an array of your
  * own, feed these, and discard done.consumed. On a core with a data cache clean `out` before dma_send, and invalidate
- * what a DMA received before uip_feed reads it.
+ * what a DMA received before uip_feed reads it. Give that area cache lines of its own.
  *
  * "ETHERNET" below, above uip_open_ether, has the loop for Ethernet.
  *
@@ -140,16 +151,18 @@
  *      handle, the heap must be safe for that.
  *   4. Each pointer is not null, even if its length is 0, and the whole area of that length may be read. Exception:
  *      `to` of the inline functions, which only the sink uses, may be anything. Areas of bytes may have any alignment.
- *   5. `out` may be written, and shares no byte with the handle or with another argument.
+ *   5. `out`, and `frame` of the calls for frames, may be written over the whole of `room`. It shares no byte with the
+ *      handle or with another argument, and nothing else (no DMA) reads or writes it until the call returns.
  *   6. The image stays at its address, unchanged, until uip_close: the library reads it there.
- *   7. All other input (received bytes, a datagram, the text of a value, a name) stays unchanged until the call
- *      returns. After the call the library does not use it.
+ *   7. All other input (received bytes, a datagram, an address, the text of a value, a name) stays unchanged until the
+ *      call returns. After the call the library does not use it.
  *   8. The program supplies the heap (at the end of this file), memcpy, memmove and memset.
  *   9. The stack has the bytes of the table below, and those of your interrupts. A figure is the greatest depth from
- *      reset of the example firmware, with its main, drivers and memcpy, without interrupts. It is computed from the
- *      linked code (examples/board/usage.py of the repository) and not proved: compute it anew with your compiler. "-"
- *      is not computed. A sink is called after the library has returned: its frames do not add to those of the library.
- *      For a task reserve the figure, what your own frames need more than the example's, and the context that your RTOS
+ *      reset of the example firmware for a serial line, with its main, drivers and memcpy, without interrupts. It is
+ *      computed from the linked code (examples/board/usage.py of the repository) and not proved: compute it anew with
+ *      your compiler. "-" is not computed, and no depth was computed for Ethernet or for single calls. A sink is called
+ *      after the library has returned: its stack frames do not add to those of the library. Each task that makes a call
+ *      needs the figure, what its own functions need more than those of the example, and the context that your RTOS
  *      saves.
  *  10. The processor is set up by its row of this table:
  *
@@ -191,12 +204,14 @@
  *
  * RTOS. uip_feed_all, uip_tick_all and uip_drain_all count as one call, with their sinks: hold the mutex over the
  * whole. Another task may then wait 0.26 s for each frame that is sent, and 2.6 s in a tick, at 115,200 bits a second.
- * To avoid that, let one task alone call uip_feed, uip_periodic and uip_drain, as `step` does. It holds the mutex for
- * each call, and sends without it. In between other tasks may set values and read.
+ * To avoid that, let one task alone call uip_feed, uip_periodic and uip_drain, as `step` does:
+ * `lock(); done = uip_feed(..); unlock();`. It sends without the mutex. `work`, and each other task, takes the mutex
+ * for each call that it makes. In serve, a wait for a semaphore, which each interrupt gives, replaces the lines from
+ * interrupts_off to interrupts_on. After a uip_close by another task `step` sees UIP_NO_DEVICE.
  *
  * TIME. The node has no clock: a tick is half a second (see uip_periodic). No bound on the time of a call is proved,
- * and none was measured. A ping of 84 bytes takes some 5,000 instructions of a Cortex-M4 (measured; ports/README.md has
- * more). If there is a watchdog, feed it in the sink too.
+ * and the longest call was not measured. A ping of 84 bytes takes some 5,000 instructions of a Cortex-M4 (measured;
+ * ports/README.md has more). If there is a watchdog, feed it in the sink too.
  *
  * PROVED for any sequence of calls, successful or not, if the caller keeps the rules: memory safety, that each call
  * returns, and that the output is exactly what the definition of the node and its link sends. A peer receives each page
@@ -234,9 +249,12 @@ extern "C" {
 #define UIP_VERSION 3
 
 /*
- * Refuses targets of 8 and 16 bits: size_t and pointers have 32 bits, or both have 64, and unsigned has 32. Nothing
- * else is checked.
+ * Refuses targets of 8 and 16 bits, and big-endian ones if the compiler tells: size_t and pointers have 32 bits, or
+ * both have 64, and unsigned has 32. Nothing else is checked.
  */
+#if defined(__BYTE_ORDER__) && defined(__ORDER_BIG_ENDIAN__) && __BYTE_ORDER__ == __ORDER_BIG_ENDIAN__
+#error "there is no library for big-endian targets"
+#endif
 typedef char uip_needs_32_or_64_bits[(sizeof(size_t) == 4 || sizeof(size_t) == 8) && sizeof(void *) == sizeof(size_t) ? 1 : -1];
 typedef char uip_needs_unsigned_of_32_bits[sizeof(unsigned) == 4 ? 1 : -1];
 
@@ -336,7 +354,7 @@ typedef struct { unsigned status, state; unsigned char peer[4]; unsigned port, t
 
 /*
  * Opens a device with a site, at an address. Allocates all the memory of the device, in six blocks (see "The heap" at
- * the end), and frees them only if it fails.
+ * the end). If it fails, it has freed them; otherwise uip_close frees them.
  *
  *   device        a handle without a device
  *   image, len    the image of the site, from tools/pack.py, `uipd pack` or `uipd upgrade`; it is not copied, and
@@ -419,8 +437,7 @@ uip_result uip_drain(uip_device *device, unsigned char *out, size_t room);
  * One device can have a serial line and a link of datagrams at once, but not one of these and Ethernet. Calls of both
  * kinds may alternate, also within a frame of the serial line. In each tick make one call for each slot, of either
  * kind: it decides on which link the segment goes out. The device does not know on which link a peer is; your program
- * chooses by the address of the peer
- * (uip_connection).
+ * chooses by the address of the peer (uip_connection).
  */
 uip_result uip_input(uip_device *device, const unsigned char *datagram, size_t len, unsigned char *out, size_t room);
 
@@ -438,9 +455,12 @@ uip_result uip_periodic_datagram(uip_device *device, size_t slot, unsigned char 
 /*
  * ETHERNET. A device on Ethernet (RFC 894) with ARP (RFC 826). A frame begins with the destination hardware address,
  * and has neither preamble nor frame check sequence: the controller strips and adds these. A received frame may be
- * padded. A frame to send is not padded: the controller pads it, or you add zeros up to 60 bytes.
+ * padded. A frame to send is not padded: the controller pads it, or you add zeros up to 60 bytes. If the length that
+ * your controller reports includes the check sequence, subtract 4: the longest frame would be dropped as too long. Let
+ * its filter pass `mac` and broadcast.
  *
- *     size_t mac_receive(unsigned char *frame, size_t room);        // the length of a frame, or 0
+ *     size_t mac_receive(unsigned char *frame, size_t room);        // the length of a frame, or 0; it may sleep until
+ *                                                                   // a frame arrives or a tick is due
  *     void mac_send(const unsigned char *frame, size_t len);        // returns when `frame` may be overwritten
  *
  *     static uip_device device = UIP_INIT;
@@ -452,13 +472,16 @@ uip_result uip_periodic_datagram(uip_device *device, size_t slot, unsigned char 
  *     for (;;) {
  *         if ((len = mac_receive(frame, sizeof frame)) != 0) {
  *             done = uip_input_frame(&device, frame, sizeof frame, len);
+ *             if (done.status != UIP_OK) return (int)done.status;
  *             if (done.written) mac_send(frame, done.written);
  *         }
  *         if (half_a_second_passed())
  *             for (slot = 0; slot < UIP_SLOTS; slot++) {
  *                 done = uip_periodic_frame(&device, slot, frame, sizeof frame);
+ *                 if (done.status != UIP_OK) return (int)done.status;
  *                 if (done.written) mac_send(frame, done.written);
  *             }
+ *         work();
  *     }
  *
  * No output is ever pending. uip_ticks, uip_counter, uip_is_idle, uip_connection, uip_set_value, uip_hits and uip_close
@@ -613,7 +636,7 @@ unsigned uip_close(uip_device *device);
  *                     frees the old one. It may always fail (the library never needs it): `ok` 0, the old block stays.
  *   rattle_dealloc    frees a block.
  *
- * Measured, not proved: uip_open makes six allocations, for f files of 28 f, 2 f, 4 f, 1500, 2880 and 2312 bytes. If
+ * Measured, not proved: uip_open makes six allocations, for f files of 28 f, 2 f, 4 f, 1500, 1600 and 2312 bytes. If
  * one fails, it frees those before it. uip_close frees all six. No other call allocates or frees, and nothing calls
  * rattle_realloc. If you open one device and never close it, rattle_dealloc may do nothing. examples/heap.c reuses its
  * array when all its devices are closed.
@@ -630,8 +653,8 @@ void rattle_dealloc(void *block);
  */
 #define UIP_ROUNDED(len) (((size_t)(len) + 15) / 16 * 16)
 #define UIP_MEMORY(files) \
-    (UIP_ROUNDED(28 * (size_t)(files)) + UIP_ROUNDED(2 * (size_t)(files)) + UIP_ROUNDED(4 * (size_t)(files)) + 6704)
-/* For example UIP_MEMORY(6) is 6,928, and UIP_MEMORY(8) is 6,976. */
+    (UIP_ROUNDED(28 * (size_t)(files)) + UIP_ROUNDED(2 * (size_t)(files)) + UIP_ROUNDED(4 * (size_t)(files)) + 5424)
+/* For example UIP_MEMORY(6) is 5,648, and UIP_MEMORY(8) is 5,696. */
 
 /*
  * How the three functions below are inline. In a C90 without a word for it they are plain static functions; you may
