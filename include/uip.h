@@ -249,8 +249,8 @@ extern "C" {
 #define UIP_VERSION 3
 
 /*
- * Refuses targets of 8 and 16 bits, and big-endian ones if the compiler tells: size_t and pointers have 32 bits, or
- * both have 64, and unsigned has 32. Nothing else is checked.
+ * Refuses targets of 8 and 16 bits, and big-endian ones if the compiler names the byte order. size_t and pointers
+ * have 32 bits, or both have 64, and unsigned has 32. Nothing else is checked.
  */
 #if defined(__BYTE_ORDER__) && defined(__ORDER_BIG_ENDIAN__) && __BYTE_ORDER__ == __ORDER_BIG_ENDIAN__
 #error "there is no library for big-endian targets"
