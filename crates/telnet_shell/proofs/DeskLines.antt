@@ -13,7 +13,7 @@ module _ (site : SiteContent) (loaded : IsLoaded site) (image : All IsByte site.
   web_laws = keeps_page_laws site loaded
 
   says_bytes : SendsBytes (desk_spec files)
-  says_bytes = desk_bytes files (page_bytes (web_spec files) (pages_of files) web_laws (λ delivered captures c. made_of_bytes site image delivered captures c))
+  says_bytes = desk_bytes files (page_bytes (web_spec files) (pages_of files) web_laws (λ delivered captures are c. made_of_bytes site image delivered captures c))
 
   -- ---- pages at port 80
 

@@ -93,5 +93,5 @@ module _ (site : SiteContent) (loaded : IsLoaded site) (image : All IsByte site.
       let files : List File = files_of site in
       let on : OnDevices all opens.1.0 new = on_devices all opens.1.0 old new opens.1.1 did in
       keeps_frames ghosts ether_link (host_at own mac) (value_spec files) write_value own (value_pages files) (keeps_page_laws_by words words_short site loaded sound)
-      (λ heard captures are. made_of_bytes_by words words_bytes site image heard captures are)
+      (λ delivered captures bytes are. made_of_bytes_by words words_bytes site image delivered captures are)
       written_words (ether_brings_bytes (host_at own mac)) (first_numbers files) (first_words files) is all bytes opens.1.0 on.last opens.1.2.fresh on.answers

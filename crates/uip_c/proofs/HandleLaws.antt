@@ -108,5 +108,5 @@ module _ (site : SiteContent) (loaded : IsLoaded site) (image : All IsByte site.
       let on : OnDevices all opens.1.0 old new did = on_devices all opens.1.0 old new opens.1.1 did in
       subst (λ (l : List (List ℕ)). CallsConform (value_pages files) is_served own all l) on.lefts
       (keeps_calls ghosts (value_spec files) (value_pages files) (keeps_page_laws_by words words_short site loaded sound)
-      (λ heard captures are. made_of_bytes_by words words_bytes site image heard captures are)
+      (λ delivered captures bytes are. made_of_bytes_by words words_bytes site image delivered captures are)
       write_value written_words (first_numbers files) (first_words files) own is all bytes opens.1.0 on.last opens.1.2.fresh on.answers)
