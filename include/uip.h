@@ -168,16 +168,16 @@
  *
  *      target               library                  stack  what the program must see to
  *      x86-64               rt lib                     -    The processor has level v2 or later (SSE4.2).
- *      aarch64              rt lib --target (below)  1,952  SIMD registers are on, and an interrupt handler saves those
+ *      aarch64              rt lib --target (below)  1,872  SIMD registers are on, and an interrupt handler saves those
  *                                                           that it uses. Code, image and data lie in normal memory,
  *                                                           which allows unaligned accesses.
- *      Cortex-M4, M33       ports/run.sh m4, m33     2,112  CCR.UNALIGN_TRP is 0. Image and data lie in normal memory.
- *      Cortex-M7            ports/run.sh m7          2,096  As for the M4.
- *      Cortex-M0+, M0       ports/run.sh m0          2,260  Nothing more: the code makes aligned accesses alone. A
+ *      Cortex-M4, M33       ports/run.sh m4, m33     2,048  CCR.UNALIGN_TRP is 0. Image and data lie in normal memory.
+ *      Cortex-M7            ports/run.sh m7          2,040  As for the M4.
+ *      Cortex-M0+, M0       ports/run.sh m0          2,148  Nothing more: the code makes aligned accesses alone. A
  *                                                           Cortex-M3 executes it too (not tried).
- *      rv32imac, rv32imc    ports/run.sh rv32        2,160  The ABI is ilp32. Nothing more: aligned accesses alone, and
+ *      rv32imac, rv32imc    ports/run.sh rv32        2,032  The ABI is ilp32. Nothing more: aligned accesses alone, and
  *                                                           no atomic ones.
- *      rv64imac             ports/run.sh rv64        2,384  The ABI is lp64, the code model medany. Nothing more: as
+ *      rv64imac             ports/run.sh rv64        2,320  The ABI is lp64, the code model medany. Nothing more: as
  *                                                           for rv32imac.
  *      WebAssembly, 32 bits ports/run.sh wasm          -    Nothing more. node.wasm has a stack of 16 kB.
  *

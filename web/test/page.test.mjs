@@ -194,7 +194,7 @@ inEach("values are sliders and fields, hits are lamps, and the slots are shown",
   await tab.run(`self.held = node.session.host.connect()`);
   await tab.until(`document.querySelector(".slot[data-state=ESTABLISHED]")?.title.includes("10.0.0.2:" + self.held.port)`);
   assert.equal(await tab.run(`return document.querySelectorAll(".slot").length`), 10);
-  await tab.until(`/^\\d+ ticks, \\d+ KiB of WebAssembly memory \\(a Cortex-M4: 9 kB of RAM\\)$/.test(document.querySelector("[data-panel=facts]").innerText)`);
+  await tab.until(`/^\\d+ ticks, \\d+ KiB of WebAssembly memory \\(a Cortex-M4: 8 kB of RAM\\)$/.test(document.querySelector("[data-panel=facts]").innerText)`);
 });
 
 inEach("one's own site: files, an image, and a bad one", {}, async tab => {
