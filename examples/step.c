@@ -1,8 +1,8 @@
 /*
  * A loop that never waits, for a serial port that sends by DMA or by interrupts. docs/FIRMWARE.md explains it.
  *
- * Each call of `step` makes at most one call of the library, and sends at most sizeof out bytes. It returns 0 if there was nothing to
- * do, if the DMA is busy, and after a call that failed.
+ * Each call of `step` makes at most one call of the library, and sends at most sizeof out bytes. It returns 0 if there
+ * was nothing to do, if the DMA is busy, and after a call that failed.
  *
  * SPDX-License-Identifier: MIT OR Apache-2.0
  * Copyright 2026 The Lowunbisa authors
@@ -14,7 +14,7 @@ int dma_is_busy(void);                                 /* yours: 1 while the DMA
 void dma_send(const unsigned char *bytes, size_t len); /* yours: begins to send, and returns */
 size_t received(const unsigned char **bytes);          /* yours: the contiguous bytes that wait, and how many */
 void discard(size_t len);                              /* yours: removes the first `len` of them */
-void stop(unsigned status);                            /* yours: a call failed, so an argument is wrong */
+void stop(unsigned status);                            /* yours: a call failed: an argument, or no device */
 void work(void);                                       /* yours: sets values, reads clicks */
 void interrupts_off(void);
 void interrupts_on(void);
