@@ -14,7 +14,7 @@ int dma_is_busy(void);                                 /* yours: 1 while the DMA
 void dma_send(const unsigned char *bytes, size_t len); /* yours: begins to send, and returns */
 size_t received(const unsigned char **bytes);          /* yours: the contiguous bytes that wait, and how many */
 void discard(size_t len);                              /* yours: removes the first `len` of them */
-void stop(unsigned status);                            /* yours: a call failed: an argument, or no device */
+void stop(unsigned status);                            /* yours: a call failed: it does not return */
 void work(void);                                       /* yours: sets values, reads clicks */
 void interrupts_off(void);
 void interrupts_on(void);
@@ -26,6 +26,13 @@ static unsigned char out[256];                         /* in use until the DMA h
 static unsigned pending;                               /* whether output is pending */
 static unsigned slot = UIP_SLOTS;                      /* the slot of the next periodic call; UIP_SLOTS between ticks */
 static int is_fed;                                     /* whether bytes were fed after the last periodic call */
+
+/* Begins anew, for a device that was just opened. */
+void reset_step(void) {
+    pending = 0;
+    slot = UIP_SLOTS;
+    is_fed = 0;
+}
 
 static int step(void) {
     const unsigned char *bytes;
