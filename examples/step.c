@@ -14,7 +14,7 @@ int dma_is_busy(void);                                 /* yours: 1 while the DMA
 void dma_send(const unsigned char *bytes, size_t len); /* yours: begins to send, and returns */
 size_t received(const unsigned char **bytes);          /* yours: the contiguous bytes that wait, and how many */
 void discard(size_t len);                              /* yours: removes the first `len` of them */
-void stop(unsigned status);                            /* yours: a call failed: it does not return */
+void stop(unsigned status);                            /* yours: a call failed; it may return */
 void work(void);                                       /* yours: sets values, reads clicks */
 void interrupts_off(void);
 void interrupts_on(void);

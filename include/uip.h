@@ -11,7 +11,8 @@
  * In short: begin with a zeroed handle; leave image and heap alone; make no two calls at once, and none in an
  * interrupt; drain before you feed; make ten periodic calls each half second.
  *
- * A whole program for a serial line. You supply the first four functions:
+ * A whole program for a serial line. You supply the first four functions (and what rule 8 names). Paths are those of
+ * the repository: an archive has heap.c in examples/common.
  *
  *     #include "uip.h"
  *     #include "site.c"                                // site_image, SITE_IMAGE_LEN, SITE_IMAGE_FILES: tools/pack.py
@@ -27,7 +28,7 @@
  *     int half_a_second_passed(void) {                 // returns 1 once for each half second that has passed; those
  *         static unsigned last, is_started;            // that ended during a long call follow at the next calls
  *         unsigned now = milliseconds();
- *         if (!is_started || now - last > 2000) { is_started = 1; last = now; }    // after a stall or a sleep: anew
+ *         if (!is_started || now - last >= 1500) { is_started = 1; last = now; }   // at most two ticks are made up
  *         if (now - last < 500) return 0;
  *         last += 500;
  *         return 1;
@@ -56,16 +57,16 @@
  *
  * THE CALLS:
  *
- *     call                                      link                          may send   in a sink   while output pends
- *     uip_open                                  serial line and datagrams     no         no
- *     uip_open_ether                            Ethernet                      no         no
+ *     call                                      link                          may send   in a sink   if output pends
+ *     uip_open                                  serial line and datagrams     no         no          UIP_HAS_DEVICE
+ *     uip_open_ether                            Ethernet                      no         no          UIP_HAS_DEVICE
  *     uip_feed, uip_periodic                    serial line                   yes        no          UIP_OUTPUT_PENDING
- *     uip_drain                                 serial line                   yes        no          yes
+ *     uip_drain                                 serial line                   yes        no          allowed
  *     uip_input, uip_periodic_datagram          datagrams                     yes        no          UIP_OUTPUT_PENDING
- *     uip_input_frame, uip_periodic_frame       Ethernet                      yes        no          never pending there
+ *     uip_input_frame, uip_periodic_frame       Ethernet                      yes        no          UIP_WRONG_LINK
  *     uip_set_value, uip_hits, uip_ticks,
- *     uip_counter, uip_is_idle, uip_connection  any                           no         yes         yes
- *     uip_close                                 any                           no         no          yes
+ *     uip_counter, uip_is_idle, uip_connection  any                           no         yes         allowed
+ *     uip_close                                 any                           no         no          allowed
  *
  * For a serial line three inline functions make these calls and pass the output to a sink: uip_feed_all, uip_tick_all
  * and uip_drain_all. A device of uip_open may have a serial line and a link of datagrams at once.
@@ -76,29 +77,31 @@
  * undefined.
  *
  *   Handle
- *   1. Both members of the handle are 0 before its first call (UIP_INIT, or memset). If RAM survives a reset and the
- *      device was not closed before it, set them to 0 again, and begin with an empty heap (heap.c: heap_used =
- *      heap_blocks = 0).
+ *   1. Both members of the handle are 0 before its first call (UIP_INIT, or memset). If your startup code does not
+ *      initialise the RAM of the handle or of the heap, then at each reset set both members to 0, and empty the heap
+ *      (heap.c: heap_used = heap_blocks = 0).
  *   2. While a device is open, only these calls read or write its handle, and nothing copies the handle.
  *   Calls
  *   3. Two calls with one handle never overlap, the calls that read included: each takes the device out of its handle
- *      and puts it back, which is why no handle is const. Make no call in an interrupt. A call runs to its end: no
- *      longjmp, no deleted task. Under an RTOS let one task make all calls, or give each handle one mutex. Hold it
- *      during each call with that handle, and over the whole of an inline function; its sink must not take it again.
- *      Calls with different handles may overlap.
+ *      and puts it back, which is why no handle is const. Make no call in an interrupt. A call and a sink run to their
+ *      end: no longjmp, no exception, no deleted task. Under an RTOS let one task make all calls, or give each handle
+ *      one mutex. Hold it during each call with that handle, and over the whole of an inline function; its sink must
+ *      not take it again. Calls with different handles may overlap.
  *   Pointers
- *   4. Each pointer is not null, even if its length is 0, and the whole area of that length may be read. Exception:
- *      `to` of the inline functions, which only the sink uses, may be anything. Areas of bytes may have any alignment.
+ *   4. Each pointer, also of a function, is not null, even if its length is 0. The whole area of that length may be
+ *      read (`own` 4 bytes, `mac` 6); `out` need not be initialised. Exception: `to` of the inline functions, which
+ *      only the sink uses, may be anything. Areas of bytes may have any alignment.
  *   5. `out`, and `frame` of the calls for frames, may be written over the whole of `room`. It shares no byte with the
  *      handle or with another argument, and nothing else (no DMA) reads or writes it until the call returns.
- *   6. The image stays at its address, unchanged and readable, until uip_close: the library reads it there. Do not
- *      erase or power down the flash that holds it. Several devices may share one image.
+ *   6. The image stays at its address until uip_close, and its bytes are the same at each call: the library reads it
+ *      there. Between calls its flash may be powered down. Several devices may share one image.
  *   7. All other input (received bytes, a datagram, an address, the text of a value, a name) stays unchanged until the
  *      call returns. After the call the library does not use it.
  *   Memory and processor
  *   8. The program supplies memcpy, memmove, memset and the heap (at the end of this file). A block shares no byte with
  *      another object or live block, and only the library uses it until it is freed. The functions of the heap make no
- *      call of the library. If uip_open, uip_open_ether or uip_close of two handles may overlap, they are thread-safe.
+ *      call of the library. If uip_open, uip_open_ether or uip_close of two handles may overlap, the functions of the
+ *      heap must be thread-safe.
  *   9. The stack is large enough ("TARGETS" at the end of this file).
  *  10. The processor is set up as its row of "TARGETS" requires.
  *
@@ -113,21 +116,25 @@
  *                               UIP_WRONG_LINK        the call is for another link than the device
  *                               UIP_OUTPUT_PENDING    the call may make output, and some is pending: drain first
  *                               UIP_OK
- * So a loop that passes correct arguments, and drains before it feeds or ticks, sees UIP_OK alone. After a failed
- * uip_open the handle has no device: you may call it again.
+ * So a loop that passes correct arguments, and drains before it feeds or ticks, sees UIP_OK alone. After UIP_BAD_IMAGE
+ * or UIP_NO_MEMORY the handle has no device, and you may open it again. After UIP_HAS_DEVICE its device goes on,
+ * unchanged.
  *
  * FIXED SIZES. Nothing is configured. MSS and window are 1460 bytes. A segment has at most the least of 1460 bytes, the
  * peer's MSS (536 if it announces none) and the peer's window. A window of 0 does not limit it: the segment is sent,
- * and sent again by the timer. There are ten connections, each with at most one segment outstanding. The heap has one
- * packet buffer of 1500 bytes for both directions. A device of uip_open has another 1500, for the frame that is being
- * received. A site has at most 1,024 files and 16,777,216 bytes.
+ * and sent again by the timer. There are ten connections, each with at most one segment outstanding. A segment without
+ * an acknowledgement is sent again 4, 8, 15, 28, 53, 102, 151 and 200 ticks after the first sending, and given up after
+ * 249; a SYN-ACK five times, and given up after 102. A connection with nothing outstanding is reset after 20 ticks
+ * without an event. The heap has one packet buffer of 1500 bytes for both directions. A device of uip_open has another
+ * 1500, for the frame that is being received. A site has at most 1,024 files and 16,777,216 bytes.
  *
  * TIME. No call waits; an inline function waits as long as its sink does. The node has no clock: a tick is half a
  * second (see uip_periodic). While output is written, the program should store what arrives. With the same speed in
  * both directions, a ring of 3,002 bytes loses nothing while one frame is written (0.26 s at 115,200 bits a second),
  * and one of 30,020 bytes nothing while uip_tick_all writes ten. uip_feed_all may write one frame for each frame that
- * ends in `bytes`. Bytes that are lost cost a retransmission, or an echo reply. 512 bytes were enough for two clients
- * at 19,200 bits a second (measured). The line carries all 8 bits of a byte: no XON and XOFF.
+ * ends in `bytes`. One pass of the program above may write the frames of both: add them. If bytes are lost, TCP sends
+ * again, and a ping stays without a reply. 512 bytes were enough for two clients at 19,200 bits a second (measured).
+ * The line carries all 8 bits of a byte: no XON and XOFF.
  *
  * The header is C90 or later, or C++ (tried: gcc 12.2 and clang 14, C90 to C17, C++98 to C++17). The examples in its
  * comments have comments of C99. examples/heap.c is C11 or C++11.
@@ -153,7 +160,7 @@ extern "C" {
 #define UIP_VERSION_MINOR 1
 #define UIP_VERSION_PATCH 0
 
-/* The number of this interface, apart from the three above. It rises if a program may have to change: test this one. */
+/* The number of this interface, not of the release. It rises if a program may have to change: #if UIP_VERSION != 3. */
 #define UIP_VERSION 3
 
 /*
@@ -174,7 +181,7 @@ enum uip_status {
     /* Of uip_open and uip_open_ether only: */
     UIP_HAS_DEVICE = 3,        /* the handle already has a device */
     UIP_BAD_IMAGE = 4,         /* the image is bad; `word` and `entry` name its first fault */
-    UIP_NO_MEMORY = 5,         /* the heap is too small. It may fail before the whole image is checked */
+    UIP_NO_MEMORY = 5,         /* the heap is too small; the image may also have faults that were not reached */
     /* Of the calls that send only: */
     UIP_OUTPUT_PENDING = 6,    /* uip_drain must first write the output that is pending */
     UIP_WRONG_LINK = 7         /* the device is on Ethernet and the call is for another link, or the other way round */
@@ -226,7 +233,7 @@ enum uip_state {
 /*
  * The handle of one device. There may be any number of devices, each with a handle of its own. The members are private.
  */
-typedef struct { unsigned is_open; void *at; } uip_device;
+typedef struct uip_device { unsigned is_open; void *at; } uip_device;
 #define UIP_INIT {0, 0}
 
 /*
@@ -235,7 +242,7 @@ typedef struct { unsigned is_open; void *at; } uip_device;
  *   word     the word of the fault as `uipd check` prints it (docs/FORMATS.md), ended by a 0
  * With any other status both are all zeros.
  */
-typedef struct { unsigned status; unsigned entry; char word[8]; } uip_opened;
+typedef struct uip_opened { unsigned status; unsigned entry; char word[8]; } uip_opened;
 
 /*
  * The result of a call that may send.
@@ -243,21 +250,22 @@ typedef struct { unsigned status; unsigned entry; char word[8]; } uip_opened;
  *   consumed    how many bytes of the input were consumed
  *   written     how many bytes of output were written to the start of `out`; 0 if nothing is sent
  */
-typedef struct { unsigned status, pending; size_t consumed, written; } uip_result;
+typedef struct uip_result { unsigned status, pending; size_t consumed, written; } uip_result;
 
 /* The result of a call that reads a number. */
-typedef struct { unsigned status; unsigned number; } uip_number;
+typedef struct uip_number { unsigned status; unsigned number; } uip_number;
 
 /*
  * The result of uip_connection. If the slot is CLOSED, all fields but `status` are 0.
  *   state         an enum uip_state
  *   peer, port    the address, first byte first, and the TCP port of the peer
  *   tries         how often the outstanding segment was sent again
- *   count         if `waiting` is 1: 0 if the next tick sends the segment again or resets the connection, n if the tick
- *                 after n others does. In FIN_WAIT_2 and TIME_WAIT: the ticks spent there, of 120. Else 0
+ *   count         if `waiting` is 1: the ticks that pass before the one that sends the segment again, or resets the
+ *                 connection (0: the next tick does). In FIN_WAIT_2 and TIME_WAIT: the ticks spent there, of 120.
+ *                 Else 0
  *   waiting       1 if a segment is outstanding, else 0
  */
-typedef struct { unsigned status, state; unsigned char peer[4]; unsigned port, tries, count, waiting; } uip_row;
+typedef struct uip_row { unsigned status, state; unsigned char peer[4]; unsigned port, tries, count, waiting; } uip_row;
 
 /*
  * Opens a device with a site, at an address. Allocates all the memory of the device, in six blocks (see "The heap" at
@@ -290,14 +298,14 @@ uip_opened uip_open(uip_device *device, const unsigned char *image, size_t len, 
 uip_result uip_feed(uip_device *device, const unsigned char *bytes, size_t len, unsigned char *out, size_t room);
 
 /*
- * Makes the periodic call of one slot: timers and retransmission. Ten calls, for the slots 0 to 9 in this order, are
- * one tick. A tick is due twice a second. uip_tick_all makes one tick. Other calls may come between the ten, and the
- * ten may come in the middle of a received frame: its first part is kept.
+ * Makes the periodic call of one slot: timers and retransmission. Ten calls, one for each slot, are one tick. A tick is
+ * due twice a second. uip_tick_all makes one tick. Other calls may come between the ten, and the ten may come in the
+ * middle of a received frame: its first part is kept.
  *
- * If two ticks are due, make two, one after the other. After a longer stall leave the others out: a tick too few makes
- * all timers half a second late, and nothing else. A burst of ticks gives connections up that could be served. Without
- * any tick nothing that is lost is sent again, and no connection times out. The order of the slots is not checked. Each
- * timer counts the calls of its own slot, and uip_ticks those of slot 0.
+ * If two ticks are due, make two, one after the other. After a longer stall or a sleep leave the others out: a tick too
+ * few makes all timers half a second late, and nothing else. A burst of ticks gives up connections that could be
+ * served. Without any tick nothing that is lost is sent again, and no connection times out. Any order of the slots will
+ * do. Each timer counts the calls of its own slot, and uip_ticks those of slot 0.
  *
  *   slot         0 to 9
  *   out, room    where the segment goes, SLIP-framed; `room` is UIP_MIN_OUT or more
@@ -427,7 +435,8 @@ uip_opened uip_open_ether(uip_device *device, const unsigned char *image, size_t
  * Receives one frame. Writes the frame that is sent, if there is one, to the same place: an ARP reply, or the reply of
  * the node. Drops a frame of fewer than 14 or more than 1514 bytes, and one for another host.
  *
- *   frame, room    the received frame at the start, then room for the reply; `room` is UIP_MAX_FRAME or more
+ *   frame, room    the received frame in its first `len` bytes; the frame to send overwrites it from the start;
+ *                  `room` is UIP_MAX_FRAME or more, and comes before `len`
  *   len            the length of the received frame, 0 to `room`
  *
  * If the hardware address of the destination is not known, the frame that is written is an ARP request, and the
@@ -461,13 +470,13 @@ uip_number uip_ticks(uip_device *device);
 uip_number uip_counter(uip_device *device, size_t number);
 
 /*
- * Returns 1 if all connections are CLOSED, else 0. While it is 1, a tick sends nothing. It only advances uip_ticks, the
- * initial sequence number of the next connection (by 10) and, on Ethernet, the age of the ARP entries. You may leave
- * such ticks out: the processor can sleep until the next byte or datagram. Status: UIP_OK, UIP_NO_DEVICE.
+ * `number` is 1 if all connections are CLOSED, else 0. While it is 1, a tick sends nothing. The tick only advances
+ * uip_ticks, the initial sequence number of the next connection (by 10) and, on Ethernet, the age of the ARP entries.
+ * You may leave such ticks out: the processor can sleep until the next byte or datagram. Status: UIP_OK, UIP_NO_DEVICE.
  *
  * It may be 1 while output is pending: drain first. After a page it stays 0 for 60 s (TIME_WAIT), unless the peer
- * closed first. After a sleep do not make up for the ticks that were left out (half_a_second_passed above begins anew):
- * in a burst of ticks the first SYN-ACK is sent again and given up within moments.
+ * closed first. After a sleep do not make up for the ticks that were left out (half_a_second_passed above makes up for
+ * two at most).
  */
 uip_number uip_is_idle(uip_device *device);
 
@@ -508,8 +517,8 @@ uip_row uip_connection(uip_device *device, size_t slot);
  *         uip_set_value(&device, 4, is_lit ? "on" : "off", is_lit ? 2 : 3);
  *     }
  *
- * Both files must be in the site. If both were requested, off wins. The reply to a click may be made before work is
- * called, so let that page lead back, as examples/state/lamp-on.html does.
+ * Both files must be in the site. If both were requested, off wins. After another uip_open set `on` and `off` to 0. The
+ * reply to a click may be made before work is called, so let that page lead back, as examples/state/lamp-on.html does.
  */
 unsigned uip_set_value(uip_device *device, size_t number, const void *text, size_t len);
 
@@ -540,9 +549,8 @@ unsigned uip_close(uip_device *device);
  * must be safe for both.
  *
  *   rattle_alloc      returns a block of `len` bytes, or of `align` bytes if `len` is 0, at a multiple of `align` (1,
- *                     2, 4, 8 or 16; the library asks for 8 at most), with `ok` 1. If there is no room: `ok` 0, and
- *                     any address but null, as that of the array. The library never uses it, but its compiler takes the
- *                     pointer for one that is not null.
+ *                     2, 4, 8 or 16; the library asks for 8 at most), with `ok` 1. If there is no room: `ok` 0, and any
+ *                     pointer but null, for example to your array: it is never used, but null is undefined behaviour.
  *   rattle_realloc    returns a block as rattle_alloc does, copies the first `kept` bytes of the old block into it, and
  *                     frees the old one. The linker may need it, and nothing calls it: it may always fail
  *                     (`ok` 0, any address but null, the old block stays).
@@ -550,10 +558,10 @@ unsigned uip_close(uip_device *device);
  *
  * Measured, not proved: uip_open makes six allocations, for f files of 28 f, 2 f, 4 f, 1500, 1600 and 2312 bytes;
  * uip_open_ether the same, with 888 in place of 2312. If one fails, it frees those before it. uip_close frees all six.
- * No other call allocates or frees. If you open one device and never close it, rattle_dealloc may do nothing.
+ * No other call allocates or frees. If you call uip_open once and never uip_close, rattle_dealloc may do nothing.
  * examples/heap.c reuses its array when all its devices are closed.
  */
-typedef struct { size_t ok; void *block; } uip_block;
+typedef struct uip_block { size_t ok; void *block; } uip_block;
 uip_block rattle_alloc(size_t len, size_t align);
 uip_block rattle_realloc(void *block, size_t kept, size_t len, size_t align);
 void rattle_dealloc(void *block);
@@ -610,7 +618,7 @@ UIP_INLINE unsigned uip_drain_all(uip_device *device, uip_result done, unsigned 
 /*
  * For a serial line. Feeds all bytes, and passes all output to `sink`: at most one frame for each frame that ends in
  * `bytes`. If `len` is 0 it does nothing, checks nothing and returns UIP_OK; else it returns the first status that is
- * not UIP_OK, or UIP_OK.
+ * not UIP_OK, or UIP_OK. After an error it is not known how many bytes were fed.
  */
 UIP_INLINE unsigned uip_feed_all(uip_device *device, const unsigned char *bytes, size_t len,
                                  unsigned char *out, size_t room, uip_sink sink, void *to) {
@@ -640,8 +648,8 @@ UIP_INLINE unsigned uip_tick_all(uip_device *device, unsigned char *out, size_t 
 
 /*
  * TARGETS. The stack is that of one firmware for a serial line (examples/board), in bytes: the greatest depth from
- * reset, with its main, drivers and memcpy, without interrupts. It is computed from the linked code and not proved. "-"
- * is not computed, and neither is a depth for Ethernet or for single calls. Compute yours: docs/FIRMWARE.md.
+ * reset, with its main, drivers and memcpy, without interrupts. It is computed from the linked code and not proved. For
+ * Ethernet and for single calls none was computed, nor where the table has "-". Compute yours: docs/FIRMWARE.md.
  *
  *     target             folder    stack  what the program must see to
  *     x86-64             x86_64       -   The processor has level v2 or later (SSE4.2).
@@ -662,9 +670,9 @@ UIP_INLINE unsigned uip_tick_all(uip_device *device, unsigned char *out, size_t 
  *
  * PROVED of the source, which is Rattle (Rust with contracts), for any sequence of calls, successful or not, if the
  * caller keeps the rules: memory safety, that each call returns, and that the output is exactly what
- * docs/SPECIFICATION.md defines for the input. What a peer receives of a page is a prefix of it, unchanged, and with
- * the FIN the whole page, if no datagram of an older connection arrives late. On Ethernet each frame with a datagram
- * goes to the hardware address that ARP learned last for its destination.
+ * docs/SPECIFICATION.md defines for the input. A peer receives the page unchanged, from its start; with the FIN it has
+ * the whole page. (Not if a datagram of an older connection arrives late.) On Ethernet each frame with a datagram goes
+ * to the hardware address that ARP learned last for its destination.
  *
  * NOT PROVED: the machine code, the stack depth, the heap that is enough, a bound on the time of a call, and the inline
  * functions. For Cortex-M, RISC-V and WebAssembly a conversion, tested and not proved, comes between source and machine
