@@ -68,7 +68,7 @@ examples() {
         examples/board/runtime.c examples/board/site.S examples/board/link.ld examples/heap.c examples/step.c ports/boards/start.h
     put examples/m4 ports/archive/m4/Makefile ports/boards/mps2.c
     put examples/rv32 ports/archive/rv32/Makefile ports/boards/riscv.c
-    put examples/linux ports/archive/linux/Makefile examples/linux-c/serve.c examples/linux-c/heap.c
+    put examples/linux ports/archive/linux/Makefile examples/linux-c/serve.c examples/linux-c/heap.c examples/linux-ether/tap.c
 }
 
 documents() {

@@ -117,7 +117,7 @@
  *                               UIP_OUTPUT_PENDING    the call may make output, and some is pending: drain first
  *                               UIP_OK
  * So a loop that passes correct arguments, and drains before it feeds or ticks, sees UIP_OK alone. After UIP_BAD_IMAGE
- * or UIP_NO_MEMORY the handle has no device, and you may open it again. After UIP_HAS_DEVICE its device goes on,
+ * or UIP_NO_MEMORY the handle has no device, and you may open it again. After UIP_HAS_DEVICE its device stays open,
  * unchanged.
  *
  * FIXED SIZES. Nothing is configured. MSS and window are 1460 bytes. A segment has at most the least of 1460 bytes, the
