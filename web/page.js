@@ -67,8 +67,8 @@ function showResult(words, kind) {
 }
 
 // Runs what a click asks for; if it fails, the reason is a message.
-async function guard(deed) {
-  try { return await deed(); } catch (error) { notice(error.message); }
+async function guard(action) {
+  try { return await action(); } catch (error) { notice(error.message); }
 }
 
 function show(words, kind) {
@@ -368,7 +368,7 @@ async function tourEnd() {
 const panel = new DevicePanel($("panel"), guard);
 const tour = new Tour($("tour"), [tourPage, tourLoss, tourRules, tourEnd]);
 
-const DEEDS = {
+const ACTIONS = {
   "open-inside": tryHere, "open-sensor": openSensor, "open-own": () => $("own-site").click(), "open-image": () => $("own-image").click(),
   "open-port": () => openSerial(null),
   "open-bridge": () => openBridge(), close: disconnect, reload: () => frame().reload(), back: () => frame().back(), ping, many: fetchMany,
@@ -392,7 +392,7 @@ function takeDrops() {
 }
 
 function takeEvents() {
-  for (const [id, deed] of Object.entries(DEEDS)) $(id).addEventListener("click", () => guard(deed));
+  for (const [id, action] of Object.entries(ACTIONS)) $(id).addEventListener("click", () => guard(action));
   $("go").addEventListener("submit", event => { event.preventDefault(); guard(visitTyped); });
   $("report").addEventListener("change", () => guard(drawReport));
   for (const id of ["own-site", "own-image"])

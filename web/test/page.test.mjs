@@ -10,7 +10,7 @@ import { PATIENCE, noChromium, startChromium } from "./chromium.mjs";
 import { noFirefox, startFirefox } from "./firefox.mjs";
 import { serialAt, serve, startServe } from "./server.mjs";
 import { SITE, UIPD, here, startNode, top } from "./node_process.mjs";
-import { READY, click, ends, go, hasText, says, set, shows, text } from "./tabs.mjs";
+import { READY, click, ends, go, hasText, hasNotice, set, shows, text } from "./tabs.mjs";
 
 const folder = mkdtempSync(join(tmpdir(), "page-test-"));
 // BROWSERS=Chromium tries that alone.
@@ -162,6 +162,11 @@ inEach("Back stays on the page at its first entry; typed paths of each form", { 
   await tab.until(shows("Lowunbisa"));
   await click(tab, "back");   // a second step goes further
   await tab.until(shows("What it counts"));
+  // The page looks where the frame is 20 times a second. Back counts what the frame has reached since, so it leads to the page before.
+  await tab.until(`document.getElementById("target").value.startsWith("/stats.shtml")`);
+  await tab.run(`frames[0].history.pushState(null, "", "reached"); document.getElementById("back").click()`);
+  await tab.until(`frames[0].location.pathname.endsWith("/stats.shtml")`);
+  await tab.until(shows("What it counts"));
 });
 
 inEach("the device's address", {}, async tab => {
@@ -171,7 +176,7 @@ inEach("the device's address", {}, async tab => {
   assert.equal(await tab.run(`return document.getElementById("address").value`), "192.168.7.7");
   assert.deepEqual(await tab.run(`return [node.session.host.node, node.session.host.own].map(it => it.join("."))`), ["192.168.7.7", "192.168.7.2"]);
   await set(tab, { address: "10.0.0.300" });
-  await tab.until(says("the device's address is four numbers from 0 to 255"));
+  await tab.until(hasNotice("the device's address is four numbers from 0 to 255"));
   await set(tab, { address: "10.0.0.1" });
   await tab.run(`node.session.host.ping(0, 300).catch(() => { self.isSilent = true; })`);
   await tab.until(`self.isSilent`);   // the device is still at the other address
@@ -205,7 +210,7 @@ inEach("one's own site: files, an image, and a bad one", {}, async tab => {
   assert.match(types[1], /^404/);
   assert.equal(await tab.run(`return document.getElementById("tour").hidden`), true);
   await tab.run(`await node.openOwn([new File(["%! valeu 0"], "index.shtml"), new File(["<title>yours</title>"], "index.html")])`);
-  await tab.until(says('/index.shtml: there is no function "valeu"'));
+  await tab.until(hasNotice('/index.shtml: there is no function "valeu"'));
   const why = await tab.run(`return node.openOwn([new File(["UIPSITE9"], "bad.img")]).catch(error => error.message)`);
   assert.equal(why, "bad image: magic 0");
   await tab.until(ends("not connected"));
@@ -247,7 +252,7 @@ inEach("messages: one is shown, all on request, each can be dismissed", {}, asyn
     const input = document.getElementById("own-image");
     input.files = files.files;
     input.dispatchEvent(new Event("change"))`);
-  await tab.until(says("bad image: magic 0"));
+  await tab.until(hasNotice("bad image: magic 0"));
   const visible = `[...document.querySelectorAll("#notices li")].filter(it => it.offsetHeight).length`;
   assert.deepEqual([await tab.run(`return ${visible}`), await text(tab, "all-notices")], [1, "Show all 2"]);
   await click(tab, "all-notices");
@@ -440,5 +445,5 @@ withServe("the page alone, and statuses in words", async () => {
   });
   const bad = join(folder, "bad.img");
   writeFileSync(bad, "no image");
-  await served([UIPD, bad], tab => tab.until(ends("the line ended: the program ended with status 6: the image is bad")));
+  await served([UIPD, bad], tab => tab.until(ends("the line ended: the program ended with status 6: the image of the site is bad")));
 });
