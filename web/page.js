@@ -6,7 +6,7 @@ import { bridge } from "./line.js";
 import { nodeInside } from "./inside.js";
 import { serverByUipsRules } from "./uip_rules.js";
 import { imageOf, unpack, valuesOf, warningsOf } from "./site.js";
-import { imageOfFolder, watchFolder } from "./folder.js";
+import { siteOfFolder, watchFolder } from "./folder.js";
 import { idOf, lastPort, openPort, portFault, segmentAt } from "./port.js";
 import { WorkerFrame } from "./frame.js";
 import { PlainFrame } from "./plain.js";
@@ -202,11 +202,15 @@ async function openOwn(items) {
   return openInside(await imageOf(items), { name: `${INSIDE}, with your own site` });
 }
 
-// The folder of web/serve.py, packed here, and again whenever a file of it changes.
+// The folder of web/serve.py, packed here, and again whenever a file of it changes, even if it could not be packed.
 async function openFolder(first = "/") {
-  const { image, stamp } = await imageOfFolder();
-  await openInside(image, { name: `${INSIDE}, with ${folder.name}`, first });
-  stopBeside = watchFolder(stamp, () => guard(() => openFolder(target)));
+  const { image, stamp } = await siteOfFolder();
+  try {
+    await openInside(await image(), { name: `${INSIDE}, with ${folder.name}`, first });
+  } finally {
+    stopBeside();
+    stopBeside = watchFolder(stamp, () => guard(() => openFolder(target)));
+  }
 }
 
 const openRules = () => openBy(() => {

@@ -438,7 +438,7 @@ class Words:
             return Board(self.board)
         if self.command:
             return Program(" ".join(self.command), self.command, False)
-        self.has_to_exist(self.uipd, "no program at {}: `rt run` in crates/uipd builds it")
+        self.has_to_exist(self.uipd, "no folder, image or program at {}; `rt run` in crates/uipd builds uipd")
         self.has_to_exist(self.site, "no image and no folder at {}")
         return Watched(f"{os.path.basename(self.uipd)} serve {os.path.basename(os.path.abspath(self.site))}", self.uipd, self.site)
 

@@ -16,7 +16,7 @@ export function pack(files) {
   if (files.length > MOST_FILES) throw new Error(`a site has ${MOST_FILES} files at most, and these are ${files.length}`);
   const parts = [ascii(MAGIC), [files.length >> 8, files.length & 255]];
   for (const { name, bytes } of files) {
-    if (!/^\/[!->@-~]{0,63}$/.test(name)) throw new Error(`no name for a file of a site: ${name} (at most 64 ASCII characters, no space, no "?")`);
+    if (!/^\/[!->@-~]{0,63}$/.test(name)) throw new Error(`"${name}" is no name for a file of a site: at most 64 ASCII characters, no space, no "?"`);
     const length = bytes.length, type = typeOf(name);
     parts.push([name.length], ascii(name), [type.length], ascii(type));
     parts.push([length >>> 24, length >> 16 & 255, length >> 8 & 255, length & 255], bytes);

@@ -425,6 +425,24 @@ for (const [name, words] of [["the device inside", site => [site]], ["UIPD", sit
     });
   });
 
+withServe("a folder that cannot be packed is reported, and opened once it is mended", async () => {
+  const site = join(folder, "mended");
+  mkdirSync(site);
+  writeFileSync(join(site, "index.html"), "<title>mended</title>");
+  writeFileSync(join(site, "a b.txt"), "");
+  await served([site], async tab => {
+    await tab.until(hasNotice('"/a b.txt" is no name for a file of a site'));
+    rmSync(join(site, "a b.txt"));
+    await tab.until(shows("mended"));
+    writeFileSync(join(site, "a b.txt"), "");
+    await tab.until(hasNotice("(2 times)"));
+    assert.ok(await tab.run(`return !!node.session`));   // the site as it was
+    rmSync(join(site, "a b.txt"));
+    writeFileSync(join(site, "index.html"), "<title>again</title>");
+    await tab.until(shows("again"));
+  });
+});
+
 withServe("an image for the device inside, which changes", async () => {
   const image = join(folder, "own.img");
   cpSync(SITE, image);

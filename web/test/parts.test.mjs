@@ -81,7 +81,7 @@ test("an image is read and written as the program does", () => {
   assert.deepEqual(valuesOf(files), [0, 1, 2, 3, 4]);
   const own = names.map(name => ({ name, bytes: disk(name) }));
   assert.deepEqual(unpack(pack(own)).map(({ name, bytes }) => [name, Buffer.from(bytes).toString()]), own.map(({ name, bytes }) => [name, bytes.toString()]));
-  assert.throws(() => pack([{ name: "/a b", bytes: disk("/index.html") }]), /no name for a file/);
+  assert.throws(() => pack([{ name: "/a b", bytes: disk("/index.html") }]), /"\/a b" is no name for a file/);
   assert.throws(() => pack(Array.from({ length: 1025 }, (_, n) => ({ name: `/${n}`, bytes: [] }))), /1024 files at most/);
 });
 

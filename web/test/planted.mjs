@@ -203,7 +203,7 @@ const FAULTS = {
   "settings.js": [[`localStorage.setItem(KEY`, `String(KEY`, "page", "Chromium: rate, address"]],
   "folder.js": [
     [`if (now && now.stamp !== stamp) return changed();`, "", "page", "live reload of a folder, the device inside"],
-    [`  if (isImage) return { stamp, image: await bytesOf(names[0]) };`, "", "page", "an image for the device inside"],
+    [`    if (isImage) return bytesOf(names[0]);`, "", "page", "an image for the device inside"],
   ],
   "page.js": [
     [`    if (same.nextElementSibling) $("notices").append(same);`, `    $("notices").append(same.cloneNode(true));`, "page", "Chromium: messages"],
@@ -218,6 +218,7 @@ const FAULTS = {
     [`  session.atOnce = +$("at-once").value;`, "", "page", "Chromium: faults"],
     [`  for (const words of warningsOf(files)) notice(words);`, "", "page", "Chromium: one's own site"],
     [`    await close();\n    throw error;`, `    throw error;`, "page", "Chromium: one's own site"],
+    [`  } finally {\n    stopBeside();`, `    stopBeside();`, "page", "a folder that cannot be packed"],
     [`remember("port", idOf(port));`, "", "page", "the last port"],
   ],
   "page.css": [
