@@ -21,7 +21,7 @@ import { resultOf, verdictOf } from "./verdict.js";
 
 const $ = id => document.getElementById(id);
 const FAULTS = ["loss", "duplication", "reordering", "corruption", "delay"], KEPT = ["baud", "address", "fill", "apart"];
-const NOTICES = 30, DRAWN = 1000;
+const NOTICES = 30, DRAWN = 1000, OF_LINE = ["noise", "different", "wait", "wrong"];   // kinds of session.js
 const CHANGED = "the site has changed";   // the word of web/serve.py, which has packed it again
 const INSIDE = "the device inside this page";
 const meta = name => JSON.parse(document.querySelector(`meta[name=${name}]`)?.content ?? "null");
@@ -52,6 +52,13 @@ function notice(words, kind = words) {
   }
   while ($("notices").children.length > NOTICES) $("notices").firstElementChild.remove();
   countNotices();
+}
+
+// The messages about a line that is over.
+function forgetLine() {
+  for (const it of [...$("notices").children]) if (OF_LINE.includes(it.dataset.kind)) it.remove();
+  countNotices();
+  showResult("", "");
 }
 
 function countNotices() {
@@ -115,6 +122,7 @@ function begin(line, { rate = 0, fill = false, first = "/", kind = "good", ...op
   session.rate = rate;
   $("fill").checked = fill;
   apply();
+  forgetLine();
   verdicts.clear();
   show(`connected: ${options.name}`, kind);
   for (const button of document.querySelectorAll("[data-needs-line]")) button.disabled = false;
@@ -395,6 +403,18 @@ function takeDrops() {
   });
 }
 
+// The menu closes by Escape, and if something else gets the pointer or the focus.
+function takeMenu() {
+  const menu = document.querySelector(".menu"), close = () => { menu.open = false; };
+  menu.addEventListener("keydown", event => {
+    if (event.key !== "Escape") return;
+    close();
+    menu.querySelector("summary").focus();
+  });
+  addEventListener("pointerdown", event => { if (!menu.contains(event.target)) close(); });
+  addEventListener("focusin", event => { if (!menu.contains(event.target)) close(); });
+}
+
 function takeEvents() {
   for (const [id, action] of Object.entries(ACTIONS)) $(id).addEventListener("click", () => guard(action));
   $("go").addEventListener("submit", event => { event.preventDefault(); guard(visitTyped); });
@@ -414,6 +434,7 @@ function takeEvents() {
   addEventListener("hashchange", () => { if (location.hash === "#try") guard(tryHere); });
   $("start").querySelectorAll("button").forEach(it => { it.type = "button"; });
   takeDrops();
+  takeMenu();
 }
 
 // Links to files of the repository, if this page comes from it. web/serve.py lists those that it has.

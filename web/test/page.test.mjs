@@ -102,6 +102,8 @@ inEach("the tour: a page, 30 % loss, and the wrong page of uIP's own rules in re
   await tab.until(ends(`connected: ${DEVICE}, with a sensor and a lamp`));
   await tab.until(shows("The device"));
   assert.deepEqual(await tab.run(`return [document.getElementById("loss").value, document.getElementById("tour").hidden]`), ["0", true]);
+  // Nothing is left of the server by uIP's rules.
+  assert.deepEqual(await tab.run(`return [document.getElementById("result").textContent, document.getElementById("messages").hidden]`), ["", true]);
 });
 
 inEach("the tour begins at its first step again", { hash: "#try" }, async tab => {
@@ -199,7 +201,7 @@ inEach("values are sliders and fields, hits are lamps, and the slots are shown",
   await tab.run(`self.held = node.session.host.connect()`);
   await tab.until(`document.querySelector(".slot[data-state=ESTABLISHED]")?.title.includes("10.0.0.2:" + self.held.port)`);
   assert.equal(await tab.run(`return document.querySelectorAll(".slot").length`), 10);
-  await tab.until(`/^\\d+ ticks, \\d+ KiB of WebAssembly memory \\(a Cortex-M4: 8 kB of RAM\\)$/.test(document.querySelector("[data-panel=facts]").innerText)`);
+  await tab.until(`/^\\d+ ticks?, \\d+ KiB of WebAssembly memory \\(a Cortex-M4: 8 kB of RAM\\)$/.test(document.querySelector("[data-panel=facts]").innerText)`);
 });
 
 inEach("one's own site: files, an image, and a bad one", {}, async tab => {
@@ -381,7 +383,16 @@ for (const scheme of ["light", "dark"])
       await tab.until(`innerWidth === ${width}`);
       assert.deepEqual(await tab.run(CONTRAST), []);
       assert.ok(await tab.run(`return document.documentElement.scrollWidth <= innerWidth`), `${width}`);
+      const [left, right] = await tab.run(`
+        const menu = document.querySelector(".menu");
+        menu.open = true;
+        const { left, right } = menu.querySelector("div").getBoundingClientRect();
+        menu.open = false;
+        return [left, right]`);
+      assert.ok(left >= 0 && right <= width, `the options at ${width}: ${left} to ${right}`);
     }
+    await tab.run(`await node.fetchMany()`);
+    assert.ok(await tab.run(`return document.querySelectorAll("#rows tr").length > 80 && document.querySelector(".diagram").offsetHeight < 600`));
   });
 
 inChromium("the first screen by keyboard: each way is reached, and Enter starts the device", {}, async tab => {
@@ -396,6 +407,20 @@ inChromium("the first screen by keyboard: each way is reached, and Enter starts 
   await tab.key("Enter", "Enter", "\r");
   await tab.until(COMPLETE);
   assert.equal(await tab.run(`return document.activeElement.id`), "main");
+});
+
+inChromium("the options by keyboard: Escape closes them, and so does the focus of something else", {}, async tab => {
+  const isOpen = () => tab.run(`return document.querySelector(".menu").open`);
+  for (const close of [() => tab.key("Escape"), () => tab.run(`document.getElementById("open-inside").focus()`),
+    () => tab.run(`document.body.dispatchEvent(new Event("pointerdown", { bubbles: true }))`)]) {
+    await tab.run(`document.querySelector(".menu summary").focus()`);
+    await tab.key("Enter", "Enter", "\r");
+    assert.equal(await isOpen(), true);
+    await tab.key("Tab");
+    assert.equal(await tab.run(`return document.activeElement.id`), "fill");
+    await close();
+    assert.equal(await isOpen(), false);
+  }
 });
 
 // web/serve.py, in a tab of its own.
