@@ -8,8 +8,9 @@
  * THIS IS NOT THE uip.h OF uIP 1.0, although the names begin alike. Never include both in one file: macros of uIP would
  * replace these calls.
  *
- * In short: begin with a zeroed handle; leave image and heap alone; make no two calls at once, and none in an
- * interrupt; drain before you feed; make ten periodic calls each half second.
+ * A site is a folder of files. Its image is the array that tools/pack.py makes of it. uipd, which some comments name,
+ * is the same node as a Linux program. In short: begin with a zeroed handle; leave image and heap alone; make no two
+ * calls at once, and none in an interrupt; drain before you feed; make ten periodic calls each half second.
  *
  * A whole program for a serial line. You supply the first four functions (and what rule 8 names). Paths are those of
  * the repository: an archive has heap.c in examples/common.
@@ -25,10 +26,10 @@
  *     unsigned milliseconds(void);                     // modulo 2^32
  *     void work(void);                                 // sets values, reads clicks: the example at uip_set_value
  *
- *     int half_a_second_passed(void) {                 // returns 1 once for each half second that has passed; those
- *         static unsigned last, is_started;            // that ended during a long call follow at the next calls
+ *     int half_a_second_passed(void) {                 // returns 1 for each half second that has passed, with at most
+ *         static unsigned last, is_started;            // two in arrears: after 1.5 s without a call it begins anew
  *         unsigned now = milliseconds();
- *         if (!is_started || now - last >= 1500) { is_started = 1; last = now; }   // at most two ticks are made up
+ *         if (!is_started || now - last >= 1500) { is_started = 1; last = now; }
  *         if (now - last < 500) return 0;
  *         last += 500;
  *         return 1;
@@ -58,12 +59,12 @@
  * THE CALLS:
  *
  *     call                                      link                          may send   in a sink   if output pends
- *     uip_open                                  serial line and datagrams     no         no          UIP_HAS_DEVICE
- *     uip_open_ether                            Ethernet                      no         no          UIP_HAS_DEVICE
+ *     uip_open                                  serial line and datagrams     no         no
+ *     uip_open_ether                            Ethernet                      no         no
  *     uip_feed, uip_periodic                    serial line                   yes        no          UIP_OUTPUT_PENDING
  *     uip_drain                                 serial line                   yes        no          allowed
  *     uip_input, uip_periodic_datagram          datagrams                     yes        no          UIP_OUTPUT_PENDING
- *     uip_input_frame, uip_periodic_frame       Ethernet                      yes        no          UIP_WRONG_LINK
+ *     uip_input_frame, uip_periodic_frame       Ethernet                      yes        no
  *     uip_set_value, uip_hits, uip_ticks,
  *     uip_counter, uip_is_idle, uip_connection  any                           no         yes         allowed
  *     uip_close                                 any                           no         no          allowed
@@ -86,11 +87,12 @@
  *      and puts it back, which is why no handle is const. Make no call in an interrupt. A call and a sink run to their
  *      end: no longjmp, no exception, no deleted task. Under an RTOS let one task make all calls, or give each handle
  *      one mutex. Hold it during each call with that handle, and over the whole of an inline function; its sink must
- *      not take it again. Calls with different handles may overlap.
+ *      not take it again. Calls with different handles may overlap: the library keeps nothing outside handle
+ *      and heap.
  *   Pointers
  *   4. Each pointer, also of a function, is not null, even if its length is 0. The whole area of that length may be
  *      read (`own` 4 bytes, `mac` 6); `out` need not be initialised. Exception: `to` of the inline functions, which
- *      only the sink uses, may be anything. Areas of bytes may have any alignment.
+ *      only the sink uses, may be null. Areas of bytes may have any alignment.
  *   5. `out`, and `frame` of the calls for frames, may be written over the whole of `room`. It shares no byte with the
  *      handle or with another argument, and nothing else (no DMA) reads or writes it until the call returns.
  *   6. The image stays at its address until uip_close, and its bytes are the same at each call: the library reads it
@@ -107,9 +109,10 @@
  *
  * ERRORS. A call with a bad argument or in the wrong state has no effect, and reports it in `status`: the device, `out`
  * and the counters are unchanged, and all other fields of the result are 0. Exception: for a bad image uip_open and
- * uip_open_ether also report the fault. Not reported: a wrong order or rate of periodic calls, and an unknown name
- * (uip_hits returns 0). Nothing that arrives causes a status. The statuses of each call, in the order in which they are
- * looked for:
+ * uip_open_ether also report the fault. Not reported: a wrong rate of periodic calls, a slot that is left out or called
+ * twice in a tick, and an unknown name (uip_hits returns 0). The contents of what arrives never cause a status. Its
+ * length can: your driver drops datagrams of more than UIP_MAX_DATAGRAM bytes and frames longer than `room`. The
+ * statuses of each call, in the order in which they are looked for:
  *   uip_open, uip_open_ether    UIP_HAS_DEVICE, UIP_BAD_IMAGE or UIP_NO_MEMORY, UIP_OK
  *   every other call            UIP_BAD_ARGUMENT      an argument is out of its range
  *                               UIP_NO_DEVICE         the handle has no device
@@ -124,17 +127,19 @@
  * peer's MSS (536 if it announces none) and the peer's window. A window of 0 does not limit it: the segment is sent,
  * and sent again by the timer. There are ten connections, each with at most one segment outstanding. A segment without
  * an acknowledgement is sent again 4, 8, 15, 28, 53, 102, 151 and 200 ticks after the first sending, and given up after
- * 249; a SYN-ACK five times, and given up after 102. A connection with nothing outstanding is reset after 20 ticks
- * without an event. The heap has one packet buffer of 1500 bytes for both directions. A device of uip_open has another
- * 1500, for the frame that is being received. A site has at most 1,024 files and 16,777,216 bytes.
+ * 249; a SYN-ACK five times, and given up after 102. An ESTABLISHED connection with nothing outstanding is reset after
+ * 20 ticks in which it received no data. FIN_WAIT_2 and TIME_WAIT end after 120. The heap has one packet buffer of 1500
+ * bytes for both directions. A device of uip_open has another 1500, for the frame that is being received. A site has at
+ * most 1,024 files and 16,777,216 bytes.
  *
  * TIME. No call waits; an inline function waits as long as its sink does. The node has no clock: a tick is half a
  * second (see uip_periodic). While output is written, the program should store what arrives. With the same speed in
- * both directions, a ring of 3,002 bytes loses nothing while one frame is written (0.26 s at 115,200 bits a second),
- * and one of 30,020 bytes nothing while uip_tick_all writes ten. uip_feed_all may write one frame for each frame that
- * ends in `bytes`. One pass of the program above may write the frames of both: add them. If bytes are lost, TCP sends
- * again, and a ping stays without a reply. 512 bytes were enough for two clients at 19,200 bits a second (measured).
- * The line carries all 8 bits of a byte: no XON and XOFF.
+ * both directions, at most 3,002 bytes arrive while one frame is written (0.26 s at 115,200 bits a second), and 30,020
+ * while uip_tick_all writes ten. A ring with that much room free at its start loses none of them; a peer that sends
+ * without end can still fill it. uip_feed_all may write one frame for each frame that ends in `bytes`. One pass of the
+ * program above may write the frames of both: add them. If bytes are lost, TCP sends again, and a ping stays without a
+ * reply. 512 bytes were enough for two clients at 19,200 bits a second (measured). The line carries all 8 bits of a
+ * byte: no XON and XOFF.
  *
  * The header is C90 or later, or C++ (tried: gcc 12.2 and clang 14, C90 to C17, C++98 to C++17). The examples in its
  * comments have comments of C99. examples/heap.c is C11 or C++11.
@@ -153,8 +158,9 @@ extern "C" {
 #endif
 
 /*
- * The version of the library. 1.1 renamed the calls of 1.0. From 1.1 on the names, the layouts of the structures and
- * the values of the enumerations stay the same within a major version; new calls and names may be added.
+ * The version of the library. From 1.1 on the names, the layouts of the structures and the values of the enumerations
+ * stay the same within a major version; new calls and names may be added. Take header and library from one archive:
+ * nothing checks that they match.
  */
 #define UIP_VERSION_MAJOR 1
 #define UIP_VERSION_MINOR 1
@@ -173,7 +179,7 @@ extern "C" {
 typedef char uip_needs_32_or_64_bits[(sizeof(size_t) == 4 || sizeof(size_t) == 8) && sizeof(void *) == sizeof(size_t) ? 1 : -1];
 typedef char uip_needs_unsigned_of_32_bits[sizeof(unsigned) == 4 ? 1 : -1];
 
-/* The values of the status: of what uip_set_value and uip_close return, and of each field `status`. */
+/* The status that uip_set_value, uip_close and the three inline functions return, and of each field `status`. */
 enum uip_status {
     UIP_OK = 0,
     UIP_NO_DEVICE = 1,         /* the handle has no device */
@@ -224,7 +230,7 @@ enum uip_counter_id {
     UIP_SYN_DROPPED = 20       /* SYNs to a served port that found no free slot */
 };
 
-/* The states of a connection (RFC 793, section 3.2), by the numbers of uip_row. */
+/* The states of a connection (RFC 793, section 3.2), as in the field `state` of uip_row. */
 enum uip_state {
     UIP_CLOSED = 0, UIP_SYN_RCVD = 1, UIP_ESTABLISHED = 2, UIP_CLOSE_WAIT = 3, UIP_FIN_WAIT_1 = 4, UIP_FIN_WAIT_2 = 5,
     UIP_CLOSING = 6, UIP_TIME_WAIT = 7, UIP_LAST_ACK = 8
@@ -258,11 +264,10 @@ typedef struct uip_number { unsigned status; unsigned number; } uip_number;
 /*
  * The result of uip_connection. If the slot is CLOSED, all fields but `status` are 0.
  *   state         an enum uip_state
- *   peer, port    the address, first byte first, and the TCP port of the peer
+ *   peer, port    the address, first byte first, and the TCP port of the peer (a number, not in network byte order)
  *   tries         how often the outstanding segment was sent again
- *   count         if `waiting` is 1: the ticks that pass before the one that sends the segment again, or resets the
- *                 connection (0: the next tick does). In FIN_WAIT_2 and TIME_WAIT: the ticks spent there, of 120.
- *                 Else 0
+ *   count         if `waiting` is 1: the tick number `count` + 1 from now sends the segment again, or resets the
+ *                 connection. In FIN_WAIT_2 and TIME_WAIT: the ticks spent there, of 120. Else 0
  *   waiting       1 if a segment is outstanding, else 0
  */
 typedef struct uip_row { unsigned status, state; unsigned char peer[4]; unsigned port, tries, count, waiting; } uip_row;
@@ -291,8 +296,8 @@ uip_opened uip_open(uip_device *device, const unsigned char *image, size_t len, 
  *   bytes, len    the bytes, cut in any way; `len` is 1 or more and has no upper limit
  *   out, room     where the reply goes; `room` is UIP_MIN_OUT or more
  *
- * Result: `consumed` is 1 or more. If `pending` is 1, call uip_drain until it is 0. The rest of `out` is unspecified,
- * and nothing is written beyond `room`.
+ * Result: `consumed` is `len` if no frame ended earlier, and 1 or more; a part of a frame is kept for the next call.
+ * The rest of `out` is unspecified, and nothing is written beyond `room`.
  * Status: UIP_OK, UIP_BAD_ARGUMENT, UIP_NO_DEVICE, UIP_WRONG_LINK, UIP_OUTPUT_PENDING.
  */
 uip_result uip_feed(uip_device *device, const unsigned char *bytes, size_t len, unsigned char *out, size_t room);
@@ -343,7 +348,7 @@ uip_result uip_drain(uip_device *device, unsigned char *out, size_t room);
  * have UIP_MAX_DATAGRAM bytes each, and `done` is a uip_result.
  *
  *     for (;;) {
- *         size_t slot, len = receive_datagram(in, sizeof in);
+ *         size_t slot, len = receive_datagram(in, sizeof in);      // drops a longer one
  *         if (len) {
  *             done = uip_input(&device, in, len, out, sizeof out);
  *             if (done.status != UIP_OK) return (int)done.status;
@@ -355,6 +360,7 @@ uip_result uip_drain(uip_device *device, unsigned char *out, size_t room);
  *                 if (done.status != UIP_OK) return (int)done.status;
  *                 if (done.written) send_datagram(out, done.written);
  *             }
+ *         work();
  *     }
  *
  * One device can have a serial line and a link of datagrams at once, but not one of these and Ethernet. Calls of both
@@ -380,12 +386,12 @@ uip_result uip_periodic_datagram(uip_device *device, size_t slot, unsigned char 
  * and has neither preamble nor frame check sequence: the controller strips and adds these. A received frame may be
  * padded. A frame to send is not padded: the controller pads it, or you add zeros up to 60 bytes. If the length that
  * your controller reports includes the check sequence, subtract 4: the longest frame would be dropped as too long. If
- * it stores the check sequence, `frame` has 1518 bytes. Let its filter pass `mac` and broadcast. All but ARP and IPv4
+ * it stores the check sequence, make `frame` 1518 bytes. Let its filter pass `mac` and broadcast. All but ARP and IPv4
  * is dropped, frames with a VLAN tag included. On Cortex-M and RISC-V link libuip_c_ether.a in place of libuip_c.a,
  * which has no calls for frames there.
  *
- *     size_t mac_receive(unsigned char *frame, size_t room);        // the length of a frame, or 0; it may sleep until
- *                                                                   // a frame arrives or a tick is due
+ *     size_t mac_receive(unsigned char *frame, size_t room);        // the length of a frame, at most `room` (it drops
+ *                                                                   // a longer one), or 0; it may sleep
  *     void mac_send(const unsigned char *frame, size_t len);        // returns when `frame` may be overwritten
  *
  *     static uip_device device = UIP_INIT;
@@ -492,8 +498,9 @@ uip_row uip_connection(uip_device *device, size_t slot);
  * Status: UIP_OK, UIP_BAD_ARGUMENT, UIP_NO_DEVICE.
  *
  * A file whose name ends in .shtml is a script: its directives %! value 3, %! value-html 3 and %! value-json 3 show
- * value 3: as it is, escaped for HTML, and escaped for a string of JSON. Do not show text that others can influence as
- * it is. docs/FIRMWARE.md has an example, and docs/FORMATS.md the rules. A value that was never set is empty.
+ * value 3: as it is, escaped for HTML, and escaped for a string of JSON. Show text that others can influence only by
+ * value-html or value-json. docs/FIRMWARE.md has an example, and docs/FORMATS.md the rules. A value that was never set
+ * is empty.
  *
  * You can set a value between any two calls, while output is pending, and in a sink. A value is read when the peer has
  * acknowledged everything before it in the reply, the head included. So each value costs a round trip, and two values
@@ -502,9 +509,10 @@ uip_row uip_connection(uip_device *device, size_t slot);
  * This shows a level as value 3 and a lamp as value 4. A link to /lamp-on.html is a button. In the program above it is
  * below `device`, needs <stdio.h>, and your read_level and switch_lamp:
  *
+ *     static unsigned on, off;                         // the hits at the last call: 0 again after another uip_open
+ *     static int is_lit;
+ *
  *     void work(void) {
- *         static unsigned on, off;                     // the hits at the last call
- *         static int is_lit;
  *         char text[UIP_MAX_VALUE];
  *         unsigned now_on = uip_hits(&device, "/lamp-on.html", sizeof "/lamp-on.html" - 1).number;
  *         unsigned now_off = uip_hits(&device, "/lamp-off.html", sizeof "/lamp-off.html" - 1).number;
@@ -517,8 +525,8 @@ uip_row uip_connection(uip_device *device, size_t slot);
  *         uip_set_value(&device, 4, is_lit ? "on" : "off", is_lit ? 2 : 3);
  *     }
  *
- * Both files must be in the site. If both were requested, off wins. After another uip_open set `on` and `off` to 0. The
- * reply to a click may be made before work is called, so let that page lead back, as examples/state/lamp-on.html does.
+ * Both files must be in the site. If both were requested, off wins. The reply to a click may be made before work is
+ * called, so let that page link to the page with the state, as examples/state/lamp-on.html does.
  */
 unsigned uip_set_value(uip_device *device, size_t number, const void *text, size_t len);
 
@@ -592,7 +600,8 @@ void rattle_dealloc(void *block);
 
 /*
  * Takes a piece of output: for example, writes it to the serial port. The functions below call it with each piece, in
- * order. It must accept the whole piece: it waits until there is room, or until the bytes are gone.
+ * order. It must return, and it either accepts the whole piece, waiting until there is room, or discards bytes if the
+ * line is down: the frame is then lost, as on the line, and TCP sends it again.
  *
  *   to            the pointer that the caller of the function gave
  *   bytes, len    the piece, 1 byte or more; it lies in `out`, and is valid until the sink returns
