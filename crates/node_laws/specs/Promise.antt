@@ -139,7 +139,8 @@ pub data OutputModel : Type 0 where
 abbrev pub TextConforms : OutputModel → List Exchange → Account → Type 0
 TextConforms (Paged pages) incarnation a = IsPrefixOfPage pages a.accepted incarnation a × NumbersGiveOffsets incarnation a
 TextConforms (Interactive sessions) incarnation a =
-    ((delivered : List ℕ) × IsPrefixOf delivered a.accepted × IsPrefixOfPage sessions delivered incarnation a) × (length a.sent < 1073741824 → NumbersGiveOffsets incarnation a)
+    ((delivered : List ℕ) × IsPrefixOf delivered a.accepted × IsPrefixOfPage sessions delivered incarnation a)
+    × (length a.sent < 1073741824 → NumbersGiveOffsets incarnation a)
 TextConforms Free incarnation a = length a.sent < 1073741824 → NumbersGiveOffsets incarnation a
 
 -- A newer account of the same incarnation extends an older one.
