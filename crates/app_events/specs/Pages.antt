@@ -75,7 +75,8 @@ pub record IsPaged (m : AppSpec) (pages : Pages) : Type 0 where
   pub connected_delivered : (numbers : List ℕ) (port : ℕ) → (m.connected numbers port).part.delivered ≡ []
   pub connected_captures : (numbers : List ℕ) (port : ℕ) → (m.connected numbers port).part.captures ≡ []
   pub connected_acked : (numbers : List ℕ) (port : ℕ) → (m.connected numbers port).part.acked ≡ 0
-  pub newdata_delivered : (numbers : List ℕ) (p : AppState) (piece : List ℕ) → (m.newdata numbers p piece).part.delivered ≡ p.delivered ++ piece
+  pub newdata_delivered : (numbers : List ℕ) (p : AppState) (piece : List ℕ)
+      → (m.newdata numbers p piece).part.delivered ≡ p.delivered ++ piece
   pub newdata_captures : (numbers : List ℕ) (p : AppState) (piece : List ℕ) → (m.newdata numbers p piece).part.captures ≡ p.captures
   pub newdata_acked : (numbers : List ℕ) (p : AppState) (piece : List ℕ) → (m.newdata numbers p piece).part.acked ≡ p.acked
   pub prepare_delivered : (numbers : List ℕ) (p : AppState) (now : Now) → (m.prepare numbers p now).delivered ≡ p.delivered
@@ -90,7 +91,8 @@ pub record IsPaged (m : AppSpec) (pages : Pages) : Type 0 where
   pub wants : (numbers : List ℕ) (p : AppState) → MayWant pages p (m.want numbers p)
   -- The counters stay below 2^32.
   pub connected_numbers : (numbers : List ℕ) (port : ℕ) → All IsU32 numbers → All IsU32 (m.connected numbers port).numbers
-  pub newdata_numbers : (numbers : List ℕ) (p : AppState) (piece : List ℕ) → All IsU32 numbers → All IsU32 (m.newdata numbers p piece).numbers
+  pub newdata_numbers : (numbers : List ℕ) (p : AppState) (piece : List ℕ) → All IsU32 numbers
+      → All IsU32 (m.newdata numbers p piece).numbers
   pub acked_numbers : (numbers : List ℕ) (p : AppState) (n : ℕ) → All IsU32 numbers → All IsU32 (m.acked numbers p n).numbers
   pub polled_numbers : (numbers : List ℕ) (p : AppState) → All IsU32 numbers → All IsU32 (m.polled numbers p).numbers
   pub ended_numbers : (numbers : List ℕ) (p : AppState) (how : Ending) → All IsU32 numbers → All IsU32 (m.ended numbers p how)

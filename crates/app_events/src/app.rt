@@ -75,7 +75,8 @@ pub trait App: Drop {
     /// Returns what to send next. Called if nothing is outstanding.
     fn want(&self, shared: &Self::Shared) -> Want
         requires { IsRepresented represents self.now (config shared.now) }
-        ensures { (p : AppState) → represents self.now (config shared.now) p → result ≡ (app_spec (config shared.now)).want (numbers shared.now) p };
+        ensures { (p : AppState) → represents self.now (config shared.now) p
+            → result ≡ (app_spec (config shared.now)).want (numbers shared.now) p };
 
     /// Writes the text after the acknowledged offset, as much as `out` holds.
     fn fill(&self, shared: &Self::Shared, out: &mut [u8])

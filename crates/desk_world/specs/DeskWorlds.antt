@@ -7,7 +7,8 @@ use Rattle.file_tree.specs.Prelude.{SiteContent, IsLoaded, files_of}
 use Rattle.web_pages.specs.Prelude.{pages_of}
 use Rattle.tcp_machine.specs.Prelude.{Connection}
 use Rattle.uip_node.specs.Prelude.{Periodic, AbstractNode, step}
-use Rattle.link_world.specs.Prelude.{World, Side, is_clean, era, IsReached, IsReachedPlainly, IsServed, RepeatsSameBytes, MarksRepeats, IsInStep, server_side, IsExpired, SendsAgain}
+use Rattle.link_world.specs.Prelude.{World, Side, is_clean, era, IsReached, IsReachedPlainly, IsServed}
+use Rattle.link_world.specs.Prelude.{RepeatsSameBytes, MarksRepeats, IsInStep, server_side, IsExpired, SendsAgain}
 use Rattle.telnet_shell.specs.declared.shell.TheConstants.{TELNET_PORT}
 use Rattle.telnet_shell.specs.Traces.{sessions}
 use Rattle.telnet_shell.specs.DeskMeaning.{desk_spec}
@@ -31,7 +32,8 @@ DeskServes =
 
 -- The output of a session is at most 1,032 bytes for each byte received.
 abbrev pub SessionsAreShort : Type 0
-SessionsAreShort = (delivered : List ℕ) (captures : List Snapshot) → All IsSnapshot captures → length (sessions.text delivered captures) ≤ 1032 * length delivered
+SessionsAreShort = (delivered : List ℕ) (captures : List Snapshot) → All IsSnapshot captures
+    → length (sessions.text delivered captures) ≤ 1032 * length delivered
 
 -- This holds for any loss, duplication, reordering and damage. If a datagram is marked as a retransmission, it was sent before, with the
 -- same number, flags and text. This includes clients of the shell, and clients that are not clean.

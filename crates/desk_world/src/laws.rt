@@ -1,6 +1,7 @@
 //! The laws of the link world for the desk. Each is the clause of a function without parameters.
 
-ghost use Rattle.desk_world.specs.Prelude.{DeskMarksRepeats, DeskOneSegment, DeskRepeatsSameBytes, DeskSendsAgain, DeskServes, SessionsAreShort, AreWorkedWorlds};
+ghost use Rattle.desk_world.specs.Prelude.{DeskMarksRepeats, DeskOneSegment, DeskRepeatsSameBytes};
+ghost use Rattle.desk_world.specs.Prelude.{DeskSendsAgain, DeskServes, SessionsAreShort, AreWorkedWorlds};
 
 /// A clean client has received a prefix of the text that is due at its port, a page or a session, and all of it if it saw a
 /// normal close.

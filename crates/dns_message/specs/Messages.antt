@@ -1,5 +1,6 @@
 -- Messages of the domain name system (RFC 1035, section 4.1): the query for a name, and the reply to it.
-use Rattle.std.specs.Prelude.{ℕ, ◌+◌, ◌/◌, ◌%◌, ◌==◌, ◌&&◌, nat_le, nat_lt, not, if◌then◌else◌, Bool, List, [], ◌∷◌, ◌++◌, length, drop, slice_index, slice_range, Option, Some, None}
+use Rattle.std.specs.Prelude.{ℕ, ◌+◌, ◌/◌, ◌%◌, ◌==◌, ◌&&◌, nat_le, nat_lt, not, if◌then◌else◌, Bool, List}
+use Rattle.std.specs.Prelude.{[], ◌∷◌, ◌++◌, length, drop, slice_index, slice_range, Option, Some, None}
 use Rattle.std.specs.Str.{str_eq_ignore_ascii_case}
 use Rattle.uip_wire.specs.Prelude.{word_at, bytes_of}
 use Rattle.dns_message.specs.Names.{name_bytes}

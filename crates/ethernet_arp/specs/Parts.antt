@@ -1,5 +1,6 @@
 -- The part of a line after its last whole frame, as the code stores it, and what more bytes decode to after it.
-use Rattle.std.specs.Prelude.{◌≡◌, ◌<◌, ◌≤◌, ◌+◌, ◌*◌, ◌&&◌, ℕ, nat_le, if◌then◌else◌, List, [], ◌∷◌, ◌++◌, length, take, None, option_to_list}
+use Rattle.std.specs.Prelude.{◌≡◌, ◌<◌, ◌≤◌, ◌+◌, ◌*◌, ◌&&◌, ℕ, nat_le, if◌then◌else◌}
+use Rattle.std.specs.Prelude.{List, [], ◌∷◌, ◌++◌, length, take, None, option_to_list}
 use Rattle.line_medium.specs.Prelude.{MediumInput}
 use Rattle.ethernet_arp.specs.EtherWay.{closed_by, is_whole, open_from}
 use Rattle.ethernet_arp.specs.Frames.{Host, frame_brings}

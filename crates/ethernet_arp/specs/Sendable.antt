@@ -10,8 +10,10 @@ use Rattle.ethernet_arp.specs.Frames.{Host, is_sendable}
 use Rattle.ethernet_arp.specs.Learning.{Act}
 
 -- Each reply of the node at one of the events has 20 to 1500 bytes.
-pub record AllSendable (m : AppSpec) (served : ℕ → Bool) (own : Addr) (station_events : List (StationEvent Act)) (s : Station Act) : Type 0 where
-  pub each : (done : List (StationEvent Act)) (event : Event) (later : List (StationEvent Act)) (reply : Reply) → station_events ≡ done ++ OfNode event ∷ later
+pub record AllSendable (m : AppSpec) (served : ℕ → Bool) (own : Addr)
+    (station_events : List (StationEvent Act)) (s : Station Act) : Type 0 where
+  pub each : (done : List (StationEvent Act)) (event : Event) (later : List (StationEvent Act)) (reply : Reply)
+      → station_events ≡ done ++ OfNode event ∷ later
       → (step m served (station_after_all m served done s).node event).sent ≡ Some reply
       → is_sendable (reply_bytes own reply) ≡ true
 
@@ -19,7 +21,8 @@ pub record AllSendable (m : AppSpec) (served : ℕ → Bool) (own : Addr) (stati
 abbrev pub DatagramsFitFrames : Type 0
 DatagramsFitFrames =
     (m : AppSpec) (served : ℕ → Bool) (k : Host) (own : Addr) (pace : ℕ) (items : List Item) (numbers : List ℕ) → length own.0 ≡ 4
-    → AllSendable m served own (station_events_of_line (ether_medium k) own pace items) (record { acts = []; node = initial_node own numbers })
+    → AllSendable m served own (station_events_of_line (ether_medium k) own pace items)
+    (record { acts = []; node = initial_node own numbers })
 
 -- Frames that are fed bytes decode to bytes.
 abbrev pub FramesBringBytes : Type 0

@@ -22,7 +22,8 @@ target_in frame = address_at (drop 14 frame) 16
 
 -- The frame is the output at one of the events, after those before it and all their output. It goes to the hardware address of its target
 -- that is known then.
-pub record GoesHome (m : AppSpec) (served : ℕ → Bool) (k : Host) (own : Addr) (station_events : List (StationEvent Act)) (s : Station Act) (i : ℕ)
+pub record GoesHome (m : AppSpec) (served : ℕ → Bool) (k : Host) (own : Addr)
+    (station_events : List (StationEvent Act)) (s : Station Act) (i : ℕ)
     (frame : List ℕ) : Type 0 where
   pub done : List (StationEvent Act)
   pub now : StationEvent Act
@@ -33,7 +34,8 @@ pub record GoesHome (m : AppSpec) (served : ℕ → Bool) (k : Host) (own : Addr
   pub to : known (station_after_all m served done s).acts (target_in frame) ≡ Some (mac_at frame 0)
 
 -- Every frame with a datagram in the output for events.
-pub record AllGoHome (m : AppSpec) (served : ℕ → Bool) (k : Host) (own : Addr) (station_events : List (StationEvent Act)) (s : Station Act) : Type 0 where
+pub record AllGoHome (m : AppSpec) (served : ℕ → Bool) (k : Host) (own : Addr)
+    (station_events : List (StationEvent Act)) (s : Station Act) : Type 0 where
   pub each : (i : ℕ) (frame : List ℕ) → slice_get (frames_from [] (output m served (ether_medium k) own station_events s)) i ≡ Some frame
       → is_datagram (word_at frame 12) ≡ true
       → GoesHome m served k own station_events s i frame

@@ -17,7 +17,8 @@ host = record { addr = own.0; mac = 2 ∷ 0 ∷ 0 ∷ 0 ∷ 0 ∷ 1 ∷ [] }
 -- What is written for the items, whatever the application is.
 abbrev pub written_for : AppSpec → (ℕ → Bool) → List Item → List ℕ
 written_for m served items =
-    output m served (ether_medium host) own (station_events_of_line (ether_medium host) own 0 items) (record { acts = []; node = initial_node own [] })
+    output m served (ether_medium host) own (station_events_of_line (ether_medium host) own 0 items)
+    (record { acts = []; node = initial_node own [] })
 
 -- A request of 10.0.0.2 at 02:00:00:00:00:02 for the address of the host, and its reply.
 abbrev pub request : List ℕ

@@ -1,6 +1,7 @@
 //! Packs a list of files into an image.
 
-ghost use Rattle.std.specs.Prelude.{◌≡◌, ◌+◌, ◌≤◌, ◌<◌, ◌++◌, ◌∷◌, [], ◌^◌, ◌-◌, length, min, IsTrue, Ok, Some, None, IfOk, IfSome, IfNone, OnOk, IfErr};
+ghost use Rattle.std.specs.Prelude.{◌≡◌, ◌+◌, ◌≤◌, ◌<◌, ◌++◌, ◌∷◌, [], ◌^◌, ◌-◌, length, min};
+ghost use Rattle.std.specs.Prelude.{IsTrue, Ok, Some, None, IfOk, IfSome, IfNone, OnOk, IfErr};
 ghost use Rattle.std.specs.Int.{w16, to_be_bytes};
 ghost use Rattle.site_image.specs.declared.TheConstants.{LONGEST_IMAGE, MOST_FILES};
 ghost use Rattle.site_image.specs.declared.version.Version.TheVariants.{One};

@@ -1,11 +1,13 @@
 //! The greatest lengths of pages, and the faults of scripts.
 
-ghost use Rattle.std.specs.Prelude.{◌≡◌, ◌≤◌, ◌<◌, ◌+◌, ◌*◌, ◌↔◌, true, false, [], length, IfOk, IfErr, OnOk, IfSome, IsTrue, MatchOption, Some, None, sum_by, slice_range};
+ghost use Rattle.std.specs.Prelude.{◌≡◌, ◌≤◌, ◌<◌, ◌+◌, ◌*◌, ◌↔◌, true, false, [], length, IfOk, IfErr};
+ghost use Rattle.std.specs.Prelude.{OnOk, IfSome, IsTrue, MatchOption, Some, None, sum_by, slice_range};
 ghost use Rattle.std.specs.List.{list_any};
 ghost use Rattle.std.specs.Option.{option_map_or};
 ghost use Rattle.script_lang.specs.Prelude.{pieces_by, LiesWithin};
 ghost use Rattle.site_image.specs.declared.TheConstants.{LONGEST_IMAGE, MOST_FILES};
-ghost use Rattle.site_image.specs.Prelude.{scripts, has_name, file_named, kind_of, misses, piece_length_by, page_length_by, script_fault_by, IsWithin, file_in, files_in};
+ghost use Rattle.site_image.specs.Prelude.{scripts, has_name, file_named, kind_of, misses, piece_length_by};
+ghost use Rattle.site_image.specs.Prelude.{page_length_by, script_fault_by, IsWithin, file_in, files_in};
 ghost use Rattle.file_tree.specs.Prelude.{AreMeasured, IsIndex, HasSoundScripts};
 
 use crate::file_id::FileId;
@@ -67,9 +69,11 @@ fn script_len<F: Calls>(
     requires script_fits { length script.now ≤ LONGEST_IMAGE }
     ensures missing { MatchOption result
         (list_any (λ found. misses (files_in image.now files.now) script.now found.piece) (pieces_by F.calling.named script.now 0) ≡ true)
-        (λ _. list_any (λ found. misses (files_in image.now files.now) script.now found.piece) (pieces_by F.calling.named script.now 0) ≡ false) }
+        (λ _. list_any (λ found. misses (files_in image.now files.now) script.now found.piece)
+        (pieces_by F.calling.named script.now 0) ≡ false) }
     ensures len { IfSome result (λ n. n
-        ≡ sum_by (λ found. piece_length_by F.calling (files_in image.now files.now) script.now found.piece) (pieces_by F.calling.named script.now 0)) }
+        ≡ sum_by (λ found. piece_length_by F.calling (files_in image.now files.now) script.now found.piece)
+        (pieces_by F.calling.named script.now 0)) }
     ensures bound { IfSome result (λ n. n ≤ LONGEST_IMAGE * LONGEST_IMAGE) }
 {
     let mut at = 0;

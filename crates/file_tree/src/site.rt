@@ -1,6 +1,7 @@
 //! The site: read, loaded or opened, and the calls that serve it.
 
-ghost use Rattle.std.specs.Prelude.{◌≡◌, ◌<◌, ◌≤◌, ◌↔◌, [], List, Some, Ok, length, is_some, IfOk, IfSome, IsTrue, option_and_then, option_map, slice_get};
+ghost use Rattle.std.specs.Prelude.{◌≡◌, ◌<◌, ◌≤◌, ◌↔◌, [], List, Some, Ok, length, is_some, IfOk};
+ghost use Rattle.std.specs.Prelude.{IfSome, IsTrue, option_and_then, option_map, slice_get};
 ghost use Rattle.site_image.specs.declared.TheConstants.{MOST_FILES};
 ghost use Rattle.site_image.specs.Prelude.{File, file_named, kind_of, has_name, IsImage, read_image, page_length};
 ghost use Rattle.file_tree.specs.Answers.{Gives};

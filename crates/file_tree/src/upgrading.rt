@@ -1,6 +1,7 @@
 //! Upgrades an image to version 2.
 
-ghost use Rattle.std.specs.Prelude.{◌≡◌, ◌+◌, ◌≤◌, ◌<◌, ◌++◌, ◌∷◌, [], length, nat_lt, find, reverse, option_map, slice_get, All, IsTrue, Ok, Err, Some, IfOk, OnOk, IfErr};
+ghost use Rattle.std.specs.Prelude.{◌≡◌, ◌+◌, ◌≤◌, ◌<◌, ◌++◌, ◌∷◌, [], length, nat_lt, find, reverse};
+ghost use Rattle.std.specs.Prelude.{option_map, slice_get, All, IsTrue, Ok, Err, Some, IfOk, OnOk, IfErr};
 ghost use Rattle.std.specs.Int.{w16, to_be_bytes};
 ghost use Rattle.std.specs.Option.{option_copied};
 ghost use Rattle.std.specs.Str.{bytes_eq};

@@ -8,4 +8,5 @@ use Rattle.frame_device.specs.EtherFrames.{ether_frames}
 use Rattle.frame_device.specs.FrameSpecs.{DecodesBytes}
 
 pub ether_brings_bytes : (k : Host) → DecodesBytes (ether_frames k)
-ether_brings_bytes k frame h = choose (λ (l : List (MediumInput Act)). AllOfBytes l) (is_taken frame) _ _ (λ e. frame_bytes k frame h) (λ e. none)
+ether_brings_bytes k frame h =
+    choose (λ (l : List (MediumInput Act)). AllOfBytes l) (is_taken frame) _ _ (λ e. frame_bytes k frame h) (λ e. none)

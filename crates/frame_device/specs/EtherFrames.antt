@@ -4,9 +4,11 @@ use Rattle.app_events.specs.Prelude.{AppSpec}
 use Rattle.uip_wire.specs.Prelude.{word_at}
 use Rattle.uip_wire.specs.declared.addr.Addr.{Addr}
 use Rattle.serve_loop.specs.Prelude.{Station, output, initial_station}
-use Rattle.ethernet_arp.specs.Prelude.{ether_medium, is_taken, Host, arp_reply, frame_brings, framed, is_datagram, is_sendable, mac_at, wrapped, Act, Asked, Ticked, known, target_in}
+use Rattle.ethernet_arp.specs.Prelude.{ether_medium, is_taken, Host, arp_reply, frame_brings, framed, is_datagram}
+use Rattle.ethernet_arp.specs.Prelude.{is_sendable, mac_at, wrapped, Act, Asked, Ticked, known, target_in}
 use Rattle.frame_device.specs.FrameSpecs.{FrameSpec, as_medium}
-use Rattle.frame_device.specs.FrameCalls.{FrameCall, FrameMove, Writing, station_after_move, station_events_by, station_events_of_move, with_value}
+use Rattle.frame_device.specs.FrameCalls.{FrameCall, FrameMove, Writing, station_after_move}
+use Rattle.frame_device.specs.FrameCalls.{station_events_by, station_events_of_move, with_value}
 
 -- the reply to a request
 abbrev pub reply_at : Host → Act → List ℕ
@@ -42,7 +44,8 @@ abbrev pub AllHome : AppSpec → (ℕ → Bool) → Host → Writing → Addr �
 AllHome m served k gives own [] s = ⊤
 AllHome m served k gives own (move ∷ moves) s =
     let next : Station Act = station_after_move m served (ether_frames k) gives own move s in
-    IsHome next.acts (output m served (as_medium (ether_frames k)) own (station_events_of_move (ether_frames k) own move) (with_value gives move s))
+    IsHome next.acts
+    (output m served (as_medium (ether_frames k)) own (station_events_of_move (ether_frames k) own move) (with_value gives move s))
     × AllHome m served k gives own moves next
 
 -- Each frame with a datagram that is sent at a move of a fresh device goes to the hardware address that its target taught last.

@@ -4,7 +4,8 @@ use Rattle.app_events.specs.Prelude.{AppSpec}
 use Rattle.app_events.specs.declared.app.App.{Ghosts}
 use Rattle.uip_wire.specs.declared.addr.Addr.{Addr}
 use Rattle.uip_node.specs.Prelude.{Periodic}
-use Rattle.serve_loop.specs.Prelude.{StationEvent, OfMedium, OfNode, Station, station_after_all, output, station_event_by, initial_station, IsHere}
+use Rattle.serve_loop.specs.Prelude.{StationEvent, OfMedium, OfNode, Station, station_after_all}
+use Rattle.serve_loop.specs.Prelude.{output, station_event_by, initial_station, IsHere}
 use Rattle.frame_device.specs.FrameSpecs.{FrameSpec, acts_before, as_medium}
 use Rattle.frame_device.specs.declared.frames.Frames.{Ghosts as FramesGhosts}
 use Rattle.frame_device.specs.declared.device.FrameDevice.{FrameDevice}
@@ -36,7 +37,8 @@ pub record AnswersFrame {A S M : Type 0} (g : Ghosts A S) (h : FramesGhosts M) (
       × (handed ≡ output m g.served (as_medium (h.spec k)) own (station_events_by (h.spec k) own call) s)
 
 -- A device at the address `own` of which nothing was called yet.
-pub record IsFreshFrameDevice {A S M : Type 0} (g : Ghosts A S) (h : FramesGhosts M) (k : h.Config) (m : AppSpec) (numbers : List ℕ) (own : Addr)
+pub record IsFreshFrameDevice {A S M : Type 0} (g : Ghosts A S) (h : FramesGhosts M)
+    (k : h.Config) (m : AppSpec) (numbers : List ℕ) (own : Addr)
     (d : FrameDevice A M S) : Type 0 where
   pub stands : RepresentsStation g h k m own d (initial_station own numbers)
 

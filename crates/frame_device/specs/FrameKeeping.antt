@@ -30,8 +30,8 @@ pub record MoveTrace : Type 0 where
   pub answered : AnsweredFrame
   pub turns : List TraceEntry
 
--- The entries are of the events of the move. After these events of the link it writes the frame of what is sent in them, or of the link's own
--- event.
+-- The entries are of the events of the move. After these events of the link it writes the frame of what is sent in them, or of the
+-- link's own event.
 pub record HandsOutFrame {A : Type 0} (w : FrameSpec A) (own : Addr) (acts : List A) (it : MoveTrace) : Type 0 where
   pub over : map (λ t. t.event) it.turns ≡ events_among (station_events_of_move w own it.answered.move)
   pub hands : it.answered.handed ≡ text_in (as_medium w) own acts (station_events_of_move w own it.answered.move) it.turns
@@ -44,7 +44,8 @@ AllHandOut w own acts (it ∷ more) =
 
 -- Moves of a fresh device were answered so in turn. Each writes the frame of what is sent in entries of its own. The trace of all moves
 -- conforms, and each segment is read by its peer.
-pub record FramesConform {A : Type 0} (w : FrameSpec A) (pages : Pages) (served : ℕ → Bool) (own : Addr) (all : List AnsweredFrame) : Type 0 where
+pub record FramesConform {A : Type 0} (w : FrameSpec A) (pages : Pages) (served : ℕ → Bool)
+    (own : Addr) (all : List AnsweredFrame) : Type 0 where
   pub moves : List MoveTrace
   pub answered : map (λ it. it.answered) moves ≡ all
   pub each : AllHandOut w own [] moves

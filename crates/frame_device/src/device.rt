@@ -90,8 +90,8 @@ impl<A: App, M: Frames> FrameDevice<A, M> {
         }
     }
 
-    /// Makes the periodic call of a slot, due for each of the ten in turn twice a second; that of slot 0 begins a tick. Writes the frame that
-    /// is sent, if there is one. Returns its length.
+    /// Makes the periodic call of a slot, due for each of the ten in turn twice a second; that of slot 0 begins a tick. Writes the
+    /// frame that is sent, if there is one. Returns its length.
     pub fn periodic(&mut self, slot: usize, out: &mut [u8]) -> usize
         requires slot { slot < 10 }
         requires room { LARGEST_OUT ≤ length out.old }

@@ -33,8 +33,8 @@ pub trait Frames: Drop {
     /// It has this configuration, and these were its events so far.
     ghost did: { Self → Self.Config → List Self.Act → Type 0 };
 
-    /// Receives the frame of `len` bytes at the start of a buffer. A datagram stays in the buffer. For an event of its own it may write a frame
-    /// to the start.
+    /// Receives the frame of `len` bytes at the start of a buffer. A datagram stays in the buffer. For an event of its own it may write
+    /// a frame to the start.
     fn take(&mut self, buf: &mut [u8], len: usize) -> Decoded
         requires within { len ≤ length buf.old }
         requires room { LARGEST_OUT ≤ length buf.old }

@@ -6,26 +6,29 @@ ghost use Rattle.app_events.specs.Prelude.{IsAddr, IsPaged, IsU32, Pages, AppSpe
 ghost use Rattle.uip_node.specs.Prelude.{HasBytes};
 ghost use Rattle.uip_wire.specs.declared.addr.Addr.{Addr};
 ghost use Rattle.frame_device.specs.declared.device.FrameDevice.{FrameDevice as AnyDevice};
-ghost use Rattle.frame_device.specs.Prelude.{FramesGoHome, SentAsOnLine, AnsweredFrame, AnswersAllFrames, FromFresh, IsFreshFrameDevice, RepresentsStation, Writing, frames_sent, handed_of, frame_moves_of, station_after_moves, IsFrameOfBytes, FramesConform, KeepsU32};
+ghost use Rattle.frame_device.specs.Prelude.{FramesGoHome, SentAsOnLine, AnsweredFrame, AnswersAllFrames, FromFresh};
+ghost use Rattle.frame_device.specs.Prelude.{IsFreshFrameDevice, RepresentsStation, Writing, frames_sent, handed_of};
+ghost use Rattle.frame_device.specs.Prelude.{frame_moves_of, station_after_moves, IsFrameOfBytes, FramesConform, KeepsU32};
 ghost use Rattle.serve_loop.specs.Prelude.{initial_station};
 
 use crate::frames::Frames;
 use app_events::App;
 
 /// Holds for any calls of a fresh device in turn, and any values that are set between them. Each call writes exactly the frame that the
-/// initial node and its link send for its events, or none. The device represents the node and link after all moves. The configuration of its
-/// application stays.
+/// initial node and its link send for its events, or none. The device represents the node and link after all moves. The configuration
+/// of its application stays.
 pub fn frame_calls_are_exact<A: App, M: Frames>()
     ensures frames { FromFresh A.App M.Frames (λ k m gives numbers own all old new.
         handed_of all ≡ frames_sent m A.served (M.spec k) gives own (frame_moves_of all) (initial_station own numbers)) }
     ensures stands { FromFresh A.App M.Frames (λ k m gives numbers own all old new.
-        RepresentsStation A.App M.Frames k m own new (station_after_moves m A.served (M.spec k) gives own (frame_moves_of all) (initial_station own numbers))) }
+        RepresentsStation A.App M.Frames k m own new
+        (station_after_moves m A.served (M.spec k) gives own (frame_moves_of all) (initial_station own numbers))) }
     ensures kept { FromFresh A.App M.Frames (λ k m gives numbers own all old new. A.config new.node.shared ≡ A.config old.node.shared) }
 {}
 
-/// Holds for any frames of bytes and any other calls of a fresh device in turn, and any values that are set between them, if the text of its
-/// application is a page of bytes. Each call writes the frame of what is sent in trace entries of its own events, or of the link's own event,
-/// and the trace conforms.
+/// Holds for any frames of bytes and any other calls of a fresh device in turn, and any values that are set between them, if the text of
+/// its application is a page of bytes. Each call writes the frame of what is sent in trace entries of its own events, or of the link's own
+/// event, and the trace conforms.
 pub fn frame_calls_keep_the_promise<A: App, M: Frames>()
     ensures { (k : M.Config) (m : AppSpec) (pages : Pages) → IsPaged m pages → HasBytes pages → (gives : Writing) → KeepsU32 gives
         → (numbers : List ℕ) → All IsU32 numbers → (own : Addr) → IsAddr own

@@ -54,7 +54,8 @@ StandsIn g text a site part stage.Target = HearsTarget a.line part.delivered × 
 StandsIn g text a site part (stage.Reply found) = (name : List ℕ) × IsReplying g text a site name found part
 StandsIn g text a site part stage.Refused = (wanted part.delivered ≡ Refused) × SaysNothing part
 
-pub record PagesRepresent {F R : Type 0} (g : Giving F) (text : R → List ℕ) (a : Pages R) (site : SiteContent) (part : AppState) : Type 0 where
+pub record PagesRepresent {F R : Type 0} (g : Giving F) (text : R → List ℕ) (a : Pages R)
+    (site : SiteContent) (part : AppState) : Type 0 where
   pub polls : a.polls ≡ part.polls
   pub stands : StandsIn g text a site part a.stage
 

@@ -308,7 +308,8 @@ fn look_call<'s, 'c, B: Image, R: Record>(
     argument: &'s [u8],
 ) -> Look<'s, 'c, R, R::Function>
     requires inner { IsInner (reply_by (gives R.Function.calling R.output) R.text site.now found capture.now) next }
-    requires directive { EndsCall (reply_by (gives R.Function.calling R.output) R.text site.now found capture.now) next function argument.now }
+    requires directive { EndsCall (reply_by (gives R.Function.calling R.output) R.text site.now found capture.now)
+        next function argument.now }
     ensures sees { let reply = reply_by (gives R.Function.calling R.output) R.text site.now found capture.now in
         Sees R.text reply (Made function argument.now ∷ body_from reply next) result }
     ensures kept { KeepsAll (reply_by (gives R.Function.calling R.output) R.text site.now found capture.now) result.here }

@@ -1,6 +1,7 @@
 -- The reply to an echo request (RFC 792, page 14).
 -- [add: fate] ICMP: its check in the list of checks.
-use Rattle.std.specs.Prelude.{ℕ, ◌==◌, ◌||◌, not, nat_lt, if◌then◌else◌, List, ◌∷◌, ◌++◌, Option, None, Some, length, take, drop, slice_index, slice_range}
+use Rattle.std.specs.Prelude.{ℕ, ◌==◌, ◌||◌, not, nat_lt, if◌then◌else◌, List, ◌∷◌, ◌++◌, Option}
+use Rattle.std.specs.Prelude.{None, Some, length, take, drop, slice_index, slice_range}
 use Rattle.packet_buffer.specs.Prelude.{Buffer, datagram_in}
 use Rattle.uip_ipv4.specs.Prelude.{payload_of}
 use Rattle.uip_ipv4.specs.declared.head.IpHead.{IpHead}

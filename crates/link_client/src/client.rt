@@ -1,7 +1,8 @@
 //! The calls of a client (RFC 793).
 
 ghost use Rattle.std.specs.Prelude.{◌≡◌, ◌+◌, ◌≤◌, ◌++◌, ◌&&◌, ℕ, [], List, Some, is_some, length, slice_range};
-ghost use Rattle.link_client.specs.Calls.{Did, FitsRequest, KeepsAfter, can_abort, has_more_to_send, has_spoken, client_hears, is_opened, standing, client_hands};
+ghost use Rattle.link_client.specs.Calls.{Did, FitsRequest, KeepsAfter, can_abort, has_more_to_send};
+ghost use Rattle.link_client.specs.Calls.{has_spoken, client_hears, is_opened, standing, client_hands};
 ghost use Rattle.link_client.specs.Client.{client_aborts, client_again, client_closes, client_opens, idle, advertises_window};
 
 use crate::client_state::ClientState;

@@ -1,10 +1,12 @@
 //! The steps of a client on a segment of its server (RFC 793, section 3.9).
 
-ghost use Rattle.std.specs.Prelude.{◌≡◌, ◌+◌, ◌≤◌, ◌==◌, ◌&&◌, ◌||◌, ◌++◌, is_some, false, not, nat_lt, ℕ, [], List, true, if◌then◌else◌, slice_range, length};
+ghost use Rattle.std.specs.Prelude.{◌≡◌, ◌+◌, ◌≤◌, ◌==◌, ◌&&◌, ◌||◌, ◌++◌, is_some, false, not};
+ghost use Rattle.std.specs.Prelude.{nat_lt, ℕ, [], List, true, if◌then◌else◌, slice_range, length};
 ghost use Rattle.tcp_segment.specs.Prelude.{plain_of};
 ghost use Rattle.tcp_machine.specs.Prelude.{occupies_sequence_space, plain};
 ghost use Rattle.link_client.specs.Calls.{Did, DidAtText, FitsRequest, KeepsAfter, has_more_to_send, received_with, standing};
-ghost use Rattle.link_client.specs.Client.{after_fin, client_takes, fin_out, fin_sent, hears_ack, is_receiving, is_reset_by, may_finish, sends_next, takes_by, takes_in_order, takes_text, has_outstanding};
+ghost use Rattle.link_client.specs.Client.{after_fin, client_takes, fin_out, fin_sent, hears_ack, is_receiving, is_reset_by};
+ghost use Rattle.link_client.specs.Client.{may_finish, sends_next, takes_by, takes_in_order, takes_text, has_outstanding};
 
 use crate::client::Client;
 use crate::client_state::ClientState;

@@ -15,7 +15,8 @@ use Rattle.link_replay.specs.Web.{pieces_for, texts_for}
 abbrev pub HonestWebPeer : Type 0
 HonestWebPeer =
     (site : SiteContent) → IsLoaded site → (served : ℕ → Bool) (own : Addr) → IsAddr own → (hits : List ℕ) → All IsU32 hits
-    → (events : List Event) → All (IsOfLine own) events → (a : Asker) (p : Sockets) → wanted a.request ≢ NotYet → (incarnation : List TraceEntry)
+    → (events : List Event) → All (IsOfLine own) events → (a : Asker) (p : Sockets)
+    → wanted a.request ≢ NotYet → (incarnation : List TraceEntry)
     → AsksHonestly a p 19 (trace_of (web_spec (files_of site)) served events (initial_node own hits)) incarnation
     → texts_for a.mss (pieces_for (files_of site) (wanted a.request)) < bare_acks (exchanges_with p incarnation)
     → HasItsPage (pages_of (files_of site)) a (exchanges_with p incarnation)

@@ -7,7 +7,8 @@ use Rattle.tcp_machine.specs.Prelude.{Connection}
 use Rattle.tcp_segment.specs.Prelude.{PlainSegment}
 use Rattle.uip_node.specs.Prelude.{ticks_of, event_of, reply_bytes, Event, Reply, AbstractNode, NodeStep, step, IsSent, Represents, Node}
 use Rattle.link_client.specs.Prelude.{Sends}
-use Rattle.link_world.specs.Prelude.{does, fault_of, hands_over, bytes_by, sent_bytes, IsRead, IsSentBy, Content, Sent, Side, World, node_handles, node_stepped, numbered, posts, posts_of_client, posts_reply, retires}
+use Rattle.link_world.specs.Prelude.{does, fault_of, hands_over, bytes_by, sent_bytes, IsRead, IsSentBy, Content, Sent, Side}
+use Rattle.link_world.specs.Prelude.{World, node_handles, node_stepped, numbered, posts, posts_of_client, posts_reply, retires}
 use Rattle.link_world.specs.declared.act.Act.{Act}
 use Rattle.link_world.specs.declared.who.Who.{Who}
 use Rattle.link_replay.specs.Noting.{IsBefore, gone_pair, is_sent_again}

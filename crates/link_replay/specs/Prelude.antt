@@ -9,7 +9,8 @@ pub use Rattle.link_replay.specs.HonestPeers.{HonestWebPeer}
 pub use Rattle.link_replay.specs.Kinds.{column}
 pub use Rattle.link_replay.specs.Laws.{HonestReplay, LoadIsTold, OnlyFull, ReplayIsTold, WroteDue}
 pub use Rattle.link_replay.specs.Matched.{Matched}
-pub use Rattle.link_replay.specs.Moving.{Buries, ChangesAt, DoesAct, FromHere, HandsOver, KeepsLink, OfDatagram, OfLink, OfWorld, PassesToNode, PostsBytes, PostsOfClient, PostsReply, TellsStep}
+pub use Rattle.link_replay.specs.Moving.{Buries, ChangesAt, DoesAct, FromHere, HandsOver, KeepsLink, OfDatagram, OfLink}
+pub use Rattle.link_replay.specs.Moving.{OfWorld, PassesToNode, PostsBytes, PostsOfClient, PostsReply, TellsStep}
 pub use Rattle.link_replay.specs.Noting.{gone_pair, is_sent_again, lost, lost_at, or_pair, owner, owner_in, pair_at, resent, sockets_at}
 pub use Rattle.link_replay.specs.Opening.{AreFresh, IsFresh, opening_for, plan_from, planned, server}
 pub use Rattle.link_replay.specs.Outcome.{bad_schedule, outcome}
@@ -18,7 +19,8 @@ pub use Rattle.link_replay.specs.Plain.{CodeSent, CodeSide}
 pub use Rattle.link_replay.specs.Playing.{LinesEnd, PlaysIfPaged, PlaysSchedule, Reaches, Refuses, event_at, refusal_at}
 pub use Rattle.link_replay.specs.Promises.{KeepsPromises}
 pub use Rattle.link_replay.specs.Reaching.{ActSteps, ActsEnd, DamageLoses, IsAt, Stops, StopsAt}
-pub use Rattle.link_replay.specs.Report.{ShownSide, client_line, counts_line, datagram_line, digits_or_dash, kind_sent, line_of_datagram, lines_of_client, numbered_texts, report, segment_kind, side_shown, text_line}
+pub use Rattle.link_replay.specs.Report.{ShownSide, client_line, counts_line, datagram_line, digits_or_dash, kind_sent, line_of_datagram}
+pub use Rattle.link_replay.specs.Report.{lines_of_client, numbered_texts, report, segment_kind, side_shown, text_line}
 pub use Rattle.link_replay.specs.Represents.{Follows, IsLink, LinkRepresents, SentRepresents, SideRepresents, WorldRepresents}
 pub use Rattle.link_replay.specs.Shown.{AppendsShown, EndsReport, code_side_shown}
 pub use Rattle.link_replay.specs.State.{CodeWorld, Link, link_of}

@@ -10,7 +10,8 @@ use Rattle.script_lang.specs.Prelude.{length_at_most}
 use Rattle.site_image.specs.Prelude.{File}
 use Rattle.file_tree.specs.Prelude.{SiteContent, IsLoaded, files_of}
 use Rattle.link_client.specs.Prelude.{offered}
-use Rattle.link_world.specs.Prelude.{World, Side, is_clean, Planned, IsPlan, Start, initial_world, started, plays, OfLine, IsAct, IsServed, IsServedWhole}
+use Rattle.link_world.specs.Prelude.{World, Side, is_clean, Planned, IsPlan, Start, initial_world}
+use Rattle.link_world.specs.Prelude.{started, plays, OfLine, IsAct, IsServed, IsServedWhole}
 use Rattle.link_schedule.specs.declared.event.Event.{Event}
 use Rattle.link_schedule.specs.declared.event.Event.TheVariants.{Opens, Round}
 use Rattle.web_pages.specs.Prelude.{Wanted, wanted, NotYet, Refused, Name, Say, reply_pieces, Plain, Made, pages_of, web_spec}

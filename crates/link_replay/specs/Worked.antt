@@ -1,11 +1,13 @@
 -- Whole schedules of the web server, worked by hand: what each client has at the end.
 -- [add: counter] The lists of counters.
-use Rattle.std.specs.Prelude.{◌≡◌, ℕ, ◌+◌, List, [], ◌∷◌, ◌++◌, codes, flat_map, length, map, replicate, Option, Some, None, Result, Ok, Err}
+use Rattle.std.specs.Prelude.{◌≡◌, ℕ, ◌+◌, List, [], ◌∷◌, ◌++◌, codes, flat_map, length}
+use Rattle.std.specs.Prelude.{map, replicate, Option, Some, None, Result, Ok, Err}
 use Rattle.site_image.specs.Prelude.{File}
 use Rattle.uip_node.specs.Prelude.{ticks_of}
 use Rattle.link_client.specs.declared.client_state.ClientState.{ClientState}
 use Rattle.link_client.specs.declared.client_state.ClientState.TheVariants.{Opening, Opened, Closed, Reset}
-use Rattle.link_world.specs.Prelude.{World, Side, Sent, Content, numbered, OfSegment, OfPing, OfEcho, Planned, initial_world, plays, BadLine}
+use Rattle.link_world.specs.Prelude.{World, Side, Sent, Content, numbered, OfSegment, OfPing}
+use Rattle.link_world.specs.Prelude.{OfEcho, Planned, initial_world, plays, BadLine}
 use Rattle.link_schedule.specs.declared.event.Event.{Event}
 use Rattle.link_schedule.specs.declared.event.Event.TheVariants.{Opens, Closes, Ping, Give, Tick, Round, Lose}
 use Rattle.web_pages.specs.Prelude.{is_served, web_spec, file, ok, as_html, get, hello_site, hits_site}

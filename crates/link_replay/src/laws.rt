@@ -1,7 +1,8 @@
 //! The laws of the worlds of a replay; what the definitions of a report and of a summary give for worlds worked by hand; and
 //! how a replay ends if nothing disturbs it. Each law is the clause of a function without parameters.
 
-ghost use Rattle.link_replay.specs.Prelude.{AbortAndCloseApart, HitsAreCounted, HonestWebPeer, HonestReplay, LoadIsTold, OnlyFull, ReplayIsTold, DamageLoses, AreWorkedReports, AreWorkedSummaries};
+ghost use Rattle.link_replay.specs.Prelude.{AbortAndCloseApart, HitsAreCounted, HonestWebPeer, HonestReplay, LoadIsTold};
+ghost use Rattle.link_replay.specs.Prelude.{OnlyFull, ReplayIsTold, DamageLoses, AreWorkedReports, AreWorkedSummaries};
 
 /// The definition gives the reports that were worked by hand.
 #[tactic(auto, using(crate::proofs::WorkedReports::worked))]

@@ -48,7 +48,8 @@ impl Side {
     pub(crate) fn advertise_window(&mut self, window: u16)
         ensures fits { FitsRequest self.old.client self.old.request → FitsRequest self.new.client self.new.request }
         ensures setup { self.new.client.setup ≡ self.old.client.setup }
-        ensures step { (s : PlainSide) → SideRepresents self.old s → SideRepresents self.new (with_client s (advertises_window window s.client).client) }
+        ensures step { (s : PlainSide) → SideRepresents self.old s
+            → SideRepresents self.new (with_client s (advertises_window window s.client).client) }
     {
         self.client.set_window(window);
     }

@@ -7,7 +7,8 @@ ghost use Rattle.httpd.specs.contracts.httpd.HttpdApp.TheImpl.{ghosts};
 ghost use Rattle.web_pages.specs.Prelude.{is_served, no_hits, web_spec};
 ghost use Rattle.link_schedule.specs.Kept.{event_in_range};
 ghost use Rattle.link_world.specs.Prelude.{IsAct, OfLine, IsPlanned, Planned};
-ghost use Rattle.link_replay.specs.Prelude.{FromHere, plan_from, HasReached, ServesHonest, KeepsPromises, LinesEnd, PlaysIfPaged, PlaysSchedule, event_at, refusal_at, WorldRepresents};
+ghost use Rattle.link_replay.specs.Prelude.{FromHere, plan_from, HasReached, ServesHonest, KeepsPromises, LinesEnd};
+ghost use Rattle.link_replay.specs.Prelude.{PlaysIfPaged, PlaysSchedule, event_at, refusal_at, WorldRepresents};
 ghost use Rattle.link_world.specs.Schedule.{plays as played};
 
 use crate::seeing::see_loaded;

@@ -53,7 +53,8 @@ impl<A: App> WorldOf<A> {
         requires least { 1 ≤ number }
         requires most { number ≤ length self.now.link.sides }
         ensures shows { option_map (λ side. is_none side.first_stale) (numbered self.now.link.sides number) ≡ Some result }
-        ensures stands { (w : PlainWorld) (s : PlainSide) → WorldRepresents A.App self.now w → numbered w.sides number ≡ Some s → result ≡ is_clean s }
+        ensures stands { (w : PlainWorld) (s : PlainSide) → WorldRepresents A.App self.now w
+            → numbered w.sides number ≡ Some s → result ≡ is_clean s }
     {
         let found = self.side(number);
         found.first_stale.is_none()

@@ -3,7 +3,8 @@
 ghost use Rattle.std.specs.Prelude.{◌≡◌, ◌<◌, ◌≤◌, ◌+◌, ◌==◌, length, map, vec_len};
 ghost use Rattle.std.specs.List.{list_any, slice_split};
 ghost use Rattle.link_schedule.specs.Clients.{Plan};
-ghost use Rattle.link_schedule.specs.Reading.{is_passed_over as passed_over, meets as meeting, read_line as line_meant, read_words as words_meant};
+ghost use Rattle.link_schedule.specs.Reading.{is_passed_over as passed_over, meets as meeting};
+ghost use Rattle.link_schedule.specs.Reading.{read_line as line_meant, read_words as words_meant};
 ghost use Rattle.link_schedule.specs.Reading.{with_plan as client_meant, with_event as event_meant};
 ghost use Rattle.link_schedule.specs.Represents.{ClientGives, EventGives, LineGives, content_of, read_client as client_read};
 

@@ -4,7 +4,8 @@ use Rattle.std.specs.Option.{option_map_or, option_or}
 use Rattle.std.specs.Prelude.{ℕ, ◌+◌, Bool, true, false, List, [], ◌∷◌, length, Option, Some, None, Result, Ok, Err, if◌then◌else◌, nat_lt}
 use Rattle.app_events.specs.Prelude.{AppSpec}
 use Rattle.uip_node.specs.Prelude.{Event, tick, event_of}
-use Rattle.link_client.specs.Prelude.{AbstractClient, ClientStep, client_takes, client_opens, client_again, client_closes, client_aborts, advertises_window}
+use Rattle.link_client.specs.Prelude.{AbstractClient, ClientStep, client_takes, client_opens}
+use Rattle.link_client.specs.Prelude.{client_again, client_closes, client_aborts, advertises_window}
 use Rattle.link_client.specs.declared.client_state.ClientState.{ClientState}
 use Rattle.link_client.specs.declared.client_state.ClientState.TheVariants.{Idle}
 use Rattle.link_schedule.specs.Numbers.{◌>>=◌}

@@ -3,16 +3,19 @@
 -- [add: schedule-line] Line of a schedule: whether it is one of a plain schedule.
 -- [add: act] Act: `IsPlainAct` and `IsAct`.
 use Rattle.std.specs.List.{All, list_any}
-use Rattle.std.specs.Prelude.{◌≡◌, ℕ, suc, ◌+◌, ◌<◌, ◌≤◌, ◌⊎◌, ◌==◌, Bool, true, false, if◌then◌else◌, List, [], ◌∷◌, length, Option, Some, None, Ok, slice_get}
+use Rattle.std.specs.Prelude.{◌≡◌, ℕ, suc, ◌+◌, ◌<◌, ◌≤◌, ◌⊎◌, ◌==◌, Bool, true, false, if◌then◌else◌}
+use Rattle.std.specs.Prelude.{List, [], ◌∷◌, length, Option, Some, None, Ok, slice_get}
 use Rattle.uip_wire.specs.Prelude.{wrap}
 use Rattle.tcp_segment.specs.Prelude.{PlainSegment, has_rst, has_ack, segment_or_fate}
 use Rattle.app_events.specs.Prelude.{AppSpec, IsPrefixOf, Pages, IsPaged, IsByte, IsAddr}
 use Rattle.link_client.specs.Prelude.{AbstractClient, has_closed}
 use Rattle.app_events.specs.declared.state.State.{State}
 use Rattle.app_events.specs.declared.state.State.TheVariants.{Closed, FinWait2, TimeWait}
-use Rattle.tcp_machine.specs.Prelude.{Connection, is_live, count_of, tries_of, occupies_sequence_space, segment_of, limit_of, outstanding, grows_older}
+use Rattle.tcp_machine.specs.Prelude.{Connection, is_live, count_of, tries_of, occupies_sequence_space}
+use Rattle.tcp_machine.specs.Prelude.{segment_of, limit_of, outstanding, grows_older}
 use Rattle.uip_node.specs.Events.{Event as NodeEvent, Reply}
-use Rattle.uip_node.specs.Prelude.{IpRefused, IcmpRefused, TcpRefused, EchoAsked, Arrived, Overlong, Periodic, Silent, ticks_of, initial_number, ident_of, counters, raised_by, AbstractNode, step, serving, HasBytes, Alike, IsSteady}
+use Rattle.uip_node.specs.Prelude.{IpRefused, IcmpRefused, TcpRefused, EchoAsked, Arrived, Overlong, Periodic, Silent, ticks_of}
+use Rattle.uip_node.specs.Prelude.{initial_number, ident_of, counters, raised_by, AbstractNode, step, serving, HasBytes, Alike, IsSteady}
 use Rattle.uip_node.specs.Events.Reply.{Tcp as TcpReply}
 use Rattle.uip_ipv4.specs.Prelude.{IsHeadOf, payload_of}
 use Rattle.uip_ipv4.specs.declared.head.IpHead.{IpHead}
@@ -152,7 +155,8 @@ MarksRepeats w =
     (k : ℕ) (side : Side) → slice_get w.sides k ≡ Some side →
     (i j : ℕ) (e f : Sent) (id id' : ℕ) (s t : PlainSegment) → slice_get w.sent i ≡ Some e → slice_get w.sent j ≡ Some f → j < i
     → e.who ≡ FromNode (suc k) → f.who ≡ FromNode (suc k) →
-    e.content ≡ OfSegment id s → f.content ≡ OfSegment id' t → e.epoch ≡ f.epoch → s.seq ≡ t.seq → occupies_sequence_space s ≡ true → occupies_sequence_space t ≡ true →
+    e.content ≡ OfSegment id s → f.content ≡ OfSegment id' t → e.epoch ≡ f.epoch → s.seq ≡ t.seq →
+    occupies_sequence_space s ≡ true → occupies_sequence_space t ≡ true →
     (e.again ≡ true) × Alike t s
 
 -- The marks are exact in every world.

@@ -27,7 +27,8 @@ abbrev pub HonestLink : Type 0
 HonestLink =
     (m : AppSpec) (pages : Pages) → IsPaged m pages → (served : ℕ → Bool) (addr : Addr) (numbers : List ℕ) (p : Planned) →
     IsAddr addr → All IsU32 numbers → IsPlan (p ∷ []) → served p.setup.server_port.0 ≡ true →
-    (fine : AppState → Bool) (left : AppState → ℕ) (parts texts : ℕ) → AnswersIn m p.request (first_mss (offered p.setup.mss)) fine left texts →
+    (fine : AppState → Bool) (left : AppState → ℕ) (parts texts : ℕ) →
+    AnswersIn m p.request (first_mss (offered p.setup.mss)) fine left texts →
     0 < length p.request → length p.request ≤ parts * p.setup.seg → 2 * parts + 2 * texts + 7 ≤ 65535 →
     (w : World) × (plays m served (Opens 1 ∷ replicate (2 * parts + 2 * texts + 6) Round) (initial_world addr numbers (p ∷ [])) ≡ Ok w)
     × IsServedWhole pages w

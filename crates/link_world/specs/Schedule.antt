@@ -1,7 +1,8 @@
 -- The lines of a schedule as lists of acts, and the mark.
 -- [add: schedule-line] The acts that it is.
 use Rattle.std.specs.List.{range_with_len}
-use Rattle.std.specs.Prelude.{ℕ, ◌+◌, ◌-◌, ◌%◌, ◌==◌, List, [], ◌∷◌, length, map, filter, flat_map, replicate, reverse, max, Bool, Result, Ok}
+use Rattle.std.specs.Prelude.{ℕ, ◌+◌, ◌-◌, ◌%◌, ◌==◌, List, [], ◌∷◌, length, map, filter}
+use Rattle.std.specs.Prelude.{flat_map, replicate, reverse, max, Bool, Result, Ok}
 use Rattle.std.specs.Result.{result_map_both}
 use Rattle.app_events.specs.Prelude.{AppSpec}
 use Rattle.link_schedule.specs.Numbers.{◌>>=◌}
@@ -9,7 +10,8 @@ use Rattle.link_world.specs.World.{World}
 use Rattle.link_world.specs.Acts.{runs}
 use Rattle.link_world.specs.declared.act.Act.{Act}
 use Rattle.link_schedule.specs.declared.event.Event.{Event}
-use Rattle.link_schedule.specs.declared.event.Event.TheVariants.{Opens, Again, Closes, Aborts, Window, Ping, Give, Damage, Tick, Round, Twice, Reverse, Half, Lose}
+use Rattle.link_schedule.specs.declared.event.Event.TheVariants.{Opens, Again, Closes, Aborts, Window, Ping, Give}
+use Rattle.link_schedule.specs.declared.event.Event.TheVariants.{Damage, Tick, Round, Twice, Reverse, Half, Lose}
 use Rattle.link_world.specs.declared.step_fault.StepFault.{StepFault}
 
 -- the numbers of the datagrams sent above the mark

@@ -1,6 +1,7 @@
 -- The world of a replay: the node, the clients, and the list of all datagrams ever sent.
 use Rattle.std.specs.Option.{option_map_or, option_or}
-use Rattle.std.specs.Prelude.{ℕ, zero, suc, ◌+◌, ◌==◌, Bool, true, false, List, [], ◌∷◌, ◌++◌, length, map, Option, Some, None, if◌then◌else◌, is_none, slice_get, slice_set}
+use Rattle.std.specs.Prelude.{ℕ, zero, suc, ◌+◌, ◌==◌, Bool, true, false, List, [], ◌∷◌, ◌++◌, length}
+use Rattle.std.specs.Prelude.{map, Option, Some, None, if◌then◌else◌, is_none, slice_get, slice_set}
 use Rattle.tcp_segment.specs.Prelude.{PlainSegment}
 use Rattle.app_events.specs.Prelude.{Snapshot, AppSpec}
 use Rattle.tcp_machine.specs.Prelude.{Sockets, Connection, same_sockets}
@@ -89,7 +90,8 @@ epoch_of Pinger sides = 0
 -- one more datagram
 abbrev pub posts : World → Who → Bool → Content → World
 posts w who again content = record w {
-  sent = w.sent ++ record { who = who; tick = ticks_of w.node.history; epoch = epoch_of who w.sides; again = again; content = content } ∷ [];
+  sent =
+      w.sent ++ record { who = who; tick = ticks_of w.node.history; epoch = epoch_of who w.sides; again = again; content = content } ∷ [];
 }
 
 abbrev pub posts_reply : World → Option Reply → World

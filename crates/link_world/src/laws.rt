@@ -2,7 +2,10 @@
 //! page, and all of it if it saw a normal close. Each law is the clause of a function without parameters; docs/LINK_THEOREM.md
 //! describes the proof.
 
-ghost use Rattle.link_world.specs.Prelude.{CleanParts, HonestLink, BytesAreRead, SentToClients, PrefixAndWhole, SameBytes, SameBytesPlainly, AgainExactly, AgainExactlyPlainly, Tick, DamageIsLoss, DamageIsLossThere, OneSegment, LinesAreActs, CapturesFit, TextNumbers, TextsAreShort, AcknowledgedLater, EpochsAreFew, MarkIsLow, NoneIsEmpty, OneConnection, SidesAsPlanned};
+ghost use Rattle.link_world.specs.Prelude.{CleanParts, HonestLink, BytesAreRead, SentToClients, PrefixAndWhole, SameBytes};
+ghost use Rattle.link_world.specs.Prelude.{SameBytesPlainly, AgainExactly, AgainExactlyPlainly, Tick, DamageIsLoss, DamageIsLossThere};
+ghost use Rattle.link_world.specs.Prelude.{OneSegment, LinesAreActs, CapturesFit, TextNumbers, TextsAreShort, AcknowledgedLater};
+ghost use Rattle.link_world.specs.Prelude.{EpochsAreFew, MarkIsLow, NoneIsEmpty, OneConnection, SidesAsPlanned};
 
 /// A clean client has received a prefix of its page, and the whole page if it accepted the server's FIN in sequence.
 pub fn prefix_and_whole()

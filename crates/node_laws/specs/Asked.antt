@@ -29,7 +29,7 @@ abbrev pub IsSolicited : Exchange → List Exchange → Type 0
 IsSolicited x before = (s : PlainSegment) → x.output ≡ Some s →
     ((t : PlainSegment) × (x.received ≡ Some t) × (has_rst t.flags ≡ false)) ⊎ ((x.received ≡ None) × LivesOn before)
 
--- Every segment sent to this peer is solicited.
+-- Every segment sent on this pair of sockets is solicited.
 abbrev pub NothingUnsolicited : List Exchange → Type 0
 NothingUnsolicited exchanges =
     (later : List Exchange) (x : Exchange) (before : List Exchange) → exchanges ≡ later ++ (x ∷ before) → IsSolicited x before

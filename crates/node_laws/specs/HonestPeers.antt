@@ -2,7 +2,8 @@
 -- resets it. It has its whole page and a FIN after a stated number of its segments.
 use Rattle.std.specs.List.{All}
 use Rattle.std.specs.Option.{option_map_or}
-use Rattle.std.specs.Prelude.{◌≡◌, ℕ, ◌+◌, ◌<◌, ◌≤◌, ◌==◌, ◌&&◌, ◌⊎◌, Bool, true, false, not, List, [], ◌∷◌, ◌++◌, length, map, suc, drop, Some, None, is_some, if◌then◌else◌}
+use Rattle.std.specs.Prelude.{◌≡◌, ℕ, ◌+◌, ◌<◌, ◌≤◌, ◌==◌, ◌&&◌, ◌⊎◌, Bool, true, false, not, List, []}
+use Rattle.std.specs.Prelude.{◌∷◌, ◌++◌, length, map, suc, drop, Some, None, is_some, if◌then◌else◌}
 use Rattle.uip_wire.specs.Prelude.{wrap}
 use Rattle.uip_wire.specs.declared.addr.Addr.{Addr}
 use Rattle.tcp_segment.specs.Prelude.{PlainSegment, has_syn, has_fin, has_rst, has_ack}
@@ -89,7 +90,8 @@ IsHonest a (x ∷ y ∷ older) = (IsWaitedFor x ⊎ SendsNext a x (y ∷ older))
 -- the number of calls of a slot in this trace
 abbrev pub calls_of : ℕ → List TraceEntry → ℕ
 calls_of slot [] = 0
-calls_of slot (t ∷ trace) = if option_map_or (λ place. place == slot) (called_by t.event) false then calls_of slot trace + 1 else calls_of slot trace
+calls_of slot (t ∷ trace) =
+    if option_map_or (λ place. place == slot) (called_by t.event) false then calls_of slot trace + 1 else calls_of slot trace
 
 -- An incarnation of a cooperating peer in this trace. Its whole request is received before any slot is called more often than the patience
 -- of the application.
@@ -116,7 +118,8 @@ pub record HasItsPage (pages : Pages) (a : Asker) (incarnation : List Exchange) 
 abbrev pub HonestPeer : Type 0
 HonestPeer =
     (m : AppSpec) (pages : Pages) → IsPaged m pages → (served : ℕ → Bool) (own : Addr) → IsAddr own → (numbers : List ℕ) → All IsU32 numbers
-    → (events : List Event) → All (IsOfLine own) events → (a : Asker) (p : Sockets) (fine : ℕ → AppState → Bool) (left : AppState → ℕ) (texts patience : ℕ)
+    → (events : List Event) → All (IsOfLine own) events
+    → (a : Asker) (p : Sockets) (fine : ℕ → AppState → Bool) (left : AppState → ℕ) (texts patience : ℕ)
     → AnswersPolled m a.request a.mss fine left texts patience → (incarnation : List TraceEntry)
     → AsksHonestly a p patience (trace_of m served events (initial_node own numbers)) incarnation
     → texts < bare_acks (exchanges_with p incarnation) → HasItsPage pages a (exchanges_with p incarnation)

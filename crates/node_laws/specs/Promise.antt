@@ -88,14 +88,14 @@ abbrev pub sequence_length : PlainSegment → ℕ
 sequence_length s = length s.text + (if has_syn s.flags then 1 else 0) + (if has_fin s.flags then 1 else 0)
 
 -- Between the older exchange j and the newer exchange i, or in i itself, a received segment acknowledges exactly this one.
-pub record IsAcknowledged (incarnation : List Exchange) (i j : ℕ) (s : PlainSegment) : Type 0 where
+pub record IsAcknowledged (incarnation : List Exchange) (i j : ℕ) (t : PlainSegment) : Type 0 where
   pub place : ℕ
   pub from : i ≤ place
   pub to : place < j
   pub segment : PlainSegment
   pub received : received_at incarnation place ≡ Some segment
   pub acks : has_ack segment.flags ≡ true
-  pub exact : segment.ack ≡ wrap (s.seq + sequence_length s)
+  pub exact : segment.ack ≡ wrap (t.seq + sequence_length t)
 
 -- ---- the guarantee
 
@@ -139,7 +139,8 @@ pub data OutputModel : Type 0 where
 abbrev pub TextConforms : OutputModel → List Exchange → Account → Type 0
 TextConforms (Paged pages) incarnation a = IsPrefixOfPage pages a.accepted incarnation a × NumbersGiveOffsets incarnation a
 TextConforms (Interactive sessions) incarnation a =
-    ((delivered : List ℕ) × IsPrefixOf delivered a.accepted × IsPrefixOfPage sessions delivered incarnation a) × (length a.sent < 1073741824 → NumbersGiveOffsets incarnation a)
+    ((delivered : List ℕ) × IsPrefixOf delivered a.accepted × IsPrefixOfPage sessions delivered incarnation a)
+    × (length a.sent < 1073741824 → NumbersGiveOffsets incarnation a)
 TextConforms Free incarnation a = length a.sent < 1073741824 → NumbersGiveOffsets incarnation a
 
 -- A newer account of the same incarnation extends an older one.

@@ -41,4 +41,5 @@ receives iss incarnation (place ∷ places) got =
 
 -- The simplest receiver is one of those above.
 abbrev pub PlainestReceives : Type 0
-PlainestReceives = (iss : ℕ) (incarnation : List Exchange) (places : List ℕ) → IsReceived iss incarnation (receives iss incarnation places [])
+PlainestReceives = (iss : ℕ) (incarnation : List Exchange) (places : List ℕ)
+    → IsReceived iss incarnation (receives iss incarnation places [])

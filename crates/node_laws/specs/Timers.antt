@@ -20,7 +20,8 @@ pub record IsOutstanding (session : List Exchange) (s : PlainSegment) : Type 0 w
   pub place : ℕ
   pub output : sent_at session place ≡ Some s
   pub placed : occupies_sequence_space s ≡ true
-  pub unacked : (k : ℕ) (t : PlainSegment) → k < place → received_at session k ≡ Some t → has_ack t.flags ≡ true → t.ack ≡ wrap (s.seq + sequence_length s) → ⊥
+  pub unacked : (k : ℕ) (t : PlainSegment) → k < place → received_at session k ≡ Some t
+      → has_ack t.flags ≡ true → t.ack ≡ wrap (s.seq + sequence_length s) → ⊥
   pub unreset : All IsWithoutReset (take place session)
 
 -- At this trace entry the node retransmits the segment with the same flags and text, marked as a retransmission, or it sends a RST.

@@ -15,7 +15,8 @@ use Rattle.node_laws.specs.Turns.{trace_of}
 -- Every incarnation of every connection conforms to the output model of its port. Nothing is sent unsolicited, and connections open only
 -- at served ports. An echo reply answers the request of the same trace entry.
 pub record TraceConforms (model : ℕ → OutputModel) (served : ℕ → Bool) (trace : List TraceEntry) : Type 0 where
-  pub incarnations : (p : Sockets) (incarnation : List Exchange) → IsIncarnationIn (exchanges_with p trace) incarnation → IncarnationConforms (model p.own_port.0) incarnation
+  pub incarnations : (p : Sockets) (incarnation : List Exchange)
+      → IsIncarnationIn (exchanges_with p trace) incarnation → IncarnationConforms (model p.own_port.0) incarnation
   pub asked : (p : Sockets) → NothingUnsolicited (exchanges_with p trace)
   pub ports : (p : Sockets) → OpensServed served p (exchanges_with p trace)
   pub echoes : All IsEchoed trace
@@ -24,7 +25,8 @@ pub record TraceConforms (model : ℕ → OutputModel) (served : ℕ → Bool) (
 -- output and sends bytes. Each peer that checks as the node does reads its segments as they were meant.
 abbrev pub EveryTraceConforms : Type 0
 EveryTraceConforms =
-    (m : AppSpec) (model : ℕ → OutputModel) → IsSteady m → SendsBytes m → HasOutputModel m model → (served : ℕ → Bool) (own : Addr) → IsAddr own
+    (m : AppSpec) (model : ℕ → OutputModel) → IsSteady m → SendsBytes m → HasOutputModel m model
+    → (served : ℕ → Bool) (own : Addr) → IsAddr own
     → (numbers : List ℕ) → All IsU32 numbers → (events : List Event) → All (IsOfLine own) events
     → TraceConforms model served (trace_of m served events (initial_node own numbers))
     × All (IsReadByPeer own) (trace_of m served events (initial_node own numbers))

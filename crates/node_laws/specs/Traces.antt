@@ -1,21 +1,22 @@
--- What the node and one peer exchange, event by event, and the incarnations of their connections. Only segments on the line define these.
+-- What is exchanged on one pair of sockets, event by event, and the incarnations of its connections. Only segments on the line define
+-- these.
 use Rattle.std.specs.Option.{option_map_or}
 use Rattle.std.specs.Prelude.{◌≡◌, ◌&&◌, ℕ, Bool, true, false, List, [], ◌∷◌, ◌++◌, Option, Some, None, is_some, if◌then◌else◌, slice_get}
 use Rattle.tcp_segment.specs.Prelude.{PlainSegment, has_syn}
 use Rattle.tcp_machine.specs.Prelude.{Sockets, same_sockets}
 use Rattle.uip_node.specs.Prelude.{Event, Reply, Arrived, Tcp}
 
--- One event as it concerns one peer: the segment received from the peer and the segment sent to it.
+-- One event as it concerns one pair of sockets: the segment received on the pair and the segment sent on it.
 pub record Exchange : Type 0 where
   pub received : Option PlainSegment
   pub output : Option PlainSegment
 
--- the segment that an event brings from this peer
+-- the segment that an event brings on this pair of sockets
 abbrev pub received_from : Sockets → Event → Option PlainSegment
 received_from p (Arrived sockets s) = if same_sockets sockets p then Some s else None
 received_from p _ = None
 
--- the segment that a reply sends to this peer
+-- the segment that a reply sends on this pair
 abbrev pub sent_to : Sockets → Option Reply → Option PlainSegment
 sent_to p (Some (Tcp sockets id again s)) = if same_sockets sockets p then Some s else None
 sent_to p _ = None
@@ -38,12 +39,12 @@ abbrev pub replies_of : List TraceEntry → List Reply
 replies_of [] = []
 replies_of (t ∷ trace) = with_first t.sent (replies_of trace)
 
--- the exchanges of a trace with a peer, the newest first, prepended to those before
+-- the exchanges of a trace on a pair, the newest first, prepended to those before
 abbrev pub exchanges_onto : Sockets → List TraceEntry → List Exchange → List Exchange
 exchanges_onto p [] before = before
 exchanges_onto p (t ∷ trace) before = exchanges_onto p trace (exchange p t.event t.sent ∷ before)
 
--- the exchanges of a trace with a peer, the newest first
+-- the exchanges of a trace on a pair, the newest first
 abbrev pub exchanges_with : Sockets → List TraceEntry → List Exchange
 exchanges_with p trace = exchanges_onto p trace []
 

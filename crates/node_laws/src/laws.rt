@@ -1,6 +1,7 @@
 //! The laws of a node's trace.
 
-ghost use Rattle.node_laws.specs.Prelude.{HonestPeer, EveryTraceConforms, EveryTraceOfPagesConforms, PlainestReceives, RetransmitsOrResets, WindowsAreRespected, WrongLivesFall};
+ghost use Rattle.node_laws.specs.Prelude.{HonestPeer, EveryTraceConforms, EveryTraceOfPagesConforms, PlainestReceives};
+ghost use Rattle.node_laws.specs.Prelude.{RetransmitsOrResets, WindowsAreRespected, WrongLivesFall};
 
 /// Holds for any datagrams, from any peers, and every application that never retracts text. Every incarnation of every connection in a
 /// node's trace conforms to the output model of its port, and nothing is sent unsolicited.

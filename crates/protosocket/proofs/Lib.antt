@@ -1,3 +1,3 @@
-pub mod Cutting
+pub mod Cuts
 pub mod Pieces
 mod Rows

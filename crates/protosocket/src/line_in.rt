@@ -37,7 +37,7 @@ impl Model for LineIn {
 }
 
 /// Returns the part of the piece before the first stop, and whether there is a stop.
-#[tactic(auto, using(crate::proofs::Cutting::cut_there, crate::proofs::Cutting::is_there, crate::proofs::Cutting::not_there, crate::proofs::Cutting::not_cut))]
+#[tactic(auto, using(crate::proofs::Cuts::cut_at, crate::proofs::Cuts::found, crate::proofs::Cuts::missing, crate::proofs::Cuts::whole))]
 fn until_stop(piece: &[u8], stops: Stops) -> (&[u8], bool)
     ensures word { result.0.now ≡ word_of stops piece.now }
     ensures stop { result.1 ≡ list_any (is_stop stops) piece.now }
@@ -56,7 +56,7 @@ fn mark_in(word: &[u8]) -> Option<usize>
 }
 
 /// Returns the part of the word before the first `?`, and whether there is one.
-#[tactic(auto, using(crate::proofs::Cutting::cut_there, crate::proofs::Cutting::is_there, crate::proofs::Cutting::not_there, crate::proofs::Cutting::not_cut))]
+#[tactic(auto, using(crate::proofs::Cuts::cut_at, crate::proofs::Cuts::found, crate::proofs::Cuts::missing, crate::proofs::Cuts::whole))]
 fn until_mark(word: &[u8]) -> (&[u8], bool)
     ensures name { result.0.now ≡ before_first is_query_mark word.now }
     ensures mark { result.1 ≡ list_any is_query_mark word.now }

@@ -1,7 +1,8 @@
 //! Reads the pieces of a script, from any offset at which a piece can begin.
 
 ghost use Rattle.std.specs.Prelude.{◌≡◌, ◌+◌, ◌<◌, ◌≤◌, ◌↔◌, ◌∷◌, [], length, nat_lt, IsTrue, IsNone, IfSome, MatchOption};
-ghost use Rattle.script_lang.specs.Prelude.{IsPlace, is_directive_mark, before_cr, directive_within, piece_by, pieces_by, pieces_from, run_end, LiesWithin};
+ghost use Rattle.script_lang.specs.Prelude.{IsPlace, is_directive_mark, before_cr, directive_within};
+ghost use Rattle.script_lang.specs.Prelude.{piece_by, pieces_by, pieces_from, run_end, LiesWithin};
 
 use crate::calls::Calls;
 use crate::piece::{Found, FoundOf, PieceOf};

@@ -14,4 +14,5 @@ initial_station own numbers = record { acts = []; node = initial_node own number
 
 -- The output for the items of a line over a medium: what node and medium send for its station events, from the initial state.
 abbrev pub output_by : {A : Type 0} → MediumSpec A → AppSpec → (ℕ → Bool) → List ℕ → Addr → ℕ → List Item → List ℕ
-output_by spec m ports numbers own pace items = output m ports spec own (station_events_of_line spec own pace items) (initial_station own numbers)
+output_by spec m ports numbers own pace items =
+    output m ports spec own (station_events_of_line spec own pace items) (initial_station own numbers)

@@ -28,7 +28,8 @@ beat_on w pace number = if is_beat pace number then tick_on w else []
 abbrev pub station_events_after : {A : Type 0} → MediumSpec A → Addr → ℕ → List ℕ → List Item → List (StationEvent A)
 station_events_after w own pace before [] = []
 station_events_after w own pace before (Byte b ∷ items) =
-    map (station_event_by own) (w.decodes before b) ++ beat_on w pace (length before + 1) ++ station_events_after w own pace (before ++ b ∷ []) items
+    map (station_event_by own) (w.decodes before b) ++ beat_on w pace (length before + 1)
+    ++ station_events_after w own pace (before ++ b ∷ []) items
 station_events_after w own pace before (Quiet ∷ items) = tick_on w ++ station_events_after w own pace before items
 
 -- the station events of a line at the address `own` and this pace

@@ -40,13 +40,15 @@ station_after_all m served (d ∷ station_events) s = station_after_all m served
 -- the output for a list of events, in order
 abbrev pub output : {A : Type 0} → AppSpec → (ℕ → Bool) → MediumSpec A → Addr → List (StationEvent A) → Station A → List ℕ
 output m served w own [] s = []
-output m served w own (d ∷ station_events) s = output_of_event m served w own s d ++ output m served w own station_events (station_after m served s d)
+output m served w own (d ∷ station_events) s =
+    output_of_event m served w own s d ++ output m served w own station_events (station_after m served s d)
 
 -- Everything was written. From each station with the first property, the events lead to one with the second, and their output was
 -- appended.
 pub record AllSaid {A : Type 0} (m : AppSpec) (served : ℕ → Bool) (w : MediumSpec A) (own : Addr) (station_events : List (StationEvent A))
     (Before After : Station A → Type 0) (old new : Option (List ℕ)) : Type 0 where
-  pub each : (s : Station A) → Before s → After (station_after_all m served station_events s) × Appends old new (output m served w own station_events s)
+  pub each : (s : Station A) → Before s → After (station_after_all m served station_events s)
+      × Appends old new (output m served w own station_events s)
 
 -- The run stopped at one of the events. All output before it was appended, and then a prefix of the output of that event, which is not
 -- empty.
@@ -60,6 +62,7 @@ pub record StopsIn {A : Type 0} (m : AppSpec) (served : ℕ → Bool) (w : Mediu
   pub broke : BreaksOff (output m served w own done s) (output_of_event m served w own (station_after_all m served done s) last) old new
 
 -- The writing failed: the run from each station with the first property stopped at one with the second.
-pub record PrefixWritten {A : Type 0} (m : AppSpec) (served : ℕ → Bool) (w : MediumSpec A) (own : Addr) (station_events : List (StationEvent A))
+pub record PrefixWritten {A : Type 0} (m : AppSpec) (served : ℕ → Bool) (w : MediumSpec A)
+    (own : Addr) (station_events : List (StationEvent A))
     (Before After : Station A → Type 0) (old new : Option (List ℕ)) : Type 0 where
   pub each : (s : Station A) → Before s → StopsIn m served w own station_events After old new s

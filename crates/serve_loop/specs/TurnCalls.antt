@@ -24,7 +24,8 @@ abbrev pub PlaysStationEvents : {A S M : Type 0} (g : Ghosts A S) (h : MediumGho
 PlaysStationEvents g h station_events old new = (k : h.Config) → Plays g h k (station_events k) old new
 
 -- The writing of it fails.
-abbrev pub BreaksStationEvents : {A S M : Type 0} (g : Ghosts A S) (h : MediumGhosts M) → ((k : h.Config) → Addr → List (StationEvent h.Act))
+abbrev pub BreaksStationEvents : {A S M : Type 0} (g : Ghosts A S) (h : MediumGhosts M)
+    → ((k : h.Config) → Addr → List (StationEvent h.Act))
     → Place M A S → Place M A S → Type 0
 BreaksStationEvents g h station_events old new = (k : h.Config) → Breaks g h k (station_events k) old new
 

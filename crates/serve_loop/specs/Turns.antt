@@ -66,7 +66,8 @@ pub record HasTaken (pace : ℕ) (before : List ℕ) (fed : List ℕ → Type 0)
 abbrev pub WritesOn : {C : Type 0} → Turn ServeEnd → AppSpec → (ℕ → Bool) → MediumSpec C → Addr → List (StationEvent C)
     → (Station C → Type 0) → (Station C → Type 0) → Option (List ℕ) → Option (List ℕ) → Type 0
 WritesOn (turns.Took n) m served w own station_events Before After old new = AllSaid m served w own station_events Before After old new
-WritesOn (turns.Ended end) m served w own station_events Before After old new = SaidBy end m served w own station_events Before After old new
+WritesOn (turns.Ended end) m served w own station_events Before After old new =
+    SaidBy end m served w own station_events Before After old new
 
 -- The property holds if the link ended a turn, by its end or by a failure.
 abbrev pub IfLinkEnded : Turn ServeEnd → Type 0 → Type 0

@@ -5,7 +5,8 @@ ghost use Rattle.app_events.specs.Prelude.{AppSpec};
 ghost use Rattle.uip_edge.specs.declared.item.Item.{Item};
 ghost use Rattle.uip_node.specs.Prelude.{Event, run};
 ghost use Rattle.uip_wire.specs.declared.addr.Addr.{Addr as Address};
-ghost use Rattle.serve_loop.specs.Prelude.{OfNode, Station, station_after_all, output, BringsBytes, station_events_of_line, line_events, NoAct, slip_medium, text_of};
+ghost use Rattle.serve_loop.specs.Prelude.{OfNode, Station, station_after_all, output, BringsBytes};
+ghost use Rattle.serve_loop.specs.Prelude.{station_events_of_line, line_events, NoAct, slip_medium, text_of};
 
 /// The events of a serial line are events of the node alone. They lead to where the node's run leads, and the output is the SLIP texts of
 /// what this run sends.

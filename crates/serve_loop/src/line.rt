@@ -5,7 +5,8 @@ ghost use Rattle.std.specs.Io.KnownBytes.{Appends};
 ghost use Rattle.std.specs.List.{All};
 ghost use Rattle.app_events.specs.Prelude.{IsByte};
 ghost use Rattle.uip_edge.specs.Prelude.{HasCause, TurnFits, BreaksOff, line_view};
-ghost use Rattle.serve_loop.specs.Prelude.{BreaksBrought, BreaksBytes, PlaysBrought, PlaysBytes, TakesBytes, HasTaken, IfLinkEnded, Turns, place};
+ghost use Rattle.serve_loop.specs.Prelude.{BreaksBrought, BreaksBytes, PlaysBrought, PlaysBytes};
+ghost use Rattle.serve_loop.specs.Prelude.{TakesBytes, HasTaken, IfLinkEnded, Turns, place};
 
 use crate::node_calls::{take_datagram, tick};
 use crate::pacer::Pacer;

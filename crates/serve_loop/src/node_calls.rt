@@ -3,7 +3,8 @@
 ghost use Rattle.std.specs.Prelude.{◌≡◌, ◌<◌, ◌≤◌, [], ◌∷◌, List, length, Option, OnOk, OnErr};
 ghost use Rattle.uip_edge.specs.Prelude.{HasCause};
 ghost use Rattle.uip_node.specs.Prelude.{event_of, Periodic};
-ghost use Rattle.serve_loop.specs.Prelude.{OfNode, tick_on, BreaksStationEvents, BreaksSent, PlaysStationEvents, StaysFed, WritesSent, place};
+ghost use Rattle.serve_loop.specs.Prelude.{OfNode, tick_on, BreaksStationEvents, BreaksSent};
+ghost use Rattle.serve_loop.specs.Prelude.{PlaysStationEvents, StaysFed, WritesSent, place};
 
 use app_events::App;
 use line_medium::Medium;

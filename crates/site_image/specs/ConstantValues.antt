@@ -1,6 +1,7 @@
 -- The constants of the code that definitions name, and their values.
 use Rattle.std.specs.Prelude.{◌≡◌, ℕ}
-use Rattle.site_image.specs.declared.TheConstants.{LONGEST_IMAGE, MOST_FILES, LONGEST_NAME, LONGEST_KIND, PAGE_LIMIT, HEAD_LEN, KIND_LINE_LEN}
+use Rattle.site_image.specs.declared.TheConstants.{LONGEST_IMAGE, MOST_FILES, LONGEST_NAME}
+use Rattle.site_image.specs.declared.TheConstants.{LONGEST_KIND, PAGE_LIMIT, HEAD_LEN, KIND_LINE_LEN}
 
 pub record ConstantValues : Type 0 where
   pub longest_image : LONGEST_IMAGE ≡ 16777216

@@ -1,6 +1,7 @@
 -- The first fault of an image, and the files that an image without fault represents. Reading the image from its start
 -- determines both: the whole, then entry after entry, then what follows the last one, then script after script.
-use Rattle.std.specs.Prelude.{ℕ, zero, suc, ◌+◌, Bool, ⊤, List, [], ◌∷◌, ◌++◌, length, take, drop, nat_eq, nat_lt, if◌then◌else◌, Option, None, Some, Result, Ok, Err}
+use Rattle.std.specs.Prelude.{ℕ, zero, suc, ◌+◌, Bool, ⊤, List, [], ◌∷◌, ◌++◌, length, take, drop}
+use Rattle.std.specs.Prelude.{nat_eq, nat_lt, if◌then◌else◌, Option, None, Some, Result, Ok, Err}
 use Rattle.std.specs.Option.{option_or}
 use Rattle.std.specs.List.{starts_with}
 use Rattle.std.specs.Int.{w16, from_be_bytes}

@@ -1,5 +1,6 @@
 -- The parts of an entry, from the start of what is left of an image, and what is wrong with each.
-use Rattle.std.specs.Prelude.{ℕ, ◌+◌, ◌==◌, Bool, ◌||◌, not, List, [], ◌∷◌, length, take, drop, nat_lt, slice_index, if◌then◌else◌, Option, None, Some}
+use Rattle.std.specs.Prelude.{ℕ, ◌+◌, ◌==◌, Bool, ◌||◌, not, List, [], ◌∷◌, length, take}
+use Rattle.std.specs.Prelude.{drop, nat_lt, slice_index, if◌then◌else◌, Option, None, Some}
 use Rattle.std.specs.Int.{w32, from_be_bytes}
 use Rattle.site_image.specs.declared.TheConstants.{LONGEST_NAME, LONGEST_KIND}
 use Rattle.site_image.specs.declared.site_error.SiteWhy.{SiteWhy}

@@ -1,7 +1,8 @@
 //! The parts of an entry, each after its length.
 
 ghost use Rattle.std.specs.Prelude.{◌≡◌, ◌+◌, ◌≤◌, ◌<◌, drop, length, IfOk, IfErr, Some, None};
-ghost use Rattle.site_image.specs.Prelude.{name_fault, kind_fault, content_fault, byte_length, long_length, text, after_text, kind_given, after_kind, content, after_content, IsPart};
+ghost use Rattle.site_image.specs.Prelude.{name_fault, kind_fault, content_fault, byte_length, long_length, text};
+ghost use Rattle.site_image.specs.Prelude.{after_text, kind_given, after_kind, content, after_content, IsPart};
 ghost use Rattle.site_image.specs.declared.version.Version.TheVariants.{Two};
 
 use crate::names::{is_kind, is_name};

@@ -9,7 +9,8 @@ use Rattle.app_events.specs.Prelude.{AppState, After, AppSpec}
 use Rattle.app_events.specs.declared.ending.Ending.{Ending}
 use Rattle.app_events.specs.declared.ending.Ending.TheVariants.{Reset}
 use Rattle.app_events.specs.declared.state.State.{State}
-use Rattle.app_events.specs.declared.state.State.TheVariants.{SynRcvd, Established, CloseWait, FinWait1, FinWait2, Closing, TimeWait, LastAck}
+use Rattle.app_events.specs.declared.state.State.TheVariants.{SynRcvd, Established, CloseWait, FinWait1}
+use Rattle.app_events.specs.declared.state.State.TheVariants.{FinWait2, Closing, TimeWait, LastAck}
 use Rattle.tcp_machine.specs.Connection.{Sockets, Connection, closed, snd_una, rcv_nxt}
 use Rattle.tcp_machine.specs.Segments.{occupies_sequence_space}
 use Rattle.tcp_machine.specs.Ask.{Outcome, leaves, closes}

@@ -8,7 +8,8 @@ use Rattle.rexmit_timer.specs.declared.timer.TheConstants.{SYN_ACK_LIMIT, TEXT_L
 use Rattle.app_events.specs.Prelude.{After, AppSpec}
 use Rattle.app_events.specs.declared.ending.Ending.TheVariants.{TimedOut}
 use Rattle.app_events.specs.declared.state.State.{State}
-use Rattle.app_events.specs.declared.state.State.TheVariants.{Closed, SynRcvd, Established, CloseWait, FinWait1, FinWait2, Closing, TimeWait, LastAck}
+use Rattle.app_events.specs.declared.state.State.TheVariants.{Closed, SynRcvd, Established, CloseWait}
+use Rattle.app_events.specs.declared.state.State.TheVariants.{FinWait1, FinWait2, Closing, TimeWait, LastAck}
 use Rattle.tcp_machine.specs.Connection.{Connection}
 use Rattle.tcp_machine.specs.Ask.{Outcome, leaves, closes}
 use Rattle.tcp_machine.specs.OnSegment.{told_end, with_part}

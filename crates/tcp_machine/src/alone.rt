@@ -100,7 +100,8 @@ pub(crate) fn in_closing<A>(conn: &mut Conn<A>, acked: bool) -> Step
     requires state { conn.old.state ≡ State.Closing }
     requires sound { HasSoundNumbers conn.old }
     ensures sound { HasSoundNumbers conn.new }
-    ensures takes { (m : AppSpec) (s : PlainSegment) → RefinesAlone (λ a ns. by_state m State.Closing acked a ns s) conn.old conn.new result }
+    ensures takes { (m : AppSpec) (s : PlainSegment)
+        → RefinesAlone (λ a ns. by_state m State.Closing acked a ns s) conn.old conn.new result }
 {
     if acked {
         clear_outstanding(conn);
@@ -114,7 +115,8 @@ pub(crate) fn in_last_ack<A>(conn: &mut Conn<A>, acked: bool) -> Step
     requires state { conn.old.state ≡ State.LastAck }
     requires sound { HasSoundNumbers conn.old }
     ensures sound { is_live conn.new.state ≡ true → HasSoundNumbers conn.new }
-    ensures takes { (m : AppSpec) (s : PlainSegment) → RefinesAlone (λ a ns. by_state m State.LastAck acked a ns s) conn.old conn.new result }
+    ensures takes { (m : AppSpec) (s : PlainSegment)
+        → RefinesAlone (λ a ns. by_state m State.LastAck acked a ns s) conn.old conn.new result }
 {
     if acked {
         clear_outstanding(conn);

@@ -3,7 +3,8 @@
 ghost use Rattle.std.specs.Prelude.{◌≡◌, false};
 ghost use Rattle.app_events.specs.Prelude.{AppState};
 ghost use Rattle.app_events.specs.declared.now.Now.{Now};
-ghost use Rattle.tcp_machine.specs.Prelude.{ask, ask_prepared, does_as_wanted, idles, prepared, after_own_fin, Connection, CanBeAsked, IsAnswer, SameNumbers, SameSockets, StepFits, IsSound, Refines, ConnRepresents};
+ghost use Rattle.tcp_machine.specs.Prelude.{ask, ask_prepared, does_as_wanted, idles, prepared, after_own_fin, Connection, CanBeAsked};
+ghost use Rattle.tcp_machine.specs.Prelude.{IsAnswer, SameNumbers, SameSockets, StepFits, IsSound, Refines, ConnRepresents};
 
 use crate::moves::send;
 use crate::step::Step;
@@ -30,7 +31,8 @@ pub fn prepare<A: App>(conn: &mut Conn<A>, shared: &A::Shared, now: &Now)
     ensures place { SameSockets conn.old conn.new }
     ensures same_numbers { SameNumbers conn.old conn.new }
     ensures conn { (a : Connection) → ConnRepresents A.App (A.config shared.now) conn.old a
-        → ConnRepresents A.App (A.config shared.now) conn.new (prepared (A.app_spec (A.config shared.now)) now.now a (A.numbers shared.now)) }
+        → ConnRepresents A.App (A.config shared.now) conn.new
+        (prepared (A.app_spec (A.config shared.now)) now.now a (A.numbers shared.now)) }
 {
     conn.app.prepare(shared, now);
 }

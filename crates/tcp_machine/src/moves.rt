@@ -1,7 +1,8 @@
 //! Transitions: how the sequence numbers, the window, the timer and the state change.
 
 ghost use Rattle.std.specs.Prelude.{◌≡◌, ◌<◌, ◌≤◌, true, false};
-ghost use Rattle.tcp_machine.specs.Prelude.{Connection, is_resting, SameNumbers, rests, takes, in_state, with_window, limit_of, IsLike, IsRested, KeepsAll, KeepsAllButMss, KeepsAllButTimer};
+ghost use Rattle.tcp_machine.specs.Prelude.{Connection, is_resting, SameNumbers, rests, takes, in_state, with_window};
+ghost use Rattle.tcp_machine.specs.Prelude.{limit_of, IsLike, IsRested, KeepsAll, KeepsAllButMss, KeepsAllButTimer};
 
 use app_events::State;
 use rexmit_timer::Timer;

@@ -3,7 +3,9 @@
 ghost use Rattle.std.specs.Prelude.{◌≡◌, ◌+◌, ◌<◌, ◌≤◌, ◌&&◌, ◌==◌, if◌then◌else◌, not, nat_lt, true, length};
 ghost use Rattle.uip_wire.specs.Prelude.{wrap};
 ghost use Rattle.tcp_segment.specs.Prelude.{PlainSegment, has_ack};
-ghost use Rattle.tcp_machine.specs.Prelude.{Connection, is_live, SameNumbers, SameSockets, connects, peer_closes, stays_established, in_established, by_state, on_segment, told_end, occupies_sequence_space, IsSound, Refines, ConnRepresents, is_open, plain};
+ghost use Rattle.tcp_machine.specs.Prelude.{Connection, is_live, SameNumbers, SameSockets, connects, peer_closes};
+ghost use Rattle.tcp_machine.specs.Prelude.{stays_established, in_established, by_state, on_segment, told_end};
+ghost use Rattle.tcp_machine.specs.Prelude.{occupies_sequence_space, IsSound, Refines, ConnRepresents, is_open, plain};
 
 use crate::alone::{in_closing, in_fin_wait_1, in_fin_wait_2, in_last_ack};
 use crate::moves::{advance_rcv_nxt, clear_outstanding, enter, set_window};
@@ -88,7 +90,8 @@ fn stays_established<A: App>(
     requires state { conn.old.state ≡ State.Established }
     requires sound { IsSound A.App (A.config shared.old) conn.old }
     requires short { length piece.now ≤ 1500 }
-    ensures { Refines A.App (λ m a ns. stays_established m acked a ns (plain seg.now piece.now)) conn.old shared.old conn.new shared.new result }
+    ensures { Refines A.App (λ m a ns. stays_established m acked a ns (plain seg.now piece.now))
+        conn.old shared.old conn.new shared.new result }
 {
     let count = piece.len() as u32;
     receive_text(conn, shared, seg.window, piece, count);
@@ -114,7 +117,8 @@ fn in_established<A: App>(
     requires state { conn.old.state ≡ State.Established }
     requires sound { IsSound A.App (A.config shared.old) conn.old }
     requires short { length piece.now ≤ 1500 }
-    ensures { Refines A.App (λ m a ns. in_established m acked a ns (plain seg.now piece.now)) conn.old shared.old conn.new shared.new result }
+    ensures { Refines A.App (λ m a ns. in_established m acked a ns (plain seg.now piece.now))
+        conn.old shared.old conn.new shared.new result }
 {
     if seg.has_fin() {
         peer_closes(conn, shared, seg, piece)

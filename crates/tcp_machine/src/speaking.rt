@@ -2,7 +2,8 @@
 
 ghost use Rattle.std.specs.Prelude.{◌≡◌, true};
 ghost use Rattle.app_events.specs.Prelude.{AppState, IsRepresented};
-ghost use Rattle.tcp_machine.specs.Prelude.{Connection, SameSockets, hears, rests, takes, with_part, with_window, IsSound, ConnRepresents, is_open};
+ghost use Rattle.tcp_machine.specs.Prelude.{Connection, SameSockets, hears, rests, takes, with_part};
+ghost use Rattle.tcp_machine.specs.Prelude.{with_window, IsSound, ConnRepresents, is_open};
 
 use crate::moves::{advance_rcv_nxt, clear_outstanding, set_window};
 use app_events::{App, State};

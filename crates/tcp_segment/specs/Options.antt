@@ -1,5 +1,6 @@
 -- The option for the maximum segment size in a received segment (RFC 793, section 3.1; RFC 1122, section 4.2.2.5).
-use Rattle.std.specs.Prelude.{ℕ, zero, suc, ◌-◌, ◌==◌, ◌&&◌, nat_le, if◌then◌else◌, Bool, List, [], ◌∷◌, length, slice_index, Option, Some, None, option_and_then}
+use Rattle.std.specs.Prelude.{ℕ, zero, suc, ◌-◌, ◌==◌, ◌&&◌, nat_le, if◌then◌else◌, Bool, List}
+use Rattle.std.specs.Prelude.{[], ◌∷◌, length, slice_index, Option, Some, None, option_and_then}
 use Rattle.uip_wire.specs.Prelude.{word_at}
 
 -- An option of this kind, followed by these bytes, is the one for the maximum segment size: kind 2, length 4, and within the header.

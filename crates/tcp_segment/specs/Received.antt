@@ -1,6 +1,7 @@
 -- The fields of a received segment, or why it is dropped (RFC 793, section 3.1).
 -- [add: fate] TCP: its check in the list of checks.
-use Rattle.std.specs.Prelude.{ℕ, ◌+◌, ◌-◌, ◌*◌, ◌/◌, ◌%◌, ◌==◌, ◌||◌, nat_lt, not, if◌then◌else◌, List, ◌++◌, length, slice_index, slice_range, Result, Ok, Err}
+use Rattle.std.specs.Prelude.{ℕ, ◌+◌, ◌-◌, ◌*◌, ◌/◌, ◌%◌, ◌==◌, ◌||◌, nat_lt, not, if◌then◌else◌}
+use Rattle.std.specs.Prelude.{List, ◌++◌, length, slice_index, slice_range, Result, Ok, Err}
 use Rattle.uip_wire.specs.Prelude.{checksum_of, word_at, long_at}
 use Rattle.uip_ipv4.specs.Prelude.{payload_of}
 use Rattle.uip_ipv4.specs.declared.head.IpHead.{IpHead}

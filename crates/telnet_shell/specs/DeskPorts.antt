@@ -45,7 +45,9 @@ pub record IsAtShell (a : Desk) (part : AppState) : Type 0 where
 pub record IsTwoApplications : Type 0 where
   pub web : (files : List File) (part : AppState) → part.port ≡ WEB_PORT → DoesAs (desk_spec files) (web_spec files) part
   pub shell : (files : List File) (part : AppState) → part.port ≡ TELNET_PORT → DoesAs (desk_spec files) shell_spec part
-  pub web_value : (a : Desk) (site : SiteContent) (part : AppState) → part.port ≡ WEB_PORT → DeskRepresents a site part → IsAtWeb a site part
-  pub shell_value : (a : Desk) (site : SiteContent) (part : AppState) → part.port ≡ TELNET_PORT → DeskRepresents a site part → IsAtShell a part
+  pub web_value : (a : Desk) (site : SiteContent) (part : AppState) → part.port ≡ WEB_PORT
+      → DeskRepresents a site part → IsAtWeb a site part
+  pub shell_value : (a : Desk) (site : SiteContent) (part : AppState) → part.port ≡ TELNET_PORT
+      → DeskRepresents a site part → IsAtShell a part
   -- no call changes the port
   pub port : (files : List File) → KeepsPort (desk_spec files)

@@ -1,5 +1,6 @@
 -- The rest of the output of a queue of commands; a capture is held for the first, or is still to come.
-use Rattle.std.specs.Prelude.{◌≡◌, ℕ, ◌+◌, ◌<◌, ◌&&◌, Bool, true, false, not, List, [], ◌∷◌, ◌++◌, length, nat_le, if◌then◌else◌, Option, None, Some}
+use Rattle.std.specs.Prelude.{◌≡◌, ℕ, ◌+◌, ◌<◌, ◌&&◌, Bool, true, false, not, List, [], ◌∷◌}
+use Rattle.std.specs.Prelude.{◌++◌, length, nat_le, if◌then◌else◌, Option, None, Some}
 use Rattle.script_lang.specs.declared.function.Function.{Function}
 use Rattle.generators.specs.Prelude.{capture_of}
 use Rattle.generators.specs.declared.capture.Capture.{Capture}

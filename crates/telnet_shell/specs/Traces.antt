@@ -29,7 +29,8 @@ pub record DeliversPrefix (p q : AppState) (piece : List ℕ) : Type 0 where
 pub record KeepsSession : Type 0 where
   -- more bytes and more snapshots only extend a session, and leave a complete one unchanged
   pub grows : (q more : List ℕ) (k later : List Snapshot) → IsPrefixOf (sessions.text q k) (sessions.text (q ++ more) (k ++ later))
-  pub stays : (q more : List ℕ) (k later : List Snapshot) → sessions.whole q k ≡ true → sessions.text (q ++ more) (k ++ later) ≡ sessions.text q k
+  pub stays : (q more : List ℕ) (k later : List Snapshot) → sessions.whole q k ≡ true
+      → sessions.text (q ++ more) (k ++ later) ≡ sessions.text q k
   pub stays_whole : (q more : List ℕ) (k later : List Snapshot) → sessions.whole q k ≡ true → sessions.whole (q ++ more) (k ++ later) ≡ true
   -- the output is the session of the delivered bytes and the captured snapshots
   pub output : (p : AppState) → shell_spec.output p ≡ sessions.text p.delivered p.captures

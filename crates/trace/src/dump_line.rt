@@ -6,7 +6,8 @@ ghost use Rattle.uip_ipv4.specs.Prelude.{IsHeadOf, head_or_fate};
 ghost use Rattle.uip_wire.specs.Prelude.{address_at};
 ghost use Rattle.icmp_echo.specs.Prelude.{echo_fate};
 ghost use Rattle.tcp_segment.specs.Prelude.{flag_letters};
-ghost use Rattle.trace.specs.Prelude.{datagram_words, dump_line, icmp_words, ip_word, letters_or_dash, numbers_text, payload_words, segment_words, socket_text, tcp_words};
+ghost use Rattle.trace.specs.Prelude.{datagram_words, dump_line, icmp_words, ip_word, letters_or_dash};
+ghost use Rattle.trace.specs.Prelude.{numbers_text, payload_words, segment_words, socket_text, tcp_words};
 
 use crate::area::Area;
 use tcp_segment::{Segment, TcpFate, check as check_segment};

@@ -2,7 +2,8 @@
 
 ghost use Rattle.std.specs.Prelude.{◌≡◌, List, ℕ};
 ghost use Rattle.uip_edge.specs.declared.item.Item.{Item};
-ghost use Rattle.trace.specs.Prelude.{HoldsJust, IsReadAs, Reading, capture_file, datagrams_on, IsSurely, LinesComeBack, SlipEndsBy, ConstantValues};
+ghost use Rattle.trace.specs.Prelude.{HoldsJust, IsReadAs, Reading, capture_file, datagrams_on};
+ghost use Rattle.trace.specs.Prelude.{IsSurely, LinesComeBack, SlipEndsBy, ConstantValues};
 ghost use Rattle.trace.specs.declared.slip_end.SlipEnd.{SlipEnd as AnyEnd};
 ghost use Rattle.uip_edge.specs.Prelude.{LineView, LineUnfailed};
 

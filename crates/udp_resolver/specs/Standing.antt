@@ -71,7 +71,8 @@ AsksOn asked items more run old new (turns.Ended ends.WriteFault) = OutBroke ask
 AsksOn asked items more run old new (turns.Ended ends.Budget) = ⊥
 
 -- A turn after these items.
-pub record Turns (asked : List Question) (items : List Item) (run : Run) (old new : LineView) (room : ℕ) (turn : Turn ServeEnd) : Type 0 where
+pub record Turns (asked : List Question) (items : List Item) (run : Run) (old new : LineView)
+    (room : ℕ) (turn : Turn ServeEnd) : Type 0 where
   pub more : List Item
   pub consumed : Consumes old.link.coming new.link.coming more
   pub within : length more ≤ room

@@ -1,6 +1,7 @@
 //! The laws of every run of the resolver.
 
-ghost use Rattle.udp_resolver.specs.Prelude.{ConstantValues, EventsAreOfLine, AddressesAreFromReplies, BudgetIsTold, DryIsTold, SettledIsTold};
+ghost use Rattle.udp_resolver.specs.Prelude.{ConstantValues, EventsAreOfLine, AddressesAreFromReplies};
+ghost use Rattle.udp_resolver.specs.Prelude.{BudgetIsTold, DryIsTold, SettledIsTold};
 
 /// An address is reported for a name only from a received datagram: the reply to the question for this name, with an answer record of this
 /// address.

@@ -8,7 +8,8 @@ use Rattle.frame_device.specs.Prelude.{ChangesNumbers}
 use Rattle.frame_device.specs.contracts.ether.EthernetFrames.TheImpl.{ghosts as ether_link}
 use Rattle.uip_device.specs.contracts.value_pages.ValuePagesApp.TheImpl.{ghosts}
 use Rattle.uip_wire.specs.declared.addr.Addr.{Addr}
-use Rattle.uip_device.specs.Prelude.{Call, DoesNothing, Answered, Answers, Changes, left_text_of, Move, Gives, Makes, IsFreshWebDevice, WebDevice, write_value}
+use Rattle.uip_device.specs.Prelude.{Call, DoesNothing, Answered, Answers, Changes, left_text_of}
+use Rattle.uip_device.specs.Prelude.{Move, Gives, Makes, IsFreshWebDevice, WebDevice, write_value}
 use Rattle.uip_c.specs.Kept.{IsLine, Kept, NoDevice, OnEther, OnLine}
 use Rattle.uip_c.specs.declared.status.UipResult.{UipResult}
 use Rattle.uip_c.specs.declared.status.TheConstants.{BAD_ARGUMENT, OK, NO_DEVICE, OUTPUT_PENDING, WRONG_LINK}

@@ -11,8 +11,10 @@ ghost use Rattle.uip_edge.specs.declared.item.Item.{Item};
 ghost use Rattle.uip_wire.specs.declared.addr.Addr.{Addr};
 ghost use Rattle.ethernet_arp.specs.declared.mac.Mac.{Mac};
 ghost use Rattle.frame_device.specs.Prelude.{ether_frames, AnsweredFrame, handed_of, frame_moves_of, FramesConform, IsFrameOfBytes};
-ghost use Rattle.uip_device.specs.Prelude.{Answered, datagrams_handed, left_text_of, line_handed, moves_of, IsOfBytes, CallsConform, Bring, DeviceRepresents, value_pages, web_datagrams_sent, web_line_sent, web_node_after, web_output};
-ghost use Rattle.uip_c.specs.Prelude.{EtherRepresents, host_at, web_frames_sent, web_station_after, DidFrames, OfFrameMoves, OpensEtherAs, DidAll, OfMoves, OpensAs, lefts_in, IsEther, IsLine, Kept, ConstantValues};
+ghost use Rattle.uip_device.specs.Prelude.{Answered, datagrams_handed, left_text_of, line_handed, moves_of, IsOfBytes, CallsConform, Bring};
+ghost use Rattle.uip_device.specs.Prelude.{DeviceRepresents, value_pages, web_datagrams_sent, web_line_sent, web_node_after, web_output};
+ghost use Rattle.uip_c.specs.Prelude.{EtherRepresents, host_at, web_frames_sent, web_station_after, DidFrames, OfFrameMoves};
+ghost use Rattle.uip_c.specs.Prelude.{OpensEtherAs, DidAll, OfMoves, OpensAs, lefts_in, IsEther, IsLine, Kept, ConstantValues};
 
 /// Holds for any sequence of calls on a handle that was just opened, over either kind of link, successful or refused, with any values set
 /// between. The serial output, with what is pending, is the SLIP text of what the initial node sends over the input of the calls. Each call

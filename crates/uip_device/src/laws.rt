@@ -3,7 +3,8 @@
 ghost use Rattle.std.specs.Prelude.{◌≡◌, ◌++◌, []};
 ghost use Rattle.uip_node.specs.Prelude.{initial_node};
 ghost use Rattle.serve_loop.specs.Prelude.{IsNode};
-ghost use Rattle.uip_device.specs.Prelude.{EveryCallConforms, EveryLineIsServed, FromFresh, datagrams_handed, left_text_of, line_handed, moves_of, ConstantValues, datagrams_sent, line_sent, node_reached};
+ghost use Rattle.uip_device.specs.Prelude.{EveryCallConforms, EveryLineIsServed, FromFresh, datagrams_handed, left_text_of};
+ghost use Rattle.uip_device.specs.Prelude.{line_handed, moves_of, ConstantValues, datagrams_sent, line_sent, node_reached};
 
 use app_events::App;
 

@@ -28,7 +28,8 @@ pub record AnswersIn (m : AppSpec) (request : List ℕ) (mss : ℕ) (fine : AppS
       GoesOnBy m request mss fine left (m.prepare numbers p now) (left p) (m.want numbers (m.prepare numbers p now))
 
 -- The same if the application is polled up to `patience` times while it has nothing to send.
-pub record AnswersPolled (m : AppSpec) (request : List ℕ) (mss : ℕ) (fine : ℕ → AppState → Bool) (left : AppState → ℕ) (texts patience : ℕ) : Type 0 where
+pub record AnswersPolled (m : AppSpec) (request : List ℕ) (mss : ℕ) (fine : ℕ → AppState → Bool)
+    (left : AppState → ℕ) (texts patience : ℕ) : Type 0 where
   pub answers : (polls : ℕ) → polls ≤ patience → AnswersIn m request mss (fine polls) left texts
   pub waits : (polls : ℕ) (numbers : List ℕ) (p : AppState) → polls < patience → fine polls p ≡ true →
       (fine (suc polls) (m.polled numbers p).part ≡ true) × (left (m.polled numbers p).part ≤ left p)

@@ -8,7 +8,8 @@ use Rattle.icmp_echo.specs.declared.fate.IcmpFate.{IcmpFate}
 use Rattle.icmp_echo.specs.declared.fate.IcmpFate.TheVariants as Icmp
 use Rattle.tcp_segment.specs.declared.fate.TcpFate.{TcpFate}
 use Rattle.tcp_segment.specs.declared.fate.TcpFate.TheVariants as Tcp
-use Rattle.uip_node.specs.declared.counter.TheConstants.{IP_SHORT, IP_VERSION, IP_LENGTH, IP_FRAGMENT, IP_CHECKSUM, IP_NOT_OURS, IP_PROTOCOL, ICMP_REFUSED, ICMP_CHECKSUM}
+use Rattle.uip_node.specs.declared.counter.TheConstants.{IP_SHORT, IP_VERSION, IP_LENGTH, IP_FRAGMENT, IP_CHECKSUM}
+use Rattle.uip_node.specs.declared.counter.TheConstants.{IP_NOT_OURS, IP_PROTOCOL, ICMP_REFUSED, ICMP_CHECKSUM}
 use Rattle.uip_node.specs.declared.counter.TheConstants.{TCP_REFUSED, TCP_CHECKSUM, TCP_AGAIN, NO_COUNTER}
 use Rattle.uip_node.specs.Counters.{counters, ident_of, ticks_of}
 use Rattle.uip_node.specs.Events.{Answer, Event, HistoryEntry}

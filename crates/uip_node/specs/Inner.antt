@@ -33,7 +33,8 @@ TakesIn g k slot f old new numbers result =
     → MeetsAt g k new numbers result abstracts slot (f a)
 
 -- The connection in a slot is prepared with these values of the node, whatever the slots represent.
-abbrev pub PreparesIn : {A S : Type 0} (g : Ghosts A S) (k : g.Config) (slot : ℕ) (now : Now) (old new : List (Conn A)) (numbers : List ℕ) → Type 0
+abbrev pub PreparesIn : {A S : Type 0} (g : Ghosts A S) (k : g.Config) (slot : ℕ) (now : Now)
+    (old new : List (Conn A)) (numbers : List ℕ) → Type 0
 PreparesIn g k slot now old new numbers =
     (abstracts : List Connection) (a : Connection) → SlotsRepresent g k old abstracts → slice_get abstracts slot ≡ Some a
     → SlotsRepresent g k new (slice_set abstracts slot (prepared (g.app_spec k) now a numbers))
@@ -71,7 +72,8 @@ abbrev pub WritesText : {A S : Type 0} (g : Ghosts A S) (k : g.Config) (own : Ad
 WritesText g k own id conn packet =
     (a : Connection) → IsNamed conn a → g.represents conn.app k a.part
     → datagram_in packet ≡ datagram_bytes (datagram_to own a.sockets id
-    (headed (record { flags = ACK + PSH; window = OWN_MSS; mss = None; len = conn.len }) a (take conn.len (text_left (g.app_spec k) a.part))))
+    (headed (record { flags = ACK + PSH; window = OWN_MSS; mss = None; len = conn.len })
+    a (take conn.len (text_left (g.app_spec k) a.part))))
 
 -- ---- the node
 

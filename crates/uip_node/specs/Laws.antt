@@ -20,7 +20,8 @@ serving sockets (c ∷ cs) = if serves sockets c then c else serving sockets cs
 
 -- If the delivered text is bytes, so is the page.
 abbrev pub HasBytes : Pages → Type 0
-HasBytes pages = (delivered : List ℕ) (captures : List Snapshot) → All IsByte delivered → All IsSnapshot captures → All IsByte (pages.text delivered captures)
+HasBytes pages = (delivered : List ℕ) (captures : List Snapshot)
+    → All IsByte delivered → All IsSnapshot captures → All IsByte (pages.text delivered captures)
 
 -- `delivered` is bytes: each call keeps this, if the input is bytes. If it holds, and the snapshots are possible, the output is bytes.
 pub record SendsBytes (m : AppSpec) : Type 0 where

@@ -1,12 +1,14 @@
 -- The abstract node, and its transition at each event.
-use Rattle.std.specs.Prelude.{ℕ, ◌&&◌, Bool, false, not, List, [], ◌∷◌, replicate, position, slice_set, slice_index_or, Option, Some, None, option_map, if◌then◌else◌}
+use Rattle.std.specs.Prelude.{ℕ, ◌&&◌, Bool, false, not, List, [], ◌∷◌, replicate, position, slice_set}
+use Rattle.std.specs.Prelude.{slice_index_or, Option, Some, None, option_map, if◌then◌else◌}
 use Rattle.std.specs.Option.{option_map_or}
 use Rattle.uip_wire.specs.declared.addr.Addr.{Addr}
 use Rattle.tcp_segment.specs.Prelude.{PlainSegment, has_rst}
 use Rattle.app_events.specs.Prelude.{AppSpec}
 use Rattle.app_events.specs.declared.now.Now.{Now}
 use Rattle.tcp_table.specs.Prelude.{slot_by}
-use Rattle.tcp_machine.specs.Prelude.{Sockets, Connection, closed, is_live, serves, rows_from, is_plain_syn, reset_for_no_connection, segment_of, is_again, Outcome, asked, accept, on_segment, on_tick}
+use Rattle.tcp_machine.specs.Prelude.{Sockets, Connection, closed, is_live, serves, rows_from, is_plain_syn}
+use Rattle.tcp_machine.specs.Prelude.{reset_for_no_connection, segment_of, is_again, Outcome, asked, accept, on_segment, on_tick}
 use Rattle.uip_node.specs.Events.{Event, Answer, HistoryEntry, Reply}
 use Rattle.uip_node.specs.Events.Event.{EchoAsked, Arrived, Periodic}
 use Rattle.uip_node.specs.Events.Answer.{Silent, NoSlot, EchoReplied, Spoke}
@@ -80,7 +82,11 @@ opens m n sockets s (Some slot) = opens_in m n sockets s slot
 abbrev pub refuses : AbstractNode → Sockets → PlainSegment → NodeStep
 refuses n sockets s =
     let history : List HistoryEntry = record { event = Arrived sockets s; answer = Spoke false } ∷ n.history in
-    record { node = record n { history = history }; sent = Some (Tcp sockets (ident_of history) false (reset_for_no_connection s)); gone = None }
+    record {
+      node = record n { history = history };
+      sent = Some (Tcp sockets (ident_of history) false (reset_for_no_connection s));
+      gone = None;
+    }
 
 -- A segment belongs to no connection.
 unfoldable pub for_no_connection : AppSpec → (ℕ → Bool) → AbstractNode → Sockets → PlainSegment → NodeStep

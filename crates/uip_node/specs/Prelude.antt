@@ -10,11 +10,13 @@ pub use Rattle.uip_node.specs.Events.Event.{Arrived, EchoAsked, IcmpRefused, IpR
 pub use Rattle.uip_node.specs.Events.Reply.{Echo, Tcp}
 pub use Rattle.uip_node.specs.Inner.{OpensIn, PreparesIn, SettlesIn, SpeaksIn, StaysPrepared, TakesIn}
 pub use Rattle.uip_node.specs.Laws.{Alike, HasBytes, IsEvent, IsSlice, SendsBytes, serving}
-pub use Rattle.uip_node.specs.Node.{AbstractNode, NodeStep, Ran, arrives, arrives_at, connection_in, gone_by, initial_node, joined, opens, passes, periodic, refuses, remembers, run, slot_for_syn, snapshot, step}
+pub use Rattle.uip_node.specs.Node.{AbstractNode, NodeStep, Ran, arrives, arrives_at, connection_in, gone_by, initial_node}
+pub use Rattle.uip_node.specs.Node.{joined, opens, passes, periodic, refuses, remembers, run, slot_for_syn, snapshot, step}
 unfoldable pub use Rattle.uip_node.specs.Node.{for_no_connection, happened, opens_in}
 pub use Rattle.uip_node.specs.Raising.{counter_places, marks, raise}
 pub use Rattle.uip_node.specs.Represents.{Represents, Steps}
-pub use Rattle.uip_node.specs.Slots.{AllSound, AllWellFormed, IsIn, IsNamed, IsWellFormedConn, MeetsAt, NoneAt, OthersRest, OthersStay, SlotsRepresent, TookStep, live_rows, row_in, snapshot_at}
+pub use Rattle.uip_node.specs.Slots.{AllSound, AllWellFormed, IsIn, IsNamed, IsWellFormedConn, MeetsAt, NoneAt}
+pub use Rattle.uip_node.specs.Slots.{OthersRest, OthersStay, SlotsRepresent, TookStep, live_rows, row_in, snapshot_at}
 pub use Rattle.uip_node.specs.Spoken.{IsSent, IsSpoken}
 pub use Rattle.uip_node.specs.State.{Counts, Node}
 pub use Rattle.uip_node.specs.Steady.{IsSteady}

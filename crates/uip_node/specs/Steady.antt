@@ -19,7 +19,8 @@ pub record IsSteady (m : AppSpec) : Type 0 where
   pub polled_captures : (numbers : List ℕ) (p : AppState) → (m.polled numbers p).part.captures ≡ p.captures
   -- The counters stay below 2^32.
   pub connected_numbers : (numbers : List ℕ) (port : ℕ) → All IsU32 numbers → All IsU32 (m.connected numbers port).numbers
-  pub newdata_numbers : (numbers : List ℕ) (p : AppState) (piece : List ℕ) → All IsU32 numbers → All IsU32 (m.newdata numbers p piece).numbers
+  pub newdata_numbers : (numbers : List ℕ) (p : AppState) (piece : List ℕ) → All IsU32 numbers
+      → All IsU32 (m.newdata numbers p piece).numbers
   pub acked_numbers : (numbers : List ℕ) (p : AppState) (n : ℕ) → All IsU32 numbers → All IsU32 (m.acked numbers p n).numbers
   pub polled_numbers : (numbers : List ℕ) (p : AppState) → All IsU32 numbers → All IsU32 (m.polled numbers p).numbers
   pub ended_numbers : (numbers : List ℕ) (p : AppState) (how : Ending) → All IsU32 numbers → All IsU32 (m.ended numbers p how)

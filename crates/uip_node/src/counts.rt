@@ -3,7 +3,9 @@
 ghost use Rattle.std.specs.Prelude.{◌≡◌, ℕ, ◌∷◌, List};
 ghost use Rattle.tcp_machine.specs.Prelude.{Sockets};
 ghost use Rattle.tcp_segment.specs.Prelude.{PlainSegment};
-ghost use Rattle.uip_node.specs.Prelude.{CountsAnswer, CountsEvent, again_place, icmp_place, ip_place, seen, tcp_place, counters, ticks_of, HistoryEntry, Arrived, EchoAsked, IcmpRefused, IpRefused, Overlong, Periodic, TcpRefused, EchoReplied, NoSlot, Spoke};
+ghost use Rattle.uip_node.specs.Prelude.{CountsAnswer, CountsEvent, again_place, icmp_place, ip_place, seen, tcp_place};
+ghost use Rattle.uip_node.specs.Prelude.{counters, ticks_of, HistoryEntry, Arrived, EchoAsked, IcmpRefused, IpRefused};
+ghost use Rattle.uip_node.specs.Prelude.{Overlong, Periodic, TcpRefused, EchoReplied, NoSlot, Spoke};
 
 use crate::counter::{
     ICMP_CHECKSUM, ICMP_IN, ICMP_OUT, ICMP_REFUSED, IP_CHECKSUM, IP_FRAGMENT, IP_IN, IP_LENGTH,

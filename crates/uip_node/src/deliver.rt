@@ -3,7 +3,8 @@
 ghost use Rattle.std.specs.Prelude.{◌≡◌, ◌<◌, ◌≤◌, true, false, Some, length, slice_get};
 ghost use Rattle.app_events.specs.Prelude.{is_live};
 ghost use Rattle.tcp_machine.specs.Prelude.{ask_prepared, CanBeAsked, IsAnswer, StepFits, on_segment, on_tick, plain};
-ghost use Rattle.uip_node.specs.Prelude.{sockets_of, OpensIn, PreparesIn, SettlesIn, SpeaksIn, StaysPrepared, TakesIn, AllWellFormed, AllSound, IsIn, NoneAt, OthersRest, TookStep, live_rows};
+ghost use Rattle.uip_node.specs.Prelude.{sockets_of, OpensIn, PreparesIn, SettlesIn, SpeaksIn, StaysPrepared, TakesIn};
+ghost use Rattle.uip_node.specs.Prelude.{AllWellFormed, AllSound, IsIn, NoneAt, OthersRest, TookStep, live_rows};
 
 use crate::listing::rows_of;
 use crate::speaking::speak;

@@ -3,7 +3,8 @@
 ghost use Rattle.std.specs.Prelude.{◌≡◌, ℕ, ◌+◌, ◌≤◌, List, IsSome, length, slice_range, take};
 ghost use Rattle.app_events.specs.Prelude.{CanSay, AppState, text_left};
 ghost use Rattle.packet_buffer.specs.Prelude.{datagram_in};
-ghost use Rattle.tcp_machine.specs.Prelude.{Connection, IsAnswer, StepFits, reset_for_no_connection, segment_of, IsSound, ConnRepresents, plain};
+ghost use Rattle.tcp_machine.specs.Prelude.{Connection, IsAnswer, StepFits, reset_for_no_connection};
+ghost use Rattle.tcp_machine.specs.Prelude.{segment_of, IsSound, ConnRepresents, plain};
 ghost use Rattle.tcp_machine.specs.declared.step.Step.TheVariants.{Drop};
 ghost use Rattle.tcp_segment.specs.Prelude.{datagram_bytes, datagram_of};
 ghost use Rattle.uip_node.specs.Edge.{datagram_to, sockets_of};
@@ -180,7 +181,8 @@ pub(crate) fn put_reset(packet: &mut Packet, own: Addr, peer: Addr, seg: &Segmen
     ensures size { length packet.new.area ≡ LARGEST_DATAGRAM }
     ensures length { result ≡ length (datagram_in packet.new) }
     ensures bytes { (text : List ℕ)
-        → datagram_in packet.new ≡ datagram_bytes (datagram_to own (sockets_of peer seg.now) id (reset_for_no_connection (plain seg.now text))) }
+        → datagram_in packet.new
+        ≡ datagram_bytes (datagram_to own (sockets_of peer seg.now) id (reset_for_no_connection (plain seg.now text))) }
 {
     let out = Out {
         source: own,

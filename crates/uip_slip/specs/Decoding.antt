@@ -1,5 +1,6 @@
 -- What a decoder knows of the bytes that it was fed, and what its results state.
-use Rattle.std.specs.Prelude.{◌≡◌, ◌<◌, ◌≤◌, ℕ, ◌-◌, ◌==◌, nat_lt, if◌then◌else◌, List, [], ◌∷◌, ◌++◌, take, length, slice_index, Bool, true, false, ⊤}
+use Rattle.std.specs.Prelude.{◌≡◌, ◌<◌, ◌≤◌, ℕ, ◌-◌, ◌==◌, nat_lt, if◌then◌else◌, List, []}
+use Rattle.std.specs.Prelude.{◌∷◌, ◌++◌, take, length, slice_index, Bool, true, false, ⊤}
 use Rattle.uip_wire.specs.declared.sizes.TheConstants.{LARGEST_DATAGRAM}
 use Rattle.uip_slip.specs.Frames.{Frame, Datagram, Overlong, frames, unescaped, open_part}
 use Rattle.uip_slip.specs.declared.fed.Fed.{Fed}

@@ -1,5 +1,6 @@
 -- Addresses in a header (RFC 791, section 3.1), and as dotted quads in text.
-use Rattle.std.specs.Prelude.{ℕ, ◌+◌, ◌==◌, nat_lt, if◌then◌else◌, List, [], ◌∷◌, ◌++◌, Option, None, Some, codes, decimal, option_map, position, take, drop, slice_index}
+use Rattle.std.specs.Prelude.{ℕ, ◌+◌, ◌==◌, nat_lt, if◌then◌else◌, List, [], ◌∷◌, ◌++◌, Option, None}
+use Rattle.std.specs.Prelude.{Some, codes, decimal, option_map, position, take, drop, slice_index}
 use Rattle.uip_wire.specs.Numerals.{numeral}
 
 -- The four bytes at an offset.

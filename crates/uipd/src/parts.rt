@@ -2,7 +2,8 @@
 
 ghost use Rattle.std.specs.Prelude.{◌≡◌, map, string_bytes, IfOk};
 ghost use Rattle.std.specs.List.{list_all};
-ghost use Rattle.uipd.specs.Words.{back_part, prefix_slice, has_parts as has_two, is_kind_word as kind_form, kind_word as kind_meant, named_file as file_meant};
+ghost use Rattle.uipd.specs.Words.{back_part, prefix_slice, has_parts as has_two, is_kind_word as kind_form};
+ghost use Rattle.uipd.specs.Words.{kind_word as kind_meant, named_file as file_meant};
 
 use site_commands::{KindWord, NamedFile};
 use site_image::is_kind;

@@ -1,12 +1,15 @@
 //! Parses the words of the command line.
 
 ghost use Rattle.std.specs.Prelude.{◌≡◌, ◌≤◌, Option, Some, map, option_map, string_bytes, IfSome};
-ghost use Rattle.uipd.specs.Words.{task_meant, task_of, check_words as words_of_check, pack_words as words_of_pack, serve_words as words_of_serve, ether_words as words_of_ether};
+ghost use Rattle.uipd.specs.Words.{task_meant, task_of, check_words as words_of_check, pack_words as words_of_pack};
+ghost use Rattle.uipd.specs.Words.{serve_words as words_of_serve, ether_words as words_of_ether};
 ghost use Rattle.uipd.specs.Words.{upgrade_words as words_of_upgrade};
 ghost use Rattle.uipd.specs.Words.{load_words as words_of_load, page_words as words_of_page, replay_words as words_of_replay};
-ghost use Rattle.uipd.specs.Words.{Captures, Dumps, slip_words as words_of_slip, plays_back as played_back, number_within as number_meant_within, items_named as items_spelled};
+ghost use Rattle.uipd.specs.Words.{Captures, Dumps, slip_words as words_of_slip, plays_back as played_back};
+ghost use Rattle.uipd.specs.Words.{number_within as number_meant_within, items_named as items_spelled};
 ghost use Rattle.uipd.specs.Words.{shown as text_asked};
-ghost use Rattle.uipd.specs.Words.{ends_here as no_more, limited as limits_meant, limits_at as limits_after, limits_of as limits_spelled, says_tty as terminal_told};
+ghost use Rattle.uipd.specs.Words.{ends_here as no_more, limited as limits_meant, limits_at as limits_after};
+ghost use Rattle.uipd.specs.Words.{limits_of as limits_spelled, says_tty as terminal_told};
 ghost use Rattle.uipd.specs.Allowed.{IsAllowed};
 ghost use Rattle.uip_wire.specs.Numerals.{numeral as number_meant};
 

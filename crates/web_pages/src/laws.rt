@@ -1,6 +1,8 @@
 //! What holds for the pages of every site.
 
-ghost use Rattle.web_pages.specs.Prelude.{DecisionStays, KeepsPageLaws, KeepsPageLawsBy, IsAtMostGreatest, IsAtMostGreatestBy, IsMadeOfBytes, IsMadeOfBytesBy, UpgradeKeepsPages, ToldInPieces, LongNames, AreWorkedRequests, AreWorkedPages, ConstantValues};
+ghost use Rattle.web_pages.specs.Prelude.{DecisionStays, KeepsPageLaws, KeepsPageLawsBy, IsAtMostGreatest};
+ghost use Rattle.web_pages.specs.Prelude.{IsAtMostGreatestBy, IsMadeOfBytes, IsMadeOfBytesBy, UpgradeKeepsPages};
+ghost use Rattle.web_pages.specs.Prelude.{ToldInPieces, LongNames, AreWorkedRequests, AreWorkedPages, ConstantValues};
 ghost use Rattle.generators.specs.Prelude.{gives};
 
 use generators::Record;

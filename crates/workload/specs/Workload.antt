@@ -1,5 +1,6 @@
 -- The schedule of a seed.
-use Rattle.std.specs.Prelude.{ℕ, ◌+◌, ◌/◌, ◌%◌, ◌==◌, Bool, List, [], ◌∷◌, ◌++◌, map, flat_map, replicate, if◌then◌else◌, codes, slice_get, unwrap_or}
+use Rattle.std.specs.Prelude.{ℕ, ◌+◌, ◌/◌, ◌%◌, ◌==◌, Bool, List, [], ◌∷◌, ◌++◌, map, flat_map}
+use Rattle.std.specs.Prelude.{replicate, if◌then◌else◌, codes, slice_get, unwrap_or}
 use Rattle.std.specs.List.{enumerate_from, range_with_len}
 use Rattle.rand_core.specs.Steps.{first_words}
 use Rattle.rand_pcg.specs.Lcg.{increment_of, started}

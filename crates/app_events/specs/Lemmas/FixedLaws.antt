@@ -39,7 +39,8 @@ same_text (x ∷ xs) (y ∷ ys) e = refl
 same_text [] (y ∷ ys) e = cc
 same_text (x ∷ xs) [] e = cc
 
-pub fixed_same_left : (a : Fixed) (p q : AppState) → FixedRepresents a p → FixedRepresents a q → text_left fixed_spec p ≡ text_left fixed_spec q
+pub fixed_same_left : (a : Fixed) (p q : AppState) → FixedRepresents a p → FixedRepresents a q
+    → text_left fixed_spec p ≡ text_left fixed_spec q
 fixed_same_left a p q s t =
     let e : p.acked ≡ q.acked = sym s.at ∙ t.at in
     let f : fixed_text p.delivered ≡ fixed_text q.delivered = same_text p.delivered q.delivered (sym s.delivered ∙ t.delivered) in

@@ -1,6 +1,7 @@
 -- The text of a word of a device's script is short, and consists of bytes.
 use Rattle.std.specs.List.{All}
-use Rattle.std.proofs.Common.{◌≡◌, ℕ, ◌+◌, ◌*◌, ◌/◌, ◌%◌, ◌<◌, ◌≤◌, ◌==◌, Bool, true, false, List, [], ◌∷◌, ◌++◌, length, map, min, take, flat_map, refl, arith, length-append, length-take, if◌then◌else◌, Option, Some, None, lit≤}
+use Rattle.std.proofs.Common.{◌≡◌, ℕ, ◌+◌, ◌*◌, ◌/◌, ◌%◌, ◌<◌, ◌≤◌, ◌==◌, Bool, true, false, List, [], ◌∷◌, ◌++◌, length, map, min}
+use Rattle.std.proofs.Common.{take, flat_map, refl, arith, length-append, length-take, if◌then◌else◌, Option, Some, None, lit≤}
 use Rattle.std.specs.Prelude.{codes, nat_lt, slice_range}
 use Rattle.std.specs.List.{slice_index_or}
 use Rattle.std.specs.Option.{option_map_or}
@@ -22,7 +23,11 @@ use Rattle.device_values.specs.Words.{word_said, words}
 pub value_short : (own : List ℕ) (n : ℕ) → length (value_of own n) ≤ 32
 value_short own n =
     let kept : List ℕ = take (min 32 (slice_index_or own (33 * n) 0)) (slice_range own (33 * n + 1) (33 * n + 33)) in
-    omega (arith, length-map kept (λ b. b % 256), length-take (min 32 (slice_index_or own (33 * n) 0)) (slice_range own (33 * n + 1) (33 * n + 33)))
+    omega (
+      arith,
+      length-map kept (λ b. b % 256),
+      length-take (min 32 (slice_index_or own (33 * n) 0)) (slice_range own (33 * n + 1) (33 * n + 33)),
+    )
 
 low_bytes : (xs : List ℕ) → All IsByte (map (λ b. b % 256) xs)
 low_bytes [] = All-nil IsByte
@@ -123,4 +128,5 @@ words_short (word.Value Html) argument hits own now word is_now =
 
 pub words_bytes : AreBytes word_said
 words_bytes (word.Uip function) argument hits own now = texts_bytes function argument hits [] now
-words_bytes (word.Value spelling) argument hits own now = spelled_bytes spelling (value_named own argument) (named_bytes own (numeral argument))
+words_bytes (word.Value spelling) argument hits own now =
+    spelled_bytes spelling (value_named own argument) (named_bytes own (numeral argument))

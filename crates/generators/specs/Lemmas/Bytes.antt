@@ -2,7 +2,8 @@
 -- [add: function] Function: its text is bytes.
 -- [add: state] State: its name is bytes.
 use Rattle.std.specs.List.{All}
-use Rattle.std.proofs.Common.{◌≡◌, ℕ, zero, suc, ◌+◌, ◌-◌, ◌/◌, ◌%◌, ◌==◌, Bool, true, false, List, [], ◌∷◌, length, replicate, decimal, flat_map, slice_index, refl, arith, if◌then◌else◌, lit<}
+use Rattle.std.proofs.Common.{◌≡◌, ℕ, zero, suc, ◌+◌, ◌-◌, ◌/◌, ◌%◌, ◌==◌, Bool, true, false, List, [], ◌∷◌, length}
+use Rattle.std.proofs.Common.{replicate, decimal, flat_map, slice_index, refl, arith, if◌then◌else◌, lit<}
 use Rattle.std.specs.Prelude.{codes, nat_lt}
 use Rattle.std.specs.List.{list_all, concat}
 use Rattle.std.specs.Fmt.{digits, digits_onto, digit_glyph}
@@ -12,7 +13,8 @@ use Rattle.app_events.specs.Prelude.{IsByte}
 use Rattle.app_events.specs.declared.now.Now.{Now}
 use Rattle.app_events.specs.declared.row.Row.{Row}
 use Rattle.app_events.specs.declared.state.State.{State}
-use Rattle.app_events.specs.declared.state.State.TheVariants.{Closed, SynRcvd, Established, CloseWait, FinWait1, FinWait2, Closing, TimeWait, LastAck}
+use Rattle.app_events.specs.declared.state.State.TheVariants.{Closed, SynRcvd, Established, CloseWait}
+use Rattle.app_events.specs.declared.state.State.TheVariants.{FinWait1, FinWait2, Closing, TimeWait, LastAck}
 use Rattle.generators.specs.declared.capture.Capture.{Capture}
 use Rattle.generators.specs.declared.capture.Capture.TheVariants as capture
 use Rattle.generators.specs.Captures.{capture_of}
@@ -56,12 +58,14 @@ decimal_bytes n = digits_bytes 64 n [] (All-nil IsByte)
 
 places_bytes : (n : ℕ) → All IsByte (in_ten_places n)
 places_bytes n =
-    All-append IsByte (replicate (10 - length (decimal n)) 32) (decimal n) (All-replicate IsByte (10 - length (decimal n)) 32 (lit< tt)) (decimal_bytes n)
+    All-append IsByte (replicate (10 - length (decimal n)) 32) (decimal n)
+    (All-replicate IsByte (10 - length (decimal n)) 32 (lit< tt)) (decimal_bytes n)
 
 counters_bytes : (ns : List ℕ) → All IsByte (flat_map counter_line ns)
 counters_bytes [] = All-nil IsByte
 counters_bytes (n ∷ ns) =
-    All-append IsByte (counter_line n) (flat_map counter_line ns) (All-append IsByte (in_ten_places n) (10 ∷ []) (places_bytes n) (literal_bytes (10 ∷ []) refl)) (counters_bytes ns)
+    All-append IsByte (counter_line n) (flat_map counter_line ns)
+    (All-append IsByte (in_ten_places n) (10 ∷ []) (places_bytes n) (literal_bytes (10 ∷ []) refl)) (counters_bytes ns)
 
 state_bytes : (state : State) → All IsByte (state_name state)
 state_bytes Closed = literal_bytes (codes "CLOSED") refl
@@ -127,7 +131,8 @@ row_bytes row =
                                         (
                                           cell,
                                           (
-                                            either_bytes row.waiting (codes "*") (codes " ") (literal_bytes (codes "*") refl) (literal_bytes (codes " ") refl),
+                                            either_bytes row.waiting (codes "*") (codes " ")
+                                                (literal_bytes (codes "*") refl) (literal_bytes (codes " ") refl),
                                             (literal_bytes (codes "</td></tr>\r\n") refl, tt),
                                           ),
                                         ),

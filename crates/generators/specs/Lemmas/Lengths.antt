@@ -2,7 +2,8 @@
 -- [add: function] Function: the greatest length of its text.
 -- [add: state] State: the length of its name.
 use Rattle.std.specs.List.{All}
-use Rattle.std.proofs.Common.{◌≡◌, ℕ, ◌+◌, ◌-◌, ◌*◌, ◌%◌, ◌^◌, ◌<◌, ◌≤◌, Bool, true, false, List, [], ◌∷◌, length, decimal, replicate, flat_map, slice_index, refl, ap, ◌∙◌, arith, length-append, lit<, lit≤}
+use Rattle.std.proofs.Common.{◌≡◌, ℕ, ◌+◌, ◌-◌, ◌*◌, ◌%◌, ◌^◌, ◌<◌, ◌≤◌, Bool, true, false, List, [], ◌∷◌, length, decimal}
+use Rattle.std.proofs.Common.{replicate, flat_map, slice_index, refl, ap, ◌∙◌, arith, length-append, lit<, lit≤}
 use Rattle.std.specs.List.{concat}
 use Rattle.std.proofs.lemmas.Fmt.{decimal_by_steps, length-decimal-le}
 use Rattle.std.proofs.lemmas.List.{length-replicate}
@@ -10,7 +11,8 @@ use Rattle.std.proofs.lemmas.List.Elements.{All-get_or, All-head, All-tail}
 use Rattle.app_events.specs.Prelude.{IsByte, IsU32, IsRow}
 use Rattle.app_events.specs.declared.row.Row.{Row}
 use Rattle.app_events.specs.declared.state.State.{State}
-use Rattle.app_events.specs.declared.state.State.TheVariants.{Closed, SynRcvd, Established, CloseWait, FinWait1, FinWait2, Closing, TimeWait, LastAck}
+use Rattle.app_events.specs.declared.state.State.TheVariants.{Closed, SynRcvd, Established, CloseWait}
+use Rattle.app_events.specs.declared.state.State.TheVariants.{FinWait1, FinWait2, Closing, TimeWait, LastAck}
 use Rattle.script_lang.specs.declared.function.Function.TheVariants.{FileStats, TcpConnections, NetStats, Ticks, Unknown}
 use Rattle.generators.specs.Short.{TextsAreShort}
 use Rattle.generators.specs.Text.{in_ten_places, counter_line, row_parts, row_text, state_name, waiting_mark}
@@ -18,7 +20,8 @@ use Rattle.generators.specs.Text.{in_ten_places, counter_line, row_parts, row_te
 pub in_ten : (n : ℕ) → n < 4294967296 → length (in_ten_places n) ≡ 10
 in_ten n h =
     let short : length (decimal n) ≤ 10 = length-decimal-le 10 n (lit< tt) (omega arith) (omega arith) in
-    let spaces : length (replicate {A = ℕ} (10 - length (decimal n)) 32) ≡ 10 - length (decimal n) = length-replicate {A = ℕ} (10 - length (decimal n)) 32 in
+    let spaces : length (replicate {A = ℕ} (10 - length (decimal n)) 32) ≡ 10 - length (decimal n) =
+    length-replicate {A = ℕ} (10 - length (decimal n)) 32 in
     omega (arith, length-append (replicate (10 - length (decimal n)) 32) (decimal n), spaces)
 
 pub line_long : (n : ℕ) → n < 4294967296 → length (counter_line n) ≡ 11
@@ -44,15 +47,18 @@ digits_least =
 
 pub one_digit : (n : ℕ) → n < 10 → 1 ≡ length (decimal n)
 one_digit n h =
-    let some = digits_least n (omega (arith, h)) in omega (arith, some.0, length-decimal-le 1 n (lit< tt) (omega (arith, h)) (omega (arith, h)))
+    let some = digits_least n (omega (arith, h)) in
+    omega (arith, some.0, length-decimal-le 1 n (lit< tt) (omega (arith, h)) (omega (arith, h)))
 
 pub two_digits : (n : ℕ) → 10 ≤ n → n < 100 → 2 ≡ length (decimal n)
 two_digits n l h =
-    let some = digits_least n (omega (arith, h)) in omega (arith, some.1 l, length-decimal-le 2 n (lit< tt) (omega (arith, h)) (omega (arith, h)))
+    let some = digits_least n (omega (arith, h)) in
+    omega (arith, some.1 l, length-decimal-le 2 n (lit< tt) (omega (arith, h)) (omega (arith, h)))
 
 pub three_digits : (n : ℕ) → 100 ≤ n → n < 1000 → 3 ≡ length (decimal n)
 three_digits n l h =
-    let some = digits_least n (omega (arith, h)) in omega (arith, some.2 l, length-decimal-le 3 n (lit< tt) (omega (arith, h)) (omega (arith, h)))
+    let some = digits_least n (omega (arith, h)) in
+    omega (arith, some.2 l, length-decimal-le 3 n (lit< tt) (omega (arith, h)) (omega (arith, h)))
 
 abbrev total : List (List ℕ) → ℕ
 total [] = 0
@@ -83,8 +89,10 @@ mark_long false = refl
 
 -- what is the same in each row, and what is not
 pub row_long : (row : Row) → length (row_text row)
-    ≡ 70 + length (decimal row.slot) + length (decimal (slice_index row.peer.0 0)) + length (decimal (slice_index row.peer.0 1)) + length (decimal (slice_index row.peer.0 2))
-    + length (decimal (slice_index row.peer.0 3)) + length (decimal row.port.0) + length (state_name row.state) + length (decimal row.tries) + length (decimal row.count)
+    ≡ 70 + length (decimal row.slot) + length (decimal (slice_index row.peer.0 0))
+    + length (decimal (slice_index row.peer.0 1)) + length (decimal (slice_index row.peer.0 2))
+    + length (decimal (slice_index row.peer.0 3)) + length (decimal row.port.0)
+    + length (state_name row.state) + length (decimal row.tries) + length (decimal row.count)
 unfolding row_parts
 row_long row = concat_long (row_parts row) ∙ omega (arith, mark_long row.waiting)
 
@@ -113,7 +121,12 @@ row_short row r =
 rows_short : (rows : List Row) → All IsRow rows → length (flat_map row_text rows) ≤ 103 * length rows
 rows_short [] all = lit≤ tt
 rows_short (row ∷ rows) all =
-    omega (arith, length-append (row_text row) (flat_map row_text rows), row_short row (All-head IsRow row rows all), rows_short rows (All-tail IsRow row rows all))
+    omega (
+      arith,
+      length-append (row_text row) (flat_map row_text rows),
+      row_short row (All-head IsRow row rows all),
+      rows_short rows (All-tail IsRow row rows all),
+    )
 
 pub texts_short : TextsAreShort
 texts_short FileStats hits now word ok = omega (arith, in_ten hits word)

@@ -5,7 +5,8 @@ use Rattle.std.proofs.Math.Seq.{drop-nil}
 use Rattle.app_events.specs.Prelude.{AppState, text_left}
 use Rattle.site_image.specs.Prelude.{File}
 use Rattle.file_tree.specs.Prelude.{SiteContent, files_of}
-use Rattle.web_pages.specs.Prelude.{Wanted, wanted, NotYet, Refused, reply_pieces_by, page_for_by, text_by, web_spec, web_spec_by, method_open, target_open}
+use Rattle.web_pages.specs.Prelude.{Wanted, wanted, NotYet, Refused, reply_pieces_by, page_for_by}
+use Rattle.web_pages.specs.Prelude.{text_by, web_spec, web_spec_by, method_open, target_open}
 use Rattle.generators.specs.Prelude.{Giving, uip, capture_text}
 use Rattle.httpd.specs.declared.stage.Stage.{Stage}
 use Rattle.httpd.specs.declared.stage.Stage.TheVariants as stage

@@ -1,5 +1,7 @@
 -- The laws of receiving a word: receiving joined pieces is receiving the pieces in turn.
-use Rattle.std.proofs.Common.{◌≡◌, ℕ, ◌+◌, ◌≤◌, ◌||◌, Bool, true, false, not, cond, List, [], ◌∷◌, ◌++◌, length, take, nat_lt, refl, sym, ap, ◌∙◌, inl, inr, arith, if◌then◌else◌, append_assoc, append-nil, length-append, length-take, true≢false, add-zero}
+use Rattle.std.proofs.Common.{◌≡◌, ℕ, ◌+◌, ◌≤◌, ◌||◌, Bool, true, false, not, cond, List, [], ◌∷◌, ◌++◌}
+use Rattle.std.proofs.Common.{length, take, nat_lt, refl, sym, ap, ◌∙◌, inl, inr, arith, if◌then◌else◌}
+use Rattle.std.proofs.Common.{append_assoc, append-nil, length-append, length-take, true≢false, add-zero}
 use Rattle.std.specs.List.{before_first, list_any}
 use Rattle.std.proofs.lemmas.Bool.{or_parts, cases_lt, lt-ltb, le-ltb}
 use Rattle.std.proofs.lemmas.List.{take-take, take_all, take-append-le}
@@ -160,7 +162,8 @@ stopped line xs ys h m =
 goes_on : (line : Line) (xs ys : List ℕ) → line.done ≡ false → list_any (is_stop line.stops) xs ≡ false → Joins line xs ys
 goes_on line xs ys h m =
     let word : word_of line.stops (xs ++ ys) ≡ word_of line.stops xs ++ word_of line.stops ys =
-    none_before (is_stop line.stops) xs ys m ∙ ap (λ prefix. prefix ++ word_of line.stops ys) (sym (none_at_all (is_stop line.stops) xs m)) in
+    none_before (is_stop line.stops) xs ys m
+    ∙ ap (λ prefix. prefix ++ word_of line.stops ys) (sym (none_at_all (is_stop line.stops) xs m)) in
     let stop : list_any (is_stop line.stops) (xs ++ ys) ≡ list_any (is_stop line.stops) ys =
     list_any-append (is_stop line.stops) xs ys ∙ ap (λ d. d || list_any (is_stop line.stops) ys) m in
     let first : after line xs ≡ open_after line xs = opened line xs h in

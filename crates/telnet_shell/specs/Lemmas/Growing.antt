@@ -2,7 +2,8 @@
 use Rattle.std.proofs.Common.{◌≡◌, ℕ, Bool, true, false, List, [], ◌∷◌, ◌++◌, ◌==◌, if◌then◌else◌, refl, sym, ap, ◌∙◌, append_assoc}
 use Rattle.app_events.specs.Prelude.{Snapshot, IsPrefixOf}
 use Rattle.telnet_shell.specs.declared.command.Command.{Command}
-use Rattle.telnet_shell.specs.Reading.{Awaits, Token, tokens, told, next_awaits, awaits_after, commands, command_of, line_after, is_quit, until_quit, has_quit, commands_in}
+use Rattle.telnet_shell.specs.Reading.{Awaits, Token, tokens, told, next_awaits, awaits_after, commands}
+use Rattle.telnet_shell.specs.Reading.{command_of, line_after, is_quit, until_quit, has_quit, commands_in}
 use Rattle.telnet_shell.specs.Reading.Awaits.{Text}
 use Rattle.telnet_shell.specs.Reading.Token.{Byte, Answer}
 use Rattle.telnet_shell.specs.Transcript.{transcript, needs_capture, said_plainly, sent_at}
@@ -59,7 +60,8 @@ commands_grow delivered more =
 behind : (prefix xs ys : List ℕ) → IsPrefixOf xs ys → IsPrefixOf (prefix ++ xs) (prefix ++ ys)
 behind prefix xs ys p = record { rest = p.rest; joined = append_assoc prefix xs p.rest ∙ ap (λ (zs : List ℕ). prefix ++ zs) p.joined }
 
-none_left : (b : Bool) (output xs ys : List ℕ) → IsPrefixOf xs ys → IsPrefixOf (if b then [] else output ++ xs) (if b then [] else output ++ ys)
+none_left : (b : Bool) (output xs ys : List ℕ) → IsPrefixOf xs ys
+    → IsPrefixOf (if b then [] else output ++ xs) (if b then [] else output ++ ys)
 none_left true output xs ys p = record { rest = []; joined = refl }
 none_left false output xs ys p = behind output xs ys p
 

@@ -16,5 +16,6 @@ left_of_value a p s =
     (session_is a.queue a.capture a.at p s.behind)
     ∙ drop-append-add (transcript s.behind.before s.behind.spoken) (left_said a.queue a.capture) a.at
 
-pub same_session_left : (a : Shell) (p q : AppState) → ShellRepresents a p → ShellRepresents a q → text_left shell_spec p ≡ text_left shell_spec q
+pub same_session_left : (a : Shell) (p q : AppState) → ShellRepresents a p → ShellRepresents a q
+    → text_left shell_spec p ≡ text_left shell_spec q
 same_session_left a p q s t = left_of_value a p s ∙ sym (left_of_value a q t)

@@ -1,5 +1,6 @@
 -- The shell keeps the laws of an application, at every offset.
-use Rattle.std.proofs.Common.{◌≡◌, ℕ, ◌≤◌, ◌==◌, min, Bool, true, false, ◌||◌, List, [], ◌∷◌, ◌++◌, length, drop, nat_lt, refl, sym, ap, subst, ◌∙◌, arith, append-nil, append_assoc, length-drop, if◌then◌else◌}
+use Rattle.std.proofs.Common.{◌≡◌, ℕ, ◌≤◌, ◌==◌, min, Bool, true, false, ◌||◌, List, [], ◌∷◌, ◌++◌, length, drop, nat_lt}
+use Rattle.std.proofs.Common.{refl, sym, ap, subst, ◌∙◌, arith, append-nil, append_assoc, length-drop, if◌then◌else◌}
 use Rattle.std.proofs.lemmas.Bool.{ltb-true}
 use Rattle.app_events.specs.Prelude.{AppState, Snapshot, IsLawful, StartsAnew, IsPrefixOf, Grows, CanSend}
 use Rattle.app_events.specs.declared.want.Want.TheVariants.{Nothing, Send, Close, Abort}
@@ -9,7 +10,8 @@ use Rattle.telnet_shell.specs.declared.TheConstants.{MOST_SILENT_POLLS, MOST_COM
 use Rattle.telnet_shell.specs.Reading.{commands_in}
 use Rattle.telnet_shell.specs.Transcript.{transcript}
 use Rattle.telnet_shell.specs.Lemmas.Growing.{commands_grow, further, transcript_grows}
-use Rattle.telnet_shell.specs.ShellMeaning.{session, waiting, with_byte, hear_byte, hear_all, is_stopped, session_has_ended, left_of_session, shell_want, shell_spec}
+use Rattle.telnet_shell.specs.ShellMeaning.{session, waiting, with_byte, hear_byte, hear_all, is_stopped}
+use Rattle.telnet_shell.specs.ShellMeaning.{session_has_ended, left_of_session, shell_want, shell_spec}
 
 same_prefix : (xs : List ℕ) → IsPrefixOf xs xs
 same_prefix xs = record { rest = []; joined = append-nil xs }
@@ -35,7 +37,8 @@ byte_grows p byte =
       text = record {
         rest = t.rest;
         joined = t.joined
-            ∙ ap (λ (ks : List Snapshot). transcript (commands_in p.delivered ++ further p.delivered (byte ∷ [])) ks) (append-nil p.captures)
+            ∙ ap (λ (ks : List Snapshot). transcript (commands_in p.delivered ++ further p.delivered (byte ∷ [])) ks)
+            (append-nil p.captures)
             ∙ ap (λ (cs : List Command). transcript cs p.captures) (sym (commands_grow p.delivered (byte ∷ [])));
       };
       offset = refl;
@@ -62,7 +65,8 @@ unpolled_grows p piece =
 
 capture_grows : (p : AppState) (k : Snapshot) → Grows shell_spec p (record p { captures = p.captures ++ k ∷ [] })
 capture_grows p k =
-    let t : IsPrefixOf (transcript (commands_in p.delivered) p.captures) (transcript (commands_in p.delivered ++ []) (p.captures ++ k ∷ [])) =
+    let t : IsPrefixOf (transcript (commands_in p.delivered) p.captures)
+    (transcript (commands_in p.delivered ++ []) (p.captures ++ k ∷ [])) =
     transcript_grows (commands_in p.delivered) [] p.captures (k ∷ []) in
     record {
       text = record {

@@ -1,5 +1,6 @@
 -- More request bytes and more captures only append to a page, and leave a whole one.
-use Rattle.std.proofs.Common.{◌≡◌, ◌≢◌, ℕ, true, false, List, [], ◌∷◌, ◌++◌, refl, sym, ap, ◌∙◌, append_assoc, append-nil, true≢false, if◌then◌else◌}
+use Rattle.std.proofs.Common.{◌≡◌, ◌≢◌, ℕ, true, false, List, [], ◌∷◌, ◌++◌, refl, sym, ap}
+use Rattle.std.proofs.Common.{◌∙◌, append_assoc, append-nil, true≢false, if◌then◌else◌}
 use Rattle.site_image.specs.Prelude.{File}
 use Rattle.app_events.specs.Prelude.{Snapshot, IsPrefixOf}
 use Rattle.web_pages.specs.Requests.{Wanted, wanted}
@@ -46,7 +47,8 @@ made_first g files function argument more capture later e =
     ap (λ b. if b then made_by g files function argument capture ++ text_by g files more later else text_by g files more (capture ∷ later))
     e
 
-pub made_end : {F : Type 0} (g : Giving F) (function : F) (argument : List ℕ) (more : List (Say F)) (capture : Snapshot) (later : List Snapshot)
+pub made_end : {F : Type 0} (g : Giving F) (function : F) (argument : List ℕ) (more : List (Say F))
+    (capture : Snapshot) (later : List Snapshot)
     → g.calling.takes_capture function ≡ true
     → reach_by g (Made function argument ∷ more) (capture ∷ later) ≡ reach_by g more later
 made_end g function argument more capture later e = ap (λ b. if b then reach_by g more later else reach_by g more (capture ∷ later)) e

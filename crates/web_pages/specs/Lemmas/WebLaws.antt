@@ -1,5 +1,6 @@
 -- The web server keeps the laws of an application, at every offset.
-use Rattle.std.proofs.Common.{◌≡◌, ℕ, ◌≤◌, ◌==◌, min, Bool, true, false, ◌&&◌, List, [], ◌∷◌, ◌++◌, length, drop, nat_lt, refl, ap, ◌∙◌, arith, append-nil, length-drop, if◌then◌else◌}
+use Rattle.std.proofs.Common.{◌≡◌, ℕ, ◌≤◌, ◌==◌, min, Bool, true, false, ◌&&◌, List, [], ◌∷◌, ◌++◌, length}
+use Rattle.std.proofs.Common.{drop, nat_lt, refl, ap, ◌∙◌, arith, append-nil, length-drop, if◌then◌else◌}
 use Rattle.std.proofs.lemmas.Bool.{ltb-true, eqb-true, and_parts}
 use Rattle.site_image.specs.Prelude.{File}
 use Rattle.app_events.specs.Prelude.{AppState, Snapshot, IsLawful, StartsAnew, IsPrefixOf, Grows, CanSend, MayWant}
@@ -19,13 +20,19 @@ pub newdata_grows : {F : Type 0} (g : Giving F) (files : List File) (part : AppS
     → IsPrefixOf (page_by g files part.delivered part.captures) (page_by g files (part.delivered ++ piece) part.captures)
 newdata_grows g files part piece =
     let p = page_grows g files part.delivered piece part.captures [] in
-    record { rest = p.rest; joined = p.joined ∙ ap (λ captures. page_by g files (part.delivered ++ piece) captures) (append-nil part.captures) }
+    record {
+      rest = p.rest;
+      joined = p.joined ∙ ap (λ captures. page_by g files (part.delivered ++ piece) captures) (append-nil part.captures);
+    }
 
 capture_grows : {F : Type 0} (g : Giving F) (files : List File) (part : AppState) (capture : Snapshot)
     → IsPrefixOf (page_by g files part.delivered part.captures) (page_by g files part.delivered (part.captures ++ capture ∷ []))
 capture_grows g files part capture =
     let p = page_grows g files part.delivered [] part.captures (capture ∷ []) in
-    record { rest = p.rest; joined = p.joined ∙ ap (λ delivered. page_by g files delivered (part.captures ++ capture ∷ [])) (no_more part.delivered) }
+    record {
+      rest = p.rest;
+      joined = p.joined ∙ ap (λ delivered. page_by g files delivered (part.captures ++ capture ∷ [])) (no_more part.delivered);
+    }
 
 abbrev pub with_capture : AppState → Snapshot → AppState
 with_capture part capture = record part { captures = part.captures ++ capture ∷ [] }
@@ -34,7 +41,10 @@ either_grows : {F : Type 0} (g : Giving F) (files : List File) (part : AppState)
     → Grows (web_spec_by g files) part (if waits then with_capture part capture else part)
 either_grows g files part capture true = record { text = capture_grows g files part capture; offset = refl }
 either_grows g files part capture false =
-    record { text = same_prefix (page_by g files part.delivered part.captures) (page_by g files part.delivered part.captures) refl; offset = refl }
+    record {
+      text = same_prefix (page_by g files part.delivered part.captures) (page_by g files part.delivered part.captures) refl;
+      offset = refl;
+    }
 
 -- ---- what the connection requests
 
@@ -45,10 +55,12 @@ some_left most left one e =
     (omega arith, omega arith)
 
 wants_by : {F : Type 0} (g : Giving F) (files : List File) (part : AppState) (P : Want → Type 0) → P Abort → P Nothing
-    → (is_whole_by g files part.delivered part.captures ≡ true → part.acked ≡ length (page_by g files part.delivered part.captures) → P Close)
+    → (is_whole_by g files part.delivered part.captures ≡ true
+    → part.acked ≡ length (page_by g files part.delivered part.captures) → P Close)
     → ((n : ℕ) → 1 ≤ n → n ≤ left_of_by g files part → P (Send n)) → P (web_want_by g files part)
 wants_by g files part P abort nothing close send =
-    by_polls (part.polls == MOST_POLLS) _ (by_end (is_whole_by g files part.delivered part.captures && is_acknowledged_by g files part) refl)
+    by_polls (part.polls == MOST_POLLS) _
+    (by_end (is_whole_by g files part.delivered part.captures && is_acknowledged_by g files part) refl)
   where
     by_left : (b : Bool) → nat_lt 0 (left_of_by g files part) ≡ b
         → P (if b then Send (min LARGEST_SEGMENT (left_of_by g files part)) else Nothing)
@@ -69,7 +81,8 @@ wants_by g files part P abort nothing close send =
     by_polls true want rest = abort
     by_polls false want rest = rest
 
-pub may_want : {F : Type 0} (g : Giving F) (files : List File) (part : AppState) → MayWant (pages_by g files) part (web_want_by g files part)
+pub may_want : {F : Type 0} (g : Giving F) (files : List File) (part : AppState)
+    → MayWant (pages_by g files) part (web_want_by g files part)
 may_want g files part =
     wants_by g files part (MayWant (pages_by g files) part) tt tt (λ whole all. (whole, all)) (λ n one most. (one, omega arith))
 

@@ -1,6 +1,6 @@
 -- What there is room for is appended to the name.
 use Rattle.std.proofs.Common.{◌+◌, ◌≤◌, length, take, arith, length-take}
-use Rattle.protosocket.proofs.Cutting.{kept, on_ok}
+use Rattle.protosocket.proofs.Cuts.{kept, on_ok}
 use Rattle.protosocket.proofs.line_in.keep.Goals as goal
 
 pub returns-clause-name : goal.returns-clause-name

@@ -9,19 +9,19 @@ use Rattle.std.proofs.lemmas.List.Quantifiers.{position-Some}
 use Rattle.std.proofs.Math.Seq.{take-append-add}
 use Rattle.protosocket.specs.Prelude.{none_at_all, stop_fits}
 
-pub cut_there : (p : ℕ → Bool) (xs : List ℕ) (k : ℕ) → position p xs ≡ Some k → take k xs ≡ before_first p xs
-cut_there p xs k e =
+pub cut_at : (p : ℕ → Bool) (xs : List ℕ) (k : ℕ) → position p xs ≡ Some k → take k xs ≡ before_first p xs
+cut_at p xs k e =
     let at : (k < length xs) × (p (get_or xs k 0) ≡ true) × ((i : ℕ) → i < k → p (get_or xs i 0) ≡ false) = position-Some p xs k 0 e in
     ap (λ n. take n xs) (sym (position_or_len_is p xs k 0 (omega (arith, at.0)) at.2 (λ _. at.1)))
 
-pub is_there : (p : ℕ → Bool) (xs : List ℕ) (k : ℕ) → position p xs ≡ Some k → true ≡ list_any p xs
-is_there p xs k e =
+pub found : (p : ℕ → Bool) (xs : List ℕ) (k : ℕ) → position p xs ≡ Some k → true ≡ list_any p xs
+found p xs k e =
     let at : (k < length xs) × (p (get_or xs k 0) ≡ true) × ((i : ℕ) → i < k → p (get_or xs i 0) ≡ false) = position-Some p xs k 0 e in
     sym (list_any_at p xs k 0 at.0 at.1)
 
 -- an element that passes has a place
-pub not_there : (p : ℕ → Bool) (xs : List ℕ) → position p xs ≡ None → false ≡ list_any p xs
-not_there p xs e =
+pub missing : (p : ℕ → Bool) (xs : List ℕ) → position p xs ≡ None → false ≡ list_any p xs
+missing p xs e =
     let size : length (before_first p xs) ≡ min (position_or_len p xs) (length xs) = length-take (position_or_len p xs) xs in
     elim (list_any p xs) as (λ m. list_any p xs ≡ m → false ≡ m) [
       | true ↦ λ m.
@@ -32,8 +32,8 @@ not_there p xs e =
       | false ↦ λ m. refl
     ] refl
 
-pub not_cut : (p : ℕ → Bool) (xs : List ℕ) → position p xs ≡ None → xs ≡ before_first p xs
-not_cut p xs e = sym (none_at_all p xs (sym (not_there p xs e)))
+pub whole : (p : ℕ → Bool) (xs : List ℕ) → position p xs ≡ None → xs ≡ before_first p xs
+whole p xs e = sym (none_at_all p xs (sym (missing p xs e)))
 
 least_of : (part : List ℕ) (room : ℕ) → take (min (length part) room) part ≡ take room part
 least_of part room =
