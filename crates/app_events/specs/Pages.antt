@@ -44,7 +44,7 @@ pub record IsNow (now : Now) : Type 0 where
   pub slots : length now.rows ≤ 10
   pub rows : All IsRow now.rows
 
--- A snapshot as a node can have it.
+-- A snapshot as a node can have it: its numbers are in their ranges.
 pub record IsSnapshot (snapshot : Snapshot) : Type 0 where
   pub numbers : All IsU32 snapshot.numbers
   pub now : IsNow snapshot.now
@@ -55,7 +55,8 @@ pub record SameProgress (p q : AppState) : Type 0 where
   pub captures : q.captures ≡ p.captures
   pub acked : q.acked ≡ p.acked
 
--- What the application may request. It sends no more than is left of its page, and closes only at the end of a complete page.
+-- What the application may request. It sends at least one byte, and no more than is left of its page. It closes only at the end of a
+-- complete page.
 abbrev pub MayWant : Pages → AppState → Want → Type 0
 MayWant pages p (Send n) = (1 ≤ n) × (p.acked + n ≤ length (pages.text p.delivered p.captures))
 MayWant pages p Close = (pages.whole p.delivered p.captures ≡ true) × (p.acked ≡ length (pages.text p.delivered p.captures))
@@ -64,7 +65,8 @@ MayWant pages p Abort = Unit {0}
 
 -- The output of the application is a page: a function of the delivered input and the snapshots. Each call changes the state as stated.
 pub record IsPaged (m : AppSpec) (pages : Pages) : Type 0 where
-  -- More input and more snapshots only extend a page, and leave a complete one unchanged. A page is shorter than 2^30 bytes.
+  -- More input and more snapshots only extend a page, and leave a complete one unchanged. If its
+  -- snapshots satisfy `IsSnapshot`, a page is shorter than 2^30 bytes.
   pub grows : (q more : List ℕ) (k later : List Snapshot) → IsPrefixOf (pages.text q k) (pages.text (q ++ more) (k ++ later))
   pub stays : (q more : List ℕ) (k later : List Snapshot) → pages.whole q k ≡ true → pages.text (q ++ more) (k ++ later) ≡ pages.text q k
   pub stays_whole : (q more : List ℕ) (k later : List Snapshot) → pages.whole q k ≡ true → pages.whole (q ++ more) (k ++ later) ≡ true

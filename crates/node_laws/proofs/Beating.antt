@@ -183,23 +183,23 @@ module _ (m : AppSpec) where
         asked_by m LivesOrResets at o (λ a fresh. (let b : Connection = prepared m (at o.connection) o.connection o.numbers in
         wanted_lives (m.want o.numbers b.part) fresh b o.numbers (ask_open c o.connection o.step t a))) l
 
-    abbrev LivesOn : Outcome → Type 0
-    LivesOn o = is_live o.connection.state ≡ true
+    abbrev ContinuesUnreset : Outcome → Type 0
+    ContinuesUnreset o = is_live o.connection.state ≡ true
 
-    established_lives : (c : Connection) (numbers : List ℕ) (s : PlainSegment) → is_live c.state ≡ true → LivesOn (in_established m false c numbers s)
+    established_lives : (c : Connection) (numbers : List ℕ) (s : PlainSegment) → is_live c.state ≡ true → ContinuesUnreset (in_established m false c numbers s)
     unfolding in_established peer_closes stays_established
     established_lives c numbers s l =
-        choose LivesOn (has_fin s.flags) _ _ (λ e. choose LivesOn (ltb 0 c.len) _ _ (λ f. refl) (λ f. refl))
-        (λ e. choose LivesOn (not false && not (has_text s)) _ _ (λ f. l) (λ f. choose LivesOn (ltb 0 c.len) _ _ (λ g. l) (λ g. l)))
+        choose ContinuesUnreset (has_fin s.flags) _ _ (λ e. choose ContinuesUnreset (ltb 0 c.len) _ _ (λ f. refl) (λ f. refl))
+        (λ e. choose ContinuesUnreset (not false && not (has_text s)) _ _ (λ f. l) (λ f. choose ContinuesUnreset (ltb 0 c.len) _ _ (λ g. l) (λ g. l)))
 
-    by_state_lives : (st : State) (c : Connection) (numbers : List ℕ) (s : PlainSegment) → is_live c.state ≡ true → LivesOn (by_state m st false c numbers s)
+    by_state_lives : (st : State) (c : Connection) (numbers : List ℕ) (s : PlainSegment) → is_live c.state ≡ true → ContinuesUnreset (by_state m st false c numbers s)
     unfolding fin_waits
     by_state_lives Closed c numbers s l = l
     by_state_lives SynRcvd c numbers s l = l
     by_state_lives Established c numbers s l = established_lives c numbers s l
     by_state_lives CloseWait c numbers s l = l
-    by_state_lives FinWait1 c numbers s l = choose LivesOn (has_fin s.flags) _ _ (λ e. refl) (λ e. choose LivesOn (has_text s) _ _ (λ f. l) (λ f. l))
-    by_state_lives FinWait2 c numbers s l = choose LivesOn (has_fin s.flags) _ _ (λ e. refl) (λ e. choose LivesOn (has_text s) _ _ (λ f. l) (λ f. l))
+    by_state_lives FinWait1 c numbers s l = choose ContinuesUnreset (has_fin s.flags) _ _ (λ e. refl) (λ e. choose ContinuesUnreset (has_text s) _ _ (λ f. l) (λ f. l))
+    by_state_lives FinWait2 c numbers s l = choose ContinuesUnreset (has_fin s.flags) _ _ (λ e. refl) (λ e. choose ContinuesUnreset (has_text s) _ _ (λ f. l) (λ f. l))
     by_state_lives Closing c numbers s l = l
     by_state_lives LastAck c numbers s l = l
     by_state_lives TimeWait c numbers s l = l
@@ -209,7 +209,7 @@ module _ (m : AppSpec) where
     segment_lives c numbers s l r a =
         choose LivesOrResets (has_rst s.flags) _ _ (λ e. absurd (cc))
         (λ e. choose LivesOrResets (is_out_of_order c s) _ _ (λ f. inl l)
-        (λ f. inl (subst (λ b. LivesOn (by_state m c.state b c numbers s)) (sym a) (by_state_lives c.state c numbers s l))))
+        (λ f. inl (subst (λ b. ContinuesUnreset (by_state m c.state b c numbers s)) (sym a) (by_state_lives c.state c numbers s l))))
 
     beat_lives : (b : Beat) (c : Connection) (numbers : List ℕ) → is_live c.state ≡ true → LivesOrResets (by_beat m b c numbers)
     beat_lives Beat.Wait c numbers l = inl l

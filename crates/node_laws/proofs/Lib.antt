@@ -14,7 +14,7 @@ pub mod EveryTraceConforms
 pub mod Rows
 pub mod HonestRows
 pub mod WindowRows
-pub mod WrongLives
+pub mod WrongIncarnations
 pub mod Steps
 pub mod Slots
 pub mod GoodNodes

@@ -1,5 +1,5 @@
 -- Every incarnation with every peer.
-use Rattle.node_laws.proofs.Prelude.{All, option_map_or, ◌≡◌, ℕ, zero, suc, ◌<◌, length, drop, Bool, true, false, inl, inr, List, [], ◌∷◌, ◌++◌, replicate, refl, sym, ap, ◌∙◌, subst, arith, Option, Some, None, if◌then◌else◌, All-head, All-tail, Addr, AppSpec, IsU32, PlainSegment, has_rst, has_syn, SYN, Sockets, Connection, closed, is_live, is_plain_syn, segment_of, syn_ack, Outcome, asked, accepted, on_segment, on_tick, Event, AbstractNode, initial_node, step, serving, IsEvent, both_ways, eqb-eq, only_some, FitNode, closed_fits, event_fits, FitConn, all_nil, all_cons, none_serves, all_closed, Single, serving_free, IsSteady, HasOutputModel, FollowsModelAt, Exchange, exchange, exchanges_onto, exchanges_with, is_opening, is_empty, is_incarnation, IsIncarnationIn, Account, AccountHolds, TextConforms, IncarnationConforms, IsExtendedBy, OutputModel, IsWithoutReset, LivesOn, IsSolicited, NothingUnsolicited, OpensServed}
+use Rattle.node_laws.proofs.Prelude.{All, option_map_or, ◌≡◌, ℕ, zero, suc, ◌<◌, length, drop, Bool, true, false, inl, inr, List, [], ◌∷◌, ◌++◌, replicate, refl, sym, ap, ◌∙◌, subst, arith, Option, Some, None, if◌then◌else◌, All-head, All-tail, Addr, AppSpec, IsU32, PlainSegment, has_rst, has_syn, SYN, Sockets, Connection, closed, is_live, is_plain_syn, segment_of, syn_ack, Outcome, asked, accepted, on_segment, on_tick, Event, AbstractNode, initial_node, step, serving, IsEvent, both_ways, eqb-eq, only_some, FitNode, closed_fits, event_fits, FitConn, all_nil, all_cons, none_serves, all_closed, Single, serving_free, IsSteady, HasOutputModel, FollowsModelAt, Exchange, exchange, exchanges_onto, exchanges_with, is_opening, is_empty, is_incarnation, IsIncarnationIn, Account, AccountHolds, TextConforms, IncarnationConforms, IsExtendedBy, OutputModel, IsWithoutReset, ContinuesUnreset, IsSolicited, NothingUnsolicited, OpensServed}
 use Rattle.node_laws.proofs.Steps.{LineStep, OfNode, Changes, IsStep, changed, trace_over}
 use Rattle.node_laws.proofs.Wire.{line_wire, wire_event}
 use Rattle.node_laws.proofs.Replying.{answer_no_syn, rst_silent, rst_ends, reset_ends, tick_reset_ends}
@@ -19,7 +19,7 @@ empty_is [] h = refl
 empty_is (x ∷ xs) h = absurd (cc)
 
 -- an incarnation continues at its newest end
-life_on : (x : Exchange) (so_far : List Exchange) → is_opening x ≡ false → IsWithoutReset x → LivesOn so_far → LivesOn (x ∷ so_far)
+life_on : (x : Exchange) (so_far : List Exchange) → is_opening x ≡ false → IsWithoutReset x → ContinuesUnreset so_far → ContinuesUnreset (x ∷ so_far)
 life_on x so_far o q h = record {
   incarnation = x ∷ h.incarnation;
   older = h.older;
@@ -28,7 +28,7 @@ life_on x so_far o q h = record {
   unreset = all_cons IsWithoutReset x h.incarnation q h.unreset;
 }
 
-life_new : (x : Exchange) (so_far : List Exchange) → is_opening x ≡ true → IsWithoutReset x → LivesOn (x ∷ so_far)
+life_new : (x : Exchange) (so_far : List Exchange) → is_opening x ≡ true → IsWithoutReset x → ContinuesUnreset (x ∷ so_far)
 life_new x so_far o q = record { incarnation = x ∷ []; older = so_far; split = refl; is = ap (λ b. if b then is_empty [] else is_incarnation []) o; unreset = all_cons IsWithoutReset x [] q (all_nil IsWithoutReset) }
 
 came_is : (x : Exchange) (s : PlainSegment) (output : Option PlainSegment) → x ≡ met (Some s) output → x.received ≡ Some s
@@ -68,7 +68,7 @@ module _ (m : AppSpec) (served : ℕ → Bool) (p : Sockets) where
         })
   ]
 
-  lives_on : (c d : Connection) (x : Exchange) (so_far : List Exchange) → OfMedium m served p c d x → (is_live c.state ≡ true → LivesOn so_far) → is_live d.state ≡ true → LivesOn (x ∷ so_far)
+  lives_on : (c d : Connection) (x : Exchange) (so_far : List Exchange) → OfMedium m served p c d x → (is_live c.state ≡ true → ContinuesUnreset so_far) → is_live d.state ≡ true → ContinuesUnreset (x ∷ so_far)
   lives_on c d x so_far does h l =
       both_ways (is_opening x) (λ o. life_new x so_far o (clean c d x does l))
       (λ o. life_on x so_far o (clean c d x does l) (elim does [
@@ -81,7 +81,7 @@ module _ (m : AppSpec) (served : ℕ → Bool) (p : Sockets) where
         | ticks numbers at alive fit words is q ↦ h alive
       ]))
 
-  asked_for : (c d : Connection) (x : Exchange) (so_far : List Exchange) → OfMedium m served p c d x → (is_live c.state ≡ true → LivesOn so_far) → IsSolicited x so_far
+  asked_for : (c d : Connection) (x : Exchange) (so_far : List Exchange) → OfMedium m served p c d x → (is_live c.state ≡ true → ContinuesUnreset so_far) → IsSolicited x so_far
   asked_for c d x so_far does h s q = elim does [
     | passes_by e f ↦ absurd (let z : None ≡ Some s = sym (ap (λ y. y.output) e) ∙ q in cc)
     | evicted e f ↦ absurd (let z : None ≡ Some s = sym (ap (λ y. y.output) e) ∙ q in cc)
@@ -174,7 +174,7 @@ module _ (m : AppSpec) (steady : IsSteady m) (port : ℕ) (model : OutputModel) 
     fit : FitNode n
     current : (incarnation before : List Exchange) → so_far ≡ incarnation ++ before → is_incarnation incarnation ≡ true → Current (serving p n.connections) incarnation
     ever : (later incarnation before : List Exchange) → so_far ≡ later ++ (incarnation ++ before) → is_incarnation incarnation ≡ true → IncarnationConforms model incarnation
-    incarnations : is_live (serving p n.connections).state ≡ true → LivesOn so_far
+    incarnations : is_live (serving p n.connections).state ≡ true → ContinuesUnreset so_far
     asked : NothingUnsolicited so_far
     ports : OpensServed served p so_far
 

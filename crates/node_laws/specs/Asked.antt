@@ -6,7 +6,7 @@ use Rattle.tcp_machine.specs.Prelude.{Sockets}
 use Rattle.uip_node.specs.Prelude.{EchoAsked, Echo}
 use Rattle.node_laws.specs.Traces.{Exchange, TraceEntry, is_opening, is_incarnation}
 
--- An echo reply answers the echo request of the same trace entry.
+-- An echo reply is sent only at an event that brings an echo request.
 abbrev pub IsEchoed : TraceEntry → Type 0
 IsEchoed t = (request : List ℕ) → t.sent ≡ Some (Echo request) → t.event ≡ EchoAsked request
 
@@ -16,7 +16,7 @@ pub record IsWithoutReset (x : Exchange) : Type 0 where
   pub output : (s : PlainSegment) → x.output ≡ Some s → has_rst s.flags ≡ false
 
 -- The newest of these exchanges are an incarnation, and in it no RST was received or sent.
-pub record LivesOn (exchanges : List Exchange) : Type 0 where
+pub record ContinuesUnreset (exchanges : List Exchange) : Type 0 where
   pub incarnation : List Exchange
   pub older : List Exchange
   pub split : exchanges ≡ incarnation ++ older
@@ -27,7 +27,7 @@ pub record LivesOn (exchanges : List Exchange) : Type 0 where
 -- continues.
 abbrev pub IsSolicited : Exchange → List Exchange → Type 0
 IsSolicited x before = (s : PlainSegment) → x.output ≡ Some s →
-    ((t : PlainSegment) × (x.received ≡ Some t) × (has_rst t.flags ≡ false)) ⊎ ((x.received ≡ None) × LivesOn before)
+    ((t : PlainSegment) × (x.received ≡ Some t) × (has_rst t.flags ≡ false)) ⊎ ((x.received ≡ None) × ContinuesUnreset before)
 
 -- Every segment sent on this pair of sockets is solicited.
 abbrev pub NothingUnsolicited : List Exchange → Type 0

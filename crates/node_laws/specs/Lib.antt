@@ -9,5 +9,5 @@ pub mod TraceConforms
 pub mod HonestPeers
 pub mod Timers
 pub mod Windows
-pub mod WrongLives
+pub mod WrongIncarnations
 pub mod Prelude

@@ -1,5 +1,5 @@
 -- The names of the definitions of this crate that other files cite, passed on from one place. Declares nothing.
-pub use Rattle.node_laws.specs.Asked.{IsEchoed, IsSolicited, IsWithoutReset, LivesOn, NothingUnsolicited, OpensServed}
+pub use Rattle.node_laws.specs.Asked.{IsEchoed, IsSolicited, IsWithoutReset, ContinuesUnreset, NothingUnsolicited, OpensServed}
 pub use Rattle.node_laws.specs.HonestPeers.{Asker, AsksHonestly, HasItsPage, HonestPeer, IsHonest, IsWaitedFor, SendsNext, SendsSyn}
 pub use Rattle.node_laws.specs.HonestPeers.{awaits_ack, bare_acks, calls_of, in_turn, is_bare_ack, receives_all, text_received}
 pub use Rattle.node_laws.specs.Promise.{Account, AccountHolds, Acknowledges, Begins, IncarnationConforms, IsAcceptedText}
@@ -18,5 +18,5 @@ pub use Rattle.node_laws.specs.Turns.{trace_of}
 pub use Rattle.node_laws.specs.Windows.{FitsNewest, FitsWindows, IsNewText, IsPassedOver, WindowsAreRespected}
 pub use Rattle.node_laws.specs.Wire.{IsOfLine, IsReadByPeer, IsReadThere, seen_from_peer}
 pub use Rattle.node_laws.specs.Wire.IsOfLine.{of_bytes, of_call, of_overlong}
-pub use Rattle.node_laws.specs.WrongLives.{SpeaksBy, WrongLivesFall, acknowledges_refused, cut_again, echoes_before, ends_early, exchanged}
-pub use Rattle.node_laws.specs.WrongLives.{hello_pages, mirror_pages, opened, repeats_byte, segment, tells_another, two_under_way}
+pub use Rattle.node_laws.specs.WrongIncarnations.{SpeaksBy, WrongIncarnationsFall, acknowledges_refused, cut_again, echoes_before, ends_early, exchanged}
+pub use Rattle.node_laws.specs.WrongIncarnations.{hello_pages, mirror_pages, opened, repeats_byte, segment, tells_another, two_under_way}

@@ -10,8 +10,8 @@ use Rattle.uip_node.specs.Prelude.{Alike, IsSlice}
 use Rattle.node_laws.specs.Traces.{Exchange, sent_at, received_at}
 use Rattle.node_laws.specs.Receivers.{IsReceived, EndsAfter}
 
--- The account of an incarnation. `peer_mss` is the MSS option of the peer's SYN. `accepted` is the text accepted from the peer, and
--- `ended` whether its FIN was accepted. `captures` are the snapshots captured, and `sent` is the text sent.
+-- The account of an incarnation. `peer_mss` is the MSS option of the peer's SYN. `accepted` is the text accepted from the peer. If `ended`
+-- is true, a FIN was accepted after it. `captures` are the snapshots captured, and `sent` is the text sent.
 pub record Account : Type 0 where
   pub irs : ℕ
   pub iss : ℕ
@@ -23,7 +23,7 @@ pub record Account : Type 0 where
 
 -- ---- the handshake
 
--- A SYN with the IRS was received, and the SYN-ACK with the ISS acknowledges it.
+-- A segment with SYN and SEG.SEQ IRS was received. The segment sent has SEG.SEQ ISS and SEG.ACK IRS + 1.
 pub record Opening (x : Exchange) (a : Account) : Type 0 where
   pub syn : PlainSegment
   pub received : x.received ≡ Some syn
@@ -53,7 +53,8 @@ pub record Accepts (irs : ℕ) (x : Exchange) (Before : List ℕ → Bool → Ty
   pub joined : text ≡ taken ++ segment.text
   pub fin : ended ≡ true → has_fin segment.flags ≡ true
 
--- Some selection of the segments received in these exchanges, each accepted in order, gives this text, and the FIN if `ended` is true.
+-- Some selection of the segments received in these exchanges, each accepted in order, has this text as its data. If `ended` is true, the
+-- last one has a FIN, which is counted.
 abbrev pub IsAcceptedText : ℕ → List Exchange → List ℕ → Bool → Type 0
 IsAcceptedText irs [] text ended = (text ≡ []) × (ended ≡ false)
 IsAcceptedText irs (x ∷ older) text ended =
@@ -99,9 +100,9 @@ pub record IsAcknowledged (incarnation : List Exchange) (i j : ℕ) (t : PlainSe
 
 -- ---- the guarantee
 
--- This account holds for the incarnation. Each byte of `sent` was sent, and each segment is a slice of `sent`. No segment is longer than
--- the MSS of the peer allows. Each segment without RST acknowledges only accepted data. Stop and wait: a segment t was acknowledged exactly
--- before a newer segment s with another SEG.SEQ was sent (i < j: exchange i is newer).
+-- This account holds for the incarnation. Each byte of `sent` was sent, and the data of each segment is a slice of `sent`, no longer than
+-- the MSS of the peer allows. Each segment without RST acknowledges only accepted data. Stop and wait: let t, and later s, be sent with
+-- SEG.LEN above 0 and different SEG.SEQ (i < j: exchange i is newer). Then the end of t was acknowledged before or when s was sent.
 pub record AccountHolds (incarnation : List Exchange) (a : Account) : Type 0 where
   pub begins : Begins incarnation a
   pub taken : IsAcceptedText a.irs incarnation a.accepted a.ended
@@ -130,7 +131,7 @@ pub record IsPrefixOfPage (pages : Pages) (delivered : List ℕ) (incarnation : 
 
 -- What determines the output of an application at a port.
 pub data OutputModel : Type 0 where
-  Paged : (pages : Pages) → OutputModel  -- the page of the whole accepted text, shorter than 2^30 bytes
+  Paged : (pages : Pages) → OutputModel  -- the page of the whole accepted text
   Interactive : (sessions : Pages) → OutputModel  -- the session of a prefix of the accepted text, without a bound
   Free : OutputModel  -- anything
 

@@ -1,7 +1,7 @@
 //! The laws of a node's trace.
 
 ghost use Rattle.node_laws.specs.Prelude.{HonestPeer, EveryTraceConforms, EveryTraceOfPagesConforms, PlainestReceives};
-ghost use Rattle.node_laws.specs.Prelude.{RetransmitsOrResets, WindowsAreRespected, WrongLivesFall};
+ghost use Rattle.node_laws.specs.Prelude.{RetransmitsOrResets, WindowsAreRespected, WrongIncarnationsFall};
 
 /// Holds for any datagrams, from any peers, and every application that never retracts text. Every incarnation of every connection in a
 /// node's trace conforms to the output model of its port, and nothing is sent unsolicited.
@@ -20,8 +20,8 @@ pub fn plainest_receives()
 {}
 
 /// The guarantee alone excludes wrong traces: a truncated retransmission, a FIN too early, a byte sent twice, and others.
-pub fn wrong_lives_fall()
-    ensures { WrongLivesFall }
+pub fn wrong_incarnations_fall()
+    ensures { WrongIncarnationsFall }
 {}
 
 /// A peer that sends a request, acknowledges each segment and loses none has its whole page and a FIN after a stated number of its

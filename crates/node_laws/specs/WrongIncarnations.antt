@@ -63,7 +63,7 @@ abbrev pub SpeaksBy : Pages → OutputModel → Type 0
 SpeaksBy pages model = (model ≡ Paged pages) ⊎ (model ≡ Interactive pages)
 
 -- None of them conforms; the first three do not conform to any output model.
-pub record WrongLivesFall : Type 0 where
+pub record WrongIncarnationsFall : Type 0 where
   pub cut_resend : (model : OutputModel) → IncarnationConforms model cut_again → ⊥
   pub refused : (model : OutputModel) → IncarnationConforms model acknowledges_refused → ⊥
   pub second_segment : (model : OutputModel) → IncarnationConforms model two_under_way → ⊥

@@ -1,5 +1,5 @@
 -- The guarantee alone excludes wrong incarnations.
-use Rattle.node_laws.proofs.Prelude.{◌≡◌, ◌+◌, ◌<◌, ◌≤◌, ◌⊎◌, ℕ, zero, suc, Bool, true, false, List, [], ◌∷◌, ◌++◌, length, take, refl, sym, ap, ◌∙◌, subst, arith, inl, inr, Some, if◌then◌else◌, wrap, PlainSegment, hello, fixed_text, some_heard, EchoAsked, only_some, prefix_length, prefix_refl, IsPrefixOf, OutputModel, Paged, Interactive, Free, CarriesByte, IsReceived, received_at, sent_at, IsEchoed, Account, Opening, IsAcceptedText, AccountHolds, IncarnationConforms, NumbersGiveOffsets, IsAcknowledged, Pages, Exchange, IsPrefixOfPage, TextConforms, SpeaksBy, hello_pages, mirror_pages, opened, segment, cut_again, ends_early, repeats_byte, acknowledges_refused, two_under_way, tells_another, echoes_before, WrongLivesFall}
+use Rattle.node_laws.proofs.Prelude.{◌≡◌, ◌+◌, ◌<◌, ◌≤◌, ◌⊎◌, ℕ, zero, suc, Bool, true, false, List, [], ◌∷◌, ◌++◌, length, take, refl, sym, ap, ◌∙◌, subst, arith, inl, inr, Some, if◌then◌else◌, wrap, PlainSegment, hello, fixed_text, some_heard, EchoAsked, only_some, prefix_length, prefix_refl, IsPrefixOf, OutputModel, Paged, Interactive, Free, CarriesByte, IsReceived, received_at, sent_at, IsEchoed, Account, Opening, IsAcceptedText, AccountHolds, IncarnationConforms, NumbersGiveOffsets, IsAcknowledged, Pages, Exchange, IsPrefixOfPage, TextConforms, SpeaksBy, hello_pages, mirror_pages, opened, segment, cut_again, ends_early, repeats_byte, acknowledges_refused, two_under_way, tells_another, echoes_before, WrongIncarnationsFall}
 use Rattle.node_laws.proofs.Texts.{element, get_inside, most_or_more}
 
 -- where the life begins
@@ -147,8 +147,8 @@ other_page model by k =
 echo_before : IsEchoed echoes_before → ⊥
 echo_before h = let z : EchoAsked (2 ∷ []) ≡ EchoAsked (1 ∷ []) = h (1 ∷ []) refl in cc
 
-pub wrong_lives_fall : WrongLivesFall
-wrong_lives_fall = record {
+pub wrong_incarnations_fall : WrongIncarnationsFall
+wrong_incarnations_fall = record {
   cut_resend = cut_resend;
   early_fin = early_fin;
   repeated_byte = repeated_byte;
