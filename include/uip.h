@@ -3,7 +3,7 @@
  * carries datagrams, or on Ethernet with ARP. The web server at port 80 is the only application.
  *
  * SPDX-License-Identifier: MIT OR Apache-2.0
- * Copyright 2026 The Lowunbisa authors
+ * Copyright 2026 The Lowunbisa authors (the run-time library of the Rattle kit, in each binary, has no stated licence)
  *
  * THIS IS NOT THE uip.h OF uIP 1.0, although the names begin alike. Never include both in one file: macros of uIP would
  * replace these calls.
