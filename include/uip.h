@@ -216,7 +216,8 @@
  * PROVED for any sequence of calls, successful or not, if the caller keeps the rules: memory safety, that each call
  * returns, and that the output is exactly what the definition of the node and its link sends. A peer receives each page
  * from its start, without gaps or changes (docs/SPECIFICATION.md). On Ethernet each frame with a datagram goes to the
- * hardware address that ARP learned last for its destination.
+ * hardware address that ARP learned last for its next hop (RFC 1122): its destination if that is on the link, else the
+ * router.
  *
  * NOT PROVED: the stack depth, the heap that is enough, and the inline functions. The machine code for Cortex-M,
  * RISC-V and WebAssembly is made by a conversion that is tested and not proved (ports/README.md; docs/PORTS.md of an
@@ -360,7 +361,7 @@ typedef struct { unsigned status, state; unsigned char peer[4]; unsigned port, t
  *   image, len    the image of the site, from tools/pack.py, `uipd pack` or `uipd upgrade`; it is not copied, and
  *                 rule 6 holds until uip_close; after an error it is not read any more
  *   own           the IPv4 address, first byte first: {10, 0, 0, 1}; it is copied. To change it, close and open.
- *                 There is no netmask and no router: every reply goes out on the link.
+ *                 There is no mask and no router: every reply goes out on the link.
  *
  * Status: UIP_OK, UIP_HAS_DEVICE, UIP_BAD_IMAGE, UIP_NO_MEMORY.
  * Not proved: that no later call allocates. Measured: none does.
@@ -466,9 +467,10 @@ uip_result uip_periodic_datagram(uip_device *device, size_t slot, unsigned char 
  *     static uip_device device = UIP_INIT;
  *     static unsigned char frame[UIP_MAX_FRAME];
  *     static const unsigned char own[4] = {10, 0, 0, 1}, mac[6] = {2, 0, 0, 0, 0, 1};
+ *     static const unsigned char mask[4] = {255, 255, 255, 0}, router[4] = {10, 0, 0, 254};
  *     uip_result done;
  *     size_t len, slot;
- *     if (uip_open_ether(&device, site_image, SITE_IMAGE_LEN, own, mac).status != UIP_OK) return 1;
+ *     if (uip_open_ether(&device, site_image, SITE_IMAGE_LEN, own, mac, mask, router).status != UIP_OK) return 1;
  *     for (;;) {
  *         if ((len = mac_receive(frame, sizeof frame)) != 0) {
  *             done = uip_input_frame(&device, frame, sizeof frame, len);
@@ -499,12 +501,16 @@ uip_result uip_periodic_datagram(uip_device *device, size_t slot, unsigned char 
  *   image, len    as for uip_open
  *   own           as for uip_open
  *   mac           the hardware address of the node, 6 bytes; it is copied
+ *   mask          the address mask, first byte first: {255, 255, 255, 0}; it is copied. An address is on the link if the
+ *                 bits that are 1 in the mask are those of `own`. Any bits may be 1
+ *   router        the address of the router; it is copied. A frame to an address that is not on the link goes to the
+ *                 router, whose hardware address is found by ARP
  *
- * There is no netmask and no router: every address is on the link.
+ * If the mask is 0.0.0.0, or the router is 0.0.0.0, every address is on the link.
  * Status: UIP_OK, UIP_HAS_DEVICE, UIP_BAD_IMAGE, UIP_NO_MEMORY.
  */
 uip_opened uip_open_ether(uip_device *device, const unsigned char *image, size_t len, const unsigned char own[4],
-                          const unsigned char mac[6]);
+                          const unsigned char mac[6], const unsigned char mask[4], const unsigned char router[4]);
 
 /*
  * Receives one frame. Writes the frame that is sent, if there is one, to the same place: an ARP reply, or the reply of
@@ -513,8 +519,8 @@ uip_opened uip_open_ether(uip_device *device, const unsigned char *image, size_t
  *   frame, room    the received frame at the start, then room for the reply; `room` is UIP_MAX_FRAME or more
  *   len            the length of the received frame, 0 to `room`
  *
- * If the hardware address of the destination is not known, the frame that is written is an ARP request, and the
- * datagram is lost. TCP sends it again.
+ * If the hardware address of the destination, or of the router that leads to it, is not known, the frame that is
+ * written is an ARP request for it, and the datagram is lost. TCP sends it again.
  *
  * Result: `consumed` is `len`; `written` is the length of the frame to send, 0 if there is none; `pending` is 0. The
  * rest of `frame` is unspecified.
