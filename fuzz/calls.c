@@ -7,7 +7,7 @@
 
 enum { MOST_ROOM = 1 << 20, LOOKED_AT = 256 };
 
-static area line_in, datagram_in, image_in, words_in, outputs;
+static area line_in, datagram_in, image_in, words_in, mac_in, outputs;
 static byte before[2 * LOOKED_AT];
 static size_t heap_before;
 static uip_device handle_before;
@@ -17,6 +17,7 @@ void calls_begin(void) {
     datagram_in = area_new(1 << 16, 1);
     image_in = area_new(1 << 20, 1);
     words_in = area_new(1 << 16, 1);
+    mac_in = area_new(6, 1);
     outputs = area_new(MOST_ROOM, 0);
 }
 
@@ -156,7 +157,9 @@ uip_result call_slot_frame(tested *t, unsigned slot, text *to) { return frame_ou
 static uip_opened opened_by(tested *t, const byte *at, size_t len, const byte *own) {
     const byte *address = put_input(&datagram_in, own, 4);
     int is_ether = t->is_open ? chance(50) : t->is_ether;
-    return is_ether ? uip_open_ether(&t->handle, at, len, address, put_input(&words_in, t->mac, 6)) : uip_open(&t->handle, at, len, address);
+    if (!is_ether) return uip_open(&t->handle, at, len, address);
+    const byte *mac = put_input(&mac_in, t->mac, 6), *mask = put_input(&words_in, t->mask, 4);
+    return uip_open_ether(&t->handle, at, len, address, mac, mask, put_input(&line_in, t->router, 4));
 }
 
 // Opens with an image, of which the first fault is foretold, and with an allocation refused, which is foretold by the heap. The image of

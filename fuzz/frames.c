@@ -1,6 +1,6 @@
 // The fourth device, on Ethernet. It receives the datagrams of the device by datagrams in frames, and between them frames of ARP and
 // frames that it drops. Each frame that it sends is foretold: the datagram that the other device sent, to the hardware address that its
-// destination taught last, or else an ARP request; and the reply to an ARP request. docs/LIMITS.md has the rules of ARP.
+// destination or the router taught last, or else an ARP request; and the reply to an ARP request. docs/LIMITS.md has the rules of ARP.
 #include <string.h>
 #include "fuzz.h"
 
@@ -50,13 +50,24 @@ static size_t write_arp(byte *to, const byte *target, unsigned operation, const 
     return ARP_LEN;
 }
 
+// The address of four bytes as a number.
+static unsigned long number_of(const byte *address) {
+    return (unsigned long)address[0] << 24 | (unsigned long)address[1] << 16 | (unsigned long)address[2] << 8 | address[3];
+}
+
+// The next hop: the router, if there is one and a bit of the target under the mask differs from the node's; else the target.
+static const byte *hop_to(const byte *target) {
+    int is_near = ((number_of(target) ^ number_of(counted.own)) & number_of(device.mask)) == 0;
+    return number_of(device.router) && !is_near ? device.router : target;
+}
+
 // The frame for a datagram that is sent now; its length, 0 if nothing is sent.
 static size_t foretell(byte *to, const byte *datagram, size_t len) {
-    const byte *target = datagram + 16, *mac = len ? known(target) : 0;
     if (len == 0) return 0;
+    const byte *target = hop_to(datagram + 16), *mac = known(target);
     if (!mac) return write_arp(to, everyone, 1, device.mac, counted.own, (byte[6]){0}, target);
     memcpy(to + write_head(to, mac, device.mac, 0x800), datagram, len);
-    counts.framed++;
+    counts.framed++, counts.routed += target == device.router;
     return HEAD + len;
 }
 
@@ -133,7 +144,7 @@ void frames_hear(const byte *datagram, size_t len, const byte *reply, size_t rep
     byte mac[6] = {2};
     int is_sound = len >= 20 && len == ((size_t)datagram[2] << 8 | datagram[3]);
     if (len >= 20) memcpy(recent[below(RECENT)], datagram + 12, 4), mac_of(mac, datagram + 12);
-    if (len >= 20 && !known(datagram + 12) && chance(80)) teach(datagram + 12);
+    if (len >= 20 && !known(hop_to(datagram + 12)) && chance(80)) teach(hop_to(datagram + 12));
     between_datagrams(datagram, len);
     size_t frame_len = write_head(frame, chance(95) ? device.mac : everyone, mac, 0x800) + len;
     size_t wanted_len = foretell(wanted, reply, reply_len);
@@ -170,12 +181,24 @@ void frames_read(tested *other, const byte *name, size_t len) {
     counts.calls -= made, counts.others += made;
 }
 
+// A mask of 0 to 32 bits, at times of any bits, and a router, at times none.
+static void choose_network(const byte *own) {
+    unsigned bits = chance(40) ? 8 * below(5) : below(33);
+    unsigned long mask = 0xffffffff ^ (0xffffffffUL >> bits);
+    for (unsigned k = 0; k < 4; k++) device.mask[k] = (byte)(mask >> (24 - 8 * k));
+    if (chance(10)) random_bytes(device.mask, 4);
+    random_bytes(device.router, 4);
+    if (chance(70)) memcpy(device.router, own, 3);
+    if (chance(20)) memset(device.router, 0, 4);
+}
+
 void frames_open(const site *s, const byte *own) {
     memset(learned, 0, sizeof learned);
     learnings = ticks = 0;
     device.is_ether = 1;
     do random_bytes(device.mac, 6); while (!memcmp(device.mac, everyone, 6));
     device.mac[0] = 4;    // no peer has such a one
+    choose_network(own);
     random_bytes(recent[0], sizeof recent);
     if (chance(20)) heap_refuses = between(1, 9);
     call_open(&device, s->image, s->len, own);

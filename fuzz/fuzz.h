@@ -22,7 +22,7 @@ _Noreturn void fail(const char *format, ...) __attribute__((format(printf, 1, 2)
 #define WANT(is_so, ...) do { if (!(is_so)) fail(__VA_ARGS__); } while (0)
 extern struct counts {
     unsigned long calls, others, refused, opens, bad_images, refusals, sessions, pages, whole, datagrams, pings;
-    unsigned long given, shown, changed, hits, rows, framed, taught;
+    unsigned long given, shown, changed, hits, rows, framed, routed, taught;
 } counts;
 void report_begin(unsigned long seed, int is_mixed);
 void report_end(void);
@@ -115,7 +115,7 @@ void record_begin(const char *folder, const site *s, const byte *own, unsigned p
 void record_end(void);
 
 // calls.c: single calls of the device under test, fine and refused, each as it was foretold. The image stays while the device is open.
-typedef struct { uip_device handle; int is_open, has_left, is_ether; byte mac[6]; area image; } tested;
+typedef struct { uip_device handle; int is_open, has_left, is_ether; byte mac[6], mask[4], router[4]; area image; } tested;
 typedef struct { byte *bytes; size_t len; } text;
 uip_result call_hear(tested *t, const byte *bytes, size_t len, size_t room, text *to);
 uip_result call_slot(tested *t, unsigned slot, size_t room, text *to);

@@ -38,7 +38,7 @@ planted)
     # shellcheck disable=SC2086
     (cd "$out/parts" && "$cc" $words -O1 -c "$here"/*.c) || fail "the harness was not compiled"
     missed=0
-    for plant in $(seq 35); do
+    for plant in $(seq 37); do
         build planted -O1 -DPLANT="$plant" $wraps "$out"/parts/*.o "$here/planted/planted.c"
         if "$out/planted" 20 3000000 1 mixed >"$out/planted.txt"; then
             echo "MISSED $plant"

@@ -92,8 +92,9 @@
  *      and heap.
  *   Pointers
  *   4. Each pointer, also of a function, is not null, even if its length is 0. Each input is readable over its whole
- *      length (`own` 4 bytes, `mac` 6). `out`, and `frame` beyond `len`, need not be initialised. Exception: `to` of
- *      the inline functions, which only the sink uses, may be null. Areas of bytes may have any alignment.
+ *      length (`own`, `mask` and `router` 4 bytes, `mac` 6). `out`, and `frame` beyond `len`, need not be initialised.
+ *      Exception: `to` of the inline functions, which only the sink uses, may be null. Areas of bytes may have any
+ *      alignment.
  *   5. `out`, and `frame` of the calls for frames, may be written over the whole of `room`. It shares no byte with the
  *      handle or with another argument, and nothing else (no DMA) reads or writes it until the call returns.
  *   6. The image stays at its address until uip_close, and its bytes are the same at each call: the library reads it
@@ -283,7 +284,7 @@ typedef struct uip_row { unsigned status, state; unsigned char peer[4]; unsigned
  *                 rule 6 holds until uip_close; after an error it is not read any more
  *   own           the IPv4 address, first byte first: {10, 0, 0, 1}; it is copied and not checked. To change it,
  *                 close and open.
- *                 There is no netmask and no router: every reply goes out on the link.
+ *                 There is no mask and no router: every reply goes out on the link.
  *
  * Status: UIP_OK, UIP_HAS_DEVICE, UIP_BAD_IMAGE, UIP_NO_MEMORY.
  */
@@ -401,9 +402,10 @@ uip_result uip_periodic_datagram(uip_device *device, size_t slot, unsigned char 
  *     static uip_device device = UIP_INIT;
  *     static unsigned char frame[UIP_MAX_FRAME];
  *     static const unsigned char own[4] = {10, 0, 0, 1}, mac[6] = {2, 0, 0, 0, 0, 1};
+ *     static const unsigned char mask[4] = {255, 255, 255, 0}, router[4] = {10, 0, 0, 254};
  *     uip_result done;
  *     size_t len, slot;
- *     if (uip_open_ether(&device, site_image, SITE_IMAGE_LEN, own, mac).status != UIP_OK) return 1;
+ *     if (uip_open_ether(&device, site_image, SITE_IMAGE_LEN, own, mac, mask, router).status != UIP_OK) return 1;
  *     for (;;) {
  *         if ((len = mac_receive(frame, sizeof frame)) != 0) {
  *             done = uip_input_frame(&device, frame, sizeof frame, len);
@@ -435,11 +437,11 @@ uip_result uip_periodic_datagram(uip_device *device, size_t slot, unsigned char 
  *   own           as for uip_open
  *   mac           the hardware address of the node, 6 bytes; it is copied and not checked
  *
- * There is no netmask and no router: every address is on the link.
+ * If the mask is 0.0.0.0, or the router is 0.0.0.0, every address is on the link.
  * Status: UIP_OK, UIP_HAS_DEVICE, UIP_BAD_IMAGE, UIP_NO_MEMORY.
  */
 uip_opened uip_open_ether(uip_device *device, const unsigned char *image, size_t len, const unsigned char own[4],
-                          const unsigned char mac[6]);
+                          const unsigned char mac[6], const unsigned char mask[4], const unsigned char router[4]);
 
 /*
  * Receives one frame. Writes the frame that is sent, if there is one, to the same place: an ARP reply, or the reply of
@@ -449,8 +451,8 @@ uip_opened uip_open_ether(uip_device *device, const unsigned char *image, size_t
  *                  `room` is UIP_MAX_FRAME or more, and comes before `len`
  *   len            the length of the received frame, 0 to `room`
  *
- * If the hardware address of the destination is not known, the frame that is written is an ARP request, and the
- * datagram is lost. TCP sends it again.
+ * If the hardware address of the destination, or of the router that leads to it, is not known, the frame that is
+ * written is an ARP request for it, and the datagram is lost. TCP sends it again.
  *
  * Result: `consumed` is `len`; `written` is the length of the frame to send, 0 if there is none; `pending` is 0. The
  * rest of `frame` is unspecified.
@@ -686,7 +688,8 @@ UIP_INLINE unsigned uip_tick_all(uip_device *device, unsigned char *out, size_t 
  * caller keeps the rules: memory safety, that each call returns, and that the output is exactly what
  * docs/SPECIFICATION.md defines for the input. A peer receives the page unchanged, from its start; with the FIN it has
  * the whole page. This does not hold if a late datagram of an older connection is accepted. On Ethernet each frame with
- * a datagram goes to the hardware address that ARP learned last for its destination.
+ * a datagram goes to the hardware address that ARP learned last for its next hop (RFC 1122): its destination if that is
+ * on the link, else the router.
  *
  * NOT PROVED: the machine code, the stack depth, the heap that is enough, a bound on the time of a call, and the inline
  * functions. For Cortex-M, RISC-V and WebAssembly a conversion, tested and not proved, comes between source and machine

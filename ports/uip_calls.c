@@ -75,10 +75,11 @@ uip_result uip_periodic_datagram(uip_device *device, size_t slot, unsigned char 
 }
 
 #ifndef UIP_NO_ETHERNET
-uip_opened uip_open_ether(uip_device *device, const unsigned char *image, size_t len, const unsigned char own[4], const unsigned char mac[6]) {
+uip_opened uip_open_ether(uip_device *device, const unsigned char *image, size_t len, const unsigned char own[4], const unsigned char mac[6],
+                          const unsigned char mask[4], const unsigned char router[4]) {
     module_device d = of_device(device);
     _Alignas(8) uip_opened opened;
-    port_uip_open_ether(&opened, &d, (void *)image, len, (void *)own, (void *)mac);
+    port_uip_open_ether(&opened, &d, (void *)image, len, (void *)own, (void *)mac, (void *)mask, (void *)router);
     put_device(device, &d);
     return opened;
 }

@@ -28,11 +28,19 @@ static const unsigned char image[] = "UIPSITE1\0", own[4] = {10, 0, 0, 1};
 #define NODE "\2\0\0\0\0\1"
 #define ARP "\x08\6\0\1\x08\0\6\4\0"
 #define ALL_HOSTS "\xff\xff\xff\xff\xff\xff"
-static const unsigned char mac[6] = {2, 0, 0, 0, 0, 1};
+static const unsigned char mac[6] = {2, 0, 0, 0, 0, 1}, mask[4] = {255, 255, 255, 0}, router[4] = {10, 0, 0, 254};
 static const unsigned char arp_request[] = ALL_HOSTS PEER ARP "\1" PEER "\x0a\0\0\2\0\0\0\0\0\0\x0a\0\0\1";
 static const unsigned char arp_reply[] = PEER NODE ARP "\2" NODE "\x0a\0\0\1" PEER "\x0a\0\0\2";
 static const unsigned char echo_frame[] = NODE PEER "\x08\0" REQUEST "\xc0\xdb", reply_frame[] = PEER NODE "\x08\0" REPLY "\xc0\xdb";
 static const unsigned char arp_for_peer[] = ALL_HOSTS NODE ARP "\1" NODE "\x0a\0\0\1\0\0\0\0\0\0\x0a\0\0\2";
+// The same with 192.168.7.1 by the router 02:00:00:00:00:09, which has 10.0.0.254: an echo request, the ARP request for the router, its
+// reply, and the echo reply.
+#define ROUTER "\2\0\0\0\0\x09"
+#define FAR_REQUEST "E\0\0\x1c\0\1\0\0\x40\1\xa9\x36\xc0\xa8\7\1\x0a\0\0\1\x08\0\xf7\xfd\0\1\0"
+#define FAR_REPLY "E\0\0\x1c\0\1\0\0\x40\1\xa9\x36\x0a\0\0\1\xc0\xa8\7\1\0\0\xff\xfd\0\1\0"
+static const unsigned char far_frame[] = NODE ROUTER "\x08\0" FAR_REQUEST "\1", far_reply_frame[] = ROUTER NODE "\x08\0" FAR_REPLY "\1";
+static const unsigned char arp_for_router[] = ALL_HOSTS NODE ARP "\1" NODE "\x0a\0\0\1\0\0\0\0\0\0\x0a\0\0\xfe";
+static const unsigned char router_reply[] = NODE ROUTER ARP "\2" ROUTER "\x0a\0\0\xfe" NODE "\x0a\0\0\1";
 static uip_device device = UIP_INIT;
 static unsigned char out[UIP_MAX_OUT];
 static int wrong;
@@ -81,7 +89,7 @@ static void opening(void) {
     expect(uip_open(&device, image, 10, own).status == UIP_OK, "uip_open");
     size_t blocks = heap_blocks;
     expect(uip_open(&device, image, 10, own).status == UIP_HAS_DEVICE, "uip_open twice");
-    expect(uip_open_ether(&device, image, 10, own, mac).status == UIP_HAS_DEVICE, "uip_open_ether after uip_open");
+    expect(uip_open_ether(&device, image, 10, own, mac, mask, router).status == UIP_HAS_DEVICE, "uip_open_ether after uip_open");
     expect(blocks > 0 && heap_blocks == blocks, "the heap while a device is open");
 }
 
@@ -139,12 +147,12 @@ static void whole_lines(void) {
 }
 
 static void opening_on_ethernet(void) {
-    uip_opened opened = uip_open_ether(&device, (const unsigned char *)"UIPSITE1\0\1\2/", 12, own, mac);
+    uip_opened opened = uip_open_ether(&device, (const unsigned char *)"UIPSITE1\0\1\2/", 12, own, mac, mask, router);
     expect(opened.status == UIP_BAD_IMAGE && opened.entry == 1 && !strcmp(opened.word, "cut"), "uip_open_ether with a bad image");
     expect(heap_blocks == 0 && device.is_open == 0, "the heap after a bad image on Ethernet");
-    opened = uip_open_ether(&device, image, 10, own, mac);
+    opened = uip_open_ether(&device, image, 10, own, mac, mask, router);
     expect(opened.status == UIP_OK && opened.entry == 0 && device.is_open == 2, "uip_open_ether");
-    expect(uip_open_ether(&device, image, 10, own, mac).status == UIP_HAS_DEVICE, "uip_open_ether twice");
+    expect(uip_open_ether(&device, image, 10, own, mac, mask, router).status == UIP_HAS_DEVICE, "uip_open_ether twice");
     expect(uip_open(&device, image, 10, own).status == UIP_HAS_DEVICE, "uip_open after uip_open_ether");
 }
 
@@ -173,6 +181,9 @@ static void successful_calls_on_ethernet(void) {
     exchange(echo_frame, 44, arp_for_peer, 42, "uip_input_frame, from an address that is not known");
     exchange(arp_request, 42, arp_reply, 42, "uip_input_frame, an ARP request");
     exchange(echo_frame, 44, reply_frame, 44, "uip_input_frame, an echo request");
+    exchange(far_frame, 42, arp_for_router, 42, "uip_input_frame, from another network");
+    exchange(router_reply, 42, router_reply, 0, "uip_input_frame, the reply of the router");
+    exchange(far_frame, 42, far_reply_frame, 42, "uip_input_frame, an echo request by the router");
     exchange(echo_frame, 13, echo_frame, 0, "uip_input_frame, a short frame");
     exchange(echo_frame, 0, echo_frame, 0, "uip_input_frame, no bytes");
     exchange(reply_frame, 44, reply_frame, 0, "uip_input_frame, for another host");
@@ -181,7 +192,7 @@ static void successful_calls_on_ethernet(void) {
     }
     uip_number ticks = uip_ticks(&device), replies = uip_counter(&device, UIP_ECHO_REPLIES_OUT), idle = uip_is_idle(&device);
     expect(ticks.status == UIP_OK && ticks.number == 1, "uip_ticks on Ethernet");
-    expect(replies.status == UIP_OK && replies.number == 2, "uip_counter on Ethernet");
+    expect(replies.status == UIP_OK && replies.number == 4, "uip_counter on Ethernet");
     expect(idle.status == UIP_OK && idle.number == 1, "uip_is_idle on Ethernet");
     uip_row row = uip_connection(&device, 0);
     expect(row.status == UIP_OK && row.state == UIP_CLOSED, "uip_connection on Ethernet");

@@ -1,6 +1,7 @@
 // A site on Ethernet: a TAP interface of Linux in place of a network card. The frames come and go as a controller has them.
 //
-//     uip_tap IMAGE INTERFACE SECONDS      serves the site at 10.0.0.1 for that many seconds, and prints what passed
+//     uip_tap IMAGE INTERFACE SECONDS      serves the site at 10.0.0.1 for that many seconds, and prints what passed. 10.0.0.2 leads to
+//                                          all addresses but 10.0.0.0 to 10.0.0.255
 #include <fcntl.h>
 #include <linux/if.h>
 #include <linux/if_tun.h>
@@ -66,11 +67,11 @@ static void receive_until(double time) {
 }
 
 int main(int argc, char **argv) {
-    static const unsigned char own[4] = {10, 0, 0, 1}, mac[6] = {2, 0, 0, 0, 0, 1};
+    static const unsigned char own[4] = {10, 0, 0, 1}, mac[6] = {2, 0, 0, 0, 0, 1}, mask[4] = {255, 255, 255, 0}, router[4] = {10, 0, 0, 2};
     FILE *file = argc == 4 ? fopen(argv[1], "rb") : 0;
     if (!file) fail("uip_tap IMAGE INTERFACE SECONDS");
     size_t len = fread(image, 1, sizeof image, file);
-    uip_opened opened = uip_open_ether(&device, image, len, own, mac);
+    uip_opened opened = uip_open_ether(&device, image, len, own, mac, mask, router);
     if (opened.status != UIP_OK) {
         fprintf(stderr, "uip_open_ether returned status %u %s %u\n", opened.status, opened.word, opened.entry);
         return 1;

@@ -11,7 +11,8 @@ uip_result __real_uip_periodic(uip_device *d, size_t slot, byte *out, size_t roo
 uip_result __real_uip_drain(uip_device *d, byte *out, size_t room);
 uip_result __real_uip_input(uip_device *d, const byte *datagram, size_t len, byte *out, size_t room);
 uip_number __real_uip_counter(uip_device *d, size_t number);
-uip_opened __real_uip_open_ether(uip_device *d, const byte *image, size_t len, const byte *own, const byte *mac);
+uip_opened __real_uip_open_ether(uip_device *d, const byte *image, size_t len, const byte *own, const byte *mac, const byte *mask,
+                                 const byte *router);
 uip_result __real_uip_input_frame(uip_device *d, byte *frame, size_t room, size_t len);
 uip_result __real_uip_periodic_frame(uip_device *d, size_t slot, byte *frame, size_t room);
 unsigned __real_uip_close(uip_device *d);
@@ -122,9 +123,13 @@ uip_row __wrap_uip_connection(uip_device *d, size_t slot) {
 }
 
 static byte own_mac[6], last_mac[6];
+static const byte no_address[4], all_bits[4] = {255, 255, 255, 255};
 
-uip_opened __wrap_uip_open_ether(uip_device *d, const byte *image, size_t len, const byte *own, const byte *mac) {
-    uip_opened opened = __real_uip_open_ether(d, image, len, own, mac);
+uip_opened __wrap_uip_open_ether(uip_device *d, const byte *image, size_t len, const byte *own, const byte *mac, const byte *mask,
+                                 const byte *router) {
+    if (PLANT == 36) router = no_address;                                         // the router is ignored
+    if (PLANT == 37) mask = all_bits;                                             // the mask is ignored
+    uip_opened opened = __real_uip_open_ether(d, image, len, own, mac, mask, router);
     if (opened.status == UIP_OK) memcpy(own_mac, mac, 6);
     if (PLANT == 28 && opened.status == UIP_OK) rattle_alloc(1, 1);               // a block more
     return opened;

@@ -127,17 +127,19 @@ uip_opened __wrap_uip_open(uip_device *d, const unsigned char *image, size_t len
     return opened;
 }
 
-uip_opened __real_uip_open_ether(uip_device *d, const unsigned char *image, size_t len, const unsigned char own[4], const unsigned char mac[6]);
-uip_opened __wrap_uip_open_ether(uip_device *d, const unsigned char *image, size_t len, const unsigned char own[4], const unsigned char mac[6]) {
-    unsigned char addresses[10];
+uip_opened __real_uip_open_ether(uip_device *d, const unsigned char *image, size_t len, const unsigned char own[4], const unsigned char mac[6],
+                                 const unsigned char mask[4], const unsigned char router[4]);
+uip_opened __wrap_uip_open_ether(uip_device *d, const unsigned char *image, size_t len, const unsigned char own[4], const unsigned char mac[6],
+                                 const unsigned char mask[4], const unsigned char router[4]) {
+    unsigned char addresses[18];
     record r = begun(OPEN_ETHER, d, 0, len, 0, 0);
-    memcpy(addresses, own, 4), memcpy(addresses + 4, mac, 6);
-    uip_opened opened = __real_uip_open_ether(d, image, len, own, mac);
+    memcpy(addresses, own, 4), memcpy(addresses + 4, mac, 6), memcpy(addresses + 10, mask, 4), memcpy(addresses + 14, router, 4);
+    uip_opened opened = __real_uip_open_ether(d, image, len, own, mac, mask, router);
     r.status = opened.status;
     r.heap = heap;
-    r.in_len = len + 10;
+    r.in_len = len + 18;
     r.out_len = sizeof opened;
-    put(&r, addresses, 10, image, &opened);
+    put(&r, addresses, 18, image, &opened);
     return opened;
 }
 

@@ -115,7 +115,7 @@ static uip_result call(const record *r, const unsigned char *input, const unsign
     switch (r->op) {
     case OPEN: opened = uip_open(d, input + 4, len - 4, input); *left = (unsigned char *)&opened; return of_status(opened.status);
     case OPEN_ETHER:
-        opened = uip_open_ether(d, input + 10, len - 10, input, input + 4);
+        opened = uip_open_ether(d, input + 18, len - 18, input, input + 4, input + 10, input + 14);
         *left = (unsigned char *)&opened;
         return of_status(opened.status);
     case INPUT_FRAME: __builtin_memcpy(out, input, len); return uip_input_frame(d, out, room, number);

@@ -81,13 +81,17 @@ frame_brings k frame =
     if bytes_eq (mac_at frame 0) k.mac || bytes_eq (mac_at frame 0) broadcast then payload_brings k (word_at frame 12) (drop 14 frame)
     else []
 
--- The frame for a datagram: to this hardware address of its target, or the request for that address.
-abbrev pub wrapped_to : Host → Option (List ℕ) → List ℕ → List ℕ
-wrapped_to k to datagram = option_map_or (λ mac. frame_with mac k.mac 2048 datagram) to (arp_request k (address_at datagram 16))
+-- The frame for a datagram with this next hop: to this hardware address of the hop, or the request for that address.
+abbrev pub wrapped_to : Host → List ℕ → Option (List ℕ) → List ℕ → List ℕ
+wrapped_to k hop to datagram = option_map_or (λ mac. frame_with mac k.mac 2048 datagram) to (arp_request k hop)
 
--- After these events: to the hardware address of its target that is known then.
+-- After these events: to the hardware address of the hop that is known then.
+abbrev pub wrapped_via : Host → List Act → List ℕ → List ℕ → List ℕ
+wrapped_via k acts hop datagram = wrapped_to k hop (known acts hop) datagram
+
+-- The same if every address is on the link: the next hop is the target.
 abbrev pub wrapped : Host → List Act → List ℕ → List ℕ
-wrapped k acts datagram = wrapped_to k (known acts (address_at datagram 16)) datagram
+wrapped k acts datagram = wrapped_via k acts (address_at datagram 16) datagram
 
 -- A frame after its length.
 abbrev pub framed : List ℕ → List ℕ

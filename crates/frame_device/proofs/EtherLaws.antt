@@ -1,12 +1,12 @@
 -- Frames of Ethernet: what brings them, and what they are beside those of a line.
-use Rattle.frame_device.proofs.Prelude.{take-append_seam, ◌⊎◌, inl, inr, ◌≡◌, ℕ, ◌+◌, ◌<◌, ◌==◌, ◌&&◌, Bool, true, false, if◌then◌else◌, nat_lt, List, [], ◌∷◌, ◌++◌, Option, None, Some, drop, length, map, take, refl, sym, ap, ◌∙◌, subst, arith, append-nil, length-append, ◌||◌, ⊤, bytes_eq, AppSpec, address_at, word_at, word_bytes, written, Addr, choose, reply_bytes, Reply, Periodic, step, MediumInput, Datagram, Overlong, Own, StationEvent, OfMedium, OfNode, Station, station_after, output, output_of_event, reply_text, station_event_by, ether_text, ether_medium, is_taken, says_at, Host, arp_brings, arp_packet, broadcast, frame_brings, frame_with, framed, is_arp, is_arp_for, is_datagram, is_sendable, mac_at, no_mac, payload_brings, arp_reply, sender_of, wrapped, wrapped_to, Act, Asked, Pair, Replied, Ticked, known, IsSilent, as_medium, CallsSlot, DoesNothing, FrameCall, InputsFrame, station_events_by, SentAsOnLine, ether_frames, on_line}
+use Rattle.frame_device.proofs.Prelude.{take-append_seam, ◌⊎◌, inl, inr, ◌≡◌, ℕ, ◌+◌, ◌<◌, ◌==◌, ◌&&◌, Bool, true, false, if◌then◌else◌, nat_lt, List, [], ◌∷◌, ◌++◌, Option, None, Some, drop, length, map, take, refl, sym, ap, ◌∙◌, subst, arith, append-nil, length-append, ◌||◌, ⊤, bytes_eq, AppSpec, address_at, word_at, word_bytes, written, Addr, choose, reply_bytes, Reply, Periodic, step, MediumInput, Datagram, Overlong, Own, StationEvent, OfMedium, OfNode, Station, station_after, output, output_of_event, reply_text, station_event_by, ether_text, ether_medium, is_taken, says_at, Host, arp_brings, arp_packet, broadcast, frame_brings, frame_with, framed, is_arp, is_arp_for, is_datagram, is_sendable, mac_at, no_mac, payload_brings, arp_reply, sender_of, wrapped_to, wrapped_via, Act, Asked, Pair, Replied, Ticked, known, IsSilent, as_medium, CallsSlot, DoesNothing, FrameCall, InputsFrame, station_events_by, SentAsOnLine, Interface, IsOneLink, Network, and_zero_r, bytes_eq-Decides, or_left, or_right, slice_index, ether_frames, hop_of, is_on_link, masked, next_hop, no_address, on_line}
 
 -- what was written in front is read
 pub prefix_of : (old part : List ℕ) → take (length part) (written old 0 part) ≡ part
 prefix_of old part = take-append_seam part (drop (0 + length part) old)
 
 -- a frame that teaches, or brings nothing
-pub is_silent : (k : Host) (cs : List (MediumInput Act)) → (cs ≡ []) ⊎ ((pair : Pair) × (cs ≡ Own (Replied pair) ∷ [])) → IsSilent (ether_frames k) cs
+pub is_silent : (k : Interface) (cs : List (MediumInput Act)) → (cs ≡ []) ⊎ ((pair : Pair) × (cs ≡ Own (Replied pair) ∷ [])) → IsSilent (ether_frames k) cs
 is_silent k cs (inl e) = inl e
 is_silent k cs (inr p) = inr (Replied p.0, p.1, refl)
 
@@ -35,74 +35,99 @@ frame_is k frame =
 pub brings_payload : (k : Host) (frame d : List ℕ) → frame_brings k frame ≡ Datagram d ∷ [] → d ≡ drop 14 frame
 brings_payload k frame d e = subst (λ (l : List (MediumInput Act)). IsPayload (drop 14 frame) l) e (frame_is k frame)
 
+-- ---- one link
+
+zero_mask : (addr mask : List ℕ) → mask ≡ no_address → masked addr mask ≡ no_address
+zero_mask addr mask e =
+    ap (λ m. masked addr m) e ∙ rw (and_zero_r (slice_index addr 0), and_zero_r (slice_index addr 1), and_zero_r (slice_index addr 2), and_zero_r (slice_index addr 3))
+
+on_one_link : (network : Network) (own target : List ℕ) → IsOneLink network → is_on_link network own target ≡ true
+on_one_link network own target (inl e) =
+    or_right (bytes_eq network.router.0 no_address) (bytes_eq (masked target network.mask.0) (masked own network.mask.0))
+    ((bytes_eq-Decides _ _).1 (zero_mask target network.mask.0 e ∙ sym (zero_mask own network.mask.0 e)))
+on_one_link network own target (inr e) =
+    or_left (bytes_eq network.router.0 no_address) (bytes_eq (masked target network.mask.0) (masked own network.mask.0)) ((bytes_eq-Decides _ _).1 e)
+
+one_link : (network : Network) (own target : List ℕ) → IsOneLink network → next_hop network own target ≡ target
+one_link network own target one = ap (λ b. if b then target else network.router.0) (on_one_link network own target one)
+
 -- ---- beside a line
 
 some_on_line : (xs : List ℕ) → 0 < length xs → on_line xs ≡ framed xs
 some_on_line [] some = absurd (omega (arith, some))
 some_on_line (x ∷ xs) some = refl
 
-module _ (k : Host) where
-  frame_some : (to payload : List ℕ) (kind : ℕ) → 0 < length (frame_with to k.mac kind payload)
+module _ (k : Interface) where
+  abbrev host : Host
+  host = k.host
+
+  frame_some : (to payload : List ℕ) (kind : ℕ) → 0 < length (frame_with to host.mac kind payload)
   frame_some to payload kind =
-      omega (arith, length-append to k.mac, length-append (to ++ k.mac) (word_bytes kind), length-append (to ++ k.mac ++ word_bytes kind) payload)
+      omega (arith, length-append to host.mac, length-append (to ++ host.mac) (word_bytes kind), length-append (to ++ host.mac ++ word_bytes kind) payload)
 
-  wrapped_some : (acts : List Act) (d : List ℕ) (o : Option (List ℕ)) → 0 < length (wrapped_to k o d)
-  wrapped_some acts d None = frame_some broadcast (arp_packet 1 k.mac k.addr no_mac (address_at d 16)) 2054
-  wrapped_some acts d (Some mac) = frame_some mac d 2048
+  wrapped_some : (hop : List ℕ) (d : List ℕ) (o : Option (List ℕ)) → 0 < length (wrapped_to host hop o d)
+  wrapped_some hop d None = frame_some broadcast (arp_packet 1 host.mac host.addr no_mac hop) 2054
+  wrapped_some hop d (Some mac) = frame_some mac d 2048
 
-  text_on_line : (acts : List Act) (d : List ℕ) → on_line ((ether_frames k).text acts d) ≡ ether_text k acts d
-  text_on_line acts d =
-      elim (is_sendable d) as (λ v. on_line (if v then wrapped k acts d else []) ≡ (if v then framed (wrapped k acts d) else [])) [
-        | true ↦ some_on_line (wrapped k acts d) (wrapped_some acts d (known acts (address_at d 16)))
+  -- the text of a datagram with this next hop
+  text_via : (acts : List Act) (d hop : List ℕ) → on_line (if is_sendable d then wrapped_via host acts hop d else []) ≡ (if is_sendable d then framed (wrapped_via host acts hop d) else [])
+  text_via acts d hop =
+      elim (is_sendable d) as (λ v. on_line (if v then wrapped_via host acts hop d else []) ≡ (if v then framed (wrapped_via host acts hop d) else [])) [
+        | true ↦ some_on_line (wrapped_via host acts hop d) (wrapped_some hop d (known acts hop))
         | false ↦ refl
       ]
 
-  says_on_line : (act : Act) → on_line ((ether_frames k).says act) ≡ says_at k act
-  says_on_line (Asked pair) = some_on_line (arp_reply k pair) (frame_some pair.mac (arp_packet 2 k.mac k.addr pair.mac pair.addr) 2054)
-  says_on_line (Replied pair) = refl
-  says_on_line Ticked = refl
+  module _ (one : IsOneLink k.network) where
+    text_on_line : (acts : List Act) (d : List ℕ) → on_line ((ether_frames k).text acts d) ≡ ether_text host acts d
+    text_on_line acts d =
+        text_via acts d (hop_of k d) ∙ ap (λ hop. if is_sendable d then framed (wrapped_via host acts hop d) else []) (one_link k.network host.addr (address_at d 16) one)
 
-  module _ (m : AppSpec) (served : ℕ → Bool) (own : Addr) where
-    reply_on_line : (acts : List Act) (o : Option Reply) → on_line (reply_text (as_medium (ether_frames k)) acts own o) ≡ reply_text (ether_medium k) acts own o
-    reply_on_line acts None = refl
-    reply_on_line acts (Some reply) = text_on_line acts (reply_bytes own reply)
+    says_on_line : (act : Act) → on_line ((ether_frames k).says act) ≡ says_at host act
+    says_on_line (Asked pair) = some_on_line (arp_reply host pair) (frame_some pair.mac (arp_packet 2 host.mac host.addr pair.mac pair.addr) 2054)
+    says_on_line (Replied pair) = refl
+    says_on_line Ticked = refl
 
-    station_event_on_line : (d : StationEvent Act) (s : Station Act) → on_line (output_of_event m served (as_medium (ether_frames k)) own s d) ≡ output_of_event m served (ether_medium k) own s d
-    station_event_on_line (OfMedium act) s = says_on_line act
-    station_event_on_line (OfNode e) s = reply_on_line s.acts (step m served s.node e).sent
+    module _ (m : AppSpec) (served : ℕ → Bool) (own : Addr) where
+      reply_on_line : (acts : List Act) (o : Option Reply) → on_line (reply_text (as_medium (ether_frames k)) acts own o) ≡ reply_text (ether_medium host) acts own o
+      reply_on_line acts None = refl
+      reply_on_line acts (Some reply) = text_on_line acts (reply_bytes own reply)
 
-    one_on_line : (d : StationEvent Act) (s : Station Act) → on_line (output m served (as_medium (ether_frames k)) own (d ∷ []) s) ≡ output m served (ether_medium k) own (d ∷ []) s
-    one_on_line d s =
-        ap (λ l. on_line l) (append-nil (output_of_event m served (as_medium (ether_frames k)) own s d)) ∙ station_event_on_line d s
-        ∙ sym (append-nil (output_of_event m served (ether_medium k) own s d))
+      station_event_on_line : (d : StationEvent Act) (s : Station Act) → on_line (output_of_event m served (as_medium (ether_frames k)) own s d) ≡ output_of_event m served (ether_medium host) own s d
+      station_event_on_line (OfMedium act) s = says_on_line act
+      station_event_on_line (OfNode e) s = reply_on_line s.acts (step m served s.node e).sent
 
-    abbrev IsOnLine : Station Act → List (StationEvent Act) → Type 0
-    IsOnLine s station_events = on_line (output m served (as_medium (ether_frames k)) own station_events s) ≡ output m served (ether_medium k) own station_events s
+      one_on_line : (d : StationEvent Act) (s : Station Act) → on_line (output m served (as_medium (ether_frames k)) own (d ∷ []) s) ≡ output m served (ether_medium host) own (d ∷ []) s
+      one_on_line d s =
+          ap (λ l. on_line l) (append-nil (output_of_event m served (as_medium (ether_frames k)) own s d)) ∙ station_event_on_line d s
+          ∙ sym (append-nil (output_of_event m served (ether_medium host) own s d))
 
-    abbrev CameOnLine : Station Act → List (MediumInput Act) → Type 0
-    CameOnLine s cs = IsOnLine s (map (station_event_by own) cs)
+      abbrev IsOnLine : Station Act → List (StationEvent Act) → Type 0
+      IsOnLine s station_events = on_line (output m served (as_medium (ether_frames k)) own station_events s) ≡ output m served (ether_medium host) own station_events s
 
-    arp_on_line : (s : Station Act) (operation : ℕ) (sender : Pair) → CameOnLine s (arp_brings operation sender)
-    arp_on_line s operation sender =
-        choose (λ (l : List (MediumInput Act)). CameOnLine s l) (operation == 1) _ _ (λ e. one_on_line (OfMedium (Asked sender)) s)
-        (λ e. choose (λ (l : List (MediumInput Act)). CameOnLine s l) (operation == 2) _ _ (λ f. one_on_line (OfMedium (Replied sender)) s) (λ f. refl))
+      abbrev CameOnLine : Station Act → List (MediumInput Act) → Type 0
+      CameOnLine s cs = IsOnLine s (map (station_event_by own) cs)
 
-    payload_on_line : (s : Station Act) (kind : ℕ) (payload : List ℕ) → CameOnLine s (payload_brings k kind payload)
-    payload_on_line s kind payload =
-        choose (λ (l : List (MediumInput Act)). CameOnLine s l) (is_datagram kind && nat_lt 0 (length payload)) _ _ (λ e. one_on_line (station_event_by own (Datagram payload)) s)
-        (λ e. choose (λ (l : List (MediumInput Act)). CameOnLine s l) (is_arp kind && is_arp_for k.addr payload) _ _ (λ f. arp_on_line s (word_at payload 6) (sender_of payload)) (λ f. refl))
+      arp_on_line : (s : Station Act) (operation : ℕ) (sender : Pair) → CameOnLine s (arp_brings operation sender)
+      arp_on_line s operation sender =
+          choose (λ (l : List (MediumInput Act)). CameOnLine s l) (operation == 1) _ _ (λ e. one_on_line (OfMedium (Asked sender)) s)
+          (λ e. choose (λ (l : List (MediumInput Act)). CameOnLine s l) (operation == 2) _ _ (λ f. one_on_line (OfMedium (Replied sender)) s) (λ f. refl))
 
-    frame_on_line : (s : Station Act) (frame : List ℕ) → CameOnLine s (frame_brings k frame)
-    frame_on_line s frame =
-        choose (λ (l : List (MediumInput Act)). CameOnLine s l) (bytes_eq (mac_at frame 0) k.mac || bytes_eq (mac_at frame 0) broadcast) _ _
-        (λ e. payload_on_line s (word_at frame 12) (drop 14 frame)) (λ e. refl)
+      payload_on_line : (s : Station Act) (kind : ℕ) (payload : List ℕ) → CameOnLine s (payload_brings host kind payload)
+      payload_on_line s kind payload =
+          choose (λ (l : List (MediumInput Act)). CameOnLine s l) (is_datagram kind && nat_lt 0 (length payload)) _ _ (λ e. one_on_line (station_event_by own (Datagram payload)) s)
+          (λ e. choose (λ (l : List (MediumInput Act)). CameOnLine s l) (is_arp kind && is_arp_for host.addr payload) _ _ (λ f. arp_on_line s (word_at payload 6) (sender_of payload)) (λ f. refl))
 
-    call_on_line : (call : FrameCall) (s : Station Act) → IsOnLine s (station_events_by (ether_frames k) own call)
-    call_on_line (InputsFrame frame) s = choose (λ (l : List (MediumInput Act)). CameOnLine s l) (is_taken frame) _ _ (λ e. frame_on_line s frame) (λ e. refl)
-    call_on_line (CallsSlot slot) s =
-        choose (λ (acts : List Act). IsOnLine s (map OfMedium acts ++ OfNode (Periodic slot) ∷ [])) (slot == 0) (Ticked ∷ []) []
-        (λ e. one_on_line (OfNode (Periodic slot)) (station_after m served s (OfMedium Ticked))) (λ e. one_on_line (OfNode (Periodic slot)) s)
-    call_on_line DoesNothing s = refl
+      frame_on_line : (s : Station Act) (frame : List ℕ) → CameOnLine s (frame_brings host frame)
+      frame_on_line s frame =
+          choose (λ (l : List (MediumInput Act)). CameOnLine s l) (bytes_eq (mac_at frame 0) host.mac || bytes_eq (mac_at frame 0) broadcast) _ _
+          (λ e. payload_on_line s (word_at frame 12) (drop 14 frame)) (λ e. refl)
+
+      call_on_line : (call : FrameCall) (s : Station Act) → IsOnLine s (station_events_by (ether_frames k) own call)
+      call_on_line (InputsFrame frame) s = choose (λ (l : List (MediumInput Act)). CameOnLine s l) (is_taken frame) _ _ (λ e. frame_on_line s frame) (λ e. refl)
+      call_on_line (CallsSlot slot) s =
+          choose (λ (acts : List Act). IsOnLine s (map OfMedium acts ++ OfNode (Periodic slot) ∷ [])) (slot == 0) (Ticked ∷ []) []
+          (λ e. one_on_line (OfNode (Periodic slot)) (station_after m served s (OfMedium Ticked))) (λ e. one_on_line (OfNode (Periodic slot)) s)
+      call_on_line DoesNothing s = refl
 
 pub as_on_line : SentAsOnLine
-as_on_line m served k own call s = call_on_line k m served own call s
+as_on_line m served k own call s one = call_on_line k one m served own call s

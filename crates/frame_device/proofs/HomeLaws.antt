@@ -1,46 +1,49 @@
--- Over Ethernet each frame with a datagram goes to the hardware address that its target taught last.
-use Rattle.frame_device.proofs.Prelude.{◌≡◌, ℕ, ◌+◌, ◌&&◌, ◌||◌, ◌==◌, Bool, true, nat_lt, List, [], ◌∷◌, ◌++◌, Option, None, Some, length, drop, map, refl, sym, ap, ◌∙◌, subst, append-nil, bytes_eq, AppSpec, address_at, word_at, Addr, reply_bytes, Event, Reply, step, MediumInput, StationEvent, OfMedium, OfNode, Station, station_after, output, reply_text, station_event_by, is_taken, Host, arp_brings, arp_packet, broadcast, frame_brings, frame_with, is_arp, is_arp_for, is_datagram, is_sendable, mac_at, no_mac, payload_brings, sender_of, wrapped, Act, Asked, Replied, Ticked, known, last_learning, AllSound, IsActSound, kind_of, known_last, last_six, payload_of, sound_more, to_of, choose, event_of, Periodic, station_after_all, wrapped_to, as_medium, CallsSlot, DoesNothing, FrameCall, FrameMove, Gives, InputsFrame, Makes, Writing, station_after_move, station_events_by, initial_station, AllHome, FramesGoHome, IsHome, ether_frames}
+-- Over Ethernet each frame with a datagram goes to the hardware address that its next hop taught last.
+use Rattle.frame_device.proofs.Prelude.{◌≡◌, ℕ, ◌+◌, ◌&&◌, ◌||◌, ◌==◌, Bool, true, nat_lt, List, [], ◌∷◌, ◌++◌, Option, None, Some, length, drop, map, refl, sym, ap, ◌∙◌, subst, append-nil, bytes_eq, AppSpec, address_at, word_at, Addr, reply_bytes, Event, Reply, step, MediumInput, StationEvent, OfMedium, OfNode, Station, station_after, output, reply_text, station_event_by, is_taken, Host, arp_brings, arp_packet, broadcast, frame_brings, frame_with, is_arp, is_arp_for, is_datagram, is_sendable, mac_at, no_mac, payload_brings, sender_of, Act, Asked, Replied, Ticked, known, last_learning, AllSound, IsActSound, kind_of, known_last, last_six, payload_of, sound_more, to_of, choose, event_of, Periodic, station_after_all, wrapped_to, wrapped_via, Interface, hop_of, as_medium, CallsSlot, DoesNothing, FrameCall, FrameMove, Gives, InputsFrame, Makes, Writing, station_after_move, station_events_by, initial_station, AllHome, FramesGoHome, IsHome, ether_frames}
 
 -- ---- frames that are sent
 
 not_arp : (n : ℕ) → n ≡ 2054 → is_datagram n ≡ true → ⊥
 not_arp n e t = cc (sym (ap (λ x. is_datagram x) e) ∙ t)
 
-module _ (k : Host) (mac6 : length k.mac ≡ 6) where
-  arp_home : (acts : List Act) (to packet : List ℕ) → length to ≡ 6 → IsHome acts (frame_with to k.mac 2054 packet)
-  arp_home acts to packet six6 t = absurd (not_arp _ (kind_of to k.mac packet 2054 six6 mac6) t)
+module _ (k : Interface) (mac6 : length k.host.mac ≡ 6) where
+  abbrev host : Host
+  host = k.host
 
-  datagram_home : (acts : List Act) (d mac : List ℕ) → AllSound acts → known acts (address_at d 16) ≡ Some mac → IsHome acts (frame_with mac k.mac 2048 d)
+  arp_home : (acts : List Act) (to packet : List ℕ) → length to ≡ 6 → IsHome k acts (frame_with to host.mac 2054 packet)
+  arp_home acts to packet six6 t = absurd (not_arp _ (kind_of to host.mac packet 2054 six6 mac6) t)
+
+  datagram_home : (acts : List Act) (d mac : List ℕ) → AllSound acts → known acts (hop_of k d) ≡ Some mac → IsHome k acts (frame_with mac host.mac 2048 d)
   datagram_home acts d mac sound e t =
-      let it = known_last (last_learning (address_at d 16) acts) mac e in
-      let six6 : length mac ≡ 6 = ap (λ l. length l) (sym it.2) ∙ last_six (address_at d 16) acts it.0 sound it.1 in
-      ap (λ l. known acts (address_at l 16)) (payload_of mac k.mac d 2048 six6 mac6)
-      ∙ e ∙ ap (λ (l : List ℕ). Some l) (sym (to_of mac k.mac d 2048 six6 mac6))
+      let it = known_last (last_learning (hop_of k d) acts) mac e in
+      let six6 : length mac ≡ 6 = ap (λ l. length l) (sym it.2) ∙ last_six (hop_of k d) acts it.0 sound it.1 in
+      ap (λ l. known acts (hop_of k l)) (payload_of mac host.mac d 2048 six6 mac6)
+      ∙ e ∙ ap (λ (l : List ℕ). Some l) (sym (to_of mac host.mac d 2048 six6 mac6))
 
-  nothing_home : (acts : List Act) → IsHome acts []
+  nothing_home : (acts : List Act) → IsHome k acts []
   nothing_home acts t = absurd (cc t)
 
-  wrapped_home : (acts : List Act) (d : List ℕ) (o : Option (List ℕ)) → AllSound acts → known acts (address_at d 16) ≡ o → IsHome acts (wrapped_to k o d)
-  wrapped_home acts d None sound e = arp_home acts broadcast (arp_packet 1 k.mac k.addr no_mac (address_at d 16)) refl
+  wrapped_home : (acts : List Act) (d : List ℕ) (o : Option (List ℕ)) → AllSound acts → known acts (hop_of k d) ≡ o → IsHome k acts (wrapped_to host (hop_of k d) o d)
+  wrapped_home acts d None sound e = arp_home acts broadcast (arp_packet 1 host.mac host.addr no_mac (hop_of k d)) refl
   wrapped_home acts d (Some mac) sound e = datagram_home acts d mac sound e
 
-  text_home : (acts : List Act) (d : List ℕ) → AllSound acts → IsHome acts ((ether_frames k).text acts d)
+  text_home : (acts : List Act) (d : List ℕ) → AllSound acts → IsHome k acts ((ether_frames k).text acts d)
   text_home acts d sound =
-      choose (λ (l : List ℕ). IsHome acts l) (is_sendable d) (wrapped k acts d) [] (λ e. wrapped_home acts d (known acts (address_at d 16)) sound refl) (λ e. nothing_home acts)
+      choose (λ (l : List ℕ). IsHome k acts l) (is_sendable d) (wrapped_via host acts (hop_of k d) d) [] (λ e. wrapped_home acts d (known acts (hop_of k d)) sound refl) (λ e. nothing_home acts)
 
-  reply_home : (acts : List Act) (own : Addr) (o : Option Reply) → AllSound acts → IsHome acts (reply_text (as_medium (ether_frames k)) acts own o)
+  reply_home : (acts : List Act) (own : Addr) (o : Option Reply) → AllSound acts → IsHome k acts (reply_text (as_medium (ether_frames k)) acts own o)
   reply_home acts own None sound = nothing_home acts
   reply_home acts own (Some reply) sound = text_home acts (reply_bytes own reply) sound
 
-  act_home : (acts : List Act) (a : Act) → IsActSound a → IsHome acts ((ether_frames k).says a)
-  act_home acts (Asked pair) h = arp_home acts pair.mac (arp_packet 2 k.mac k.addr pair.mac pair.addr) h.1
+  act_home : (acts : List Act) (a : Act) → IsActSound a → IsHome k acts ((ether_frames k).says a)
+  act_home acts (Asked pair) h = arp_home acts pair.mac (arp_packet 2 host.mac host.addr pair.mac pair.addr) h.1
   act_home acts (Replied pair) h = nothing_home acts
   act_home acts Ticked h = nothing_home acts
 
   module _ (m : AppSpec) (served : ℕ → Bool) (own : Addr) where
     abbrev IsHomeBy : Station Act → List (StationEvent Act) → Type 0
     IsHomeBy s station_events =
-        AllSound (station_after_all m served station_events s).acts × IsHome (station_after_all m served station_events s).acts (output m served (as_medium (ether_frames k)) own station_events s)
+        AllSound (station_after_all m served station_events s).acts × IsHome k (station_after_all m served station_events s).acts (output m served (as_medium (ether_frames k)) own station_events s)
 
     none_home : (s : Station Act) → AllSound s.acts → IsHomeBy s []
     none_home s sound = (sound, nothing_home s.acts)
@@ -48,14 +51,14 @@ module _ (k : Host) (mac6 : length k.mac ≡ 6) where
     event_home : (e : Event) (s : Station Act) → AllSound s.acts → IsHomeBy s (OfNode e ∷ [])
     event_home e s sound = (
       sound,
-      subst (λ (l : List ℕ). IsHome s.acts l) (sym (append-nil (reply_text (as_medium (ether_frames k)) s.acts own (step m served s.node e).sent)))
+      subst (λ (l : List ℕ). IsHome k s.acts l) (sym (append-nil (reply_text (as_medium (ether_frames k)) s.acts own (step m served s.node e).sent)))
           (reply_home s.acts own (step m served s.node e).sent sound),
     )
 
     does_home : (a : Act) (s : Station Act) → IsActSound a → AllSound s.acts → IsHomeBy s (OfMedium a ∷ [])
     does_home a s h sound = (
       sound_more s.acts a sound h,
-      subst (λ (l : List ℕ). IsHome (s.acts ++ a ∷ []) l) (sym (append-nil ((ether_frames k).says a))) (act_home (s.acts ++ a ∷ []) a h),
+      subst (λ (l : List ℕ). IsHome k (s.acts ++ a ∷ []) l) (sym (append-nil ((ether_frames k).says a))) (act_home (s.acts ++ a ∷ []) a h),
     )
 
     abbrev CameHome : Station Act → List (MediumInput Act) → Type 0
@@ -66,14 +69,14 @@ module _ (k : Host) (mac6 : length k.mac ≡ 6) where
         choose (λ (l : List (MediumInput Act)). CameHome s l) (word_at payload 6 == 1) _ _ (λ e. does_home (Asked (sender_of payload)) s (refl, refl) sound)
         (λ e. choose (λ (l : List (MediumInput Act)). CameHome s l) (word_at payload 6 == 2) _ _ (λ f. does_home (Replied (sender_of payload)) s (refl, refl) sound) (λ f. none_home s sound))
 
-    payload_home : (s : Station Act) (kind : ℕ) (payload : List ℕ) → AllSound s.acts → CameHome s (payload_brings k kind payload)
+    payload_home : (s : Station Act) (kind : ℕ) (payload : List ℕ) → AllSound s.acts → CameHome s (payload_brings host kind payload)
     payload_home s kind payload sound =
         choose (λ (l : List (MediumInput Act)). CameHome s l) (is_datagram kind && nat_lt 0 (length payload)) _ _ (λ e. event_home (event_of own payload) s sound)
-        (λ e. choose (λ (l : List (MediumInput Act)). CameHome s l) (is_arp kind && is_arp_for k.addr payload) _ _ (λ f. packet_home s payload sound) (λ f. none_home s sound))
+        (λ e. choose (λ (l : List (MediumInput Act)). CameHome s l) (is_arp kind && is_arp_for host.addr payload) _ _ (λ f. packet_home s payload sound) (λ f. none_home s sound))
 
-    frame_home : (s : Station Act) (frame : List ℕ) → AllSound s.acts → CameHome s (frame_brings k frame)
+    frame_home : (s : Station Act) (frame : List ℕ) → AllSound s.acts → CameHome s (frame_brings host frame)
     frame_home s frame sound =
-        choose (λ (l : List (MediumInput Act)). CameHome s l) (bytes_eq (mac_at frame 0) k.mac || bytes_eq (mac_at frame 0) broadcast) _ _
+        choose (λ (l : List (MediumInput Act)). CameHome s l) (bytes_eq (mac_at frame 0) host.mac || bytes_eq (mac_at frame 0) broadcast) _ _
         (λ e. payload_home s (word_at frame 12) (drop 14 frame) sound) (λ e. none_home s sound)
 
     call_home : (call : FrameCall) (s : Station Act) → AllSound s.acts → IsHomeBy s (station_events_by (ether_frames k) own call)

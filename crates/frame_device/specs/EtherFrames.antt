@@ -1,26 +1,32 @@
 -- Ethernet with ARP over whole frames, and how it compares with a line, on which each frame follows its length.
 use Rattle.std.specs.Prelude.{◌≡◌, ℕ, Bool, true, if◌then◌else◌, List, [], ◌∷◌, length, Some, ⊤}
 use Rattle.app_events.specs.Prelude.{AppSpec}
-use Rattle.uip_wire.specs.Prelude.{word_at}
+use Rattle.uip_wire.specs.Prelude.{address_at, word_at}
 use Rattle.uip_wire.specs.declared.addr.Addr.{Addr}
 use Rattle.serve_loop.specs.Prelude.{Station, output, initial_station}
 use Rattle.ethernet_arp.specs.Prelude.{ether_medium, is_taken, Host, arp_reply, frame_brings, framed, is_datagram}
-use Rattle.ethernet_arp.specs.Prelude.{is_sendable, mac_at, wrapped, Act, Asked, Ticked, known, target_in}
+use Rattle.ethernet_arp.specs.Prelude.{is_sendable, mac_at, wrapped_via, Act, Asked, Ticked, host_of, known}
+use Rattle.ethernet_arp.specs.Prelude.{target_in}
 use Rattle.frame_device.specs.FrameSpecs.{FrameSpec, as_medium}
-use Rattle.frame_device.specs.FrameCalls.{FrameCall, FrameMove, Writing, station_after_move}
-use Rattle.frame_device.specs.FrameCalls.{station_events_by, station_events_of_move, with_value}
+use Rattle.frame_device.specs.declared.ether.Ethernet.{Ethernet}
+use Rattle.frame_device.specs.NextHop.{Interface, IsOneLink, hop_of, next_hop}
+use Rattle.frame_device.specs.FrameCalls.{FrameCall, FrameMove, Writing, station_after_move, station_events_by}
+use Rattle.frame_device.specs.FrameCalls.{station_events_of_move, with_value}
+
+abbrev pub interface_of : Ethernet → Interface
+interface_of ether = record { host = host_of ether.arp; network = ether.network }
 
 -- the reply to a request
 abbrev pub reply_at : Host → Act → List ℕ
 reply_at k (Asked pair) = arp_reply k pair
 reply_at k act = []
 
-abbrev pub ether_frames : Host → FrameSpec Act
+abbrev pub ether_frames : Interface → FrameSpec Act
 ether_frames k = record {
-  decodes = λ frame. if is_taken frame then frame_brings k frame else [];
+  decodes = λ frame. if is_taken frame then frame_brings k.host frame else [];
   at_tick = Ticked ∷ [];
-  says = λ act. reply_at k act;
-  text = λ acts datagram. if is_sendable datagram then wrapped k acts datagram else [];
+  says = λ act. reply_at k.host act;
+  text = λ acts datagram. if is_sendable datagram then wrapped_via k.host acts (hop_of k datagram) datagram else [];
 }
 
 -- a frame as it is on a line; nothing if there is none
@@ -28,28 +34,29 @@ abbrev pub on_line : List ℕ → List ℕ
 on_line [] = []
 on_line (b ∷ frame) = framed (b ∷ frame)
 
--- The output of a call, at most one frame, is on a line what `ether_medium` sends for the same events.
+-- If every address is on the link: the output of a call, at most one frame, is on a line what `ether_medium` sends for the same events.
 abbrev pub SentAsOnLine : Type 0
 SentAsOnLine =
-    (m : AppSpec) (served : ℕ → Bool) (k : Host) (own : Addr) (call : FrameCall) (s : Station Act)
+    (m : AppSpec) (served : ℕ → Bool) (k : Interface) (own : Addr) (call : FrameCall) (s : Station Act) → IsOneLink k.network
     → on_line (output m served (as_medium (ether_frames k)) own (station_events_by (ether_frames k) own call) s)
-    ≡ output m served (ether_medium k) own (station_events_by (ether_frames k) own call) s
+    ≡ output m served (ether_medium k.host) own (station_events_by (ether_frames k) own call) s
 
--- a frame with a datagram goes to the hardware address that is known for its target after these events of the link
-abbrev pub IsHome : List Act → List ℕ → Type 0
-IsHome acts frame = is_datagram (word_at frame 12) ≡ true → known acts (target_in frame) ≡ Some (mac_at frame 0)
+-- a frame with a datagram goes to the hardware address that is known for its next hop after these events of the link
+abbrev pub IsHome : Interface → List Act → List ℕ → Type 0
+IsHome k acts frame =
+    is_datagram (word_at frame 12) ≡ true → known acts (next_hop k.network k.host.addr (target_in frame)) ≡ Some (mac_at frame 0)
 
 -- so do all frames that are sent at moves, each after the events up to then
-abbrev pub AllHome : AppSpec → (ℕ → Bool) → Host → Writing → Addr → List FrameMove → Station Act → Type 0
+abbrev pub AllHome : AppSpec → (ℕ → Bool) → Interface → Writing → Addr → List FrameMove → Station Act → Type 0
 AllHome m served k gives own [] s = ⊤
 AllHome m served k gives own (move ∷ moves) s =
     let next : Station Act = station_after_move m served (ether_frames k) gives own move s in
-    IsHome next.acts
+    IsHome k next.acts
     (output m served (as_medium (ether_frames k)) own (station_events_of_move (ether_frames k) own move) (with_value gives move s))
     × AllHome m served k gives own moves next
 
--- Each frame with a datagram that is sent at a move of a fresh device goes to the hardware address that its target taught last.
+-- Each frame with a datagram that is sent at a move of a fresh device goes to the hardware address that its next hop taught last.
 abbrev pub FramesGoHome : Type 0
 FramesGoHome =
-    (m : AppSpec) (served : ℕ → Bool) (k : Host) (gives : Writing) (own : Addr) (numbers : List ℕ) (moves : List FrameMove)
-    → length k.mac ≡ 6 → AllHome m served k gives own moves (initial_station own numbers)
+    (m : AppSpec) (served : ℕ → Bool) (k : Interface) (gives : Writing) (own : Addr) (numbers : List ℕ) (moves : List FrameMove)
+    → length k.host.mac ≡ 6 → AllHome m served k gives own moves (initial_station own numbers)

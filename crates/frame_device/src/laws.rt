@@ -37,12 +37,13 @@ pub fn frame_calls_keep_the_promise<A: App, M: Frames>()
         → FramesConform (M.spec k) pages A.served own all }
 {}
 
-/// Over Ethernet a call writes what `ether_medium` sends on a line for the same events, without the length before the frame.
+/// Over Ethernet, if every address is on the link, a call writes what `ether_medium` sends on a line for the same events, without the
+/// length before the frame.
 pub fn ether_frames_are_of_the_line()
     ensures { SentAsOnLine }
 {}
 
-/// Over Ethernet each frame with a datagram goes to the hardware address that its target taught last.
+/// Over Ethernet each frame with a datagram goes to the hardware address that its next hop taught last.
 #[tactic(auto, using(crate::proofs::HomeLaws::frames_go_home))]
 pub fn ether_frames_go_home()
     ensures { FramesGoHome }

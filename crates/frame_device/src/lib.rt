@@ -7,6 +7,7 @@ mod device;
 mod ether;
 mod frames;
 mod laws;
+mod network;
 #[cfg(test)]
 mod tests;
 
@@ -18,3 +19,4 @@ pub use laws::{
     ether_frames_are_of_the_line, ether_frames_go_home, frame_calls_are_exact,
     frame_calls_keep_the_promise,
 };
+pub use network::Network;

@@ -1,5 +1,5 @@
 //! Worked frames: the request and reply of RFC 826, and a ping over each link, with ample memory.
-use crate::{Datagrams, Ethernet, FrameDevice, Frames, LARGEST_OUT};
+use crate::{Datagrams, Ethernet, FrameDevice, Frames, LARGEST_OUT, Network};
 use app_events::Fixed;
 use ethernet_arp::Mac;
 use std::alloc::Global;
@@ -10,6 +10,12 @@ use uip_wire::Addr;
 const NODE: Addr = Addr([10, 0, 0, 1]);
 
 const MAC: Mac = Mac([2, 0, 0, 0, 0, 1]);
+
+/// The addresses 10.0.0.0 to 10.0.0.255 are on the link, and 10.0.0.254 leads to all others.
+const NETWORK: Network = Network {
+    mask: Addr([255, 255, 255, 0]),
+    router: Addr([10, 0, 0, 254]),
+};
 
 // 02:00:00:00:00:02 at 10.0.0.2 asks all stations for 10.0.0.1, and the reply; then what the node asks if 10.0.0.2 is unknown.
 const ARP_REQUEST: [u8; 42] = [
@@ -53,6 +59,32 @@ const PING_REPLY_FRAME: [u8; 42] = [
     0x00, 0x02, 0x00, 0x00, 0xFF, 0xFD, 0x00, 0x01, 0x00, 0x01,
 ];
 
+// The same from 192.168.7.1 by the router, 02:00:00:00:00:09 at 10.0.0.254: the echo request, what the node asks if the router is unknown,
+// the reply of the router to that, and the echo reply.
+const FAR_PING_FRAME: [u8; 42] = [
+    0x02, 0x00, 0x00, 0x00, 0x00, 0x01, 0x02, 0x00, 0x00, 0x00, 0x00, 0x09, 0x08, 0x00, 0x45, 0x00,
+    0x00, 0x1C, 0x00, 0x01, 0x00, 0x00, 0x40, 0x01, 0xA9, 0x36, 0xC0, 0xA8, 0x07, 0x01, 0x0A, 0x00,
+    0x00, 0x01, 0x08, 0x00, 0xF7, 0xFD, 0x00, 0x01, 0x00, 0x01,
+];
+
+const ROUTER_REQUEST: [u8; 42] = [
+    0xFF, 0xFF, 0xFF, 0xFF, 0xFF, 0xFF, 0x02, 0x00, 0x00, 0x00, 0x00, 0x01, 0x08, 0x06, 0x00, 0x01,
+    0x08, 0x00, 0x06, 0x04, 0x00, 0x01, 0x02, 0x00, 0x00, 0x00, 0x00, 0x01, 0x0A, 0x00, 0x00, 0x01,
+    0x00, 0x00, 0x00, 0x00, 0x00, 0x00, 0x0A, 0x00, 0x00, 0xFE,
+];
+
+const ROUTER_REPLY: [u8; 42] = [
+    0x02, 0x00, 0x00, 0x00, 0x00, 0x01, 0x02, 0x00, 0x00, 0x00, 0x00, 0x09, 0x08, 0x06, 0x00, 0x01,
+    0x08, 0x00, 0x06, 0x04, 0x00, 0x02, 0x02, 0x00, 0x00, 0x00, 0x00, 0x09, 0x0A, 0x00, 0x00, 0xFE,
+    0x02, 0x00, 0x00, 0x00, 0x00, 0x01, 0x0A, 0x00, 0x00, 0x01,
+];
+
+const FAR_REPLY_FRAME: [u8; 42] = [
+    0x02, 0x00, 0x00, 0x00, 0x00, 0x09, 0x02, 0x00, 0x00, 0x00, 0x00, 0x01, 0x08, 0x00, 0x45, 0x00,
+    0x00, 0x1C, 0x00, 0x01, 0x00, 0x00, 0x40, 0x01, 0xA9, 0x36, 0x0A, 0x00, 0x00, 0x01, 0xC0, 0xA8,
+    0x07, 0x01, 0x00, 0x00, 0xFF, 0xFD, 0x00, 0x01, 0x00, 0x01,
+];
+
 /// Makes a device of the fixed greeting on a link.
 fn device_on<M: Frames>(alloc: Global, frames: M) -> Result<FrameDevice<Fixed, M>, Fail> {
     match FrameDevice::new(alloc, NODE, frames, ()) {
@@ -77,10 +109,19 @@ fn check_reply<M: Frames>(
 
 #[test]
 fn an_arp_request_is_answered_and_teaches(rt: HostRuntime) -> Result<(), Fail> {
-    let mut device = device_on(rt.alloc(), Ethernet::new(NODE, MAC))?;
+    let mut device = device_on(rt.alloc(), Ethernet::new(NODE, MAC, NETWORK))?;
     check_reply(&rt, &mut device, &PING_FRAME, &OWN_REQUEST);
     check_reply(&rt, &mut device, &ARP_REQUEST, &ARP_REPLY);
     check_reply(&rt, &mut device, &PING_FRAME, &PING_REPLY_FRAME);
+    Ok(())
+}
+
+#[test]
+fn a_reply_to_another_network_goes_to_the_router(rt: HostRuntime) -> Result<(), Fail> {
+    let mut device = device_on(rt.alloc(), Ethernet::new(NODE, MAC, NETWORK))?;
+    check_reply(&rt, &mut device, &FAR_PING_FRAME, &ROUTER_REQUEST);
+    check_reply(&rt, &mut device, &ROUTER_REPLY, &[]);
+    check_reply(&rt, &mut device, &FAR_PING_FRAME, &FAR_REPLY_FRAME);
     Ok(())
 }
 
@@ -93,7 +134,7 @@ fn a_bare_datagram_is_answered(rt: HostRuntime) -> Result<(), Fail> {
 
 #[test]
 fn a_tick_without_connections_sends_nothing(rt: HostRuntime) -> Result<(), Fail> {
-    let mut device = device_on(rt.alloc(), Ethernet::new(NODE, MAC))?;
+    let mut device = device_on(rt.alloc(), Ethernet::new(NODE, MAC, NETWORK))?;
     let mut out = [0; LARGEST_OUT];
     assert!(rt; device.periodic(0, &mut out) == 0);
     assert!(rt; device.periodic(9, &mut out) == 0);

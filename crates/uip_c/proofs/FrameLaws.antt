@@ -1,5 +1,5 @@
 -- Moves on a handle over Ethernet, one after the other, are moves of its device.
-use Rattle.uip_c.proofs.Prelude.{All, ◌≡◌, ℕ, List, [], ◌∷◌, refl, sym, ap, ◌∙◌, subst, IsAddr, IsByte, File, HasSoundScripts, IsLoaded, SiteContent, files_of, is_served, made_of_bytes_by, keeps_page_laws_by, word_calls, words, words_bytes, words_short, Addr, initial_station, Host, Mac, ether_brings_bytes, ether_frames, AnsweredFrame, AnswersAllFrames, AnswersFrame, AnswersFrameMove, CallsSlot, ChangesNumbers, DoesNothing, FrameCall, FrameMove, Gives, InputsFrame, Makes, handed_of, frame_moves_of, FramesConform, IsFrameOfBytes, keeps_frames, device_stands, frames_exact, same_kept, first_numbers, value_pages, value_spec, write_value, first_words, written_words, EtherRepresents, host_at, web_frames_sent, web_station_after, DidFrame, DidFrames, EtherAnswers, OpensEtherAs, HandleGives, EtherWeb, IsEther, Kept, NoDevice, OnEther, OnLine}
+use Rattle.uip_c.proofs.Prelude.{All, ◌≡◌, ℕ, List, [], ◌∷◌, refl, sym, ap, ◌∙◌, subst, IsAddr, IsByte, File, HasSoundScripts, IsLoaded, SiteContent, files_of, is_served, made_of_bytes_by, keeps_page_laws_by, word_calls, words, words_bytes, words_short, Addr, initial_station, Interface, Mac, Network, ether_brings_bytes, ether_frames, AnsweredFrame, AnswersAllFrames, AnswersFrame, AnswersFrameMove, CallsSlot, ChangesNumbers, DoesNothing, FrameCall, FrameMove, Gives, InputsFrame, Makes, handed_of, frame_moves_of, FramesConform, IsFrameOfBytes, keeps_frames, device_stands, frames_exact, same_kept, first_numbers, value_pages, value_spec, write_value, first_words, written_words, EtherRepresents, interface_at, web_frames_sent, web_station_after, DidFrame, DidFrames, EtherAnswers, OpensEtherAs, HandleGives, EtherWeb, IsEther, Kept, NoDevice, OnEther, OnLine}
 use Rattle.uip_device.specs.contracts.value_pages.ValuePagesApp.TheImpl.{ghosts}
 use Rattle.frame_device.specs.contracts.ether.EthernetFrames.TheImpl.{ghosts as ether_link}
 
@@ -60,38 +60,38 @@ on_devices (it ∷ all) d a c is more =
     let later = on_devices all first.after b c first.is more.2 in
     record { last = later.last; is = later.is; answers = (first.after, first.answers, later.answers) }
 
-module _ (files : List File) (own : Addr) (mac : Mac) (all : List AnsweredFrame) (closed old new : Kept) (opens : OpensEtherAs files own mac closed old) (answered : DidFrames all old new) where
+module _ (files : List File) (own : Addr) (mac : Mac) (network : Network) (all : List AnsweredFrame) (closed old new : Kept) (opens : OpensEtherAs files own mac network closed old) (answered : DidFrames all old new) where
   abbrev opened : EtherWeb
   opened = opens.1.0
 
-  abbrev host : Host
-  host = host_at own mac
+  abbrev link : Interface
+  link = interface_at own mac network
 
   devices : OnDevices all opened new
   devices = on_devices all opened old new opens.1.1 answered
 
-  pub f_frames : handed_of all ≡ web_frames_sent files own mac (frame_moves_of all)
-  f_frames = frames_exact ghosts ether_link host (value_spec files) write_value own (first_numbers files) all opened devices.last opens.1.2.fresh devices.answers
+  pub f_frames : handed_of all ≡ web_frames_sent files own mac network (frame_moves_of all)
+  f_frames = frames_exact ghosts ether_link link (value_spec files) write_value own (first_numbers files) all opened devices.last opens.1.2.fresh devices.answers
 
-  pub f_stands : IsEther (λ d. EtherRepresents files own mac d (web_station_after files own mac (frame_moves_of all))) new
+  pub f_stands : IsEther (λ d. EtherRepresents files own mac network d (web_station_after files own mac network (frame_moves_of all))) new
   f_stands =
       let last : EtherWeb = devices.last in
       let fresh = opens.1.2 in
-      let kept = same_kept ghosts ether_link host (value_spec files) write_value own (first_numbers files) all opened last fresh.fresh devices.answers in (
+      let kept = same_kept ghosts ether_link link (value_spec files) write_value own (first_numbers files) all opened last fresh.fresh devices.answers in (
         last,
         devices.is,
         record {
           files_are = ap (λ (site : SiteContent). files_of site) kept ∙ fresh.files_are;
-          station = device_stands ghosts ether_link host (value_spec files) write_value own (first_numbers files) all opened last fresh.fresh devices.answers;
+          station = device_stands ghosts ether_link link (value_spec files) write_value own (first_numbers files) all opened last fresh.fresh devices.answers;
         },
       )
 
-module _ (site : SiteContent) (loaded : IsLoaded site) (image : All IsByte site.image) (sound : HasSoundScripts word_calls (files_of site)) (own : Addr) (is : IsAddr own) (mac : Mac) where
-  pub f_keeps : (all : List AnsweredFrame) → All IsFrameOfBytes (frame_moves_of all) → (closed old new : Kept) → OpensEtherAs (files_of site) own mac closed old
-      → DidFrames all old new → FramesConform (ether_frames (host_at own mac)) (value_pages (files_of site)) is_served own all
+module _ (site : SiteContent) (loaded : IsLoaded site) (image : All IsByte site.image) (sound : HasSoundScripts word_calls (files_of site)) (own : Addr) (is : IsAddr own) (mac : Mac) (network : Network) where
+  pub f_keeps : (all : List AnsweredFrame) → All IsFrameOfBytes (frame_moves_of all) → (closed old new : Kept) → OpensEtherAs (files_of site) own mac network closed old
+      → DidFrames all old new → FramesConform (ether_frames (interface_at own mac network)) (value_pages (files_of site)) is_served own all
   f_keeps all bytes closed old new opens did =
       let files : List File = files_of site in
       let on : OnDevices all opens.1.0 new = on_devices all opens.1.0 old new opens.1.1 did in
-      keeps_frames ghosts ether_link (host_at own mac) (value_spec files) write_value own (value_pages files) (keeps_page_laws_by words words_short site loaded sound)
+      keeps_frames ghosts ether_link (interface_at own mac network) (value_spec files) write_value own (value_pages files) (keeps_page_laws_by words words_short site loaded sound)
       (λ delivered captures bytes are. made_of_bytes_by words words_bytes site image delivered captures are)
-      written_words (ether_brings_bytes (host_at own mac)) (first_numbers files) (first_words files) is all bytes opens.1.0 on.last opens.1.2.fresh on.answers
+      written_words (ether_brings_bytes (interface_at own mac network)) (first_numbers files) (first_words files) is all bytes opens.1.0 on.last opens.1.2.fresh on.answers

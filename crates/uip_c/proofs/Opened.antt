@@ -1,18 +1,18 @@
 -- What opening a device on Ethernet and setting a value in it give.
-use Rattle.uip_c.proofs.Prelude.{◌≡◌, Bool, List, ℕ, refl, subst, sym, true, false, if◌then◌else◌, files_of, Addr, Mac, ChangesNumbers, IsFreshFrameDevice, DeviceWeb, ChangesNode, IsFirstShared, IsOfImage, WebNode, first_numbers, value_spec, write_value, IsOpenedEther, host_at, EtherWeb}
+use Rattle.uip_c.proofs.Prelude.{◌≡◌, Bool, List, ℕ, refl, subst, sym, true, false, if◌then◌else◌, files_of, Addr, Mac, Network, ChangesNumbers, IsFreshFrameDevice, DeviceWeb, ChangesNode, IsFirstShared, IsOfImage, WebNode, first_numbers, value_spec, write_value, IsOpenedEther, interface_at, EtherWeb}
 use mir.Val.{bool_byte}
 use Rattle.frame_device.specs.contracts.ether.EthernetFrames.TheImpl.{ghosts as ether_link}
 use Rattle.uip_device.specs.contracts.value_pages.ValuePagesApp.TheImpl.{ghosts}
 
-pub opened_ether : (image : List ℕ) (own : Addr) (mac : Mac) (d : EtherWeb) (shared : DeviceWeb) → d.node.shared ≡ shared → IsFirstShared image shared
-    → IsFreshFrameDevice ghosts ether_link (host_at own mac) (value_spec (files_of shared.web.site)) (ghosts.numbers shared) own d → IsOpenedEther image own mac d
-opened_ether image own mac d shared same first fresh =
-    let numbered = subst (λ (l : List ℕ). IsFreshFrameDevice ghosts ether_link (host_at own mac) (value_spec (files_of shared.web.site)) l own d) first.numbers fresh in
+pub opened_ether : (image : List ℕ) (own : Addr) (mac : Mac) (network : Network) (d : EtherWeb) (shared : DeviceWeb) → d.node.shared ≡ shared → IsFirstShared image shared
+    → IsFreshFrameDevice ghosts ether_link (interface_at own mac network) (value_spec (files_of shared.web.site)) (ghosts.numbers shared) own d → IsOpenedEther image own mac network d
+opened_ether image own mac network d shared same first fresh =
+    let numbered = subst (λ (l : List ℕ). IsFreshFrameDevice ghosts ether_link (interface_at own mac network) (value_spec (files_of shared.web.site)) l own d) first.numbers fresh in
     record {
       site = subst (λ (s : DeviceWeb). IsOfImage image s.web.site) (sym same) first.site;
       fresh = record {
         files_are = refl;
-        fresh = subst (λ (s : DeviceWeb). IsFreshFrameDevice ghosts ether_link (host_at own mac) (value_spec (files_of s.web.site)) (first_numbers (files_of s.web.site)) own d) (sym same) numbered;
+        fresh = subst (λ (s : DeviceWeb). IsFreshFrameDevice ghosts ether_link (interface_at own mac network) (value_spec (files_of s.web.site)) (first_numbers (files_of s.web.site)) own d) (sym same) numbered;
       };
     }
 

@@ -5,48 +5,50 @@ use Rattle.file_tree.specs.Prelude.{SiteContent, files_of}
 use Rattle.web_pages.specs.Prelude.{is_served}
 use Rattle.uip_wire.specs.declared.addr.Addr.{Addr}
 use Rattle.serve_loop.specs.Prelude.{initial_station, Station}
-use Rattle.ethernet_arp.specs.Prelude.{Host, Act}
+use Rattle.ethernet_arp.specs.Prelude.{Act}
 use Rattle.ethernet_arp.specs.declared.mac.Mac.{Mac}
-use Rattle.frame_device.specs.Prelude.{ether_frames, FrameMove, IsFreshFrameDevice, RepresentsStation, frames_sent, station_after_moves}
+use Rattle.frame_device.specs.declared.network.Network.{Network}
+use Rattle.frame_device.specs.Prelude.{ether_frames, FrameMove, Interface, IsFreshFrameDevice, RepresentsStation, frames_sent}
+use Rattle.frame_device.specs.Prelude.{station_after_moves}
 use Rattle.frame_device.specs.contracts.ether.EthernetFrames.TheImpl.{ghosts as ether_link}
 use Rattle.uip_device.specs.contracts.value_pages.ValuePagesApp.TheImpl.{ghosts}
 use Rattle.uip_device.specs.Prelude.{FailsAs, IsOfImage, first_numbers, value_spec, write_value}
 use Rattle.uip_device.specs.declared.opening.OpenFault.{OpenFault}
 use Rattle.uip_c.specs.Kept.{EtherWeb}
 
--- the host of an IP address and a hardware address
-abbrev pub host_at : Addr → Mac → Host
-host_at own mac = record { addr = own.0; mac = mac.0 }
+-- the host of an IP address and a hardware address, on this network
+abbrev pub interface_at : Addr → Mac → Network → Interface
+interface_at own mac network = record { host = record { addr = own.0; mac = mac.0 }; network = network }
 
 abbrev pub ether_site : EtherWeb → SiteContent
 ether_site d = d.node.shared.web.site
 
 -- The device serves these files as this host and represents this station: an abstract node, and the events of ARP so far.
-pub record EtherRepresents (files : List File) (own : Addr) (mac : Mac) (d : EtherWeb) (s : Station Act) : Type 0 where
+pub record EtherRepresents (files : List File) (own : Addr) (mac : Mac) (network : Network) (d : EtherWeb) (s : Station Act) : Type 0 where
   pub files_are : files_of (ether_site d) ≡ files
-  pub station : RepresentsStation ghosts ether_link (host_at own mac) (value_spec files) own d s
+  pub station : RepresentsStation ghosts ether_link (interface_at own mac network) (value_spec files) own d s
 
 -- The device serves these files as this host, learned nothing, no file was requested, and no value was set.
-pub record IsFreshEtherWeb (files : List File) (own : Addr) (mac : Mac) (d : EtherWeb) : Type 0 where
+pub record IsFreshEtherWeb (files : List File) (own : Addr) (mac : Mac) (network : Network) (d : EtherWeb) : Type 0 where
   pub files_are : files_of (ether_site d) ≡ files
-  pub fresh : IsFreshFrameDevice ghosts ether_link (host_at own mac) (value_spec files) (first_numbers files) own d
+  pub fresh : IsFreshFrameDevice ghosts ether_link (interface_at own mac network) (value_spec files) (first_numbers files) own d
 
 -- A fresh device as this host with the site of this image, or the reason why there is none.
-pub record IsOpenedEther (image : List ℕ) (own : Addr) (mac : Mac) (d : EtherWeb) : Type 0 where
+pub record IsOpenedEther (image : List ℕ) (own : Addr) (mac : Mac) (network : Network) (d : EtherWeb) : Type 0 where
   pub site : IsOfImage image (ether_site d)
-  pub fresh : IsFreshEtherWeb (files_of (ether_site d)) own mac d
+  pub fresh : IsFreshEtherWeb (files_of (ether_site d)) own mac network d
 
-abbrev pub OpensEtherWeb : List ℕ → Addr → Mac → Result EtherWeb OpenFault → Type 0
-OpensEtherWeb image own mac (Ok d) = IsOpenedEther image own mac d
-OpensEtherWeb image own mac (Err fault) = FailsAs image fault
+abbrev pub OpensEtherWeb : List ℕ → Addr → Mac → Network → Result EtherWeb OpenFault → Type 0
+OpensEtherWeb image own mac network (Ok d) = IsOpenedEther image own mac network d
+OpensEtherWeb image own mac network (Err fault) = FailsAs image fault
 
 -- The frame that the initial node and its link send at each move, or no bytes; and the station after the moves.
-abbrev pub web_frames_sent : List File → Addr → Mac → List FrameMove → List (List ℕ)
-web_frames_sent files own mac moves =
-    frames_sent (value_spec files) is_served (ether_frames (host_at own mac)) write_value own moves
+abbrev pub web_frames_sent : List File → Addr → Mac → Network → List FrameMove → List (List ℕ)
+web_frames_sent files own mac network moves =
+    frames_sent (value_spec files) is_served (ether_frames (interface_at own mac network)) write_value own moves
     (initial_station own (first_numbers files))
 
-abbrev pub web_station_after : List File → Addr → Mac → List FrameMove → Station Act
-web_station_after files own mac moves =
-    station_after_moves (value_spec files) is_served (ether_frames (host_at own mac)) write_value own moves
+abbrev pub web_station_after : List File → Addr → Mac → Network → List FrameMove → Station Act
+web_station_after files own mac network moves =
+    station_after_moves (value_spec files) is_served (ether_frames (interface_at own mac network)) write_value own moves
     (initial_station own (first_numbers files))

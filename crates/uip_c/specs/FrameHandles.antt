@@ -3,6 +3,7 @@ use Rattle.std.specs.Prelude.{◌≡◌, ℕ, List, [], ◌∷◌}
 use Rattle.site_image.specs.Prelude.{File}
 use Rattle.uip_wire.specs.declared.addr.Addr.{Addr}
 use Rattle.ethernet_arp.specs.declared.mac.Mac.{Mac}
+use Rattle.frame_device.specs.declared.network.Network.{Network}
 use Rattle.frame_device.specs.Prelude.{AnsweredFrame, AnswersFrame, DoesNothing, FrameCall, FrameMove, Gives, Makes}
 use Rattle.frame_device.specs.contracts.ether.EthernetFrames.TheImpl.{ghosts as ether_link}
 use Rattle.uip_device.specs.contracts.value_pages.ValuePagesApp.TheImpl.{ghosts}
@@ -10,9 +11,9 @@ use Rattle.uip_c.specs.EtherWebs.{IsFreshEtherWeb}
 use Rattle.uip_c.specs.Handles.{HandleGives}
 use Rattle.uip_c.specs.Kept.{EtherWeb, IsEther, Kept, NoDevice, OnEther}
 
--- There was no device, and there is a fresh one on Ethernet with these files at this address and hardware address.
-abbrev pub OpensEtherAs : List File → Addr → Mac → Kept → Kept → Type 0
-OpensEtherAs files own mac old new = (old ≡ NoDevice) × IsEther (IsFreshEtherWeb files own mac) new
+-- There was no device, and there is a fresh one on Ethernet with these files at this address and hardware address, on this network.
+abbrev pub OpensEtherAs : List File → Addr → Mac → Network → Kept → Kept → Type 0
+OpensEtherAs files own mac network old new = (old ≡ NoDevice) × IsEther (IsFreshEtherWeb files own mac network) new
 
 -- There was a device on Ethernet and there still is one, and the call wrote this frame, or no bytes.
 pub record EtherAnswers (call : FrameCall) (old new : Kept) (handed : List ℕ) : Type 0 where
@@ -35,7 +36,7 @@ DidFrames [] a c = a ≡ c
 DidFrames (it ∷ all) a c = (b : Kept) × DidFrame it.move a b it.handed × DidFrames all b c
 
 -- P holds for every handle that was just opened on Ethernet, after any moves on it.
-abbrev pub OfFrameMoves : (List File → Addr → Mac → List AnsweredFrame → Kept → Type 0) → Type 0
+abbrev pub OfFrameMoves : (List File → Addr → Mac → Network → List AnsweredFrame → Kept → Type 0) → Type 0
 OfFrameMoves P =
-    (files : List File) (own : Addr) (mac : Mac) (all : List AnsweredFrame) (closed old new : Kept) → OpensEtherAs files own mac closed old
-    → DidFrames all old new → P files own mac all new
+    (files : List File) (own : Addr) (mac : Mac) (network : Network) (all : List AnsweredFrame) (closed old new : Kept)
+    → OpensEtherAs files own mac network closed old → DidFrames all old new → P files own mac network all new

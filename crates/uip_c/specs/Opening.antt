@@ -25,12 +25,15 @@ pub record OpensWith (image : List ℕ) (P : List File → Type 0) : Type 0 wher
   pub spelled : IsImage image (files_of site)
   pub opened : P (files_of site)
 
--- A device for a line was opened with the files at this address, or one on Ethernet at this address and hardware address.
+-- A device for a line was opened with the files at this address, or one on Ethernet at this address and hardware address, with this mask
+-- and this router.
 abbrev pub OpensFine : List ℕ → List ℕ → Kept → Kept → Type 0
 OpensFine image own old new = OpensWith image (λ files. OpensAs files (record { 0 = own }) old new)
 
-abbrev pub OpensEther : List ℕ → List ℕ → List ℕ → Kept → Kept → Type 0
-OpensEther image own mac old new = OpensWith image (λ files. OpensEtherAs files (record { 0 = own }) (record { 0 = mac }) old new)
+abbrev pub OpensEther : List ℕ → List ℕ → List ℕ → List ℕ → List ℕ → Kept → Kept → Type 0
+OpensEther image own mac mask router old new =
+    OpensWith image (λ files. OpensEtherAs files (record { 0 = own }) (record { 0 = mac })
+    (record { mask = record { 0 = mask }; router = record { 0 = router } }) old new)
 
 -- Eight bytes: the word of a fault, padded with zeros.
 abbrev pub IsWordOf : SiteWhy → List ℕ → Type 0

@@ -8,7 +8,7 @@ use crate::held::EtherWeb;
 use crate::opening::{UipOpened, bad_site, plain};
 use crate::status::{BAD_IMAGE, HAS_DEVICE, NO_MEMORY, OK};
 use ethernet_arp::Mac;
-use frame_device::{Ethernet, FrameDevice};
+use frame_device::{Ethernet, FrameDevice, Network};
 use std::alloc::Global;
 use uip_device::{OpenFault, open_shared};
 use uip_edge::NoMemory;
@@ -20,21 +20,23 @@ fn open_ether(
     image: &'static [u8],
     own: Addr,
     mac: Mac,
+    network: Network,
 ) -> Result<EtherWeb, OpenFault>
-    ensures { OpensEtherWeb image.now own mac result }
+    ensures { OpensEtherWeb image.now own mac network result }
 {
     let shared = match open_shared(alloc, image) {
         Ok(shared) => shared,
         Err(fault) => return Err(fault),
     };
-    match FrameDevice::new(alloc, own, Ethernet::new(own, mac), shared) {
+    match FrameDevice::new(alloc, own, Ethernet::new(own, mac, network), shared) {
         Ok(device) => Ok(device),
         Err(NoMemory) => Err(OpenFault::NoMemory),
     }
 }
 
-/// Opens a device on Ethernet at an address and a hardware address, with the site of an image, which is read in place and not copied. It
-/// has learned no hardware address. No later call allocates memory (measured).
+/// Opens a device on Ethernet at an address and a hardware address, with the site of an image, which is read in place and not copied. A
+/// target that under the mask is not in the network of the address is sent to by the router. If the mask or the router is 0.0.0.0, every
+/// target is on the link. The device has learned no hardware address. No later call allocates memory (measured).
 #[unsafe(no_mangle)]
 pub extern "C" fn uip_open_ether(
     alloc: Global,
@@ -42,9 +44,12 @@ pub extern "C" fn uip_open_ether(
     image: &'static [u8],
     own: &[u8; 4],
     mac: &[u8; 6],
+    mask: &[u8; 4],
+    router: &[u8; 4],
 ) -> UipOpened
     ensures known { (result.status ≡ OK) ⊎ (result.status ≡ HAS_DEVICE) ⊎ (result.status ≡ BAD_IMAGE) ⊎ (result.status ≡ NO_MEMORY) }
-    ensures fine { result.status ≡ OK → OpensEther image.now own.now mac.now device.old.held.device device.new.held.device }
+    ensures fine { result.status ≡ OK
+        → OpensEther image.now own.now mac.now mask.now router.now device.old.held.device device.new.held.device }
     ensures has_device { (result.status == HAS_DEVICE) ≡ has_device device.old.held.device }
     ensures bad_site { result.status ≡ BAD_IMAGE → TellsFault image.now result.entry result.word }
     ensures no_fault { (result.status ≡ BAD_IMAGE → ⊥) → (result.entry ≡ 0) × (result.word ≡ replicate 8 0) }
@@ -53,7 +58,11 @@ pub extern "C" fn uip_open_ether(
     if device.is_open == 1 || device.is_open == 2 {
         return plain(HAS_DEVICE);
     }
-    let opened = match open_ether(alloc, image, Addr(*own), Mac(*mac)) {
+    let network = Network {
+        mask: Addr(*mask),
+        router: Addr(*router),
+    };
+    let opened = match open_ether(alloc, image, Addr(*own), Mac(*mac), network) {
         Ok(opened) => opened,
         Err(OpenFault::BadSite(error)) => return bad_site(error),
         Err(OpenFault::NoMemory) => return plain(NO_MEMORY),

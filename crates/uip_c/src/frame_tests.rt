@@ -19,6 +19,12 @@ use std::process::Abort;
 /// The hardware address of the node. The peer, 10.0.0.2, has 02:00:00:00:00:02.
 pub(crate) const MAC: &[u8; 6] = &[2, 0, 0, 0, 0, 1];
 
+/// The addresses from 10.0.0.0 to 10.0.0.255 are on the link.
+pub(crate) const MASK: &[u8; 4] = &[255, 255, 255, 0];
+
+/// The router, which has 02:00:00:00:00:09.
+pub(crate) const ROUTER: &[u8; 4] = &[10, 0, 0, 254];
+
 /// The peer asks all stations for 10.0.0.1.
 const ARP_REQUEST: &[u8; 42] = &[
     255, 255, 255, 255, 255, 255, 2, 0, 0, 0, 0, 2, 8, 6, 0, 1, 8, 0, 6, 4, 0, 1, 2, 0, 0, 0, 0, 2,
@@ -37,6 +43,28 @@ const OWN_REQUEST: &[u8; 42] = &[
     10, 0, 0, 1, 0, 0, 0, 0, 0, 0, 10, 0, 0, 2,
 ];
 
+/// The node asks all stations for the router, and the reply of the router.
+const ROUTER_REQUEST: &[u8; 42] = &[
+    255, 255, 255, 255, 255, 255, 2, 0, 0, 0, 0, 1, 8, 6, 0, 1, 8, 0, 6, 4, 0, 1, 2, 0, 0, 0, 0, 1,
+    10, 0, 0, 1, 0, 0, 0, 0, 0, 0, 10, 0, 0, 254,
+];
+
+const ROUTER_REPLY: &[u8; 42] = &[
+    2, 0, 0, 0, 0, 1, 2, 0, 0, 0, 0, 9, 8, 6, 0, 1, 8, 0, 6, 4, 0, 2, 2, 0, 0, 0, 0, 9, 10, 0, 0,
+    254, 2, 0, 0, 0, 0, 1, 10, 0, 0, 1,
+];
+
+/// An echo request from 192.168.7.1, and its reply.
+const FAR_REQUEST: &[u8; 28] = &[
+    69, 0, 0, 28, 0, 1, 0, 0, 64, 1, 169, 54, 192, 168, 7, 1, 10, 0, 0, 1, 8, 0, 247, 253, 0, 1, 0,
+    1,
+];
+
+const FAR_REPLY: &[u8; 28] = &[
+    69, 0, 0, 28, 0, 1, 0, 0, 64, 1, 169, 54, 10, 0, 0, 1, 192, 168, 7, 1, 0, 0, 255, 253, 0, 1, 0,
+    1,
+];
+
 /// The heads of frames with datagrams from the peer to the node, from the peer to another station, and from the node to the peer.
 const TO_NODE: &[u8; 14] = &[2, 0, 0, 0, 0, 1, 2, 0, 0, 0, 0, 2, 8, 0];
 
@@ -44,11 +72,14 @@ const TO_ANOTHER: &[u8; 14] = &[2, 0, 0, 0, 0, 3, 2, 0, 0, 0, 0, 2, 8, 0];
 
 const TO_PEER: &[u8; 14] = &[2, 0, 0, 0, 0, 2, 2, 0, 0, 0, 0, 1, 8, 0];
 
+/// The head of a frame with a datagram from the node to the router.
+const TO_ROUTER: &[u8; 14] = &[2, 0, 0, 0, 0, 9, 2, 0, 0, 0, 0, 1, 8, 0];
+
 /// Opens a device on Ethernet with an image.
 fn opened_with(rt: &impl Abort, alloc: Global, image: &'static [u8]) -> UipDevice {
     let mut device = no_device(alloc);
     assert_eq!(rt;
-        uip_open_ether(alloc, &mut device, image, OWN, MAC).status,
+        uip_open_ether(alloc, &mut device, image, OWN, MAC, MASK, ROUTER).status,
         OK
     );
     device
@@ -123,6 +154,29 @@ fn arp_teaches_where_a_reply_goes(rt: HostRuntime) {
 }
 
 #[test]
+fn a_reply_to_another_network_goes_to_the_router(rt: HostRuntime) {
+    let alloc = rt.alloc();
+    let mut device = opened_with(&rt, alloc, IMAGE);
+    check_reply(
+        &rt,
+        alloc,
+        &mut device,
+        (TO_NODE, FAR_REQUEST),
+        (ROUTER_REQUEST, b""),
+    );
+    check_reply(&rt, alloc, &mut device, (ROUTER_REPLY, b""), (b"", b""));
+    check_reply(
+        &rt,
+        alloc,
+        &mut device,
+        (TO_NODE, FAR_REQUEST),
+        (TO_ROUTER, FAR_REPLY),
+    );
+    assert_eq!(rt; uip_close(alloc, &mut device), OK);
+    let_go(device);
+}
+
+#[test]
 fn a_call_for_another_link_is_refused(rt: HostRuntime) {
     let alloc = rt.alloc();
     let mut device = opened_with(&rt, alloc, IMAGE);
@@ -134,7 +188,7 @@ fn a_call_for_another_link_is_refused(rt: HostRuntime) {
     );
     assert_eq!(rt; uip_open(alloc, &mut device, IMAGE, OWN).status, HAS_DEVICE);
     assert_eq!(rt;
-        uip_open_ether(alloc, &mut device, IMAGE, OWN, MAC).status,
+        uip_open_ether(alloc, &mut device, IMAGE, OWN, MAC, MASK, ROUTER).status,
         HAS_DEVICE
     );
     let bad = answer(BAD_ARGUMENT);

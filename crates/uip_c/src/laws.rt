@@ -10,11 +10,14 @@ ghost use Rattle.web_pages.specs.Prelude.{is_served};
 ghost use Rattle.uip_edge.specs.declared.item.Item.{Item};
 ghost use Rattle.uip_wire.specs.declared.addr.Addr.{Addr};
 ghost use Rattle.ethernet_arp.specs.declared.mac.Mac.{Mac};
+ghost use Rattle.frame_device.specs.declared.network.Network.{Network};
 ghost use Rattle.frame_device.specs.Prelude.{ether_frames, AnsweredFrame, handed_of, frame_moves_of, FramesConform, IsFrameOfBytes};
-ghost use Rattle.uip_device.specs.Prelude.{Answered, datagrams_handed, left_text_of, line_handed, moves_of, IsOfBytes, CallsConform, Bring};
-ghost use Rattle.uip_device.specs.Prelude.{DeviceRepresents, value_pages, web_datagrams_sent, web_line_sent, web_node_after, web_output};
-ghost use Rattle.uip_c.specs.Prelude.{EtherRepresents, host_at, web_frames_sent, web_station_after, DidFrames, OfFrameMoves};
-ghost use Rattle.uip_c.specs.Prelude.{OpensEtherAs, DidAll, OfMoves, OpensAs, lefts_in, IsEther, IsLine, Kept, ConstantValues};
+ghost use Rattle.uip_device.specs.Prelude.{Answered, datagrams_handed, left_text_of, line_handed, moves_of};
+ghost use Rattle.uip_device.specs.Prelude.{IsOfBytes, CallsConform, Bring, DeviceRepresents, value_pages};
+ghost use Rattle.uip_device.specs.Prelude.{web_datagrams_sent, web_line_sent, web_node_after, web_output};
+ghost use Rattle.uip_c.specs.Prelude.{EtherRepresents, interface_at, web_frames_sent, web_station_after, DidFrames};
+ghost use Rattle.uip_c.specs.Prelude.{OfFrameMoves, OpensEtherAs, DidAll, OfMoves, OpensAs, lefts_in, IsEther};
+ghost use Rattle.uip_c.specs.Prelude.{IsLine, Kept, ConstantValues};
 
 /// Holds for any sequence of calls on a handle that was just opened, over either kind of link, successful or refused, with any values set
 /// between. The serial output, with what is pending, is the SLIP text of what the initial node sends over the input of the calls. Each call
@@ -50,9 +53,10 @@ pub fn line_from_c_is_served()
 /// call writes exactly the frame that the initial node and its link send for its events, or none. The device serves the same files, and
 /// represents the node and the events of ARP after these moves.
 pub fn frames_from_c_are_exact()
-    ensures frames { OfFrameMoves (λ files own mac all new. handed_of all ≡ web_frames_sent files own mac (frame_moves_of all)) }
-    ensures stands { OfFrameMoves (λ files own mac all new.
-        IsEther (λ d. EtherRepresents files own mac d (web_station_after files own mac (frame_moves_of all))) new) }
+    ensures frames { OfFrameMoves (λ files own mac network all new.
+        handed_of all ≡ web_frames_sent files own mac network (frame_moves_of all)) }
+    ensures stands { OfFrameMoves (λ files own mac network all new.
+        IsEther (λ d. EtherRepresents files own mac network d (web_station_after files own mac network (frame_moves_of all))) new) }
 {}
 
 /// Holds for any frames of bytes, any sequence of calls on a handle that was just opened on Ethernet with a good site, and any values set
@@ -60,10 +64,10 @@ pub fn frames_from_c_are_exact()
 /// for the pages of this site.
 pub fn frames_from_c_keep_the_promise()
     ensures { (site : SiteContent) → IsLoaded site → All IsByte site.image → HasSoundScripts word_calls (files_of site)
-        → (own : Addr) → IsAddr own → (mac : Mac)
+        → (own : Addr) → IsAddr own → (mac : Mac) (network : Network)
         → (all : List AnsweredFrame) → All IsFrameOfBytes (frame_moves_of all) → (closed old new : Kept)
-        → OpensEtherAs (files_of site) own mac closed old → DidFrames all old new
-        → FramesConform (ether_frames (host_at own mac)) (value_pages (files_of site)) is_served own all }
+        → OpensEtherAs (files_of site) own mac network closed old → DidFrames all old new
+        → FramesConform (ether_frames (interface_at own mac network)) (value_pages (files_of site)) is_served own all }
 {}
 
 /// The numbers that definitions and contracts name by the code's constants, which are those of include/uip.h.

@@ -4,7 +4,7 @@ ghost use Rattle.uip_c.specs.Kept.{NoDevice};
 use crate::calls::{uip_drain, uip_feed, uip_periodic};
 use crate::datagram_calls::{uip_input, uip_periodic_datagram};
 use crate::ether_opening::uip_open_ether;
-use crate::frame_tests::{MAC, check_frames_refused};
+use crate::frame_tests::{MAC, MASK, ROUTER, check_frames_refused};
 use crate::giving::uip_set_value;
 use crate::handle::UipDevice;
 use crate::held::Held;
@@ -143,7 +143,7 @@ fn each_call_is_made_once(rt: HostRuntime) {
     let mut out = [0; LARGEST_TEXT];
     assert_eq!(rt; uip_open(alloc, &mut device, IMAGE, OWN).status, HAS_DEVICE);
     assert_eq!(rt;
-        uip_open_ether(alloc, &mut device, IMAGE, OWN, MAC).status,
+        uip_open_ether(alloc, &mut device, IMAGE, OWN, MAC, MASK, ROUTER).status,
         HAS_DEVICE
     );
     check_frames_refused(&rt, alloc, &mut device, WRONG_LINK);
@@ -212,7 +212,10 @@ fn a_bad_image_is_told(rt: HostRuntime) {
             word,
         };
         assert_eq!(rt; uip_open(alloc, &mut device, image, OWN), bad);
-        assert_eq!(rt; uip_open_ether(alloc, &mut device, image, OWN, MAC), bad);
+        assert_eq!(rt;
+            uip_open_ether(alloc, &mut device, image, OWN, MAC, MASK, ROUTER),
+            bad
+        );
     }
     assert_eq!(rt; uip_close(alloc, &mut device), NO_DEVICE);
     let_go(device);
