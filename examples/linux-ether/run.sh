@@ -34,7 +34,7 @@ fetch_all() {
     echo "$fetched files, $same of them compared byte for byte"
 }
 
-# Makes a second namespace, 192.168.7.2, behind this one: its process is $far.
+# Makes a second namespace, 192.168.7.2, beyond this one: its process is $far.
 make_far() {
     unshare -n sleep 1000 &
     far=$!

@@ -11,7 +11,7 @@ use Rattle.node_laws.specs.Traces.{Exchange, sent_at, received_at}
 use Rattle.node_laws.specs.Receivers.{IsReceived, EndsAfter}
 
 -- The account of an incarnation. `peer_mss` is the MSS option of the peer's SYN. `accepted` is the text accepted from the peer. If `ended`
--- is true, a FIN was accepted after it. `captures` are the snapshots captured, and `sent` is the text sent.
+-- is true, a FIN after it is counted. `captures` are snapshots of which the page is made, and `sent` is the text sent.
 pub record Account : Type 0 where
   pub irs : ℕ
   pub iss : ℕ
@@ -43,7 +43,7 @@ Begins (x ∷ y ∷ older) a = Begins (y ∷ older) a
 
 -- ---- what is accepted from the peer
 
--- One more received segment is accepted: its number follows everything accepted before, and no FIN was accepted before.
+-- One more received segment is accepted: its number follows everything accepted before, and no FIN was counted before.
 pub record Accepts (irs : ℕ) (x : Exchange) (Before : List ℕ → Bool → Type 0) (text : List ℕ) (ended : Bool) : Type 0 where
   pub segment : PlainSegment
   pub received : x.received ≡ Some segment
