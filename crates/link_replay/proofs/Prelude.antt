@@ -1,13 +1,5 @@
 -- The names that the proofs of this crate cite: of std, of the crates below, and of its own definitions. Declares nothing.
 pub use Rattle.app_events.specs.Prelude.{After, AppSpec, AppState, IsAddr, IsByte, IsPaged, IsSnapshot, IsU32, Pages, Snapshot}
-pub use Rattle.app_events.specs.declared.app.App.{Ghosts}
-pub use Rattle.app_events.specs.declared.ending.Ending.{Ending}
-pub use Rattle.app_events.specs.declared.now.Now.{Now}
-pub use Rattle.app_events.specs.declared.row.Row.{Row}
-pub use Rattle.app_events.specs.declared.state.State.{State}
-pub use Rattle.app_events.specs.declared.state.State.TheVariants.{CloseWait, Closed, Closing, Established, FinWait1, FinWait2, LastAck, SynRcvd, TimeWait}
-pub use Rattle.app_events.specs.declared.want.Want.{Want}
-pub use Rattle.app_events.specs.declared.want.Want.TheVariants.{Abort, Close, Nothing, Send}
 pub use Rattle.file_tree.specs.Prelude.{FindsInFiles, HoldsFile, IsLoaded, LacksFile, Opens, SiteContent, files_of, site_read}
 pub use Rattle.file_tree.specs.declared.load_fault.LoadFault.{LoadFault}
 pub use Rattle.generators.specs.Prelude.{counter_line, in_ten_places, row_text, uip}
@@ -113,6 +105,7 @@ pub use Rattle.tcp_table.specs.declared.conn.Conn.{Conn}
 pub use Rattle.text_room.specs.Prelude.{word_if}
 pub use Rattle.uip_edge.proofs.Told.{Appends-none, Appends-then, appends_by, on_err, prefix_by, prefix_more, prefix_then}
 pub use Rattle.uip_edge.specs.Prelude.{AppendsPrefix, Files, SinkView, WorkUnfailed, WorkView, WritesAll, WritesEnd, sink_view, work_view}
+pub use Rattle.uip_node.proofs.Prelude.{Abort, Close, CloseWait, Closed, Closing, Ending, Established, FinWait1, FinWait2, Ghosts, LastAck, Nothing, Now, Row, Send, State, SynRcvd, TimeWait, Want}
 pub use Rattle.uip_node.proofs.Basics.{and_true, append_nothing, both_ways, choose, eqb-eq, get_push, ltb-zero, not-true, prefix_length, wrap_wrap}
 pub use Rattle.uip_node.proofs.Basics.AtEnd.{newest, older}
 pub use Rattle.uip_node.proofs.Cases.{by_own_fin, on_tick_by}

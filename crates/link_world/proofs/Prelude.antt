@@ -1,12 +1,6 @@
 -- The names that the proofs of this crate cite: of std, of the crates below, and of its own definitions. Declares nothing.
 pub use Rattle.app_events.specs.Prelude.{After, AppSpec, AppState, CanSend, IsAddr, IsByte, IsNow, IsPaged, IsPrefixOf, IsSnapshot, IsU32, MayWant, Pages, Snapshot, text_left}
 pub use Rattle.app_events.specs.declared.ending.Ending.TheVariants.{Reset}
-pub use Rattle.app_events.specs.declared.now.Now.{Now}
-pub use Rattle.app_events.specs.declared.row.Row.{Row}
-pub use Rattle.app_events.specs.declared.state.State.{State}
-pub use Rattle.app_events.specs.declared.state.State.TheVariants.{CloseWait, Closed, Closing, Established, FinWait1, FinWait2, LastAck, SynRcvd, TimeWait}
-pub use Rattle.app_events.specs.declared.want.Want.{Want}
-pub use Rattle.app_events.specs.declared.want.Want.TheVariants.{Abort, Close, Nothing, Send}
 pub use Rattle.icmp_echo.specs.Prelude.{echo_fate, echo_reply}
 pub use Rattle.icmp_echo.specs.declared.fate.IcmpFate.{IcmpFate}
 pub use Rattle.link_client.specs.Prelude.{AbstractClient, ClientStep, ack_of, advertises_window, after_fin, client_aborts, client_again, client_closes, client_hears, client_opens, fin_out, fin_sent, has_closed, has_outstanding, heard_by_head, heard_by_proto, heard_in, hears_ack, is_receiving, is_reset_by, keeps, may_finish, next_own, offered, one_if, opened_by, own_fin, own_first, own_request, own_reset, steps_with, syn_of, takes_text}
@@ -63,6 +57,7 @@ pub use Rattle.uip_ipv4.specs.declared.fate.IpFate.{IpFate}
 pub use Rattle.uip_ipv4.specs.declared.head.IpHead.{IpHead}
 pub use Rattle.uip_ipv4.specs.declared.proto.Proto.{Proto}
 pub use Rattle.uip_ipv4.specs.declared.proto.Proto.TheVariants.{Icmp}
+pub use Rattle.uip_node.proofs.Prelude.{Abort, Close, CloseWait, Closed, Closing, Established, FinWait1, FinWait2, LastAck, Nothing, Now, Row, Send, State, SynRcvd, TimeWait, Want}
 pub use Rattle.uip_node.proofs.Basics.{IsPart, and_false, and_true, append_nothing, both_ways, choose, cut_length, cut_part, empty_part, eqb-eq, get_push, in_place, ltb-lt, ltb-yes, ltb-zero, not-false, not-true, nothing_placed, only_some, part_joins, part_none, part_prefix, prefix_joins, prefix_length, prefix_part, same_place, wrap_low, wrap_wrap, zero_or_more}
 pub use Rattle.uip_node.proofs.Basics.AtEnd.{newest, older}
 pub use Rattle.uip_node.proofs.Cases.{asked_by, by_open, by_own_fin, fin_lives, is_ask, no_ask_again, on_tick_by, open_live, wanted_unmoved}

@@ -1,15 +1,17 @@
 -- The machine words of `BoxParts`: a pointer into a block, and the stored form of the allocator. Assumes `Logic`.
-use Rattle.loose_box.proofs.Prelude.{◌≡◌, ℕ, List, [], ◌∷◌, ◌++◌, refl, subst, Ghosts, Al, handle_tells, Good, box_owns, and_tt}
+use Rattle.loose_box.proofs.Prelude.{◌≡◌, ℕ, List, [], ◌∷◌, ◌++◌, refl, sym, subst, Ghosts, Al, handle_tells, Good, box_owns, and_tt}
 use mathlib.Core.Bool.{true, ◌&&◌}
 use lib.Dec.{T}
 use seplogic.Ra.Ura.{Ura}
-use mir.Syntax.{impl, tnil, dnil}
+use mir.Syntax.{Fn, impl, tnil, dnil}
 use mir.Raw.{raw as bare}
 use mir.Val.{Val, vptr, vstruct, vcons, vnil, of_list, has_ty, WT}
-use base.Logic.{never, fst∗}
+use base.Logic.{SProp, ent, never, id⊢, fst∗}
 use base.Fml.{Fml}
+use prog.Wp.{Calls, Loops, WpFn}
 use types.Logic.{Logic, sem}
-use types.Kit.{Item, Goal, Seq, Step, step, ‵, ◌$◌, move, drop, fsplit, fjoin, fpick, fpack, feq_i, feq_l}
+use types.Kit.{Item, Goal, Seq, Step, step, prop, allocs, params', runs, at_ret, ‵, ◌$◌, move, drop, suffices, fsplit, fjoin, fpick, fpack, feq_i, feq_l}
+use types.Run.{enter}
 use denote.RattleType.{RattleType, Valss}
 use denote.Builtin.{RawPtr}
 use denote.Memory.{lone}
@@ -24,6 +26,15 @@ use Rattle.loose_box.specs.contracts.parts.BoxParts as parts
 -- a struct of two words
 abbrev pub two_words : Val → Val → Val
 two_words first second = vstruct (vcons first (vcons second vnil))
+
+-- A function is entered with the one word that it is given.
+pub entered : {M : Type 1} {𝓤 : Ura M} {𝓛 : Logic 𝓤} {K : Type 0} {Γ : List (Item 𝓤)} {C : Calls 𝓤 𝓛.H} {Λ : Loops 𝓤 𝓛.H}
+    {Kf : Val → SProp 𝓤} → K → (f : Fn) {us : List Val} (w : Val) → us ≡ w ∷ []
+    → Step K 𝓛 Γ (allocs f.locals (λ E. params' E (w ∷ []) (runs C Λ E f.body (at_ret E Kf)))) Γ (prop (WpFn 𝓤 𝓛.H C Λ f (us ++ []) Kf))
+entered {𝓤 = 𝓤} {𝓛 = 𝓛} {C = C} {Λ = Λ} {Kf = Kf} k f w is = step (λ rest.
+    let Run : List Val → SProp 𝓤 = λ words. WpFn 𝓤 𝓛.H C Λ f words Kf in
+    suffices k (Run (w ∷ [])) (subst (λ (us : List Val). ent 𝓤 (Run (w ∷ [])) (Run us)) (sym (λ i. is i ++ [])) (id⊢ 𝓤 (Run (w ∷ [])))) $
+    enter k C Λ f (w ∷ []) Kf $ rest)
 
 module _ (R Z : RattleType) (laws : Laws Z) (g : Ghosts Z.Denot) where
   abbrev pub Parts : RattleType

@@ -9,4 +9,5 @@ pub mod SerialMedium
 pub mod Texts
 pub mod Turns
 pub mod TurnCalls
+pub mod ServeCalls
 pub mod Prelude

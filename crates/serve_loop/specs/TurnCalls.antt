@@ -1,16 +1,16 @@
 -- What the private calls of a turn do. A turn is one read of the link and the output due for it.
 use Rattle.std.specs.Io.KnownBytes.{Appends}
-use Rattle.std.specs.Prelude.{◌<◌, ◌≤◌, ℕ, List, [], ◌++◌, Option, length, map, take}
+use Rattle.std.specs.Prelude.{◌<◌, ◌≤◌, ℕ, List, [], ◌∷◌, ◌++◌, Option, length, map, take}
 use Rattle.uip_wire.specs.declared.addr.Addr.{Addr}
 use Rattle.app_events.specs.declared.app.App.{Ghosts}
 use Rattle.packet_buffer.specs.Prelude.{Buffer}
 use Rattle.uip_edge.specs.declared.item.Item.TheVariants.{Byte}
 use Rattle.uip_edge.specs.Prelude.{BreaksOff}
-use Rattle.uip_node.specs.Prelude.{Reply, IsSent}
+use Rattle.uip_node.specs.Prelude.{Event, Reply, IsSent}
 use Rattle.line_medium.specs.Prelude.{all_decoded}
 use Rattle.line_medium.specs.declared.medium.Medium.{Ghosts as MediumGhosts}
 use Rattle.serve_loop.specs.declared.pacer.Pacer.{Pacer}
-use Rattle.serve_loop.specs.StationRuns.{StationEvent, reply_text}
+use Rattle.serve_loop.specs.StationRuns.{OfNode, StationEvent, reply_text}
 use Rattle.serve_loop.specs.LineStationEvents.{station_event_by, station_events_after}
 use Rattle.serve_loop.specs.Turns.{Breaks, HasTaken, Place, Plays}
 
@@ -28,6 +28,13 @@ abbrev pub BreaksStationEvents : {A S M : Type 0} (g : Ghosts A S) (h : MediumGh
     → ((k : h.Config) → Addr → List (StationEvent h.Act))
     → Place M A S → Place M A S → Type 0
 BreaksStationEvents g h station_events old new = (k : h.Config) → Breaks g h k (station_events k) old new
+
+-- The output of one event of the node is written, or the writing of it fails. The event may depend on the address of the node.
+abbrev pub PlaysNodeEvent : {A S M : Type 0} (g : Ghosts A S) (h : MediumGhosts M) → (Addr → Event) → Place M A S → Place M A S → Type 0
+PlaysNodeEvent g h event old new = PlaysStationEvents g h (λ k own. OfNode (event own) ∷ []) old new
+
+abbrev pub BreaksNodeEvent : {A S M : Type 0} (g : Ghosts A S) (h : MediumGhosts M) → (Addr → Event) → Place M A S → Place M A S → Type 0
+BreaksNodeEvent g h event old new = BreaksStationEvents g h (λ k own. OfNode (event own) ∷ []) old new
 
 -- A line that has consumed any bytes consumes these.
 abbrev pub TakesBytes : {M : Type 0} (h : MediumGhosts M) → List ℕ → M → M → Pacer → Pacer → Type 0

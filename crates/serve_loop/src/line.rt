@@ -6,7 +6,7 @@ ghost use Rattle.std.specs.List.{All};
 ghost use Rattle.app_events.specs.Prelude.{IsByte};
 ghost use Rattle.uip_edge.specs.Prelude.{HasCause, TurnFits, BreaksOff, line_view};
 ghost use Rattle.serve_loop.specs.Prelude.{BreaksBrought, BreaksBytes, PlaysBrought, PlaysBytes};
-ghost use Rattle.serve_loop.specs.Prelude.{TakesBytes, HasTaken, IfLinkEnded, Turns, place};
+ghost use Rattle.serve_loop.specs.Prelude.{TakesBytes, IfLinkEnded, TakesTurn, place};
 
 use crate::node_calls::{take_datagram, tick};
 use crate::pacer::Pacer;
@@ -29,10 +29,9 @@ pub fn take_turn<A: App, M: Medium, L: Link, K: Sink>(
     requires room { 0 < length buf.old }
     ensures same { A.config node.new.shared ≡ A.config node.old.shared }
     ensures fits { TurnFits result (length buf.old) }
-    ensures turns { (k : M.Config) (pace : ℕ) (before : List ℕ) → HasTaken pace before (M.fed medium.old k) pacer.old
-        → Turns A.App M.Medium k pace before medium.old medium.new node.old node.new
+    ensures turns { TakesTurn A.App M.Medium medium.old medium.new pacer.old pacer.new node.old node.new
         (line_view L.Link K.Sink link.old sink.old)
-        (line_view L.Link K.Sink link.new sink.new) pacer.new (length buf.old) result }
+        (line_view L.Link K.Sink link.new sink.new) (length buf.old) result }
     ensures rests { IfLinkEnded result ((medium.new ≡ medium.old) × (node.new ≡ node.old) × (pacer.new ≡ pacer.old)) }
 {
     match link.next(buf) {

@@ -1,10 +1,10 @@
 //! Calls of the node, with their output written to the sink.
 
-ghost use Rattle.std.specs.Prelude.{◌≡◌, ◌<◌, ◌≤◌, [], ◌∷◌, List, length, Option, OnOk, OnErr};
+ghost use Rattle.std.specs.Prelude.{◌≡◌, ◌<◌, ◌≤◌, List, length, Option, OnOk, OnErr};
 ghost use Rattle.uip_edge.specs.Prelude.{HasCause};
 ghost use Rattle.uip_node.specs.Prelude.{event_of, Periodic};
-ghost use Rattle.serve_loop.specs.Prelude.{OfNode, tick_on, BreaksStationEvents, BreaksSent};
-ghost use Rattle.serve_loop.specs.Prelude.{PlaysStationEvents, StaysFed, WritesSent, place};
+ghost use Rattle.serve_loop.specs.Prelude.{tick_on, BreaksNodeEvent, BreaksStationEvents, BreaksSent};
+ghost use Rattle.serve_loop.specs.Prelude.{PlaysNodeEvent, PlaysStationEvents, StaysFed, WritesSent, place};
 
 use app_events::App;
 use line_medium::Medium;
@@ -42,11 +42,11 @@ pub(crate) fn take_datagram<A: App, M: Medium, K: Sink>(
     requires most { length (M.shown medium.old) ≤ LARGEST_DATAGRAM }
     ensures same { A.config node.new.shared ≡ A.config node.old.shared }
     ensures fed { StaysFed M.Medium medium.old medium.new }
-    ensures ok { OnOk result (PlaysStationEvents A.App M.Medium
-        (λ k own. OfNode (event_of own (M.shown medium.old)) ∷ [])
+    ensures ok { OnOk result (PlaysNodeEvent A.App M.Medium
+        (λ own. event_of own (M.shown medium.old))
         (place medium.old node.old (K.written sink.old)) (place medium.new node.new (K.written sink.new))) }
-    ensures err { OnErr result (BreaksStationEvents A.App M.Medium
-        (λ k own. OfNode (event_of own (M.shown medium.old)) ∷ [])
+    ensures err { OnErr result (BreaksNodeEvent A.App M.Medium
+        (λ own. event_of own (M.shown medium.old))
         (place medium.old node.old (K.written sink.old)) (place medium.new node.new (K.written sink.new))) }
     ensures cause { HasCause (K.faults sink.old) (K.faults sink.new) result }
 {
@@ -64,11 +64,11 @@ fn call_slot<A: App, M: Medium, K: Sink>(
     requires within { slot < 10 }
     ensures same { A.config node.new.shared ≡ A.config node.old.shared }
     ensures fed { StaysFed M.Medium medium.old medium.new }
-    ensures ok { OnOk result (PlaysStationEvents A.App M.Medium
-        (λ k own. OfNode (Periodic slot) ∷ [])
+    ensures ok { OnOk result (PlaysNodeEvent A.App M.Medium
+        (λ own. Periodic slot)
         (place medium.old node.old (K.written sink.old)) (place medium.new node.new (K.written sink.new))) }
-    ensures err { OnErr result (BreaksStationEvents A.App M.Medium
-        (λ k own. OfNode (Periodic slot) ∷ [])
+    ensures err { OnErr result (BreaksNodeEvent A.App M.Medium
+        (λ own. Periodic slot)
         (place medium.old node.old (K.written sink.old)) (place medium.new node.new (K.written sink.new))) }
     ensures cause { HasCause (K.faults sink.old) (K.faults sink.new) result }
 {

@@ -1,13 +1,8 @@
 //! Serves a line: turns, until the budget of items is used up or a turn ends the line.
 
-ghost use Rattle.std.specs.Prelude.{◌≡◌, ◌<◌, [], List, ℕ, Some, length};
-ghost use Rattle.uip_edge.specs.Prelude.{Consumes, line_view, LineView, LineUnfailed, EndsBy};
-ghost use Rattle.uip_edge.specs.declared.item.Item.{Item};
-ghost use Rattle.uip_edge.specs.declared.serve_end.ServeEnd.{ServeEnd as AnyEnd};
-ghost use Rattle.uip_edge.specs.declared.serve_end.ServeEnd.TheVariants.{Budget, End};
-ghost use Rattle.serve_loop.specs.StationServing.{ServesOver};
-ghost use Rattle.serve_loop.specs.SerialMedium.{any_acts, slip_medium};
-ghost use Rattle.serve_loop.specs.Turns.{HasTaken};
+ghost use Rattle.std.specs.Prelude.{◌≡◌};
+ghost use Rattle.uip_edge.specs.Prelude.{line_view};
+ghost use Rattle.serve_loop.specs.Prelude.{BudgetIsReported, EndIsReported, ServesFresh, ServesOver, ServesPaced, any_acts, slip_medium};
 
 use crate::line::take_turn;
 use crate::pacer::Pacer;
@@ -50,8 +45,7 @@ pub fn serve_over<A: App, M: Medium, L: Link, K: Sink>(
     items: u64,
 ) -> ServeEnd
     ensures same { A.config node.new.shared ≡ A.config node.old.shared }
-    ensures serves { (k : M.Config) → M.fed medium.old k []
-        → ServesOver A.App (M.spec k) (M.did medium.old k) (M.did medium.new k) pace items node.old node.new
+    ensures serves { ServesFresh A.App M.Medium medium.old medium.new pace items node.old node.new
         (line_view L.Link K.Sink link.old sink.old)
         (line_view L.Link K.Sink link.new sink.new) result }
 {
@@ -69,8 +63,7 @@ fn serve_line<A: App, M: Medium, L: Link, K: Sink>(
     items: u64,
 ) -> ServeEnd
     ensures same { A.config node.new.shared ≡ A.config node.old.shared }
-    ensures serves { (k : M.Config) (pace : ℕ) → HasTaken pace [] (M.fed medium.old k) pacer.old
-        → ServesOver A.App (M.spec k) (M.did medium.old k) (M.did medium.new k) pace items node.old node.new
+    ensures serves { ServesPaced A.App M.Medium pacer.old medium.old medium.new items node.old node.new
         (line_view L.Link K.Sink link.old sink.old)
         (line_view L.Link K.Sink link.new sink.new) result }
 {
@@ -88,12 +81,10 @@ fn serve_line<A: App, M: Medium, L: Link, K: Sink>(
 
 /// The end is `Budget` if as many items were consumed as were allowed and nothing failed.
 pub fn budget_is_reported()
-    ensures { (n : ℕ) (old new : LineView) (taken : List Item) (end : AnyEnd) → EndsBy n old new taken end
-        → length taken ≡ n → LineUnfailed old new → end ≡ Budget }
+    ensures { BudgetIsReported }
 {}
 
 /// The end is `End` if the link had fewer items than were allowed and nothing failed.
 pub fn end_is_reported()
-    ensures { (n : ℕ) (old new : LineView) (all taken : List Item) (end : AnyEnd) → old.link.coming ≡ Some all → length all < n
-        → Consumes old.link.coming new.link.coming taken → EndsBy n old new taken end → LineUnfailed old new → end ≡ End }
+    ensures { EndIsReported }
 {}

@@ -25,8 +25,7 @@ pub fn run<H: Shelf, L: Link, K: Sink>(
     link: &mut L,
     out: &mut K,
 ) -> Status
-    ensures runs { Runs (map string_bytes words.now)
-        (outside H.Shelf L.Link K.Sink shelf.old link.old out.old)
+    ensures runs { Runs (map string_bytes words.now) (outside H.Shelf L.Link K.Sink shelf.old link.old out.old)
         (outside H.Shelf L.Link K.Sink shelf.new link.new out.new) result }
     ensures untouched { result ≡ BadWords → (shelf.new ≡ shelf.old) × (link.new ≡ link.old) × (out.new ≡ out.old) }
     ensures kept { H.held shelf.new ≡ H.held shelf.old }

@@ -21,16 +21,15 @@ returns-in_err-count-clause-err g c =
 pub loop-rest-preserved : goal.loop-rest-preserved
 loop-rest-preserved g c =
     let inv = c.loop-rest.invariant in
-    let rest = c.loop-rest.rest.now in
-    let n = c.in_ok-count.count in
-    let told = c.in_ok-count.ensures in
+    let step = c.in_ok-count in
+    let part = take step.count c.loop-rest.rest.now in
     record {
-      prefix = inv.prefix ++ take n rest;
-      pieces = moved_on _ inv.prefix rest n inv.pieces;
-      same = told.same ∙ inv.same;
-      taken = λ k pace before h. rw (← append_assoc before inv.prefix (take n rest)) (told.taken k pace (before ++ inv.prefix) (inv.taken k pace before h));
-      wrote = after_wrote g.M.Medium.spec g.A.App.served _ (λ k before. g.M.Medium.fed c.loop-rest.medium k before) _ _ inv.prefix inv.taken _ _ _ _ _ _ inv.wrote (take n rest) told.ok;
-      calm = told.cause.same ∙ inv.calm;
+      prefix = inv.prefix ++ part;
+      pieces = moved_on _ inv.prefix c.loop-rest.rest.now step.count inv.pieces;
+      same = step.ensures.same ∙ inv.same;
+      taken = λ k pace before h. rw (← append_assoc before inv.prefix part) (step.ensures.taken k pace (before ++ inv.prefix) (inv.taken k pace before h));
+      wrote = after_wrote g.M.Medium.spec g.A.App.served _ (λ k before. g.M.Medium.fed c.loop-rest.medium k before) _ _ inv.prefix inv.taken _ _ _ _ _ _ inv.wrote part step.ensures.ok;
+      calm = step.ensures.cause.same ∙ inv.calm;
     }
 
 pub returns-clause-taken : goal.returns-clause-taken

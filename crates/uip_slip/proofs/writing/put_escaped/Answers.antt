@@ -6,12 +6,11 @@ pub loop-rest-preserved : goal.loop-rest-preserved
 loop-rest-preserved c =
     let inv = c.loop-rest.invariant in
     let rest = c.loop-rest.rest.now in
-    let n = c.put_prefix-run.result.count in
-    let run = c.put_prefix-run.ensures in
+    let step = c.put_prefix-run in
     record {
-      prefix = inv.prefix ++ take n rest;
-      pieces = moved_on _ inv.prefix rest n inv.pieces;
-      made = escaped_then _ _ _ inv.prefix (take n rest) inv.made run.text;
-      long = run.long ∙ inv.long;
-      bound = omega (arith, inv.bound, run.bound, run.within, length-take (length rest - n) (drop n rest), length-drop n rest);
+      prefix = inv.prefix ++ take step.result.count rest;
+      pieces = moved_on _ inv.prefix rest step.result.count inv.pieces;
+      made = escaped_then _ _ _ inv.prefix (take step.result.count rest) inv.made step.ensures.text;
+      long = step.ensures.long ∙ inv.long;
+      bound = omega (arith, inv.bound, step.ensures.bound, step.ensures.within, length-take (length rest - step.result.count) (drop step.result.count rest), length-drop step.result.count rest);
     }

@@ -1,20 +1,18 @@
 -- `from_box` by hand, since it makes a struct that owns memory: the call of `into_raw_with_allocator` gives the pointer and
 -- the allocator with what the box owned, and the parts are made of these.
-use Rattle.loose_box.proofs.Prelude.{◌≡◌, List, [], ◌∷◌, ◌++◌, refl, sym, ap, ◌∙◌, subst, Goes-blank, handle_tells, fm, box_owns, box_out, box_in, proved_at, leaves}
+use Rattle.loose_box.proofs.Prelude.{◌≡◌, [], ◌∷◌, ◌++◌, refl, ap, ◌∙◌, Goes-blank, handle_tells, fm, box_owns, box_out, box_in, proved_at, leaves}
 use mir.Syntax.{a_type, dcons, dnil}
 use mir.Raw.{raw as bare}
 use mir.Val.{Val, vptr, vstruct, of_list}
 use mir.MapTy.{inst_fn}
-use base.Logic.{SProp, ent, emp, never, id⊢, fst∗}
+use base.Logic.{emp, never, id⊢, fst∗}
 use base.Fml.{ftrue, fsep, flft}
-use prog.Wp.{WpFn}
 use types.Logic.{sem}
-use types.Kit.{‵, raw, ◌⊛◌, some, later, ◌$◌, ◌∵◌, !, qed, by, move, keep, drop, split, split3, join, fsplit, fjoin, fpick, pick, suffices, use0, use1, await, rewrite, feq_l}
-use types.Run.{stop, fld, of_opd, no_more, and_then, returns, enter}
+use types.Kit.{‵, raw, ◌⊛◌, some, later, ◌$◌, ◌∵◌, !, qed, by, move, keep, drop, split, split3, join, fsplit, fjoin, fpick, pick, use0, use1, await, rewrite, feq_l}
+use types.Run.{stop, fld, of_opd, no_more, and_then, returns}
 use types.ByLocal.{alloc_all, pass_all, free_all, look_at, get, get_in, sets, lands_as}
 use types.Part.{agg, sub, whole}
 use contract.Monad.{fact, fact_i}
-use contract.Running.{tables}
 use denote.Exit.{no}
 use denote.RattleType.{RattleType, owns}
 use denote.Signature.{types_at, plain}
@@ -26,11 +24,11 @@ use denote.Param.Laws.{param_laws}
 use denote.Struct.Tuple.{Tuple}
 use denote.Triple.Spec.{triple_of}
 use denote.Triple.Call.{calls_at}
-use denote.Triple.Walked.{Stays, stay_dropped, walk_of}
+use denote.Triple.Walked.{Stays, stay_dropped}
 use Rattle.std_alloc.proofs.BoxSteps.Form as box
 use Rattle.std_alloc.specs.contracts.boxed.Box.into_raw_with_allocator as callee
 use Rattle.std_alloc.proofs.boxed.Box.into_raw_with_allocator.Met.{met}
-use Rattle.loose_box.proofs.Words.{two_words, words_typed, parts_in}
+use Rattle.loose_box.proofs.Words.{entered, two_words, words_typed, parts_in}
 use Rattle.loose_box.specs.contracts.parts.BoxParts.from_box.{ended, clauses}
 use Rattle.loose_box.specs.contracts.parts.BoxParts.from_box.Key.{name as #self}
 use Rattle.loose_box.proofs.parts.BoxParts.from_box.Statement.{statement}
@@ -38,25 +36,20 @@ use Rattle.loose_box.proofs.parts.BoxParts.from_box.Code as code
 
 pub from_box_spec : {M : Type 1} → statement M
 from_box_spec 𝓤 𝓛 𝓜 𝓡 wired T A L LA g d dx dd allocator glue glued =
-    let H = 𝓛.H in
-    let 𝓣 = tables 𝓤 H 𝓜 𝓡 𝓡.env in
     let R : RattleType = param 0 T in
     let Z : RattleType = param 1 A in
     let LZ = param_laws 1 A LA in
     let types = bounded (a_type ∷ a_type ∷ []) (T, (A, tt)) (dcons d (dcons dx (dcons dd dnil))) in
-    let fn = inst_fn types code.function in
     let En = ended T A g d dx dd in
     let c = clauses T A g d dx dd 𝓛 𝓜.mem 𝓡.returns in
     let E : box.Bx = record { row = T; laws = L; al = record { row = A; laws = LA; g = g; d = d; drops = dd } } in
     let Whole = plain (λ _. box.B E) in
     let stays : Stays En.signature.params En.kept = (stay_dropped Whole no, tt) in
-    proved_at 𝓛 En stays c 𝓜 𝓡 (Goes-blank 𝓛 2 Whole no (λ κs x f. tt), tt) (#self types) fn (code.unfolded 𝓤 H 𝓜 𝓡 wired (T, (A, tt)) d dx dd) (λ z are.
+    proved_at 𝓛 En stays c 𝓜 𝓡 (Goes-blank 𝓛 2 Whole no (λ κs x f. tt), tt) (#self types) (inst_fn types code.function) (code.unfolded 𝓤 𝓛.H 𝓜 𝓡 wired (T, (A, tt)) d dx dd) (λ z are.
     let κs = z.0.0 in
     let qs = z.0.1 in
     let v = z.0.3.0 in
     let a = v.alloc in
-    let Post : Val → SProp 𝓤 = (walk_of 𝓛 En stays c).post z in
-    let Run : List Val → SProp 𝓤 = λ words. WpFn 𝓤 H 𝓣.C 𝓣.Λ fn words Post in
     let tokens = ‵ (flft κs.0 qs.0) ⊛ ‵ (flft κs.1.0 qs.1.0) ⊛ ‵ ftrue in
     let asked = raw ((c κs z.0.3).requires z.1) in
     qed 𝓛 ((tokens ⊛ ‵ (owns (types_at En.signature.params κs) z.0.3 z.0.4)) ∷ asked ∷ []) ∵ split ! $ move ! (1 ∷ []) $ fsplit ! $
@@ -68,8 +61,7 @@ from_box_spec 𝓤 𝓛 𝓜 𝓡 wired T A L LA g d dx dd allocator glue glued 
     let Pair = Tuple (RawPtr ∷ Z ∷ []) in
     -- what the call requires
     fjoin ! $ move ! (1 ∷ 0 ∷ []) $ join ! $ join ! $ use1 𝓛 (raw (k.pre y)) (id⊢ 𝓤 _) $
-    suffices ! (Run (w ∷ [])) (subst (λ (us : List Val). ent 𝓤 (Run (w ∷ [])) (Run us)) (sym (λ i. words i ++ [])) (id⊢ 𝓤 (Run (w ∷ [])))) $
-    enter ! 𝓣.C 𝓣.Λ fn (w ∷ []) Post $ alloc_all ! (λ l. pass_all ! refl (typed, tt) $ sets ! (of_opd ! (get ! refl)) refl typed $
+    entered ! _ w words $ alloc_all ! (λ l. pass_all ! refl (typed, tt) $ sets ! (of_opd ! (get ! refl)) refl typed $
     calls_at ! (fm 𝓛 𝓜 𝓡) k (met 𝓤 𝓛 𝓜 𝓡 (code.calls-std_alloc::boxed::Box::into_raw_with_allocator 𝓡.env wired) T A L LA g d dd dx allocator glued glue) y
     (and_then ! (get ! refl) (no_more !)) (λ u.
     -- what it gives: a pointer and the allocator

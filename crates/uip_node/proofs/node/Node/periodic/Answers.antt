@@ -46,10 +46,10 @@ pub returns : goal.returns
 returns g c = rw (← c.self.view_is) (record {
   same = search rules;
   step = λ n h.
-      let now = c.self.inside in
-      let k = g.A.App.config now.shared in
-      let m = g.A.App.app_spec k in
       let app = g.A.App in
+      let now = c.self.inside in
+      let k = app.config now.shared in
+      let m = app.app_spec k in
       let slot = c.args.slot in
       let step = c.take_tick-step in
       let answer = c.ask_app-answer in
@@ -61,12 +61,12 @@ returns g c = rw (← c.self.view_is) (record {
       let o : Outcome = on_tick m a n.numbers in
       let slots = subst (λ (cs : List (Conn g.row.A.Denot)). SlotsRepresent app k cs n.connections) (sym c.next_iss.ensures.conns) h.slots in
       let one = step.ensures.meets n.connections a slots there in
-      let two = subst (λ (ns : List ℕ). MeetsAt app k step.new.table.conns (g.A.App.numbers step.new.shared) step.result n.connections slot (on_tick m a ns)) h.numbers_stand one in
-      let three = subst (λ (j : g.A.App.Config). MeetsAt app j step.new.table.conns (g.A.App.numbers step.new.shared) step.result n.connections slot o) (sym step.ensures.same) two in
+      let two = subst (λ (ns : List ℕ). MeetsAt app k step.new.table.conns (app.numbers step.new.shared) step.result n.connections slot (on_tick m a ns)) h.numbers_stand one in
+      let three = subst (λ (j : app.Config). MeetsAt app j step.new.table.conns (app.numbers step.new.shared) step.result n.connections slot o) (sym step.ensures.same) two in
       let stand : CountsRepresent counts (seen event n.history) = record { net = h.counts.net; ticks = c.ticks_at-self-inside.ensures n.history h.counts.ticks; ident = h.counts.ident } in
-      let four = finished app (g.A.App.config step.new.shared) (g.A.App.app_spec (g.A.App.config step.new.shared)) answer.new.table.conns (g.A.App.numbers step.new.shared) answer.result n event slot o counts stand
+      let four = finished app (app.config step.new.shared) (app.app_spec (app.config step.new.shared)) answer.new.table.conns (app.numbers step.new.shared) answer.result n event slot o counts stand
       (answer.ensures.meets n.connections o within three) in
-      subst (λ (j : g.A.App.Config). Steps app c.send_step.new.self c.send_step.result (happened (g.A.App.app_spec j) n event slot a (asked (g.A.App.app_spec j) (snapshot n event slot) o))) step.ensures.same
-      (c.send_step.ensures.step n event a (asked (g.A.App.app_spec (g.A.App.config step.new.shared)) (snapshot n event slot) o) h.addr within
+      subst (λ (j : app.Config). Steps app c.send_step.new.self c.send_step.result (happened (app.app_spec j) n event slot a (asked (app.app_spec j) (snapshot n event slot) o))) step.ensures.same
+      (c.send_step.ensures.step n event a (asked (app.app_spec (app.config step.new.shared)) (snapshot n event slot) o) h.addr within
       (answer.ensures.iss ∙ step.ensures.took.iss ∙ c.next_iss.ensures.iss ∙ ap (λ (i : ℕ). (i + 1) % 4294967296) h.iss ∙ next_first n.history slot) stand four);
 })
