@@ -3,11 +3,11 @@
 ghost use Rattle.std.specs.Prelude.{◌≡◌, ◌+◌, ◌++◌, ◌≤◌, ◌<◌, decimal, length, take};
 ghost use Rattle.generators.specs.Text.{state_name, waiting_mark, row_text};
 
-use crate::numbers::decimal_len;
+use crate::numbers::{PLACES, decimal_len, put_digits};
 use crate::parts::{Place, put};
 use crate::written::Written;
 use app_events::{Row, State};
-use itoa::Buffer;
+use uip_wire::copy_bytes;
 
 /// The length of what is the same in each row: the ends of the cells, three dots, a colon and the mark.
 const FIXED_LEN: usize = 8 + 5 * 9 + 3 + 1 + 1 + 12;
@@ -77,8 +77,11 @@ fn append_digits(room: &mut [u8], len: usize, number: u32) -> usize
     ensures bound { result ≤ len + 10 }
     ensures text { take result room.new ≡ take len room.old ++ decimal number }
 {
-    let mut digits = Buffer::new();
-    append(room, len, digits.format(number).as_bytes())
+    let mut places = [0; PLACES];
+    let at = put_digits(&mut places, number);
+    let end = len + PLACES - at;
+    copy_bytes(&mut room[len..end], &places[at..]);
+    end
 }
 
 /// Appends a number and its terminator.

@@ -1,12 +1,11 @@
 //! Numbers as text.
 
-ghost use Rattle.std.specs.Prelude.{◌≡◌, ℕ, ◌+◌, ◌++◌, ◌<◌, ◌≤◌, ◌-◌, ◌^◌, List, decimal, length};
+ghost use Rattle.std.specs.Prelude.{◌≡◌, ℕ, ◌+◌, ◌++◌, ◌<◌, ◌≤◌, ◌-◌, ◌^◌, List, decimal, drop, length, take};
 ghost use Rattle.generators.specs.Parts.{HoldsPart};
 ghost use Rattle.generators.specs.Text.{in_ten_places, counter_line};
 
 use crate::parts::{Place, put};
 use crate::written::Written;
-use itoa::Buffer;
 
 /// The number of places of a number.
 pub(crate) const PLACES: usize = 10;
@@ -20,17 +19,19 @@ pub(crate) fn decimal_len(number: u32) -> usize
     ensures length { result ≡ length (decimal number) }
     ensures bound { result ≤ 10 }
 {
-    if number < 10 {
-        return 1;
+    let mut left = number;
+    let mut len = 0;
+    while left >= 1000 {
+        left /= 1000;
+        len += 3;
     }
-    if number < 100 {
-        return 2;
+    if left < 10 {
+        return len + 1;
     }
-    if number < 1000 {
-        return 3;
+    if left < 100 {
+        return len + 2;
     }
-    let mut digits = Buffer::new();
-    digits.format(number).len()
+    len + 3
 }
 
 /// Returns the length of a number in ten places.
@@ -41,15 +42,31 @@ pub(crate) fn in_ten_places_len(_number: u32) -> usize
     PLACES
 }
 
+/// Writes the digits of a number to the end of ten places, and returns the first place that they take.
+#[inline(never)]
+pub(crate) fn put_digits(places: &mut [u8; PLACES], number: u32) -> usize
+    ensures within { result < 10 }
+    ensures digits { drop result places.new ≡ decimal number }
+    ensures kept { take result places.new ≡ take result places.old }
+{
+    let mut at = PLACES - 1;
+    let mut left = number;
+    while left >= 10 {
+        places[at] = b'0' + (left % 10) as u8;
+        left /= 10;
+        at -= 1;
+    }
+    places[at] = b'0' + left as u8;
+    at
+}
+
 /// Returns a number in ten places, right-aligned and filled with spaces.
 #[inline(never)]
 fn in_ten(number: u32) -> [u8; PLACES]
     ensures { result ≡ in_ten_places number }
 {
     let mut text = [b' '; PLACES];
-    let mut digits = Buffer::new();
-    let digits = digits.format(number).as_bytes();
-    text[PLACES - digits.len()..].copy_from_slice(digits);
+    put_digits(&mut text, number);
     text
 }
 
