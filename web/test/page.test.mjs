@@ -410,7 +410,8 @@ for (const scheme of ["light", "dark"])
       assert.ok(left >= 0 && right <= width, `the options at ${width}: ${left} to ${right}`);
     }
     await tab.run(`await node.fetchMany()`);
-    assert.ok(await tab.run(`return document.querySelectorAll("#rows tr").length > 80 && document.querySelector(".diagram").offsetHeight < 600`));
+    await tab.until(`document.querySelectorAll("#rows tr").length > 80`);
+    assert.ok(await tab.run(`return document.querySelector(".diagram").offsetHeight < 600`));
   });
 
 inChromium("the first screen by keyboard: each way is reached, and Enter starts the device", {}, async tab => {
