@@ -500,7 +500,7 @@ class Words:
     def check_board(self):
         program = self.program()
         if not shutil.which(program):
-            package = QEMU_PACKAGES.get(os.path.basename(program).removeprefix("qemu-system-"))
+            package = QEMU_PACKAGES.get(os.path.basename(program).replace("qemu-system-", ""))
             fail(f"no command {program} here" + (f": it is in the package {package}" if package else ""))
         if self.board and not os.path.exists(self.board):
             fail(f"no firmware at {self.board}: `sh examples/board/run.sh build` builds that of the example board")

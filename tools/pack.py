@@ -109,10 +109,11 @@ def page_lengths(files):
 
 def warning_of(part):
     """What the inner part of a directive does that its maker may not expect, or an empty text."""
-    words = words_of(part.removeprefix(b":"))
+    is_include = part.startswith(b":")
+    words = words_of(part[1:] if is_include else part)
     if not words:
         return ""
-    if part.startswith(b":"):
+    if is_include:
         ignored = words[1:]
     elif words[0] in ARGUMENTS:
         ignored = words[1 + ARGUMENTS[words[0]]:]

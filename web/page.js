@@ -279,13 +279,18 @@ function showVerdicts() {
   }));
 }
 
+// Loads a page several times and shows the result. Returns it, or null if the line was closed meanwhile.
+async function load(path, count) {
+  const own = session, report = sums => { const { kind, words } = resultOf(sums); showResult(words, kind); };
+  const done = await own.fetchMany(path, count, report);
+  report(done);
+  return session === own ? done : null;
+}
+
 async function fetchMany() {
   if (!session) throw new Error("not connected");
   session.atOnce = +$("at-once").value;
-  const report = sums => { const { kind, words } = resultOf(sums); showResult(words, kind); };
-  const done = await session.fetchMany(pathTyped($("target").value), +$("count").value, report);
-  report(done);
-  return done;
+  return load(pathTyped($("target").value), +$("count").value);
 }
 
 async function ping() {
@@ -342,17 +347,18 @@ async function until(isSo, milliseconds = 20000) {
 async function tourPage() {
   if (!session?.device) await openInside();
   setFaults({});
+  const own = session;
   await frame().visit("/stats.shtml");
-  await until(() => verdicts.get("/stats.shtml"));
-  return { kind: "good", words: `Complete. ${session.sums.datagrams} datagrams so far.` };
+  await until(() => session !== own || verdicts.get("/stats.shtml"));
+  return { kind: "good", words: `Complete. ${own.sums.datagrams} datagrams so far.` };
 }
 
 async function tourLoss() {
   if (!session?.device) await openInside();
   setFaults({ loss: 30, speed: 10 });
   Object.assign($("target"), { value: "/" });
-  const done = await session.fetchMany("/", 20, sums => showResult(resultOf(sums).words, ""));
-  showResult(resultOf(done).words, resultOf(done).kind);
+  const done = await load("/", 20);
+  if (!done) return {};
   const { retransmissions, different } = session.sums, counts = `${done.complete} pages complete, ${done.wrong} wrong`;
   return { kind: done.wrong ? "bad" : "good", words: `${counts}. ${retransmissions} retransmissions, ${different} different.` };
 }
@@ -360,15 +366,16 @@ async function tourLoss() {
 async function tourRules() {
   setFaults({});
   await openRules();
-  await until(() => verdicts.get("/"));
-  setFaults({ loss: 30, speed: 10 });
-  const done = await session.fetchMany("/", 20, sums => showResult(resultOf(sums).words, ""));
-  showResult(resultOf(done).words, resultOf(done).kind);
-  for (let n = 0; n < 40 && verdicts.get("/") !== "wrong"; n++) {
+  const own = session;
+  await until(() => session !== own || verdicts.get("/"));
+  if (session === own) setFaults({ loss: 30, speed: 10 });
+  const done = session === own && await load("/", 20);
+  for (let n = 0; session === own && n < 40 && verdicts.get("/") !== "wrong"; n++) {
     verdicts.delete("/");
     await frame().visit("/");
-    await until(() => verdicts.get("/"));
+    await until(() => session !== own || verdicts.get("/"));
   }
+  if (session !== own) return {};
   return { kind: "bad", words: `The page shows 100. ${done.wrong} of 20 pages are wrong.` };
 }
 

@@ -118,6 +118,24 @@ inEach("the tour begins at its first step again", { hash: "#try" }, async tab =>
   assert.equal(await tab.run(`return document.querySelector("[aria-current]").textContent`), "1");
 });
 
+inEach("a step of the tour that Disconnect ends, and the tour again", { hash: "#try" }, async tab => {
+  await tab.until(COMPLETE);
+  await step(tab);
+  await step(tab);   // to the next one
+  await tab.run(`document.querySelector("[data-tour=go]").click()`);
+  await tab.until(`node.session.faults.loss === 0.3`);
+  await click(tab, "close");
+  await tab.until(ends("not connected"));
+  await click(tab, "no-faults");
+  await click(tab, "open-inside");
+  await tab.until(ends(`connected: ${DEVICE}`));
+  assert.deepEqual(await tab.run(`return ["go", "result"].map(it => document.querySelector("[data-tour=" + it + "]")).map(it => it.disabled || it.textContent)`),
+    ["Load its counters page", ""]);
+  await new Promise(resolve => setTimeout(resolve, 1000));   // and nothing comes of the old step
+  assert.deepEqual(await tab.run(`return [document.querySelector("[data-tour=result]").textContent, document.getElementById("result").textContent]`), ["", ""]);
+  assert.equal((await step(tab))[0], "good");
+});
+
 inEach("a device with a sensor and a lamp, and a firmware that sets its values", {}, async tab => {
   await click(tab, "open-sensor");
   await tab.until(bodyHas("Water tank"));
@@ -392,7 +410,8 @@ for (const scheme of ["light", "dark"])
       assert.ok(left >= 0 && right <= width, `the options at ${width}: ${left} to ${right}`);
     }
     await tab.run(`await node.fetchMany()`);
-    assert.ok(await tab.run(`return document.querySelectorAll("#rows tr").length > 80 && document.querySelector(".diagram").offsetHeight < 600`));
+    await tab.until(`document.querySelectorAll("#rows tr").length > 80`);
+    assert.ok(await tab.run(`return document.querySelector(".diagram").offsetHeight < 600`));
   });
 
 inChromium("the first screen by keyboard: each way is reached, and Enter starts the device", {}, async tab => {

@@ -18,9 +18,11 @@ status=0
 
 # Runs the tests of some files in at most LIMIT seconds. Reports how many passed, what failed, and why tests were skipped.
 tests() {
-    name=$1; limit=$2; shift 2
-    timeout $((limit * ${PATIENCE:-1})) node --test --test-force-exit --test-concurrency=1 --test-reporter=spec "$@" >"$log" 2>&1 ||
-        { status=1; grep -A12 '^✖' "$log"; }
+    name=$1; limit=$(($2 * ${PATIENCE:-1})); shift 2
+    timeout "$limit" node --test --test-force-exit --test-concurrency=1 --test-reporter=spec "$@" >"$log" 2>&1
+    result=$?
+    [ "$result" = 0 ] || { status=1; grep -A12 '^✖' "$log"; }
+    if [ "$result" = 124 ]; then echo "web: $name: ended after $limit s, with $(grep -c '^ *✔' "$log") passed"; return; fi
     sed -n 's/^﹣.* # /skipped: /p' "$log" | sort | uniq -c | sed 's/^ *\([0-9]*\) skipped:/skipped: \1 tests of the page:/'
     count() { sed -n "s/^ℹ $1 //p" "$log"; }
     seconds=$(count duration_ms)
