@@ -6,7 +6,7 @@ use Rattle.tcp_machine.specs.Prelude.{Sockets}
 use Rattle.uip_node.specs.Prelude.{EchoAsked, Echo}
 use Rattle.node_laws.specs.Traces.{Exchange, TraceEntry, is_opening, is_incarnation}
 
--- An echo reply is sent only at an event that brings its echo request.
+-- An echo reply answers the echo request of the same trace entry.
 abbrev pub IsEchoed : TraceEntry → Type 0
 IsEchoed t = (request : List ℕ) → t.sent ≡ Some (Echo request) → t.event ≡ EchoAsked request
 

@@ -11,7 +11,8 @@ use Rattle.node_laws.specs.Traces.{Exchange, sent_at, received_at}
 use Rattle.node_laws.specs.Receivers.{IsReceived, EndsAfter}
 
 -- The account of an incarnation. `peer_mss` is the MSS option of the peer's SYN. `accepted` is the text accepted from the peer. If `ended`
--- is true, a FIN after it is counted. `captures` are snapshots of which the page is made, and `sent` is the text sent.
+-- is true, a FIN after it is counted; that is a choice, which adds nothing to the statement. `captures` are snapshots of which the page is
+-- made, and `sent` is the text sent.
 pub record Account : Type 0 where
   pub irs : ℕ
   pub iss : ℕ
@@ -35,7 +36,7 @@ pub record Opening (x : Exchange) (a : Account) : Type 0 where
   pub seq : answer.seq ≡ wrap a.iss
   pub acks : answer.ack ≡ wrap (a.irs + 1)
 
--- The oldest exchange is the handshake.
+-- The oldest exchange is that of the first two segments of the handshake.
 abbrev pub Begins : List Exchange → Account → Type 0
 Begins [] a = ⊥
 Begins (x ∷ []) a = Opening x a
@@ -101,7 +102,7 @@ pub record IsAcknowledged (incarnation : List Exchange) (i j : ℕ) (t : PlainSe
 -- ---- the guarantee
 
 -- This account holds for the incarnation. Each byte of `sent` was sent, and the data of each segment is a slice of `sent`, no longer than
--- the MSS of the peer allows. Each segment without RST acknowledges only accepted data. Stop and wait: let t, and later s, be sent with
+-- the MSS of the peer allows. Each segment without RST acknowledges only what was accepted. Stop and wait: let t, and later s, be sent with
 -- SEG.LEN above 0 and different SEG.SEQ (i < j: exchange i is newer). Then the end of t was acknowledged before or when s was sent.
 pub record AccountHolds (incarnation : List Exchange) (a : Account) : Type 0 where
   pub begins : Begins incarnation a
