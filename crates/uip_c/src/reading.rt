@@ -73,7 +73,8 @@ pub extern "C" fn uip_counter(alloc: Global, device: &mut UipDevice, number: usi
 #[unsafe(no_mangle)]
 pub extern "C" fn uip_is_idle(alloc: Global, device: &mut UipDevice) -> UipNumber
     ensures known { (result.status ≡ OK) ⊎ (result.status ≡ NO_DEVICE) }
-    ensures fine { result.status ≡ OK → HasAbstractNode (λ files n. result.number ≡ (if is_node_idle n then 1 else 0)) device.old.held.device }
+    ensures fine { result.status ≡ OK → HasAbstractNode (λ files n. result.number ≡ (if is_node_idle n then 1 else 0))
+        device.old.held.device }
     ensures no_device { result.status ≡ NO_DEVICE → device.old.held.device ≡ NoDevice }
     ensures unread { (result.status ≡ OK → ⊥) → result.number ≡ 0 }
     ensures same { device.new.held.device ≡ device.old.held.device }
@@ -90,7 +91,8 @@ pub extern "C" fn uip_is_idle(alloc: Global, device: &mut UipDevice) -> UipNumbe
 #[unsafe(no_mangle)]
 pub extern "C" fn uip_hits(alloc: Global, device: &mut UipDevice, name: &[u8]) -> UipNumber
     ensures known { (result.status ≡ OK) ⊎ (result.status ≡ NO_DEVICE) }
-    ensures fine { result.status ≡ OK → HasAbstractNode (λ files n. result.number ≡ hits_of files n.numbers name.now) device.old.held.device }
+    ensures fine { result.status ≡ OK → HasAbstractNode (λ files n. result.number ≡ hits_of files n.numbers name.now)
+        device.old.held.device }
     ensures no_device { result.status ≡ NO_DEVICE → device.old.held.device ≡ NoDevice }
     ensures unread { (result.status ≡ OK → ⊥) → result.number ≡ 0 }
     ensures same { device.new.held.device ≡ device.old.held.device }
