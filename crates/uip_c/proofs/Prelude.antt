@@ -10,7 +10,7 @@ pub use Rattle.frame_device.proofs.KeepLaws.{keeps_frames}
 pub use Rattle.frame_device.proofs.MoveLaws.{device_stands, frames_exact, same_kept}
 pub use Rattle.frame_device.specs.Prelude.{AnsweredFrame, AnswersAllFrames, AnswersFrame, AnswersFrameMove, CallsSlot, ChangesNumbers, DoesNothing, FrameCall, FrameMove, FramesConform, Gives, InputsFrame, Interface, IsFrameOfBytes, IsFreshFrameDevice, Makes, ether_brings_bytes, ether_frames, frame_moves_of, handed_of}
 pub use Rattle.frame_device.specs.declared.network.Network.{Network}
-pub use Rattle.loose_box.proofs.Words.{Parts, parts_in, parts_out, two_words, words_typed}
+pub use Rattle.loose_box.proofs.Words.{Parts, entered, parts_in, parts_out, two_words, words_typed}
 pub use Rattle.serve_loop.specs.Prelude.{initial_station}
 pub use Rattle.site_image.specs.Prelude.{File}
 pub use Rattle.std.proofs.Common.{Bool, List, Option, [], ap, lit<, refl, subst, sym, ℕ, ◌++◌, ◌∙◌, ◌∷◌, ◌≡◌}
@@ -22,16 +22,17 @@ pub use Rattle.std.specs.Prelude.{false, if◌then◌else◌, true}
 pub use Rattle.std.specs.contracts.impls.GlobalAllocator.TheImpl.{ghosts}
 pub use Rattle.std.specs.declared.alloc.Global.{Global}
 pub use Rattle.std.specs.declared.option.Option.TheVariants.{Some}
-pub use Rattle.uip_c.specs.Prelude.{Did, DidAll, DidFrame, DidFrames, EtherAnswers, EtherRepresents, EtherRow, EtherWeb, HandleAnswers, HandleGives, IsEther, IsLine, IsOpenedEther, Kept, LineRow, NoDevice, OnEther, OnLine, OpensAs, OpensEtherAs, TellsRow, holds, interface_at, is_on_ether, is_on_line, kept_of, left_text_in, lefts_in, node_in, node_of, web_frames_sent, web_station_after}
+pub use Rattle.uip_c.specs.Prelude.{Did, DidAll, DidFrame, DidFrames, EtherAnswers, EtherRepresents, EtherRow, EtherWeb, HandleAnswers, HandleGives, HasAbstractNode, IsEther, IsLine, IsOpenedEther, Kept, LineRow, NoDevice, OnEther, OnLine, OpensAs, OpensEtherAs, TellsRow, holds, interface_at, is_on_ether, is_on_line, kept_of, left_text_in, lefts_in, node_in, node_of, web_frames_sent, web_station_after}
 pub use Rattle.uip_c.specs.declared.handle.AnyDevice.{AnyDevice}
 pub use Rattle.uip_c.specs.declared.handle.AnyDevice.TheVariants.{Ether, Line}
 pub use Rattle.uip_c.specs.declared.held.Held.{Held}
 pub use Rattle.uip_device.proofs.AnswerLaws.{answers_nothing, datagrams_told, line_served, line_view, node_stands}
 pub use Rattle.uip_device.proofs.KeepLaws.{keeps_calls}
 pub use Rattle.uip_device.proofs.WebLaws.{first_words, written_words}
-pub use Rattle.uip_device.specs.Prelude.{Answered, Answers, AnswersAll, AnswersMove, Bring, Call, Calls, CallsConform, CallsForDatagram, Changes, ChangesNode, DeviceRepresents, Drains, Feeds, Inputs, IsFirstShared, IsOfBytes, IsOfImage, IsSoundWebDevice, Move, WebDevice, WebNode, datagrams_handed, first_numbers, left_text_of, lefts_of, line_handed, moves_of, value_pages, value_spec, web_datagrams_sent, web_line_sent, web_node_after, web_output, write_value}
+pub use Rattle.uip_device.specs.Prelude.{Answered, Answers, AnswersAll, AnswersMove, Bring, Call, Calls, CallsConform, CallsForDatagram, Changes, ChangesNode, DeviceRepresents, Drains, Feeds, Inputs, IsFirstShared, IsOfBytes, IsOfImage, IsSoundWebDevice, Move, NodeRepresents, WebDevice, WebNode, datagrams_handed, first_numbers, left_text_of, lefts_of, line_handed, moves_of, value_pages, value_spec, web_datagrams_sent, web_line_sent, web_node_after, web_output, write_value}
 pub use Rattle.uip_device.specs.declared.device_web.DeviceWeb.{DeviceWeb}
 pub use Rattle.uip_edge.specs.declared.item.Item.{Item}
+pub use Rattle.uip_node.specs.Prelude.{AbstractNode}
 pub use Rattle.uip_wire.specs.declared.addr.Addr.{Addr}
 pub use Rattle.web_pages.proofs.ByteLaws.{made_of_bytes_by}
 pub use Rattle.web_pages.proofs.PageLaws.{keeps_page_laws_by}

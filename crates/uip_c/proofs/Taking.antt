@@ -1,5 +1,5 @@
 -- What a handle keeps, by its kind.
-use Rattle.uip_c.proofs.Prelude.{◌≡◌, refl, sym, false≢true, true, false, Some, WebDevice, EtherWeb, Kept, NoDevice, OnEther, OnLine, is_on_ether, is_on_line, node_in, kept_of, node_of, AnyDevice, Ether, Line}
+use Rattle.uip_c.proofs.Prelude.{◌≡◌, ◌∙◌, List, refl, sym, ap, false≢true, true, false, Some, WebDevice, EtherWeb, Kept, NoDevice, OnEther, OnLine, is_on_ether, is_on_line, node_in, kept_of, node_of, AnyDevice, Ether, Line, AbstractNode, Addr, File, HasAbstractNode, NodeRepresents}
 
 pub line_of : (k : Kept) → is_on_line k ≡ true → (x : WebDevice) × (k ≡ OnLine x)
 line_of NoDevice there = absurd (false≢true there)
@@ -21,3 +21,9 @@ none_of (OnEther x) no_line no_ether = absurd (false≢true (sym no_ether))
 pub node_kept : (any : AnyDevice) → node_in (kept_of any) ≡ Some (node_of any)
 node_kept (Line b) = refl
 node_kept (Ether b) = refl
+
+-- what a call reads in the node of a device that was taken out
+pub read_in_node : (P : List File → AbstractNode → Type 0) (any : AnyDevice) (kept : Kept) → kept_of any ≡ kept
+    → ((files : List File) (own : Addr) (n : AbstractNode) → NodeRepresents files own (node_of any) n → P files n)
+    → HasAbstractNode P kept
+read_in_node P any kept taken reads = (node_of any, ap (λ (k : Kept). node_in k) (sym taken) ∙ node_kept any, reads)

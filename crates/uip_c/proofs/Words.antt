@@ -1,5 +1,5 @@
 -- The machine words of `Held`: a pointer, and the stored form of the allocator. Assumes `Logic`.
-use Rattle.uip_c.proofs.Prelude.{◌≡◌, List, [], ◌∷◌, ◌++◌, refl, subst, lit<, Al, handle_tells, Good, Global, ghosts, two_words, words_typed, Held, LineRow, holds, Kept}
+use Rattle.uip_c.proofs.Prelude.{◌≡◌, List, [], ◌∷◌, ◌++◌, refl, subst, lit<, Al, handle_tells, Good, Global, ghosts, two_words, words_typed, Held, EtherRow, LineRow, Parts, holds, Kept}
 use seplogic.Ra.Ura.{Ura}
 use lib.Dec.{T}
 use mathlib.Core.Bool.{true, ◌&&◌}
@@ -24,6 +24,13 @@ HeapRow = heap.the_row
 
 abbrev pub HeldRow : RattleType
 HeldRow = held.the_row
+
+-- the rows of the parts of a box, of a device for a line and of one on Ethernet
+abbrev pub LineParts : RattleType
+LineParts = Parts LineRow HeapRow heap_laws.the_row_laws ghosts
+
+abbrev pub EtherParts : RattleType
+EtherParts = Parts EtherRow HeapRow heap_laws.the_row_laws ghosts
 
 abbrev pub allocator : Al
 allocator = record { row = HeapRow; laws = heap_laws.the_row_laws; g = ghosts; d = impl [] tnil dnil; drops = impl [] tnil dnil }

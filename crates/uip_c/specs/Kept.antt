@@ -1,8 +1,11 @@
 -- What a handle keeps: a device for a line or on Ethernet, or none.
-use Rattle.std.specs.Prelude.{◌≡◌, ℕ, Bool, true, false}
+use Rattle.std.specs.Prelude.{◌≡◌, List, Bool, true, false}
 use Rattle.std.specs.declared.option.Option.{Option}
 use Rattle.std.specs.declared.option.Option.TheVariants.{None, Some}
-use Rattle.uip_device.specs.Prelude.{WebDevice, WebNode}
+use Rattle.site_image.specs.Prelude.{File}
+use Rattle.uip_wire.specs.declared.addr.Addr.{Addr}
+use Rattle.uip_node.specs.Prelude.{AbstractNode}
+use Rattle.uip_device.specs.Prelude.{NodeRepresents, WebDevice, WebNode}
 use Rattle.uip_device.specs.declared.device_web.DeviceWeb.{DeviceWeb}
 use Rattle.uip_device.specs.declared.value_pages.ValuePages.{ValuePages}
 use Rattle.frame_device.specs.declared.device.FrameDevice.{FrameDevice}
@@ -45,3 +48,8 @@ IsEther P kept = (d : EtherWeb) × (kept ≡ OnEther d) × P d
 
 abbrev pub HasNode : (WebNode → Type 0) → Kept → Type 0
 HasNode P kept = (node : WebNode) × (node_in kept ≡ Some node) × P node
+
+-- There is a device, and P holds of its files and of each abstract node that its node represents.
+abbrev pub HasAbstractNode : (List File → AbstractNode → Type 0) → Kept → Type 0
+HasAbstractNode P kept =
+    HasNode (λ node. (files : List File) (own : Addr) (n : AbstractNode) → NodeRepresents files own node n → P files n) kept

@@ -1,28 +1,19 @@
 -- The results of opening a handle.
-use Rattle.std.specs.List.{All}
-use Rattle.std.specs.Prelude.{◌≡◌, ◌⊎◌, ℕ, List, ◌++◌, replicate, take, Ok, Err}
+use Rattle.std.specs.Prelude.{◌≡◌, ◌⊎◌, ℕ, List, ◌++◌, replicate, take, Err}
 use Rattle.site_image.specs.declared.site_error.SiteError.{SiteError}
 use Rattle.site_image.specs.declared.site_error.SiteWhy.{SiteWhy}
-use Rattle.site_image.specs.Prelude.{read_image, IsImage, File}
-use Rattle.file_tree.specs.Prelude.{HasSoundScripts, IsLoaded, SiteContent, files_of}
-use Rattle.app_events.specs.Prelude.{IsByte}
+use Rattle.site_image.specs.Prelude.{read_image, File}
+use Rattle.file_tree.specs.Prelude.{SiteContent, files_of}
 use Rattle.site_report.specs.Prelude.{why_word}
-use Rattle.device_values.specs.Prelude.{word_calls}
-use Rattle.uip_device.specs.Prelude.{IsLongWithValues}
+use Rattle.uip_device.specs.Prelude.{IsLongWithValues, IsOfImage}
 use Rattle.uip_c.specs.FrameHandles.{OpensEtherAs}
 use Rattle.uip_c.specs.Handles.{OpensAs}
 use Rattle.uip_c.specs.Kept.{Kept}
 
--- By the grammar the image represents the files of a site, and it is read as these files. The site has this very image, was loaded,
--- consists of bytes, and has no page that can be too long, whatever its scripts call. A device was opened with the files: P.
+-- The site is one of this image, and a device was opened with its files: P.
 pub record OpensWith (image : List ℕ) (P : List File → Type 0) : Type 0 where
   pub site : SiteContent
-  pub image_is : site.image ≡ image
-  pub loaded : IsLoaded site
-  pub bytes : All IsByte site.image
-  pub sound : HasSoundScripts word_calls (files_of site)
-  pub read : read_image image ≡ Ok (files_of site)
-  pub spelled : IsImage image (files_of site)
+  pub of_image : IsOfImage image site
   pub opened : P (files_of site)
 
 -- A device for a line was opened with the files at this address, or one on Ethernet at this address and hardware address, with this mask

@@ -1,23 +1,11 @@
 //! The laws of any sequence of calls from C.
 
-ghost use Rattle.std.specs.List.{All};
-ghost use Rattle.std.specs.Prelude.{◌≡◌, ◌++◌, ℕ, List, None as NothingLeft};
-ghost use Rattle.app_events.specs.Prelude.{IsAddr, IsByte};
-ghost use Rattle.site_image.specs.Prelude.{File};
-ghost use Rattle.device_values.specs.Prelude.{word_calls};
-ghost use Rattle.file_tree.specs.Prelude.{HasSoundScripts, IsLoaded, SiteContent, files_of};
-ghost use Rattle.web_pages.specs.Prelude.{is_served};
-ghost use Rattle.uip_edge.specs.declared.item.Item.{Item};
-ghost use Rattle.uip_wire.specs.declared.addr.Addr.{Addr};
-ghost use Rattle.ethernet_arp.specs.declared.mac.Mac.{Mac};
-ghost use Rattle.frame_device.specs.declared.network.Network.{Network};
-ghost use Rattle.frame_device.specs.Prelude.{ether_frames, AnsweredFrame, handed_of, frame_moves_of, FramesConform, IsFrameOfBytes};
-ghost use Rattle.uip_device.specs.Prelude.{Answered, datagrams_handed, left_text_of, line_handed, moves_of};
-ghost use Rattle.uip_device.specs.Prelude.{IsOfBytes, CallsConform, Bring, DeviceRepresents, value_pages};
-ghost use Rattle.uip_device.specs.Prelude.{web_datagrams_sent, web_line_sent, web_node_after, web_output};
-ghost use Rattle.uip_c.specs.Prelude.{EtherRepresents, interface_at, web_frames_sent, web_station_after, DidFrames};
-ghost use Rattle.uip_c.specs.Prelude.{OfFrameMoves, OpensEtherAs, DidAll, OfMoves, OpensAs, lefts_in, IsEther};
-ghost use Rattle.uip_c.specs.Prelude.{IsLine, Kept, ConstantValues};
+ghost use Rattle.std.specs.Prelude.{◌≡◌, ◌++◌};
+ghost use Rattle.frame_device.specs.Prelude.{handed_of, frame_moves_of};
+ghost use Rattle.uip_device.specs.Prelude.{datagrams_handed, left_text_of, line_handed, moves_of};
+ghost use Rattle.uip_device.specs.Prelude.{DeviceRepresents, web_datagrams_sent, web_line_sent, web_node_after};
+ghost use Rattle.uip_c.specs.Prelude.{EtherRepresents, web_frames_sent, web_station_after, OfFrameMoves, OfMoves, IsEther, IsLine};
+ghost use Rattle.uip_c.specs.Prelude.{CallsFromCConform, FramesFromCConform, LineFromCIsServed, ConstantValues};
 
 /// Holds for any sequence of calls on a handle that was just opened, over either kind of link, successful or refused, with any values set
 /// between. The serial output, with what is pending, is the SLIP text of what the initial node sends over the input of the calls. Each call
@@ -34,19 +22,13 @@ pub fn calls_from_c_are_told()
 /// Holds for any bytes, any sequence of calls on a handle that was just opened with a good site, and any values set between. Each call
 /// writes what is sent in the trace entries of its input, and the trace satisfies the guarantee, for the pages of this site.
 pub fn calls_from_c_keep_the_promise()
-    ensures { (site : SiteContent) → IsLoaded site → All IsByte site.image → HasSoundScripts word_calls (files_of site)
-        → (own : Addr) → IsAddr own
-        → (all : List Answered) → All IsOfBytes (moves_of all) → (closed old new : Kept)
-        → OpensAs (files_of site) own closed old → (did : DidAll all old new)
-        → CallsConform (value_pages (files_of site)) is_served own all (lefts_in all old new did) }
+    ensures { CallsFromCConform }
 {}
 
 /// Holds if the calls alone bring the items of a line at a pace, in order, no value is set, and no output is pending. The output is then
 /// what the server of a serial line writes for these items, with scripts that know the values.
 pub fn line_from_c_is_served()
-    ensures { (files : List File) (own : Addr) (pace : ℕ) (items : List Item) (all : List Answered) (closed old new : Kept)
-        → OpensAs files own closed old → Bring pace items (moves_of all) → DidAll all old new
-        → IsLine (λ d. d.left ≡ NothingLeft) new → line_handed all ≡ web_output files own pace items }
+    ensures { LineFromCIsServed }
 {}
 
 /// Holds for any sequence of calls on a handle that was just opened on Ethernet, successful or refused, with any values set between. Each
@@ -63,11 +45,7 @@ pub fn frames_from_c_are_exact()
 /// between. Each call writes the frame of what is sent in the trace entries of its input, or of ARP, and the trace satisfies the guarantee,
 /// for the pages of this site.
 pub fn frames_from_c_keep_the_promise()
-    ensures { (site : SiteContent) → IsLoaded site → All IsByte site.image → HasSoundScripts word_calls (files_of site)
-        → (own : Addr) → IsAddr own → (mac : Mac) (network : Network)
-        → (all : List AnsweredFrame) → All IsFrameOfBytes (frame_moves_of all) → (closed old new : Kept)
-        → OpensEtherAs (files_of site) own mac network closed old → DidFrames all old new
-        → FramesConform (ether_frames (interface_at own mac network)) (value_pages (files_of site)) is_served own all }
+    ensures { FramesFromCConform }
 {}
 
 /// The numbers that definitions and contracts name by the code's constants, which are those of include/uip.h.

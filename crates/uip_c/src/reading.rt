@@ -1,12 +1,10 @@
 //! The calls that read a number of a device.
 
-ghost use Rattle.std.specs.Prelude.{◌≡◌, ◌==◌, ◌||◌, ◌-◌, ◌⊎◌, List, Some as IsThere, if◌then◌else◌, nat_lt, slice_get};
-ghost use Rattle.site_image.specs.Prelude.{File};
-ghost use Rattle.uip_wire.specs.declared.addr.Addr.{Addr as Address};
-ghost use Rattle.uip_node.specs.Prelude.{counters, ticks_of, AbstractNode};
-ghost use Rattle.uip_device.specs.Prelude.{is_node_idle, NodeRepresents};
+ghost use Rattle.std.specs.Prelude.{◌≡◌, ◌==◌, ◌||◌, ◌-◌, ◌⊎◌, Some as IsThere, if◌then◌else◌, nat_lt, slice_get};
+ghost use Rattle.uip_node.specs.Prelude.{counters, ticks_of};
+ghost use Rattle.uip_device.specs.Prelude.{is_node_idle};
 ghost use Rattle.web_pages.specs.Prelude.{hits_of};
-ghost use Rattle.uip_c.specs.Kept.{HasNode, NoDevice};
+ghost use Rattle.uip_c.specs.Kept.{HasAbstractNode, NoDevice};
 
 use crate::handle::{UipDevice, node_of, put_any, take_any};
 use crate::status::{BAD_ARGUMENT, NO_DEVICE, OK};
@@ -32,8 +30,7 @@ fn unread(status: u32) -> UipNumber
 #[unsafe(no_mangle)]
 pub extern "C" fn uip_ticks(alloc: Global, device: &mut UipDevice) -> UipNumber
     ensures known { (result.status ≡ OK) ⊎ (result.status ≡ NO_DEVICE) }
-    ensures fine { result.status ≡ OK → HasNode (λ node. (files : List File) (own : Address) (n : AbstractNode)
-        → NodeRepresents files own node n → result.number ≡ ticks_of n.history) device.old.held.device }
+    ensures fine { result.status ≡ OK → HasAbstractNode (λ files n. result.number ≡ ticks_of n.history) device.old.held.device }
     ensures no_device { result.status ≡ NO_DEVICE → device.old.held.device ≡ NoDevice }
     ensures unread { (result.status ≡ OK → ⊥) → result.number ≡ 0 }
     ensures same { device.new.held.device ≡ device.old.held.device }
@@ -51,8 +48,8 @@ pub extern "C" fn uip_ticks(alloc: Global, device: &mut UipDevice) -> UipNumber
 #[unsafe(no_mangle)]
 pub extern "C" fn uip_counter(alloc: Global, device: &mut UipDevice, number: usize) -> UipNumber
     ensures known { (result.status ≡ OK) ⊎ (result.status ≡ NO_DEVICE) ⊎ (result.status ≡ BAD_ARGUMENT) }
-    ensures fine { result.status ≡ OK → HasNode (λ node. (files : List File) (own : Address) (n : AbstractNode)
-        → NodeRepresents files own node n → slice_get (counters n.history) (number - 1) ≡ IsThere result.number) device.old.held.device }
+    ensures fine { result.status ≡ OK → HasAbstractNode (λ files n. slice_get (counters n.history) (number - 1) ≡ IsThere result.number)
+        device.old.held.device }
     ensures no_device { result.status ≡ NO_DEVICE → device.old.held.device ≡ NoDevice }
     ensures unread { (result.status ≡ OK → ⊥) → result.number ≡ 0 }
     ensures bad_call { (result.status == BAD_ARGUMENT) ≡ ((number == 0) || nat_lt 20 number) }
@@ -76,8 +73,8 @@ pub extern "C" fn uip_counter(alloc: Global, device: &mut UipDevice, number: usi
 #[unsafe(no_mangle)]
 pub extern "C" fn uip_is_idle(alloc: Global, device: &mut UipDevice) -> UipNumber
     ensures known { (result.status ≡ OK) ⊎ (result.status ≡ NO_DEVICE) }
-    ensures fine { result.status ≡ OK → HasNode (λ node. (files : List File) (own : Address) (n : AbstractNode)
-        → NodeRepresents files own node n → result.number ≡ (if is_node_idle n then 1 else 0)) device.old.held.device }
+    ensures fine { result.status ≡ OK → HasAbstractNode (λ files n. result.number ≡ (if is_node_idle n then 1 else 0))
+        device.old.held.device }
     ensures no_device { result.status ≡ NO_DEVICE → device.old.held.device ≡ NoDevice }
     ensures unread { (result.status ≡ OK → ⊥) → result.number ≡ 0 }
     ensures same { device.new.held.device ≡ device.old.held.device }
@@ -94,8 +91,8 @@ pub extern "C" fn uip_is_idle(alloc: Global, device: &mut UipDevice) -> UipNumbe
 #[unsafe(no_mangle)]
 pub extern "C" fn uip_hits(alloc: Global, device: &mut UipDevice, name: &[u8]) -> UipNumber
     ensures known { (result.status ≡ OK) ⊎ (result.status ≡ NO_DEVICE) }
-    ensures fine { result.status ≡ OK → HasNode (λ node. (files : List File) (own : Address) (n : AbstractNode)
-        → NodeRepresents files own node n → result.number ≡ hits_of files n.numbers name.now) device.old.held.device }
+    ensures fine { result.status ≡ OK → HasAbstractNode (λ files n. result.number ≡ hits_of files n.numbers name.now)
+        device.old.held.device }
     ensures no_device { result.status ≡ NO_DEVICE → device.old.held.device ≡ NoDevice }
     ensures unread { (result.status ≡ OK → ⊥) → result.number ≡ 0 }
     ensures same { device.new.held.device ≡ device.old.held.device }

@@ -1,11 +1,8 @@
 //! The call that reads a connection.
 
-ghost use Rattle.std.specs.Prelude.{◌≡◌, ◌==◌, ◌⊎◌, List, nat_le};
-ghost use Rattle.site_image.specs.Prelude.{File};
-ghost use Rattle.uip_wire.specs.declared.addr.Addr.{Addr as Address};
-ghost use Rattle.uip_node.specs.Prelude.{AbstractNode};
-ghost use Rattle.uip_device.specs.Prelude.{connection_row, NodeRepresents};
-ghost use Rattle.uip_c.specs.Kept.{HasNode, NoDevice};
+ghost use Rattle.std.specs.Prelude.{◌≡◌, ◌==◌, ◌⊎◌, nat_le};
+ghost use Rattle.uip_device.specs.Prelude.{connection_row};
+ghost use Rattle.uip_c.specs.Kept.{HasAbstractNode, NoDevice};
 ghost use Rattle.uip_c.specs.Rows.{IsNoRow, IsToldRow, TellsRow, state_number};
 
 use crate::handle::{UipDevice, node_of, put_any, take_any};
@@ -93,8 +90,7 @@ fn told(row: Option<Row>) -> UipRow
 #[unsafe(no_mangle)]
 pub extern "C" fn uip_connection(alloc: Global, device: &mut UipDevice, slot: usize) -> UipRow
     ensures known { (result.status ≡ OK) ⊎ (result.status ≡ NO_DEVICE) ⊎ (result.status ≡ BAD_ARGUMENT) }
-    ensures fine { result.status ≡ OK → HasNode (λ node. (files : List File) (own : Address) (n : AbstractNode)
-        → NodeRepresents files own node n → TellsRow (connection_row slot n) result) device.old.held.device }
+    ensures fine { result.status ≡ OK → HasAbstractNode (λ files n. TellsRow (connection_row slot n) result) device.old.held.device }
     ensures no_device { result.status ≡ NO_DEVICE → device.old.held.device ≡ NoDevice }
     ensures bad_call { (result.status == BAD_ARGUMENT) ≡ nat_le 10 slot }
     ensures unread { (result.status ≡ OK → ⊥) → IsNoRow result }
