@@ -62,6 +62,7 @@ page() {
 }
 
 examples() {
+    put examples examples/browse.py
     put tools tools/pack.py
     put examples/site examples/site/*
     put examples/common examples/board/main.c examples/board/state.c examples/board/board.h examples/board/ring.h examples/board/ring.c \
