@@ -5,7 +5,7 @@
 #define MAC 0x40200000
 enum { RX_DATA = MAC, TX_DATA = MAC + 0x20, RX_STATUS = MAC + 0x40, INTERRUPT_FORM = MAC + 0x54, INTERRUPT_STATE = MAC + 0x58,
        INTERRUPT_ENABLE = MAC + 0x5c, TX_FORM = MAC + 0x70, RX_USED = MAC + 0x7c, TX_FREE = MAC + 0x80, COMMAND = MAC + 0xa4, DATA = MAC + 0xa8 };
-enum { MAC_CONTROL = 1, MAC_HIGH = 2, MAC_LOW = 3 };                       // registers behind COMMAND and DATA
+enum { MAC_CONTROL = 1, MAC_HIGH = 2, MAC_LOW = 3 };                       // registers that COMMAND and DATA reach
 enum { RX_ON = 4, TX_ON = 8, RECEIVED = 8, BAD_FRAME = 1 << 15, CHECK = 4, HEAD = 8 };
 enum { ACTIVE_HIGH = 0x111, SEND_WITHOUT_STATUS = 6, WHOLE_FRAME = 0x3000 };
 
