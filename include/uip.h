@@ -662,8 +662,9 @@ UIP_INLINE unsigned uip_tick_all(uip_device *device, unsigned char *out, size_t 
 
 /*
  * TARGETS. The stack is that of one firmware for a serial line (examples/board), in bytes: the greatest depth from
- * reset, with its main, drivers and memcpy, without interrupts. It is computed from the linked code and not proved. For
- * Ethernet and for single calls none was computed, nor where the table has "-". Compute yours: docs/FIRMWARE.md.
+ * reset, with its main, drivers and memcpy, without interrupts. It is computed from the linked code and not proved. On
+ * Ethernet the Cortex-M4 needs 4,496: uip_open_ether 4,392, and the other calls for frames at most 1,880. For the other
+ * targets on Ethernet, and where the table has "-", none was computed. Compute yours: docs/FIRMWARE.md.
  *
  *     target             folder    stack  what the program must see to
  *     x86-64             x86_64       -   The processor has level v2 or later (SSE4.2).

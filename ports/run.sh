@@ -5,6 +5,7 @@
 #     sh ports/run.sh TARGET fetch                 runs the firmware under qemu; Linux's TCP fetches every file of the site
 #     sh ports/run.sh TARGET usage                 the same, and prints what memory that run used
 #     sh ports/run.sh TARGET state                 the same for the firmware of a device with a state (examples/board/state.c)
+#     sh ports/run.sh m4 ether                     builds a firmware on Ethernet, and runs it: Linux's ARP finds it, ping and curl try it (root)
 #     sh ports/run.sh TARGET same [CALLS [SEED]]   makes CALLS random calls of the library for this machine and of this one: every
 #                                                  status, number, byte and call of the heap must be the same
 #     sh ports/run.sh TARGET speed                 counts the instructions of a ping and of a small file (not for wasm)
@@ -23,7 +24,7 @@
 #
 # The first run proves the library (module.sh). Needs python3 and the kit of `rt`; for fetch, usage and state qemu-system-arm or
 # qemu-system-misc, `ip` and /dev/net/tun; for same and planted qemu-user and a C compiler for this machine; for wasm node.
-case "$1" in -h|--help|"") sed -n '2,30s/^# \{0,1\}//p' "$0"; exit 0;; esac
+case "$1" in -h|--help|"") sed -n '2,31s/^# \{0,1\}//p' "$0"; exit 0;; esac
 ports=$(cd "$(dirname "$0")" && pwd)
 top=$(cd "$ports/.." && pwd)
 example=$top/examples/board
@@ -40,7 +41,7 @@ fi
 target=$1
 choose_target "$target"
 work=${2:-build}
-case "$work" in build|library|fetch|usage|state|same|speed|planted) ;; *) fail "no work $work; --help lists what there is";; esac
+case "$work" in build|library|fetch|usage|state|ether|same|speed|planted) ;; *) fail "no work $work; --help lists what there is";; esac
 
 # ---- the module and the tools
 
@@ -96,7 +97,12 @@ library
 
 # ---- the firmware, or the node of the page
 
-case "$work" in state) main=state site=$top/examples/state.img;; *) main=main site=$top/examples/site.img;; esac
+main=main site=$top/examples/site.img link=serial
+case "$work" in
+state) main=state site=$top/examples/state.img;;
+ether) [ "$target" = m4 ] || fail "the one board with a driver for its Ethernet controller is that of m4"
+    main=ether board=lan9118 link=ether;;
+esac
 site=${SITE:-$site}
 firmware() {
     heap="-DUIP_HEAP_SIZE=UIP_MEMORY($(od -An -j8 -N2 -tu1 "$site" | awk '{ print $1 * 256 + $2 }'))"
@@ -105,8 +111,9 @@ firmware() {
     done
     c_code -Os "$heap" "$top/examples/heap.c" -o "$to/heap.o"
     c_code -DSITE="\"$site\"" "$example/site.S" -o "$to/site.o"
+    case "$link" in serial) set -- "$to/ring.o"; linked=libuip_c.a;; ether) set --; linked=libuip_c_ether.a;; esac
     set -- -T "$example/link.ld" --defsym "flash_at=$flash" --defsym "ram_at=$ram" --discard-locals --gc-sections \
-        "$to/$board.o" "$to/ring.o" "$to/$main.o" "$to/heap.o" "$to/site.o" "$to/runtime.o" "$to/libuip_c.a"
+        "$to/$board.o" "$@" "$to/$main.o" "$to/heap.o" "$to/site.o" "$to/runtime.o" "$to/$linked"
     ld.lld -Map="$to/board.map" -o "$to/board.elf" "$@" && ld.lld --oformat binary -o "$to/board.bin" "$@" || fail "ld.lld failed"
     case "$board" in
     riscv) run=$to/flash.bin; cp "$to/board.bin" "$run" && truncate -s 32M "$run";;    # the size of the board's flash
@@ -137,5 +144,8 @@ case "$work" in
 build) usage; exit;;
 fetch|usage) browse "$top/examples/fetch.py";;
 state) browse "$top/examples/state.py" 200;;
+ether)
+    usage
+    BOARD=$(echo "$machine" | sed "s|{}|$run|") exec sh "$top/examples/linux-ether/run.sh";;
 esac
 [ "$work" = fetch ] || usage "$to/memory"

@@ -31,7 +31,7 @@ choose_target() {
     m7) choose_cortex_m thumbv7em-none-eabi cortex-m7 mps2-an500;;
     m33) choose_cortex_m thumbv8m.main-none-eabi cortex-m33+nodsp mps2-an505
         flash=0x10000000 ram=0x38000000 memory_at=0x28000000 user="qemu-arm -cpu max"
-        c_words="$c_words -DUART=0x50200000 -DUART_LINE=32 -DCLOCK=20000000";;
+        c_words="$c_words -DUART=0x50200000 -DLINE=32 -DCLOCK=20000000";;
     rv32) choose_riscv 32 "-march=rv32imac -mabi=ilp32";;
     rv64) choose_riscv 64 "-march=rv64imac -mabi=lp64 -mcmodel=medany";;
     aarch64-small) triple=aarch64-none-elf words='' board='' machine='' user=qemu-aarch64 package=qemu-user;;    # examples/board runs it

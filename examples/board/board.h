@@ -11,6 +11,11 @@ void port_taken(size_t len);                              // removes the first `
 void port_put(unsigned char byte);                        // sends a byte; waits until the port accepts it
 void port_send(void *to, const unsigned char *bytes, size_t len);    // a uip_sink that sends each byte in turn
 unsigned clock_ticks(void);                               // half seconds since the start, modulo 2^32
-void board_sleep(unsigned ticks);                         // until an interrupt, if no byte is waiting and clock_ticks() is `ticks`
+void board_sleep(unsigned ticks);                         // until an interrupt, if nothing is waiting and clock_ticks() is `ticks`
+
+// A board on Ethernet has these in place of the port (ports/boards/lan9118.c).
+void mac_start(const unsigned char mac[6]);                     // begins to receive frames for this address and for all, and to send
+size_t mac_receive(unsigned char *frame, size_t room);          // the length of a frame that was waiting, or 0
+void mac_send(const unsigned char *frame, size_t len);          // waits until the controller accepts the frame
 
 #endif

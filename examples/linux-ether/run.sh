@@ -7,8 +7,9 @@
 #
 # It runs in network namespaces of its own. It needs root, /dev/net/tun, `ip`, `unshare`, `nsenter`, ping and curl, a C compiler, and the library
 # that `rt lib` builds in crates/uip_c. What the machine does not have is skipped, with a line. CC names another compiler, LIBRARY another
-# library, PROGRAM a program that is built already, and SECONDS_UP the seconds for which the program runs (20).
-case "$1" in -h|--help) sed -n '2,10s/^# \{0,1\}//p' "$0"; exit 0;; esac
+# library, PROGRAM a program that is built already, and SECONDS_UP the seconds for which the program runs (20). BOARD holds the words that start
+# qemu with a firmware, which runs in the program's place.
+case "$1" in -h|--help) sed -n '2,11s/^# \{0,1\}//p' "$0"; exit 0;; esac
 here=$(cd "$(dirname "$0")" && pwd)
 top=$(cd "$here/../.." && pwd)
 library=${LIBRARY:-$top/crates/uip_c/out/libuip_c.a}
@@ -52,7 +53,12 @@ in_far() { nsenter -t "$far" -n "$@"; }
 if [ "$1" = inside ]; then
     ip link set lo up && ip tuntap add dev tap0 mode tap || fail "no TAP interface was made"
     ip link set tap0 address 02:00:00:00:00:02 up && ip addr add 10.0.0.2/24 dev tap0 || fail "the TAP interface was not set up"
-    "${PROGRAM:-$out/uip_tap}" "$site" tap0 "$seconds" >"$out/told" &
+    if [ -n "$BOARD" ]; then
+        # shellcheck disable=SC2086
+        timeout "$seconds" $BOARD -display none -serial null -monitor none -nic tap,ifname=tap0,script=no,downscript=no >"$out/told" &
+    else
+        "${PROGRAM:-$out/uip_tap}" "$site" tap0 "$seconds" >"$out/told" &
+    fi
     node=$!
     trap 'kill $node 2>/dev/null' EXIT
     for _ in 1 2 3 4 5 6 7 8 9 10; do ip link show tap0 | grep -q LOWER_UP && break; sleep 0.2; done
@@ -67,11 +73,14 @@ if [ "$1" = inside ]; then
     echo "curl: $fetched"
     ip neigh show 10.0.0.1 | grep -q 'lladdr 02:00:00:00:00:01' || fail "Linux's ARP has no hardware address of the node"
     echo "ARP: $(ip neigh show 10.0.0.1)"
-    make_far
-    fetched=$(fetch_all in_far) || exit 1
-    echo "curl from 192.168.7.2, by the router 10.0.0.2: $fetched"
-    kill $far
-    wait $node || fail "the C program failed"
+    if [ -z "$BOARD" ]; then
+        make_far
+        fetched=$(fetch_all in_far) || exit 1
+        echo "curl from 192.168.7.2, by the router 10.0.0.2: $fetched"
+        kill $far
+    fi
+    wait $node
+    case "$?${BOARD:+, of a board}" in 0|"124, of a board") ;; *) fail "the program or the board ended early";; esac    # 124: of timeout
     trap - EXIT
     cat "$out/told"
     exit 0
@@ -80,16 +89,18 @@ fi
 # ---- outside of it
 
 cc=${CC:-cc}
-[ -n "$PROGRAM" ] || command -v "$cc" >/dev/null || skip "C compiler $cc"
+program=$PROGRAM$BOARD
+[ -n "$program" ] || command -v "$cc" >/dev/null || skip "C compiler $cc"
+[ -z "$BOARD" ] || command -v "${BOARD%% *}" >/dev/null || skip "command ${BOARD%% *}"
 [ "$(id -u)" = 0 ] || skip "right to make an interface: run it as root"
 [ -c /dev/net/tun ] || skip "/dev/net/tun"
 for program in ip unshare nsenter curl; do command -v $program >/dev/null || skip "command $program"; done
 unshare -n true 2>/dev/null || skip "right to make a network namespace"
-if [ -z "$LIBRARY$PROGRAM" ] && { [ ! -f "$library" ] || [ -n "$(find "$top/crates" -name '*.rt' -newer "$library" | head -1)" ]; }; then
+if [ -z "$LIBRARY$program" ] && { [ ! -f "$library" ] || [ -n "$(find "$top/crates" -name '*.rt' -newer "$library" | head -1)" ]; }; then
     command -v rt >/dev/null || fail "no library of these sources at $library, and no command rt to build it"
     (cd "$top/crates/uip_c" && rt lib) >/dev/null || fail "rt lib failed in crates/uip_c"
 fi
 mkdir -p "$out"
-[ -z "$PROGRAM" ] || exec unshare -n sh "$0" inside
+[ -z "$program" ] || exec unshare -n sh "$0" inside
 "$cc" -O2 -Wall -Wextra -I"$top/include" "$here/tap.c" "$top/examples/linux-c/heap.c" "$library" -o "$out/uip_tap" || fail "tap.c was not built"
 exec unshare -n sh "$0" inside

@@ -15,10 +15,10 @@ wrong=0
 
 # try WHAT COMMAND ..: runs a command and prints its result; if it fails also the end of its output.
 try() {
-    what=$1; shift
-    if "$@" >"$room/log" 2>&1; then echo "passed: $what"; return; fi
+    tried=$1; shift
+    if "$@" >"$room/log" 2>&1; then echo "passed: $tried"; return; fi
     tail -5 "$room/log"
-    echo "FAILED: $what"
+    echo "FAILED: $tried"
     wrong=1
     return 1
 }
@@ -58,7 +58,7 @@ has cc "pack.py" && try "pack.py packs the site as an array of C" sh -c 'python3
 # fetches EXAMPLE COMPILER WORD ..: builds a firmware with the words for make, and fetches each file from it.
 fetches() {
     example=$1 what="$1 by $2"; shift 2
-    rm -f "examples/$example/firmware.elf"
+    rm -f "examples/$example"/*.elf
     try "$what: built" make -C "examples/$example" "$@" || return
     case "$example" in
     m4) machine="qemu-system-arm -M mps2-an386 -kernel {}" image=firmware.elf;;
@@ -69,6 +69,8 @@ fetches() {
     has "${machine%% *}" "$what: every file" || return
     try "$what: every file" python3 "$top/examples/browse.py" --board "examples/$example/$image" --machine "$machine" -- \
         python3 "$top/examples/fetch.py" examples/site
+    [ "$example" = rv32 ] || try "$what: every file on Ethernet, by ARP" \
+        env BOARD="qemu-system-arm -M mps2-an386 -kernel $PWD/examples/$example/ether.elf" SECONDS_UP=10 sh "$top/examples/linux-ether/run.sh"
 }
 has arm-none-eabi-gcc "m4 by gcc" && fetches m4 arm-none-eabi-gcc
 has riscv64-unknown-elf-gcc "rv32 by gcc" && fetches rv32 riscv64-unknown-elf-gcc
