@@ -436,6 +436,10 @@ uip_result uip_periodic_datagram(uip_device *device, size_t slot, unsigned char 
  *   image, len    as for uip_open
  *   own           as for uip_open
  *   mac           the hardware address of the node, 6 bytes; it is copied and not checked
+ *   mask          the address mask, first byte first: {255, 255, 255, 0}; it is copied. An address is on the link if the
+ *                 bits that are 1 in the mask are those of `own`. Any bits may be 1
+ *   router        the address of the router; it is copied. A frame to an address that is not on the link goes to the
+ *                 router, whose hardware address is found by ARP
  *
  * If the mask is 0.0.0.0, or the router is 0.0.0.0, every address is on the link.
  * Status: UIP_OK, UIP_HAS_DEVICE, UIP_BAD_IMAGE, UIP_NO_MEMORY.
