@@ -9,7 +9,7 @@
  */
 #include "uip.h"
 
-int half_a_second_passed(void);                        /* yours: 1 for each half second that the timer counted */
+int half_a_second_passed(void);                        /* yours: 1 for each half second, at most two in arrears, as in uip.h */
 int dma_is_busy(void);                                 /* yours: 1 while the DMA sends */
 void dma_send(const unsigned char *bytes, size_t len); /* yours: begins to send, and returns */
 size_t received(const unsigned char **bytes);          /* yours: the contiguous bytes that wait, and how many */

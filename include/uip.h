@@ -3,14 +3,15 @@
  * carries datagrams, or on Ethernet with ARP. The web server at port 80 is the only application.
  *
  * SPDX-License-Identifier: MIT OR Apache-2.0
- * Copyright 2026 The Lowunbisa authors (the run-time library of the Rattle kit, in each binary, has no stated licence)
+ * Copyright 2026 The Lowunbisa authors; see LICENSE on the run-time library in each binary
  *
- * THIS IS NOT THE uip.h OF uIP 1.0, although the names begin alike. Never include both in one file: macros of uIP would
- * replace these calls.
+ * THIS IS NOT THE uip.h OF uIP 1.0, although the names begin alike. Never include both in one translation unit: macros
+ * of uIP would replace these calls.
  *
- * A site is a folder of files. Its image is the array that tools/pack.py makes of it. uipd, which some comments name,
- * is the same node as a Linux program. In short: begin with a zeroed handle; leave image and heap alone; make no two
- * calls at once, and none in an interrupt; drain before you feed; make ten periodic calls each half second.
+ * A site is a folder of files. Its image is the array that tools/pack.py makes of it. uipd, named in some comments, is
+ * this node built as a Linux program. In short: begin with a zeroed handle; leave image and heap alone; make no two
+ * calls at once, and none in an interrupt; drain before you feed; each half second make one periodic call for each of
+ * the ten slots (a tick).
  *
  * A whole program for a serial line. You supply the first four functions (and what rule 8 names). Paths are those of
  * the repository: an archive has heap.c in examples/common.
@@ -21,8 +22,8 @@
  *     #include "heap.c"                                // examples/heap.c: the heap as one array
  *
  *     size_t read_serial(unsigned char *bytes, size_t room);       // moves bytes out of the ring that your interrupt
- *                                                      // fills; returns how many, or 0; it may sleep until a byte
- *                                                      // arrives or a tick is due
+ *                                                      // fills; returns how many, or 0. It may sleep until the
+ *                                                      // next interrupt (of a byte or of the clock)
  *     void write_serial(void *to, const unsigned char *bytes, size_t len);       // a uip_sink; may wait
  *     unsigned milliseconds(void);                     // modulo 2^32
  *     void work(void);                                 // sets values, reads clicks: the example at uip_set_value
@@ -75,8 +76,8 @@
  *
  * WHAT THE CALLER MUST KEEP. A call is one invocation of a library function that is not inline. An inline function
  * makes several, and its sink runs between them, never inside one. Until the inline function returns, no code but its
- * sink makes a call with that handle. The library cannot check these rules. If one is broken, the behaviour is
- * undefined.
+ * sink makes a call with that handle, and rules 4, 5 and 7 hold; its sink may read `out`. `to` may point to an object
+ * that contains `out` or `bytes`. The library cannot check these rules. If one is broken, the behaviour is undefined.
  *
  *   Handle
  *   1. Both members of the handle are 0 before its first call (UIP_INIT, or memset). If your startup code does not
@@ -106,16 +107,16 @@
  *      another object or live block, and only the library uses it until it is freed. The functions of the heap make no
  *      call of the library. If uip_open, uip_open_ether or uip_close of two handles may overlap, the functions of the
  *      heap must be thread-safe.
- *   9. The stack is large enough ("TARGETS" at the end of this file).
+ *   9. The stack is large enough ("TARGETS").
  *  10. The processor is set up as its row of "TARGETS" requires.
  *
- * ERRORS. A call with an argument out of its range, or in the wrong state, has no effect and returns a status (a null
- * pointer or a wrong area is undefined: rule 4): the device, `out` and the counters are unchanged, and all other fields
- * of the result are 0. Exception: for a bad image uip_open and uip_open_ether also report the fault. Not reported: a
- * wrong rate of periodic calls, a slot that is left out or called twice in a tick, and an unknown name (uip_hits
- * returns 0). The contents of what arrives never cause a status. Its length can: your driver drops datagrams of more
- * than UIP_MAX_DATAGRAM bytes and frames longer than `room`. The statuses of each call, in the order in which they are
- * looked for:
+ * ERRORS. A call with an argument out of its range, or in the wrong state, changes nothing: not the device, `out` or
+ * the counters. It returns a status, and all other fields of the result are 0. Null pointers and wrong areas are not
+ * detected (rules 4 and 5). Exception: for a bad image uip_open and uip_open_ether also report the fault. Not reported:
+ * a wrong rate of periodic calls, a slot that is left out or called twice in a tick, and an unknown name (uip_hits
+ * returns 0). The contents of what arrives never cause a status. Its length can: drop datagrams of 0 or of more than
+ * UIP_MAX_DATAGRAM bytes, and frames longer than `room`; do not call uip_feed with 0 bytes. The statuses of each call,
+ * in the order in which they are looked for:
  *   uip_open, uip_open_ether    UIP_HAS_DEVICE, UIP_BAD_IMAGE or UIP_NO_MEMORY, UIP_OK
  *   every other call            UIP_BAD_ARGUMENT      an argument is out of its range
  *                               UIP_NO_DEVICE         the handle has no device
@@ -126,26 +127,11 @@
  * or UIP_NO_MEMORY the handle has no device, and you may open it again. After UIP_HAS_DEVICE its device stays open,
  * unchanged.
  *
- * FIXED SIZES. Nothing can be configured. MSS and window are 1460 bytes. A segment has at most the least of 1460 bytes,
- * the peer's MSS (536 if it announces none) and the peer's window. A window of 0 does not limit it: the segment is
- * sent, and sent again by the timer. There are ten connections, each with at most one segment outstanding. A segment
- * without an acknowledgement is sent again 4, 8, 15, 28, 53, 102, 151 and 200 ticks after the first sending, and given
- * up after 249; a SYN-ACK five times, and given up after 102. An ESTABLISHED connection with nothing outstanding is
- * reset after 20 ticks in which it received no data. FIN_WAIT_2 and TIME_WAIT end after 120. The heap has one packet
- * buffer of 1500 bytes for both directions. A device of uip_open has another 1500, for the frame that is being
- * received. A site has at most 1,024 files and 16,777,216 bytes.
+ * "SIZES", "TIME", "TARGETS" and "PROVED" are at the end of this file.
  *
- * TIME. No call waits; an inline function waits as long as its sink does. The node has no clock: a tick is half a
- * second (see uip_periodic). While output is written, the program should store what arrives. With the same speed in
- * both directions, at most 3,002 bytes arrive while one frame is written (0.26 s at 115,200 bits a second), and 30,020
- * while uip_tick_all writes ten. A ring with 3,002 (30,020) bytes free when the writing begins loses none of them; a
- * peer that sends without end can still fill it. One pass of the program above may write one frame for each frame that
- * ends in `bytes`, and ten more in a tick. If bytes are lost, TCP sends again, and a ping stays without a reply. Any
- * size is correct: a small ring costs retransmissions. 512 bytes were enough for two clients at 19,200 bits a second
- * (measured). The line carries all 8 bits of a byte: no XON and XOFF.
- *
- * The header is C90 or later, or C++ (tried: gcc 12.2 and clang 14, C90 to C17, C++98 to C++17). The examples in its
- * comments have comments of C99. examples/heap.c is C11 or C++11.
+ * Compile with the ABI of the platform: structures are returned by value. A status is unsigned, so -fshort-enums does
+ * not matter. The header is C90 or later, or C++ (tried: gcc 12.2 and clang 14, C90 to C17, C++98 to C++17). The
+ * examples in its comments have comments of C99. examples/heap.c is C11 or C++11.
  */
 #ifndef UIP_H
 #define UIP_H
@@ -169,7 +155,7 @@ extern "C" {
 #define UIP_VERSION_MINOR 1
 #define UIP_VERSION_PATCH 0
 
-/* The number of this interface, not of the release. It rises if a program may have to change: #if UIP_VERSION != 3. */
+/* The number of this interface, which rises with the major version alone. To refuse another: #if UIP_VERSION != 3. */
 #define UIP_VERSION 3
 
 /*
@@ -436,8 +422,8 @@ uip_result uip_periodic_datagram(uip_device *device, size_t slot, unsigned char 
  *   image, len    as for uip_open
  *   own           as for uip_open
  *   mac           the hardware address of the node, 6 bytes; it is copied and not checked
- *   mask          the address mask, first byte first: {255, 255, 255, 0}; it is copied. An address is on the link if the
- *                 bits that are 1 in the mask are those of `own`. Any bits may be 1
+ *   mask          the address mask, first byte first: {255, 255, 255, 0}; it is copied. An address is on the link if
+ *                 the bits that are 1 in the mask are those of `own`. Any bits may be 1
  *   router        the address of the router; it is copied. A frame to an address that is not on the link goes to the
  *                 router, whose hardware address is found by ARP
  *
@@ -566,8 +552,8 @@ unsigned uip_close(uip_device *device);
  * examples/linux-c/heap.c (malloc), or write your own. One heap serves all devices (rule 8).
  *
  *   rattle_alloc      returns a block of `len` bytes, or of `align` bytes if `len` is 0, at a multiple of `align` (1,
- *                     2, 4, 8 or 16; the library asks for 8 at most), with `ok` 1. If there is no room: `ok` 0;
- *                     `block` must not be null even then, and is not used.
+ *                     2, 4 or 8), with `ok` 1. If there is no room: `ok` 0, and a `block` that is not null, for example
+ *                     the address of a static byte. Never {0, NULL}: that is undefined.
  *   rattle_realloc    returns a block as rattle_alloc does, copies the first `kept` bytes of the old block into it, and
  *                     frees the old one. The linker may need it, and nothing calls it: it may always fail
  *                     (`ok` 0, any address but null, the old block stays).
@@ -652,7 +638,7 @@ UIP_INLINE unsigned uip_feed_all(uip_device *device, const unsigned char *bytes,
 
 /*
  * For a serial line. Makes one tick, and passes all output to `sink`: at most ten frames. Returns the first status that
- * is not UIP_OK, or UIP_OK.
+ * is not UIP_OK, or UIP_OK. If the rules hold, only its first call can fail: then nothing was sent.
  */
 UIP_INLINE unsigned uip_tick_all(uip_device *device, unsigned char *out, size_t room, uip_sink sink, void *to) {
     uip_result done = {UIP_OK, 0, 0, 0};
@@ -665,6 +651,24 @@ UIP_INLINE unsigned uip_tick_all(uip_device *device, unsigned char *out, size_t 
 }
 
 /*
+ * SIZES. Nothing can be configured. MSS and window are 1460 bytes. A segment has at most the least of 1460 bytes, the
+ * peer's MSS (536 if it announces none) and the peer's window. A window of 0 does not limit it: the segment is sent,
+ * and sent again by the timer. There are ten connections, each with at most one segment outstanding. A segment without
+ * an acknowledgement is sent again 4, 8, 15, 28, 53, 102, 151 and 200 ticks after the first sending, and given up after
+ * 249; a SYN-ACK five times, and given up after 102. An ESTABLISHED connection with nothing outstanding is reset after
+ * 20 ticks in which it received no data. FIN_WAIT_2 and TIME_WAIT end after 120. The heap has one packet buffer of 1500
+ * bytes for both directions. A device of uip_open has another 1500, for the frame that is being received. A site has at
+ * most 1,024 files and 16,777,216 bytes.
+ *
+ * TIME. No call waits; an inline function waits as long as its sink does. uip_open and uip_open_ether read the whole
+ * image; any other call handles at most one datagram. The node has no clock: a tick is half a second (see
+ * uip_periodic). While output is written, the program should store what arrives. While n frames are written, up to n x
+ * 3,002 bytes arrive, at the same speed in both directions: n is 1 for uip_feed and uip_periodic with their uip_drain
+ * (0.26 s at 115,200 bits a second), 10 for uip_tick_all, and one for each frame that ends in `bytes` for uip_feed_all.
+ * The program above needs the sum of the last two. A ring with that much free when the writing begins loses nothing; a
+ * smaller one is correct, but costs retransmissions. 512 bytes were enough for two clients at 19,200 bits a second
+ * (measured on an emulated board). The line carries all 8 bits of a byte: no XON and XOFF.
+ *
  * TARGETS. The stack is that of one firmware for a serial line (examples/board), in bytes: the greatest depth from
  * reset, with its main, drivers and memcpy, without interrupts. It is computed from the linked code and not proved. On
  * Ethernet the Cortex-M4 needs 4,496: uip_open_ether 4,392, and the other calls for frames at most 1,880. For the other
@@ -691,10 +695,10 @@ UIP_INLINE unsigned uip_tick_all(uip_device *device, unsigned char *out, size_t 
  *
  * PROVED of the source, which is Rattle (Rust with contracts), for any sequence of calls, successful or not, if the
  * caller keeps the rules: memory safety, that each call returns, and that the output is exactly what
- * docs/SPECIFICATION.md defines for the input. A peer receives the page unchanged, from its start; with the FIN it has
- * the whole page. This does not hold if a late datagram of an older connection is accepted. On Ethernet each frame with
- * a datagram goes to the hardware address that ARP learned last for its next hop (RFC 1122): its destination if that is
- * on the link, else the router.
+ * docs/SPECIFICATION.md defines for the input. What a peer has received is always a prefix of the page; once it has the
+ * FIN, it is the whole page. This does not hold if a late datagram of an older connection is accepted. On Ethernet each
+ * frame with a datagram goes to the hardware address that ARP learned last for its next hop (RFC 1122): its destination
+ * if that is on the link, else the router.
  *
  * NOT PROVED: the machine code, the stack depth, the heap that is enough, a bound on the time of a call, and the inline
  * functions. For Cortex-M, RISC-V and WebAssembly a conversion, tested and not proved, comes between source and machine
