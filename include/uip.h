@@ -13,8 +13,8 @@
  * calls at once, and none in an interrupt; drain before you feed; each half second make one periodic call for each of
  * the ten slots (a tick).
  *
- * A whole program for a serial line. You supply the first four functions (and what rule 8 names). Paths are those of
- * the repository: an archive has heap.c in examples/common.
+ * A whole program for a serial line. You supply the first four functions, and memcpy, memmove and memset if no C
+ * library does. Paths are those of the repository: an archive has heap.c in examples/common.
  *
  *     #include "uip.h"
  *     #include "site.c"                                // site_image, SITE_IMAGE_LEN, SITE_IMAGE_FILES: tools/pack.py
@@ -28,10 +28,11 @@
  *     unsigned milliseconds(void);                     // modulo 2^32
  *     void work(void);                                 // sets values, reads clicks: the example at uip_set_value
  *
- *     int half_a_second_passed(void) {                 // returns 1 for each half second that has passed; if three are
- *         static unsigned last, is_started;            // due, it drops them and begins anew
+ *     int half_a_second_passed(void) {                 // returns 1 for each half second that has passed; if three or
+ *         static unsigned last, is_started;            // more are due, it makes one of them
  *         unsigned now = milliseconds();
- *         if (!is_started || now - last >= 1500) { is_started = 1; last = now; }
+ *         if (!is_started) { is_started = 1; last = now; }
+ *         if (now - last >= 1500) { last = now; return 1; }
  *         if (now - last < 500) return 0;
  *         last += 500;
  *         return 1;
@@ -74,10 +75,10 @@
  * For a serial line three inline functions make these calls and pass the output to a sink: uip_feed_all, uip_tick_all
  * and uip_drain_all. A device of uip_open may have a serial line and a link of datagrams at once.
  *
- * WHAT THE CALLER MUST KEEP. A call is one invocation of a library function that is not inline. An inline function
- * makes several, and its sink runs between them, never inside one. Until the inline function returns, no code but its
- * sink makes a call with that handle, and rules 4, 5 and 7 hold; its sink may read `out`. `to` may point to an object
- * that contains `out` or `bytes`. The library cannot check these rules. If one is broken, the behaviour is undefined.
+ * WHAT THE CALLER MUST KEEP. Below, "call" excludes the inline functions: these make several calls, and run the sink
+ * between them. From entry to return of an inline function its arguments obey rules 4, 5 and 7, and only its sink may
+ * make calls with that handle (see uip_sink) and read `out`. `to` may point to an object that contains `out` or
+ * `bytes`. The library cannot check these rules. If one is broken, the behaviour is undefined.
  *
  *   Handle
  *   1. Both members of the handle are 0 before its first call (UIP_INIT, or memset). If your startup code does not
@@ -86,16 +87,16 @@
  *   2. While a device is open, only calls of this library read or write its handle, and nothing copies the handle.
  *   Calls
  *   3. Two calls with one handle never overlap, the calls that read included: each takes the device out of its handle
- *      and puts it back, which is why no handle is const. Make no call in an interrupt. A call and a sink run to their
- *      end: no longjmp, no exception, no deleted task. Under an RTOS let one task make all calls, or give each handle
- *      one mutex. Hold it during each call with that handle, and over the whole of an inline function; its sink must
- *      not take it again. Calls with different handles may overlap: the library keeps nothing outside handle
- *      and heap.
+ *      and puts it back, which is why no handle is const. Make no call in an interrupt, not even with a handle of its
+ *      own. A call and a sink run to their end: no longjmp, no exception, no deleted task. Under an RTOS let one task
+ *      make all calls, or give each handle one mutex. Hold it during each call with that handle, and over the whole of
+ *      an inline function; its sink must not take it again. Calls with different handles may overlap: the library keeps
+ *      nothing outside handle and heap.
  *   Pointers
- *   4. Each pointer, also of a function, is not null, even if its length is 0. Each input is readable over its whole
- *      length (`own`, `mask` and `router` 4 bytes, `mac` 6). `out`, and `frame` beyond `len`, need not be initialised.
- *      Exception: `to` of the inline functions, which only the sink uses, may be null. Areas of bytes may have any
- *      alignment.
+ *   4. No argument is a null pointer, function pointers and areas of length 0 included. Each input is readable over its
+ *      whole length (`own`, `mask` and `router` 4 bytes, `mac` 6). `out`, and `frame` beyond `len`, need not be
+ *      initialised. Exception: `to` of the inline functions, which only the sink uses, may be null. Areas of bytes may
+ *      have any alignment.
  *   5. `out`, and `frame` of the calls for frames, may be written over the whole of `room`. It shares no byte with the
  *      handle or with another argument, and nothing else (no DMA) reads or writes it until the call returns.
  *   6. The image stays at its address until uip_close, and its bytes are the same at each call: the library reads it
@@ -103,8 +104,8 @@
  *   7. All other input (received bytes, a datagram, an address, the text of a value, a name) stays unchanged until the
  *      call returns. After the call the library does not use it.
  *   Memory and processor
- *   8. The program supplies memcpy, memmove, memset and the heap (at the end of this file). A block shares no byte with
- *      another object or live block, and only the library uses it until it is freed. The functions of the heap make no
+ *   8. The program supplies memcpy, memmove, memset and the heap (at the end of this file). Live blocks do not overlap each other or anything
+ *      else that the program uses. Their contents need not be initialised. The functions of the heap make no
  *      call of the library. If uip_open, uip_open_ether or uip_close of two handles may overlap, the functions of the
  *      heap must be thread-safe.
  *   9. The stack is large enough ("TARGETS").
@@ -168,7 +169,7 @@ extern "C" {
 typedef char uip_needs_32_or_64_bits[(sizeof(size_t) == 4 || sizeof(size_t) == 8) && sizeof(void *) == sizeof(size_t) ? 1 : -1];
 typedef char uip_needs_unsigned_of_32_bits[sizeof(unsigned) == 4 ? 1 : -1];
 
-/* The status that uip_set_value, uip_close and the three inline functions return, and of each field `status`. */
+/* The values of each field `status`, and of the results of uip_set_value, uip_close and the inline functions. */
 enum uip_status {
     UIP_OK = 0,
     UIP_NO_DEVICE = 1,         /* the handle has no device */
@@ -255,8 +256,8 @@ typedef struct uip_number { unsigned status; unsigned number; } uip_number;
  *   state         an enum uip_state
  *   peer, port    the address, first byte first, and the TCP port of the peer (a number, not in network byte order)
  *   tries         how often the outstanding segment was sent again
- *   count         if `waiting` is 1: after `count` more ticks, the next one sends the segment again, or resets the
- *                 connection. In FIN_WAIT_2 and TIME_WAIT: the ticks spent there, of 120. Else 0
+ *   count         if `waiting` is 1: `count` ticks pass without effect, and the one after them sends the segment
+ *                 again, or resets the connection. In FIN_WAIT_2 and TIME_WAIT: the ticks spent there, of 120. Else 0
  *   waiting       1 if a segment is outstanding, else 0
  */
 typedef struct uip_row { unsigned status, state; unsigned char peer[4]; unsigned port, tries, count, waiting; } uip_row;
@@ -292,14 +293,14 @@ uip_opened uip_open(uip_device *device, const unsigned char *image, size_t len, 
 uip_result uip_feed(uip_device *device, const unsigned char *bytes, size_t len, unsigned char *out, size_t room);
 
 /*
- * Makes the periodic call of one slot: timers and retransmission. Ten calls, one for each slot, are one tick. A tick is
+ * Runs the timers of one slot; may write one segment. Ten calls, one for each slot, are one tick. A tick is
  * due twice a second. uip_tick_all makes one tick. Other calls may come between the ten, and the ten may come in the
  * middle of a received frame: its first part is kept.
  *
- * If two ticks are due, make two, one after the other. After a longer stall or a sleep make none of the others: each
- * omitted tick only delays the timers by half a second. A burst of ticks gives up connections that could be
- * served. Without any tick nothing that is lost is sent again, and no connection times out. Any order of the slots will
- * do. Each timer counts the calls of its own slot, and uip_ticks those of slot 0.
+ * If two ticks are due, make both. If more are due, after a stall or a sleep, make one and drop the rest: each dropped
+ * tick only delays the timers by half a second. A burst of ticks gives up connections that could be served. Without any
+ * tick nothing that is lost is sent again, and no connection times out. Any order of the slots will do. Each timer
+ * counts the calls of its own slot, and uip_ticks those of slot 0.
  *
  *   slot         0 to 9
  *   out, room    where the segment goes, SLIP-framed; `room` is UIP_MIN_OUT or more
@@ -327,8 +328,8 @@ uip_result uip_drain(uip_device *device, unsigned char *out, size_t room);
 /*
  * Receives one datagram from a link that carries datagrams, and writes the datagram of the reply, if there is one.
  *
- *   datagram, len    the datagram, from the first byte of its IP header; `len` is 1 to UIP_MAX_DATAGRAM: drop a longer
- *                    one
+ *   datagram, len    the datagram, from the first byte of its IP header; `len` is 1 to UIP_MAX_DATAGRAM: filter
+ *                    others, or a peer can end your loop
  *   out, room        where the reply goes, not over `datagram`; `room` is UIP_MAX_DATAGRAM or more
  *
  * Result: `consumed` is `len`; `written` is the length of the reply; `pending` is 0.
@@ -423,7 +424,7 @@ uip_result uip_periodic_datagram(uip_device *device, size_t slot, unsigned char 
  *   own           as for uip_open
  *   mac           the hardware address of the node, 6 bytes; it is copied and not checked
  *   mask          the address mask, first byte first: {255, 255, 255, 0}; it is copied. An address is on the link if
- *                 the bits that are 1 in the mask are those of `own`. Any bits may be 1
+ *                 (address & mask) == (own & mask); the mask need not be contiguous
  *   router        the address of the router; it is copied. A frame to an address that is not on the link goes to the
  *                 router, whose hardware address is found by ARP
  *
@@ -474,7 +475,8 @@ uip_number uip_counter(uip_device *device, size_t number);
 /*
  * `number` is 1 if all connections are CLOSED, else 0. While it is 1, a tick sends nothing. The tick only advances
  * uip_ticks, the initial sequence number of the next connection (by 10) and, on Ethernet, the age of the ARP entries.
- * You may leave such ticks out: the processor can sleep until the next byte or datagram. Status: UIP_OK, UIP_NO_DEVICE.
+ * You may leave such ticks out: the processor can sleep until the next byte, datagram or frame. Status: UIP_OK,
+ * UIP_NO_DEVICE.
  *
  * It may be 1 while output is pending: drain first. After a page it stays 0 for 60 s (TIME_WAIT), unless the peer
  * closed first. After a sleep do not make up for the ticks that were left out (half_a_second_passed above makes up for
@@ -553,13 +555,15 @@ unsigned uip_close(uip_device *device);
  *
  *   rattle_alloc      returns a block of `len` bytes, or of `align` bytes if `len` is 0, at a multiple of `align` (1,
  *                     2, 4 or 8), with `ok` 1. If there is no room: `ok` 0, and a `block` that is not null, for example
- *                     the address of a static byte. Never {0, NULL}: that is undefined.
+ *                     the address of a static byte. Never {0, NULL}: addresses of Rattle, the language of
+ *                     the library, have no null, so that is undefined.
  *   rattle_realloc    returns a block as rattle_alloc does, copies the first `kept` bytes of the old block into it, and
  *                     frees the old one. The linker may need it, and nothing calls it: it may always fail
  *                     (`ok` 0, any address but null, the old block stays).
  *   rattle_dealloc    frees a block.
  *
- * Measured, not proved: uip_open makes six allocations, for f files of 28 f, 2 f, 4 f, 1500, 1600 and 2312 bytes;
+ * Measured, not proved: uip_open makes six allocations; for a site of f files: 28*f, 2*f, 4*f, 1500, 1600 and
+ * 2312 bytes;
  * uip_open_ether the same, with 888 in place of 2312. If one fails, it frees those before it. uip_close frees all six.
  * No other call allocates or frees. If you call uip_open once and never uip_close, rattle_dealloc may do nothing.
  * examples/heap.c reuses its array when all its devices are closed.
@@ -665,9 +669,10 @@ UIP_INLINE unsigned uip_tick_all(uip_device *device, unsigned char *out, size_t 
  * uip_periodic). While output is written, the program should store what arrives. While n frames are written, up to n x
  * 3,002 bytes arrive, at the same speed in both directions: n is 1 for uip_feed and uip_periodic with their uip_drain
  * (0.26 s at 115,200 bits a second), 10 for uip_tick_all, and one for each frame that ends in `bytes` for uip_feed_all.
- * The program above needs the sum of the last two. A ring with that much free when the writing begins loses nothing; a
- * smaller one is correct, but costs retransmissions. 512 bytes were enough for two clients at 19,200 bits a second
- * (measured on an emulated board). The line carries all 8 bits of a byte: no XON and XOFF.
+ * The program above may write twelve full frames in one pass (36,024 bytes): with less RAM use examples/step.c (two,
+ * 6,004 bytes). A ring with that much free when the writing begins loses nothing; with less bytes can be lost: TCP
+ * sends them again, but that a page arrives is then not proved. 512 bytes were enough for two clients at 19,200 bits a
+ * second (measured on an emulated board). The line carries all 8 bits of a byte: no XON and XOFF.
  *
  * TARGETS. The stack is that of one firmware for a serial line (examples/board), in bytes: the greatest depth from
  * reset, with its main, drivers and memcpy, without interrupts. It is computed from the linked code and not proved. On
