@@ -104,10 +104,10 @@
  *   7. All other input (received bytes, a datagram, an address, the text of a value, a name) stays unchanged until the
  *      call returns. After the call the library does not use it.
  *   Memory and processor
- *   8. The program supplies memcpy, memmove, memset and the heap (at the end of this file). Live blocks do not overlap each other or anything
- *      else that the program uses. Their contents need not be initialised. The functions of the heap make no
- *      call of the library. If uip_open, uip_open_ether or uip_close of two handles may overlap, the functions of the
- *      heap must be thread-safe.
+ *   8. The program supplies memcpy, memmove, memset and the heap (at the end of this file). Live blocks do not overlap
+ *      each other or anything else that the program uses. Their contents need not be initialised. The functions of the
+ *      heap make no call of the library. If uip_open, uip_open_ether or uip_close of two handles may overlap, the
+ *      functions of the heap must be thread-safe.
  *   9. The stack is large enough ("TARGETS").
  *  10. The processor is set up as its row of "TARGETS" requires.
  *
