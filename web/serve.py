@@ -28,6 +28,7 @@ import html
 import json
 import os
 import select
+import shutil
 import signal
 import struct
 import subprocess
@@ -437,6 +438,8 @@ class Words:
             self.has_to_exist(self.board, "no firmware at {}: `sh examples/board/run.sh build` builds it")
             return Board(self.board)
         if self.command:
+            if not shutil.which(self.command[0]):
+                fail(f"no command {self.command[0]} here")
             return Program(" ".join(self.command), self.command, False)
         self.has_to_exist(self.uipd, "no folder, image or program at {}; `rt run` in crates/uipd builds uipd")
         self.has_to_exist(self.site, "no image and no folder at {}")
