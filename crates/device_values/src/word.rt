@@ -1,7 +1,10 @@
 //! The words of a device's scripts.
 
+ghost use Rattle.std.specs.Prelude.{◌≡◌};
+ghost use Rattle.std.specs.Str.{bytes_eq};
+
 use crate::spelling::Spelling;
-use script_lang::{Calls, Function, is_same};
+use script_lang::{Calls, Function};
 
 /// What a script of a device can call.
 #[derive(Clone, Copy, Debug, PartialEq, Eq)]
@@ -12,17 +15,25 @@ pub enum Word {
     Value(Spelling),
 }
 
+/// Returns whether a name is that word. It is not inlined, since it is called in three places.
+#[inline(never)]
+fn is_word(name: &[u8], word: &[u8]) -> bool
+    ensures { result ≡ bytes_eq name.now word.now }
+{
+    name == word
+}
+
 impl Calls for Word {
     ghost use Rattle.device_values.specs.Words.{word_calls};
 
     ghost calling = { word_calls };
 
     fn named(name: &[u8]) -> Word {
-        if is_same(name, b"value") {
+        if is_word(name, b"value") {
             Word::Value(Spelling::Plain)
-        } else if is_same(name, b"value-json") {
+        } else if is_word(name, b"value-json") {
             Word::Value(Spelling::Json)
-        } else if is_same(name, b"value-html") {
+        } else if is_word(name, b"value-html") {
             Word::Value(Spelling::Html)
         } else {
             Word::Uip(Function::named(name))

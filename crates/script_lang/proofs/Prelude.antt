@@ -3,11 +3,9 @@ pub use Rattle.script_lang.specs.Prelude.{IsPlace, begins, directive, ends, firs
 pub use Rattle.script_lang.specs.declared.function.Function.TheVariants.{FileStats, NetStats, Ticks, Unknown}
 pub use Rattle.script_lang.specs.declared.piece.FoundOf.{FoundOf}
 pub use Rattle.script_lang.specs.declared.piece.PieceOf.TheVariants.{Call, Include, Text}
-pub use Rattle.std.proofs.Common.{Bool, List, Some, [], ap, arith, cond, drop, eqb, false, filter, find, inl, inr, length, map, min, nat_lt, not, refl, replicate, slice_index, subst, suc, sym, true, unwrap_or, zero, ℕ, ◌%◌, ◌&&◌, ◌+◌, ◌-◌, ◌<◌, ◌==◌, ◌^◌, ◌||◌, ◌∙◌, ◌∷◌, ◌≡◌, ◌≤◌, ◌⊎◌}
+pub use Rattle.std.proofs.Common.{Bool, List, Some, [], ap, arith, cond, eqb, false, filter, find, inl, inr, length, map, min, nat_lt, not, refl, replicate, slice_index, subst, suc, sym, true, unwrap_or, zero, ℕ, ◌%◌, ◌&&◌, ◌+◌, ◌-◌, ◌<◌, ◌==◌, ◌^◌, ◌||◌, ◌∙◌, ◌∷◌, ◌≡◌, ◌≤◌, ◌⊎◌}
 pub use Rattle.std.proofs.lemmas.Bool.{and_from, and_left, and_parts, and_right, cases_Bool, cases_eq, cases_lt, cases_order, cond-false, eq-eqb, eqb-true, false_from_ne_true, le-ltb, lt-ltb, ne_eqb, not-true, not_from_false, not_from_true, or_cases, or_from, or_left, or_right, true≢false}
-pub use Rattle.std.proofs.lemmas.List.{drop_all, drop_more, get_or_past}
+pub use Rattle.std.proofs.lemmas.List.{get_or_past}
 pub use Rattle.std.proofs.lemmas.Simd.{bitmask_splat, first_set_mask_l, length-chunk, run_in_chunk_fails, run_in_chunk_le, run_in_chunk_stops}
-pub use Rattle.std.proofs.lemmas.Slice.Eq.{bytes_eq-Decides}
 pub use Rattle.std.specs.List.{list_any, prefix_len, range_with_len}
 pub use Rattle.std.specs.Prelude.{codes, ◌++◌}
-pub use Rattle.std.specs.Str.{bytes_eq}

@@ -4,7 +4,6 @@ ghost use Rattle.std.specs.Prelude.{◌≡◌};
 ghost use Rattle.script_lang.specs.Functions.{function_named, length_at_most};
 
 use crate::calls::Calls;
-use crate::words::is_same;
 
 /// A function that a script calls by its name.
 /// [add: function] A variant, its name, its greatest length, and whether it takes a capture.
@@ -27,13 +26,17 @@ pub enum Function {
 pub(crate) fn function_of(name: &[u8]) -> Function
     ensures { result ≡ function_named name.now }
 {
-    if is_same(name, b"file-stats") {
+    let file_stats: &[u8] = b"file-stats";
+    let tcp_connections: &[u8] = b"tcp-connections";
+    let net_stats: &[u8] = b"net-stats";
+    let ticks: &[u8] = b"ticks";
+    if name == file_stats {
         Function::FileStats
-    } else if is_same(name, b"tcp-connections") {
+    } else if name == tcp_connections {
         Function::TcpConnections
-    } else if is_same(name, b"net-stats") {
+    } else if name == net_stats {
         Function::NetStats
-    } else if is_same(name, b"ticks") {
+    } else if name == ticks {
         Function::Ticks
     } else {
         Function::Unknown

@@ -14,7 +14,6 @@ pub use calls::Calls;
 pub use function::{Function, greatest_len};
 pub use piece::{Found, FoundOf, Piece, PieceOf};
 pub use scan::{next_piece, next_piece_of, runs_past};
-pub use words::is_same;
 
 #[cfg(test)]
 mod tests;

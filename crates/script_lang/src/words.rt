@@ -1,5 +1,4 @@
 ghost use Rattle.std.specs.Prelude.{◌≡◌, ◌+◌, ◌≤◌, length};
-ghost use Rattle.std.specs.Str.{bytes_eq};
 ghost use Rattle.script_lang.specs.Places.{word};
 
 use crate::search::{byte_from, other_from};
@@ -9,22 +8,6 @@ use crate::search::{byte_from, other_from};
 pub(crate) struct Span {
     pub at: usize,
     pub len: usize,
-}
-
-/// Returns whether two texts have the same bytes. It is not inlined, since names and their ends are compared in many places.
-#[inline(never)]
-pub fn is_same(one: &[u8], other: &[u8]) -> bool
-    ensures { result ≡ bytes_eq one.now other.now }
-{
-    if one.len() != other.len() {
-        return false;
-    }
-    for at in 0..one.len() {
-        if one[at] != other[at] {
-            return false;
-        }
-    }
-    true
 }
 
 /// Returns the first word of the part from `from` up to before `to`. Spaces separate words.

@@ -1,23 +1,14 @@
 //! Scripts and content types, by the names of files.
 
-ghost use Rattle.std.specs.List.{ends_with};
-ghost use Rattle.std.specs.Prelude.{◌≡◌, nat_eq};
+ghost use Rattle.std.specs.Prelude.{◌≡◌};
 ghost use Rattle.site_image.specs.Names as names;
-
-use script_lang::is_same;
 
 /// Returns whether the file with this name is a script.
 pub fn is_script(name: &[u8]) -> bool
     ensures { result ≡ names.is_script name.now }
 {
-    has_end(name, b".shtml")
-}
-
-/// Returns whether a name ends with these bytes.
-fn has_end(name: &[u8], end: &[u8]) -> bool
-    ensures { result ≡ ends_with nat_eq name.now end.now }
-{
-    is_same(end, &name[name.len().saturating_sub(end.len())..])
+    let end: &[u8] = b".shtml";
+    name.ends_with(end)
 }
 
 /// Returns the content type by the ending of the name.
@@ -25,17 +16,24 @@ fn has_end(name: &[u8], end: &[u8]) -> bool
 pub fn content_kind(name: &[u8]) -> &'static [u8]
     ensures { result.now ≡ names.kind_by_name name.now }
 {
-    if has_end(name, b".html") || has_end(name, b".shtml") {
+    let html: &[u8] = b".html";
+    let shtml: &[u8] = b".shtml";
+    let txt: &[u8] = b".txt";
+    let css: &[u8] = b".css";
+    let png: &[u8] = b".png";
+    let gif: &[u8] = b".gif";
+    let jpg: &[u8] = b".jpg";
+    if name.ends_with(html) || name.ends_with(shtml) {
         b"text/html"
-    } else if has_end(name, b".txt") {
+    } else if name.ends_with(txt) {
         b"text/plain"
-    } else if has_end(name, b".css") {
+    } else if name.ends_with(css) {
         b"text/css"
-    } else if has_end(name, b".png") {
+    } else if name.ends_with(png) {
         b"image/png"
-    } else if has_end(name, b".gif") {
+    } else if name.ends_with(gif) {
         b"image/gif"
-    } else if has_end(name, b".jpg") {
+    } else if name.ends_with(jpg) {
         b"image/jpeg"
     } else {
         b"application/octet-stream"
