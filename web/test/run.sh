@@ -26,7 +26,7 @@ tests() {
     sed -n 's/^﹣.* # /skipped: /p' "$log" | sort | uniq -c | sed 's/^ *\([0-9]*\) skipped:/skipped: \1 tests of the page:/'
     count() { sed -n "s/^ℹ $1 //p" "$log"; }
     seconds=$(count duration_ms)
-    echo "web: $name: $(count pass) passed, $(count fail) failed in $((${seconds%%.*} / 1000)) s"
+    echo "web: $name: $(count pass) passed, $(($(count fail) + $(count cancelled))) failed in $((${seconds%%.*} / 1000)) s"
 }
 
 suites() { for suite in "$@"; do printf 'web/test/%s.test.mjs ' "$suite"; done; }
