@@ -57,7 +57,7 @@ browser() {
     tests "the page with the device inside" 900 web/test/page.test.mjs
 }
 # All, or with --quick those that need no browser, in at most $1 seconds.
-planted() { timeout "$1" node web/test/planted.mjs $2 || { echo "web: a planted fault was not found, or not all were tried in time"; status=1; }; }
+planted() { timeout "$(($1 * ${PATIENCE:-1}))" node web/test/planted.mjs $2 || { echo "web: a planted fault was not found, or not all were tried in time"; status=1; }; }
 
 case "${1:-all}" in
     client) client;;
