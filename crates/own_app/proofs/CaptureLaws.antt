@@ -18,7 +18,7 @@ message_back opened s h =
     ]
 
 -- one more capture
-taken_more : (ks : List Snapshot) (k : Snapshot) → bytes_taken (ks ++ k ∷ []) ≡ bytes_taken ks + (message_in k.numbers).taken
+pub taken_more : (ks : List Snapshot) (k : Snapshot) → bytes_taken (ks ++ k ∷ []) ≡ bytes_taken ks + (message_in k.numbers).taken
 taken_more [] k = omega arith
 taken_more (j ∷ ks) k = let more = taken_more ks k in omega (arith, more)
 
@@ -44,6 +44,10 @@ same_test n m h =
 left_same : (a : OwnState) (p : AppState) → StateRepresents a p → len_left p ≡ length a.sending - a.at
 left_same a p s = omega (arith, s.acked, ap (λ l. length l) s.sending, length-append s.before a.sending)
 
+-- the value shows whether all is acknowledged
+pub nothing_left : (a : OwnState) (p : AppState) → StateRepresents a p → (a.at == length a.sending) ≡ (len_left p == 0)
+nothing_left a p represents = same_test a.at (length a.sending) represents.within ∙ ap (λ n. n == 0) (sym (left_same a p represents))
+
 -- an overrun connection captures nothing
 gone : (b c d x y : Bool) → b ≡ false → (b && c && d && x) ≡ (b && c && d && y)
 gone true c d x y e = absurd (false≢true (sym e))
@@ -64,7 +68,7 @@ due_is a p s represents =
     ∙ ap (λ n. s.to == p.own && s.number == n && not a.overrun && not a.ended && a.at == length a.sending && nat_le s.taken (length a.received)) represents.count
     ∙ ap (λ b. s.to == p.own && s.number == length p.captures % 4294967296 && not a.overrun && not b && a.at == length a.sending && nat_le s.taken (length a.received)) represents.ended
     ∙ ap (λ b. s.to == p.own && s.number == length p.captures % 4294967296 && not a.overrun && not (has_last p.captures) && b && nat_le s.taken (length a.received))
-    (same_test a.at (length a.sending) represents.within ∙ ap (λ n. n == 0) (sym (left_same a p represents)))
+    (nothing_left a p represents)
     ∙ by_overrun a.overrun (s.to == p.own && s.number == length p.captures % 4294967296) (not (has_last p.captures)) (len_left p == 0) (nat_le s.taken (length a.received)) (nat_le s.taken (length (pending p)))
     (λ e. ap (λ l. nat_le s.taken (length l)) (represents.received e))
     ∙ ap (λ b. s.to == p.own && s.number == length p.captures % 4294967296 && not b && not (has_last p.captures) && len_left p == 0 && nat_le s.taken (length (pending p))) represents.overrun

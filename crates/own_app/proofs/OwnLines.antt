@@ -1,5 +1,5 @@
 -- What the application owes the laws of a trace, and the trace of a node with it.
-use Rattle.own_app.proofs.Prelude.{All, All-append, All-cons, All-drop, All-head, All-nil, All-tail, AppState, Bool, Event, FollowsPagesAt, IsByte, IsMessage, IsOwnStep, IsPrefixOf, IsSteady, IsU32, List, [], MayWant, Now, AbstractNode, OwnSpeaksOnLines, OwnStep, OwnTraceConforms, Happens, Writes, PlainMessage, SendsBytes, Snapshot, TraceConforms, TraceEntry, IsReadByPeer, Addr, Nothing, Send, Close, Abort, ap, append-nil, append_assoc, arith, drop, false, false≢true, has_last, if◌then◌else◌, initial_node, inl, inr, is_next_message, is_overrun, len_left, length, ltb-false, map, message_in, messages_text, nat_lt, next_ticket, numbers_of, opened_in, own_lawful, own_output_model, own_sessions, own_spec, own_trace, own_want, refl, step, subst, sym, true, with_message, with_written, write_message, ◌%◌, ◌++◌, ◌==◌, ◌||◌, ◌∙◌, ◌∷◌, ◌≡◌, ◌≤◌, ◌⊎◌, ℕ}
+use Rattle.own_app.proofs.Prelude.{All, All-append, All-cons, All-drop, All-head, All-nil, All-tail, AppState, Bool, FollowsPagesAt, IsByte, IsMessage, IsOwnStep, IsPrefixOf, IsSteady, IsU32, List, [], MayWant, Now, AbstractNode, OwnSpeaksOnLines, OwnStep, OwnTraceConforms, Happens, Writes, PlainMessage, SendsBytes, Snapshot, TraceConforms, TraceEntry, IsReadByPeer, Addr, Nothing, Send, Close, Abort, ap, append-nil, append_assoc, arith, drop, false, false≢true, has_last, if◌then◌else◌, initial_node, inl, inr, is_next_message, is_overrun, len_left, length, ltb-false, map, message_in, messages_text, nat_lt, next_ticket, opened_in, own_lawful, own_output_model, own_sessions, own_spec, own_trace, own_want, refl, step, subst, sym, true, with_message, with_written, write_message, ◌%◌, ◌++◌, ◌==◌, ◌||◌, ◌∙◌, ◌∷◌, ◌≡◌, ◌≤◌, ◌⊎◌, ℕ}
 use Rattle.own_app.specs.declared.TheConstants.{MOST_SILENT_POLLS}
 use Rattle.node_laws.proofs.EveryTraceConforms.{every_step}
 use Rattle.node_laws.proofs.Steps.{Changes, IsStep, LineStep, OfNode, trace_over}

@@ -1,5 +1,5 @@
 -- The states that a value represents.
-use Rattle.std.specs.Prelude.{ℕ, ◌≡◌, ◌≤◌, ◌+◌, ◌%◌, ◌==◌, ◌&&◌, not, nat_le, Bool, true, false, if◌then◌else◌, List, [], ◌++◌, drop, length}
+use Rattle.std.specs.Prelude.{ℕ, ◌≡◌, ◌≤◌, ◌+◌, ◌%◌, ◌==◌, ◌&&◌, not, nat_le, Bool, true, false, if◌then◌else◌, List, ◌++◌, drop, length}
 use Rattle.app_events.specs.Prelude.{AppState}
 use Rattle.own_app.specs.OwnSpec.{PlainMessage, bytes_taken, has_last, is_overrun, messages_text, pending}
 use Rattle.own_app.specs.declared.TheConstants.{RECEIVED_ROOM}

@@ -36,7 +36,7 @@ impl OwnApp {
     ghost use Rattle.own_app.specs.OwnRepresents.{OwnRepresents, after_capture, after_input, is_due, message_of, state_of};
 
     /// Returns the value of a connection with this ticket, which received nothing.
-    fn new(ticket: u32) -> OwnApp
+    pub(crate) fn new(ticket: u32) -> OwnApp
         ensures { (port : ℕ) → OwnRepresents result (fresh_part port ticket) }
     {
         OwnApp {
@@ -52,7 +52,7 @@ impl OwnApp {
     }
 
     /// Returns whether a message is the next of this connection, and may be captured.
-    fn may_capture(&self, message: &Message) -> bool
+    pub(crate) fn may_capture(&self, message: &Message) -> bool
         ensures due { result ≡ is_due (state_of self.now) (message_of message.now) }
         ensures bytes { All IsByte message.now.text.items }
     {
@@ -66,7 +66,7 @@ impl OwnApp {
     }
 
     /// Captures a message.
-    fn capture(&mut self, message: &Message)
+    pub(crate) fn capture(&mut self, message: &Message)
         requires due { is_due (state_of self.old) (message_of message.now) ≡ true }
         ensures { state_of self.new ≡ after_capture (state_of self.old) (message_of message.now) }
     {
@@ -79,7 +79,7 @@ impl OwnApp {
     }
 
     /// Stores the next bytes from the peer, or marks that they are too many.
-    fn store(&mut self, piece: &[u8])
+    pub(crate) fn store(&mut self, piece: &[u8])
         ensures { state_of self.new ≡ after_input (state_of self.old) piece.now }
     {
         self.polls = 0;

@@ -25,7 +25,7 @@ pub(crate) fn copy_from(text: &[u8], at: usize, out: &mut [u8])
     out.copy_from_slice(&text[at..end]);
 }
 
-/// Returns an offset in a text, so many bytes on.
+/// Returns the offset in a text after a number of further bytes.
 pub(crate) fn advanced(text: &[u8], at: usize, count: usize) -> usize
     requires { at + count ≤ length text.now }
     ensures { result ≡ at + count }

@@ -1,5 +1,9 @@
 //! What all connections share: how many were opened, and the newest message of the program.
 
+ghost use Rattle.std.specs.Prelude.{◌≡◌};
+ghost use Rattle.own_app.specs.OwnRepresents.{message_of};
+ghost use Rattle.own_app.specs.OwnSpec.{no_message};
+
 use crate::MESSAGE_ROOM;
 use arrayvec::ArrayVec;
 
@@ -24,4 +28,23 @@ pub struct OwnShared {
     pub opened: u32,
     /// The newest message. A connection captures it if it is its own, and the next.
     pub message: Message,
+}
+
+impl OwnShared {
+    /// Returns what the connections share at first: none was opened, and no message was written.
+    pub fn first() -> OwnShared
+        ensures opened { result.opened ≡ 0 }
+        ensures none { message_of result.message ≡ no_message }
+    {
+        OwnShared {
+            opened: 0,
+            message: Message {
+                to: 0,
+                number: 0,
+                taken: 0,
+                last: false,
+                text: ArrayVec::new(),
+            },
+        }
+    }
 }

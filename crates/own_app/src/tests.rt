@@ -1,89 +1,70 @@
-//! A connection of the application, event by event, against texts worked by hand.
+//! What a connection stores and captures, worked by hand.
 
-use crate::{MESSAGE_ROOM, MODBUS_PORT, Message, OWN_PORT, OwnApp, OwnShared, RECEIVED_ROOM};
-use app_events::{App, Now, Row, RowList, Want};
+use crate::{MESSAGE_ROOM, MODBUS_PORT, Message, OWN_PORT, OwnApp, RECEIVED_ROOM};
+use app_events::App;
 use arrayvec::ArrayVec;
 use std::mem::size_of;
 use uip_wire::Port;
 
 /// Returns a message for a connection.
-fn message_to(to: u32, number: u32, taken: u32, last: bool, bytes: &[u8]) -> Message {
+fn message_to(to: u32, number: u32, taken: u32, bytes: &[u8]) -> Message {
     let mut text: ArrayVec<u8, MESSAGE_ROOM> = ArrayVec::new();
     let _fits = text.try_extend_from_slice(bytes);
     Message {
         to,
         number,
         taken,
-        last,
+        last: false,
         text,
     }
 }
 
-fn idle_now() -> Now {
-    Now {
-        ticks: 0,
-        net: [0; 20],
-        rows: RowList {
-            list: ArrayVec::<Row, 10>::new(),
-        },
+/// Captures a message if the connection may. Returns whether it did.
+fn try_capture(app: &mut OwnApp, message: &Message) -> bool {
+    if app.may_capture(message) {
+        app.capture(message);
+        return true;
     }
-}
-
-/// Returns a connection that has just opened, and what the connections share.
-fn opened() -> (OwnApp, OwnShared) {
-    let mut shared = OwnShared {
-        opened: 0,
-        message: message_to(0, 0, 0, false, b""),
-    };
-    let mut app = OwnApp::idle();
-    app.connected(&mut shared, Port(OWN_PORT));
-    (app, shared)
+    false
 }
 
 #[test]
 fn a_line_is_answered_once(rt: HostRuntime) {
-    let (mut app, mut shared) = opened();
-    app.newdata(&mut shared, b"get\nset");
-    shared.message = message_to(1, 0, 4, false, b"42\n");
-    assert!(rt; app.is_due(&shared));
-    app.prepare(&shared, &idle_now());
-    assert!(rt; !app.is_due(&shared));
+    let mut app = OwnApp::new(1);
+    app.store(b"get\nset");
+    let reply = message_to(1, 0, 4, b"42\n");
+    assert!(rt; try_capture(&mut app, &reply));
     assert_eq!(rt; app.received.as_slice(), b"set".as_slice());
-    assert!(rt; matches!(app.want(&shared), Want::Send(3)));
-    let mut out = [0; 3];
-    app.fill(&shared, &mut out);
-    assert_eq!(rt; out, *b"42\n");
-    app.acked(&mut shared, 3);
-    assert!(rt; matches!(app.want(&shared), Want::Nothing));
-    shared.message = message_to(1, 1, 3, true, b"");
-    app.prepare(&shared, &idle_now());
-    assert!(rt; matches!(app.want(&shared), Want::Close));
+    assert_eq!(rt; app.sending.as_slice(), b"42\n".as_slice());
+    assert!(rt; !try_capture(&mut app, &reply));
 }
 
 #[test]
-fn a_message_waits_for_its_turn(rt: HostRuntime) {
-    let (mut app, mut shared) = opened();
-    shared.message = message_to(2, 0, 0, false, b"x");
-    assert!(rt; !app.is_due(&shared));
-    shared.message = message_to(1, 1, 0, false, b"x");
-    assert!(rt; !app.is_due(&shared));
-    shared.message = message_to(1, 0, 1, false, b"x");
-    assert!(rt; !app.is_due(&shared));
-    shared.message = message_to(1, 0, 0, false, b"x");
-    app.prepare(&shared, &idle_now());
-    shared.message = message_to(1, 1, 0, false, b"y");
-    assert!(rt; !app.is_due(&shared));
-    app.acked(&mut shared, 1);
-    assert!(rt; app.is_due(&shared));
+fn a_message_has_its_ticket_number_and_bytes(rt: HostRuntime) {
+    let mut app = OwnApp::new(1);
+    assert!(rt; !try_capture(&mut app, &message_to(2, 0, 0, b"x")));
+    assert!(rt; !try_capture(&mut app, &message_to(1, 1, 0, b"x")));
+    assert!(rt; !try_capture(&mut app, &message_to(1, 0, 1, b"x")));
+    assert!(rt; try_capture(&mut app, &message_to(1, 0, 0, b"x")));
 }
 
 #[test]
-fn too_many_bytes_give_the_connection_up(rt: HostRuntime) {
-    let (mut app, mut shared) = opened();
-    app.newdata(&mut shared, &[0x61; RECEIVED_ROOM]);
-    assert!(rt; matches!(app.want(&shared), Want::Nothing));
-    app.newdata(&mut shared, b"b");
-    assert!(rt; matches!(app.want(&shared), Want::Abort));
+fn a_message_waits_for_the_acknowledgement(rt: HostRuntime) {
+    let mut app = OwnApp::new(1);
+    assert!(rt; try_capture(&mut app, &message_to(1, 0, 0, b"x")));
+    assert!(rt; !try_capture(&mut app, &message_to(1, 1, 0, b"y")));
+    app.at = 1;
+    assert!(rt; try_capture(&mut app, &message_to(1, 1, 0, b"y")));
+}
+
+#[test]
+fn one_byte_too_many_overruns(rt: HostRuntime) {
+    let mut app = OwnApp::new(1);
+    app.store(&[0x61; RECEIVED_ROOM]);
+    assert!(rt; !app.overrun);
+    app.store(b"b");
+    assert!(rt; app.overrun);
+    assert!(rt; !try_capture(&mut app, &message_to(1, 0, 0, b"x")));
 }
 
 #[test]

@@ -1,4 +1,4 @@
-use Rattle.own_app.proofs.Prelude.{AppState, Bool, ap, if◌then◌else◌, message_of, numbers_of, state_of, sym, with_message, ◌∙◌}
+use Rattle.own_app.proofs.Prelude.{Bool, ap, if◌then◌else◌, message_of, numbers_of, state_of, sym, with_message, ◌∙◌}
 use Rattle.own_app.proofs.CaptureLaws.{is_next_by_value}
 use Rattle.own_app.proofs.app.OwnAppApp.is_due.Goals as goal
 
