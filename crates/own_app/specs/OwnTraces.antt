@@ -36,6 +36,7 @@ own_trace served (Writes message ∷ steps) n = own_trace served steps (with_wri
 -- Whatever events come, and whatever is written between them: the trace conforms, and each segment is read by its peer.
 abbrev pub OwnTraceConforms : Type 0
 OwnTraceConforms =
-    (served : ℕ → Bool) (own : Addr) → IsAddr own → (numbers : List ℕ) → All IsU32 numbers → (steps : List OwnStep) → All (IsOwnStep own) steps
+    (served : ℕ → Bool) (own : Addr) → IsAddr own → (numbers : List ℕ) → All IsU32 numbers
+    → (steps : List OwnStep) → All (IsOwnStep own) steps
     → TraceConforms own_output_model served (own_trace served steps (initial_node own numbers))
     × All (IsReadByPeer own) (own_trace served steps (initial_node own numbers))
