@@ -65,15 +65,15 @@ examples() {
     put tools tools/pack.py
     put examples/site examples/site/*
     put examples/common examples/board/main.c examples/board/state.c examples/board/board.h examples/board/ring.h examples/board/ring.c \
-        examples/board/runtime.c examples/board/site.S examples/board/link.ld examples/heap.c ports/boards/start.h
+        examples/board/runtime.c examples/board/site.S examples/board/link.ld examples/heap.c examples/step.c ports/boards/start.h
     put examples/m4 ports/archive/m4/Makefile ports/boards/mps2.c
     put examples/rv32 ports/archive/rv32/Makefile ports/boards/riscv.c
-    put examples/linux ports/archive/linux/Makefile examples/linux-c/serve.c examples/linux-c/heap.c
+    put examples/linux ports/archive/linux/Makefile examples/linux-c/serve.c examples/linux-c/heap.c examples/linux-ether/tap.c
 }
 
 documents() {
     sed "s|@VERSION@|$version|" ports/archive/README.md.in >"$made/README.md" || fail "no README.md"
-    put docs docs/FORMATS.md docs/LIMITS.md
+    put docs docs/FIRMWARE.md docs/FORMATS.md docs/LIMITS.md
     cp ports/README.md "$made/docs/PORTS.md" || fail "no ports/README.md"
     put_if . CHANGELOG.md
     for file in LICENSE LICENSE-*; do put_if . "$file"; done

@@ -1,5 +1,6 @@
-# find_package(uip_c CONFIG) defines the target uip_c::uip_c. In the archive of a release set UIP_C_TARGET (x86_64 if it is not set) to the
-# folder of lib/ with the library: x86_64, aarch64, aarch64-small, m0, m4, m7, m33, rv32, rv64. After `make install` there is one library.
+# find_package(uip_c CONFIG) defines the targets uip_c::uip_c and uip_c::uip_c_ether. The second is the library with the calls for Ethernet. In
+# the archive of a release set UIP_C_TARGET (x86_64 if it is not set) to the folder of lib/ with the library: x86_64, aarch64, aarch64-small,
+# m0, m4, m7, m33, rv32, rv64, wasm. After `make install`, and for x86_64 and aarch64, there is one library with all calls: both are that one.
 if(TARGET uip_c::uip_c)
     return()
 endif()
@@ -11,11 +12,16 @@ set(uip_c_library "${uip_c_prefix}/lib/${UIP_C_TARGET}/libuip_c.a")
 if(NOT EXISTS "${uip_c_library}")
     set(uip_c_library "${uip_c_prefix}/lib/libuip_c.a")
 endif()
+set(uip_c_ether_library "${uip_c_prefix}/lib/${UIP_C_TARGET}/libuip_c_ether.a")
+if(NOT EXISTS "${uip_c_ether_library}")
+    set(uip_c_ether_library "${uip_c_library}")
+endif()
 if(EXISTS "${uip_c_library}")
     add_library(uip_c::uip_c STATIC IMPORTED)
-    set_target_properties(uip_c::uip_c PROPERTIES
-        IMPORTED_LOCATION "${uip_c_library}"
-        INTERFACE_INCLUDE_DIRECTORIES "${uip_c_prefix}/include")
+    add_library(uip_c::uip_c_ether STATIC IMPORTED)
+    set_target_properties(uip_c::uip_c uip_c::uip_c_ether PROPERTIES INTERFACE_INCLUDE_DIRECTORIES "${uip_c_prefix}/include")
+    set_target_properties(uip_c::uip_c PROPERTIES IMPORTED_LOCATION "${uip_c_library}")
+    set_target_properties(uip_c::uip_c_ether PROPERTIES IMPORTED_LOCATION "${uip_c_ether_library}")
 else()
     set(uip_c_FOUND FALSE)
     set(uip_c_NOT_FOUND_MESSAGE "no library for UIP_C_TARGET ${UIP_C_TARGET} in ${uip_c_prefix}/lib")

@@ -66,6 +66,7 @@ HELD = 0.1         # seconds for which a datagram is held that is to be reordere
 LINK_TYPES = {False: 101, True: 1}    # of a capture file: raw IP, and Ethernet
 # The exit statuses of uipd (docs/uipd.1).
 STATUSES = {
+    0: "the line ended",
     1: "the command line is unknown",
     2: "a file could not be read, or does not exist",
     3: "reading the line failed",
@@ -316,12 +317,12 @@ def machine_words(machine, firmware):
 def emulate(firmware, further, machine=MACHINE):
     """A board by qemu, with both ends of its serial line and the end of its monitor."""
     line, port = socket.socketpair()
-    monitor, talk = socket.socketpair()
+    monitor, monitor_end = socket.socketpair()
     words = [*machine_words(machine, firmware), "-nic", "none", "-display", "none", *further,
              "-chardev", f"socket,id=line,fd={port.fileno()}", "-serial", "chardev:line",
-             "-chardev", f"socket,id=talk,fd={talk.fileno()}", "-mon", "chardev=talk"]
-    board = subprocess.Popen(words, pass_fds=[port.fileno(), talk.fileno()])
-    talk.close()
+             "-chardev", f"socket,id=monitor_end,fd={monitor_end.fileno()}", "-mon", "chardev=monitor_end"]
+    board = subprocess.Popen(words, pass_fds=[port.fileno(), monitor_end.fileno()])
+    monitor_end.close()
     return board, line.detach(), port.detach(), monitor
 
 

@@ -78,10 +78,10 @@ def words(trial):
 
 
 def statuses(trial):
-    """The words of the nine statuses are those of the manual page."""
+    """Each status of the manual page has words."""
     with open(os.path.join(HERE, "../docs/uipd.1"), encoding="utf8") as file:
         listed = re.findall(r"^\.B (\d)$", file.read().partition(".SH EXIT STATUS")[2], re.M)
-    trial.see(listed == ["0", *map(str, browse.STATUSES)], f"the manual page lists the statuses {listed}")
+    trial.see(listed == list(map(str, browse.STATUSES)), f"the manual page lists the statuses {listed}")
 
 
 def records_of(path):

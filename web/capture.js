@@ -23,7 +23,7 @@ export class Capture {
     if (this.#size > this.room) this.#dropHalf();
   }
 
-  // The older half goes when the room is full, so that a long talk does not take ever more memory.
+  // The older half goes when the room is full, so that a long session does not take ever more memory.
   #dropHalf() {
     const count = Math.ceil(this.#records.length / 2);
     for (const record of this.#records.splice(0, count)) this.#size -= record.length;

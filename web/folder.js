@@ -17,11 +17,14 @@ async function bytesOf(name) {
   return new Uint8Array(await reply.arrayBuffer());
 }
 
-// The image of the site as it is now, with its stamp.
-export async function imageOfFolder() {
+// The site as it is now: { stamp, image }, where `image` packs it, or fails.
+export async function siteOfFolder() {
   const { names, isImage, stamp } = await list();
-  if (isImage) return { stamp, image: await bytesOf(names[0]) };
-  return { stamp, image: pack(await Promise.all(names.map(async name => ({ name: `/${name}`, bytes: await bytesOf(name) })))) };
+  const image = async () => {
+    if (isImage) return bytesOf(names[0]);
+    return pack(await Promise.all(names.map(async name => ({ name: `/${name}`, bytes: await bytesOf(name) }))));
+  };
+  return { stamp, image };
 }
 
 // Calls `changed` once the stamp is another one; returns how to stop.

@@ -1,4 +1,4 @@
-// A host that talks to one node: it pings (RFC 792), and opens TCP connections (RFC 793 section 3.4) from ports of its own,
+// A host with one node at the other end of its line: it pings (RFC 792), and opens TCP connections (RFC 793 section 3.4) from ports of its own,
 // as a browser's system would. It gets each datagram by `receive` and sends each by `send`.
 import { Clock } from "./clock.js";
 import { Connection, EMPTY, plus, random32 } from "./connection.js";

@@ -6,7 +6,7 @@ import { bridge } from "./line.js";
 import { nodeInside } from "./inside.js";
 import { serverByUipsRules } from "./uip_rules.js";
 import { imageOf, unpack, valuesOf, warningsOf } from "./site.js";
-import { imageOfFolder, watchFolder } from "./folder.js";
+import { siteOfFolder, watchFolder } from "./folder.js";
 import { idOf, lastPort, openPort, portFault, segmentAt } from "./port.js";
 import { WorkerFrame } from "./frame.js";
 import { PlainFrame } from "./plain.js";
@@ -21,7 +21,7 @@ import { resultOf, verdictOf } from "./verdict.js";
 
 const $ = id => document.getElementById(id);
 const FAULTS = ["loss", "duplication", "reordering", "corruption", "delay"], KEPT = ["baud", "address", "fill", "apart"];
-const NOTICES = 30, DRAWN = 1000;
+const NOTICES = 30, DRAWN = 1000, OF_LINE = ["noise", "different", "wait", "wrong"];   // kinds of session.js
 const CHANGED = "the site has changed";   // the word of web/serve.py, which has packed it again
 const INSIDE = "the device inside this page";
 const meta = name => JSON.parse(document.querySelector(`meta[name=${name}]`)?.content ?? "null");
@@ -54,6 +54,13 @@ function notice(words, kind = words) {
   countNotices();
 }
 
+// The messages about a line that is over.
+function forgetLine() {
+  for (const it of [...$("notices").children]) if (OF_LINE.includes(it.dataset.kind)) it.remove();
+  countNotices();
+  showResult("", "");
+}
+
 function countNotices() {
   const count = $("notices").children.length;
   $("messages").hidden = !count;
@@ -67,8 +74,8 @@ function showResult(words, kind) {
 }
 
 // Runs what a click asks for; if it fails, the reason is a message.
-async function guard(deed) {
-  try { return await deed(); } catch (error) { notice(error.message); }
+async function guard(action) {
+  try { return await action(); } catch (error) { notice(error.message); }
 }
 
 function show(words, kind) {
@@ -115,6 +122,7 @@ function begin(line, { rate = 0, fill = false, first = "/", kind = "good", ...op
   session.rate = rate;
   $("fill").checked = fill;
   apply();
+  forgetLine();
   verdicts.clear();
   show(`connected: ${options.name}`, kind);
   for (const button of document.querySelectorAll("[data-needs-line]")) button.disabled = false;
@@ -202,11 +210,15 @@ async function openOwn(items) {
   return openInside(await imageOf(items), { name: `${INSIDE}, with your own site` });
 }
 
-// The folder of web/serve.py, packed here, and again whenever a file of it changes.
+// The folder of web/serve.py, packed here, and again whenever a file of it changes, even if it could not be packed.
 async function openFolder(first = "/") {
-  const { image, stamp } = await imageOfFolder();
-  await openInside(image, { name: `${INSIDE}, with ${folder.name}`, first });
-  stopBeside = watchFolder(stamp, () => guard(() => openFolder(target)));
+  const { image, stamp } = await siteOfFolder();
+  try {
+    await openInside(await image(), { name: `${INSIDE}, with ${folder.name}`, first });
+  } finally {
+    stopBeside();
+    stopBeside = watchFolder(stamp, () => guard(() => openFolder(target)));
+  }
 }
 
 const openRules = () => openBy(() => {
@@ -368,7 +380,7 @@ async function tourEnd() {
 const panel = new DevicePanel($("panel"), guard);
 const tour = new Tour($("tour"), [tourPage, tourLoss, tourRules, tourEnd]);
 
-const DEEDS = {
+const ACTIONS = {
   "open-inside": tryHere, "open-sensor": openSensor, "open-own": () => $("own-site").click(), "open-image": () => $("own-image").click(),
   "open-port": () => openSerial(null),
   "open-bridge": () => openBridge(), close: disconnect, reload: () => frame().reload(), back: () => frame().back(), ping, many: fetchMany,
@@ -391,8 +403,20 @@ function takeDrops() {
   });
 }
 
+// The menu closes by Escape, and if something else gets the pointer or the focus.
+function takeMenu() {
+  const menu = document.querySelector(".menu"), close = () => { menu.open = false; };
+  menu.addEventListener("keydown", event => {
+    if (event.key !== "Escape") return;
+    close();
+    menu.querySelector("summary").focus();
+  });
+  addEventListener("pointerdown", event => { if (!menu.contains(event.target)) close(); });
+  addEventListener("focusin", event => { if (!menu.contains(event.target)) close(); });
+}
+
 function takeEvents() {
-  for (const [id, deed] of Object.entries(DEEDS)) $(id).addEventListener("click", () => guard(deed));
+  for (const [id, action] of Object.entries(ACTIONS)) $(id).addEventListener("click", () => guard(action));
   $("go").addEventListener("submit", event => { event.preventDefault(); guard(visitTyped); });
   $("report").addEventListener("change", () => guard(drawReport));
   for (const id of ["own-site", "own-image"])
@@ -410,6 +434,7 @@ function takeEvents() {
   addEventListener("hashchange", () => { if (location.hash === "#try") guard(tryHere); });
   $("start").querySelectorAll("button").forEach(it => { it.type = "button"; });
   takeDrops();
+  takeMenu();
 }
 
 // Links to files of the repository, if this page comes from it. web/serve.py lists those that it has.

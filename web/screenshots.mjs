@@ -21,13 +21,13 @@ const step = async tab => {
   await tab.until(`!document.querySelector("[data-tour=go]").disabled`, 120);
 };
 
-async function shot(browser, server, name, { size = WIDE, hash = "", isDark = false }, deeds) {
+async function shot(browser, server, name, { size = WIDE, hash = "", isDark = false }, prepare) {
   const tab = await browser.open("about:blank");
   await tab.size(...size);
   await tab.call("Emulation.setEmulatedMedia", { features: [{ name: "prefers-color-scheme", value: isDark ? "dark" : "light" }] });
   await tab.call("Page.navigate", { url: `${server.url}${hash}` });
   await tab.until(READY);
-  await deeds(tab);
+  await prepare(tab);
   await sleep(600);
   await tab.picture(join(folder, name));
   console.log(join(folder, name));

@@ -7,7 +7,7 @@ import { isAfter, plus } from "./connection.js";
 const NAMES = [[SYN, "S"], [ACK, "A"], [PSH, "P"], [FIN, "F"], [RST, "R"]];
 const LONG_NAMES = { S: "SYN", A: "ACK", P: "PSH", F: "FIN", R: "RST" };
 const ECHO = { 0: "reply", 8: "echo" };
-const KEPT = 65536, TALKS = 64;
+const KEPT = 65536, REMEMBERED = 64;
 const UNKNOWN = -1, END = 256, START = 257;   // what a number has beside bytes: nothing yet, a FIN, a SYN
 
 // One direction of a connection: the byte of each of its last numbers.
@@ -67,7 +67,7 @@ class Flow {
 export class Sequence {
   #count = 0;
   #clients = 0;
-  #talks = new Map();   // by ports: { client, to, from }, its number and its two flows
+  #connections = new Map();   // by ports: { client, to, from }, its number and its two flows
 
   // The row of a datagram: { number, who, flags, seq, len, isAgain, otherAt }, and `bad` where a check fails. Numbers of
   // bytes are counted from the connection's first.
@@ -76,27 +76,27 @@ export class Sequence {
     const { bad, echo, segment } = read(datagram);
     if (bad) return { ...row, who: isToNode ? "p" : "n0", flags: bad.replace(" ", "-"), bad };
     if (echo) return { ...row, who: isToNode ? "p" : "n0", flags: ECHO[echo.type] ?? `icmp-${echo.type}` };
-    const talk = this.#talkOf(segment, isToNode), flow = isToNode ? talk.to : talk.from;
+    const connection = this.#connectionOf(segment, isToNode), flow = isToNode ? connection.to : connection.from;
     const names = NAMES.filter(([bit]) => segment.flags & bit).map(([, name]) => name);
     return {
-      ...row, ...flow.take(segment), who: `${isToNode ? "c" : "n"}${talk.client}`, flags: names.join("") || "-",
+      ...row, ...flow.take(segment), who: `${isToNode ? "c" : "n"}${connection.client}`, flags: names.join("") || "-",
       seq: plus(segment.seq, -flow.first), len: segment.text.length,
     };
   }
 
   // A SYN of ours with another first number begins another connection.
-  #talkOf({ fromPort, toPort, seq, flags }, isToNode) {
+  #connectionOf({ fromPort, toPort, seq, flags }, isToNode) {
     const ports = isToNode ? `${fromPort} ${toPort}` : `${toPort} ${fromPort}`, side = isToNode ? "to" : "from";
-    let talk = this.#talks.get(ports);
-    const isAnew = !!(flags & SYN) && talk?.[side]?.first !== seq;
-    if (!talk || isAnew && isToNode) {
-      talk = { client: ++this.#clients, to: null, from: null };
-      this.#talks.delete(ports);
-      this.#talks.set(ports, talk);
-      if (this.#talks.size > TALKS) this.#talks.delete(this.#talks.keys().next().value);
+    let connection = this.#connections.get(ports);
+    const isAnew = !!(flags & SYN) && connection?.[side]?.first !== seq;
+    if (!connection || isAnew && isToNode) {
+      connection = { client: ++this.#clients, to: null, from: null };
+      this.#connections.delete(ports);
+      this.#connections.set(ports, connection);
+      if (this.#connections.size > REMEMBERED) this.#connections.delete(this.#connections.keys().next().value);
     }
-    if (isAnew || !talk[side]) talk[side] = new Flow(seq);
-    return talk;
+    if (isAnew || !connection[side]) connection[side] = new Flow(seq);
+    return connection;
   }
 }
 

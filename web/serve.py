@@ -55,18 +55,6 @@ BINARY, CLOSE, PING, PONG = 2, 8, 9, 10
 LONGEST = 1 << 20
 CHANGED = "the site has changed"                  # page.js knows this word
 FAULT = 1011                                      # RFC 6455 section 7.4.1
-STATUSES = {   # docs/uipd.1, EXIT STATUS
-    0: "the line ended",
-    1: "the command line is unknown",
-    2: "a file cannot be read or does not exist",
-    3: "reading the line failed",
-    4: "writing failed",
-    5: "it took the number of items that it was given",
-    6: "the image is bad",
-    7: "the schedule is bad",
-    8: "out of memory",
-    9: "the capture file is bad",
-}
 
 
 def fail(text):
@@ -77,7 +65,7 @@ def status_words(status):
     """An exit status of uipd in words."""
     if status < 0:
         return f"the program was ended by {signal.Signals(-status).name}"
-    return f"the program ended with status {status}" + (f": {STATUSES[status]}" if status in STATUSES else "")
+    return f"the program ended with status {status}" + (f": {browse.STATUSES[status]}" if status in browse.STATUSES else "")
 
 
 def names_in(folder):
@@ -450,7 +438,7 @@ class Words:
             return Board(self.board)
         if self.command:
             return Program(" ".join(self.command), self.command, False)
-        self.has_to_exist(self.uipd, "no program at {}: `rt run` in crates/uipd builds it")
+        self.has_to_exist(self.uipd, "no folder, image or program at {}; `rt run` in crates/uipd builds uipd")
         self.has_to_exist(self.site, "no image and no folder at {}")
         return Watched(f"{os.path.basename(self.uipd)} serve {os.path.basename(os.path.abspath(self.site))}", self.uipd, self.site)
 
@@ -477,7 +465,8 @@ def main():
     if not Handler.node and not words.inside:
         print(f"At {url}#try it starts at once.", flush=True)
     if words.is_opened:
-        webbrowser.open(url if Handler.node or words.inside or words.is_alone else f"{url}#try")
+        address = url if Handler.node or words.inside or words.is_alone else f"{url}#try"
+        threading.Thread(target=webbrowser.open, args=(address,), daemon=True).start()   # some browsers end only when they are closed
     signal.signal(signal.SIGTERM, lambda *_: sys.exit(0))   # what it started ends with it
     try:
         server.serve_forever()

@@ -16,7 +16,7 @@ export function pack(files) {
   if (files.length > MOST_FILES) throw new Error(`a site has ${MOST_FILES} files at most, and these are ${files.length}`);
   const parts = [ascii(MAGIC), [files.length >> 8, files.length & 255]];
   for (const { name, bytes } of files) {
-    if (!/^\/[!->@-~]{0,63}$/.test(name)) throw new Error(`no name for a file of a site: ${name}`);
+    if (!/^\/[!->@-~]{0,63}$/.test(name)) throw new Error(`"${name}" is no name for a file of a site: at most 64 ASCII characters, no space, no "?"`);
     const length = bytes.length, type = typeOf(name);
     parts.push([name.length], ascii(name), [type.length], ascii(type));
     parts.push([length >>> 24, length >> 16 & 255, length >> 8 & 255, length & 255], bytes);
@@ -58,9 +58,11 @@ export function valuesOf(files) {
 // The functions of a script, each with the number of words that it takes.
 const FUNCTIONS = new Map([["file-stats", 1], ["tcp-connections", 0], ["net-stats", 0], ["ticks", 0], ["value", 1], ["value-json", 1], ["value-html", 1]]);
 
-// What has no effect in a site's scripts, in words.
+// What does not work in a site, in words: a path that has no file, and what has no effect in a script.
 export function warningsOf(files) {
-  const warnings = [];
+  const warnings = [], inFolder = files.find(({ name }) => /.\/index\.html$/.test(name))?.name;
+  if (!files.some(({ name }) => name === "/index.html")) warnings.push("there is no /index.html, so the path / has no page");
+  if (inFolder) warnings.push(`${inFolder}: the path ${inFolder.slice(0, -"index.html".length)} does not lead to it, so a link has to name the file`);
   for (const { name, bytes } of files) {
     const text = new TextDecoder("latin1").decode(bytes), isScript = name.endsWith(".shtml");
     if (/\.html?$/.test(name) && text.includes("%!")) warnings.push(`${name}: only in a file whose name ends in .shtml is %! a directive`);

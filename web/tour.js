@@ -1,4 +1,4 @@
-// The guided tour: three steps, each with a deed and what it showed. It knows the page by the deeds that it is given alone.
+// The guided tour: three steps, each with an action and what it showed. It knows the page by the actions that it is given alone.
 const STEPS = [
   {
     title: "Load a page",
@@ -30,9 +30,9 @@ export class Tour {
   #at = 0;
   #isBusy = false;
 
-  // `box` is the element; `deeds` has one for each step and one for the end. Each resolves to { kind, words } or nothing.
-  constructor(box, deeds) {
-    Object.assign(this, { box, deeds });
+  // `box` is the element; `actions` has one for each step and one for the end. Each resolves to { kind, words } or nothing.
+  constructor(box, actions) {
+    Object.assign(this, { box, actions });
     this.button = box.querySelector("[data-tour=go]");
     this.button.addEventListener("click", () => this.#go());
     box.querySelector("[data-tour=close]").addEventListener("click", () => { box.hidden = true; });
@@ -67,7 +67,7 @@ export class Tour {
     this.#isBusy = this.button.disabled = true;
     result.textContent = "..";
     try {
-      const { kind = "", words = "" } = await this.deeds[this.#at]() ?? {};
+      const { kind = "", words = "" } = await this.actions[this.#at]() ?? {};
       Object.assign(result.dataset, { kind });
       result.textContent = words;
       this.button.dataset.next = "yes";

@@ -36,6 +36,7 @@ compiles() {
     done
 }
 compiles "$cc" c c90 gnu90 c99 c11 c17
+"$cc" -std=c99 $strict -I"$top/include" -fsyntax-only "$top/examples/step.c" || fail "examples/step.c does not compile"
 ! command -v "$cxx" >/dev/null || compiles "$cxx" c++ c++98 c++11 c++14 c++17
 # build NAME HEAP OUTPUT WORDS: a program, with the words for its compiler.
 build() { "$cc" -O2 -Wall -Wextra -I"$top/include" $4 "$here/$1.c" "$2" "$library" -o "$here/out/$3" || fail "$3 was not built"; }

@@ -6,7 +6,7 @@
 #
 # It runs in a network namespace of its own. It needs root, /dev/net/tun, `ip` and `unshare`, ping and curl, a C compiler, and the library
 # that `rt lib` builds in crates/uip_c. What the machine does not have is skipped, with a line. CC names another compiler, LIBRARY another
-# library, and SECONDS_UP the seconds for which the program runs (20).
+# library, PROGRAM a program that is built already, and SECONDS_UP the seconds for which the program runs (20).
 case "$1" in -h|--help) sed -n '2,9s/^# \{0,1\}//p' "$0"; exit 0;; esac
 here=$(cd "$(dirname "$0")" && pwd)
 top=$(cd "$here/../.." && pwd)
@@ -22,7 +22,7 @@ skip() { echo "skipped: the C program on Ethernet, since there is no $1"; exit 0
 if [ "$1" = inside ]; then
     ip link set lo up && ip tuntap add dev tap0 mode tap || fail "no TAP interface was made"
     ip link set tap0 address 02:00:00:00:00:02 up && ip addr add 10.0.0.2/24 dev tap0 || fail "the TAP interface was not set up"
-    "$out/uip_tap" "$site" tap0 "$seconds" >"$out/told" &
+    "${PROGRAM:-$out/uip_tap}" "$site" tap0 "$seconds" >"$out/told" &
     node=$!
     trap 'kill $node 2>/dev/null' EXIT
     for _ in 1 2 3 4 5 6 7 8 9 10; do ip link show tap0 | grep -q LOWER_UP && break; sleep 0.2; done
@@ -54,15 +54,16 @@ fi
 # ---- outside of it
 
 cc=${CC:-cc}
-command -v "$cc" >/dev/null || skip "C compiler $cc"
+[ -n "$PROGRAM" ] || command -v "$cc" >/dev/null || skip "C compiler $cc"
 [ "$(id -u)" = 0 ] || skip "right to make an interface: run it as root"
 [ -c /dev/net/tun ] || skip "/dev/net/tun"
 for program in ip unshare curl; do command -v $program >/dev/null || skip "command $program"; done
 unshare -n true 2>/dev/null || skip "right to make a network namespace"
-if [ -z "$LIBRARY" ] && { [ ! -f "$library" ] || [ -n "$(find "$top/crates" -name '*.rt' -newer "$library" | head -1)" ]; }; then
+if [ -z "$LIBRARY$PROGRAM" ] && { [ ! -f "$library" ] || [ -n "$(find "$top/crates" -name '*.rt' -newer "$library" | head -1)" ]; }; then
     command -v rt >/dev/null || fail "no library of these sources at $library, and no command rt to build it"
     (cd "$top/crates/uip_c" && rt lib) >/dev/null || fail "rt lib failed in crates/uip_c"
 fi
 mkdir -p "$out"
+[ -z "$PROGRAM" ] || exec unshare -n sh "$0" inside
 "$cc" -O2 -Wall -Wextra -I"$top/include" "$here/tap.c" "$top/examples/linux-c/heap.c" "$library" -o "$out/uip_tap" || fail "tap.c was not built"
 exec unshare -n sh "$0" inside

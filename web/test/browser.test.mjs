@@ -9,7 +9,7 @@ import { join } from "node:path";
 import { PATIENCE, noChromium, startChromium } from "./chromium.mjs";
 import { serialAt, serve, startServe, startServeOfSite } from "./server.mjs";
 import { FILES, SITE, UIPD, bodyOf, dump, here, noProgram, page, startNode, startProgram, top } from "./node_process.mjs";
-import { READY, click, ends, says, set, shows } from "./tabs.mjs";
+import { READY, click, ends, hasNotice, set, shows } from "./tabs.mjs";
 
 const folder = mkdtempSync(join(tmpdir(), "browser-test-")), PICTURES = process.env.PICTURES ?? folder;
 const skip = noChromium;
@@ -27,10 +27,10 @@ async function fetched(tab, name) {
 
 // Every file in the frame, byte for byte.
 async function seesFile(tab, name) {
-  const { status, type, bytes } = await fetched(tab, name), wanted = page(name);
+  const { status, type, bytes } = await fetched(tab, name), expected = page(name);
   assert.equal(status, 200, name);
-  assert.ok(wanted.toString("latin1").includes(`Content-type: ${type}\r\n`), type);
-  assert.ok(bodyOf(wanted).equals(bytes), name);
+  assert.ok(expected.toString("latin1").includes(`Content-type: ${type}\r\n`), type);
+  assert.ok(bodyOf(expected).equals(bytes), name);
 }
 async function seesFiles(tab) {
   const nothing = fetched(tab, "/no-such-file");
@@ -68,7 +68,7 @@ async function withPort({ base = "/", node = () => startNode(), isOpened = true,
       await tab.until(shows("Lowunbisa"));
     }
     await what(tab, server);
-    assert.deepEqual(tab.said.filter(it => !/\/(no-such-file|gone-away|never)$/.test(it)), []);
+    assert.deepEqual(tab.messages.filter(it => !/\/(no-such-file|gone-away|never)$/.test(it)), []);
     assert.ok(!server.asked.some(it => FILES.some(name => it === `GET ${name}`)), "what the device has was asked of the server");
   } finally {
     await tab.call("Page.close").catch(() => {});
@@ -123,17 +123,17 @@ inBrowser("a serial port is pinged, captured, closed and opened again", () => wi
 inBrowser("each fault of a port has its message, and the page goes on", () => withPort({ isOpened: false }, async tab => {
   await tab.run(`self.chooseNone = true`);
   await click(tab, "open-port");
-  await tab.until(says("no port was chosen"));
+  await tab.until(hasNotice("no port was chosen"));
   await tab.run(`self.chooseNone = false; self.refuseOpen = true`);
   await click(tab, "open-port");
-  await tab.until(says("another program has it"));
+  await tab.until(hasNotice("another program has it"));
   await tab.run(`self.refuseOpen = false`);
   await click(tab, "open-port");
   await tab.until(shows("Lowunbisa"));
   for (const [name, words] of [["BufferOverrunError", "an overrun"], ["ParityError", "a parity error"],
     ["FramingError", "a framing error"], ["BreakError", "a break"]]) {
     await tab.run(`navigator.serial.ports.at(-1).fail(${JSON.stringify(name)})`);
-    await tab.until(says(words));
+    await tab.until(hasNotice(words));
     assert.equal((await fetched(tab, "/style.css")).status, 200);
   }
   await tab.run(`navigator.serial.ports.at(-1).fail("NetworkError")`);
@@ -148,19 +148,19 @@ inBrowser("each fault of a port has its message, and the page goes on", () => wi
 // A board that resets when its port is opened: it prints a line, and reads nothing until it has started.
 const STARTING = `printf 'boot: board 7\\r\\n'; timeout 4 cat >/dev/null; exec "$0" serve "$1" 10.0.0.1 pace 10000 tty`;
 
-inBrowser("a board that opening the port resets: it is told, and its page comes", () =>
+inBrowser("a board that opening the port resets: a message reports it, and its page comes", () =>
   withPort({ isOpened: false, node: () => startProgram(["sh", "-c", STARTING, UIPD, SITE]) }, async tab => {
     await click(tab, "open-port");
-    await tab.until(says("a board that was reset by it answers once it has started"));
-    await tab.until(says("is the device there, or still starting? sent again"));
+    await tab.until(hasNotice("a board that was reset by it answers once it has started"));
+    await tab.until(hasNotice("is the device there, or still starting? sent again"));
     await tab.until(shows("Lowunbisa"));
-    await tab.until(says("received bytes that are no datagram (ip short): a starting board"));
+    await tab.until(hasNotice("received bytes that are no datagram (ip short): a starting board"));
   }));
 
-inBrowser("a page that never comes is told, and another comes", () => withPort({}, async tab => {
+inBrowser("a message reports a page that never comes, and another comes", () => withPort({}, async tab => {
   await set(tab, { speed: 20 });
   await tab.run(`node.session.faults.loss = 1; node.visit("/never")`);
-  await tab.until(says("sent again"));
+  await tab.until(hasNotice("sent again"));
   await tab.until(`frames[0].document.body?.innerText === "the node does not answer\\n"`);
   await set(tab, { speed: 1 });
   await tab.run(`node.visit("/stats.shtml")`);
@@ -168,11 +168,11 @@ inBrowser("a page that never comes is told, and another comes", () => withPort({
   assert.equal(await tab.run(`return node.session.sums.truncated`), 1);
 }));
 
-inBrowser("an eleventh connection is told, and the page goes on", () => withPort({}, async tab => {
+inBrowser("a message reports an eleventh connection, and the page continues", () => withPort({}, async tab => {
   await tab.run(`self.held = Array.from({ length: 10 }, () => node.session.host.connect())`);
   await tab.until(`self.held.every(it => it.state === "ESTABLISHED")`);
   await tab.run(`node.visit("/stats.shtml")`);
-  await tab.until(says("the device may have no slot free (10 are open); sent again"));
+  await tab.until(hasNotice("the device may have no slot free (10 are open); sent again"));
   await tab.run(`self.held.forEach(it => it.abort())`);
   await tab.until(shows("What it counts"));
 }));
@@ -243,7 +243,7 @@ inBrowser("a node by uIP's own rules is found in the page", () =>
   withBridge(startServe("--", "python3", join(here, "by_uips_rules.py")), async tab => {
     await tab.until(`frames[0].document.body?.innerText.startsWith("This text was made 1 times.")`);
     await set(tab, { loss: 40, speed: 4 });
-    for (let n = 0; n < 40 && !await tab.run(`return ${says("a retransmission with different bytes")}`); n++)
+    for (let n = 0; n < 40 && !await tab.run(`return ${hasNotice("a retransmission with different bytes")}`); n++)
       await tab.run(`await node.session.whole("/").catch(() => {})`);
     await tab.until(`[...document.querySelectorAll("#rows .other")].some(it => it.innerText.includes("DIFFERENT at"))`);
     assert.ok(await tab.run(`return node.session.sums.different`) > 0);
@@ -289,7 +289,7 @@ inBrowser("the page is used by the keyboard, has labels, and fits 390 and 360 pi
   await tab.picture(join(PICTURES, "narrow.png"));
 }));
 
-inBrowser("scripts are kept apart where that is wanted", () => withPort({}, async tab => {
+inBrowser("scripts are kept apart on request", () => withPort({}, async tab => {
   await tab.run(`document.getElementById("apart").click()`);
   await tab.until(`document.getElementById("frame").srcdoc.includes("data:image/png")`);
   assert.equal(await tab.run(`return document.getElementById("frame").getAttribute("sandbox")`), "allow-scripts");
@@ -303,7 +303,7 @@ inBrowser("the page as one file: every file, what a page names, links, and a scr
   const file = join(folder, "node.html"), script = join(folder, "own.html"), site = join(folder, "own.img");
   execFileSync("python3", [join(here, "../one_file.py"), file]);
   writeFileSync(script, `<title>own</title><a id="link" style="position:fixed;inset:0" href="/style.css">x</a>
-<script>fetch("/style.css").then(it => it.text()).then(text => parent.postMessage({ told: text }, "*"))</script>`);
+<script>fetch("/style.css").then(it => it.text()).then(text => parent.postMessage({ fetched: text }, "*"))</script>`);
   const names = [`/own.html=${script}`, ...FILES.map(name => `${name}=${join(top, "examples/site", name)}`)];
   writeFileSync(site, execFileSync(UIPD, ["pack", ...names]));
   const server = await serve({ node: () => startNode({ site }) }), tab = await browser.open(`file://${file}`, serialAt(server.origin));
@@ -319,9 +319,9 @@ inBrowser("the page as one file: every file, what a page names, links, and a scr
       assert.ok(bodyOf(page(name)).equals(Buffer.from(text, "base64")), name);
     }
     await tab.picture(join(PICTURES, "one-file.png"));
-    await tab.run(`addEventListener("message", ({ data }) => { if (data.told) self.told = data.told }); node.visit("/own.html")`);
-    await tab.until(`self.told`);
-    assert.equal(await tab.run(`return self.told`), readFileSync(join(top, "examples/site/style.css")).toString());
+    await tab.run(`addEventListener("message", ({ data }) => { if (data.fetched) self.fetched = data.fetched }); node.visit("/own.html")`);
+    await tab.until(`self.fetched`);
+    assert.equal(await tab.run(`return self.fetched`), readFileSync(join(top, "examples/site/style.css")).toString());
     await tab.run(`   // of another window than the frame: it means nothing
       postMessage({ visit: "/404.html" }, "*");
       for (let n = 0; n < 5; n++) await node.session.whole("/style.css");
@@ -331,14 +331,14 @@ inBrowser("the page as one file: every file, what a page names, links, and a scr
     for (const type of ["mousePressed", "mouseReleased"])
       await tab.call("Input.dispatchMouseEvent", { type, x, y, button: "left", clickCount: 1 });
     await tab.until(`document.getElementById("target").value === "/style.css"`, 10);
-    assert.deepEqual(tab.said, []);
+    assert.deepEqual(tab.messages, []);
   } finally {
     await tab.call("Page.close").catch(() => {});
     server.stop();
   }
 });
 
-inBrowser("a serial port behind the bridge: one page has it at a time, and it is told when it goes away", async () => {
+inBrowser("a serial port at the bridge: one page has it at a time, and it is reported when it goes away", async () => {
   const words = [join(here, "on_terminal.py"), "--port", UIPD, "serve", SITE, "10.0.0.1", "pace", "5760", "tty"];
   const port = spawn("python3", words, { stdio: ["pipe", "pipe", "inherit"] });
   const name = await new Promise(resolve => port.stdout.once("data", text => resolve(`${text}`.trim())));

@@ -29,8 +29,8 @@ def datagram(ours, theirs, ports, seq, ack, flags, text):
     head = struct.pack("!HHIIBBHHH", *ports, seq % 2**32, ack % 2**32, 0x50, flags, 1460, 0, 0) + text
     total = checksum(ours + theirs + struct.pack("!HH", 6, len(head)) + head)
     head = head[:16] + struct.pack("!H", total) + head[18:]
-    front = struct.pack("!BBHHHBBH", 0x45, 0, 20 + len(head), 0, 0, 64, 6, 0) + ours + theirs
-    return front[:10] + struct.pack("!H", checksum(front)) + front[12:] + head
+    header = struct.pack("!BBHHHBBH", 0x45, 0, 20 + len(head), 0, 0, 64, 6, 0) + ours + theirs
+    return header[:10] + struct.pack("!H", checksum(header)) + header[12:] + head
 
 
 def write(data):
@@ -39,14 +39,14 @@ def write(data):
 
 
 class Connection:
-    """What is kept of a connection: its numbers and its place in the talk, and not a byte of what was sent."""
+    """What is kept of a connection: its numbers and its place in the dialogue, and not a byte of what was sent."""
     next_place = {"syn": "request", "page": "end", "end": "over"}
 
-    def __init__(self, front, seq):
-        self.front, self.received, self.acked, self.place, self.made = front, seq + 1, 1000, "syn", 0
-        self.say()
+    def __init__(self, addresses, seq):
+        self.addresses, self.received, self.acked, self.place, self.made = addresses, seq + 1, 1000, "syn", 0
+        self.send_due()
 
-    def say(self):
+    def send_due(self):
         """Sends what is due at this place, made anew."""
         flags = {"syn": SYN | ACK, "page": PSH | ACK, "end": FIN | ACK}[self.place]
         text = self.page() if self.place == "page" else b""
@@ -54,13 +54,13 @@ class Connection:
         self.send(flags, text)
 
     def send(self, flags, text=b""):
-        write(datagram(*self.front, self.acked, self.received, flags, text))
+        write(datagram(*self.addresses, self.acked, self.received, flags, text))
 
     def page(self):
         self.made += 1
         return b"HTTP/1.0 200 OK\r\nContent-Type: text/plain\r\n\r\nThis text was made %d times.\n" % self.made
 
-    def hear(self, seq, ack, flags, text):
+    def receive(self, seq, ack, flags, text):
         was = self.place
         if self.under_way and (ack - self.acked) % 2**32 == self.under_way:
             self.acked, self.under_way, self.place = self.acked + self.under_way, 0, self.next_place[self.place]
@@ -69,16 +69,16 @@ class Connection:
             if text and self.place == "request":
                 self.place = "page"
         if self.place != was and self.place in ("page", "end"):
-            self.say()
+            self.send_due()
         elif text or flags & FIN:
             self.send(ACK)
 
     def tick(self):
         if self.under_way and time.monotonic() > self.due:
-            self.say()
+            self.send_due()
 
 
-def hear(frame, connections):
+def receive(frame, connections):
     data = frame.replace(ESC_END, END).replace(ESC_ESC, ESC)
     if len(data) < 40 or data[9] != 6:
         return
@@ -92,7 +92,7 @@ def hear(frame, connections):
     elif flags & SYN:
         connections[key] = Connection((ours, theirs, (our_port, theirs_port)), seq)
     elif key in connections:
-        connections[key].hear(seq, ack, flags, text)
+        connections[key].receive(seq, ack, flags, text)
 
 
 def main():
@@ -104,7 +104,7 @@ def main():
                 return
             *frames, rest = (rest + data).split(END)
             for frame in filter(None, frames):
-                hear(frame, connections)
+                receive(frame, connections)
         for connection in connections.values():
             connection.tick()
 

@@ -38,7 +38,7 @@ function callsOver(to, from) {
 }
 
 // The text of a message from the page or the browser.
-function saying({ method, params }) {
+function wordsOf({ method, params }) {
   if (method === "Runtime.exceptionThrown") return params.exceptionDetails.exception?.description ?? params.exceptionDetails.text;
   if (method === "Runtime.consoleAPICalled") return params.args.map(it => it.value ?? it.description).join(" ");
   if (method === "Log.entryAdded") return `${params.entry.text} ${params.entry.url ?? ""}`;
@@ -46,7 +46,7 @@ function saying({ method, params }) {
 }
 
 class Tab {
-  said = [];
+  messages = [];
 
   constructor(call, targetId) {
     Object.assign(this, { call, targetId });
@@ -66,8 +66,8 @@ class Tab {
       if (await this.run(`return !!(${isSo})`).catch(() => false)) return;
       await new Promise(resolve => setTimeout(resolve, 50));
     }
-    const told = await this.run(`return document.getElementById("notices")?.innerText`).catch(() => "");
-    throw new Error(`not in ${seconds * PATIENCE} s: ${isSo}; the page said: ${[...this.said, told].join("; ")}`);
+    const notices = await this.run(`return document.getElementById("notices")?.innerText`).catch(() => "");
+    throw new Error(`not in ${seconds * PATIENCE} s: ${isSo}; the page's messages: ${[...this.messages, notices].join("; ")}`);
   }
 
   async picture(file) {
@@ -103,8 +103,8 @@ export async function startChromium() {
     const { sessionId } = await call("Target.attachToTarget", { targetId, flatten: true });
     const tab = new Tab((method, params) => call(method, params, sessionId), targetId);
     listen(message => {
-      const words = message.sessionId === sessionId ? saying(message) : null;
-      if (words !== null) tab.said.push(words);
+      const words = message.sessionId === sessionId ? wordsOf(message) : null;
+      if (words !== null) tab.messages.push(words);
     });
     await Promise.all(["Page.enable", "Runtime.enable", "Log.enable"].map(it => tab.call(it)));
     if (first) await tab.call("Page.addScriptToEvaluateOnNewDocument", { source: first });

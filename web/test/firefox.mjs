@@ -61,8 +61,8 @@ function tabOver(call) {
     async until(isSo, seconds = 30) {
       for (const end = Date.now() + seconds * PATIENCE * 1000; Date.now() < end; await sleep(50))
         if (await run(`return !!(${isSo})`).catch(() => false)) return;
-      const said = await run(`return document.getElementById("notices")?.textContent`).catch(() => "");
-      throw new Error(`not in ${seconds * PATIENCE} s: ${isSo}; the page's messages: ${said}`);
+      const notices = await run(`return document.getElementById("notices")?.textContent`).catch(() => "");
+      throw new Error(`not in ${seconds * PATIENCE} s: ${isSo}; the page's messages: ${notices}`);
     },
     async picture(file) {
       writeFileSync(file, Buffer.from((await call("WebDriver:TakeScreenshot", { full: false })).value, "base64"));

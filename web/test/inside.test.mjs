@@ -99,12 +99,12 @@ test("1,000 pages, a fifth lost, a tenth repeated, reordered and damaged", { ski
   }));
 
 // What a node sends for a line with a tick after every n bytes, as `uipd serve .. pace` does.
-function said(site, line, pace) {
-  const device = new Device(code), out = [], say = text => out.push(text);
+function output(site, line, pace) {
+  const device = new Device(code), out = [], send = text => out.push(text);
   device.open(site);
   for (let at = 0; at < line.length; at += pace) {
-    device.feed(line.subarray(at, at + pace), say);
-    if (at + pace <= line.length) device.tick(say);
+    device.feed(line.subarray(at, at + pace), send);
+    if (at + pace <= line.length) device.tick(send);
   }
   return Buffer.concat(out);
 }
@@ -117,10 +117,10 @@ test("for every recorded line of bench/lines the bytes of the program", { skip: 
   for (const name of readdirSync(LINES).filter(it => it.endsWith(".slip.xz"))) {
     const line = xz(name);
     for (const pace of [1, 7, 50, 400, 1000, 1 << 30]) {
-      const wanted = execFileSync(UIPD, ["serve", file, "10.0.0.1", "pace", String(pace)], { input: line, maxBuffer: 1 << 28 });
-      assert.ok(said(site, line, pace).equals(wanted), `${name} with pace ${pace}`);
+      const expected = execFileSync(UIPD, ["serve", file, "10.0.0.1", "pace", String(pace)], { input: line, maxBuffer: 1 << 28 });
+      assert.ok(output(site, line, pace).equals(expected), `${name} with pace ${pace}`);
       lines++;
-      bytes += wanted.length;
+      bytes += expected.length;
     }
   }
   rmSync(folder, { recursive: true });

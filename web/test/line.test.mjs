@@ -27,7 +27,7 @@ function faultyPort(turns) {
   return port;
 }
 
-test("errors of a port that pass end no line and are told; one that stays ends it", async () => {
+test("errors of a port that pass end no line and are reported; one that stays ends it", async () => {
   const got = [], passed = [], names = ["FramingError", "ParityError", "BufferOverrunError", "BreakError", "NetworkError"];
   const port = faultyPort(names.map((name, n) => [slipText(Uint8Array.of(n)), name]));
   const why = await new Promise(ended =>
@@ -67,7 +67,7 @@ test("a line that is closed is free: its streams are unlocked", async () => {
   assert.deepEqual([line.readable.locked, line.writable.locked, written], [false, false, [0xc0, 1, 0xdb, 0xdc, 0xc0]]);
 });
 
-test("silence is filled at the rate, at no time much at once, and not while the line is behind", async () => {
+test("silence is filled at the rate, at no time much at once, and not while the line is late", async () => {
   const fills = [], wire = { counts: { written: 0, waiting: 0 }, fill: n => { fills.push(n); wire.counts.written += n; } };
   const clock = { rate: 1 }, stop = fillSilence(wire, 10000, clock), start = performance.now();
   await new Promise(resolve => setTimeout(resolve, 400));
@@ -98,7 +98,7 @@ test("a clock may change its pace while something is under way", () => {
   assert.ok(clock.now() - then >= 10000);
 });
 
-test("faults come as often as they should, and as they are told", () => {
+test("faults come as often as they should, and as they are reported", () => {
   const faults = Object.assign(new Faults(5), { loss: 0.1, duplication: 0.2, reordering: 0.3, corruption: 0.4 }), counts = {};
   const datagram = Uint8Array.from({ length: 50 }, (_, n) => n);
   const delivered = { good: 0, corrupted: 0 }, expected = { good: 0, corrupted: 0 };
@@ -117,7 +117,7 @@ test("faults come as often as they should, and as they are told", () => {
   assert.deepEqual(delivered, expected);
 });
 
-test("a datagram that is late comes behind the next one, or in a while", async () => {
+test("a datagram that is late comes after the next one, or in a while", async () => {
   const faults = Object.assign(new Faults(1), { reordering: 1 }), got = [];
   faults.pass(Uint8Array.of(1), true, it => got.push(it[0])).go();
   assert.deepEqual(got, []);

@@ -10,7 +10,7 @@ import { PATIENCE, noChromium, startChromium } from "./chromium.mjs";
 import { noFirefox, startFirefox } from "./firefox.mjs";
 import { serialAt, serve, startServe } from "./server.mjs";
 import { SITE, UIPD, here, startNode, top } from "./node_process.mjs";
-import { READY, click, ends, go, hasText, says, set, shows, text } from "./tabs.mjs";
+import { READY, click, ends, go, hasText, hasNotice, set, shows, text } from "./tabs.mjs";
 
 const folder = mkdtempSync(join(tmpdir(), "page-test-"));
 // BROWSERS=Chromium tries that alone.
@@ -102,6 +102,8 @@ inEach("the tour: a page, 30 % loss, and the wrong page of uIP's own rules in re
   await tab.until(ends(`connected: ${DEVICE}, with a sensor and a lamp`));
   await tab.until(shows("The device"));
   assert.deepEqual(await tab.run(`return [document.getElementById("loss").value, document.getElementById("tour").hidden]`), ["0", true]);
+  // Nothing is left of the server by uIP's rules.
+  assert.deepEqual(await tab.run(`return [document.getElementById("result").textContent, document.getElementById("messages").hidden]`), ["", true]);
 });
 
 inEach("the tour begins at its first step again", { hash: "#try" }, async tab => {
@@ -162,6 +164,11 @@ inEach("Back stays on the page at its first entry; typed paths of each form", { 
   await tab.until(shows("Lowunbisa"));
   await click(tab, "back");   // a second step goes further
   await tab.until(shows("What it counts"));
+  // The page looks where the frame is 20 times a second. Back counts what the frame has reached since, so it leads to the page before.
+  await tab.until(`document.getElementById("target").value.startsWith("/stats.shtml")`);
+  await tab.run(`frames[0].history.pushState(null, "", "reached"); document.getElementById("back").click()`);
+  await tab.until(`frames[0].location.pathname.endsWith("/stats.shtml")`);
+  await tab.until(shows("What it counts"));
 });
 
 inEach("the device's address", {}, async tab => {
@@ -171,7 +178,7 @@ inEach("the device's address", {}, async tab => {
   assert.equal(await tab.run(`return document.getElementById("address").value`), "192.168.7.7");
   assert.deepEqual(await tab.run(`return [node.session.host.node, node.session.host.own].map(it => it.join("."))`), ["192.168.7.7", "192.168.7.2"]);
   await set(tab, { address: "10.0.0.300" });
-  await tab.until(says("the device's address is four numbers from 0 to 255"));
+  await tab.until(hasNotice("the device's address is four numbers from 0 to 255"));
   await set(tab, { address: "10.0.0.1" });
   await tab.run(`node.session.host.ping(0, 300).catch(() => { self.isSilent = true; })`);
   await tab.until(`self.isSilent`);   // the device is still at the other address
@@ -194,7 +201,7 @@ inEach("values are sliders and fields, hits are lamps, and the slots are shown",
   await tab.run(`self.held = node.session.host.connect()`);
   await tab.until(`document.querySelector(".slot[data-state=ESTABLISHED]")?.title.includes("10.0.0.2:" + self.held.port)`);
   assert.equal(await tab.run(`return document.querySelectorAll(".slot").length`), 10);
-  await tab.until(`/^\\d+ ticks, \\d+ KiB of WebAssembly memory \\(a Cortex-M4: 8 kB of RAM\\)$/.test(document.querySelector("[data-panel=facts]").innerText)`);
+  await tab.until(`/^\\d+ ticks?, \\d+ KiB of WebAssembly memory \\(a Cortex-M4: 8 kB of RAM\\)$/.test(document.querySelector("[data-panel=facts]").innerText)`);
 });
 
 inEach("one's own site: files, an image, and a bad one", {}, async tab => {
@@ -205,7 +212,7 @@ inEach("one's own site: files, an image, and a bad one", {}, async tab => {
   assert.match(types[1], /^404/);
   assert.equal(await tab.run(`return document.getElementById("tour").hidden`), true);
   await tab.run(`await node.openOwn([new File(["%! valeu 0"], "index.shtml"), new File(["<title>yours</title>"], "index.html")])`);
-  await tab.until(says('/index.shtml: there is no function "valeu"'));
+  await tab.until(hasNotice('/index.shtml: there is no function "valeu"'));
   const why = await tab.run(`return node.openOwn([new File(["UIPSITE9"], "bad.img")]).catch(error => error.message)`);
   assert.equal(why, "bad image: magic 0");
   await tab.until(ends("not connected"));
@@ -247,7 +254,7 @@ inEach("messages: one is shown, all on request, each can be dismissed", {}, asyn
     const input = document.getElementById("own-image");
     input.files = files.files;
     input.dispatchEvent(new Event("change"))`);
-  await tab.until(says("bad image: magic 0"));
+  await tab.until(hasNotice("bad image: magic 0"));
   const visible = `[...document.querySelectorAll("#notices li")].filter(it => it.offsetHeight).length`;
   assert.deepEqual([await tab.run(`return ${visible}`), await text(tab, "all-notices")], [1, "Show all 2"]);
   await click(tab, "all-notices");
@@ -376,7 +383,16 @@ for (const scheme of ["light", "dark"])
       await tab.until(`innerWidth === ${width}`);
       assert.deepEqual(await tab.run(CONTRAST), []);
       assert.ok(await tab.run(`return document.documentElement.scrollWidth <= innerWidth`), `${width}`);
+      const [left, right] = await tab.run(`
+        const menu = document.querySelector(".menu");
+        menu.open = true;
+        const { left, right } = menu.querySelector("div").getBoundingClientRect();
+        menu.open = false;
+        return [left, right]`);
+      assert.ok(left >= 0 && right <= width, `the options at ${width}: ${left} to ${right}`);
     }
+    await tab.run(`await node.fetchMany()`);
+    assert.ok(await tab.run(`return document.querySelectorAll("#rows tr").length > 80 && document.querySelector(".diagram").offsetHeight < 600`));
   });
 
 inChromium("the first screen by keyboard: each way is reached, and Enter starts the device", {}, async tab => {
@@ -391,6 +407,20 @@ inChromium("the first screen by keyboard: each way is reached, and Enter starts 
   await tab.key("Enter", "Enter", "\r");
   await tab.until(COMPLETE);
   assert.equal(await tab.run(`return document.activeElement.id`), "main");
+});
+
+inChromium("the options by keyboard: Escape closes them, and so does the focus of something else", {}, async tab => {
+  const isOpen = () => tab.run(`return document.querySelector(".menu").open`);
+  for (const close of [() => tab.key("Escape"), () => tab.run(`document.getElementById("open-inside").focus()`),
+    () => tab.run(`document.body.dispatchEvent(new Event("pointerdown", { bubbles: true }))`)]) {
+    await tab.run(`document.querySelector(".menu summary").focus()`);
+    await tab.key("Enter", "Enter", "\r");
+    assert.equal(await isOpen(), true);
+    await tab.key("Tab");
+    assert.equal(await tab.run(`return document.activeElement.id`), "fill");
+    await close();
+    assert.equal(await isOpen(), false);
+  }
 });
 
 // web/serve.py, in a tab of its own.
@@ -420,6 +450,24 @@ for (const [name, words] of [["the device inside", site => [site]], ["UIPD", sit
     });
   });
 
+withServe("a folder that cannot be packed is reported, and opened once it is mended", async () => {
+  const site = join(folder, "mended");
+  mkdirSync(site);
+  writeFileSync(join(site, "index.html"), "<title>mended</title>");
+  writeFileSync(join(site, "a b.txt"), "");
+  await served([site], async tab => {
+    await tab.until(hasNotice('"/a b.txt" is no name for a file of a site'));
+    rmSync(join(site, "a b.txt"));
+    await tab.until(shows("mended"));
+    writeFileSync(join(site, "a b.txt"), "");
+    await tab.until(hasNotice("(2 times)"));
+    assert.ok(await tab.run(`return !!node.session`));   // the site as it was
+    rmSync(join(site, "a b.txt"));
+    writeFileSync(join(site, "index.html"), "<title>again</title>");
+    await tab.until(shows("again"));
+  });
+});
+
 withServe("an image for the device inside, which changes", async () => {
   const image = join(folder, "own.img");
   cpSync(SITE, image);
@@ -440,5 +488,5 @@ withServe("the page alone, and statuses in words", async () => {
   });
   const bad = join(folder, "bad.img");
   writeFileSync(bad, "no image");
-  await served([UIPD, bad], tab => tab.until(ends("the line ended: the program ended with status 6: the image is bad")));
+  await served([UIPD, bad], tab => tab.until(ends("the line ended: the program ended with status 6: the image of the site is bad")));
 });

@@ -1,7 +1,8 @@
 // Parts of the page that need no browser: its verdicts, the server by uIP's rules, and images of sites.
 import test from "node:test";
 import assert from "node:assert/strict";
-import { readFileSync, readdirSync } from "node:fs";
+import { existsSync, mkdtempSync, readFileSync, readdirSync, rmSync, writeFileSync } from "node:fs";
+import { tmpdir } from "node:os";
 import { join } from "node:path";
 import { Clock } from "../clock.js";
 import { Session } from "../session.js";
@@ -10,7 +11,8 @@ import { pack, unpack, valuesOf, warningsOf } from "../site.js";
 import { serverByUipsRules } from "../uip_rules.js";
 import { resultOf, verdictOf } from "../verdict.js";
 import { ACK, RST, SlipReader, echoDatagram, read, slipText, tcpDatagram } from "../wire.js";
-import { here, top } from "./node_process.mjs";
+import { startServe } from "./server.mjs";
+import { here, top, until } from "./node_process.mjs";
 
 const NONE = { complete: 0, wrong: 0, truncated: 0, retransmissions: 0, different: 0 };
 
@@ -79,7 +81,7 @@ test("an image is read and written as the program does", () => {
   assert.deepEqual(valuesOf(files), [0, 1, 2, 3, 4]);
   const own = names.map(name => ({ name, bytes: disk(name) }));
   assert.deepEqual(unpack(pack(own)).map(({ name, bytes }) => [name, Buffer.from(bytes).toString()]), own.map(({ name, bytes }) => [name, bytes.toString()]));
-  assert.throws(() => pack([{ name: "/a b", bytes: disk("/index.html") }]), /no name for a file/);
+  assert.throws(() => pack([{ name: "/a b", bytes: disk("/index.html") }]), /"\/a b" is no name for a file/);
   assert.throws(() => pack(Array.from({ length: 1025 }, (_, n) => ({ name: `/${n}`, bytes: [] }))), /1024 files at most/);
 });
 
@@ -106,9 +108,17 @@ test("the images beside the page are those of examples/", () => {
     assert.ok(readFileSync(join(top, "web", name)).equals(readFileSync(join(top, "examples", name))), name);
 });
 
+const INDEX = { name: "/index.html", bytes: new Uint8Array() };
+
+test("paths that lead to no page are reported", () => {
+  assert.deepEqual(warningsOf([{ ...INDEX, name: "/a.html" }]), ["there is no /index.html, so the path / has no page"]);
+  assert.deepEqual(warningsOf([INDEX, { ...INDEX, name: "/a/index.html" }, { ...INDEX, name: "/b/index.html" }]),
+    ["/a/index.html: the path /a/ does not lead to it, so a link has to name the file"]);
+});
+
 test("what has no effect in a script is reported; the example sites have none", () => {
   for (const name of ["site.img", "state.img"]) assert.deepEqual(warningsOf(unpack(new Uint8Array(readFileSync(join(top, "web", name))))), []);
-  const warnings = text => warningsOf([{ name: "/a.shtml", bytes: Buffer.from(text) }]);
+  const warnings = text => warningsOf([INDEX, { name: "/a.shtml", bytes: Buffer.from(text) }]);
   for (const good of ["", "%", "%! ticks", "%!ticks\n", "%! value 0\r\n", "%%!  file-stats  /a \n%", "%!: /x\n", "%!:/x"]) assert.deepEqual(warnings(good), [], good);
   for (const name of ["valeu", "constructor", "value\t0", "TICKS"])
     assert.deepEqual(warnings(`x %! ${name} 1\nx`), [`/a.shtml: there is no function "${name}", so its directive displays nothing`]);
@@ -117,6 +127,21 @@ test("what has no effect in a script is reported; the example sites have none", 
     assert.deepEqual(warnings(`%!${line}\n%! ticks`), [`/a.shtml: "${rest}" follows a directive in its line, so it is not sent`]);
   for (const [number, isGood] of [["0", 1], ["15", 1], ["16", 0], ["00", 0], ["0</p>", 0], ["", 0]])
     assert.deepEqual(warnings(`%! value ${number}\n`), isGood ? [] : [`/a.shtml: "${number}" is no number from 0 to 15, so its directive displays nothing`]);
-  assert.deepEqual(warningsOf([{ name: "/a.html", bytes: Buffer.from("%! ticks") }, { name: "/a.css", bytes: Buffer.from("a: 5%!important") }]),
+  assert.deepEqual(warningsOf([INDEX, { name: "/a.html", bytes: Buffer.from("%! ticks") }, { name: "/a.css", bytes: Buffer.from("a: 5%!important") }]),
     ["/a.html: only in a file whose name ends in .shtml is %! a directive"]);
+});
+
+test("web/serve.py --open: the page is served while the browser runs", { timeout: 60000 }, async () => {
+  const folder = mkdtempSync(join(tmpdir(), "open-test-")), program = join(folder, "browser.py"), page = join(folder, "page");
+  writeFileSync(program, "import sys, urllib.request\nopen(sys.argv[2], 'wb').write(urllib.request.urlopen(sys.argv[1], timeout=9).read())\n");
+  process.env.BROWSER = `python3 ${program} %s ${page}`;
+  const serving = await startServe("--open");
+  try {
+    await until(() => existsSync(page) && readFileSync(page, "utf8").endsWith("</html>\n"));
+  } finally {
+    delete process.env.BROWSER;
+    serving.stop();
+    await serving.ended;
+    rmSync(folder, { recursive: true });
+  }
 });

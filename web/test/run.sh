@@ -32,11 +32,11 @@ suites() { for suite in "$@"; do printf 'web/test/%s.test.mjs ' "$suite"; done; 
 # shellcheck disable=SC2046
 client() {
     if [ -x "${UIPD:-crates/uipd/out/uipd}" ]; then
-        tests "the client under node, with uipd" 600 $(suites wire scripted line sequence parts stalls talk many inside)
-        more="talk many"
+        tests "the client under node, with uipd" 600 $(suites wire scripted line sequence parts stalls transfer many inside)
+        more="transfer many"
     else
         echo "web: uipd is not built: the device inside takes its place"
-        more="wire scripted line sequence parts stalls talk many inside"
+        more="wire scripted line sequence parts stalls transfer many inside"
     fi
     export INSIDE=1
     # shellcheck disable=SC2086
@@ -46,7 +46,7 @@ client() {
 # shellcheck disable=SC2046
 inside() {
     export INSIDE=1
-    tests "the device inside, under node" 400 $(suites parts stalls talk many inside)
+    tests "the device inside, under node" 400 $(suites parts stalls transfer many inside)
     unset INSIDE
     tests "the device inside the page" 900 web/test/page.test.mjs
 }

@@ -5,21 +5,21 @@ import { ACK, FIN, RST, SYN, read, tcpDatagram } from "../wire.js";
 import { Host } from "../host.js";
 import { get, all } from "../http.js";
 
-// `say` is a segment of the node, and `heard` takes what the host sent since. Timers go off by hand.
+// `arrive` delivers a segment of the node, and `sent` takes what the host sent since. Timers go off by hand.
 function played({ mss = 536, isOpened = true, connect = host => host.connect() } = {}) {
-  const sent = [], told = [], timers = new Map();
+  const out = [], waits = [], timers = new Map();
   let time = 0, id = 0;
   const clock = { now: () => time, later(wait, what) { timers.set(++id, { at: time + wait, what }); return id; } };
-  const host = new Host(it => sent.push(read(it).segment), { clock, waits: (_, waited) => told.push(waited) });
+  const host = new Host(it => out.push(read(it).segment), { clock, waits: (_, waited) => waits.push(waited) });
   const clear = globalThis.clearTimeout;
   globalThis.clearTimeout = timer => timers.delete(timer) || clear(timer);
-  const connection = connect(host), first = sent[0].seq;
-  const heard = () => sent.splice(0).map(it =>
+  const connection = connect(host), first = out[0].seq;
+  const sent = () => out.splice(0).map(it =>
     ({ flags: it.flags, seq: it.seq - first >>> 0, ack: it.ack - 5000 >>> 0, len: it.text.length, window: it.window }));
-  const say = (flags, seq, ack, text = "", window = 1460) => host.receive(tcpDatagram([10, 0, 0, 1], [10, 0, 0, 2], 1, {
-    fromPort: 80, toPort: sent.port, seq: 5000 + seq >>> 0, ack: first + ack >>> 0, flags, window,
+  const arrive = (flags, seq, ack, text = "", window = 1460) => host.receive(tcpDatagram([10, 0, 0, 1], [10, 0, 0, 2], 1, {
+    fromPort: 80, toPort: out.port, seq: 5000 + seq >>> 0, ack: first + ack >>> 0, flags, window,
     mss: flags & SYN ? mss : 0, text: Buffer.from(text) }));
-  sent.port = sent[0].fromPort;
+  out.port = out[0].fromPort;
   const goOff = () => {
     const [[next, { at, what }]] = [...timers].sort(([, a], [, b]) => a.at - b.at), wait = at - time;
     timers.delete(next);
@@ -27,9 +27,9 @@ function played({ mss = 536, isOpened = true, connect = host => host.connect() }
     what();
     return wait;
   };
-  heard();
-  if (isOpened) { say(SYN | ACK, 0, 1); heard(); }
-  return { host, connection, say, heard, told, goOff, timers, pass: wait => { time += wait; } };
+  sent();
+  if (isOpened) { arrive(SYN | ACK, 0, 1); sent(); }
+  return { host, connection, arrive, sent, waits, goOff, timers, pass: wait => { time += wait; } };
 }
 
 // What a connection's reader got, and how it ended.
@@ -45,201 +45,201 @@ const acks = (list, ack) => assert.deepEqual(list.map(it => [it.flags, it.ack, i
 const sizes = list => list.map(it => [it.seq, it.len]);
 
 test("text is taken in order and once, and acknowledged always", async () => {
-  const { say, heard, connection } = played(), text = readerOf(connection);
-  say(SYN | ACK, 0, 1);
-  acks(heard(), 1);                  // the SYN-ACK again
-  say(ACK, 1, 1, "abc");
-  acks(heard(), 4);
-  say(ACK, 6, 1, "fgh");             // ahead
-  acks(heard(), 4);
-  say(ACK, 1, 1, "abc");             // again
-  acks(heard(), 4);
-  say(ACK, 2, 1, "bcde");            // partly new
-  acks(heard(), 6);
-  say(ACK, 6, 9, "xyz");             // acknowledges what was never sent
-  acks(heard(), 6);
-  say(0, 6, 0, "xyz");               // acknowledges nothing
-  acks(heard(), 6);
-  say(RST, 4, 1);                    // a reset of an older number
+  const { arrive, sent, connection } = played(), text = readerOf(connection);
+  arrive(SYN | ACK, 0, 1);
+  acks(sent(), 1);                       // the SYN-ACK again
+  arrive(ACK, 1, 1, "abc");
+  acks(sent(), 4);
+  arrive(ACK, 6, 1, "fgh");              // ahead
+  acks(sent(), 4);
+  arrive(ACK, 1, 1, "abc");              // again
+  acks(sent(), 4);
+  arrive(ACK, 2, 1, "bcde");             // partly new
+  acks(sent(), 6);
+  arrive(ACK, 6, 9, "xyz");              // acknowledges what was never sent
+  acks(sent(), 6);
+  arrive(0, 6, 0, "xyz");                // acknowledges nothing
+  acks(sent(), 6);
+  arrive(RST, 4, 1);                     // a reset of an older number
   assert.equal(connection.state, "ESTABLISHED");
-  say(ACK | FIN, 6, 1, "f");
-  assert.deepEqual(heard().map(it => [it.flags, it.seq, it.ack, it.len]), [[ACK | FIN, 1, 8, 0]]);
+  arrive(ACK | FIN, 6, 1, "f");
+  assert.deepEqual(sent().map(it => [it.flags, it.seq, it.ack, it.len]), [[ACK | FIN, 1, 8, 0]]);
   assert.equal(connection.state, "LAST-ACK");
-  say(ACK | FIN, 6, 1, "f");
-  acks(heard(), 8);
-  say(ACK, 8, 1, "behind its end");
-  acks(heard(), 8);
-  say(ACK, 8, 2);
-  assert.deepEqual([connection.state, heard()], ["CLOSED", []]);
+  arrive(ACK | FIN, 6, 1, "f");
+  acks(sent(), 8);
+  arrive(ACK, 8, 1, "after its end");
+  acks(sent(), 8);
+  arrive(ACK, 8, 2);
+  assert.deepEqual([connection.state, sent()], ["CLOSED", []]);
   assert.deepEqual(await text(), ["abcdef", "end"]);
 });
 
-test("what is written before the connection is open goes behind its SYN", () => {
-  const { say, heard, connection } = played({ isOpened: false });
+test("what is written before the connection is open goes after its SYN", () => {
+  const { arrive, sent, connection } = played({ isOpened: false });
   connection.write(Buffer.from("ab"));
   connection.end();
-  assert.deepEqual(heard(), []);
-  say(SYN | ACK, 0, 1);
-  assert.deepEqual(heard().map(it => [it.flags, it.seq, it.ack, it.len]), [[ACK | FIN | 8, 1, 1, 2]]);
+  assert.deepEqual(sent(), []);
+  arrive(SYN | ACK, 0, 1);
+  assert.deepEqual(sent().map(it => [it.flags, it.seq, it.ack, it.len]), [[ACK | FIN | 8, 1, 1, 2]]);
 });
 
 test("a request is cut to the node's segments and its window", () => {
-  const { say, heard, connection } = played({ mss: 4 });
+  const { arrive, sent, connection } = played({ mss: 4 });
   connection.write(Buffer.from("abcdefgh"));
-  assert.deepEqual(sizes(heard()), [[1, 4], [5, 4]]);
-  say(ACK, 1, 9, "", 3);
+  assert.deepEqual(sizes(sent()), [[1, 4], [5, 4]]);
+  arrive(ACK, 1, 9, "", 3);
   connection.write(Buffer.from("ijklm"));
-  assert.deepEqual(sizes(heard()), [[9, 3]]);
-  say(ACK, 1, 12, "", 0);
-  assert.deepEqual(sizes(heard()), [[12, 1]]);
+  assert.deepEqual(sizes(sent()), [[9, 3]]);
+  arrive(ACK, 1, 12, "", 0);
+  assert.deepEqual(sizes(sent()), [[12, 1]]);
 });
 
 test("what is not acknowledged goes again, and less where the window shrank", () => {
-  const { say, heard, connection, goOff, told } = played({ mss: 4 });
+  const { arrive, sent, connection, goOff, waits } = played({ mss: 4 });
   connection.write(Buffer.from("abcdefgh"));
-  heard();
+  sent();
   assert.equal(goOff(), 1000);
-  assert.deepEqual(sizes(heard()), [[1, 4], [5, 4]]);
+  assert.deepEqual(sizes(sent()), [[1, 4], [5, 4]]);
   assert.equal(goOff(), 2000);
   assert.equal(goOff(), 2000);
-  heard();
-  assert.deepEqual(told, [1000, 3000, 5000]);
-  say(ACK, 1, 5);                    // the first of them came: the wait is short again, and the other goes
+  sent();
+  assert.deepEqual(waits, [1000, 3000, 5000]);
+  arrive(ACK, 1, 5);                     // the first of them came: the wait is short again, and the other goes
   assert.equal(goOff(), 1000);
-  assert.deepEqual(sizes(heard()), [[5, 4]]);
-  say(ACK, 1, 5, "", 2);
+  assert.deepEqual(sizes(sent()), [[5, 4]]);
+  arrive(ACK, 1, 5, "", 2);
   goOff();
-  assert.deepEqual(sizes(heard()), [[5, 2]]);
-  say(ACK, 1, 9);                    // all came after all
+  assert.deepEqual(sizes(sent()), [[5, 2]]);
+  arrive(ACK, 1, 9);                     // all came after all
   connection.write(Buffer.from("i"));
-  assert.deepEqual(sizes(heard()), [[9, 1]]);
+  assert.deepEqual(sizes(sent()), [[9, 1]]);
   for (let n = 0; connection.state !== "CLOSED"; n++) { assert.ok(n < 70); goOff(); }
-  assert.ok(told.at(-1) < 120000);
+  assert.ok(waits.at(-1) < 120000);
 });
 
 test("the wait follows the round trips, and not those of what went again", () => {
-  const { say, connection, goOff, pass, heard } = played();
+  const { arrive, connection, goOff, pass, sent } = played();
   connection.write(Buffer.from("a"));
   pass(2000);
-  say(ACK, 1, 2);
+  arrive(ACK, 1, 2);
   connection.write(Buffer.from("b"));
-  assert.equal(goOff(), 2250);       // by RFC 6298 section 2: the round trips were 0 and 2000
-  assert.deepEqual(sizes(heard()).at(-1), [2, 1]);
+  assert.equal(goOff(), 2250);           // by RFC 6298 section 2: the round trips were 0 and 2000
+  assert.deepEqual(sizes(sent()).at(-1), [2, 1]);
   pass(50000);
-  say(ACK, 1, 3);                    // of which sending?
+  arrive(ACK, 1, 3);                     // of which sending?
   connection.write(Buffer.from("c"));
   assert.equal(goOff(), 2250);
 });
 
 test("the wait is bounded, however long the round trips were", () => {
-  const { say, connection, goOff, pass } = played();
+  const { arrive, connection, goOff, pass } = played();
   connection.write(Buffer.from("a"));
   pass(60000);
-  say(ACK, 1, 2);
+  arrive(ACK, 1, 2);
   connection.write(Buffer.from("b"));
   assert.deepEqual([goOff(), goOff()], [3000, 3000]);
 });
 
 test("while text is awaited the acknowledgement goes again, and a silent node is given up", async () => {
-  const { say, heard, connection, goOff, told, timers } = played(), text = readerOf(connection);
+  const { arrive, sent, connection, goOff, waits, timers } = played(), text = readerOf(connection);
   connection.write(Buffer.from("a"));
-  heard();
-  say(ACK, 1, 2, "x");
-  heard();
+  sent();
+  arrive(ACK, 1, 2, "x");
+  sent();
   assert.deepEqual([goOff(), goOff(), goOff()], [1000, 2000, 2000]);
-  assert.deepEqual(heard().map(it => [it.flags, it.seq, it.ack, it.len]), Array(3).fill([ACK, 2, 2, 0]));
-  say(ACK, 2, 2, "y");               // it continues: the wait is short again
-  heard();
+  assert.deepEqual(sent().map(it => [it.flags, it.seq, it.ack, it.len]), Array(3).fill([ACK, 2, 2, 0]));
+  arrive(ACK, 2, 2, "y");                // it continues: the wait is short again
+  sent();
   assert.deepEqual(await text(), ["xy", null]);
   assert.equal(goOff(), 1000);
-  assert.deepEqual(told, [1000, 3000, 5000, 1000]);
+  assert.deepEqual(waits, [1000, 3000, 5000, 1000]);
   for (let n = 0; connection.state !== "CLOSED"; n++) { assert.ok(n < 70); goOff(); }
   assert.deepEqual(await text(), ["xy", "the node does not answer"]);
-  assert.equal(told.at(-1) >= 100000, true);
+  assert.equal(waits.at(-1) >= 100000, true);
   assert.equal(timers.size, 0);
 });
 
-test("a reader that is slow is told of by the window, and when it goes on", async () => {
-  const { say, heard, connection } = played(), reader = connection.readable.getReader();
-  for (let n = 0; n < 45; n++) say(ACK, 1 + n * 1460, 1, "x".repeat(1460));
-  const windows = heard().map(it => it.window);
+test("the window shows a reader that is slow, and that it reads again", async () => {
+  const { arrive, sent, connection } = played(), reader = connection.readable.getReader();
+  for (let n = 0; n < 45; n++) arrive(ACK, 1 + n * 1460, 1, "x".repeat(1460));
+  const windows = sent().map(it => it.window);
   assert.deepEqual([windows[0], windows[43], windows[44]], [65535 - 1460, 65535 - 44 * 1460, 0]);
   await reader.read();
   await new Promise(setImmediate);
-  assert.deepEqual(heard(), []);     // less than a segment has room
+  assert.deepEqual(sent(), []);          // less than a segment has room
   await reader.read();
   await new Promise(setImmediate);
-  assert.deepEqual(heard().map(it => [it.flags, it.ack, it.window > 1460]), [[ACK, 45 * 1460 + 1, true]]);
+  assert.deepEqual(sent().map(it => [it.flags, it.ack, it.window > 1460]), [[ACK, 45 * 1460 + 1, true]]);
 });
 
 test("who gives a connection up resets it, if it is open", () => {
   const open = played(), opening = played({ isOpened: false });
   open.connection.abort();
   opening.connection.abort();
-  assert.deepEqual(open.heard().map(it => [it.flags, it.seq, it.ack]), [[RST | ACK, 1, 1]]);
-  assert.deepEqual(opening.heard(), []);
+  assert.deepEqual(open.sent().map(it => [it.flags, it.seq, it.ack]), [[RST | ACK, 1, 1]]);
+  assert.deepEqual(opening.sent(), []);
   assert.deepEqual([open.timers.size, opening.timers.size], [0, 0]);
 });
 
-test("a node that has an older connection is told so, and asked again", () => {
-  const { say, heard, connection } = played({ isOpened: false });
-  say(ACK, 3, 77);
-  assert.deepEqual(heard().map(it => [it.flags, it.seq]), [[RST, 77], [SYN, 0]]);
-  say(SYN | ACK, 0, 1);
+test("a node that has an older connection gets a reset, and a SYN again", () => {
+  const { arrive, sent, connection } = played({ isOpened: false });
+  arrive(ACK, 3, 77);
+  assert.deepEqual(sent().map(it => [it.flags, it.seq]), [[RST, 77], [SYN, 0]]);
+  arrive(SYN | ACK, 0, 1);
   assert.equal(connection.state, "ESTABLISHED");
 });
 
 for (const order of ["both at once", "ours first"])
   test(`both ends close: ${order}`, async () => {
-    const { say, heard, connection, goOff, host } = played(), text = readerOf(connection);
+    const { arrive, sent, connection, goOff, host } = played(), text = readerOf(connection);
     connection.end();
-    assert.deepEqual(heard().map(it => [it.flags, it.seq, it.ack]), [[ACK | FIN, 1, 1]]);
+    assert.deepEqual(sent().map(it => [it.flags, it.seq, it.ack]), [[ACK | FIN, 1, 1]]);
     if (order === "both at once") {
-      say(ACK | FIN, 1, 1);
+      arrive(ACK | FIN, 1, 1);
       assert.equal(connection.state, "CLOSING");
-      acks(heard(), 2);
-      say(ACK, 2, 2);
+      acks(sent(), 2);
+      arrive(ACK, 2, 2);
     } else {
-      say(ACK, 1, 2, "x");
+      arrive(ACK, 1, 2, "x");
       assert.equal(connection.state, "FIN-WAIT-2");
-      acks(heard(), 2);
-      say(ACK | FIN, 2, 2);
-      acks(heard(), 3);
+      acks(sent(), 2);
+      arrive(ACK | FIN, 2, 2);
+      acks(sent(), 3);
     }
     assert.equal(connection.state, "TIME-WAIT");
     assert.deepEqual(await text(), [order === "ours first" ? "x" : "", "end"]);
-    say(ACK | FIN, order === "ours first" ? 2 : 1, 2);
-    acks(heard(), order === "ours first" ? 3 : 2);
+    arrive(ACK | FIN, order === "ours first" ? 2 : 1, 2);
+    acks(sent(), order === "ours first" ? 3 : 2);
     assert.equal(goOff(), 60000);
-    assert.deepEqual([connection.state, host.connections.size, heard()], ["CLOSED", 0, []]);
+    assert.deepEqual([connection.state, host.connections.size, sent()], ["CLOSED", 0, []]);
   });
 
 test("our end goes again until it is acknowledged", () => {
-  const { say, heard, connection, goOff } = played();
-  say(ACK | FIN, 1, 1);
-  assert.deepEqual(heard().map(it => [it.flags, it.seq]), [[ACK | FIN, 1]]);
+  const { arrive, sent, connection, goOff } = played();
+  arrive(ACK | FIN, 1, 1);
+  assert.deepEqual(sent().map(it => [it.flags, it.seq]), [[ACK | FIN, 1]]);
   goOff();
-  assert.deepEqual(heard().map(it => [it.flags, it.seq]), [[ACK | FIN, 1]]);
-  say(ACK, 2, 2);
+  assert.deepEqual(sent().map(it => [it.flags, it.seq]), [[ACK | FIN, 1]]);
+  arrive(ACK, 2, 2);
   assert.equal(connection.state, "CLOSED");
 });
 
 test("a segment to no connection is reset, and a reset is not", () => {
   const sent = [], host = new Host(it => sent.push(read(it).segment));
-  const say = flags => host.receive(tcpDatagram([10, 0, 0, 1], [10, 0, 0, 2], 1,
+  const arrive = flags => host.receive(tcpDatagram([10, 0, 0, 1], [10, 0, 0, 2], 1,
     { fromPort: 80, toPort: 9, seq: 7, ack: 8, flags, window: 1, mss: 0, text: Buffer.from("abc") }));
-  say(ACK);
-  say(SYN);
-  say(RST | ACK);
+  arrive(ACK);
+  arrive(SYN);
+  arrive(RST | ACK);
   assert.deepEqual(sent.map(it => [it.flags, it.seq, it.ack]), [[RST, 8, 0], [RST | ACK, 0, 11]]);
 });
 
 test("a datagram of another host, or to another, changes nothing", () => {
-  const { host, heard, connection } = played();
+  const { host, sent, connection } = played();
   const segment = { fromPort: 80, toPort: connection.port, seq: 5001, ack: 0, flags: RST, window: 1, mss: 0, text: [] };
   host.receive(tcpDatagram([10, 0, 0, 3], [10, 0, 0, 2], 1, segment));
   host.receive(tcpDatagram([10, 0, 0, 1], [10, 0, 0, 4], 1, segment));
-  assert.deepEqual([heard(), connection.state], [[], "ESTABLISHED"]);
+  assert.deepEqual([sent(), connection.state], [[], "ESTABLISHED"]);
   host.receive(tcpDatagram([10, 0, 0, 1], [10, 0, 0, 2], 1, segment));
   assert.equal(connection.state, "CLOSED");
 });
@@ -254,11 +254,11 @@ test("a segment of another port of the node is to no connection", () => {
 });
 
 test("a SYN that is reset for an older number is not given up", () => {
-  const { say, heard, connection } = played({ isOpened: false });
-  say(RST | ACK, 0, 2);
-  say(RST, 0, 1);
-  assert.deepEqual([connection.state, heard()], ["SYN-SENT", []]);
-  say(RST | ACK, 0, 1);
+  const { arrive, sent, connection } = played({ isOpened: false });
+  arrive(RST | ACK, 0, 2);
+  arrive(RST, 0, 1);
+  assert.deepEqual([connection.state, sent()], ["SYN-SENT", []]);
+  arrive(RST | ACK, 0, 1);
   assert.equal(connection.state, "CLOSED");
 });
 
@@ -295,8 +295,8 @@ async function asked(...pieces) {
   } });
   let seq = 1;
   for (const piece of pieces) {
-    if (piece === null) it.say(ACK | FIN, seq, 1);
-    else it.say(ACK, seq, 1, piece);
+    if (piece === null) it.arrive(ACK | FIN, seq, 1);
+    else it.arrive(ACK, seq, 1, piece);
     seq += piece?.length ?? 1;
   }
   it.connection.reply.catch(() => {});
@@ -310,7 +310,7 @@ test("a reply's head is read, however it is cut", async () => {
   assert.equal(Buffer.from(await all(reply.body)).toString(), "abc");
 });
 
-test("a reply that is shorter than it tells is cut, and one without a head is none", async () => {
+test("a reply that is shorter than its length is cut, and one without a head is none", async () => {
   const short = await asked("HTTP/1.0 200 OK\r\nContent-Length: 4\r\n\r\nabc", null);
   await assert.rejects(all((await short.reply).body), /after 3 bytes of 4/);
   const others = [[/no head/, "hello\r\n\r\n"], [/no head/, "x".repeat(9000)], [/before a head/, "HTTP/1.0 200 OK\r\n", null]];

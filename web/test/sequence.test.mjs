@@ -22,7 +22,7 @@ async function used() {
 }
 
 // Passes segments of a node to the diagram; returns of each whether it is a retransmission, and where it differs.
-function told(...segments) {
+function compared(...segments) {
   const sequence = new Sequence();
   return segments.map(([seq, text, flags = ACK, toPort = 5]) => {
     const segment = { fromPort: 80, toPort, seq: seq >>> 0, ack: 1, flags, window: 1, mss: 0, text: Buffer.from(text) };
@@ -31,19 +31,19 @@ function told(...segments) {
   });
 }
 
-test("of what came again it is said whether it is the same", () => {
-  assert.deepEqual(told([9, "", SYN | ACK], [9, "", SYN | ACK], [10, "abcd"], [10, "abcd"], [10, "abxd"], [10, "abcd"], [14, "e"]),
+test("of each retransmission: whether it is the same", () => {
+  assert.deepEqual(compared([9, "", SYN | ACK], [9, "", SYN | ACK], [10, "abcd"], [10, "abcd"], [10, "abxd"], [10, "abcd"], [14, "e"]),
     ["new", "same", "new", "same", 3, "same", "new"]);
   // cut otherwise, longer and shorter; a bare acknowledgement never came before
-  assert.deepEqual(told([0, "abcd"], [2, "cdef"], [1, "bc"], [3, "def"], [2, "ceef"], [6, ""]),
+  assert.deepEqual(compared([0, "abcd"], [2, "cdef"], [1, "bc"], [3, "def"], [2, "ceef"], [6, ""]),
     ["new", "same", "same", "same", 3, "new"]);
   // a FIN has a number too
-  assert.deepEqual(told([0, "ab", ACK | FIN], [0, "ab", ACK | FIN], [0, "abc"], [0, "a", ACK | FIN]), ["new", "same", 2, 1]);
+  assert.deepEqual(compared([0, "ab", ACK | FIN], [0, "ab", ACK | FIN], [0, "abc"], [0, "a", ACK | FIN]), ["new", "same", 2, 1]);
   // a hole, its filling, and what is ahead of all that is kept
-  assert.deepEqual(told([0, "a"], [3, "d"], [1, "bc"], [0, "abcd"], [200000, "x"], [200000, "y"], [0, "a"], [3 * 65536, "z"]),
+  assert.deepEqual(compared([0, "a"], [3, "d"], [1, "bc"], [0, "abcd"], [200000, "x"], [200000, "y"], [0, "a"], [3 * 65536, "z"]),
     ["new", "new", "new", "same", "new", 200000, "new", "new"]);
   // what was kept before there was more to keep
-  assert.deepEqual(told([0, "abcd"], [4, "x".repeat(1400)], [1404, "x".repeat(1400)], [0, "abcd"], [1, "xc"]),
+  assert.deepEqual(compared([0, "abcd"], [4, "x".repeat(1400)], [1404, "x".repeat(1400)], [0, "abcd"], [1, "xc"]),
     ["new", "new", "new", "same", 1]);
 });
 
@@ -51,7 +51,7 @@ test("numbers may wrap, and a long flow is compared as far back as a window", ()
   const first = 2 ** 32 - 70000, parts = [];
   for (let n = 0; n < 140; n++) parts.push([first + n * 1000, String.fromCharCode(65 + n % 26).repeat(1000)]);
   const back = [first + 80 * 1000, parts[80][1]], other = [first + 139 * 1000, "?"], old = [first + 999, "?"];
-  assert.deepEqual(told(...parts, back, other, old).slice(-3), ["same", 139000, "new"]);
+  assert.deepEqual(compared(...parts, back, other, old).slice(-3), ["same", 139000, "new"]);
 });
 
 test("each connection has its own numbers, and a SYN of ours with another begins a new one", () => {
@@ -109,9 +109,9 @@ test("a diagram of the page is read back too", () => {
 });
 
 test("a node by uIP's own rules is found: other bytes at one number", { timeout: 240000 }, async () => {
-  const rows = [], said = [], words = [join(here, "by_uips_rules.py"), "3"];
+  const rows = [], notices = [], words = [join(here, "by_uips_rules.py"), "3"];
   const child = spawn("python3", words, { stdio: ["pipe", "pipe", "inherit"] });
-  const session = startSession({ child, rate: 0, show: row => rows.push(row), notice: words => said.push(words) });
+  const session = startSession({ child, rate: 0, show: row => rows.push(row), notice: words => notices.push(words) });
   assert.match(Buffer.from((await session.whole("/")).bytes).toString(), /^This text was made 1 times\.\n$/);
   assert.equal(session.sums.different, 0);   // a slow machine may retransmit already
   const pass = session.faults.pass;
@@ -126,5 +126,5 @@ test("a node by uIP's own rules is found: other bytes at one number", { timeout:
   assert.ok(session.sums.different >= 1);
   const at = "HTTP/1.0 200 OK\r\nContent-Type: text/plain\r\n\r\nThis text was made ".length + 1;
   assert.ok(rows.some(row => rowText(row).endsWith(`again, OTHER BYTES at ${at}`)), rows.map(rowText).join("\n"));
-  assert.ok(said.some(it => it.includes("a retransmission with different bytes")));
+  assert.ok(notices.some(it => it.includes("a retransmission with different bytes")));
 });

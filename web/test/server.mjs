@@ -16,10 +16,10 @@ export async function startServe(...words) {
   const command = ["python3", join(WEB, "serve.py"), "--port", "0", ...words];
   const child = spawn("sh", ["-c", TIED, "sh", ...command], { stdio: ["pipe", "pipe", "inherit"] });
   const url = await new Promise((resolve, reject) => {
-    let said = "";
+    let output = "";
     child.stdout.on("data", text => {
-      said += text;
-      const url = /http:\S+\/(?= )/.exec(said)?.[0];
+      output += text;
+      const url = /http:\S+\/(?= )/.exec(output)?.[0];
       if (url) resolve(url);
     });
     child.on("exit", () => reject(new Error("serve.py ended")));
@@ -32,15 +32,15 @@ export const startServeOfSite = (...words) => startServe(UIPD, ...words);
 // `node` starts the program of a port and gives its child process. `asked` is what the server was asked for.
 export async function serve({ base = "/", node = null } = {}) {
   const ports = new Map(), asked = [], url = path => new URL(path, "http://x").pathname;
-  async function serial(request, response, number, deed) {
+  async function serial(request, response, number, action) {
     const child = ports.get(+number);
-    if (deed === "read") {
+    if (action === "read") {
       response.writeHead(200, { "Content-Type": "application/octet-stream" }).flushHeaders();
       child.stdout.pipe(response);
       return;
     }
-    if (deed === "write") for await (const bytes of request) child.stdin.write(bytes);
-    else if (deed === "close") child.kill();
+    if (action === "write") for await (const bytes of request) child.stdin.write(bytes);
+    else if (action === "close") child.kill();
     else ports.set(ports.size + 1, node());
     response.end(String(ports.size));
   }
@@ -53,10 +53,10 @@ export async function serve({ base = "/", node = null } = {}) {
     } catch { response.writeHead(404).end("not here\n"); }
   }
   const server = createServer((request, response) => {
-    const path = url(request.url), [, word, number, deed] = path.split("/");
+    const path = url(request.url), [, word, number, action] = path.split("/");
     asked.push(`${request.method} ${path}`);
     response.setHeader("Access-Control-Allow-Origin", "*");   // a page that is a file reads it too
-    if (word === "serial" && node) return serial(request, response, number, deed);
+    if (word === "serial" && node) return serial(request, response, number, action);
     return file(response, path);
   });
   await new Promise(resolve => server.listen(0, "127.0.0.1", resolve));
@@ -69,10 +69,10 @@ export async function serve({ base = "/", node = null } = {}) {
   return { url: origin + base, origin, asked, stop };
 }
 
-// A substitute for a serial port, as the page sees it, whose bytes go to the program behind /serial. It keeps the shape of Web
+// A substitute for a serial port, as the page sees it, whose bytes go to the program at /serial. It keeps the shape of Web
 // Serial: `readable` and `writable` are null until it is open, are streams then, and null again once it is closed; an error
 // that passes gives another stream; a locked stream refuses the close.
-class StandInPort extends EventTarget {
+class SubstitutePort extends EventTarget {
   static origin;
   readable = null;
   writable = null;
@@ -82,13 +82,13 @@ class StandInPort extends EventTarget {
   #pending = null;
   #out;
 
-  #at(deed) { return `${StandInPort.origin}/serial/${this.#number}/${deed}`; }
+  #at(action) { return `${SubstitutePort.origin}/serial/${this.#number}/${action}`; }
 
   async open({ baudRate, bufferSize = 255 }) {
     if (self.refuseOpen) throw new DOMException("Failed to open serial port.", "NetworkError");
     if (this.readable) throw new DOMException("The port is already open.", "InvalidStateError");
     this.opened = { baudRate, bufferSize };
-    this.#number = await (await fetch(`${StandInPort.origin}/serial`, { method: "POST" })).text();
+    this.#number = await (await fetch(`${SubstitutePort.origin}/serial`, { method: "POST" })).text();
     this.#stop = new AbortController();
     this.#incoming = (await fetch(this.#at("read"), { signal: this.#stop.signal })).body.getReader();
     this.#renew();
@@ -136,4 +136,4 @@ function putSerialInPlace(Port) {
 }
 
 export const serialAt = origin =>
-  `{ ${StandInPort}; StandInPort.origin = ${JSON.stringify(origin)}; (${putSerialInPlace})(StandInPort); }`;
+  `{ ${SubstitutePort}; SubstitutePort.origin = ${JSON.stringify(origin)}; (${putSerialInPlace})(SubstitutePort); }`;

@@ -2,7 +2,7 @@
 export const READY = `document.documentElement.dataset.ready`;
 export const shows = title => `frames[0].document.readyState === "complete" && frames[0].document.title === ${JSON.stringify(title)}`;
 export const click = (tab, id) => tab.run(`document.getElementById(${JSON.stringify(id)}).click()`);
-export const says = words => `document.getElementById("notices").textContent.includes(${JSON.stringify(words)})`;
+export const hasNotice = words => `document.getElementById("notices").textContent.includes(${JSON.stringify(words)})`;
 export const ends = words => `document.getElementById("state").textContent === ${JSON.stringify(words)}`;
 export const text = (tab, id) => tab.run(`return document.getElementById(${JSON.stringify(id)}).textContent`);
 export const hasText = (id, words) => `document.getElementById(${JSON.stringify(id)}).textContent.includes(${JSON.stringify(words)})`;

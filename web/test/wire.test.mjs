@@ -27,7 +27,7 @@ test("a frame of more than 1500 bytes is dropped, and the next one is taken", ()
   assert.deepEqual(got, [1500, "overlong", 3]);
 });
 
-test("an escape in front of another byte gives that byte, and none outlives its frame", () => {
+test("an escape before another byte gives that byte, and none outlives its frame", () => {
   const reader = new SlipReader(), got = [];
   reader.feed(Uint8Array.of(0xc0, 1, 0xdb, 7, 0xdb, 0xc0, 0xdc, 0xc0), it => got.push([...it]));
   assert.deepEqual(got, [[1, 7], [0xdc]]);
@@ -69,10 +69,10 @@ test("a sum that carries twice is the program's too", { skip: noProgram }, () =>
 
 test("the segment size is that of the option, else 536", () => {
   const withOptions = (...options) => {
-    const front = tcpDatagram(OWN, NODE, 1, { ...SEGMENT, mss: 1, text: Uint8Array.from([...options, 0, 0, 0, 0].slice(4)) });
-    front.set(options.slice(0, 4), 40);
-    front[32] = 20 + options.length << 2;
-    return read(resummed(front)).segment.mss;
+    const datagram = tcpDatagram(OWN, NODE, 1, { ...SEGMENT, mss: 1, text: Uint8Array.from([...options, 0, 0, 0, 0].slice(4)) });
+    datagram.set(options.slice(0, 4), 40);
+    datagram[32] = 20 + options.length << 2;
+    return read(resummed(datagram)).segment.mss;
   };
   assert.equal(withOptions(2, 4, 3, 232), 1000);
   assert.equal(withOptions(1, 1, 1, 2, 4, 3, 232, 0), 1000);

@@ -12,7 +12,7 @@ import { Sequence } from "../sequence.js";
 import { numbers } from "../faults.js";
 import { FILES, UIPD, bodyOf, dump, noProgram, pack, page, until, withSession } from "./node_process.mjs";
 
-const folder = mkdtempSync(join(tmpdir(), "talk-test-")), BIG = join(folder, "big.img"), next = numbers(7);
+const folder = mkdtempSync(join(tmpdir(), "transfer-test-")), BIG = join(folder, "big.img"), next = numbers(7);
 test.before(() => {
   writeFileSync(join(folder, "big"), Uint8Array.from({ length: 200000 }, () => next() & 0xff));
   writeFileSync(join(folder, "ends"), Uint8Array.from({ length: 30000 }, () => [0xc0, 0xdb, 0xdc, 0xdd, 1][next() % 5]));
@@ -20,10 +20,10 @@ test.before(() => {
 });
 test.after(() => rmSync(folder, { recursive: true }));
 
-const talk = (name, { skip = false, ...options }, what) => test(name, { skip, timeout: 120000 }, () => withSession(options, what));
+const transfer = (name, { skip = false, ...options }, what) => test(name, { skip, timeout: 120000 }, () => withSession(options, what));
 const isSame = ({ bytes }, target, site) => assert.ok(bodyOf(page(target, site)).equals(Buffer.from(bytes)), target);
 
-talk("every file of the site, byte for byte", {}, async session => {
+transfer("every file of the site, byte for byte", {}, async session => {
   await session.host.ping();   // it has started
   for (const name of [...FILES, "/"]) {
     const reply = await session.whole(name), type = headerOf(reply.headers, "content-type");
@@ -36,11 +36,11 @@ talk("every file of the site, byte for byte", {}, async session => {
   assert.equal(session.sums.retransmissions, 0);
 });
 
-talk("pings of all sizes come back", {}, async ({ host }) => {
+transfer("pings of all sizes come back", {}, async ({ host }) => {
   for (const length of [0, 1, 56, 1000, 1472]) assert.ok(await host.ping(length) >= 0);
 });
 
-talk("eight connections at once, each with its page", { site: BIG }, async session => {
+transfer("eight connections at once, each with its page", { site: BIG }, async session => {
   const names = Array.from({ length: 12 }, (_, n) => n % 2 ? "/ends.bin" : "/big.bin");
   let most = 0;
   session.show = () => { most = Math.max(most, [...session.host.connections.values()].filter(it => it.state === "ESTABLISHED").length); };
@@ -52,14 +52,14 @@ talk("eight connections at once, each with its page", { site: BIG }, async sessi
 });
 
 for (const mss of [100, 536])
-  talk(`segments of ${mss}`, { site: BIG, mss }, async session => {
+  transfer(`segments of ${mss}`, { site: BIG, mss }, async session => {
     const sizes = [];
     session.show = ({ isToNode, len }) => { if (!isToNode) sizes.push(len); };
     isSame(await session.whole("/ends.bin"), "/ends.bin", BIG);
     assert.equal(Math.max(...sizes), mss);
   });
 
-talk("ports are taken in turn and none again soon", {}, async ({ host }) => {
+transfer("ports are taken in turn and none again soon", {}, async ({ host }) => {
   const ports = new Set();
   for (let n = 0; n < 60; n++) {
     const connection = host.connect();
@@ -70,29 +70,29 @@ talk("ports are taken in turn and none again soon", {}, async ({ host }) => {
   assert.equal(ports.size, 60);
 });
 
-talk("a port that the node does not serve is refused", {}, async ({ host }) => {
+transfer("a port that the node does not serve is refused", {}, async ({ host }) => {
   await assert.rejects(all(host.connect(81).readable), /refused/);
 });
 
-talk("a connection that is given up is reset, and the next one is served", { site: BIG }, async session => {
+transfer("a connection that is given up is reset, and the next one is served", { site: BIG }, async session => {
   const { body } = await get(session.host, "/big.bin");
   await body.cancel();
   assert.equal(session.host.connections.size, 0);
   isSame(await session.whole("/ends.bin"), "/ends.bin", BIG);
 });
 
-talk("an end before the node's: the node's text still comes", {}, async ({ host }) => {
+transfer("an end before the node's: the node's text still comes", {}, async ({ host }) => {
   const connection = host.connect();
   connection.write(Buffer.from("GET /style.css HTTP/1.0\r\n\r\n"));
   connection.end();
   assert.ok(page("/style.css").equals(Buffer.from(await all(connection.readable))));
 });
 
-talk("a request in many segments", {}, async session => {
+transfer("a request in many segments", {}, async session => {
   isSame(await session.whole(`/style.css?${"x".repeat(5000)}`), "/style.css");
 });
 
-talk("a port on which the node still has an older connection", {}, async ({ host }) => {
+transfer("a port on which the node still has an older connection", {}, async ({ host }) => {
   const old = host.connect();
   old.write(Buffer.from("GET /sty"));                    // it stays open at the node
   await until(() => old.state === "ESTABLISHED");
@@ -105,13 +105,13 @@ talk("a port on which the node still has an older connection", {}, async ({ host
   assert.ok(page("/style.css").equals(Buffer.from(await all(again.readable))));
 });
 
-talk("eleven connections: the eleventh is reported, and comes when there is room", { speed: 4 }, async session => {
-  const said = [], hosts = Array.from({ length: 10 }, () => session.host.connect());
-  session.notice = words => said.push(words);
+transfer("eleven connections: the eleventh is reported, and comes when there is room", { speed: 4 }, async session => {
+  const notices = [], hosts = Array.from({ length: 10 }, () => session.host.connect());
+  session.notice = words => notices.push(words);
   await until(() => hosts.every(it => it.state === "ESTABLISHED"));
   session.atOnce = 11;
   const page = session.whole("/style.css");
-  await until(() => said.some(it => /may have no slot free \(10 are open\); sent again/.test(it)));
+  await until(() => notices.some(it => /may have no slot free \(10 are open\); sent again/.test(it)));
   hosts.forEach(it => it.abort());
   isSame(await page, "/style.css");
 });
@@ -127,7 +127,7 @@ function putInPlace(session, isIt, other) {
   };
 }
 
-talk("a page whose connection is reset is asked for anew, before its head is there alone", { site: BIG }, async session => {
+transfer("a page whose connection is reset is asked for anew, before its head is there alone", { site: BIG }, async session => {
   putInPlace(session, ({ flags }) => flags & SYN, { flags: RST | ACK });
   isSame(await session.whole("/ends.bin"), "/ends.bin", BIG);
   assert.deepEqual([session.sums.retried, session.sums.complete, session.sums.truncated], [1, 1, 0]);
@@ -137,13 +137,13 @@ talk("a page whose connection is reset is asked for anew, before its head is the
   assert.deepEqual([session.sums.retried, session.sums.complete, session.sums.truncated], [1, 1, 1]);
 });
 
-talk("a node that is gone: it is reported, and the page is truncated", { speed: 50 }, async session => {
-  const said = [];
-  session.notice = words => said.push(words);
+transfer("a node that is gone: it is reported, and the page is truncated", { speed: 50 }, async session => {
+  const notices = [];
+  session.notice = words => notices.push(words);
   isSame(await session.whole("/style.css"), "/style.css");
   session.faults.loss = 1;
   await assert.rejects(session.whole("/style.css"), /the node does not answer/);
-  assert.ok(said.some(it => /no answer for \d+ s to a SYN: is the device there/.test(it)), said.join("\n"));
+  assert.ok(notices.some(it => /no answer for \d+ s to a SYN: is the device there/.test(it)), notices.join("\n"));
   session.faults.loss = 0;
   isSame(await session.whole("/style.css"), "/style.css");
   assert.deepEqual([session.sums.complete, session.sums.wrong, session.sums.truncated], [2, 0, 1]);
@@ -153,14 +153,14 @@ for (const [name, faults] of Object.entries({
   loss: { loss: 0.2 }, duplication: { duplication: 0.5 }, reordering: { reordering: 0.3 }, corruption: { corruption: 0.2 },
   all: { loss: 0.1, duplication: 0.1, reordering: 0.1, corruption: 0.1, delay: 20 },
 }))
-  talk(`pages are complete under faults: ${name}`, { site: BIG, faults, seed: 11, speed: 50 }, async session => {
+  transfer(`pages are complete under faults: ${name}`, { site: BIG, faults, seed: 11, speed: 50 }, async session => {
     const got = await Promise.all(Array.from({ length: 5 }, () => session.whole("/ends.bin")));
     for (const reply of got) isSame(reply, "/ends.bin", BIG);
     assert.ok(session.sums.hit > 0);
     assert.equal(session.sums.different, 0);
   });
 
-talk("a capture is what uipd reads as one", { skip: noProgram }, async session => {
+transfer("a capture is what uipd reads as one", { skip: noProgram }, async session => {
   const seen = [], { host, faults } = session, pass = faults.pass.bind(faults);
   faults.pass = (datagram, ...rest) => { seen.push(datagram); return pass(datagram, ...rest); };
   await session.whole("/");
@@ -169,7 +169,7 @@ talk("a capture is what uipd reads as one", { skip: noProgram }, async session =
   assert.ok(execFileSync(UIPD, ["slip"], { input: file }).equals(Buffer.concat(seen.map(slipText))));
 });
 
-talk("every datagram that the host sends passes uipd's own checks", { skip: noProgram }, async session => {
+transfer("every datagram that the host sends passes uipd's own checks", { skip: noProgram }, async session => {
   const sent = [], { host } = session, send = host.send;
   host.send = datagram => { sent.push(datagram); send(datagram); };
   await session.whole("/");
