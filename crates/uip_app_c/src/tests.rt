@@ -1,0 +1,137 @@
+//! Each call, successful and refused, with ample memory.
+
+ghost use Rattle.std.specs.Prelude.{◌≡◌};
+ghost use Rattle.std.specs.declared.option.Option.TheVariants.{None};
+
+use crate::frame_calls::{uip_app_input_frame, uip_app_periodic_frame};
+use crate::handle::AppDevice;
+use crate::held::Held;
+use crate::messages::{AppReceived, uip_app_read, uip_app_write};
+use crate::opening::{uip_app_close, uip_app_open};
+use crate::status::{AppResult, BAD_ARGUMENT, HAS_DEVICE, NO_DEVICE, NOT_READY, OK};
+use frame_device::LARGEST_OUT;
+use std::alloc::Global;
+use std::process::Abort;
+
+const OWN: &[u8; 4] = &[10, 0, 0, 1];
+
+const MAC: &[u8; 6] = &[2, 0, 0, 0, 0, 1];
+
+/// 02:00:00:00:00:02 at 10.0.0.2 asks all stations for 10.0.0.1 (RFC 826).
+const ARP_REQUEST: &[u8; 42] = &[
+    255, 255, 255, 255, 255, 255, 2, 0, 0, 0, 0, 2, 8, 6, 0, 1, 8, 0, 6, 4, 0, 1, 2, 0, 0, 0, 0, 2,
+    10, 0, 0, 2, 0, 0, 0, 0, 0, 0, 10, 0, 0, 1,
+];
+
+/// The reply.
+const ARP_REPLY: &[u8; 42] = &[
+    2, 0, 0, 0, 0, 2, 2, 0, 0, 0, 0, 1, 8, 6, 0, 1, 8, 0, 6, 4, 0, 2, 2, 0, 0, 0, 0, 1, 10, 0, 0,
+    1, 2, 0, 0, 0, 0, 2, 10, 0, 0, 2,
+];
+
+/// Returns a handle without a device.
+fn no_device(alloc: Global) -> AppDevice {
+    AppDevice {
+        is_open: 0,
+        held: Held::none(alloc),
+    }
+}
+
+/// Discards a handle without a device.
+fn discard(device: AppDevice)
+    requires { device.held.device ≡ None }
+{
+    let AppDevice { is_open: _, held } = device;
+    let _alloc = held.into_alloc();
+}
+
+/// Each call that changes a device is refused with this status.
+fn check_refused(rt: &impl Abort, alloc: Global, device: &mut AppDevice, status: u32) {
+    let mut frame = [0; LARGEST_OUT];
+    let refused = AppResult::refused(status);
+    assert_eq!(rt; uip_app_input_frame(alloc, device, &mut frame, 42), refused);
+    assert_eq!(rt;
+        uip_app_periodic_frame(alloc, device, 9, &mut frame),
+        refused
+    );
+    assert_eq!(rt;
+        uip_app_write(alloc, device, 9, 0, b"bye\n", 1, &mut frame),
+        refused
+    );
+}
+
+#[test]
+fn a_handle_without_a_device_refuses_all(rt: HostRuntime) {
+    let alloc = rt.alloc();
+    let mut device = no_device(alloc);
+    check_refused(&rt, alloc, &mut device, NO_DEVICE);
+    assert_eq!(rt;
+        uip_app_read(alloc, &mut device, 0, &mut []).status,
+        NO_DEVICE
+    );
+    assert_eq!(rt; uip_app_close(alloc, &mut device), NO_DEVICE);
+    discard(device);
+}
+
+#[test]
+fn a_device_answers_arp_and_has_no_connection(rt: HostRuntime) {
+    let alloc = rt.alloc();
+    let mut device = no_device(alloc);
+    assert_eq!(rt; uip_app_open(alloc, &mut device, OWN, MAC), OK);
+    assert_eq!(rt; uip_app_open(alloc, &mut device, OWN, MAC), HAS_DEVICE);
+    let mut frame = [0; LARGEST_OUT];
+    frame[..42].copy_from_slice(ARP_REQUEST);
+    assert_eq!(rt;
+        uip_app_input_frame(alloc, &mut device, &mut frame, 42),
+        AppResult::done(42, 42)
+    );
+    assert!(rt; frame.starts_with(ARP_REPLY));
+    assert_eq!(rt;
+        uip_app_periodic_frame(alloc, &mut device, 0, &mut frame),
+        AppResult::done(0, 0)
+    );
+    let closed = AppReceived {
+        status: OK,
+        ready: 0,
+        port: 0,
+        len: 0,
+    };
+    assert_eq!(rt; uip_app_read(alloc, &mut device, 9, &mut frame), closed);
+    assert_eq!(rt;
+        uip_app_write(alloc, &mut device, 9, 0, b"bye\n", 1, &mut frame),
+        AppResult::refused(NOT_READY)
+    );
+    assert_eq!(rt; uip_app_close(alloc, &mut device), OK);
+    discard(device);
+}
+
+#[test]
+fn a_bad_argument_is_refused(rt: HostRuntime) {
+    let alloc = rt.alloc();
+    let mut device = no_device(alloc);
+    assert_eq!(rt; uip_app_open(alloc, &mut device, OWN, MAC), OK);
+    let mut frame = [0; LARGEST_OUT];
+    let refused = AppResult::refused(BAD_ARGUMENT);
+    assert_eq!(rt;
+        uip_app_input_frame(alloc, &mut device, &mut frame, 1515),
+        refused
+    );
+    assert_eq!(rt;
+        uip_app_periodic_frame(alloc, &mut device, 10, &mut frame),
+        refused
+    );
+    assert_eq!(rt;
+        uip_app_read(alloc, &mut device, 10, &mut frame).status,
+        BAD_ARGUMENT
+    );
+    assert_eq!(rt;
+        uip_app_write(alloc, &mut device, 0, 0, &[0; 261], 0, &mut frame),
+        refused
+    );
+    assert_eq!(rt;
+        uip_app_write(alloc, &mut device, 0, 0, b"", 0, &mut frame[1..]),
+        refused
+    );
+    assert_eq!(rt; uip_app_close(alloc, &mut device), OK);
+    discard(device);
+}
