@@ -3,9 +3,9 @@ use Rattle.std.specs.Prelude.{◌≡◌, ◌⊎◌, ℕ, Bool, true, false, List
 use Rattle.std.specs.declared.option.Option.TheVariants.{None, Some}
 use Rattle.uip_wire.specs.Prelude.{written}
 use Rattle.uip_wire.specs.declared.addr.Addr.{Addr}
-use Rattle.ethernet_arp.specs.Prelude.{Host}
 use Rattle.ethernet_arp.specs.declared.mac.Mac.{Mac}
-use Rattle.frame_device.specs.Prelude.{AnswersFrame, CallsSlot, FrameCall, IsFreshFrameDevice}
+use Rattle.frame_device.specs.declared.network.Network.{Network}
+use Rattle.frame_device.specs.Prelude.{AnswersFrame, CallsSlot, FrameCall, Interface, IsFreshFrameDevice}
 use Rattle.frame_device.specs.contracts.ether.EthernetFrames.TheImpl.{ghosts as ether_link}
 use Rattle.own_app.specs.contracts.app.OwnAppApp.TheImpl.{ghosts}
 use Rattle.own_app.specs.Prelude.{no_message, numbers_of, own_spec}
@@ -15,18 +15,21 @@ use Rattle.uip_app_c.specs.declared.messages.AppReceived.{AppReceived}
 use Rattle.uip_app_c.specs.declared.status.AppResult.{AppResult}
 use Rattle.uip_app_c.specs.declared.status.TheConstants.{BAD_ARGUMENT, NO_DEVICE, NOT_READY, OK}
 
--- the host of an address and a hardware address
-abbrev pub host_at : Addr → Mac → Host
-host_at own mac = record { addr = own.0; mac = mac.0 }
+-- the host of an IP address and a hardware address, on this network
+abbrev pub interface_at : Addr → Mac → Network → Interface
+interface_at own mac network = record { host = record { addr = own.0; mac = mac.0 }; network = network }
 
--- It represents the initial node at this address, and a link with this hardware address that has learned nothing.
-abbrev pub IsFreshOwnEther : Addr → Mac → OwnEther → Type 0
-IsFreshOwnEther own mac d =
-    IsFreshFrameDevice ghosts ether_link (host_at own mac) own_spec (numbers_of 0 no_message) own d
+-- It represents the initial node at this address, and a link with this hardware address, on this network, that has learned nothing.
+abbrev pub IsFreshOwnEther : Addr → Mac → Network → OwnEther → Type 0
+IsFreshOwnEther own mac network d =
+    IsFreshFrameDevice ghosts ether_link (interface_at own mac network) own_spec (numbers_of 0 no_message) own d
 
--- There was no device, and there is a fresh one at this address and hardware address.
-abbrev pub OpensOwn : List ℕ → List ℕ → Kept → Kept → Type 0
-OpensOwn own mac old new = (old ≡ None) × HasOwn (IsFreshOwnEther (record { 0 = own }) (record { 0 = mac })) new
+-- There was no device, and there is a fresh one at this address and hardware address, with this mask and this router.
+abbrev pub OpensOwn : List ℕ → List ℕ → List ℕ → List ℕ → Kept → Kept → Type 0
+OpensOwn own mac mask router old new =
+    (old ≡ None)
+    × HasOwn (IsFreshOwnEther (record { 0 = own }) (record { 0 = mac })
+    (record { mask = record { 0 = mask }; router = record { 0 = router } })) new
 
 -- There was a device and there still is one, and the call wrote this frame, or no bytes.
 pub record OwnAnswers (call : FrameCall) (old new : Kept) (handed : List ℕ) : Type 0 where

@@ -17,6 +17,12 @@ const OWN: &[u8; 4] = &[10, 0, 0, 1];
 
 const MAC: &[u8; 6] = &[2, 0, 0, 0, 0, 1];
 
+/// The addresses from 10.0.0.0 to 10.0.0.255 are on the link.
+const MASK: &[u8; 4] = &[255, 255, 255, 0];
+
+/// The router, which has 02:00:00:00:00:09.
+const ROUTER: &[u8; 4] = &[10, 0, 0, 254];
+
 /// 02:00:00:00:00:02 at 10.0.0.2 asks all stations for 10.0.0.1 (RFC 826).
 const ARP_REQUEST: &[u8; 42] = &[
     255, 255, 255, 255, 255, 255, 2, 0, 0, 0, 0, 2, 8, 6, 0, 1, 8, 0, 6, 4, 0, 1, 2, 0, 0, 0, 0, 2,
@@ -27,6 +33,28 @@ const ARP_REQUEST: &[u8; 42] = &[
 const ARP_REPLY: &[u8; 42] = &[
     2, 0, 0, 0, 0, 2, 2, 0, 0, 0, 0, 1, 8, 6, 0, 1, 8, 0, 6, 4, 0, 2, 2, 0, 0, 0, 0, 1, 10, 0, 0,
     1, 2, 0, 0, 0, 0, 2, 10, 0, 0, 2,
+];
+
+/// An echo request from 192.168.7.1 by the router, what the node asks if the router is unknown, the reply of the router to that, and the
+/// echo reply.
+const FAR_PING: &[u8; 42] = &[
+    2, 0, 0, 0, 0, 1, 2, 0, 0, 0, 0, 9, 8, 0, 69, 0, 0, 28, 0, 1, 0, 0, 64, 1, 169, 54, 192, 168,
+    7, 1, 10, 0, 0, 1, 8, 0, 247, 253, 0, 1, 0, 1,
+];
+
+const ROUTER_REQUEST: &[u8; 42] = &[
+    255, 255, 255, 255, 255, 255, 2, 0, 0, 0, 0, 1, 8, 6, 0, 1, 8, 0, 6, 4, 0, 1, 2, 0, 0, 0, 0, 1,
+    10, 0, 0, 1, 0, 0, 0, 0, 0, 0, 10, 0, 0, 254,
+];
+
+const ROUTER_REPLY: &[u8; 42] = &[
+    2, 0, 0, 0, 0, 1, 2, 0, 0, 0, 0, 9, 8, 6, 0, 1, 8, 0, 6, 4, 0, 2, 2, 0, 0, 0, 0, 9, 10, 0, 0,
+    254, 2, 0, 0, 0, 0, 1, 10, 0, 0, 1,
+];
+
+const FAR_REPLY: &[u8; 42] = &[
+    2, 0, 0, 0, 0, 9, 2, 0, 0, 0, 0, 1, 8, 0, 69, 0, 0, 28, 0, 1, 0, 0, 64, 1, 169, 54, 10, 0, 0,
+    1, 192, 168, 7, 1, 0, 0, 255, 253, 0, 1, 0, 1,
 ];
 
 /// Returns a handle without a device.
@@ -43,6 +71,33 @@ fn discard(device: AppDevice)
 {
     let AppDevice { is_open: _, held } = device;
     let _alloc = held.into_alloc();
+}
+
+/// Returns a handle with a device.
+fn opened(rt: &impl Abort, alloc: Global) -> AppDevice {
+    let mut device = no_device(alloc);
+    assert_eq!(rt;
+        uip_app_open(alloc, &mut device, OWN, MAC, MASK, ROUTER),
+        OK
+    );
+    device
+}
+
+/// Passes a frame to the device, which must send this one, or none.
+fn check_reply(
+    rt: &impl Abort,
+    alloc: Global,
+    device: &mut AppDevice,
+    sent: &[u8; 42],
+    reply: &[u8],
+) {
+    let mut frame = [0; LARGEST_OUT];
+    frame[..42].copy_from_slice(sent);
+    assert_eq!(rt;
+        uip_app_input_frame(alloc, device, &mut frame, 42),
+        AppResult::done(42, reply.len())
+    );
+    assert!(rt; frame.starts_with(reply));
 }
 
 /// Each call that changes a device is refused with this status.
@@ -76,16 +131,13 @@ fn a_handle_without_a_device_refuses_all(rt: HostRuntime) {
 #[test]
 fn a_device_answers_arp_and_has_no_connection(rt: HostRuntime) {
     let alloc = rt.alloc();
-    let mut device = no_device(alloc);
-    assert_eq!(rt; uip_app_open(alloc, &mut device, OWN, MAC), OK);
-    assert_eq!(rt; uip_app_open(alloc, &mut device, OWN, MAC), HAS_DEVICE);
-    let mut frame = [0; LARGEST_OUT];
-    frame[..42].copy_from_slice(ARP_REQUEST);
+    let mut device = opened(&rt, alloc);
     assert_eq!(rt;
-        uip_app_input_frame(alloc, &mut device, &mut frame, 42),
-        AppResult::done(42, 42)
+        uip_app_open(alloc, &mut device, OWN, MAC, MASK, ROUTER),
+        HAS_DEVICE
     );
-    assert!(rt; frame.starts_with(ARP_REPLY));
+    check_reply(&rt, alloc, &mut device, ARP_REQUEST, ARP_REPLY);
+    let mut frame = [0; LARGEST_OUT];
     assert_eq!(rt;
         uip_app_periodic_frame(alloc, &mut device, 0, &mut frame),
         AppResult::done(0, 0)
@@ -106,10 +158,20 @@ fn a_device_answers_arp_and_has_no_connection(rt: HostRuntime) {
 }
 
 #[test]
+fn a_reply_to_another_network_goes_to_the_router(rt: HostRuntime) {
+    let alloc = rt.alloc();
+    let mut device = opened(&rt, alloc);
+    check_reply(&rt, alloc, &mut device, FAR_PING, ROUTER_REQUEST);
+    check_reply(&rt, alloc, &mut device, ROUTER_REPLY, b"");
+    check_reply(&rt, alloc, &mut device, FAR_PING, FAR_REPLY);
+    assert_eq!(rt; uip_app_close(alloc, &mut device), OK);
+    discard(device);
+}
+
+#[test]
 fn a_bad_argument_is_refused(rt: HostRuntime) {
     let alloc = rt.alloc();
-    let mut device = no_device(alloc);
-    assert_eq!(rt; uip_app_open(alloc, &mut device, OWN, MAC), OK);
+    let mut device = opened(&rt, alloc);
     let mut frame = [0; LARGEST_OUT];
     let refused = AppResult::refused(BAD_ARGUMENT);
     assert_eq!(rt;
