@@ -98,6 +98,12 @@ enum {
     UIP_MODBUS_PORT = 502
 };
 
+/*
+ * The heap of one device, in bytes: blocks of 1500, 4720 and 576 bytes, each rounded up to a multiple of 16. Add what
+ * your allocator adds to each block. For several devices add theirs. Measured on x86-64, not proved.
+ */
+#define UIP_APP_MEMORY 6800
+
 /* The handle of one device. `is_open` is 1 with a device, else 0. */
 typedef struct uip_app { unsigned is_open; void *at; } uip_app;
 #define UIP_APP_INIT {0, 0}
