@@ -564,7 +564,7 @@ unsigned uip_close(uip_device *device);
  *
  * Measured, not proved: uip_open makes six allocations; for a site of f files: 28*f, 2*f, 4*f, 1500, 1600 and
  * 2312 bytes;
- * uip_open_ether the same, with 888 in place of 2312. If one fails, it frees those before it. uip_close frees all six.
+ * uip_open_ether the same, with 896 in place of 2312. If one fails, it frees those before it. uip_close frees all six.
  * No other call allocates or frees. If you call uip_open once and never uip_close, rattle_dealloc may do nothing.
  * examples/heap.c reuses its array when all its devices are closed.
  */

@@ -66,9 +66,15 @@ compare_with_library() {
     cmp -s "$out/again.o" "$out/members" || fail "the library is not what clang makes of the kept module (habit 3 above)"
 }
 
+# lib RT: runs `rt lib` with this rt.
+lib() { (cd "$top/crates/uip_c" && "$1" lib) >"$out/lib.log" 2>&1 || { tail -5 "$out/lib.log" >&2; fail "rt lib failed in crates/uip_c"; }; }
+
+# The rt of the kit proves first: it begins with what it keeps beside the kit for all checkouts, and a kit of links has no such place.
+mkdir -p "$out"
+lib "$kit/bin/rt"
 make_kit || fail "no kit of links was made in $out/kit"
 rm -f "$out/module.bc" "$out/clang.calls" "$out/clang.words" "$out/uip_c.ll" "$library"
-(cd "$top/crates/uip_c" && "$out/kit/bin/rt" lib) >"$out/lib.log" 2>&1 || { tail -5 "$out/lib.log" >&2; fail "rt lib failed in crates/uip_c"; }
+lib "$out/kit/bin/rt"
 [ -f "$out/clang.calls" ] || fail "rt did not run the clang of the kit from which it runs (habit 1 above)"
 [ "$(grep -c module "$out/clang.calls")" = 1 ] || fail "clang did not receive one module as FILE.bc (habit 2 above): see $out/clang.calls"
 cp "$library" "$out/host.a" || exit 1

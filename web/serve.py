@@ -426,7 +426,7 @@ class Words:
         if not is_named and (browse is None or not os.path.exists(self.uipd)):
             return None
         if browse is None:
-            fail("no ../examples/browse.py beside this folder, or no pseudo terminals on this system; without a word the device runs inside the page")
+            fail("no examples/browse.py here, or no pseudo terminals on this system; without a word the device runs inside the page")
         node = self.named()
         node.is_asked = bool(is_named)   # the page then connects at once
         return node

@@ -89,18 +89,18 @@ fi
 # ---- outside of it
 
 cc=${CC:-cc}
-program=$PROGRAM$BOARD
-[ -n "$program" ] || command -v "$cc" >/dev/null || skip "C compiler $cc"
+given=$PROGRAM$BOARD
+[ -n "$given" ] || command -v "$cc" >/dev/null || skip "C compiler $cc"
 [ -z "$BOARD" ] || command -v "${BOARD%% *}" >/dev/null || skip "command ${BOARD%% *}"
 [ "$(id -u)" = 0 ] || skip "right to make an interface: run it as root"
 [ -c /dev/net/tun ] || skip "/dev/net/tun"
 for program in ip unshare nsenter curl; do command -v $program >/dev/null || skip "command $program"; done
 unshare -n true 2>/dev/null || skip "right to make a network namespace"
-if [ -z "$LIBRARY$program" ] && { [ ! -f "$library" ] || [ -n "$(find "$top/crates" -name '*.rt' -newer "$library" | head -1)" ]; }; then
+if [ -z "$LIBRARY$given" ] && { [ ! -f "$library" ] || [ -n "$(find "$top/crates" -name '*.rt' -newer "$library" | head -1)" ]; }; then
     command -v rt >/dev/null || fail "no library of these sources at $library, and no command rt to build it"
     (cd "$top/crates/uip_c" && rt lib) >/dev/null || fail "rt lib failed in crates/uip_c"
 fi
 mkdir -p "$out"
-[ -z "$program" ] || exec unshare -n sh "$0" inside
+[ -z "$given" ] || exec unshare -n sh "$0" inside
 "$cc" -O2 -Wall -Wextra -I"$top/include" "$here/tap.c" "$top/examples/linux-c/heap.c" "$library" -o "$out/uip_tap" || fail "tap.c was not built"
 exec unshare -n sh "$0" inside

@@ -26,7 +26,7 @@ tests() {
     sed -n 's/^﹣.* # /skipped: /p' "$log" | sort | uniq -c | sed 's/^ *\([0-9]*\) skipped:/skipped: \1 tests of the page:/'
     count() { sed -n "s/^ℹ $1 //p" "$log"; }
     seconds=$(count duration_ms)
-    echo "web: $name: $(count pass) passed, $(count fail) failed in $((${seconds%%.*} / 1000)) s"
+    echo "web: $name: $(count pass) passed, $(($(count fail) + $(count cancelled))) failed in $((${seconds%%.*} / 1000)) s"
 }
 
 suites() { for suite in "$@"; do printf 'web/test/%s.test.mjs ' "$suite"; done; }
@@ -57,7 +57,7 @@ browser() {
     tests "the page with the device inside" 900 web/test/page.test.mjs
 }
 # All, or with --quick those that need no browser, in at most $1 seconds.
-planted() { timeout "$1" node web/test/planted.mjs $2 || { echo "web: a planted fault was not found, or not all were tried in time"; status=1; }; }
+planted() { timeout "$(($1 * ${PATIENCE:-1}))" node web/test/planted.mjs $2 || { echo "web: a planted fault was not found, or not all were tried in time"; status=1; }; }
 
 case "${1:-all}" in
     client) client;;
