@@ -86,7 +86,7 @@ enum { UIP_NOT_READY = 8 };
 
 enum {
     UIP_MAX_RECEIVED = 128,    /* the received bytes that a connection stores */
-    UIP_MAX_MESSAGE = 260,     /* bytes of the longest message: a frame of Modbus/TCP */
+    UIP_MAX_MESSAGE = 260,     /* bytes of the longest message: the longest frame of Modbus/TCP */
     UIP_APP_PORT = 5025,       /* the port of a console, as instruments have it for SCPI */
     UIP_MODBUS_PORT = 502
 };
@@ -94,6 +94,12 @@ enum {
 /* The handle of one device. `is_open` is 1 with a device, else 0. */
 typedef struct { unsigned is_open; void *at; } uip_app;
 #define UIP_APP_INIT {0, 0}
+
+/*
+ * The heap of one device, in bytes: three blocks, of 1500, 4720 and 568 bytes (ten connections have 4720), each rounded
+ * up to a multiple of 16. Measured on x86-64; not measured on another target. See "The heap" of uip.h.
+ */
+#define UIP_APP_MEMORY 6800
 
 /*
  * The result of uip_app_read.
