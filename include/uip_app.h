@@ -93,20 +93,20 @@ enum { UIP_NOT_READY = 8 };
 
 enum {
     UIP_MAX_RECEIVED = 128,    /* the received bytes that a connection stores */
-    UIP_MAX_MESSAGE = 260,     /* bytes of the longest message: a frame of Modbus/TCP */
+    UIP_MAX_MESSAGE = 260,     /* bytes of the longest message: the longest frame of Modbus/TCP */
     UIP_APP_PORT = 5025,       /* the port of a console, as instruments have it for SCPI */
     UIP_MODBUS_PORT = 502
 };
 
-/*
- * The heap of one device, in bytes: blocks of 1500, 4720 and 576 bytes, each rounded up to a multiple of 16. Add what
- * your allocator adds to each block. For several devices add theirs. Measured on x86-64, not proved.
- */
-#define UIP_APP_MEMORY 6800
-
 /* The handle of one device. `is_open` is 1 with a device, else 0. */
 typedef struct uip_app { unsigned is_open; void *at; } uip_app;
 #define UIP_APP_INIT {0, 0}
+
+/*
+ * The heap of one device, in bytes: three blocks, of 1500, 4720 and 576 bytes (ten connections have 4720), each rounded
+ * up to a multiple of 16. Measured on x86-64; not measured on another target. See "The heap" of uip.h.
+ */
+#define UIP_APP_MEMORY 6800
 
 /*
  * The result of uip_app_read.
