@@ -1,0 +1,7 @@
+pub mod OwnSpec
+pub mod OwnRepresents
+pub mod OwnLines
+pub mod OwnTraces
+pub mod ConstantValues
+pub mod Lemmas
+pub mod Prelude

@@ -1,0 +1,28 @@
+-- What the periodic call of its slot does with a message that was just written.
+use Rattle.std.specs.List.{All}
+use Rattle.std.specs.Prelude.{◌≡◌, ◌<◌, ◌++◌, [], ◌∷◌, ℕ, Bool, List, drop, length, true}
+use Rattle.app_events.specs.Prelude.{IsByte, Snapshot}
+use Rattle.app_events.specs.declared.now.Now.{Now}
+use Rattle.tcp_machine.specs.Prelude.{Connection}
+use Rattle.uip_node.specs.Prelude.{AbstractNode, connection_in, periodic}
+use Rattle.own_app.specs.Prelude.{PlainMessage, message_in, messages_text, own_spec, pending as pending_of, with_written}
+use Rattle.own_node.specs.Messages.{can_write_in, next_message}
+
+-- the connection in a slot after the next message was written to it and the slot was called
+abbrev pub called_after : ℕ → ℕ → List ℕ → Bool → AbstractNode → Connection
+called_after slot taken text last n =
+    connection_in slot (periodic own_spec (with_written (next_message slot taken text last n) n) slot).node
+
+-- The message is the newest capture of the connection. Its text follows the text before, and the bytes that it answers are not pending.
+pub record HasCaptured (message : PlainMessage) (old new : Connection) : Type 0 where
+  pub capture : Snapshot
+  pub numbers : message_in capture.numbers ≡ message
+  pub captures : new.part.captures ≡ old.part.captures ++ capture ∷ []
+  pub text : messages_text new.part.captures ≡ messages_text old.part.captures ++ message.text
+  pub pending : pending_of new.part ≡ drop message.taken (pending_of old.part)
+
+abbrev pub ReadyMessagesAreCaptured : Type 0
+ReadyMessagesAreCaptured =
+    (n : AbstractNode) (slot taken : ℕ) (text : List ℕ) (last : Bool) → slot < length n.connections → All IsByte text
+    → can_write_in slot taken n ≡ true
+    → HasCaptured (next_message slot taken text last n) (connection_in slot n) (called_after slot taken text last n)

@@ -1,0 +1,9 @@
+//! What the periodic call does with a message.
+
+ghost use Rattle.own_node.specs.Capturing.{ReadyMessagesAreCaptured};
+
+/// The periodic call of its slot captures a message that was written to a connection that is ready. It is then the end of the text of that
+/// connection, and the bytes that it answers are no longer pending.
+pub fn ready_messages_are_captured()
+    ensures { ReadyMessagesAreCaptured }
+{}

@@ -1,0 +1,5 @@
+pub mod Kept
+pub mod Holding
+pub mod Handles
+pub mod AppCalls
+pub mod ConstantValues

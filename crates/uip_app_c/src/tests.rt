@@ -1,0 +1,199 @@
+//! Each call, successful and refused, with ample memory.
+
+ghost use Rattle.std.specs.Prelude.{◌≡◌};
+ghost use Rattle.std.specs.declared.option.Option.TheVariants.{None};
+
+use crate::frame_calls::{uip_app_input_frame, uip_app_periodic_frame};
+use crate::handle::AppDevice;
+use crate::held::Held;
+use crate::messages::{AppReceived, uip_app_read, uip_app_write};
+use crate::opening::{uip_app_close, uip_app_open};
+use crate::status::{AppResult, BAD_ARGUMENT, HAS_DEVICE, NO_DEVICE, NOT_READY, OK};
+use frame_device::LARGEST_OUT;
+use std::alloc::Global;
+use std::process::Abort;
+
+const OWN: &[u8; 4] = &[10, 0, 0, 1];
+
+const MAC: &[u8; 6] = &[2, 0, 0, 0, 0, 1];
+
+/// The addresses from 10.0.0.0 to 10.0.0.255 are on the link.
+const MASK: &[u8; 4] = &[255, 255, 255, 0];
+
+/// The router, which has 02:00:00:00:00:09.
+const ROUTER: &[u8; 4] = &[10, 0, 0, 254];
+
+/// 02:00:00:00:00:02 at 10.0.0.2 asks all stations for 10.0.0.1 (RFC 826).
+const ARP_REQUEST: &[u8; 42] = &[
+    255, 255, 255, 255, 255, 255, 2, 0, 0, 0, 0, 2, 8, 6, 0, 1, 8, 0, 6, 4, 0, 1, 2, 0, 0, 0, 0, 2,
+    10, 0, 0, 2, 0, 0, 0, 0, 0, 0, 10, 0, 0, 1,
+];
+
+/// The reply.
+const ARP_REPLY: &[u8; 42] = &[
+    2, 0, 0, 0, 0, 2, 2, 0, 0, 0, 0, 1, 8, 6, 0, 1, 8, 0, 6, 4, 0, 2, 2, 0, 0, 0, 0, 1, 10, 0, 0,
+    1, 2, 0, 0, 0, 0, 2, 10, 0, 0, 2,
+];
+
+/// An echo request from 192.168.7.1 by the router, what the node asks if the router is unknown, the reply of the router to that, and the
+/// echo reply.
+const FAR_PING: &[u8; 42] = &[
+    2, 0, 0, 0, 0, 1, 2, 0, 0, 0, 0, 9, 8, 0, 69, 0, 0, 28, 0, 1, 0, 0, 64, 1, 169, 54, 192, 168,
+    7, 1, 10, 0, 0, 1, 8, 0, 247, 253, 0, 1, 0, 1,
+];
+
+const ROUTER_REQUEST: &[u8; 42] = &[
+    255, 255, 255, 255, 255, 255, 2, 0, 0, 0, 0, 1, 8, 6, 0, 1, 8, 0, 6, 4, 0, 1, 2, 0, 0, 0, 0, 1,
+    10, 0, 0, 1, 0, 0, 0, 0, 0, 0, 10, 0, 0, 254,
+];
+
+const ROUTER_REPLY: &[u8; 42] = &[
+    2, 0, 0, 0, 0, 1, 2, 0, 0, 0, 0, 9, 8, 6, 0, 1, 8, 0, 6, 4, 0, 2, 2, 0, 0, 0, 0, 9, 10, 0, 0,
+    254, 2, 0, 0, 0, 0, 1, 10, 0, 0, 1,
+];
+
+const FAR_REPLY: &[u8; 42] = &[
+    2, 0, 0, 0, 0, 9, 2, 0, 0, 0, 0, 1, 8, 0, 69, 0, 0, 28, 0, 1, 0, 0, 64, 1, 169, 54, 10, 0, 0,
+    1, 192, 168, 7, 1, 0, 0, 255, 253, 0, 1, 0, 1,
+];
+
+/// Returns a handle without a device.
+fn no_device(alloc: Global) -> AppDevice {
+    AppDevice {
+        is_open: 0,
+        held: Held::none(alloc),
+    }
+}
+
+/// Discards a handle without a device.
+fn discard(device: AppDevice)
+    requires { device.held.device ≡ None }
+{
+    let AppDevice { is_open: _, held } = device;
+    let _alloc = held.into_alloc();
+}
+
+/// Returns a handle with a device.
+fn opened(rt: &impl Abort, alloc: Global) -> AppDevice {
+    let mut device = no_device(alloc);
+    assert_eq!(rt;
+        uip_app_open(alloc, &mut device, OWN, MAC, MASK, ROUTER),
+        OK
+    );
+    device
+}
+
+/// Passes a frame to the device, which must send this one, or none.
+fn check_reply(
+    rt: &impl Abort,
+    alloc: Global,
+    device: &mut AppDevice,
+    sent: &[u8; 42],
+    reply: &[u8],
+) {
+    let mut frame = [0; LARGEST_OUT];
+    frame[..42].copy_from_slice(sent);
+    assert_eq!(rt;
+        uip_app_input_frame(alloc, device, &mut frame, 42),
+        AppResult::done(42, reply.len())
+    );
+    assert!(rt; frame.starts_with(reply));
+}
+
+/// Each call that changes a device is refused with this status.
+fn check_refused(rt: &impl Abort, alloc: Global, device: &mut AppDevice, status: u32) {
+    let mut frame = [0; LARGEST_OUT];
+    let refused = AppResult::refused(status);
+    assert_eq!(rt; uip_app_input_frame(alloc, device, &mut frame, 42), refused);
+    assert_eq!(rt;
+        uip_app_periodic_frame(alloc, device, 9, &mut frame),
+        refused
+    );
+    assert_eq!(rt;
+        uip_app_write(alloc, device, 9, 0, b"bye\n", 1, &mut frame),
+        refused
+    );
+}
+
+#[test]
+fn a_handle_without_a_device_refuses_all(rt: HostRuntime) {
+    let alloc = rt.alloc();
+    let mut device = no_device(alloc);
+    check_refused(&rt, alloc, &mut device, NO_DEVICE);
+    assert_eq!(rt;
+        uip_app_read(alloc, &mut device, 0, &mut []).status,
+        NO_DEVICE
+    );
+    assert_eq!(rt; uip_app_close(alloc, &mut device), NO_DEVICE);
+    discard(device);
+}
+
+#[test]
+fn a_device_answers_arp_and_has_no_connection(rt: HostRuntime) {
+    let alloc = rt.alloc();
+    let mut device = opened(&rt, alloc);
+    assert_eq!(rt;
+        uip_app_open(alloc, &mut device, OWN, MAC, MASK, ROUTER),
+        HAS_DEVICE
+    );
+    check_reply(&rt, alloc, &mut device, ARP_REQUEST, ARP_REPLY);
+    let mut frame = [0; LARGEST_OUT];
+    assert_eq!(rt;
+        uip_app_periodic_frame(alloc, &mut device, 0, &mut frame),
+        AppResult::done(0, 0)
+    );
+    let closed = AppReceived {
+        status: OK,
+        ready: 0,
+        port: 0,
+        len: 0,
+    };
+    assert_eq!(rt; uip_app_read(alloc, &mut device, 9, &mut frame), closed);
+    assert_eq!(rt;
+        uip_app_write(alloc, &mut device, 9, 0, b"bye\n", 1, &mut frame),
+        AppResult::refused(NOT_READY)
+    );
+    assert_eq!(rt; uip_app_close(alloc, &mut device), OK);
+    discard(device);
+}
+
+#[test]
+fn a_reply_to_another_network_goes_to_the_router(rt: HostRuntime) {
+    let alloc = rt.alloc();
+    let mut device = opened(&rt, alloc);
+    check_reply(&rt, alloc, &mut device, FAR_PING, ROUTER_REQUEST);
+    check_reply(&rt, alloc, &mut device, ROUTER_REPLY, b"");
+    check_reply(&rt, alloc, &mut device, FAR_PING, FAR_REPLY);
+    assert_eq!(rt; uip_app_close(alloc, &mut device), OK);
+    discard(device);
+}
+
+#[test]
+fn a_bad_argument_is_refused(rt: HostRuntime) {
+    let alloc = rt.alloc();
+    let mut device = opened(&rt, alloc);
+    let mut frame = [0; LARGEST_OUT];
+    let refused = AppResult::refused(BAD_ARGUMENT);
+    assert_eq!(rt;
+        uip_app_input_frame(alloc, &mut device, &mut frame, 1515),
+        refused
+    );
+    assert_eq!(rt;
+        uip_app_periodic_frame(alloc, &mut device, 10, &mut frame),
+        refused
+    );
+    assert_eq!(rt;
+        uip_app_read(alloc, &mut device, 10, &mut frame).status,
+        BAD_ARGUMENT
+    );
+    assert_eq!(rt;
+        uip_app_write(alloc, &mut device, 0, 0, &[0; 261], 0, &mut frame),
+        refused
+    );
+    assert_eq!(rt;
+        uip_app_write(alloc, &mut device, 0, 0, b"", 0, &mut frame[1..]),
+        refused
+    );
+    assert_eq!(rt; uip_app_close(alloc, &mut device), OK);
+    discard(device);
+}
