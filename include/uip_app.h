@@ -15,6 +15,7 @@
  * ERRORS, as in uip.h: a call that returns another status than UIP_OK has changed nothing, and all other fields of the
  * result are 0. UIP_NOT_READY is looked for after UIP_NO_DEVICE.
  *
+ *     #include <string.h>                                  // memchr
  *     #include "uip_app.h"
  *     #define UIP_HEAP_SIZE UIP_APP_MEMORY
  *     #include "heap.c"                                   // examples/heap.c: the heap as one array

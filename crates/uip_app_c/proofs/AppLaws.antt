@@ -1,5 +1,5 @@
 -- Calls on a handle, one after the other, are exact.
-use Rattle.uip_app_c.proofs.Prelude.{AbstractNode, Act, Addr, AnsweredCall, AnswersFrame, AppCall, Bool, Calls, CallsAreExact, CallsSlot, CouldWrite, CouldWriteAll, DidCall, DidCalls, DoesNothing, Ethernet, FrameCall, HasOwn, InputsFrame, IsExact, Kept, List, Mac, Network, None, Option, OwnAnswers, OwnEther, OwnWrites, PlainMessage, Represents, RepresentsStation, Some, Station, Writes, [], ap, as_medium, calls_of, first_station, frame_call_of, frames_of_calls, interface_at, is_own_port, link_of, map, next_message, output, own_spec, refl, station_after_call, station_after_calls, station_before, station_events_by, subst, sym, true, with_written, ℕ, ⊤, ◌∙◌, ◌∷◌, ◌≡◌}
+use Rattle.uip_app_c.proofs.Prelude.{AbstractNode, Act, Addr, AnsweredCall, AppCall, Bool, Calls, CallsAreExact, CallsSlot, CouldWrite, CouldWriteAll, DidCall, DidCalls, DoesNothing, Ethernet, FrameCall, HasOwn, InputsFrame, Kept, List, Mac, Network, None, OwnAnswers, OwnEther, OwnWrites, PlainMessage, Represents, RepresentsStation, Some, Station, Writes, [], ap, as_medium, calls_of, first_station, frame_call_of, frames_of_calls, interface_at, is_own_port, link_of, map, output, own_spec, refl, station_after_call, station_after_calls, station_before, station_events_by, subst, sym, with_written, ℕ, ◌∙◌, ◌∷◌, ◌≡◌}
 use Rattle.frame_device.specs.contracts.ether.EthernetFrames.TheImpl.{ghosts as ether_link}
 use Rattle.own_app.specs.contracts.app.OwnAppApp.TheImpl.{ghosts}
 

@@ -12,7 +12,7 @@ use Rattle.own_app.specs.Prelude.{is_own_port, no_message, numbers_of, own_spec,
 use Rattle.own_app.specs.contracts.app.OwnAppApp.TheImpl.{ghosts}
 use Rattle.own_node.specs.Prelude.{can_write_in, next_message}
 use Rattle.uip_app_c.specs.Handles.{OpensOwn, OwnAnswers, OwnWrites, interface_at}
-use Rattle.uip_app_c.specs.Kept.{HasOwn, Kept, OwnEther}
+use Rattle.uip_app_c.specs.Kept.{HasOwn, Kept}
 
 -- `Calls`: a frame is received, or a slot is called. A call that is refused or that reads is `Calls DoesNothing`.
 pub data AppCall : Type 0 where

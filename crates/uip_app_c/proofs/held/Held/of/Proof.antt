@@ -1,5 +1,5 @@
 -- Proves `of` by hand, since it makes a struct that owns memory: the parts of the box are opened, and the handle takes them.
-use Rattle.uip_app_c.proofs.Prelude.{◌≡◌, List, [], ◌∷◌, ◌++◌, refl, sym, subst, Goes-blank, proved_at, leaves, box_owns, ghosts, two_words, Parts, words_typed, parts_out, DeviceRow, Some}
+use Rattle.uip_app_c.proofs.Prelude.{◌≡◌, List, [], ◌∷◌, ◌++◌, refl, sym, subst, Goes-blank, proved_at, leaves, ghosts, two_words, Parts, words_typed, parts_out, DeviceRow, Some}
 use mir.Val.{Val, vptr}
 use base.Logic.{SProp, ent, emp, id⊢}
 use base.Fml.{ftrue}
@@ -13,7 +13,7 @@ use contract.Running.{tables}
 use denote.RattleType.{RattleType, owns}
 use denote.Signature.{plain}
 use denote.RawPtr.{block_ptr}
-use denote.Steps.{nothing, heard}
+use denote.Steps.{nothing}
 use denote.Triple.Walked.{Stays, stay_dropped, walk_of}
 use Rattle.std.proofs.alloc.Global.TheLaws as heap_laws
 use Rattle.uip_app_c.proofs.Words.{HeapRow, held_in}
