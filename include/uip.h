@@ -1,6 +1,7 @@
 /*
  * Lowunbisa for C: one IPv4 node with ping and a web server, on a serial line (SLIP, RFC 1055), on any link that
- * carries datagrams, or on Ethernet with ARP. The web server at port 80 is the only application.
+ * carries datagrams, or on Ethernet with ARP. The web server at port 80 is the only application of this library: for
+ * one of your own, without the web server, see uip_app.h.
  *
  * SPDX-License-Identifier: MIT OR Apache-2.0
  * Copyright 2026 The Lowunbisa authors; see LICENSE on the run-time library in each binary
