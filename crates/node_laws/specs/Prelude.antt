@@ -18,5 +18,6 @@ pub use Rattle.node_laws.specs.Turns.{trace_of}
 pub use Rattle.node_laws.specs.Windows.{FitsNewest, FitsWindows, IsNewText, IsPassedOver, WindowsAreRespected}
 pub use Rattle.node_laws.specs.Wire.{IsOfLine, IsReadByPeer, IsReadThere, seen_from_peer}
 pub use Rattle.node_laws.specs.Wire.IsOfLine.{of_bytes, of_call, of_overlong}
-pub use Rattle.node_laws.specs.WrongIncarnations.{SpeaksBy, WrongIncarnationsFall, acknowledges_refused, cut_again, echoes_before, ends_early, exchanged}
+pub use Rattle.node_laws.specs.WrongIncarnations.{SpeaksBy, WrongIncarnationsFall, acknowledges_refused, cut_again}
+pub use Rattle.node_laws.specs.WrongIncarnations.{echoes_before, ends_early, exchanged}
 pub use Rattle.node_laws.specs.WrongIncarnations.{hello_pages, mirror_pages, opened, repeats_byte, segment, tells_another, two_under_way}
