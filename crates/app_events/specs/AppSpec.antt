@@ -16,7 +16,7 @@ pub record AppState : Type 0 where
   pub delivered : List ℕ  -- all bytes delivered to the application
   pub captures : List Snapshot  -- the snapshots that it captured, the oldest first
   pub acked : ℕ  -- how many bytes of its output are acknowledged
-  pub polls : ℕ  -- the ticks with nothing outstanding since it last received or sent something
+  pub polls : ℕ  -- calls of its slot with nothing outstanding, since it last received or sent something
   pub own : ℕ  -- one number for its own use
 
 -- The state and the counters after a call.
@@ -33,7 +33,7 @@ pub record AppSpec : Type 0 where
   pub prepare : (numbers : List ℕ) (part : AppState) (now : Now) → AppState  -- called before `want`; it may capture a snapshot
   pub want : (numbers : List ℕ) (part : AppState) → Want  -- the next request
   pub acked : (numbers : List ℕ) (part : AppState) (count : ℕ) → After  -- the peer acknowledged `count` bytes
-  pub polled : (numbers : List ℕ) (part : AppState) → After  -- a tick with nothing outstanding
+  pub polled : (numbers : List ℕ) (part : AppState) → After  -- a call of its slot with nothing outstanding
   pub ended : (numbers : List ℕ) (part : AppState) (how : Ending) → List ℕ  -- a RST or a timeout ended the connection
 
 -- the output after the acknowledged bytes

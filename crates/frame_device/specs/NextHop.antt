@@ -2,7 +2,9 @@
 use Rattle.std.specs.Prelude.{◌≡◌, ◌⊎◌, ◌||◌, ℕ, Bool, if◌then◌else◌, bit_and, List, [], ◌∷◌, slice_index}
 use Rattle.std.specs.Str.{bytes_eq}
 use Rattle.uip_wire.specs.Prelude.{address_at}
+use Rattle.uip_wire.specs.declared.addr.Addr.{Addr}
 use Rattle.ethernet_arp.specs.Prelude.{Host}
+use Rattle.ethernet_arp.specs.declared.mac.Mac.{Mac}
 use Rattle.frame_device.specs.declared.network.Network.{Network}
 
 -- An address under a mask, both of four bytes.
@@ -31,6 +33,10 @@ IsOneLink network = (network.mask.0 ≡ no_address) ⊎ (network.router.0 ≡ no
 pub record Interface : Type 0 where
   pub host : Host
   pub network : Network
+
+-- The host with these two addresses, in this network.
+abbrev pub interface_at : Addr → Mac → Network → Interface
+interface_at own mac network = record { host = record { addr = own.0; mac = mac.0 }; network = network }
 
 -- The next hop of a datagram that it sends.
 abbrev pub hop_of : Interface → List ℕ → List ℕ

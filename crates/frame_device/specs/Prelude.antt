@@ -9,4 +9,4 @@ pub use Rattle.frame_device.specs.FrameCalls.{station_after_moves, station_event
 pub use Rattle.frame_device.specs.FrameCalls.{with_value}
 pub use Rattle.frame_device.specs.FrameKeeping.{AllHandOut, FramesConform, HandsOutFrame, IsFrameOfBytes, KeepsU32, MoveTrace, acts_in}
 pub use Rattle.frame_device.specs.FrameSpecs.{DecodesBytes, FrameSpec, IsSilent, acts_before, as_medium}
-pub use Rattle.frame_device.specs.NextHop.{Interface, IsOneLink, hop_of, is_on_link, masked, next_hop, no_address}
+pub use Rattle.frame_device.specs.NextHop.{Interface, IsOneLink, hop_of, interface_at, is_on_link, masked, next_hop, no_address}

@@ -6,6 +6,7 @@ ghost use Rattle.line_medium.specs.Prelude.{acts_among};
 ghost use Rattle.ethernet_arp.specs.Prelude.{frame_brings, Act, Knows, host_of};
 ghost use Rattle.frame_device.specs.EtherFrames.{ether_frames, interface_of};
 ghost use Rattle.frame_device.specs.FrameSpecs.{FitsFrame, ReportsFrame};
+ghost use Rattle.frame_device.specs.NextHop.{interface_at};
 
 use crate::frames::{Decoded, Frames, LARGEST_OUT};
 use crate::network::Network;
@@ -27,7 +28,7 @@ impl Ethernet {
 
     /// Makes the Ethernet of a host that has learned nothing.
     pub fn new(own: Addr, mac: Mac, network: Network) -> Ethernet
-        ensures interface { interface_of result ≡ record { host = record { addr = own.0; mac = mac.0 }; network = network } }
+        ensures interface { interface_of result ≡ interface_at own mac network }
         ensures knows { Knows result.arp [] }
     {
         Ethernet {

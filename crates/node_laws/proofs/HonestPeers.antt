@@ -1,5 +1,5 @@
 -- An honest peer of a node has its page, whatever other peers do.
-use Rattle.node_laws.proofs.Prelude.{All, option_map_or, ◌≡◌, ℕ, zero, suc, ◌+◌, ◌<◌, ◌≤◌, ◌==◌, Bool, true, false, ◌&&◌, ◌⊎◌, inl, inr, List, [], ◌∷◌, ◌++◌, length, set, refl, sym, ap, ◌∙◌, subst, arith, Option, Some, None, slice_get, eqb, length-append, if◌then◌else◌, eq-eqb, All-tail, wrap, Addr, SYN, PlainSegment, has_syn, has_rst, has_ack, AppState, AppSpec, IsPrefixOf, Pages, IsPaged, SynRcvd, Sockets, Connection, closed, is_live, rows_from, row_of, is_plain_syn, segment_of, reset_for_no_connection, syn_ack, Outcome, asked, accepted, first_mss, on_segment, on_tick, Event, Periodic, called_by, AbstractNode, NodeStep, snapshot, initial_node, step, serving, IsEvent, choose, eqb-eq, only_some, wrap_wrap, append_nothing, Single, get_set_same, is_served, none_serves, all_closed, served, free, FitConn, on_segment_fits, on_tick_fits, node_snapshot, steady_of, AnswersPolled, Asker, text_received, bare_acks, SendsSyn, SendsNext, IsWaitedFor, IsHonest, calls_of, HasItsPage, HonestPeer, Exchange, TraceEntry, exchange, exchanges_onto, exchanges_with, trace_of, IsOfLine}
+use Rattle.node_laws.proofs.Prelude.{All, option_map_or, ◌≡◌, ℕ, zero, suc, ◌+◌, ◌<◌, ◌≤◌, ◌==◌, Bool, true, false, ◌&&◌, ◌⊎◌, inl, inr, List, [], ◌∷◌, ◌++◌, length, set, refl, sym, ap, ◌∙◌, subst, arith, Option, Some, None, slice_get, eqb, length-append, if◌then◌else◌, eq-eqb, All-tail, wrap, Addr, SYN, PlainSegment, has_syn, has_rst, has_ack, AppState, AppSpec, IsPrefixOf, Pages, IsPaged, SynRcvd, Sockets, Connection, closed, is_live, rows_from, row_of, is_plain_syn, segment_of, reset_for_no_connection, syn_ack, Outcome, asked, accepted, first_mss, on_segment, on_tick, Event, Periodic, called_by, AbstractNode, NodeStep, snapshot, initial_node, step, serving, IsEvent, choose, eqb-eq, only_some, wrap_wrap, append_nothing, get_set_same, is_served, served, free, on_segment_fits, on_tick_fits, node_snapshot, steady_of, AnswersPolled, Asker, text_received, bare_acks, SendsSyn, SendsNext, IsWaitedFor, IsHonest, calls_of, HasItsPage, HonestPeer, Exchange, TraceEntry, exchange, exchanges_onto, exchanges_with, trace_of, IsOfLine}
 use Rattle.node_laws.proofs.Beating.{mss_some}
 use Rattle.node_laws.proofs.GoodNodes.{Good, good_on, good_start, first_is}
 use Rattle.node_laws.proofs.HonestConnections.{conn_at, Counts, AtSyn, Stage, Snapshots, stage_quiet, answered, called, stage_serves, stage_stays, runs_out, stays_told}

@@ -1,7 +1,7 @@
 -- The periodic call of its slot captures a message that was written to a connection that is ready.
 use Rattle.std.specs.List.{All}
-use Rattle.std.proofs.Common.{◌≡◌, ℕ, ◌<◌, ◌+◌, ◌%◌, ◌&&◌, ◌==◌, Bool, true, false, List, [], ◌∷◌, ◌++◌, drop, length, nat_le, nat_lt, not, refl, sym, ap, ◌∙◌, subst, arith, if◌then◌else◌}
-use Rattle.std.proofs.lemmas.Bool.{and_from, and_parts, eq-eqb, le-ltb}
+use Rattle.std.proofs.Common.{◌≡◌, ℕ, ◌<◌, ◌+◌, ◌%◌, Bool, true, false, List, [], ◌∷◌, ◌++◌, drop, length, nat_le, nat_lt, not, refl, sym, ap, ◌∙◌, if◌then◌else◌}
+use Rattle.std.proofs.lemmas.Bool.{and_from, and_parts, eq-eqb}
 use Rattle.std.proofs.lemmas.List.{drop-drop}
 use Rattle.app_events.specs.Prelude.{AppState, IsByte, Snapshot}
 use Rattle.app_events.specs.declared.now.Now.{Now}
@@ -9,15 +9,14 @@ use Rattle.app_events.specs.declared.state.State.{State}
 use Rattle.app_events.specs.declared.state.State.TheVariants.{Established}
 use Rattle.app_events.specs.declared.want.Want.{Want}
 use Rattle.app_events.specs.declared.want.Want.TheVariants.{Nothing, Send, Close, Abort}
-use Rattle.tcp_machine.specs.Prelude.{Connection, Outcome, asked, asked_for, closed, closes, does_as_wanted, idles, leaves, on_tick, peer_has_closed, polls, prepared, tick_by, ticks_established, waits_for_ack}
-use Rattle.tcp_machine.specs.declared.step.Step.{Step}
+use Rattle.tcp_machine.specs.Prelude.{Connection, Outcome, asked, closed, does_as_wanted, idles, on_tick, peer_has_closed, polls, prepared, tick_by, ticks_established, waits_for_ack}
 use Rattle.uip_node.specs.Prelude.{AbstractNode, Periodic, connection_in, happened, periodic, snapshot}
 use Rattle.uip_node.proofs.Basics.{choose}
 use Rattle.uip_node.proofs.Connections.{index_of}
 use Rattle.uip_node.proofs.Settling.{get_set}
-use Rattle.own_app.specs.Prelude.{PlainMessage, bytes_taken, is_next_message, is_overrun, has_last, len_left, message_in, messages_text, messages_text_more, numbers_of, opened_in, own_spec, own_want, pending as pending_of, with_message, with_written, write_message}
+use Rattle.own_app.specs.Prelude.{PlainMessage, bytes_taken, is_next_message, has_last, message_in, messages_text, messages_text_more, numbers_of, opened_in, own_spec, own_want, pending as pending_of, with_message, with_written, write_message}
 use Rattle.own_app.proofs.CaptureLaws.{message_back, taken_more}
-use Rattle.own_node.specs.Prelude.{HasCaptured, ReadyMessagesAreCaptured, called_after, can_write_in, is_ready_at, next_message}
+use Rattle.own_node.specs.Prelude.{HasCaptured, ReadyMessagesAreCaptured, called_after, is_ready_at, next_message}
 use Rattle.own_node.proofs.ReadingLaws.{IsReady, ready_has}
 
 -- ---- the part of the connection after the application was asked

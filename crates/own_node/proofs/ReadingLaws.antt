@@ -8,11 +8,11 @@ use Rattle.app_events.specs.declared.state.State.TheVariants.{Closed, SynRcvd, E
 use Rattle.std.proofs.lemmas.Bool.{and_parts, eqb-true, false≢true}
 use Rattle.tcp_machine.specs.Prelude.{Connection, closed, ConnRepresents, is_live}
 use Rattle.uip_node.specs.Prelude.{AbstractNode, SlotsRepresent, connection_in}
-use Rattle.own_app.specs.Prelude.{OwnRepresents, PlainMessage, not_true, state_of, has_last, is_overrun, len_left, pending as pending_of}
+use Rattle.own_app.specs.Prelude.{OwnRepresents, not_true, state_of, has_last, is_overrun, len_left, pending as pending_of}
 use Rattle.own_app.specs.contracts.app.OwnAppApp.TheImpl.{ghosts}
 use Rattle.own_app.specs.declared.app.OwnApp.{OwnApp}
 use Rattle.own_app.proofs.CaptureLaws.{nothing_left}
-use Rattle.own_node.specs.Prelude.{can_write_by, can_write_in, is_established, is_open_state, is_ready_at, is_ready_by, is_ready_in, message_by, next_message, pending_at, pending_by, pending_in, port_by, port_in}
+use Rattle.own_node.specs.Prelude.{can_write_by, can_write_in, is_established, is_open_state, is_ready_at, is_ready_by, message_by, next_message, pending_at, pending_by, port_by}
 
 -- the connection of the code in a slot represents the abstract one
 pub conn_in_slot : (cs : List (Conn OwnApp)) (n : AbstractNode) (slot : ℕ) (c : Conn OwnApp) → SlotsRepresent ghosts tt cs n.connections → slice_get cs slot ≡ Some c

@@ -2,7 +2,6 @@
 use Rattle.std.specs.List.{All}
 use Rattle.std.specs.Prelude.{◌≡◌, ◌<◌, ◌++◌, [], ◌∷◌, ℕ, Bool, List, drop, length, true}
 use Rattle.app_events.specs.Prelude.{IsByte, Snapshot}
-use Rattle.app_events.specs.declared.now.Now.{Now}
 use Rattle.tcp_machine.specs.Prelude.{Connection}
 use Rattle.uip_node.specs.Prelude.{AbstractNode, connection_in, periodic}
 use Rattle.own_app.specs.Prelude.{PlainMessage, message_in, messages_text, own_spec, pending as pending_of, with_written}

@@ -1,11 +1,11 @@
 -- What the program reads of a connection, and what a message that it writes changes.
-use Rattle.std.specs.Prelude.{ℕ, ◌%◌, ◌&&◌, ◌==◌, ◌≡◌, not, nat_le, Bool, List, [], false, if◌then◌else◌, length, slice_get, Some, true}
+use Rattle.std.specs.Prelude.{ℕ, ◌%◌, ◌&&◌, ◌==◌, ◌≡◌, not, nat_le, Bool, List, [], false, if◌then◌else◌, length, true}
 use Rattle.app_events.specs.declared.state.State.{State}
 use Rattle.app_events.specs.declared.state.State.TheVariants.{Established}
 use Rattle.tcp_table.specs.declared.conn.Conn.{Conn}
 use Rattle.tcp_machine.specs.Prelude.{Connection, is_open}
 use Rattle.uip_node.specs.Prelude.{AbstractNode, Node, Represents, connection_in}
-use Rattle.own_app.specs.Prelude.{PlainMessage, has_last, is_overrun, len_left, message_of, pending as pending_of, with_written}
+use Rattle.own_app.specs.Prelude.{PlainMessage, has_last, is_overrun, len_left, pending as pending_of, with_written}
 use Rattle.own_app.specs.contracts.app.OwnAppApp.TheImpl.{ghosts}
 use Rattle.own_app.specs.declared.app.OwnApp.{OwnApp}
 use Rattle.own_app.specs.declared.shared.OwnShared.{OwnShared}

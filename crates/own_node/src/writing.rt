@@ -25,6 +25,7 @@ fn next_message(app: &OwnApp, taken: usize, text: &[u8], last: bool) -> Message
 {
     let mut area = ArrayVec::new();
     let _fits = area.try_extend_from_slice(text);
+    // The length bounds `taken`, which then fits in 32 bits.
     let _ = app.received.len();
     Message {
         to: app.ticket,

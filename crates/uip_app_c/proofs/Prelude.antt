@@ -3,7 +3,7 @@ pub use Rattle.core.proofs.alloc.Calls.{Al, Goes-blank, handle_tells}
 pub use Rattle.core.proofs.cell.Inside.{Good}
 pub use Rattle.ethernet_arp.specs.Prelude.{Act}
 pub use Rattle.ethernet_arp.specs.declared.mac.Mac.{Mac}
-pub use Rattle.frame_device.specs.Prelude.{CallsSlot, DoesNothing, FrameCall, InputsFrame, RepresentsStation, as_medium, station_events_by}
+pub use Rattle.frame_device.specs.Prelude.{CallsSlot, DoesNothing, FrameCall, InputsFrame, RepresentsStation, as_medium, interface_at, station_events_by}
 pub use Rattle.frame_device.specs.declared.ether.Ethernet.{Ethernet}
 pub use Rattle.frame_device.specs.declared.network.Network.{Network}
 pub use Rattle.loose_box.proofs.Words.{Parts, parts_in, parts_out, two_words, words_typed}
@@ -20,7 +20,7 @@ pub use Rattle.std.specs.declared.alloc.Global.{Global}
 pub use Rattle.std.specs.declared.option.Option.{Option}
 pub use Rattle.std.specs.declared.option.Option.TheVariants.{None, Some}
 pub use Rattle.uip_app_c.specs.AppCalls.{AnsweredCall, AppCall, Calls, CallsAreExact, CouldWrite, CouldWriteAll, DidCall, DidCalls, Writes, calls_of, first_station, frame_call_of, frames_of_calls, link_of, station_after_call, station_after_calls, station_before}
-pub use Rattle.uip_app_c.specs.Handles.{OwnAnswers, OwnWrites, interface_at}
+pub use Rattle.uip_app_c.specs.Handles.{OwnAnswers, OwnWrites}
 pub use Rattle.uip_app_c.specs.Holding.{DeviceRow, holds}
 pub use Rattle.uip_app_c.specs.Kept.{HasOwn, Kept, OwnEther}
 pub use Rattle.uip_app_c.specs.declared.held.Held.{Held}

@@ -6,12 +6,12 @@ use Rattle.ethernet_arp.specs.declared.mac.Mac.{Mac}
 use Rattle.serve_loop.specs.Prelude.{Station, initial_station, output, station_after_all}
 use Rattle.frame_device.specs.declared.network.Network.{Network}
 use Rattle.frame_device.specs.Prelude.{CallsSlot, DoesNothing, FrameCall, FrameSpec, RepresentsStation, as_medium, ether_frames}
-use Rattle.frame_device.specs.Prelude.{station_events_by}
+use Rattle.frame_device.specs.Prelude.{interface_at, station_events_by}
 use Rattle.frame_device.specs.contracts.ether.EthernetFrames.TheImpl.{ghosts as ether_link}
 use Rattle.own_app.specs.Prelude.{is_own_port, no_message, numbers_of, own_spec, with_written}
 use Rattle.own_app.specs.contracts.app.OwnAppApp.TheImpl.{ghosts}
 use Rattle.own_node.specs.Prelude.{can_write_in, next_message}
-use Rattle.uip_app_c.specs.Handles.{OpensOwn, OwnAnswers, OwnWrites, interface_at}
+use Rattle.uip_app_c.specs.Handles.{OpensOwn, OwnAnswers, OwnWrites}
 use Rattle.uip_app_c.specs.Kept.{HasOwn, Kept}
 
 -- `Calls`: a frame is received, or a slot is called. A call that is refused or that reads is `Calls DoesNothing`.

@@ -5,7 +5,7 @@ use Rattle.uip_wire.specs.Prelude.{written}
 use Rattle.uip_wire.specs.declared.addr.Addr.{Addr}
 use Rattle.ethernet_arp.specs.declared.mac.Mac.{Mac}
 use Rattle.frame_device.specs.declared.network.Network.{Network}
-use Rattle.frame_device.specs.Prelude.{AnswersFrame, CallsSlot, FrameCall, Interface, IsFreshFrameDevice}
+use Rattle.frame_device.specs.Prelude.{AnswersFrame, CallsSlot, FrameCall, IsFreshFrameDevice, interface_at}
 use Rattle.frame_device.specs.contracts.ether.EthernetFrames.TheImpl.{ghosts as ether_link}
 use Rattle.own_app.specs.contracts.app.OwnAppApp.TheImpl.{ghosts}
 use Rattle.own_app.specs.Prelude.{no_message, numbers_of, own_spec}
@@ -14,10 +14,6 @@ use Rattle.uip_app_c.specs.Kept.{HasOwn, Kept, OwnEther}
 use Rattle.uip_app_c.specs.declared.messages.AppReceived.{AppReceived}
 use Rattle.uip_app_c.specs.declared.status.AppResult.{AppResult}
 use Rattle.uip_app_c.specs.declared.status.TheConstants.{BAD_ARGUMENT, NO_DEVICE, NOT_READY, OK}
-
--- the host of an IP address and a hardware address, on this network
-abbrev pub interface_at : Addr → Mac → Network → Interface
-interface_at own mac network = record { host = record { addr = own.0; mac = mac.0 }; network = network }
 
 -- It represents the initial node at this address, and a link with this hardware address, on this network, that has learned nothing.
 abbrev pub IsFreshOwnEther : Addr → Mac → Network → OwnEther → Type 0

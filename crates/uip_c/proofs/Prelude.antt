@@ -8,7 +8,7 @@ pub use Rattle.ethernet_arp.specs.declared.mac.Mac.{Mac}
 pub use Rattle.file_tree.specs.Prelude.{HasSoundScripts, IsLoaded, SiteContent, files_of}
 pub use Rattle.frame_device.proofs.KeepLaws.{keeps_frames}
 pub use Rattle.frame_device.proofs.MoveLaws.{device_stands, frames_exact, same_kept}
-pub use Rattle.frame_device.specs.Prelude.{AnsweredFrame, AnswersAllFrames, AnswersFrame, AnswersFrameMove, CallsSlot, ChangesNumbers, DoesNothing, FrameCall, FrameMove, FramesConform, Gives, InputsFrame, Interface, IsFrameOfBytes, IsFreshFrameDevice, Makes, ether_brings_bytes, ether_frames, frame_moves_of, handed_of}
+pub use Rattle.frame_device.specs.Prelude.{AnsweredFrame, AnswersAllFrames, AnswersFrame, AnswersFrameMove, CallsSlot, ChangesNumbers, DoesNothing, FrameCall, FrameMove, FramesConform, Gives, InputsFrame, Interface, IsFrameOfBytes, IsFreshFrameDevice, Makes, ether_brings_bytes, ether_frames, frame_moves_of, handed_of, interface_at}
 pub use Rattle.frame_device.specs.declared.network.Network.{Network}
 pub use Rattle.loose_box.proofs.Words.{Parts, entered, parts_in, parts_out, two_words, words_typed}
 pub use Rattle.serve_loop.specs.Prelude.{initial_station}
@@ -22,7 +22,7 @@ pub use Rattle.std.specs.Prelude.{false, if◌then◌else◌, true}
 pub use Rattle.std.specs.contracts.impls.GlobalAllocator.TheImpl.{ghosts}
 pub use Rattle.std.specs.declared.alloc.Global.{Global}
 pub use Rattle.std.specs.declared.option.Option.TheVariants.{Some}
-pub use Rattle.uip_c.specs.Prelude.{Did, DidAll, DidFrame, DidFrames, EtherAnswers, EtherRepresents, EtherRow, EtherWeb, HandleAnswers, HandleGives, HasAbstractNode, IsEther, IsLine, IsOpenedEther, Kept, LineRow, NoDevice, OnEther, OnLine, OpensAs, OpensEtherAs, TellsRow, holds, interface_at, is_on_ether, is_on_line, kept_of, left_text_in, lefts_in, node_in, node_of, web_frames_sent, web_station_after}
+pub use Rattle.uip_c.specs.Prelude.{Did, DidAll, DidFrame, DidFrames, EtherAnswers, EtherRepresents, EtherRow, EtherWeb, HandleAnswers, HandleGives, HasAbstractNode, IsEther, IsLine, IsOpenedEther, Kept, LineRow, NoDevice, OnEther, OnLine, OpensAs, OpensEtherAs, TellsRow, holds, is_on_ether, is_on_line, kept_of, left_text_in, lefts_in, node_in, node_of, web_frames_sent, web_station_after}
 pub use Rattle.uip_c.specs.declared.handle.AnyDevice.{AnyDevice}
 pub use Rattle.uip_c.specs.declared.handle.AnyDevice.TheVariants.{Ether, Line}
 pub use Rattle.uip_c.specs.declared.held.Held.{Held}

@@ -8,17 +8,13 @@ use Rattle.serve_loop.specs.Prelude.{initial_station, Station}
 use Rattle.ethernet_arp.specs.Prelude.{Act}
 use Rattle.ethernet_arp.specs.declared.mac.Mac.{Mac}
 use Rattle.frame_device.specs.declared.network.Network.{Network}
-use Rattle.frame_device.specs.Prelude.{ether_frames, FrameMove, Interface, IsFreshFrameDevice, RepresentsStation, frames_sent}
+use Rattle.frame_device.specs.Prelude.{ether_frames, FrameMove, IsFreshFrameDevice, RepresentsStation, frames_sent, interface_at}
 use Rattle.frame_device.specs.Prelude.{station_after_moves}
 use Rattle.frame_device.specs.contracts.ether.EthernetFrames.TheImpl.{ghosts as ether_link}
 use Rattle.uip_device.specs.contracts.value_pages.ValuePagesApp.TheImpl.{ghosts}
 use Rattle.uip_device.specs.Prelude.{FailsAs, IsOfImage, first_numbers, value_spec, write_value}
 use Rattle.uip_device.specs.declared.opening.OpenFault.{OpenFault}
 use Rattle.uip_c.specs.Kept.{EtherWeb}
-
--- the host of an IP address and a hardware address, on this network
-abbrev pub interface_at : Addr → Mac → Network → Interface
-interface_at own mac network = record { host = record { addr = own.0; mac = mac.0 }; network = network }
 
 abbrev pub ether_site : EtherWeb → SiteContent
 ether_site d = d.node.shared.web.site

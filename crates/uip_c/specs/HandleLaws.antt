@@ -11,9 +11,8 @@ use Rattle.uip_edge.specs.declared.item.Item.{Item}
 use Rattle.uip_wire.specs.declared.addr.Addr.{Addr}
 use Rattle.ethernet_arp.specs.declared.mac.Mac.{Mac}
 use Rattle.frame_device.specs.declared.network.Network.{Network}
-use Rattle.frame_device.specs.Prelude.{AnsweredFrame, FramesConform, IsFrameOfBytes, ether_frames, frame_moves_of}
+use Rattle.frame_device.specs.Prelude.{AnsweredFrame, FramesConform, IsFrameOfBytes, ether_frames, frame_moves_of, interface_at}
 use Rattle.uip_device.specs.Prelude.{Answered, Bring, CallsConform, IsOfBytes, line_handed, moves_of, value_pages, web_output}
-use Rattle.uip_c.specs.EtherWebs.{interface_at}
 use Rattle.uip_c.specs.FrameHandles.{DidFrames, OpensEtherAs}
 use Rattle.uip_c.specs.Handles.{DidAll, OpensAs, lefts_in}
 use Rattle.uip_c.specs.Kept.{IsLine, Kept}

@@ -1,6 +1,6 @@
 -- The names of the definitions of this crate that other files cite, passed on from one place. Declares nothing.
 pub use Rattle.uip_c.specs.ConstantValues.{ConstantValues}
-pub use Rattle.uip_c.specs.EtherWebs.{EtherRepresents, IsOpenedEther, OpensEtherWeb, interface_at, web_frames_sent, web_station_after}
+pub use Rattle.uip_c.specs.EtherWebs.{EtherRepresents, IsOpenedEther, OpensEtherWeb, web_frames_sent, web_station_after}
 pub use Rattle.uip_c.specs.FrameHandles.{DidFrame, DidFrames, EtherAnswers, OfFrameMoves, OpensEtherAs}
 pub use Rattle.uip_c.specs.HandleLaws.{CallsFromCConform, FramesFromCConform, LineFromCIsServed}
 pub use Rattle.uip_c.specs.Handles.{Did, DidAll, HandleAnswers, HandleGives, HasText, IsCallStatus}

@@ -18,7 +18,7 @@ abbrev pub serving : Sockets → List Connection → Connection
 serving sockets [] = closed
 serving sockets (c ∷ cs) = if serves sockets c then c else serving sockets cs
 
--- If the delivered text is bytes, so is the page.
+-- If the delivered text is bytes, and the snapshots are in their ranges, the page is bytes.
 abbrev pub HasBytes : Pages → Type 0
 HasBytes pages = (delivered : List ℕ) (captures : List Snapshot)
     → All IsByte delivered → All IsSnapshot captures → All IsByte (pages.text delivered captures)
