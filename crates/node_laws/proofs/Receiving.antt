@@ -78,7 +78,7 @@ module _ (model : OutputModel) (incarnation : List Exchange) (k : Kept model inc
     taken = k.taken;
     snapshots = k.snapshots;
     sent = k.sent;
-    says = λ i s h. (let w = said_in incarnation i s h in k.says i w.exchange s w.there w.output);
+    slices = λ i s h. (let w = said_in incarnation i s h in k.says i w.exchange s w.there w.output);
     short = λ i s h. (let w = said_in incarnation i s h in k.short i w.exchange s w.there w.output);
     acknowledges = λ i s h r. (let w = said_in incarnation i s h in k.acknowledges i w.exchange s w.there w.output r);
     one = λ i j s t l h g a b e. (let w = said_in incarnation i s h in let v = said_in incarnation j t g in k.one i j w.exchange v.exchange s t l w.there v.there w.output v.output a b e);

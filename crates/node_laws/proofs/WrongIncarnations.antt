@@ -44,13 +44,13 @@ sent_short iss sent z h = elim (most_or_more (length sent) 1073741823) [
 
 few_sent : (model : OutputModel) (k : IncarnationConforms model cut_again) → length (k.account 0).sent < 1073741824
 few_sent model k =
-    let g : AccountHolds cut_again (k.account 0) = k.keeps 0 (omega arith) in
+    let g : AccountHolds cut_again (k.account 0) = k.holds 0 (omega arith) in
     sent_short (k.account 0).iss (k.account 0).sent (numbers_of (k.account 0) g.begins).iss g.sent
 
 numbers_tell : (model : OutputModel) (k : IncarnationConforms model cut_again) → NumbersGiveOffsets cut_again (k.account 0)
-numbers_tell Free k = k.tells 0 (omega arith) (few_sent Free k)
-numbers_tell (Interactive sessions) k = (k.tells 0 (omega arith)).1 (few_sent (Interactive sessions) k)
-numbers_tell (Paged pages) k = (k.tells 0 (omega arith)).1
+numbers_tell Free k = k.conforms 0 (omega arith) (few_sent Free k)
+numbers_tell (Interactive sessions) k = (k.conforms 0 (omega arith)).1 (few_sent (Interactive sessions) k)
+numbers_tell (Paged pages) k = (k.conforms 0 (omega arith)).1
 
 cut_resend : (model : OutputModel) → IncarnationConforms model cut_again → ⊥
 cut_resend model k =
@@ -66,10 +66,10 @@ of_some_page pages model incarnation a (inr e) h = (let g : TextConforms (Intera
 
 early_fin : (model : OutputModel) → SpeaksBy hello_pages model → IncarnationConforms model ends_early → ⊥
 early_fin model by k =
-    let g : AccountHolds ends_early (k.account 0) = k.keeps 0 (omega arith) in
+    let g : AccountHolds ends_early (k.account 0) = k.holds 0 (omega arith) in
     let n = numbers_of (k.account 0) g.begins in
-    let f = (g.says 0 _ refl).fin refl in
-    let h = of_some_page hello_pages model ends_early (k.account 0) by (k.tells 0 (omega arith)) in
+    let f = (g.slices 0 _ refl).fin refl in
+    let h = of_some_page hello_pages model ends_early (k.account 0) by (k.conforms 0 (omega arith)) in
     let e = h.2.ends 0 _ refl refl in
     let l : length (k.account 0).sent ≡ 6 = ap length e.0 ∙ whole_length h.0 e.1 in
     let a : wrap (k.account 0).iss ≡ 0 = n.iss in
@@ -78,9 +78,9 @@ early_fin model by k =
 
 repeated_byte : (model : OutputModel) → SpeaksBy hello_pages model → IncarnationConforms model repeats_byte → ⊥
 repeated_byte model by k =
-    let g : AccountHolds repeats_byte (k.account 0) = k.keeps 0 (omega arith) in
-    let t = (g.says 0 _ refl).bytes (omega arith) in
-    let h = of_some_page hello_pages model repeats_byte (k.account 0) by (k.tells 0 (omega arith)) in
+    let g : AccountHolds repeats_byte (k.account 0) = k.holds 0 (omega arith) in
+    let t = (g.slices 0 _ refl).bytes (omega arith) in
+    let h = of_some_page hello_pages model repeats_byte (k.account 0) by (k.conforms 0 (omega arith)) in
     let n = prefix_length (k.account 0).sent (fixed_text h.0) h.2.prefix in
     let l = text_short h.0 in
     let f : t.at + 7 ≤ length (k.account 0).sent = t.slice.fits in
@@ -88,7 +88,7 @@ repeated_byte model by k =
 
 second_segment : (model : OutputModel) → IncarnationConforms model two_under_way → ⊥
 second_segment model k =
-    let g : AccountHolds two_under_way (k.account 0) = k.keeps 0 (omega arith) in
+    let g : AccountHolds two_under_way (k.account 0) = k.holds 0 (omega arith) in
     none_came (g.one 0 1 _ _ (omega arith) refl refl refl refl (λ e. (let z : 4 ≡ 1 = e in omega (arith, z))))
   where
     none_at : (s : PlainSegment) (place : ℕ) → place ≡ 0 → received_at two_under_way place ≡ Some s → ⊥
@@ -116,7 +116,7 @@ refused_taken n text ended e h = elim h [
 
 refused : (model : OutputModel) → IncarnationConforms model acknowledges_refused → ⊥
 refused model k =
-    let g : AccountHolds acknowledges_refused (k.account 0) = k.keeps 0 (omega arith) in
+    let g : AccountHolds acknowledges_refused (k.account 0) = k.holds 0 (omega arith) in
     let n = numbers_of (k.account 0) g.begins in
     let p : (k.account 0).irs ≡ 1000 = n.irs in
     let a = g.acknowledges 0 _ refl refl in
@@ -134,10 +134,10 @@ nothing_taken n text ended e h = elim h [
 
 other_page : (model : OutputModel) → SpeaksBy mirror_pages model → IncarnationConforms model tells_another → ⊥
 other_page model by k =
-    let g : AccountHolds tells_another (k.account 0) = k.keeps 0 (omega arith) in
+    let g : AccountHolds tells_another (k.account 0) = k.holds 0 (omega arith) in
     let n = numbers_of (k.account 0) g.begins in
-    let t = (g.says 0 _ refl).bytes (omega arith) in
-    let h = of_some_page mirror_pages model tells_another (k.account 0) by (k.tells 0 (omega arith)) in
+    let t = (g.slices 0 _ refl).bytes (omega arith) in
+    let h = of_some_page mirror_pages model tells_another (k.account 0) by (k.conforms 0 (omega arith)) in
     let m = prefix_length (k.account 0).sent h.0 h.2.prefix in
     let o = prefix_length h.0 (k.account 0).accepted h.1 in
     let l : length (k.account 0).accepted ≡ 0 = ap length (nothing_taken (k.account 0).irs (k.account 0).accepted (k.account 0).ended n.irs g.taken) in

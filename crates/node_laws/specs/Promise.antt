@@ -110,7 +110,7 @@ pub record AccountHolds (incarnation : List Exchange) (a : Account) : Type 0 whe
   pub taken : IsAcceptedText a.irs incarnation a.accepted a.ended
   pub snapshots : All IsSnapshot a.captures
   pub sent : IsReceived a.iss incarnation a.sent
-  pub says : (k : ℕ) (s : PlainSegment) → sent_at incarnation k ≡ Some s → SendsSlice a.iss a.sent s
+  pub slices : (k : ℕ) (s : PlainSegment) → sent_at incarnation k ≡ Some s → SendsSlice a.iss a.sent s
   pub short : (k : ℕ) (s : PlainSegment) → sent_at incarnation k ≡ Some s → length s.text ≤ first_mss a.peer_mss
   pub acknowledges : (k : ℕ) (s : PlainSegment) → sent_at incarnation k ≡ Some s → has_rst s.flags ≡ false
       → Acknowledges a.irs (drop k incarnation) a.accepted s
@@ -160,6 +160,6 @@ pub record IsExtendedBy (older newer : Account) : Type 0 where
 -- the incarnation without its newest `back` exchanges.
 pub record IncarnationConforms (model : OutputModel) (incarnation : List Exchange) : Type 0 where
   pub account : ℕ → Account
-  pub keeps : (back : ℕ) → back < length incarnation → AccountHolds (drop back incarnation) (account back)
-  pub tells : (back : ℕ) → back < length incarnation → TextConforms model (drop back incarnation) (account back)
+  pub holds : (back : ℕ) → back < length incarnation → AccountHolds (drop back incarnation) (account back)
+  pub conforms : (back : ℕ) → back < length incarnation → TextConforms model (drop back incarnation) (account back)
   pub grows : (back : ℕ) → suc back < length incarnation → IsExtendedBy (account (suc back)) (account back)
