@@ -101,7 +101,7 @@ enum {
 
 /* The handle of one device. `is_open` is 1 with a device, else 0. */
 typedef struct uip_app { unsigned is_open; void *at; } uip_app;
-#define UIP_APP_INIT {0, 0}
+#define UIP_APP_INIT {0, NULL}
 
 /*
  * The heap of one device, in bytes: three blocks, of 1500, 4720 and 576 bytes (ten connections have 4720), each rounded
