@@ -18,6 +18,7 @@ The text between a mark and `<!-- end -->` on the page is written from the sourc
     <!-- text: MODULE: NAME, NAME -->    these definitions, word for word
     <!-- trait: CRATE/src/FILE.rt -->    the clauses of a trait's calls
     <!-- code: CRATE/src/FILE.rt: NAME -->   a function, word for word; without a NAME the whole file
+    <!-- types: CRATE/src: FILE.Name, .. -->   structs and enums of the code, without their derived traits
     <!-- constants -->                   the constants of the code that the definitions name, with the values that theorems pin
 """
 import collections
@@ -195,6 +196,21 @@ def code_of(place):
     return "\n".join(["```", text.rstrip("\n"), "```"])
 
 
+def types_of(place):
+    """Structs and enums of files of one folder, with their comments, and without what is derived."""
+    folder, _, names = place.partition(": ")
+    found = []
+    for name in names.split(", "):
+        file, _, kind = name.partition(".")
+        with open(os.path.join(CRATES, folder, file + ".rt"), encoding="utf8") as source:
+            text = source.read()
+        match = re.search(rf"^((?:///[^\n]*\n)*)(?:#\[[^\n]*\n)*(pub (?:struct|enum) {kind}\b.*?^}})", text, re.S | re.M)
+        if not match:
+            sys.exit(f"trusted.py: {folder}/{file}.rt has no type {kind}")
+        found.append(re.sub(r"///? \[add: [^\n]*\n", "", match[1] + match[2]))
+    return "\n".join(["```", "\n\n".join(found), "```"])
+
+
 # [add: counter] each constant of the counters is a row of SPECIFICATION
 def constants_of(sources):
     """A row for each constant of the code that a definition of the closure names: its value by the theorem of its crate, and who names it.
@@ -271,6 +287,7 @@ def with_marks(page, sources, needed, constants):
         "text": lambda rest: "\n" + printed(sources, *rest.split(": ", 1)) + "\n",
         "trait": lambda rest: "\n" + trait_of(rest) + "\n",
         "code": lambda rest: "\n" + code_of(rest) + "\n",
+        "types": lambda rest: "\n" + types_of(rest) + "\n",
         "constants": lambda rest: "\n" + constants + "\n",
     }
 
@@ -279,7 +296,7 @@ def with_marks(page, sources, needed, constants):
         text = re.sub(r"[ \t]*\[add: [a-z, -]*\]", "", lines[kind](rest))    # the tags of `dev.py add`
         return f"<!-- {kind}{': ' + rest if rest else ''} -->{text}<!-- end -->"
 
-    return re.sub(r"<!-- (all|count|arms|text|trait|code|constants)(?:: (.*?))? -->.*?<!-- end -->", filled, page, flags=re.S)
+    return re.sub(r"<!-- (all|count|arms|text|trait|code|types|constants)(?:: (.*?))? -->.*?<!-- end -->", filled, page, flags=re.S)
 
 
 def cited_elsewhere():

@@ -18,7 +18,7 @@
  *   sink     your function that takes output, for example writes it to the serial port
  *   uipd     this node as a Linux program
  *
- * In short: zero the handle; never change the image, nor memory that the heap handed out; one call at a time, none in
+ * In short: zero the handle; never change the image, nor memory that the heap gave out; one call at a time, none in
  * an interrupt; drain before you feed; tick twice a second. The address is static: there is no DHCP.
  *
  * A whole program for a serial line. You supply the first four functions. Paths are those of the repository: an archive

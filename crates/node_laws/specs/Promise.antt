@@ -11,8 +11,8 @@ use Rattle.node_laws.specs.Traces.{Exchange, sent_at, received_at}
 use Rattle.node_laws.specs.Receivers.{IsReceived, EndsAfter}
 
 -- The account of an incarnation. `peer_mss` is the MSS option of the peer's SYN. `accepted` is the text accepted from the peer. If `ended`
--- is true, a FIN after it is counted; that is a choice, which adds nothing to the statement. `captures` are snapshots of which the page is
--- made, and `sent` is the text sent.
+-- is true, a FIN after it is counted: such a selection has the same data as the one that does not count it. `captures` are snapshots of
+-- which the page is made, and `sent` is the text sent.
 pub record Account : Type 0 where
   pub irs : ℕ
   pub iss : ℕ
