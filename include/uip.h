@@ -9,19 +9,41 @@
  * THIS IS NOT THE uip.h OF uIP 1.0, although the names begin alike. Never include both in one translation unit: macros
  * of uIP would replace these calls.
  *
+ * Read docs/LIMITS.md first. There is no authentication, no encryption and no DHCP; sequence numbers are predictable,
+ * and ten SYNs fill the node. A page gives your program nothing but counts of GETs (uip_hits).
+ *
+ * CHOOSE ONE ROW, and link its library from a release (the package that release.sh makes):
+ *
+ *     link         open             what arrives      twice a second       library
+ *     serial       uip_open         uip_feed_all      uip_tick_all         libuip_c.a
+ *     datagrams    uip_open         uip_input         uip_tick_datagrams   libuip_c.a
+ *     Ethernet     uip_open_ether   uip_input_frame   uip_tick_frames      libuip_c_ether.a on Cortex-M and RISC-V,
+ *                                                                          else libuip_c.a
+ *
+ *     python3 tools/pack.py FOLDER site.c          # the site, as a constant array
+ *     arm-none-eabi-gcc -mcpu=cortex-m4 -mthumb -mfloat-abi=soft -Os main.c lib/m4/libuip_c.a -lc -lgcc
+ *                                                  # plus your drivers, startup code and linker script
+ *
+ * The folders of lib/ are in "TARGETS". The library needs memcpy, memmove and memset, and on 32 bits libgcc or
+ * compiler-rt. The Cortex-M libraries are soft-float: with -mfloat-abi=hard the link fails, and docs/FIRMWARE.md
+ * explains how to build them for hard-float.
+ *
+ * RAM for a site of six files on a Cortex-M4: heap 5,648 bytes (Ethernet: 4,224), stack 2,048 (Ethernet: 4,496), and on
+ * a serial line a ring for received bytes. One pass of the program below loses nothing if the ring has 36,024 bytes
+ * free when it begins; with a smaller ring bytes can be lost, and TCP sends them again. examples/step.c, which never
+ * waits, does not feed while output is pending, and needs 6,004 bytes (two frames). README.md has the flash.
+ *
  * WORDS
  *   site     a folder of files, and image: the array that tools/pack.py makes of it
- *   device   one opened node: its address, connections and values; it lies in the heap
- *   handle   your variable of the type uip_device, which has a device after uip_open
+ *   device   your variable of the type uip_device. It is closed until uip_open succeeds; then its memory is in the heap
  *   slot     one of the ten places for a TCP connection
  *   tick     ten periodic calls, one for each slot; one tick is due each half second
  *   pending  output that did not fit into `out`; uip_drain writes it
- *   release  the package that release.sh makes, with the libraries for all targets
  *   sink     your function that takes output, for example writes it to the serial port
  *   uipd     this node as a Linux program
  *
- * In short: zero the handle; never change the image, nor memory that the heap gave out; one call at a time, none in
- * an interrupt; drain before you feed; tick twice a second. The address is static: there is no DHCP.
+ * In short: begin with UIP_INIT; never change the image, nor memory that the heap gave out; one call at a time, none in
+ * an interrupt; drain before you feed; tick twice a second.
  *
  * A whole program for a serial line. You supply the first four functions. Paths are those of the repository: a release
  * has heap.c in examples/common.
@@ -64,20 +86,8 @@
  *         return (int)status;
  *     }
  *
- * BUILD AND LINK. `python3 tools/pack.py FOLDER site.c` makes site.c. Link exactly one of libuip_c.a and, for Ethernet
- * on Cortex-M and RISC-V, libuip_c_ether.a, which has all calls; on the other targets libuip_c.a has them all. A
- * release has them in lib/m4 and the other folders of "TARGETS". Link memcpy, memmove and memset too, and on 32 bits
- * libgcc or compiler-rt. The Cortex-M libraries are soft-float: with -mfloat-abi=hard the link fails, and
- * docs/FIRMWARE.md explains how to build them for hard-float.
- *
- * RAM for a site of six files on a Cortex-M4: heap 5,648 bytes (on Ethernet 4,224), stack about 2,100 (4,500), and a
- * ring for received bytes. The program above loses nothing with a ring of 36,024 bytes, and may lose bytes with a
- * smaller one: TCP sends them again. examples/step.c, which never waits, needs 6,004. README.md has the flash.
- *
  * The loops for datagrams and for Ethernet are at uip_input and above uip_open_ether. docs/FIRMWARE.md has a loop that
- * never waits (UART with DMA or interrupts), the size of a receive buffer, and RTOS. docs/LIMITS.md lists what the node
- * does not do. Read it first: there is no authentication and no encryption, sequence numbers are predictable, and ten
- * SYNs fill the node.
+ * never waits (UART with DMA or interrupts), the size of a receive buffer, and RTOS.
  *
  * THE CALLS. "In a sink": may your sink make this call? "If output pends": the status of the call while a reply is not
  * drained; "-" if none can be pending.
@@ -93,37 +103,35 @@
  *     uip_counter, uip_is_idle, uip_connection  any                           no         yes         allowed
  *     uip_close                                 any                           no         no          allowed
  *
- * For a serial line three inline functions make these calls and pass the output to a sink: uip_feed_all, uip_tick_all
- * and uip_drain_all.
+ * Five inline functions make these calls and pass the output to a sink: uip_feed_all, uip_tick_all and uip_drain_all
+ * for a serial line, uip_tick_datagrams and uip_tick_frames for the other links.
  *
- * RULES FOR THE CALLER. They are about single calls. An inline function makes several, and runs the sink between them:
- * until it returns leave handle, `out` and input alone (rules 2, 3, 5 and 7). Only its sink may read `out`, and make
- * the calls that the table allows. `to` may point to an object that contains `out` or `bytes`. The library cannot check
- * these rules. If one is broken, the behaviour is undefined.
+ * RULES FOR THE CALLER. The library cannot check them. If one is broken, the behaviour is undefined. From the start of
+ * an inline function until it returns, only its sink may read `out` or `frame`, or use the device (the calls marked
+ * "yes" above); nothing may change these or the input.
  *
- *   Handle
- *   1. Both members of the handle are 0 before its first call (UIP_INIT, or memset). If your startup code does not
- *      initialise the RAM of the handle or of the heap, then at each reset set both members to 0, and empty the heap
+ *   Device
+ *   1. Both members of the device are 0 before its first call (UIP_INIT, or memset). If your startup code does not
+ *      initialise the RAM of the device or of the heap, then at each reset set both members to 0, and empty the heap
  *      (heap.c: heap_used = heap_blocks = 0).
- *   2. While a device is open, only calls of this library read or write its handle, and nothing copies the handle.
+ *   2. While a device is open, only calls of this library read or write it, and nothing copies it.
  *   Calls
- *   3. Two calls with one handle never overlap, the calls that read included: each takes the device out of its handle
- *      and puts it back, which is why no handle is const. Calls with different handles may overlap: the library keeps
- *      nothing outside handle and heap.
- *      In an interrupt: make no call, not even with a handle of its own. Calls need up to 4.4 kB of stack ("TARGETS"),
+ *   3. Two calls with one device never overlap. Every call writes to the device, also one that reads, so none is const.
+ *      Calls with different devices may overlap: the library keeps nothing outside device and heap.
+ *      In an interrupt: make no call, not even with a device of its own. Calls need up to 4.4 kB of stack ("TARGETS"),
  *      and no bound on their time is proved.
  *      A call and a sink run to their end: no longjmp, no exception, no deleted task.
- *      Under an RTOS: let one task make all calls. Otherwise give each handle one mutex, and hold it during each call
- *      with that handle, and over the whole of an inline function. The sink then runs with the mutex held, and must not
+ *      Under an RTOS: let one task make all calls. Otherwise give each device one mutex, and hold it during each call
+ *      with that device, and over the whole of an inline function. The sink then runs with the mutex held, and must not
  *      lock it. If other tasks cannot wait that long, use uip_feed and uip_drain, and write between them with the mutex
  *      free.
  *   Pointers
- *   4. No argument is a null pointer, function pointers and areas of length 0 included. Each input is readable over its
+ *   4. No pointer is null: no function pointer, and no pointer to an area of length 0 (pass "" for an empty text).
+ *      Only `to` of the inline functions may be. Each input is readable over its
  *      whole length (`own`, `mask` and `router` 4 bytes, `mac` 6). `out`, and `frame` beyond `len`, need not be
- *      initialised. Exception: `to` of the inline functions, which only the sink uses, may be null. Areas of bytes may
- *      have any alignment.
+ *      initialised. Areas of bytes may have any alignment.
  *   5. `out`, and `frame` of the calls for frames, may be written over the whole of `room`. It shares no byte with the
- *      handle or with another argument, and nothing else (no DMA) reads or writes it until the call returns.
+ *      device or with another argument, and nothing else (no DMA) reads or writes it until the call returns.
  *   6. The image stays at its address until uip_close, and its bytes are the same at each call: the library reads it
  *      there. Between calls its flash may be powered down. Several devices may share one image.
  *   7. All other input (received bytes, a datagram, an address, the text of a value, a name) stays unchanged until the
@@ -131,27 +139,26 @@
  *   Memory and processor
  *   8. The program supplies memcpy, memmove, memset and the heap (at the end of this file). Live blocks do not overlap
  *      each other or anything else that the program uses. Their contents need not be initialised. The functions of the
- *      heap make no call of the library. If uip_open, uip_open_ether or uip_close of two handles may overlap, the
+ *      heap make no call of the library. If uip_open, uip_open_ether or uip_close of two devices may overlap, the
  *      functions of the heap must be thread-safe.
  *   9. The stack is large enough ("TARGETS").
  *  10. The processor is set up as its row of "TARGETS" requires.
  *
  * ERRORS. A call with an argument out of its range, or in the wrong state, changes nothing: not the device, `out` or
  * the counters. It returns a status, and all other fields of the result are 0 (except `entry` and `word` after
- * UIP_BAD_IMAGE). Null pointers and wrong areas are not detected (rules 4 and 5). Not reported:
- * a wrong rate of periodic calls, a slot that is left out or called twice in a tick, and an unknown name (uip_hits
- * returns 0). The contents of what arrives never cause a status. Its length can: drop datagrams of 0 or of more than
- * UIP_MAX_DATAGRAM bytes, and frames longer than `room`; do not call uip_feed with 0 bytes. The statuses of each call,
- * in the order in which they are looked for:
+ * UIP_BAD_IMAGE). Null pointers and wrong areas are not detected (rules 4 and 5). Not reported: a wrong rate of
+ * periodic calls, a slot that is left out or called twice in a tick, and an unknown name (uip_hits returns 0). No
+ * received contents cause an error. A wrong length does: drop datagrams of 0 or of more than UIP_MAX_DATAGRAM bytes,
+ * and Ethernet frames longer than `room`; do not call uip_feed with 0 bytes. The statuses of each call, in the order in
+ * which they are looked for:
  *   uip_open, uip_open_ether    UIP_HAS_DEVICE, UIP_BAD_IMAGE or UIP_NO_MEMORY, UIP_OK
  *   every other call            UIP_BAD_ARGUMENT      an argument is out of its range
- *                               UIP_NO_DEVICE         the handle has no device
+ *                               UIP_NO_DEVICE         the device is not open
  *                               UIP_WRONG_LINK        the call is for another link than the device
  *                               UIP_OUTPUT_PENDING    the call may make output, and some is pending: drain first
  *                               UIP_OK
- * So a loop that passes correct arguments, and drains before it feeds or ticks, sees UIP_OK alone. After UIP_BAD_IMAGE
- * or UIP_NO_MEMORY the handle has no device, and you may open it again. After UIP_HAS_DEVICE its device stays open,
- * unchanged.
+ * So a loop that passes correct arguments, and drains before it feeds or ticks, sees only UIP_OK. After UIP_BAD_IMAGE
+ * or UIP_NO_MEMORY the device is closed, and you may open it again. After UIP_HAS_DEVICE it stays open, unchanged.
  *
  * "SIZES", "TIME", "TARGETS" and "PROVED" are at the end of this file.
  *
@@ -198,10 +205,10 @@ typedef char uip_needs_unsigned_of_32_bits[sizeof(unsigned) == 4 ? 1 : -1];
 /* The values of each field `status`, and of the results of uip_set_value, uip_close and the inline functions. */
 enum uip_status {
     UIP_OK = 0,
-    UIP_NO_DEVICE = 1,         /* the handle has no device */
+    UIP_NO_DEVICE = 1,         /* the device is not open */
     UIP_BAD_ARGUMENT = 2,      /* a length, room, slot, counter or value number is out of its range */
     /* Of uip_open and uip_open_ether only: */
-    UIP_HAS_DEVICE = 3,        /* the handle already has a device */
+    UIP_HAS_DEVICE = 3,        /* the device is already open */
     UIP_BAD_IMAGE = 4,         /* the image is bad; `word` and `entry` name its first fault */
     UIP_NO_MEMORY = 5,         /* the heap is too small; the image may also have faults that were not reached */
     /* Of the calls that send only: */
@@ -252,9 +259,7 @@ enum uip_state {
     UIP_CLOSING = 6, UIP_TIME_WAIT = 7, UIP_LAST_ACK = 8
 };
 
-/*
- * The handle of one device. There may be any number of devices, each with a handle of its own. The members are private.
- */
+/* A device. There may be any number of them. The members are private. */
 typedef struct uip_device { unsigned is_open; void *at; } uip_device;
 #define UIP_INIT {0, NULL}
 
@@ -293,7 +298,7 @@ typedef struct uip_row { unsigned status, state; unsigned char peer[4]; unsigned
  * Opens a device with a site, at an address. Allocates all the memory of the device, in six blocks (see "The heap" at
  * the end). If it fails, it has freed them; otherwise uip_close frees them.
  *
- *   device        a handle without a device
+ *   device        a closed device (at first UIP_INIT)
  *   image, len    the image of the site, from tools/pack.py, `uipd pack` or `uipd upgrade`; it is not copied, and
  *                 rule 6 holds until uip_close; after an error it is not read any more
  *   own           the IPv4 address, first byte first: {10, 0, 0, 1}; it is copied and not checked. To change it,
@@ -355,8 +360,9 @@ uip_result uip_drain(uip_device *device, unsigned char *out, size_t room);
 /* SERIAL LINE: begin with the three functions that follow. They make the calls above, and pass all output to a sink. */
 
 /*
- * How the three functions below are inline. In a C90 without a word for it they are plain static functions. You may
- * define UIP_INLINE before this header, with `static`: #define UIP_INLINE static __inline
+ * How the functions with a sink are inline. In a C90 without a word for it they are plain static functions. You may
+ * define UIP_INLINE before this header, with `static`: #define UIP_INLINE static __inline. (A plain static function
+ * that is not used may still be compiled, and uip_tick_frames then needs the calls for frames.)
  */
 #ifndef UIP_INLINE
 #if defined(__cplusplus)
@@ -379,7 +385,7 @@ uip_result uip_drain(uip_device *device, unsigned char *out, size_t room);
  *   bytes, len    the piece, 1 byte or more; it lies in `out`, and is valid until the sink returns
  *
  * A sink may call uip_set_value and the calls that read: uip_ticks, uip_counter, uip_is_idle, uip_connection, uip_hits.
- * It may make no other call with this handle.
+ * It may make no other call with this device.
  */
 typedef void (*uip_sink)(void *to, const unsigned char *bytes, size_t len);
 
@@ -390,7 +396,8 @@ typedef void (*uip_sink)(void *to, const unsigned char *bytes, size_t len);
  *   out, room    the area of that call
  *   sink, to     called with each piece, and with `to`, which may be null
  *
- * Status: that of `done`; UIP_OK; else that of the uip_drain that failed.
+ * Returns done.status if that is not UIP_OK (the sink is then not called); else UIP_OK, or the status of a uip_drain
+ * that failed.
  */
 UIP_INLINE unsigned uip_drain_all(uip_device *device, uip_result done, unsigned char *out, size_t room, uip_sink sink,
                                   void *to) {
@@ -445,29 +452,27 @@ UIP_INLINE unsigned uip_tick_all(uip_device *device, unsigned char *out, size_t 
 /*
  * Receives one datagram from a link that carries datagrams, and writes the datagram of the reply, if there is one.
  *
- *   datagram, len    the datagram, from the first byte of its IP header; `len` is 1 to UIP_MAX_DATAGRAM: filter
- *                    others, or a peer can end your loop
+ *   datagram, len    the datagram, from the first byte of its IP header; `len` is 1 to UIP_MAX_DATAGRAM. Discard any
+ *                    other before the call: it returns UIP_BAD_ARGUMENT, and a loop that ends at an error would end
  *   out, room        where the reply goes, not over `datagram`; `room` is UIP_MAX_DATAGRAM or more
  *
  * Result: `consumed` is `len`; `written` is the length of the reply; `pending` is 0.
  * Status: UIP_OK, UIP_BAD_ARGUMENT, UIP_NO_DEVICE, UIP_WRONG_LINK, UIP_OUTPUT_PENDING.
  *
- * A whole loop for such a link follows. receive_datagram returns a length, or 0 if nothing has arrived. `in` and `out`
- * have UIP_MAX_DATAGRAM bytes each, and `done` is a uip_result.
+ * A whole loop for such a link follows. receive_datagram returns a length, or 0 if nothing has arrived. send_datagram
+ * is a uip_sink. `in` and `out` have UIP_MAX_DATAGRAM bytes each.
  *
  *     for (;;) {
- *         size_t slot, len = receive_datagram(in, sizeof in);      // drops a longer one
+ *         size_t len = receive_datagram(in, sizeof in);            // drops a longer one
  *         if (len) {
- *             done = uip_input(&device, in, len, out, sizeof out);
+ *             uip_result done = uip_input(&device, in, len, out, sizeof out);
  *             if (done.status != UIP_OK) return (int)done.status;
- *             if (done.written) send_datagram(out, done.written);
+ *             if (done.written) send_datagram(0, out, done.written);
  *         }
- *         if (half_a_second_passed())
- *             for (slot = 0; slot < UIP_SLOTS; slot++) {
- *                 done = uip_periodic_datagram(&device, slot, out, sizeof out);
- *                 if (done.status != UIP_OK) return (int)done.status;
- *                 if (done.written) send_datagram(out, done.written);
- *             }
+ *         if (half_a_second_passed()) {
+ *             unsigned status = uip_tick_datagrams(&device, out, sizeof out, send_datagram, 0);
+ *             if (status != UIP_OK) return (int)status;
+ *         }
  *         work();
  *     }
  *
@@ -490,6 +495,24 @@ uip_result uip_input(uip_device *device, const unsigned char *datagram, size_t l
 uip_result uip_periodic_datagram(uip_device *device, size_t slot, unsigned char *out, size_t room);
 
 /*
+ * Makes one tick on a link of datagrams, and passes each datagram to `send`: at most ten.
+ *
+ *   out, room    as for uip_periodic_datagram
+ *   send, to     called with each datagram, and with `to`, which may be null
+ *
+ * Returns UIP_OK, or the first status of uip_periodic_datagram that is not: if the rules hold, nothing was sent then.
+ */
+UIP_INLINE unsigned uip_tick_datagrams(uip_device *device, unsigned char *out, size_t room, uip_sink send, void *to) {
+    uip_result done = {UIP_OK, 0, 0, 0};
+    size_t slot;
+    for (slot = 0; slot < UIP_SLOTS && done.status == UIP_OK; slot++) {
+        done = uip_periodic_datagram(device, slot, out, room);
+        if (done.written) send(to, out, done.written);
+    }
+    return done.status;
+}
+
+/*
  * ETHERNET. A device on Ethernet (RFC 894) with ARP (RFC 826). A frame begins with the destination hardware address,
  * and has neither preamble nor frame check sequence: the controller strips and adds these. A received frame may be
  * padded. A frame to send is not padded: the controller pads it, or you add zeros up to 60 bytes. If the length that
@@ -501,31 +524,27 @@ uip_result uip_periodic_datagram(uip_device *device, size_t slot, unsigned char 
  *     size_t mac_receive(unsigned char *frame, size_t room);        // the length of a frame, at most `room` (it drops
  *                                                                   // a longer one), or 0; it may sleep until a frame
  *                                                                   // arrives or a tick is due
- *     void mac_send(const unsigned char *frame, size_t len);        // returns when `frame` may be overwritten
- *
+ *     void mac_send(void *to, const unsigned char *frame, size_t len);      // a uip_sink: returns when `frame` may be
+ *                                                                           // overwritten
  *     static uip_device device = UIP_INIT;
  *     static unsigned char frame[UIP_MAX_FRAME];
  *
  *     int main(void) {
  *         static const unsigned char own[4] = {10, 0, 0, 1}, mac[6] = {2, 0, 0, 0, 0, 1};
  *         static const unsigned char mask[4] = {255, 255, 255, 0}, router[4] = {10, 0, 0, 254};
- *         uip_result done;
- *         size_t len, slot;
- *         if (uip_open_ether(&device, site_image, SITE_IMAGE_LEN, own, mac, mask, router).status != UIP_OK) return 1;
- *         for (;;) {
- *             if ((len = mac_receive(frame, sizeof frame)) != 0) {
- *                 done = uip_input_frame(&device, frame, sizeof frame, len);
- *                 if (done.status != UIP_OK) return (int)done.status;
- *                 if (done.written) mac_send(frame, done.written);
+ *         unsigned status = uip_open_ether(&device, site_image, SITE_IMAGE_LEN, own, mac, mask, router).status;
+ *         while (status == UIP_OK) {
+ *             size_t len = mac_receive(frame, sizeof frame);
+ *             if (len) {
+ *                 uip_result done = uip_input_frame(&device, frame, sizeof frame, len);
+ *                 if (done.written) mac_send(0, frame, done.written);
+ *                 status = done.status;
  *             }
- *             if (half_a_second_passed())
- *                 for (slot = 0; slot < UIP_SLOTS; slot++) {
- *                     done = uip_periodic_frame(&device, slot, frame, sizeof frame);
- *                     if (done.status != UIP_OK) return (int)done.status;
- *                     if (done.written) mac_send(frame, done.written);
- *                 }
+ *             if (status == UIP_OK && half_a_second_passed())
+ *                 status = uip_tick_frames(&device, frame, sizeof frame, mac_send, 0);
  *             work();
  *         }
+ *         return (int)status;
  *     }
  *
  * The includes, the heap (of UIP_MEMORY_ETHER(SITE_IMAGE_FILES) bytes), half_a_second_passed and work are as above.
@@ -540,7 +559,7 @@ uip_result uip_periodic_datagram(uip_device *device, size_t slot, unsigned char 
 /*
  * Opens a device on Ethernet with a site, as uip_open does. No address is learned yet.
  *
- *   device        a handle without a device
+ *   device        a closed device (at first UIP_INIT)
  *   image, len    as for uip_open
  *   own           as for uip_open
  *   mac           the hardware address of the node, 6 bytes; it is copied and not checked
@@ -584,6 +603,17 @@ uip_result uip_input_frame(uip_device *device, unsigned char *frame, size_t room
  */
 uip_result uip_periodic_frame(uip_device *device, size_t slot, unsigned char *frame, size_t room);
 
+/* As uip_tick_datagrams, for Ethernet: makes one tick, and passes each frame to `send`. */
+UIP_INLINE unsigned uip_tick_frames(uip_device *device, unsigned char *frame, size_t room, uip_sink send, void *to) {
+    uip_result done = {UIP_OK, 0, 0, 0};
+    size_t slot;
+    for (slot = 0; slot < UIP_SLOTS && done.status == UIP_OK; slot++) {
+        done = uip_periodic_frame(device, slot, frame, room);
+        if (done.written) send(to, frame, done.written);
+    }
+    return done.status;
+}
+
 /*
  * Returns the number of ticks since the device was opened, modulo 2^32: the number of periodic calls of slot 0.
  * Status: UIP_OK, UIP_NO_DEVICE.
@@ -600,8 +630,7 @@ uip_number uip_counter(uip_device *device, size_t number);
  * UIP_NO_DEVICE.
  *
  * It may be 1 while output is pending: drain first. After a page it stays 0 for 60 s (TIME_WAIT), unless the peer
- * closed first. After a sleep do not make up for the ticks that were left out (half_a_second_passed above makes up for
- * two at most).
+ * closed first. After a sleep make at most two ticks, as half_a_second_passed does, and leave out the rest.
  */
 uip_number uip_is_idle(uip_device *device);
 
@@ -621,10 +650,11 @@ uip_row uip_connection(uip_device *device, size_t slot);
  * value-html or value-json. docs/FIRMWARE.md has an example, and docs/FORMATS.md the rules. A value that was never set
  * is empty.
  *
- * You can set a value between any two calls, while output is pending, and in a sink. To empty it, pass "" and 0. A
- * value is read when the peer has acknowledged everything before it in the reply, the HTTP header included. So each
- * value costs a round trip (with delayed acknowledgements often 40 to 200 ms), and two values of one page may be of two
- * moments. A retransmission has the same bytes, even if the value has changed.
+ * You can set a value between any two calls, while output is pending, and in a sink. Any bytes are allowed. To empty
+ * it, pass "" and 0. A longer text is refused, and the value stays. A value is read when the peer has acknowledged
+ * everything before it in the reply, the HTTP header included. So each value costs a round trip (with delayed
+ * acknowledgements often 40 to 200 ms), and two values of one page may be of two moments. A retransmission has the same
+ * bytes, even if the value has changed.
  *
  *     uip_set_value(&device, 3, "21.5", 4);            // %! value-html 3 shows 21.5
  *
@@ -670,7 +700,7 @@ uip_number uip_hits(uip_device *device, const void *name, size_t len);
 
 /*
  * Closes the device and frees its memory. Sends nothing: open connections and pending output are dropped (a frame on
- * the line may be cut), and values and hits are gone. The handle can be opened again. Status: UIP_OK, UIP_NO_DEVICE.
+ * the line may be cut), and values and hits are gone. The device can be opened again. Status: UIP_OK, UIP_NO_DEVICE.
  */
 unsigned uip_close(uip_device *device);
 
@@ -735,7 +765,7 @@ void rattle_dealloc(void *block);
  * Ethernet the Cortex-M4 needs 4,496: uip_open_ether 4,392, and the other calls for frames at most 1,880. For the other
  * targets on Ethernet, and where the table has "-", none was computed. Compute yours: docs/FIRMWARE.md.
  *
- *     target             folder    stack  what the program must see to
+ *     target             folder    stack  what your startup code must ensure
  *     x86-64             x86_64       -   The processor has level v2 or later (SSE4.2).
  *     aarch64            aarch64   1,872  SIMD registers are on, and an interrupt handler saves those that it uses.
  *                                         Code, image and data lie in normal memory, which allows unaligned accesses.

@@ -8,7 +8,7 @@
  * The library is libuip_app_c.a: `rt lib` in crates/uip_app_c. It has none of the calls of uip.h, and the other way
  * round; a program links one of the two. This header takes from uip.h the statuses, uip_result and the heap.
  *
- * WHAT THE CALLER MUST KEEP: rules 1 to 5 and 7 to 10 of uip.h. In them uip_app_open and uip_app_close have the
+ * RULES FOR THE CALLER: 1 to 5 and 7 to 10 of uip.h. In them uip_app_open and uip_app_close have the
  * place of uip_open_ether and uip_close, and rule 5 holds for `bytes` of uip_app_read as for `out`. The stack of this
  * library was not computed (rule 9).
  *
@@ -99,7 +99,7 @@ enum {
     UIP_MODBUS_PORT = 502
 };
 
-/* The handle of one device. `is_open` is 1 with a device, else 0. */
+/* A device. `is_open` is 1 while it is open, else 0. */
 typedef struct uip_app { unsigned is_open; void *at; } uip_app;
 #define UIP_APP_INIT {0, NULL}
 
@@ -121,7 +121,7 @@ typedef struct uip_received { unsigned status, ready, port; size_t len; } uip_re
  * Opens a device, at an address and a hardware address. Allocates all the memory of the device, in three blocks. If it
  * fails, it has freed them; otherwise uip_app_close frees them. No address is learned yet.
  *
- *   device    a handle without a device
+ *   device    a closed device (at first UIP_APP_INIT)
  *   own       the IPv4 address, first byte first: {10, 0, 0, 1}; it is copied and not checked
  *   mac       the hardware address of the node, 6 bytes; it is copied and not checked
  *   mask      the address mask, first byte first: {255, 255, 255, 0}; it is copied. An address is on the link if
