@@ -10,7 +10,8 @@
  * of uIP would replace these calls.
  *
  * Read docs/LIMITS.md first. There is no authentication, no encryption and no DHCP; sequence numbers are predictable,
- * and ten SYNs fill the node. A page gives your program nothing but counts of GETs (uip_hits).
+ * and ten SYNs that are never acknowledged occupy all ten slots for 51 s. A page gives your program nothing but counts
+ * of GETs (uip_hits).
  *
  * CHOOSE ONE ROW, and link its library from a release (the package that release.sh makes):
  *
@@ -25,13 +26,13 @@
  *                                                  # plus your drivers, startup code and linker script
  *
  * The folders of lib/ are in "TARGETS". The library needs memcpy, memmove and memset, and on 32 bits libgcc or
- * compiler-rt. The Cortex-M libraries are soft-float: with -mfloat-abi=hard the link fails, and docs/FIRMWARE.md
- * explains how to build them for hard-float.
+ * compiler-rt. The Cortex-M libraries are soft-float. They link with -mfloat-abi=soft and -mfloat-abi=softfp, which
+ * uses the FPU; for -mfloat-abi=hard see docs/FIRMWARE.md.
  *
  * RAM for a site of six files on a Cortex-M4: heap 5,648 bytes (Ethernet: 4,224), stack 2,048 (Ethernet: 4,496), and on
- * a serial line a ring for received bytes. One pass of the program below loses nothing if the ring has 36,024 bytes
- * free when it begins; with a smaller ring bytes can be lost, and TCP sends them again. examples/step.c, which never
- * waits, does not feed while output is pending, and needs 6,004 bytes (two frames). README.md has the flash.
+ * a serial line a ring for received bytes. Begin with a ring of 512 bytes, which was enough for two clients at 19,200
+ * bits a second on an emulated board. An overflow damages a frame, and TCP sends it again; that a page arrives is then
+ * not proved. To exclude overflow see "TIME". README.md has the flash.
  *
  * WORDS
  *   site     a folder of files, and image: the array that tools/pack.py makes of it
@@ -90,7 +91,7 @@
  * never waits (UART with DMA or interrupts), the size of a receive buffer, and RTOS.
  *
  * THE CALLS. "In a sink": may your sink make this call? "If output pends": the status of the call while a reply is not
- * drained; "-" if none can be pending.
+ * drained; "-" if the call returns another.
  *
  *     call                                      link                          may send   in a sink   if output pends
  *     uip_open                                  serial line and datagrams     no         no          -
@@ -106,9 +107,9 @@
  * Five inline functions make these calls and pass the output to a sink: uip_feed_all, uip_tick_all and uip_drain_all
  * for a serial line, uip_tick_datagrams and uip_tick_frames for the other links.
  *
- * RULES FOR THE CALLER. The library cannot check them. If one is broken, the behaviour is undefined. From the start of
- * an inline function until it returns, only its sink may read `out` or `frame`, or use the device (the calls marked
- * "yes" above); nothing may change these or the input.
+ * RULES FOR THE CALLER. The library cannot check them. If one is broken, the behaviour is undefined. While an inline
+ * function runs, nothing changes `out`, `frame` or the input. Only its sink reads `out` or `frame`, and only its sink
+ * uses the device, by the calls marked "yes" above.
  *
  *   Device
  *   1. Both members of the device are 0 before its first call (UIP_INIT, or memset). If your startup code does not
@@ -126,8 +127,8 @@
  *      lock it. If other tasks cannot wait that long, use uip_feed and uip_drain, and write between them with the mutex
  *      free.
  *   Pointers
- *   4. No pointer is null: no function pointer, and no pointer to an area of length 0 (pass "" for an empty text).
- *      Only `to` of the inline functions may be. Each input is readable over its
+ *   4. No pointer argument is null, also not a function pointer or a pointer to an empty area (pass ""). The only
+ *      exception is `to` of the inline functions. Each input is readable over its
  *      whole length (`own`, `mask` and `router` 4 bytes, `mac` 6). `out`, and `frame` beyond `len`, need not be
  *      initialised. Areas of bytes may have any alignment.
  *   5. `out`, and `frame` of the calls for frames, may be written over the whole of `room`. It shares no byte with the
@@ -144,11 +145,11 @@
  *   9. The stack is large enough ("TARGETS").
  *  10. The processor is set up as its row of "TARGETS" requires.
  *
- * ERRORS. A call with an argument out of its range, or in the wrong state, changes nothing: not the device, `out` or
- * the counters. It returns a status, and all other fields of the result are 0 (except `entry` and `word` after
- * UIP_BAD_IMAGE). Null pointers and wrong areas are not detected (rules 4 and 5). Not reported: a wrong rate of
- * periodic calls, a slot that is left out or called twice in a tick, and an unknown name (uip_hits returns 0). No
- * received contents cause an error. A wrong length does: drop datagrams of 0 or of more than UIP_MAX_DATAGRAM bytes,
+ * ERRORS. After a call with an argument out of its range, or in the wrong state, the device, `out` and the counters are
+ * as before (rule 3 still applies). It returns a status, and all other fields of the result are 0 (except `entry` and
+ * `word` after UIP_BAD_IMAGE). Null pointers and wrong areas are not detected (rules 4 and 5). Not reported: a wrong
+ * rate of periodic calls, a slot that is left out or called twice in a tick, and an unknown name (uip_hits returns 0).
+ * No received contents cause an error. A wrong length does: drop datagrams of 0 or of more than UIP_MAX_DATAGRAM bytes,
  * and Ethernet frames longer than `room`; do not call uip_feed with 0 bytes. The statuses of each call, in the order in
  * which they are looked for:
  *   uip_open, uip_open_ether    UIP_HAS_DEVICE, UIP_BAD_IMAGE or UIP_NO_MEMORY, UIP_OK
@@ -207,11 +208,11 @@ enum uip_status {
     UIP_OK = 0,
     UIP_NO_DEVICE = 1,         /* the device is not open */
     UIP_BAD_ARGUMENT = 2,      /* a length, room, slot, counter or value number is out of its range */
-    /* Of uip_open and uip_open_ether only: */
+    /* Only of uip_open and uip_open_ether: */
     UIP_HAS_DEVICE = 3,        /* the device is already open */
     UIP_BAD_IMAGE = 4,         /* the image is bad; `word` and `entry` name its first fault */
-    UIP_NO_MEMORY = 5,         /* the heap is too small; the image may also have faults that were not reached */
-    /* Of the calls that send only: */
+    UIP_NO_MEMORY = 5,         /* the heap is too small; the image was not checked to its end */
+    /* Only of calls that may send: */
     UIP_OUTPUT_PENDING = 6,    /* uip_drain must first write the output that is pending */
     UIP_WRONG_LINK = 7         /* the device is on Ethernet and the call is for another link, or the other way round */
 };
@@ -228,7 +229,7 @@ enum uip_status {
 
 /* The counters, by the numbers of uip_counter. Each counts modulo 2^32. */
 enum uip_counter_id {
-    UIP_DATAGRAMS_IN = 1,      /* received, also those that are dropped; not what Ethernet or ARP drops */
+    UIP_DATAGRAMS_IN = 1,      /* reached IP, later drops included; not what Ethernet or ARP dropped */
     UIP_DATAGRAMS_OUT = 2,
     UIP_OVERLONG_FRAMES = 3,   /* SLIP frames of more than 1500 bytes, dropped */
     /* Datagrams that IP dropped: */
@@ -287,12 +288,15 @@ typedef struct uip_number { unsigned status; unsigned number; } uip_number;
  *   state         an enum uip_state
  *   peer, port    the address, first byte first, and the TCP port of the peer (a number, not in network byte order)
  *   tries         how often the outstanding segment was sent again
- *   count         if `waiting` is 1: how many ticks pass before the one that sends the segment again or resets the
- *                 connection (0: the next tick does). In FIN_WAIT_2 and TIME_WAIT: the ticks spent there, of 120.
- *                 Else 0: the idle time of an ESTABLISHED connection is not shown
+ *   count         `waiting` is 1: how many ticks pass before the one that sends the segment again or resets the
+ *                     connection (0: the next tick does)
+ *                 FIN_WAIT_2, TIME_WAIT: the ticks spent there, of 120
+ *                 else 0: the idle time of an ESTABLISHED connection is not shown
  *   waiting       1 if a segment is outstanding, else 0
  */
 typedef struct uip_row { unsigned status, state; unsigned char peer[4]; unsigned port, tries, count, waiting; } uip_row;
+
+/* ---- OPEN */
 
 /*
  * Opens a device with a site, at an address. Allocates all the memory of the device, in six blocks (see "The heap" at
@@ -308,6 +312,9 @@ typedef struct uip_row { unsigned status, state; unsigned char peer[4]; unsigned
  * Status: UIP_OK, UIP_HAS_DEVICE, UIP_BAD_IMAGE, UIP_NO_MEMORY.
  */
 uip_opened uip_open(uip_device *device, const unsigned char *image, size_t len, const unsigned char own[4]);
+
+/* ---- SERIAL LINE. If your write may wait, you need only uip_feed_all and uip_tick_all, below: skip to them. uip_feed,
+ * uip_periodic and uip_drain are for a loop that must not wait. */
 
 /*
  * Feeds bytes that were received on the serial line. Stops after the first complete frame, handles it, and writes the
@@ -329,8 +336,8 @@ uip_result uip_feed(uip_device *device, const unsigned char *bytes, size_t len, 
  * due twice a second. uip_tick_all makes one tick. Other calls may come between the ten, and the ten may come in the
  * middle of a received frame: its first part is kept.
  *
- * Never make more than two ticks in a row: a burst gives up connections that could be served. If more are due, after a
- * stall or a sleep, make one and drop the rest: each dropped tick only delays the timers by half a second. Without
+ * If one or two ticks are due, make them. If three or more are due, after a stall or a sleep, make one and forget the
+ * others: a burst gives up connections that could be served, and a tick left out only delays the timers. Without
  * ticks, lost segments are never sent again and no connection times out. Any order of the slots will do. Each timer
  * counts the calls of its own slot, and uip_ticks those of slot 0.
  *
@@ -357,11 +364,11 @@ uip_result uip_periodic(uip_device *device, size_t slot, unsigned char *out, siz
  */
 uip_result uip_drain(uip_device *device, unsigned char *out, size_t room);
 
-/* SERIAL LINE: begin with the three functions that follow. They make the calls above, and pass all output to a sink. */
+/* ---- SERIAL LINE, with a sink: uip_drain_all, uip_feed_all, uip_tick_all */
 
 /*
- * How the functions with a sink are inline. In a C90 without a word for it they are plain static functions. You may
- * define UIP_INLINE before this header, with `static`: #define UIP_INLINE static __inline. (A plain static function
+ * How the functions with a sink are inline. If a C90 compiler has no word for it, they are plain static functions. You
+ * may define UIP_INLINE before this header, with `static`: #define UIP_INLINE static __inline. (A plain static function
  * that is not used may still be compiled, and uip_tick_frames then needs the calls for frames.)
  */
 #ifndef UIP_INLINE
@@ -449,6 +456,8 @@ UIP_INLINE unsigned uip_tick_all(uip_device *device, unsigned char *out, size_t 
     return done.status;
 }
 
+/* ---- DATAGRAMS */
+
 /*
  * Receives one datagram from a link that carries datagrams, and writes the datagram of the reply, if there is one.
  *
@@ -512,8 +521,10 @@ UIP_INLINE unsigned uip_tick_datagrams(uip_device *device, unsigned char *out, s
     return done.status;
 }
 
+/* ---- ETHERNET */
+
 /*
- * ETHERNET. A device on Ethernet (RFC 894) with ARP (RFC 826). A frame begins with the destination hardware address,
+ * A device on Ethernet (RFC 894) with ARP (RFC 826). A frame begins with the destination hardware address,
  * and has neither preamble nor frame check sequence: the controller strips and adds these. A received frame may be
  * padded. A frame to send is not padded: the controller pads it, or you add zeros up to 60 bytes. If the length that
  * your controller reports includes the check sequence, subtract 4; otherwise a frame of full size is dropped, or
@@ -614,6 +625,8 @@ UIP_INLINE unsigned uip_tick_frames(uip_device *device, unsigned char *frame, si
     return done.status;
 }
 
+/* ---- DIAGNOSTICS */
+
 /*
  * Returns the number of ticks since the device was opened, modulo 2^32: the number of periodic calls of slot 0.
  * Status: UIP_OK, UIP_NO_DEVICE.
@@ -630,12 +643,14 @@ uip_number uip_counter(uip_device *device, size_t number);
  * UIP_NO_DEVICE.
  *
  * It may be 1 while output is pending: drain first. After a page it stays 0 for 60 s (TIME_WAIT), unless the peer
- * closed first. After a sleep make at most two ticks, as half_a_second_passed does, and leave out the rest.
+ * closed first. For the ticks of a sleep see uip_periodic.
  */
 uip_number uip_is_idle(uip_device *device);
 
 /* Returns the connection in a slot, 0 to 9. Status: UIP_OK, UIP_BAD_ARGUMENT, UIP_NO_DEVICE. */
 uip_row uip_connection(uip_device *device, size_t slot);
+
+/* ---- VALUES AND HITS */
 
 /*
  * Sets a value that the pages show.
@@ -651,10 +666,10 @@ uip_row uip_connection(uip_device *device, size_t slot);
  * is empty.
  *
  * You can set a value between any two calls, while output is pending, and in a sink. Any bytes are allowed. To empty
- * it, pass "" and 0. A longer text is refused, and the value stays. A value is read when the peer has acknowledged
- * everything before it in the reply, the HTTP header included. So each value costs a round trip (with delayed
- * acknowledgements often 40 to 200 ms), and two values of one page may be of two moments. A retransmission has the same
- * bytes, even if the value has changed.
+ * it, pass "" and 0. A longer text is refused, and the value stays. The reply is cut before each value. The value is
+ * read when the peer has acknowledged all that precedes it, the HTTP header included. So each value costs a round trip
+ * (with delayed acknowledgements often 40 to 200 ms), and two values of one page may be of two moments. A
+ * retransmission has the same bytes, even if the value has changed.
  *
  *     uip_set_value(&device, 3, "21.5", 4);            // %! value-html 3 shows 21.5
  *
@@ -666,8 +681,8 @@ uip_row uip_connection(uip_device *device, size_t slot);
  *
  *     void work(void) {
  *         char text[UIP_MAX_VALUE];
- *         unsigned now_on = uip_hits(&device, "/lamp-on.html", sizeof "/lamp-on.html" - 1).number;
- *         unsigned now_off = uip_hits(&device, "/lamp-off.html", sizeof "/lamp-off.html" - 1).number;
+ *         unsigned now_on = uip_hits(&device, UIP_TEXT("/lamp-on.html")).number;
+ *         unsigned now_off = uip_hits(&device, UIP_TEXT("/lamp-off.html")).number;
  *         if (now_on != on) is_lit = 1;
  *         if (now_off != off) is_lit = 0;
  *         on = now_on;
@@ -682,6 +697,9 @@ uip_row uip_connection(uip_device *device, size_t slot);
  * examples/state/lamp-on.html.
  */
 unsigned uip_set_value(uip_device *device, size_t number, const void *text, size_t len);
+
+/* A literal as two arguments, without its 0: uip_hits(&device, UIP_TEXT("/lamp-on.html")). */
+#define UIP_TEXT(literal) (literal), sizeof(literal) - 1
 
 /*
  * Returns how often a file was requested since the device was opened, modulo 2^32; 0 if no file of the site has that
@@ -698,20 +716,25 @@ unsigned uip_set_value(uip_device *device, size_t number, const void *text, size
  */
 uip_number uip_hits(uip_device *device, const void *name, size_t len);
 
+/* ---- CLOSE */
+
 /*
  * Closes the device and frees its memory. Sends nothing: open connections and pending output are dropped (a frame on
  * the line may be cut), and values and hits are gone. The device can be opened again. Status: UIP_OK, UIP_NO_DEVICE.
  */
 unsigned uip_close(uip_device *device);
 
+/* ---- THE HEAP */
+
 /*
  * The heap, which the program supplies. Take examples/heap.c (an array of UIP_HEAP_SIZE bytes, for one thread),
  * examples/linux-c/heap.c (malloc), or write your own. One heap serves all devices (rule 8).
  *
  *   rattle_alloc      returns a block of `len` bytes, or of `align` bytes if `len` is 0, at a multiple of `align` (1,
- *                     2, 4 or 8), with `ok` 1. If there is no room: `ok` 0, and a `block` that is not null, for example
- *                     the address of a static byte. Never {0, NULL}: addresses of Rattle, the language of
- *                     the library, have no null, so that is undefined.
+ *                     2, 4 or 8), with `ok` 1. If there is no room: `ok` 0, and a `block` that is not null, for
+ *                     example the address of a static byte. NEVER RETURN A NULL BLOCK: addresses of Rattle, the
+ *                     language of the library, have no null, so that is undefined. examples/linux-c/heap.c does it
+ *                     over malloc.
  *   rattle_realloc    returns a block as rattle_alloc does, copies the first `kept` bytes of the old block into it, and
  *                     frees the old one. The linker may need it, and nothing calls it: it may always fail
  *                     (`ok` 0, any address but null, the old block stays).
@@ -742,23 +765,23 @@ void rattle_dealloc(void *block);
 /*
  * SIZES. Nothing can be configured. MSS and window are 1460 bytes. A segment has at most the least of 1460 bytes, the
  * peer's MSS (536 if it announces none) and the peer's window. A window of 0 does not limit it: the segment is sent,
- * and sent again by the timer. There are ten connections, each with at most one segment outstanding. A segment without
- * an acknowledgement is sent again 4, 8, 15, 28, 53, 102, 151 and 200 ticks after the first sending, and given up after
- * 249; a SYN-ACK five times, and given up after 102. An ESTABLISHED connection with nothing outstanding is reset after
- * 20 ticks in which it received no data. FIN_WAIT_2 and TIME_WAIT end after 120. The heap has one packet buffer of 1500
- * bytes for both directions. A device of uip_open has another 1500, for the frame that is being received. A site has at
- * most 1,024 files and 16,777,216 bytes.
+ * and sent again by the timer. There are ten connections, each with at most one segment outstanding. Each file takes
+ * one connection, HTTP/1.0 without keep-alive. A SYN that finds no CLOSED slot takes that which is in TIME_WAIT
+ * longest, and is dropped if there is none. A segment without an acknowledgement is sent again 4, 8, 15, 28, 53, 102,
+ * 151 and 200 ticks after the first sending, and given up after 249; a SYN-ACK five times, and given up after 102. An
+ * ESTABLISHED connection with nothing outstanding is reset after 20 ticks in which it received no data. FIN_WAIT_2 and
+ * TIME_WAIT end after 120. The heap has one packet buffer of 1500 bytes for both directions. A device of uip_open has
+ * another 1500, for the frame that is being received. A site has at most 1,024 files and 16,777,216 bytes.
  *
  * TIME. No call waits; an inline function waits as long as its sink does. uip_open and uip_open_ether read the whole
  * image; any other call handles at most one datagram. The node has no clock: a tick is half a second (see
- * uip_periodic). Give the ring room for what arrives while the program writes: up to 3,002
- * bytes for each frame written (0.26 s at 115,200 bits a second). uip_feed or uip_periodic with its uip_drain writes 1
- * frame, uip_tick_all up to 10, uip_feed_all one for each frame that ends in `bytes`.
- * The program above may write twelve full frames in one pass (two that end in its 64 bytes, ten of a tick; 36,024
- * bytes): with less RAM use examples/step.c (two, 6,004 bytes). A ring with that much free when the writing begins
- * loses nothing. With a smaller ring, bytes can be lost: TCP sends them again, but that a page arrives is then not
- * proved. 512 bytes were enough for two clients at 19,200 bits a second (measured on an emulated board). The line
- * carries all 8 bits of a byte: no XON and XOFF.
+ * uip_periodic). Give the ring room for what arrives while the program writes: up to 3,002 bytes for each frame written
+ * (0.26 s at 115,200 bits a second). uip_feed or uip_periodic with its uip_drain writes 1 frame, uip_tick_all up to 10,
+ * uip_feed_all one for each frame that ends in `bytes`. The program above may write twelve full frames in one pass (two
+ * full ones that end in its 64 bytes, ten of a tick; 36,024 bytes). examples/step.c writes at most two before it feeds
+ * (6,004 bytes). A ring with that much free when the writing begins loses nothing. With a smaller ring, bytes can be
+ * lost: TCP sends them again, but that a page arrives is then not proved. 512 bytes were enough for two clients at
+ * 19,200 bits a second (measured on an emulated board). The line carries all 8 bits of a byte: no XON and XOFF.
  *
  * TARGETS. The stack is that of one firmware for a serial line (examples/board), in bytes: the greatest depth from
  * reset, with its main, drivers and memcpy, without interrupts. It is computed from the linked code and not proved. On
@@ -772,9 +795,9 @@ void rattle_dealloc(void *block);
  *     Cortex-M4, M33     m4, m33   2,048  CCR.UNALIGN_TRP is 0. The image and all memory that is passed are Normal
  *                                         memory.
  *     Cortex-M7          m7        2,040  As for the M4.
- *     Cortex-M0+, M0     m0        2,148  Nothing: the code makes aligned accesses alone. An M3 executes it too (not
+ *     Cortex-M0+, M0     m0        2,148  Nothing: the code makes only aligned accesses. An M3 executes it too (not
  *                                         tried).
- *     rv32imac, rv32imc  rv32      2,032  The ABI is ilp32. Else nothing: aligned accesses alone, no atomic ones.
+ *     rv32imac, rv32imc  rv32      2,032  The ABI is ilp32. Else nothing: only aligned accesses, no atomic ones.
  *     rv64imac           rv64      2,320  The ABI is lp64, the code model medany. Else nothing, as for rv32imac.
  *     WebAssembly        wasm         -   Nothing.
  *
@@ -786,7 +809,8 @@ void rattle_dealloc(void *block);
  * PROVED of the source, which is Rattle (Rust with contracts), for any sequence of calls, successful or not, if the
  * caller keeps the rules: memory safety, that each call returns, and that the output is exactly what
  * docs/SPECIFICATION.md defines for the input. What a peer has received is always a prefix of the page; once it has the
- * FIN, it is the whole page. The prefix property fails if a late datagram of an older connection is accepted. On
+ * FIN, it is the whole page. The first half of this does not hold if a
+ * late datagram of an older connection is accepted. On
  * Ethernet each frame with a datagram goes to the hardware address that ARP learned last for its next hop (RFC 1122):
  * its destination if that is on the link, else the router.
  *
