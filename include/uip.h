@@ -10,8 +10,8 @@
  * of uIP would replace these calls.
  *
  * Read docs/LIMITS.md first. There is no authentication, no encryption and no DHCP; sequence numbers are predictable,
- * and ten SYNs that are never acknowledged occupy all ten slots for 51 s. A page gives your program nothing but counts
- * of GETs (uip_hits).
+ * and ten SYNs that are never acknowledged occupy all ten slots for 51 s. A browser cannot send your program data (no
+ * forms, no POST, no query strings): it sees only how often each file was requested (uip_hits).
  *
  * CHOOSE ONE ROW, and link its library from a release (the package that release.sh makes):
  *
@@ -91,7 +91,7 @@
  * never waits (UART with DMA or interrupts), the size of a receive buffer, and RTOS.
  *
  * THE CALLS. "In a sink": may your sink make this call? "If output pends": the status of the call while a reply is not
- * drained; "-" if the call returns another.
+ * drained; "-": none can be pending, or another status is found first.
  *
  *     call                                      link                          may send   in a sink   if output pends
  *     uip_open                                  serial line and datagrams     no         no          -
@@ -108,8 +108,8 @@
  * for a serial line, uip_tick_datagrams and uip_tick_frames for the other links.
  *
  * RULES FOR THE CALLER. The library cannot check them. If one is broken, the behaviour is undefined. While an inline
- * function runs, nothing changes `out`, `frame` or the input. Only its sink reads `out` or `frame`, and only its sink
- * uses the device, by the calls marked "yes" above.
+ * function runs, only the library writes `out` or `frame`, and nothing writes the input. Only its sink reads `out` or
+ * `frame`, and only its sink uses the device, by the calls marked "yes" above.
  *
  *   Device
  *   1. Both members of the device are 0 before its first call (UIP_INIT, or memset). If your startup code does not
@@ -117,7 +117,8 @@
  *      (heap.c: heap_used = heap_blocks = 0).
  *   2. While a device is open, only calls of this library read or write it, and nothing copies it.
  *   Calls
- *   3. Two calls with one device never overlap. Every call writes to the device, also one that reads, so none is const.
+ *   3. Two calls with one device never overlap. Calls that read also change the device inside, so they count
+ *      too, and no device is const.
  *      Calls with different devices may overlap: the library keeps nothing outside device and heap.
  *      In an interrupt: make no call, not even with a device of its own. Calls need up to 4.4 kB of stack ("TARGETS"),
  *      and no bound on their time is proved.
@@ -146,12 +147,12 @@
  *  10. The processor is set up as its row of "TARGETS" requires.
  *
  * ERRORS. After a call with an argument out of its range, or in the wrong state, the device, `out` and the counters are
- * as before (rule 3 still applies). It returns a status, and all other fields of the result are 0 (except `entry` and
- * `word` after UIP_BAD_IMAGE). Null pointers and wrong areas are not detected (rules 4 and 5). Not reported: a wrong
- * rate of periodic calls, a slot that is left out or called twice in a tick, and an unknown name (uip_hits returns 0).
- * No received contents cause an error. A wrong length does: drop datagrams of 0 or of more than UIP_MAX_DATAGRAM bytes,
- * and Ethernet frames longer than `room`; do not call uip_feed with 0 bytes. The statuses of each call, in the order in
- * which they are looked for:
+ * as before (a call that fails still counts for rule 3). It returns a status, and all other fields of the result are 0
+ * (except `entry` and `word` after UIP_BAD_IMAGE). Null pointers and wrong areas are not detected (rules 4 and 5). Not
+ * reported: a wrong rate of periodic calls, a slot that is left out or called twice in a tick, and an unknown name
+ * (uip_hits returns 0). No received contents cause an error. A wrong length does: drop datagrams of 0 or of more than
+ * UIP_MAX_DATAGRAM bytes, and Ethernet frames longer than `room`; do not call uip_feed with 0 bytes. The statuses of
+ * each call, in the order in which they are looked for:
  *   uip_open, uip_open_ether    UIP_HAS_DEVICE, UIP_BAD_IMAGE or UIP_NO_MEMORY, UIP_OK
  *   every other call            UIP_BAD_ARGUMENT      an argument is out of its range
  *                               UIP_NO_DEVICE         the device is not open
@@ -163,7 +164,7 @@
  *
  * "SIZES", "TIME", "TARGETS" and "PROVED" are at the end of this file.
  *
- * Structures are returned by value: do not change how with -fpcc-struct-return or -freg-struct-return. A status is
+ * Do not compile with -fpcc-struct-return or -freg-struct-return: they change the ABI. A status is
  * unsigned, so -fshort-enums does not matter. The header is C90 or later, or C++ (tried: gcc 12.2 and clang 14, C90 to
  * C17, C++98 to C++17). The examples in its comments have comments of C99. examples/heap.c is C11 or C++11.
  */
@@ -337,7 +338,7 @@ uip_result uip_feed(uip_device *device, const unsigned char *bytes, size_t len, 
  * middle of a received frame: its first part is kept.
  *
  * If one or two ticks are due, make them. If three or more are due, after a stall or a sleep, make one and forget the
- * others: a burst gives up connections that could be served, and a tick left out only delays the timers. Without
+ * others: a burst would time out live connections, and a tick left out only delays the timers. Without
  * ticks, lost segments are never sent again and no connection times out. Any order of the slots will do. Each timer
  * counts the calls of its own slot, and uip_ticks those of slot 0.
  *
@@ -399,7 +400,7 @@ typedef void (*uip_sink)(void *to, const unsigned char *bytes, size_t len);
 /*
  * For a serial line. Passes the output of a uip_feed or uip_periodic to `sink`, and then all that is pending.
  *
- *   done         the result of that call; its `consumed` may be less than the input: feed the rest after this
+ *   done         the result of that call; if done.consumed is less than the input, feed the rest afterwards
  *   out, room    the area of that call
  *   sink, to     called with each piece, and with `to`, which may be null
  *
@@ -504,19 +505,19 @@ uip_result uip_input(uip_device *device, const unsigned char *datagram, size_t l
 uip_result uip_periodic_datagram(uip_device *device, size_t slot, unsigned char *out, size_t room);
 
 /*
- * Makes one tick on a link of datagrams, and passes each datagram to `send`: at most ten.
+ * Makes one tick on a link of datagrams, and passes each datagram to `sink`: at most ten.
  *
  *   out, room    as for uip_periodic_datagram
- *   send, to     called with each datagram, and with `to`, which may be null
+ *   sink, to     called with each datagram, and with `to`, which may be null
  *
  * Returns UIP_OK, or the first status of uip_periodic_datagram that is not: if the rules hold, nothing was sent then.
  */
-UIP_INLINE unsigned uip_tick_datagrams(uip_device *device, unsigned char *out, size_t room, uip_sink send, void *to) {
+UIP_INLINE unsigned uip_tick_datagrams(uip_device *device, unsigned char *out, size_t room, uip_sink sink, void *to) {
     uip_result done = {UIP_OK, 0, 0, 0};
     size_t slot;
     for (slot = 0; slot < UIP_SLOTS && done.status == UIP_OK; slot++) {
         done = uip_periodic_datagram(device, slot, out, room);
-        if (done.written) send(to, out, done.written);
+        if (done.written) sink(to, out, done.written);
     }
     return done.status;
 }
@@ -586,8 +587,9 @@ uip_opened uip_open_ether(uip_device *device, const unsigned char *image, size_t
                           const unsigned char mac[6], const unsigned char mask[4], const unsigned char router[4]);
 
 /*
- * Receives one frame. Writes the frame that is sent, if there is one, to the same place: an ARP reply, or the reply of
- * the node. Drops a frame of fewer than 14 or more than 1514 bytes, and one for another host.
+ * Receives one frame. The reply, if any, overwrites `frame`: send its first `written` bytes. It is an ARP reply, an ARP
+ * request, or the datagram of the node in a frame. Drops a frame of fewer than 14 or more than 1514 bytes, and one for
+ * another host.
  *
  *   frame, room    the received frame in its first `len` bytes; the frame to send overwrites it from the start;
  *                  `room` is UIP_MAX_FRAME or more, and comes before `len`
@@ -614,13 +616,13 @@ uip_result uip_input_frame(uip_device *device, unsigned char *frame, size_t room
  */
 uip_result uip_periodic_frame(uip_device *device, size_t slot, unsigned char *frame, size_t room);
 
-/* As uip_tick_datagrams, for Ethernet: makes one tick, and passes each frame to `send`. */
-UIP_INLINE unsigned uip_tick_frames(uip_device *device, unsigned char *frame, size_t room, uip_sink send, void *to) {
+/* As uip_tick_datagrams, for Ethernet: makes one tick, and passes each frame to `sink`. */
+UIP_INLINE unsigned uip_tick_frames(uip_device *device, unsigned char *frame, size_t room, uip_sink sink, void *to) {
     uip_result done = {UIP_OK, 0, 0, 0};
     size_t slot;
     for (slot = 0; slot < UIP_SLOTS && done.status == UIP_OK; slot++) {
         done = uip_periodic_frame(device, slot, frame, room);
-        if (done.written) send(to, frame, done.written);
+        if (done.written) sink(to, frame, done.written);
     }
     return done.status;
 }
@@ -666,9 +668,9 @@ uip_row uip_connection(uip_device *device, size_t slot);
  * is empty.
  *
  * You can set a value between any two calls, while output is pending, and in a sink. Any bytes are allowed. To empty
- * it, pass "" and 0. A longer text is refused, and the value stays. The reply is cut before each value. The value is
- * read when the peer has acknowledged all that precedes it, the HTTP header included. So each value costs a round trip
- * (with delayed acknowledgements often 40 to 200 ms), and two values of one page may be of two moments. A
+ * it, pass "" and 0. If `len` is above UIP_MAX_VALUE, the value stays. The segment being sent ends before each value.
+ * The value is read when the peer has acknowledged all that precedes it, the HTTP header included. So each value costs
+ * a round trip (with delayed acknowledgements often 40 to 200 ms), and two values of one page may be of two moments. A
  * retransmission has the same bytes, even if the value has changed.
  *
  *     uip_set_value(&device, 3, "21.5", 4);            // %! value-html 3 shows 21.5
@@ -699,7 +701,7 @@ uip_row uip_connection(uip_device *device, size_t slot);
 unsigned uip_set_value(uip_device *device, size_t number, const void *text, size_t len);
 
 /* A literal as two arguments, without its 0: uip_hits(&device, UIP_TEXT("/lamp-on.html")). */
-#define UIP_TEXT(literal) (literal), sizeof(literal) - 1
+#define UIP_TEXT(literal) ("" literal), sizeof("" literal) - 1
 
 /*
  * Returns how often a file was requested since the device was opened, modulo 2^32; 0 if no file of the site has that
@@ -764,11 +766,11 @@ void rattle_dealloc(void *block);
 
 /*
  * SIZES. Nothing can be configured. MSS and window are 1460 bytes. A segment has at most the least of 1460 bytes, the
- * peer's MSS (536 if it announces none) and the peer's window. A window of 0 does not limit it: the segment is sent,
- * and sent again by the timer. There are ten connections, each with at most one segment outstanding. Each file takes
- * one connection, HTTP/1.0 without keep-alive. A SYN that finds no CLOSED slot takes that which is in TIME_WAIT
- * longest, and is dropped if there is none. A segment without an acknowledgement is sent again 4, 8, 15, 28, 53, 102,
- * 151 and 200 ticks after the first sending, and given up after 249; a SYN-ACK five times, and given up after 102. An
+ * peer's MSS (536 if it announces none) and the peer's window. A window of 0 is ignored: the segment is sent, and sent
+ * again, as usual. There are ten connections, each with at most one segment outstanding. Each file takes one
+ * connection, HTTP/1.0 without keep-alive. A SYN that finds no CLOSED slot takes that which is in TIME_WAIT longest,
+ * and is dropped if there is none. A segment without an acknowledgement is sent again 4, 8, 15, 28, 53, 102, 151 and
+ * 200 ticks after the first sending, and given up after 249; a SYN-ACK five times, and given up after 102. An
  * ESTABLISHED connection with nothing outstanding is reset after 20 ticks in which it received no data. FIN_WAIT_2 and
  * TIME_WAIT end after 120. The heap has one packet buffer of 1500 bytes for both directions. A device of uip_open has
  * another 1500, for the frame that is being received. A site has at most 1,024 files and 16,777,216 bytes.
@@ -809,8 +811,7 @@ void rattle_dealloc(void *block);
  * PROVED of the source, which is Rattle (Rust with contracts), for any sequence of calls, successful or not, if the
  * caller keeps the rules: memory safety, that each call returns, and that the output is exactly what
  * docs/SPECIFICATION.md defines for the input. What a peer has received is always a prefix of the page; once it has the
- * FIN, it is the whole page. The first half of this does not hold if a
- * late datagram of an older connection is accepted. On
+ * FIN, it is the whole page. Exception: if a late datagram of an older connection is accepted, neither need hold. On
  * Ethernet each frame with a datagram goes to the hardware address that ARP learned last for its next hop (RFC 1122):
  * its destination if that is on the link, else the router.
  *
