@@ -4,7 +4,7 @@
 #include <string.h>
 #include <sys/mman.h>
 #include <unistd.h>
-#include "fuzz.h"
+#include "parts.h"
 
 enum { PAGE = 4096 };
 

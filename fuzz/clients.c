@@ -5,7 +5,7 @@
 #include <string.h>
 #include "fuzz.h"
 
-enum { CLIENTS = 28, QUEUE = 64, HTTP = 80 };
+enum { CLIENTS = 28, HTTP = 80 };
 typedef enum { IDLE, OPENING, OPEN, CLOSING, ENDED } state;
 
 typedef struct {
@@ -17,8 +17,6 @@ typedef struct {
     page page;    // of the connection that answered last; it begins with its SYN-ACK
 } client;
 
-typedef struct { byte bytes[LARGEST]; size_t len; } packet;
-typedef struct { packet packets[QUEUE]; unsigned count; } queue;
 typedef struct { byte address[4]; unsigned port, seq, ack; } stranger;
 
 static client clients[CLIENTS];
@@ -28,27 +26,6 @@ static const site *asked;
 static byte node[4];
 static unsigned next_port;
 static int may_be_overlong;
-
-static void enqueue(queue *q, const byte *bytes, size_t len) {
-    if (q->count == QUEUE) return;    // lost
-    memcpy(q->packets[q->count].bytes, bytes, len);
-    q->packets[q->count++].len = len;
-}
-
-// Takes a packet out, mostly the oldest; it may be lost, stay to come again, or be damaged in one byte. Gives its length, 0 where none is.
-static size_t dequeue(queue *q, byte *to) {
-    if (q->count == 0) return 0;
-    unsigned at = chance(85) ? 0 : below(q->count);
-    size_t len = q->packets[at].len;
-    memcpy(to, q->packets[at].bytes, len);
-    if (!chance(4)) {
-        memmove(q->packets + at, q->packets + at + 1, (q->count - at - 1) * sizeof(packet));
-        q->count--;
-    }
-    if (chance(4)) return 0;
-    if (chance(3)) to[below((unsigned)len)] ^= (byte)between(1, 255);
-    return len;
-}
 
 static void say(client *c, unsigned flags, size_t at, size_t len) {
     byte datagram[LARGEST];

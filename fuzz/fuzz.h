@@ -1,62 +1,10 @@
-// What the parts of the harness share. main.c says how they work together.
+// What the parts of the harness for include/uip.h share. main.c says how they work together.
 #ifndef FUZZ_H
 #define FUZZ_H
 
-#include "uip.h"
+#include "parts.h"
 
-typedef unsigned char byte;
-
-enum { MOST_FILES = 1024, LONGEST_TEXT = 1 << 21, LARGEST = UIP_MAX_DATAGRAM, LONGEST_PAGE = 1 << 16,
-       LONGEST_SPELLED = 6 * UIP_MAX_VALUE };
-
-// random.c: numbers that follow from a seed alone.
-void random_begin(unsigned long seed);
-unsigned long random_next(void);
-unsigned below(unsigned count);                       // 0 to count - 1, evenly
-unsigned between(unsigned least, unsigned most);
-int chance(unsigned percent);
-void random_bytes(byte *to, size_t len);
-
-// report.c: what was found, and what was counted.
-_Noreturn void fail(const char *format, ...) __attribute__((format(printf, 1, 2)));
-#define WANT(is_so, ...) do { if (!(is_so)) fail(__VA_ARGS__); } while (0)
-extern struct counts {
-    unsigned long calls, others, refused, opens, bad_images, refusals, sessions, pages, whole, datagrams, pings;
-    unsigned long given, shown, changed, hits, rows, framed, routed, taught;
-} counts;
-void report_begin(unsigned long seed, int is_mixed);
-void report_end(void);
-double seconds_gone(void);
-
-// areas.c: areas that end at a page which cannot be touched; an input is read-only where the library sees it.
-typedef struct { byte *writable, *seen; size_t len; } area;
-area area_new(size_t len, int is_input);
-const byte *put_input(const area *in, const byte *bytes, size_t len);    // the bytes, at the end of the area
-byte *take_room(const area *out, size_t room);                           // the last bytes of an area for output
-
-// heap.c: the heap of the library. Each block ends at such a page, and what is given back is gone.
-extern size_t heap_blocks, heap_calls;     // blocks that are not given back; calls of the heap
-extern unsigned heap_refuses;              // 0, or which allocation from now on is refused
-extern int heap_refused;                   // whether one was
-void heap_check(void);                     // the bytes around the blocks are as they were
-
-// wire.c: datagrams by RFC 791, 792 and 793, and the line by RFC 1055.
-typedef struct {
-    byte source[4], target[4];
-    unsigned from, to, seq, ack, flags, window, mss;
-    const byte *text;
-    size_t len;
-} segment;
-enum { FIN = 1, SYN = 2, RST = 4, PSH = 8, ACK = 16 };
-unsigned sum_of(const byte *bytes, size_t len, unsigned before);         // the one's complement sum, 16 bits
-size_t write_segment(byte *to, const segment *s);
-size_t write_ping(byte *to, const byte *source, const byte *target, size_t len);
-void repair_sums(byte *datagram, size_t len);
-int read_segment(const byte *datagram, size_t len, segment *s);          // 1 where it is a sound TCP datagram
-int is_sound_reply(const byte *datagram, size_t len);                    // 1 where it is a sound echo reply
-size_t write_frame(byte *to, const byte *datagram, size_t len);
-typedef struct { byte bytes[LARGEST]; size_t len; int is_escaped, is_over; } decoder;
-int decode(decoder *d, byte b);            // 1: its bytes are a frame, and -1: an overlong frame ended; then the caller empties it
+enum { MOST_FILES = 1024, LONGEST_TEXT = 1 << 21, LONGEST_PAGE = 1 << 16, LONGEST_SPELLED = 6 * UIP_MAX_VALUE };
 
 // sites.c: images, by docs/FORMATS.md.
 typedef struct { byte name[64], kind[64]; unsigned name_len, kind_len; const byte *content; size_t len; } file;

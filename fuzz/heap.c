@@ -2,7 +2,7 @@
 // leaves, which is filled and looked at; a block that is given back is not mapped any more. An allocation can be refused.
 #include <string.h>
 #include <sys/mman.h>
-#include "fuzz.h"
+#include "parts.h"
 
 enum { PAGE = 4096, MOST_BLOCKS = 64, FILLED = 0xa7 };
 

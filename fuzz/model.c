@@ -6,13 +6,13 @@
 static unsigned get2(const byte *from) { return (unsigned)from[0] << 8 | from[1]; }
 
 // The counter of the check of IP that a datagram fails, or 0.
-static unsigned ip_fault(const model *m, const byte *d, size_t len) {
+static unsigned ip_fault(const byte *own, const byte *d, size_t len) {
     if (len < 20) return UIP_IP_SHORT;
     if (d[0] != 0x45) return UIP_IP_VERSION;
     if (get2(d + 2) < 20 || get2(d + 2) > len) return UIP_IP_LENGTH;
     if (get2(d + 6) & 0x3fff) return UIP_IP_FRAGMENT;
     if (sum_of(d, 20, 0) != 0xffff) return UIP_IP_CHECKSUM;
-    if (memcmp(d + 16, m->own, 4)) return UIP_IP_NOT_OURS;
+    if (memcmp(d + 16, own, 4)) return UIP_IP_NOT_OURS;
     return d[9] == 1 || d[9] == 6 ? 0 : UIP_IP_PROTOCOL;
 }
 
@@ -29,15 +29,17 @@ static unsigned tcp_fault(const byte *d, const byte *s, size_t len) {
     return sum_of(s, len, sum_of(d + 12, 8, (unsigned)(6 + len))) != 0xffff ? UIP_TCP_CHECKSUM : 0;
 }
 
+unsigned fault_of(const byte *own, const byte *datagram, size_t len) {
+    unsigned fault = ip_fault(own, datagram, len);
+    if (fault) return fault;
+    size_t rest = get2(datagram + 2) - 20;
+    return datagram[9] == 1 ? icmp_fault(datagram + 20, rest) : tcp_fault(datagram, datagram + 20, rest);
+}
+
 void model_hears(model *m, const byte *datagram, size_t len) {
+    unsigned fault = fault_of(m->own, datagram, len);
     m->numbers[UIP_DATAGRAMS_IN]++;
-    unsigned fault = ip_fault(m, datagram, len);
-    if (!fault) {
-        int is_icmp = datagram[9] == 1;
-        size_t rest = get2(datagram + 2) - 20;
-        m->numbers[is_icmp ? UIP_ICMP_IN : UIP_TCP_IN]++;
-        fault = is_icmp ? icmp_fault(datagram + 20, rest) : tcp_fault(datagram, datagram + 20, rest);
-    }
+    if (!fault || fault >= UIP_ICMP_IN) m->numbers[datagram[9] == 1 ? UIP_ICMP_IN : UIP_TCP_IN]++;
     if (fault) m->numbers[fault]++;
 }
 

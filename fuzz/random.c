@@ -1,5 +1,5 @@
 // Numbers that follow from a seed alone (xorshift64*), so that each run can be made again.
-#include "fuzz.h"
+#include "parts.h"
 
 static unsigned long state;
 

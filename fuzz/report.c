@@ -4,7 +4,7 @@
 #include <stdio.h>
 #include <stdlib.h>
 #include <time.h>
-#include "fuzz.h"
+#include "parts.h"
 
 struct counts counts;
 static unsigned long used_seed;

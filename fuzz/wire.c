@@ -1,6 +1,6 @@
 // Datagrams by RFC 791, 792 and 793, and the line by RFC 1055, apart from the library's own reading of them.
 #include <string.h>
-#include "fuzz.h"
+#include "parts.h"
 
 static void put2(byte *to, unsigned n) { to[0] = (byte)(n >> 8), to[1] = (byte)n; }
 static void put4(byte *to, unsigned n) { put2(to, n >> 16), put2(to + 2, n); }
