@@ -1,28 +1,55 @@
 #!/bin/sh
-# Calls the library for C in random ways, and looks whether each call answers as its header and the formats foretell.
+# Makes the calls of the libraries for C in random ways, and looks whether each returns what its header and the formats foretell.
 #
 #     sh fuzz/run.sh [SECONDS] [SEED]     so long in all, a minute where none is named; then lines recorded for uipd are compared
 #     sh fuzz/run.sh calls CALLS SEED [mixed]    so many calls; with `mixed` of both kinds of link on one device
 #     sh fuzz/run.sh asan CALLS SEED [mixed]     the same, with the harness under the address and undefined-behaviour sanitizers
 #     sh fuzz/run.sh planted              puts faults between the harness and the library, and sees that each is found
+#     sh fuzz/run.sh app CALLS SEED       so many calls of include/uip_app.h; app-asan and app-planted as above
 #
-# It wants a C compiler on Linux, the library as `rt lib` in crates/uip_c builds it, and the program as `rt run` in crates/uipd does:
-# what is not built there is not built here. CC names another compiler, LIBRARY and UIPD another library and another program.
-case "$1" in -h|--help) sed -n '2,10s/^# \{0,1\}//p' "$0"; exit 0;; esac
+# It wants a C compiler on Linux, the library as `rt lib` in crates/uip_c builds it (for app: in crates/uip_app_c), and the program as
+# `rt run` in crates/uipd does: what is not built there is not built here. CC names another compiler, LIBRARY and UIPD another library and
+# another program.
+case "$1" in -h|--help) sed -n '2,13s/^# \{0,1\}//p' "$0"; exit 0;; esac
 here=$(cd "$(dirname "$0")" && pwd)
 top=$(cd "$here/.." && pwd)
-library=${LIBRARY:-$top/crates/uip_c/out/libuip_c.a}
+case "$1" in app*) name=uip_app_c;; *) name=uip_c;; esac
+library=${LIBRARY:-$top/crates/$name/out/lib$name.a}
 uipd=${UIPD:-$top/crates/uipd/out/uipd}
 cc=${CC:-cc}
 out=$here/out
 fail() { echo "fuzz: $1" >&2; exit 1; }
 command -v "$cc" >/dev/null || fail "no C compiler $cc here"
-[ -f "$library" ] || fail "no library at $library: \`rt lib\` in crates/uip_c builds it"
+[ -f "$library" ] || fail "no library at $library: \`rt lib\` in crates/$name builds it"
 mkdir -p "$out"
 # The harness by its name and the compiler's words.
 words="-std=gnu11 -g -Wall -Wextra -I$top/include"
 # shellcheck disable=SC2086
-build() { name=$1; shift; "$cc" $words "$@" "$library" -o "$out/$name" || fail "no $name was built"; }
+build() { built=$1; shift; "$cc" $words "$@" "$library" -o "$out/$built" || fail "no $built was built"; }
+# The sources of the harness for uip_app.h.
+app="$here/app/*.c"
+for part in random report areas heap wire link arp model; do app="$app $here/$part.c"; done
+# planted COUNT SOURCES FILE CALLS WORDS: the faults 1 to COUNT of a file, in the place of these calls; the words follow the seconds.
+planted() {
+    faults=$1 sources=$2 file=$3 calls=$4 missed=0
+    shift 4
+    wraps=$(for call in $calls; do printf ' -Wl,--wrap=%s' "$call"; done)
+    rm -rf "$out/parts"
+    mkdir "$out/parts"
+    # shellcheck disable=SC2086
+    (cd "$out/parts" && "$cc" $words -O1 -c $sources) || fail "the harness was not compiled"
+    for plant in $(seq "$faults"); do
+        # shellcheck disable=SC2086
+        build planted -O1 -DPLANT="$plant" $wraps "$out"/parts/*.o "$here/planted/$file"
+        if "$out/planted" 20 "$@" >"$out/planted.txt"; then
+            echo "MISSED $plant"
+            missed=1
+        else
+            echo "$plant $(grep FINDING "$out/planted.txt")"
+        fi
+    done
+    exit $missed
+}
 case "$1" in
 calls)
     build fuzz -O2 "$here"/*.c
@@ -31,23 +58,20 @@ asan)
     build fuzz_asan -O1 -fsanitize=address,undefined -fno-sanitize-recover=all "$here"/*.c
     exec "$out/fuzz_asan" 1000000 "${2:-1000000}" "${3:-1}" $4;;
 planted)
-    calls="open open_ether feed periodic drain input periodic_datagram input_frame periodic_frame counter set_value hits is_idle connection close"
-    wraps=$(for call in $calls; do printf ' -Wl,--wrap=uip_%s' "$call"; done)
-    rm -rf "$out/parts"
-    mkdir "$out/parts"
+    calls="open open_ether feed periodic drain input periodic_datagram input_frame periodic_frame counter"
+    calls="$calls set_value hits is_idle connection close"
+    planted 37 "$here/*.c" planted.c "$(printf 'uip_%s ' $calls)" 3000000 1 mixed;;
+app)
     # shellcheck disable=SC2086
-    (cd "$out/parts" && "$cc" $words -O1 -c "$here"/*.c) || fail "the harness was not compiled"
-    missed=0
-    for plant in $(seq 37); do
-        build planted -O1 -DPLANT="$plant" $wraps "$out"/parts/*.o "$here/planted/planted.c"
-        if "$out/planted" 20 3000000 1 mixed >"$out/planted.txt"; then
-            echo "MISSED $plant"
-            missed=1
-        else
-            echo "$plant $(grep FINDING "$out/planted.txt")"
-        fi
-    done
-    exit $missed;;
+    build fuzz_app -O2 $app
+    exec "$out/fuzz_app" 1000000 "${2:-1000000}" "${3:-1}";;
+app-asan)
+    # shellcheck disable=SC2086
+    build fuzz_app_asan -O1 -fsanitize=address,undefined -fno-sanitize-recover=all $app
+    exec "$out/fuzz_app_asan" 1000000 "${2:-1000000}" "${3:-1}";;
+app-planted)
+    calls="open input_frame periodic_frame read write close"
+    planted 48 "$app" app.c "node_writes $(printf 'uip_app_%s ' $calls)" 3000000 1;;
 esac
 
 seconds=${1:-60}

@@ -1,0 +1,59 @@
+// What the parts of the harness for include/uip_app.h share. main.c says how they work together.
+#ifndef FUZZ_APP_H
+#define FUZZ_APP_H
+
+#include "../parts.h"
+#include "uip_app.h"
+
+// node.c: a second implementation of the node, its application and its link, from RFC 793 and docs/LIMITS.md.
+// A connection: `una` is SND.UNA, `len` how many numbers after it are outstanding, and `age` for how many ticks, or for how many it rests.
+typedef struct {
+    unsigned state, port, own_port, rcv, una, len, first_mss, mss, age, polls;
+    byte peer[4], received[UIP_MAX_RECEIVED], text[UIP_MAX_MESSAGE];
+    size_t received_len, text_len, acked;
+    int is_overrun, has_last;
+} connection;
+typedef struct { host host; connection slots[UIP_SLOTS]; unsigned calls, ident; } node;
+// Each writes the frame that is sent and returns its length, or 0.
+size_t node_receives(node *n, const byte *frame, size_t len, byte *sent);
+size_t node_ticks(node *n, unsigned slot, byte *sent);
+int node_can_write(const node *n, unsigned slot, size_t taken);
+size_t node_writes(node *n, unsigned slot, size_t taken, const byte *text, size_t len, unsigned last, byte *sent);
+uip_received node_reads(const node *n, unsigned slot);    // the bytes are those of the slot
+
+// calls.c: single calls of a device, each as the node foretells it.
+typedef struct { uip_app handle; int is_open; node node; } device;
+typedef struct { byte bytes[UIP_MAX_FRAME]; size_t len; } sent_frame;    // what a call sent; no bytes if nothing
+void calls_begin(void);
+void call_open(device *d, const byte *own, const byte *mac, const byte *mask, const byte *router);
+void call_close(device *d);
+void call_frame(device *d, const byte *frame, size_t len, size_t room, sent_frame *sent);
+void call_tick(device *d, size_t slot, size_t room, sent_frame *sent);
+uip_received call_read(device *d, size_t slot, size_t room, byte *bytes);
+int call_write(device *d, size_t slot, size_t taken, const byte *text, size_t len, unsigned last, size_t room, sent_frame *sent);
+void wrong_call(device *d);
+
+// program.c: the program, which answers the connections of a device, and the devices that it has.
+extern device devices[2];    // only the first has clients
+void program_begin(void);
+void program_end(void);
+void receive_datagram(const byte *datagram, size_t len);    // in a frame, to the first device
+void tick(unsigned slot);
+void silence(unsigned ticks);
+
+// peers.c: clients and strangers behind a link with faults.
+typedef struct client client;
+void peers_begin(const byte *own);
+void peers_act(void);
+void peers_tick(void);
+void peers_get(const byte *datagram, size_t len, int is_reply);                      // what the first device sent
+client *peer_of(const connection *c);                                                // 0 if it is no client, or was answered twice
+void peer_was_read(client *c, const byte *bytes, size_t len);
+void peer_was_written(client *c, size_t taken, const byte *text, size_t len, unsigned last);
+
+// What was counted beside `counts`.
+extern struct app_counts {
+    unsigned long written, not_ready, reads, taken, compared, again, overruns, resets, ends, silences, opened;
+} app_counts;
+
+#endif
