@@ -1,11 +1,14 @@
 #!/usr/bin/env python3
 """Speaks with the console of app.c: lines.py CLIENTS LINES. Each client sends its lines, and compares each reply with the one that must come.
-Half of the clients send one line at a time, and the other half up to three lines together. It prints how many were right."""
+Half of the clients send one line at a time, and the other half up to three lines together. It prints how many were right. A reply that does
+not come within PATIENCE seconds (120) is a fault."""
+import os
 import socket
 import sys
 import threading
 
 HOST, PORT = "10.0.0.1", 5025
+PATIENCE = float(os.environ.get("PATIENCE", "120"))
 clients, count = int(sys.argv[1]), int(sys.argv[2])
 wrong, right = [], [0] * clients
 
@@ -24,8 +27,7 @@ def replies(connection):
 
 
 def converse(client):
-    connection = socket.create_connection((HOST, PORT), 60)
-    connection.settimeout(120)
+    connection = socket.create_connection((HOST, PORT), PATIENCE)
     lines, number, together = replies(connection), 0, 1 + 2 * (client % 2)
     while number < count:
         some = [query(client, n) for n in range(number, min(number + together, count))]

@@ -1,11 +1,12 @@
 // A site on Ethernet: a TAP interface of Linux in place of a network card. The frames come and go as a controller has them.
 //
-//     uip_tap IMAGE INTERFACE SECONDS      serves the site at 10.0.0.1 for that many seconds, and prints what passed. 10.0.0.2 leads to
-//                                          all addresses but 10.0.0.0 to 10.0.0.255
+//     uip_tap IMAGE INTERFACE SECONDS      serves the site at 10.0.0.1 for that many seconds or until SIGTERM, and prints what passed.
+//                                          10.0.0.2 leads to all addresses but 10.0.0.0 to 10.0.0.255
 #include <fcntl.h>
 #include <linux/if.h>
 #include <linux/if_tun.h>
 #include <poll.h>
+#include <signal.h>
 #include <stdio.h>
 #include <stdlib.h>
 #include <string.h>
@@ -20,6 +21,12 @@ static unsigned char image[1 << 20], frame[UIP_MAX_FRAME];
 static uip_device device = UIP_INIT;
 static unsigned long received, sent;
 static int tap;
+static volatile sig_atomic_t is_stopped;    // SIGTERM came
+
+static void stop(int number) {
+    (void)number;
+    is_stopped = 1;
+}
 
 static void fail(const char *what) {
     perror(what);
@@ -77,9 +84,10 @@ int main(int argc, char **argv) {
         return 1;
     }
     size_t blocks = heap_blocks;
+    signal(SIGTERM, stop);
     tap = open_tap(argv[2]);
     double tick = seconds() + 0.5, end = seconds() + atof(argv[3]);
-    while (seconds() < end) {
+    while (!is_stopped && seconds() < end) {
         receive_until(tick);
         if (seconds() < tick) continue;
         tick += 0.5;
