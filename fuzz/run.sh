@@ -10,7 +10,7 @@
 # It wants a C compiler on Linux, the library as `rt lib` in crates/uip_c builds it (for app: in crates/uip_app_c), and the program as
 # `rt run` in crates/uipd does: what is not built there is not built here. CC names another compiler, LIBRARY and UIPD another library and
 # another program.
-case "$1" in -h|--help) sed -n '2,13s/^# \{0,1\}//p' "$0"; exit 0;; esac
+case "$1" in -h|--help) sed -n '2,12s/^# \{0,1\}//p' "$0"; exit 0;; esac
 here=$(cd "$(dirname "$0")" && pwd)
 top=$(cd "$here/.." && pwd)
 case "$1" in app*) name=uip_app_c;; *) name=uip_c;; esac

@@ -13,7 +13,7 @@ struct client {
     state state;
     byte address[4];
     unsigned port, own_port, mss, window, piece, first, theirs, next, wait, retries, answers, seed;
-    int is_greedy, has_last;
+    int is_greedy, has_last, got_fin;
     size_t total, sent, got, taken, written;
     byte messages[MOST_WRITTEN];
 };
@@ -105,8 +105,10 @@ static void take_text(client *c, const segment *s) {
     app_counts.compared += c->answers == 1 ? s->len : 0;
 }
 
+// A client closes its side at once, or sends on for a while.
 static void take_fin(client *c) {
-    c->next++, c->state = CLOSING;
+    c->next++, c->got_fin = 1;
+    if (chance(50)) c->state = CLOSING;
     app_counts.ends++;
     if (c->answers == 1) WANT(c->has_last && c->got == c->written, "%zu of %zu bytes came before a plain close", c->got, c->written);
 }
@@ -114,10 +116,11 @@ static void take_fin(client *c) {
 static void get_open(client *c, const segment *s) {
     size_t acked = s->ack - c->first - 1, due = c->total - c->sent;
     if (s->flags & SYN) { say_due(c, 1); return; }
-    if (c->state == CLOSING && acked == c->sent + 1) { c->state = ENDED; return; }
+    int is_closed = c->state == CLOSING && acked == c->sent + 1;
+    if (is_closed && c->got_fin) { c->state = ENDED; return; }
     if (acked > c->sent && acked - c->sent <= (due < c->piece ? due : c->piece)) c->sent = acked;
     if (s->len == 0 && !(s->flags & FIN)) { if (chance(50)) say_due(c, 0); return; }
-    if (s->seq == c->next && c->state == OPEN) {
+    if (s->seq == c->next && !c->got_fin) {
         take_text(c, s);
         if (s->flags & FIN) take_fin(c);
     }
@@ -230,7 +233,7 @@ void peers_act(void) {
     else if (kind < 96) stranger_acts();
     else if (kind < 98) ping();
     else if (c->state == OPEN && chance(4)) say(c, RST, 1 + c->sent, 0), c->state = ENDED;
-    else if (c->state == OPEN && chance(4)) c->state = CLOSING, say_due(c, 0);
+    else if (c->state == OPEN && chance(c->has_last || c->got_fin ? 60 : 4)) c->state = CLOSING, say_due(c, 0);
 }
 
 void peers_tick(void) {
