@@ -2,12 +2,12 @@
 # Makes the calls of the libraries for C in random ways, and looks whether each returns what its header and the formats foretell.
 #
 #     sh fuzz/run.sh [SECONDS] [SEED]     so long in all, a minute where none is named; then lines recorded for uipd are compared
-#     sh fuzz/run.sh calls CALLS SEED [mixed]    so many calls; with `mixed` of both kinds of link on one device
+#     sh fuzz/run.sh calls CALLS SEED [mixed]    CALLS calls; with `mixed` of both kinds of link on one device
 #     sh fuzz/run.sh asan CALLS SEED [mixed]     the same, with the harness under the address and undefined-behaviour sanitizers
 #     sh fuzz/run.sh planted              puts faults between the harness and the library, and sees that each is found
-#     sh fuzz/run.sh app CALLS SEED       so many calls of include/uip_app.h; app-asan and app-planted as above
+#     sh fuzz/run.sh app CALLS SEED       CALLS calls of include/uip_app.h; app-asan and app-planted as above
 #
-# It wants a C compiler on Linux, the library as `rt lib` in crates/uip_c builds it (for app: in crates/uip_app_c), and the program as
+# It needs a C compiler on Linux, the library as `rt lib` in crates/uip_c builds it (for app: in crates/uip_app_c), and the program as
 # `rt run` in crates/uipd does: what is not built there is not built here. CC names another compiler, LIBRARY and UIPD another library and
 # another program.
 case "$1" in -h|--help) sed -n '2,12s/^# \{0,1\}//p' "$0"; exit 0;; esac

@@ -3,9 +3,9 @@
 //     cable NEAR FAR PERCENT SEED [PLANT]    until SIGTERM; then it prints what passed
 //
 // By the numbers of a generator with this seed, PERCENT of the frames in each direction are lost. Of the others, PERCENT are repeated,
-// exchanged with the next one, or a byte of their datagram is changed. A frame that is held for the next one waits at most 20 ms. PLANT is a
-// fault that TCP cannot notice, in every fortieth text that leaves NEAR, with right checksums: `byte` changes a byte, `cut` ends the stream in
-// the middle of the text, `more` adds a byte, and `reset` resets the connection.
+// exchanged with the next one, or a byte of their datagram is changed. A frame that is held for the next one waits at most 20 ms. PLANT is
+// a fault that TCP cannot notice, in every fortieth text that leaves NEAR, with right checksums: `byte` changes a byte, `cut` ends the
+// stream in the middle of the text, `more` adds a byte, and `reset` resets the connection.
 #include <fcntl.h>
 #include <linux/if.h>
 #include <linux/if_tun.h>

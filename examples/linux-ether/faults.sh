@@ -1,14 +1,14 @@
 #!/bin/sh
-# Connects a C program on Ethernet with two Linux hosts over a bridge and a cable with faults. In each direction 10 % of the frames are lost,
-# and of the others 10 % are repeated, exchanged or damaged. One host requests a thousand pages, and one behind a router a hundred. Then a
-# console takes the place of the site, and answers a thousand lines. None may be wrong or cut.
+# Connects a C program on Ethernet with two Linux hosts over a bridge and a cable with faults. In each direction 10 % of the frames are
+# lost, and of the others 10 % are repeated, exchanged or damaged. One host requests a thousand pages, and one beyond a router a hundred.
+# Then a console takes the place of the site, and answers a thousand lines. None may be wrong or cut.
 #
 #     sh examples/linux-ether/faults.sh             with PAGES and LINES in place of a thousand, and PERCENT in place of 10
 #     sh examples/linux-ether/faults.sh planted     with faults that TCP cannot notice: each must be found
 #
 # It runs in network namespaces of its own, and takes about fifteen minutes. It needs root, /dev/net/tun, `ip` with bridges, `unshare`,
-# `nsenter`, python3, a C compiler, and the libraries that `rt lib` builds in crates/uip_c and crates/uip_app_c. What the machine does not have
-# is skipped, with a line. CC names another compiler, LIBRARY and APP_LIBRARY other libraries.
+# `nsenter`, python3, a C compiler, and the libraries that `rt lib` builds in crates/uip_c and crates/uip_app_c. What the machine does not
+# have is skipped, with a line. CC names another compiler, LIBRARY and APP_LIBRARY other libraries.
 case "$1" in -h|--help) sed -n '2,14s/^# \{0,1\}//p' "$0"; exit 0;; esac
 here=$(cd "$(dirname "$0")" && pwd)
 top=$(cd "$here/../.." && pwd)
@@ -38,7 +38,7 @@ bridge() {
     for port in $2; do ip link set "$port" master "$1" up || fail "$port is no port of a bridge"; done
 }
 
-# The device is at one end of a cable, and this Linux and the host $near at the other. $far is behind this Linux, its router.
+# The device is at one end of a cable, and this Linux and the host $near at the other. $far is beyond this Linux, its router.
 network() {
     ip link set lo up
     for tap in device cable0 cable1; do ip tuntap add dev $tap mode tap || fail "no TAP interface was made"; done

@@ -1,4 +1,4 @@
-// What the parts of the harness for include/uip_app.h share. main.c says how they work together.
+// What the parts of the harness for include/uip_app.h share. main.c has how they work together.
 #ifndef FUZZ_APP_H
 #define FUZZ_APP_H
 
@@ -41,7 +41,7 @@ void receive_datagram(const byte *datagram, size_t len);    // in a frame, to th
 void tick(unsigned slot);
 void silence(unsigned ticks);
 
-// peers.c: clients and strangers behind a link with faults.
+// peers.c: clients and strangers at the other end of a link with faults.
 typedef struct client client;
 void peers_begin(const byte *own);
 void peers_act(void);

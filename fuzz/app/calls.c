@@ -17,7 +17,7 @@ void calls_begin(void) {
     outputs = area_new(MOST_ROOM + GUARD, 0);
 }
 
-// Begins a call: an area of so many bytes, which begins with these, between bytes that are looked at and a page that cannot be touched.
+// Begins a call: an area of `room` bytes, which begins with these, between bytes that are looked at and a page that cannot be touched.
 static void begin(const device *d, size_t room, const byte *bytes, size_t len) {
     out = take_room(&outputs, room), out_room = room;
     guard = (byte)random_next();

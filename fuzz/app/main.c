@@ -2,9 +2,9 @@
 //
 //     fuzz_app SECONDS CALLS SEED
 //
-// It ends after so many seconds or calls, whichever is first, or with the first finding. A session has two devices at random addresses
-// (program.c), and clients and strangers behind a link (peers.c). A second implementation of the node foretells each status, each frame
-// that is sent, and each result that is read (node.c, calls.c).
+// It ends after SECONDS or CALLS, whichever is first, or with the first finding. A session has two devices at random addresses
+// (program.c), and clients and strangers at the other end of a link (peers.c). A second implementation of the node foretells each status,
+// each frame that is sent, and each result that is read (node.c, calls.c).
 #include <stdio.h>
 #include <stdlib.h>
 #include "app.h"

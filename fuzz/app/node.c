@@ -55,7 +55,7 @@ static step closed(connection *c, step how) {
     return how;
 }
 
-// The application wants something, with nothing outstanding.
+// The application is asked what it sends, with nothing outstanding.
 static step asked(connection *c, int is_fresh) {
     size_t left = c->text_len - c->acked;
     if (c->is_overrun || c->polls == MOST_POLLS) return closed(c, A_RESET);

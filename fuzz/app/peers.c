@@ -1,6 +1,7 @@
-// Clients and strangers behind a link that loses, repeats, reorders and damages. A client is a small TCP: it opens a connection at one of
-// the two ports, sends bytes, and compares what it receives with what the program wrote: it is always a prefix of the messages, and after a
-// plain close all of them. The bytes that the program reads are a prefix of those that the client sent. Strangers send what they like.
+// Clients and strangers at the other end of a link that loses, repeats, reorders and damages. A client is a small TCP: it opens a
+// connection at one of the two ports, sends bytes, and compares what it receives with what the program wrote: it is always a prefix of the
+// messages, and after a plain close all of them. The bytes that the program reads are a prefix of those that the client sent. Strangers
+// send what they like.
 #include <stdio.h>
 #include <string.h>
 #include "app.h"
@@ -34,7 +35,7 @@ static byte byte_of(const client *c, size_t at) {
     return (x >> 8 & 15) == 0 ? '\n' : (byte)(x >> 16);
 }
 
-static void say(client *c, unsigned flags, size_t at, size_t len) {
+static void send_segment(client *c, unsigned flags, size_t at, size_t len) {
     byte datagram[LARGEST], text[LARGEST];
     for (size_t k = 0; k < len; k++) text[k] = byte_of(c, at - 1 + k);
     segment s = {.from = c->port, .to = c->own_port, .seq = c->first + (unsigned)at, .ack = flags & ACK ? c->next : 0, .flags = flags,
@@ -48,10 +49,10 @@ static void say(client *c, unsigned flags, size_t at, size_t len) {
 static void say_due(client *c, int asks_ack) {
     size_t left = c->total - c->sent, stored = c->sent - c->taken, len = left < c->piece ? left : c->piece;
     if (!c->is_greedy && stored + len > UIP_MAX_RECEIVED) len = stored < UIP_MAX_RECEIVED ? UIP_MAX_RECEIVED - stored : 0;
-    if (c->state == OPENING) say(c, SYN, 0, 0);
-    else if (c->state == CLOSING) say(c, FIN | ACK, 1 + c->sent, 0);
-    else if (c->state == OPEN && len) say(c, ACK | PSH, 1 + c->sent, len);
-    else if (asks_ack) say(c, ACK, 1 + c->sent, 0);
+    if (c->state == OPENING) send_segment(c, SYN, 0, 0);
+    else if (c->state == CLOSING) send_segment(c, FIN | ACK, 1 + c->sent, 0);
+    else if (c->state == OPEN && len) send_segment(c, ACK | PSH, 1 + c->sent, len);
+    else if (asks_ack) send_segment(c, ACK, 1 + c->sent, 0);
     c->wait = between(2, 9);
 }
 
@@ -232,7 +233,7 @@ void peers_act(void) {
     else if (kind < 88) { if (c->state == IDLE || c->state == ENDED) open_client(c); }
     else if (kind < 96) stranger_acts();
     else if (kind < 98) ping();
-    else if (c->state == OPEN && chance(4)) say(c, RST, 1 + c->sent, 0), c->state = ENDED;
+    else if (c->state == OPEN && chance(4)) send_segment(c, RST, 1 + c->sent, 0), c->state = ENDED;
     else if (c->state == OPEN && chance(c->has_last || c->got_fin ? 60 : 4)) c->state = CLOSING, say_due(c, 0);
 }
 

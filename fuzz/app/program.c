@@ -129,7 +129,7 @@ void tick(unsigned slot) {
     }
 }
 
-// Nothing comes for so many ticks.
+// Nothing comes for this number of ticks.
 void silence(unsigned ticks) {
     sent_frame sent;
     app_counts.silences++;
