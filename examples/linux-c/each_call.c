@@ -114,6 +114,11 @@ static void successful_calls(void) {
     uip_result whole = uip_input(&device, request, 30, out, UIP_MAX_DATAGRAM);
     expect(is(whole, UIP_OK, 30, 30) && !memcmp(out, reply, 30), "uip_input");
     expect(is(uip_periodic_datagram(&device, 0, out, UIP_MAX_DATAGRAM), UIP_OK, 0, 0), "uip_periodic_datagram");
+    unsigned ticks = uip_ticks(&device).number;
+    expect(uip_tick_datagrams(&device, out, UIP_MAX_DATAGRAM, keep, 0) == UIP_OK, "uip_tick_datagrams");
+    expect(uip_ticks(&device).number == ticks + 1, "uip_tick_datagrams makes one tick");
+    expect(uip_tick_datagrams(&device, out, UIP_MAX_DATAGRAM - 1, keep, 0) == UIP_BAD_ARGUMENT, "uip_tick_datagrams with too little room");
+    expect(uip_tick_frames(&device, out, sizeof out, keep, 0) == UIP_WRONG_LINK, "uip_tick_frames on a device without Ethernet");
     uip_result part = uip_feed(&device, request_text, 34, out, 20);
     expect(part.status == UIP_OK && part.pending == 1 && part.consumed == 34 && part.written == 19, "uip_feed with little room");
     expect(is(uip_feed(&device, request_text, 34, out + 19, 15), UIP_OUTPUT_PENDING, 0, 0), "uip_feed while output is pending");
@@ -168,6 +173,11 @@ static void bad_calls_on_ethernet(void) {
     expect(is(uip_periodic_datagram(&device, 0, out, sizeof out), UIP_WRONG_LINK, 0, 0), "uip_periodic_datagram on Ethernet");
     expect(uip_feed_all(&device, request_text, 34, out, sizeof out, keep, out) == UIP_WRONG_LINK, "uip_feed_all on Ethernet");
     expect(uip_tick_all(&device, out, sizeof out, keep, out) == UIP_WRONG_LINK, "uip_tick_all on Ethernet");
+    expect(uip_tick_datagrams(&device, out, sizeof out, keep, 0) == UIP_WRONG_LINK, "uip_tick_datagrams on Ethernet");
+    unsigned ticks = uip_ticks(&device).number;
+    expect(uip_tick_frames(&device, out, sizeof out, keep, 0) == UIP_OK, "uip_tick_frames");
+    expect(uip_ticks(&device).number == ticks + 1, "uip_tick_frames makes one tick");
+    expect(uip_tick_frames(&device, out, UIP_MAX_FRAME - 1, keep, 0) == UIP_BAD_ARGUMENT, "uip_tick_frames with too little room");
 }
 
 // Passes a frame to the device, and compares what it sends.

@@ -51,14 +51,16 @@ static int open_tap(const char *name) {
     return descriptor;
 }
 
-// Sends the frame that a call wrote.
-static void send_frame(uip_result done) {
-    if (done.status != UIP_OK) {
-        fprintf(stderr, "a call returned status %u\n", done.status);
-        exit(1);
-    }
-    if (!done.written) return;
-    if (write(tap, frame, done.written) != (ssize_t)done.written) fail("write");
+static void expect_ok(unsigned status) {
+    if (status == UIP_OK) return;
+    fprintf(stderr, "a call returned status %u\n", status);
+    exit(1);
+}
+
+// Sends a frame that a call wrote: a uip_sink.
+static void send_frame(void *to, const unsigned char *bytes, size_t len) {
+    (void)to;
+    if (write(tap, bytes, len) != (ssize_t)len) fail("write");
     sent++;
 }
 
@@ -70,7 +72,9 @@ static void receive_until(double time) {
     ssize_t len = read(tap, frame, sizeof frame);
     if (len < 0) fail("read");
     received++;
-    send_frame(uip_input_frame(&device, frame, sizeof frame, (size_t)len));
+    uip_result done = uip_input_frame(&device, frame, sizeof frame, (size_t)len);
+    expect_ok(done.status);
+    if (done.written) send_frame(0, frame, done.written);
 }
 
 int main(int argc, char **argv) {
@@ -91,7 +95,7 @@ int main(int argc, char **argv) {
         receive_until(tick);
         if (seconds() < tick) continue;
         tick += 0.5;
-        for (size_t slot = 0; slot < UIP_SLOTS; slot++) send_frame(uip_periodic_frame(&device, slot, frame, sizeof frame));
+        expect_ok(uip_tick_frames(&device, frame, sizeof frame, send_frame, 0));
     }
     unsigned again = uip_counter(&device, UIP_RETRANSMISSIONS).number;
     if (heap_blocks != blocks) fprintf(stderr, "a call allocated memory\n");
