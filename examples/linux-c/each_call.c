@@ -114,9 +114,9 @@ static void successful_calls(void) {
     uip_result whole = uip_input(&device, request, 30, out, UIP_MAX_DATAGRAM);
     expect(is(whole, UIP_OK, 30, 30) && !memcmp(out, reply, 30), "uip_input");
     expect(is(uip_periodic_datagram(&device, 0, out, UIP_MAX_DATAGRAM), UIP_OK, 0, 0), "uip_periodic_datagram");
-    unsigned ticks = uip_ticks(&device).number;
+    unsigned before = uip_ticks(&device).number;
     expect(uip_tick_datagrams(&device, out, UIP_MAX_DATAGRAM, keep, 0) == UIP_OK, "uip_tick_datagrams");
-    expect(uip_ticks(&device).number == ticks + 1, "uip_tick_datagrams makes one tick");
+    expect(uip_ticks(&device).number == before + 1, "uip_tick_datagrams makes one tick");
     expect(uip_tick_datagrams(&device, out, UIP_MAX_DATAGRAM - 1, keep, 0) == UIP_BAD_ARGUMENT, "uip_tick_datagrams with too little room");
     expect(uip_tick_frames(&device, out, sizeof out, keep, 0) == UIP_WRONG_LINK, "uip_tick_frames on a device without Ethernet");
     uip_result part = uip_feed(&device, request_text, 34, out, 20);
