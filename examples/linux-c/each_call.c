@@ -128,7 +128,7 @@ static void successful_calls(void) {
     part = uip_drain(&device, out + 19, 15);
     expect(is(part, UIP_OK, 0, 15) && part.pending == 0 && !memcmp(out, reply_text, 34), "uip_drain");
     uip_number ticks = uip_ticks(&device), replies = uip_counter(&device, UIP_ECHO_REPLIES_OUT);
-    expect(ticks.status == UIP_OK && ticks.number == 2, "uip_ticks");
+    expect(ticks.status == UIP_OK && ticks.number == 3, "uip_ticks");
     expect(replies.status == UIP_OK && replies.number == 3, "uip_counter");
     uip_number idle = uip_is_idle(&device);
     expect(idle.status == UIP_OK && idle.number == 1, "uip_is_idle");
