@@ -1,10 +1,7 @@
 //! The words of a device's scripts.
 
-ghost use Rattle.std.specs.Prelude.{◌≡◌};
-ghost use Rattle.std.specs.Str.{bytes_eq};
-
 use crate::spelling::Spelling;
-use script_lang::{Calls, Function};
+use script_lang::{Calls, Function, is_word};
 
 /// What a script of a device can call.
 #[derive(Clone, Copy, Debug, PartialEq, Eq)]
@@ -13,14 +10,6 @@ pub enum Word {
     Uip(Function),
     /// A value of the device, escaped for its context.
     Value(Spelling),
-}
-
-/// Returns whether a name is that word. It is not inlined, since it is called in three places.
-#[inline(never)]
-fn is_word(name: &[u8], word: &[u8]) -> bool
-    ensures { result ≡ bytes_eq name.now word.now }
-{
-    name == word
 }
 
 impl Calls for Word {

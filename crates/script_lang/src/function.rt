@@ -4,6 +4,7 @@ ghost use Rattle.std.specs.Prelude.{◌≡◌};
 ghost use Rattle.script_lang.specs.Functions.{function_named, length_at_most};
 
 use crate::calls::Calls;
+use crate::same::is_word;
 
 /// A function that a script calls by its name.
 /// [add: function] A variant, its name, its greatest length, and whether it takes a capture.
@@ -26,17 +27,13 @@ pub enum Function {
 pub(crate) fn function_of(name: &[u8]) -> Function
     ensures { result ≡ function_named name.now }
 {
-    let file_stats: &[u8] = b"file-stats";
-    let tcp_connections: &[u8] = b"tcp-connections";
-    let net_stats: &[u8] = b"net-stats";
-    let ticks: &[u8] = b"ticks";
-    if name == file_stats {
+    if is_word(name, b"file-stats") {
         Function::FileStats
-    } else if name == tcp_connections {
+    } else if is_word(name, b"tcp-connections") {
         Function::TcpConnections
-    } else if name == net_stats {
+    } else if is_word(name, b"net-stats") {
         Function::NetStats
-    } else if name == ticks {
+    } else if is_word(name, b"ticks") {
         Function::Ticks
     } else {
         Function::Unknown

@@ -6,6 +6,7 @@
 mod calls;
 mod function;
 mod piece;
+mod same;
 mod scan;
 mod search;
 mod words;
@@ -13,6 +14,7 @@ mod words;
 pub use calls::Calls;
 pub use function::{Function, greatest_len};
 pub use piece::{Found, FoundOf, Piece, PieceOf};
+pub use same::{ends_in, is_word};
 pub use scan::{next_piece, next_piece_of, runs_past};
 
 #[cfg(test)]

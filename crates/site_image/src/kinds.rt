@@ -3,12 +3,14 @@
 ghost use Rattle.std.specs.Prelude.{◌≡◌};
 ghost use Rattle.site_image.specs.Names as names;
 
+use script_lang::ends_in;
+
 /// Returns whether the file with this name is a script.
+#[inline(never)]
 pub fn is_script(name: &[u8]) -> bool
     ensures { result ≡ names.is_script name.now }
 {
-    let end: &[u8] = b".shtml";
-    name.ends_with(end)
+    ends_in(name, b".shtml")
 }
 
 /// Returns the content type by the ending of the name.
@@ -16,24 +18,17 @@ pub fn is_script(name: &[u8]) -> bool
 pub fn content_kind(name: &[u8]) -> &'static [u8]
     ensures { result.now ≡ names.kind_by_name name.now }
 {
-    let html: &[u8] = b".html";
-    let shtml: &[u8] = b".shtml";
-    let txt: &[u8] = b".txt";
-    let css: &[u8] = b".css";
-    let png: &[u8] = b".png";
-    let gif: &[u8] = b".gif";
-    let jpg: &[u8] = b".jpg";
-    if name.ends_with(html) || name.ends_with(shtml) {
+    if ends_in(name, b".html") || ends_in(name, b".shtml") {
         b"text/html"
-    } else if name.ends_with(txt) {
+    } else if ends_in(name, b".txt") {
         b"text/plain"
-    } else if name.ends_with(css) {
+    } else if ends_in(name, b".css") {
         b"text/css"
-    } else if name.ends_with(png) {
+    } else if ends_in(name, b".png") {
         b"image/png"
-    } else if name.ends_with(gif) {
+    } else if ends_in(name, b".gif") {
         b"image/gif"
-    } else if name.ends_with(jpg) {
+    } else if ends_in(name, b".jpg") {
         b"image/jpeg"
     } else {
         b"application/octet-stream"
