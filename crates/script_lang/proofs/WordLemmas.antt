@@ -1,4 +1,4 @@
--- A text has a word at an offset: from four windows of four bytes, which may overlap, to the whole word.
+-- A text has a word at an offset: from windows of four bytes, which may overlap, to the whole word.
 use Rattle.script_lang.proofs.Prelude.{◌≡◌, ℕ, ◌+◌, ◌-◌, ◌<◌, ◌≤◌, Bool, ◌&&◌, List, length, min, ap, ◌∙◌, sym, arith, cases_lt, inl, inr}
 use Rattle.std.proofs.Common.{get_or, take, drop, length-drop}
 use Rattle.std.proofs.lemmas.List.{ext_get_or, get_or-take, get_or-drop, length-take-le, take_rest}
@@ -51,7 +51,7 @@ window text at word from low same k lt =
 first-window : (text : List ℕ) (at : ℕ) (word : List ℕ) → 4 ≤ length word → slice_range text at (at + length word) ≡ word → SameFour text at word 0
 first-window text at word low same k lt = ap (λ j. get_or text j 0) (omega arith) ∙ window text at word 0 low same k lt
 
--- all windows are the same exactly if the text has the word there
+-- four windows are the same exactly if the text has the word there
 pub windows-decide : (text : List ℕ) (at : ℕ) (word : List ℕ) (second third last : ℕ) (a b c d : Bool)
     → at + length word ≤ length text → second ≡ min last 4 → third ≡ min last 8 → last + 4 ≡ length word → length word ≤ 16
     → Decides a (SameFour text at word 0) → Decides b (SameFour text (at + second) word second)
@@ -73,6 +73,32 @@ windows-decide text at word second third last a b c d room by-four by-eight long
       window text at word last (omega arith) same,
     ))
     (Decides-and ((a && b) && c) d (Decides-and (a && b) c (Decides-and a b one two) three) four))
+    (bytes_eq-Decides part word)
+
+five : (text : List ℕ) (at : ℕ) (word : List ℕ) → length word ≡ 5 → SameFour text at word 0 → get_or text (at + 4) 0 ≡ get_or word 4 0
+    → (i : ℕ) → i < length word → get_or text (at + i) 0 ≡ get_or word i 0
+five text at word long four fifth i lt =
+    elim (cases_lt i 4) [
+      | inl first ↦ four i first ∙ ap (λ j. get_or word j 0) (omega arith)
+      | inr later ↦ ap (λ j. get_or text j 0) (omega arith) ∙ fifth ∙ ap (λ j. get_or word j 0) (omega arith)
+    ]
+
+-- a window and the fifth byte are the same exactly if the text has the word of five bytes there
+pub five-decide : (text : List ℕ) (at : ℕ) (word : List ℕ) (a b : Bool) → at + length word ≤ length text → length word ≡ 5
+    → Decides a (SameFour text at word 0) → Decides b (get_or text (at + 4) 0 ≡ get_or word 4 0)
+    → (a && b) ≡ bytes_eq (slice_range text at (at + length word)) word
+five-decide text at word a b room long four fifth =
+    let part = slice_range text at (at + length word) in
+    let sized = part-length text at (length word) room in
+    same_from_decides (a && b) (bytes_eq part word)
+    (Decides-like (a && b)
+    (λ same. ext_get_or 0 part word sized
+    (λ i lt. part-byte text at (length word) i (omega (arith, sized)) ∙ five text at word long same.0 same.1 i (omega (arith, sized))))
+    (λ same. (
+      first-window text at word (omega arith) same,
+      sym (part-byte text at (length word) 4 (omega arith)) ∙ ap (λ xs. get_or xs 4 0) same,
+    ))
+    (Decides-and a b four fifth))
     (bytes_eq-Decides part word)
 
 swapped : (xs ys : List ℕ) → bytes_eq xs ys ≡ bytes_eq ys xs

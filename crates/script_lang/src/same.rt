@@ -35,6 +35,9 @@ fn has_at(text: &[u8], at: usize, word: &[u8]) -> bool
     ensures { result ≡ bytes_eq (slice_range text.now at (at + length word.now)) word.now }
 {
     let last = word.len() - 4;
+    if last == 1 {
+        return same_four(text, at, word, 0) & (text[at + 4] == word[4]);
+    }
     let second = last.min(4);
     let third = last.min(8);
     same_four(text, at, word, 0)
