@@ -1,6 +1,7 @@
 pub mod NameLemmas
 pub mod SearchLemmas
 pub mod OrderLemmas
+pub mod InsertLemmas
 pub mod EntryLemmas
 pub mod TableLemmas
 pub mod NamedLemmas

@@ -1,6 +1,7 @@
 //! Reads the table of an image.
 
-ghost use Rattle.std.specs.Prelude.{◌≡◌, ◌+◌, ◌≤◌, ◌<◌, ◌^◌, [], drop, length, IfOk, IfErr, Some, Ok};
+ghost use Rattle.std.specs.Prelude.{◌≡◌, ◌+◌, ◌≤◌, ◌<◌, ◌^◌, [], drop, length, IfOk, IfErr, Some, Ok, vec_len, vec_capacity};
+ghost use Rattle.std.specs.List.{insert};
 ghost use Rattle.site_image.specs.declared.TheConstants.{LONGEST_IMAGE, MOST_FILES};
 ghost use Rattle.site_image.specs.Prelude.{entry_fault, entries, read_image, files_in};
 ghost use Rattle.file_tree.specs.Prelude.{Fails, Gives, AreWithin, IsOrder, IsIndex, IsEntry, place_by, IsLoaded};
@@ -63,6 +64,21 @@ fn read_entry(
     })
 }
 
+/// Inserts an id into the order of the names, which has room for it.
+fn insert_reserved(order: &mut Vec<FileId>, slot: usize, id: FileId)
+    requires slot { slot ≤ length order.old.items }
+    requires room { vec_len order.old < vec_capacity order.old }
+    ensures items { order.new.items ≡ insert order.old.items slot id }
+    ensures capacity { vec_capacity order.new ≡ vec_capacity order.old }
+{
+    let mut at = order.len();
+    order.push_reserved(id);
+    while slot < at {
+        order.swap(at - 1, at);
+        at -= 1;
+    }
+}
+
 /// Reads the entries of an image, as many as its head states.
 pub(crate) fn read_entries(
     alloc: Global,
@@ -93,7 +109,7 @@ pub(crate) fn read_entries(
                 }));
             }
         };
-        order.insert(entry.slot, FileId(number as u16))?;
+        insert_reserved(&mut order, entry.slot, FileId(number as u16));
         files.push_reserved(entry.place);
         next = entry.next;
     }

@@ -18,9 +18,10 @@ loop-number-preserved c =
     c.deref.ensures.value c.deref-in-loop-number.ensures.value c.in-Ok.ensures.ok in
     let next = reading-goes-on image c.args.version c.args.count c.loop-number.number c.loop-number.next places order entry.place entry.slot entry.next
     c.loop-number.invariant.0 (omega (arith, c.loop-number-test.true)) known in (
-      subst (λ os. Reading image c.args.version c.args.count (c.loop-number.number + 1) entry.next c.push_reserved.new.self.items os) (sym c.in_ok-insert.ensures.items)
+      subst (λ os. Reading image c.args.version c.args.count (c.loop-number.number + 1) entry.next c.push_reserved.new.self.items os) (sym c.insert_reserved.ensures.items)
           (subst (λ fs. Reading image c.args.version c.args.count (c.loop-number.number + 1) entry.next fs (insert order entry.slot (record { 0 = c.loop-number.number }))) (sym c.push_reserved.ensures.items) next),
       omega (arith, c.loop-number.invariant.1, c.push_reserved.ensures.capacity),
+      omega (arith, c.loop-number.invariant.2, c.insert_reserved.ensures.capacity),
     )
 
 pub returns-clause-ok : goal.returns-clause-ok
