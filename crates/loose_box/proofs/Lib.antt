@@ -1,2 +1,4 @@
 pub mod Words
+pub mod Consuming
+pub mod Moving
 mod Prelude

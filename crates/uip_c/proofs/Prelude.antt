@@ -1,8 +1,6 @@
 -- The names that the proofs of this crate cite: of std, of the crates below, and of its own definitions. Declares nothing.
 pub use Rattle.app_events.specs.Prelude.{IsAddr, IsByte}
 pub use Rattle.app_events.specs.declared.row.Row.{Row}
-pub use Rattle.core.proofs.alloc.Calls.{Al, Goes-blank, handle_tells}
-pub use Rattle.core.proofs.cell.Inside.{Good}
 pub use Rattle.device_values.specs.Prelude.{word_calls, words, words_bytes, words_short}
 pub use Rattle.ethernet_arp.specs.declared.mac.Mac.{Mac}
 pub use Rattle.file_tree.specs.Prelude.{HasSoundScripts, IsLoaded, SiteContent, files_of}
@@ -10,17 +8,14 @@ pub use Rattle.frame_device.proofs.KeepLaws.{keeps_frames}
 pub use Rattle.frame_device.proofs.MoveLaws.{device_stands, frames_exact, same_kept}
 pub use Rattle.frame_device.specs.Prelude.{AnsweredFrame, AnswersAllFrames, AnswersFrame, AnswersFrameMove, CallsSlot, ChangesNumbers, DoesNothing, FrameCall, FrameMove, FramesConform, Gives, InputsFrame, Interface, IsFrameOfBytes, IsFreshFrameDevice, Makes, ether_brings_bytes, ether_frames, frame_moves_of, handed_of, interface_at}
 pub use Rattle.frame_device.specs.declared.network.Network.{Network}
-pub use Rattle.loose_box.proofs.Words.{Parts, entered, parts_in, parts_out, two_words, words_typed}
 pub use Rattle.serve_loop.specs.Prelude.{initial_station}
 pub use Rattle.site_image.specs.Prelude.{File}
-pub use Rattle.std.proofs.Common.{Bool, List, Option, [], ap, lit<, refl, subst, sym, ℕ, ◌++◌, ◌∙◌, ◌∷◌, ◌≡◌}
+pub use Rattle.std.proofs.Common.{Bool, List, Option, [], ap, refl, subst, sym, ℕ, ◌∙◌, ◌∷◌, ◌≡◌}
 pub use Rattle.std.proofs.lemmas.Bool.{false≢true}
-pub use Rattle.std.proofs.raw_atomic.Walks.{leaves, proved_at}
 pub use Rattle.std.specs.Box.Ownership.{box_owns}
 pub use Rattle.std.specs.List.{All}
 pub use Rattle.std.specs.Prelude.{false, if◌then◌else◌, true}
 pub use Rattle.std.specs.contracts.impls.GlobalAllocator.TheImpl.{ghosts}
-pub use Rattle.std.specs.declared.alloc.Global.{Global}
 pub use Rattle.std.specs.declared.option.Option.TheVariants.{Some}
 pub use Rattle.uip_c.specs.Prelude.{Did, DidAll, DidFrame, DidFrames, EtherAnswers, EtherRepresents, EtherRow, EtherWeb, HandleAnswers, HandleGives, HasAbstractNode, IsEther, IsLine, IsOpenedEther, Kept, LineRow, NoDevice, OnEther, OnLine, OpensAs, OpensEtherAs, TellsRow, holds, is_on_ether, is_on_line, kept_of, left_text_in, lefts_in, node_in, node_of, web_frames_sent, web_station_after}
 pub use Rattle.uip_c.specs.declared.handle.AnyDevice.{AnyDevice}

@@ -28,7 +28,7 @@ use denote.Triple.Walked.{Stays, stay_dropped}
 use Rattle.std_alloc.proofs.BoxSteps.Form as box
 use Rattle.std_alloc.specs.contracts.boxed.Box.into_raw_with_allocator as callee
 use Rattle.std_alloc.proofs.boxed.Box.into_raw_with_allocator.Met.{met}
-use Rattle.loose_box.proofs.Words.{entered, two_words, words_typed, parts_in}
+use Rattle.loose_box.proofs.Words.{entered, two_words, pair_typed, parts_in}
 use Rattle.loose_box.specs.contracts.parts.BoxParts.from_box.{ended, clauses}
 use Rattle.loose_box.specs.contracts.parts.BoxParts.from_box.Key.{name as #self}
 use Rattle.loose_box.proofs.parts.BoxParts.from_box.Statement.{statement}
@@ -55,7 +55,7 @@ from_box_spec 𝓤 𝓛 𝓜 𝓡 wired T A L LA g d dx dd allocator glue glued 
     qed 𝓛 ((tokens ⊛ ‵ (owns (types_at En.signature.params κs) z.0.3 z.0.4)) ∷ asked ∷ []) ∵ split ! $ move ! (1 ∷ []) $ fsplit ! $
     box_out E ! v z.0.4.0 (λ b o h at words good. box_in E ! v b o v.value at refl $
     let w : Val = box.word E h b o in
-    let typed = words_typed R Z LZ g b o h good in
+    let typed = pair_typed Z (block_ptr b o) h good in
     let k = triple_of 𝓛 (callee.signature T A g d dd dx) (callee.spec T A g d dd dx 𝓛 𝓜.mem 𝓡.returns) in
     let y : k.Ghost = ((κs, qs, tt, (v, tt), (w ∷ [], tt)), tt) in
     let Pair = Tuple (RawPtr ∷ Z ∷ []) in
@@ -71,7 +71,7 @@ from_box_spec 𝓤 𝓛 𝓜 𝓡 wired T A L LA g d dx dd allocator glue glued 
     in_a_block ! r.0 (λ p. box_owns (g.dealloc_token a) R p v.value) (fst∗ 𝓤 (never 𝓤) (sem 𝓛 (g.dealloc_token a (bare (layout T)) null_ptr))) (λ b' o' at'.
     move ! (1 ∷ []) $ split ! $ move ! (1 ∷ []) $ fpick ! (λ fields. fsplit ! $ feq_l ! (λ pair. fsplit ! $ feq_l ! (λ pointer. fsplit ! $
     rewrite ! 0 (λ (s : A.Denot). ‵ (A.own_val s fields.1.0)) same refl $ handle_tells E.al ! a fields.1.0 (λ h' handle good'.
-    let made = words_typed R Z LZ g b' o' h' good' in
+    let made = pair_typed Z (block_ptr b' o') h' good' in
     let lands = ap only (pair ∙ (λ j. vstruct (of_list ((pointer ∙ ap (λ (p : Ptr). ptr_val p ∷ []) at') j ++ (handle j ++ []))) ∷ [])) in
     lands_as ! lands refl made $
     sets ! (of_opd ! (get_in ! (fld ! refl (stop !)) (sub ! 0 refl (whole !)))) refl (tt, tt) $

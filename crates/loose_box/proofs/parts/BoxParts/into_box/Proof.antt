@@ -26,7 +26,7 @@ use denote.Triple.Call.{calls_at_last}
 use denote.Triple.Walked.{Stays, stay_dropped, walk_of}
 use Rattle.std_alloc.proofs.BoxSteps.Form as box
 use Rattle.std_alloc.specs.contracts.boxed.Box.from_raw as callee
-use Rattle.loose_box.proofs.Words.{entered, two_words, Parts, words_typed, parts_out}
+use Rattle.loose_box.proofs.Words.{entered, two_words, Parts, pair_typed, parts_out}
 use Rattle.loose_box.specs.contracts.parts.BoxParts.into_box.{ended, clauses}
 use Rattle.loose_box.specs.contracts.parts.BoxParts.into_box.Key.{name as #self}
 use Rattle.loose_box.proofs.parts.BoxParts.into_box.Statement.{statement}
@@ -57,7 +57,7 @@ into_box_spec 𝓤 𝓛 𝓜 𝓡 wired T A L LA g d dx dd allocator glue glued 
     qed 𝓛 ((tokens ⊛ ‵ (owns (types_at En.signature.params κs) z.0.3 z.0.4)) ∷ asked ∷ []) ∵ split ! $ move ! (1 ∷ []) $ fsplit ! $
     parts_out R Z LZ g ! v z.0.4.0 (λ b o h at words good.
     let w : Val = two_words (vptr b o) h in
-    let typed = words_typed R Z LZ g b o h good in
+    let typed = pair_typed Z (block_ptr b o) h good in
     let k = triple_of 𝓛 (callee.signature T A g d dd) (callee.spec T A g d dd 𝓛 𝓜.mem 𝓡.returns) in
     let y : k.Ghost = ((κs, qs, tt, (a, (block_ptr b o, tt)), (h ∷ [], (vptr b o ∷ [], tt))), v.value) in
     let B : RattleType = box.B E in
@@ -78,6 +78,6 @@ into_box_spec 𝓤 𝓛 𝓜 𝓡 wired T A L LA g d dx dd allocator glue glued 
     ‵ (lasts (callee.ended T A g d dd) κs y.0.3 ls) ⊛ (raw (fact 𝓤 (r.value ≡ v.value)) ⊛ raw (fact 𝓤 (r.alloc ≡ a))))))) (id⊢ 𝓤 (k.post y u)) $
     await ! tt $ pick ! (λ r. split ! $ move ! (1 ∷ []) $ pick ! (λ _. split3 ! $ drop ! $ move ! (2 ∷ []) $ split ! $ move ! (1 ∷ []) $
     box_out E ! r (u ∷ []) (λ b' o' h' e' us fits'. box_in E ! r b' o' r.value e' refl $ rewrite ! 0 (λ (xs : List Val). ‵ (B.own_val r xs)) (sym us) refl $
-    let fits : Good (layout B) u = subst (Good (layout B)) (sym (ap only us)) (words_typed R Z LZ g b' o' h' fits') in
+    let fits : Good (layout B) u = subst (Good (layout B)) (sym (ap only us)) (pair_typed Z (block_ptr b' o') h' fits') in
     lands_last ! refl fits $ exec ! 𝓣.C 𝓣.Λ Ev (after 3 fn.body) (at_ret Ev Post) $ sets ! (of_opd ! (get ! refl)) refl fits $ nothing ! $ nothing ! $ fjoin ! $
     returns ! (look_at ! 0 refl) $ free_all ! refl $ keep ! (2 ∷ 0 ∷ 1 ∷ 3 ∷ []) $ by ! (leaves 𝓛 En stays c z u r ((tt, (tt, tt)), tt) (tt, tt)))))))))

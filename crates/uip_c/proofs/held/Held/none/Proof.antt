@@ -1,20 +1,12 @@
 -- Proves `none` by hand, since it makes a struct that owns memory, though here it owns none.
-use Rattle.uip_c.proofs.Prelude.{◌≡◌, [], ◌∷◌, refl, lit<, handle_tells, proved_at, leaves, ghosts, two_words, words_typed, LineRow, Kept, NoDevice, entered}
-use mir.Val.{Val}
+use Rattle.uip_c.proofs.Prelude.{refl, NoDevice}
 use base.Logic.{emp}
-use base.Fml.{ftrue}
-use types.Kit.{‵, raw, ◌⊛◌, ◌$◌, ◌∵◌, !, qed, by, move, keep, split, fsplit, fjoin, use0}
-use types.Run.{lit, no_more, and_then, returns}
-use types.ByLocal.{alloc_all, pass_all, free_all, look_at, get, sets}
-use types.Part.{agg}
-use contract.Monad.{fact, fact_i}
-use denote.RattleType.{owns}
+use contract.Monad.{fact_i}
+use denote.RawPtr.{null_ptr}
 use denote.Signature.{plain}
-use denote.RawPtr.{null_ptr, ptr_val}
-use denote.Steps.{nothing}
-use denote.Triple.Walked.{Stays, stay_dropped, Goes-dropped}
-use Rattle.std.proofs.alloc.Global.TheLaws as heap_laws
-use Rattle.uip_c.proofs.Words.{HeapRow, allocator, held_in}
+use denote.Triple.Walked.{Goes-dropped}
+use Rattle.loose_box.proofs.Moving.{HeapRow, makes_null_well}
+use Rattle.uip_c.proofs.Words.{HeldRow}
 use Rattle.uip_c.specs.contracts.held.Held.none.{ended, clauses}
 use Rattle.uip_c.specs.contracts.held.Held.none.Key.{name as #self}
 use Rattle.uip_c.proofs.held.Held.none.Statement.{statement}
@@ -22,16 +14,6 @@ use Rattle.uip_c.proofs.held.Held.none.Code as code
 
 pub none_spec : {M : Type 1} → statement M
 none_spec 𝓤 𝓛 𝓜 𝓡 wired =
-    let stays : Stays ended.signature.params ended.kept = (stay_dropped (plain (λ _. HeapRow)) ended.kept.0, tt) in
-    proved_at 𝓛 ended stays (clauses 𝓛 𝓜.mem 𝓡.returns) 𝓜 𝓡 (Goes-dropped 𝓛 0 (plain (λ _. HeapRow)) ended.kept.0 (λ κs x f. refl), tt) #self code.function (code.unfolded 𝓤 𝓛.H 𝓜 𝓡 wired) (λ z are.
-    qed 𝓛 ((‵ ftrue ⊛ ‵ (owns (HeapRow ∷ []) z.0.3 z.0.4)) ∷ raw ((clauses 𝓛 𝓜.mem 𝓡.returns z.0.0 z.0.3).requires z.1) ∷ []) ∵ split ! $ move ! (1 ∷ []) $ fsplit ! $
-    handle_tells allocator ! z.0.3.0 z.0.4.0 (λ h words good.
-    let o : Kept = NoDevice in
-    let w : Val = two_words (ptr_val null_ptr) h in
-    let typed = words_typed LineRow HeapRow heap_laws.the_row_laws ghosts 0 0 h good in
-    entered ! _ h words $ alloc_all ! (λ l. pass_all ! refl (good, tt) $
-    sets ! (agg ! (and_then ! (lit ! tt) (and_then ! (get ! refl) (no_more !)))) refl (typed.0, (record { fits = lit< tt }, (good.1, tt))) $
-    nothing ! $ held_in ! null_ptr h z.0.3.0 o $
-    use0 𝓛 (raw (fact 𝓤 (o ≡ o))) (fact_i 𝓤 (o ≡ o) (emp 𝓤) refl) $ nothing ! $ nothing ! $ fjoin ! $
-    returns ! (look_at ! 0 refl) $ free_all ! refl $ keep ! (4 ∷ 0 ∷ 2 ∷ 1 ∷ []) $
-    by ! (leaves 𝓛 ended stays (clauses 𝓛 𝓜.mem 𝓡.returns) z w (record { at = null_ptr; alloc = z.0.3.0; device = o }) _ (tt, tt)))))
+    let drops = Goes-dropped 𝓛 0 (plain (λ _. HeapRow)) ended.kept.0 (λ κs x f. refl) in
+    makes_null_well 𝓛 𝓜 𝓡 ended.kept.0 HeldRow (clauses 𝓛 𝓜.mem 𝓡.returns) (λ a. _) drops (λ a. record { at = null_ptr; alloc = a; device = NoDevice })
+    (λ a words. refl) (λ a g. fact_i 𝓤 _ (emp 𝓤) refl) #self _ (code.unfolded 𝓤 𝓛.H 𝓜 𝓡 wired)

@@ -1,22 +1,13 @@
--- Proves `of` by hand, since it makes a struct that owns memory: the parts of the box are opened, and the handle takes them with the fact
--- that the device is sound.
+-- Proves `of` by hand, since it makes a struct that owns memory: the handle takes what the parts own, with the fact that the device is
+-- sound.
 -- [add: c-application] A handle: proofs as those of this folder.
-use Rattle.uip_c.proofs.Prelude.{◌≡◌, [], ◌∷◌, refl, Goes-blank, proved_at, leaves, box_owns, ghosts, two_words, words_typed, parts_out, IsSoundWebDevice, LineRow, OnLine, entered}
-use mir.Val.{vptr}
+use Rattle.uip_c.proofs.Prelude.{refl, box_owns, ghosts, IsSoundWebDevice, LineRow, OnLine, holds}
 use base.Logic.{emp}
-use base.Fml.{ftrue}
-use types.Kit.{‵, raw, ◌⊛◌, ◌$◌, ◌∵◌, !, qed, by, move, keep, split, fsplit, fjoin, fpack, use0}
-use types.Run.{stop, fld, of_opd, no_more, and_then, returns}
-use types.ByLocal.{alloc_all, pass_all, free_all, look_at, get, get_in, sets}
-use types.Part.{agg, sub, whole}
-use contract.Monad.{fact, fact_i}
-use denote.RattleType.{owns}
-use denote.Signature.{plain}
-use denote.RawPtr.{block_ptr}
-use denote.Steps.{nothing, heard}
-use denote.Triple.Walked.{Stays, stay_dropped}
-use Rattle.std.proofs.alloc.Global.TheLaws as heap_laws
-use Rattle.uip_c.proofs.Words.{HeapRow, LineParts, held_in}
+use contract.Monad.{fact_i}
+use types.Kit.{fpack, ◌$◌}
+use denote.Steps.{heard}
+use Rattle.loose_box.proofs.Moving.{PartsRow, converts_well, parts_opened}
+use Rattle.uip_c.proofs.Words.{HeldRow}
 use Rattle.uip_c.specs.contracts.held.Held.of.{ended, clauses}
 use Rattle.uip_c.specs.contracts.held.Held.of.Key.{name as #self}
 use Rattle.uip_c.proofs.held.Held.of.Statement.{statement}
@@ -24,18 +15,8 @@ use Rattle.uip_c.proofs.held.Held.of.Code as code
 
 pub of_spec : {M : Type 1} → statement M
 of_spec 𝓤 𝓛 𝓜 𝓡 wired =
-    let stays : Stays ended.signature.params ended.kept = (stay_dropped (plain (λ _. LineParts)) ended.kept.0, tt) in
-    proved_at 𝓛 ended stays (clauses 𝓛 𝓜.mem 𝓡.returns) 𝓜 𝓡 (Goes-blank 𝓛 0 (plain (λ _. LineParts)) ended.kept.0 (λ κs x f. tt), tt) #self code.function (code.unfolded 𝓤 𝓛.H 𝓜 𝓡 wired) (λ z are.
-    let v = z.0.3.0 in
-    qed 𝓛 ((‵ ftrue ⊛ ‵ (owns (LineParts ∷ []) z.0.3 z.0.4)) ∷ raw (fact 𝓤 (IsSoundWebDevice v.value)) ∷ []) ∵
-    move ! (1 ∷ []) $ heard ! (IsSoundWebDevice v.value) (λ sound. split ! $ move ! (1 ∷ []) $ fsplit ! $ parts_out LineRow HeapRow heap_laws.the_row_laws ghosts ! v z.0.4.0 (λ b o h at words good.
-    entered ! _ _ words $ alloc_all ! (λ l. pass_all ! refl (words_typed LineRow HeapRow heap_laws.the_row_laws ghosts b o h good, tt) $
-    sets ! (of_opd ! (get_in ! (fld ! refl (stop !)) (sub ! 0 refl (whole !)))) refl (tt, tt) $
-    sets ! (of_opd ! (get_in ! (fld ! refl (stop !)) (sub ! 1 refl (whole !)))) refl good $
-    sets ! (of_opd ! (get ! refl)) refl (tt, tt) $
-    sets ! (agg ! (and_then ! (get ! refl) (and_then ! (get ! refl) (no_more !)))) refl (words_typed LineRow HeapRow heap_laws.the_row_laws ghosts b o h good) $
-    fpack ! (IsSoundWebDevice v.value) (λ _. box_owns (ghosts.dealloc_token v.alloc) LineRow (block_ptr b o) v.value) sound $
-    held_in ! (block_ptr b o) h v.alloc (OnLine v.value) $
-    use0 𝓛 (raw (fact 𝓤 (OnLine v.value ≡ OnLine v.value))) (fact_i 𝓤 (OnLine v.value ≡ OnLine v.value) (emp 𝓤) refl) $ nothing ! $ nothing ! $ fjoin ! $
-    returns ! (look_at ! 0 refl) $ free_all ! refl $ keep ! (4 ∷ 0 ∷ 2 ∷ 1 ∷ []) $
-    by ! (leaves 𝓛 ended stays (clauses 𝓛 𝓜.mem 𝓡.returns) z (two_words (vptr b o) h) (record { at = block_ptr b o; alloc = v.alloc; device = OnLine v.value }) _ (tt, tt))))))
+    converts_well 𝓛 𝓜 𝓡 ended.kept.0 (PartsRow LineRow) HeldRow (clauses 𝓛 𝓜.mem 𝓡.returns) (λ v. _) (λ v f. tt) (parts_opened LineRow)
+    (λ v. IsSoundWebDevice v.value) (λ v _. holds v.alloc v.at (OnLine v.value)) (λ K t v g Γ G next. heard t (IsSoundWebDevice v.value) (λ sound.
+    fpack t (IsSoundWebDevice v.value) (λ _. box_owns (ghosts.dealloc_token v.alloc) LineRow v.at v.value) sound $ next sound))
+    (λ v sound. record { at = v.at; alloc = v.alloc; device = OnLine v.value }) (λ v sound words. refl)
+    (λ v g sound. fact_i 𝓤 _ (emp 𝓤) refl) #self _ _ (code.unfolded 𝓤 𝓛.H 𝓜 𝓡 wired)
