@@ -10,6 +10,7 @@ mod laws;
 mod network;
 #[cfg(test)]
 mod tests;
+pub mod worked;
 
 pub use datagrams::Datagrams;
 pub use device::FrameDevice;
