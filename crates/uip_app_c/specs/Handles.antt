@@ -11,7 +11,7 @@ use Rattle.own_app.specs.contracts.app.OwnAppApp.TheImpl.{ghosts}
 use Rattle.own_app.specs.Prelude.{no_message, numbers_of, own_spec}
 use Rattle.own_node.specs.Prelude.{OfNode, WritesMessage, can_write_in, is_ready_in, pending_in, port_in}
 use Rattle.uip_app_c.specs.Kept.{HasOwn, Kept, OwnEther}
-use Rattle.uip_app_c.specs.declared.messages.AppReceived.{AppReceived}
+use Rattle.uip_app_c.specs.declared.calls.AppReceived.{AppReceived}
 use Rattle.uip_app_c.specs.declared.status.AppResult.{AppResult}
 use Rattle.uip_app_c.specs.declared.status.TheConstants.{BAD_ARGUMENT, NO_DEVICE, NOT_READY, OK}
 

@@ -1,20 +1,20 @@
 //! A device on Ethernet with an application of the program's own, as a C library. `include/uip_app.h` is the contract for C.
 #![tactic(auto)]
 
-mod frame_calls;
+mod calls;
 mod handle;
 mod held;
 mod laws;
-mod messages;
 mod opening;
 mod status;
 #[cfg(test)]
 mod tests;
 
-pub use frame_calls::{uip_app_input_frame, uip_app_periodic_frame};
+pub use calls::{
+    AppReceived, uip_app_input_frame, uip_app_periodic_frame, uip_app_read, uip_app_write,
+};
 pub use handle::AppDevice;
 pub use held::{Held, OwnEther};
 pub use laws::{app_calls_are_exact, constant_values};
-pub use messages::{AppReceived, uip_app_read, uip_app_write};
 pub use opening::{uip_app_close, uip_app_open};
 pub use status::{AppResult, BAD_ARGUMENT, HAS_DEVICE, NO_DEVICE, NO_MEMORY, NOT_READY, OK};

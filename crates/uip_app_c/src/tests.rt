@@ -3,13 +3,17 @@
 ghost use Rattle.std.specs.Prelude.{◌≡◌};
 ghost use Rattle.std.specs.declared.option.Option.TheVariants.{None};
 
-use crate::frame_calls::{uip_app_input_frame, uip_app_periodic_frame};
+use crate::calls::{
+    AppReceived, uip_app_input_frame, uip_app_periodic_frame, uip_app_read, uip_app_write,
+};
 use crate::handle::AppDevice;
 use crate::held::Held;
-use crate::messages::{AppReceived, uip_app_read, uip_app_write};
 use crate::opening::{uip_app_close, uip_app_open};
 use crate::status::{AppResult, BAD_ARGUMENT, HAS_DEVICE, NO_DEVICE, NOT_READY, OK};
 use frame_device::LARGEST_OUT;
+use frame_device::worked::{
+    ARP_REPLY, ARP_REQUEST, FAR_PING, FAR_REPLY, ROUTER_REPLY, ROUTER_REQUEST,
+};
 use std::alloc::Global;
 use std::process::Abort;
 
@@ -22,40 +26,6 @@ const MASK: &[u8; 4] = &[255, 255, 255, 0];
 
 /// The router, which has 02:00:00:00:00:09.
 const ROUTER: &[u8; 4] = &[10, 0, 0, 254];
-
-/// 02:00:00:00:00:02 at 10.0.0.2 asks all stations for 10.0.0.1 (RFC 826).
-const ARP_REQUEST: &[u8; 42] = &[
-    255, 255, 255, 255, 255, 255, 2, 0, 0, 0, 0, 2, 8, 6, 0, 1, 8, 0, 6, 4, 0, 1, 2, 0, 0, 0, 0, 2,
-    10, 0, 0, 2, 0, 0, 0, 0, 0, 0, 10, 0, 0, 1,
-];
-
-/// The reply.
-const ARP_REPLY: &[u8; 42] = &[
-    2, 0, 0, 0, 0, 2, 2, 0, 0, 0, 0, 1, 8, 6, 0, 1, 8, 0, 6, 4, 0, 2, 2, 0, 0, 0, 0, 1, 10, 0, 0,
-    1, 2, 0, 0, 0, 0, 2, 10, 0, 0, 2,
-];
-
-/// An echo request from 192.168.7.1 by the router, what the node asks if the router is unknown, the reply of the router to that, and the
-/// echo reply.
-const FAR_PING: &[u8; 42] = &[
-    2, 0, 0, 0, 0, 1, 2, 0, 0, 0, 0, 9, 8, 0, 69, 0, 0, 28, 0, 1, 0, 0, 64, 1, 169, 54, 192, 168,
-    7, 1, 10, 0, 0, 1, 8, 0, 247, 253, 0, 1, 0, 1,
-];
-
-const ROUTER_REQUEST: &[u8; 42] = &[
-    255, 255, 255, 255, 255, 255, 2, 0, 0, 0, 0, 1, 8, 6, 0, 1, 8, 0, 6, 4, 0, 1, 2, 0, 0, 0, 0, 1,
-    10, 0, 0, 1, 0, 0, 0, 0, 0, 0, 10, 0, 0, 254,
-];
-
-const ROUTER_REPLY: &[u8; 42] = &[
-    2, 0, 0, 0, 0, 1, 2, 0, 0, 0, 0, 9, 8, 6, 0, 1, 8, 0, 6, 4, 0, 2, 2, 0, 0, 0, 0, 9, 10, 0, 0,
-    254, 2, 0, 0, 0, 0, 1, 10, 0, 0, 1,
-];
-
-const FAR_REPLY: &[u8; 42] = &[
-    2, 0, 0, 0, 0, 9, 2, 0, 0, 0, 0, 1, 8, 0, 69, 0, 0, 28, 0, 1, 0, 0, 64, 1, 169, 54, 10, 0, 0,
-    1, 192, 168, 7, 1, 0, 0, 255, 253, 0, 1, 0, 1,
-];
 
 /// Returns a handle without a device.
 fn no_device(alloc: Global) -> AppDevice {
@@ -71,6 +41,12 @@ fn discard(device: AppDevice)
 {
     let AppDevice { is_open: _, held } = device;
     let _alloc = held.into_alloc();
+}
+
+/// Closes a device, and discards its handle.
+fn close(rt: &impl Abort, alloc: Global, mut device: AppDevice) {
+    assert_eq!(rt; uip_app_close(alloc, &mut device), OK);
+    discard(device);
 }
 
 /// Returns a handle with a device.
@@ -136,7 +112,7 @@ fn a_device_answers_arp_and_has_no_connection(rt: HostRuntime) {
         uip_app_open(alloc, &mut device, OWN, MAC, MASK, ROUTER),
         HAS_DEVICE
     );
-    check_reply(&rt, alloc, &mut device, ARP_REQUEST, ARP_REPLY);
+    check_reply(&rt, alloc, &mut device, &ARP_REQUEST, &ARP_REPLY);
     let mut frame = [0; LARGEST_OUT];
     assert_eq!(rt;
         uip_app_periodic_frame(alloc, &mut device, 0, &mut frame),
@@ -153,19 +129,17 @@ fn a_device_answers_arp_and_has_no_connection(rt: HostRuntime) {
         uip_app_write(alloc, &mut device, 9, 0, b"bye\n", 1, &mut frame),
         AppResult::refused(NOT_READY)
     );
-    assert_eq!(rt; uip_app_close(alloc, &mut device), OK);
-    discard(device);
+    close(&rt, alloc, device);
 }
 
 #[test]
 fn a_reply_to_another_network_goes_to_the_router(rt: HostRuntime) {
     let alloc = rt.alloc();
     let mut device = opened(&rt, alloc);
-    check_reply(&rt, alloc, &mut device, FAR_PING, ROUTER_REQUEST);
-    check_reply(&rt, alloc, &mut device, ROUTER_REPLY, b"");
-    check_reply(&rt, alloc, &mut device, FAR_PING, FAR_REPLY);
-    assert_eq!(rt; uip_app_close(alloc, &mut device), OK);
-    discard(device);
+    check_reply(&rt, alloc, &mut device, &FAR_PING, &ROUTER_REQUEST);
+    check_reply(&rt, alloc, &mut device, &ROUTER_REPLY, b"");
+    check_reply(&rt, alloc, &mut device, &FAR_PING, &FAR_REPLY);
+    close(&rt, alloc, device);
 }
 
 #[test]
@@ -194,6 +168,5 @@ fn a_bad_argument_is_refused(rt: HostRuntime) {
         uip_app_write(alloc, &mut device, 0, 0, b"", 0, &mut frame[1..]),
         refused
     );
-    assert_eq!(rt; uip_app_close(alloc, &mut device), OK);
-    discard(device);
+    close(&rt, alloc, device);
 }

@@ -8,6 +8,6 @@ pub use Rattle.uip_c.specs.Handles.{IsTextStatus, OfMoves, OpensAs, Refused, lef
 pub use Rattle.uip_c.specs.Holding.{EtherRow, LineRow, holds}
 pub use Rattle.uip_c.specs.Kept.{EtherWeb, HasAbstractNode, IsEther, IsLine, Kept, NoDevice, OnEther, OnLine, has_device, is_on_ether}
 pub use Rattle.uip_c.specs.Kept.{is_on_line, node_in}
-pub use Rattle.uip_c.specs.Opening.{OpensEther, TellsFault}
+pub use Rattle.uip_c.specs.Opening.{IsWordOf, OpensEther, OpensFine, TellsFault, TellsRefusal}
 pub use Rattle.uip_c.specs.Rows.{TellsRow}
 pub use Rattle.uip_c.specs.Taking.{kept_of, node_of}

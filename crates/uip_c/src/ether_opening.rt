@@ -5,7 +5,7 @@ ghost use Rattle.uip_c.specs.Prelude.{OpensEtherWeb, has_device, OpensEther, Tel
 
 use crate::handle::{UipDevice, put_ether};
 use crate::held::EtherWeb;
-use crate::opening::{UipOpened, bad_site, plain};
+use crate::opening::{UipOpened, boxed, plain};
 use crate::status::{BAD_IMAGE, HAS_DEVICE, NO_MEMORY, OK};
 use ethernet_arp::Mac;
 use frame_device::{Ethernet, FrameDevice, Network};
@@ -62,13 +62,10 @@ pub extern "C" fn uip_open_ether(
         mask: Addr(*mask),
         router: Addr(*router),
     };
-    let opened = match open_ether(alloc, image, Addr(*own), Mac(*mac), network) {
+    let made = open_ether(alloc, image, Addr(*own), Mac(*mac), network);
+    let opened = match boxed(alloc, made) {
         Ok(opened) => opened,
-        Err(OpenFault::BadSite(error)) => return bad_site(error),
-        Err(OpenFault::NoMemory) => return plain(NO_MEMORY),
-    };
-    let Ok(opened) = Box::new(alloc, opened) else {
-        return plain(NO_MEMORY);
+        Err(refused) => return refused,
     };
     put_ether(device, opened);
     plain(OK)

@@ -3,9 +3,7 @@
 #![tactic(auto)]
 
 mod calls;
-mod datagram_calls;
 mod ether_opening;
-mod frame_calls;
 #[cfg(test)]
 mod frame_tests;
 mod giving;
@@ -19,10 +17,11 @@ mod status;
 #[cfg(test)]
 mod tests;
 
-pub use calls::{MIN_OUT, uip_drain, uip_feed, uip_periodic};
-pub use datagram_calls::{uip_input, uip_periodic_datagram};
+pub use calls::{
+    MIN_OUT, uip_drain, uip_feed, uip_input, uip_input_frame, uip_periodic, uip_periodic_datagram,
+    uip_periodic_frame,
+};
 pub use ether_opening::uip_open_ether;
-pub use frame_calls::{uip_input_frame, uip_periodic_frame};
 pub use giving::uip_set_value;
 pub use handle::UipDevice;
 pub use held::{EtherWeb, Held};

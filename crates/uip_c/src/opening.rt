@@ -1,8 +1,7 @@
 //! Opening and closing a device.
 
-ghost use Rattle.std.specs.Prelude.{◌≡◌, ◌==◌, ◌⊎◌, replicate, true};
-ghost use Rattle.uip_c.specs.Kept.{NoDevice, has_device};
-ghost use Rattle.uip_c.specs.Opening.{IsWordOf, OpensFine, TellsFault};
+ghost use Rattle.std.specs.Prelude.{◌≡◌, ◌==◌, ◌⊎◌, IfErr, IfOk, Ok, replicate, true};
+ghost use Rattle.uip_c.specs.Prelude.{IsWordOf, NoDevice, OpensFine, TellsFault, TellsRefusal, has_device};
 
 use crate::handle::{UipDevice, put_line, take_any};
 use crate::status::{BAD_IMAGE, HAS_DEVICE, NO_DEVICE, NO_MEMORY, OK};
@@ -44,13 +43,28 @@ pub(crate) fn plain(status: u32) -> UipOpened
 }
 
 /// Reports a fault of the image.
-pub(crate) fn bad_site(error: SiteError) -> UipOpened
+fn bad_site(error: SiteError) -> UipOpened
     ensures { (result.status ≡ BAD_IMAGE) × (result.entry ≡ error.entry) × IsWordOf error.why result.word }
 {
     UipOpened {
         status: BAD_IMAGE,
         entry: error.entry,
         word: word_of(error.why),
+    }
+}
+
+/// Returns the box of a device that was made. If none was made, or memory for the box is lacking, returns what is reported.
+pub(crate) fn boxed<T: Drop>(alloc: Global, made: Result<T, OpenFault>) -> Result<Box<T>, UipOpened>
+    ensures boxed { IfOk result (λ opened. made ≡ Ok opened.value) }
+    ensures refused { IfErr result (λ told. TellsRefusal made told) }
+{
+    match made {
+        Ok(made) => match Box::new(alloc, made) {
+            Ok(opened) => Ok(opened),
+            Err(_) => Err(plain(NO_MEMORY)),
+        },
+        Err(OpenFault::BadSite(error)) => Err(bad_site(error)),
+        Err(OpenFault::NoMemory) => Err(plain(NO_MEMORY)),
     }
 }
 
@@ -74,13 +88,9 @@ pub extern "C" fn uip_open(
     if device.is_open == 1 || device.is_open == 2 {
         return plain(HAS_DEVICE);
     }
-    let opened = match open_web(alloc, image, Addr(*own)) {
+    let opened = match boxed(alloc, open_web(alloc, image, Addr(*own))) {
         Ok(opened) => opened,
-        Err(OpenFault::BadSite(error)) => return bad_site(error),
-        Err(OpenFault::NoMemory) => return plain(NO_MEMORY),
-    };
-    let Ok(opened) = Box::new(alloc, opened) else {
-        return plain(NO_MEMORY);
+        Err(refused) => return refused,
     };
     put_line(device, opened);
     plain(OK)

@@ -40,22 +40,12 @@ fn no_row(status: u32) -> UipRow
     }
 }
 
-/// Returns the number of a state in include/uip.h.
+/// Returns the number of a state in include/uip.h: that of its variant.
 /// [add: state] Its number for C.
 fn number_of(state: State) -> u32
     ensures { result ≡ state_number state }
 {
-    match state {
-        State::Closed => 0,
-        State::SynRcvd => 1,
-        State::Established => 2,
-        State::CloseWait => 3,
-        State::FinWait1 => 4,
-        State::FinWait2 => 5,
-        State::Closing => 6,
-        State::TimeWait => 7,
-        State::LastAck => 8,
-    }
+    state as u32
 }
 
 /// Reports a row to C.

@@ -39,7 +39,7 @@ pub struct UipResult {
 }
 
 /// Returns 1 if output is pending, else 0.
-pub(crate) fn is_left(left: Option<usize>) -> u32
+fn is_left(left: Option<usize>) -> u32
     ensures { result ≡ left_flag left }
 {
     match left {
@@ -49,6 +49,18 @@ pub(crate) fn is_left(left: Option<usize>) -> u32
 }
 
 impl UipResult {
+    /// Reports a call that consumed and wrote these numbers of bytes, with the output that is left.
+    pub(crate) fn done(consumed: usize, written: usize, left: Option<usize>) -> UipResult
+        ensures { result ≡ record { status = OK; pending = left_flag left; consumed = consumed; written = written } }
+    {
+        UipResult {
+            status: OK,
+            pending: is_left(left),
+            consumed,
+            written,
+        }
+    }
+
     /// Reports a status of a call that did nothing.
     pub(crate) fn refused(status: u32) -> UipResult
         ensures { result ≡ record { status = status; pending = 0; consumed = 0; written = 0 } }

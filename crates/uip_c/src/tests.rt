@@ -1,8 +1,4 @@
-ghost use Rattle.std.specs.Prelude.{◌≡◌};
-ghost use Rattle.uip_c.specs.Kept.{NoDevice};
-
-use crate::calls::{uip_drain, uip_feed, uip_periodic};
-use crate::datagram_calls::{uip_input, uip_periodic_datagram};
+use crate::calls::{uip_drain, uip_feed, uip_input, uip_periodic, uip_periodic_datagram};
 use crate::ether_opening::uip_open_ether;
 use crate::frame_tests::{MAC, MASK, ROUTER, check_frames_refused};
 use crate::giving::uip_set_value;
@@ -24,13 +20,13 @@ pub(crate) const IMAGE: &[u8] = b"UIPSITE1\0\0";
 pub(crate) const OWN: &[u8; 4] = &[10, 0, 0, 1];
 
 /// An echo request from 10.0.0.2 (RFC 791, RFC 792), whose message ends with an END and an ESC.
-pub(crate) const REQUEST: &[u8; 30] = &[
+const REQUEST: &[u8; 30] = &[
     69, 0, 0, 30, 0, 0, 0, 0, 64, 1, 102, 221, 10, 0, 0, 2, 10, 0, 0, 1, 8, 0, 55, 28, 0, 7, 0, 1,
     192, 219,
 ];
 
 /// Its reply.
-pub(crate) const REPLY: &[u8; 30] = &[
+const REPLY: &[u8; 30] = &[
     69, 0, 0, 30, 0, 0, 0, 0, 64, 1, 102, 221, 10, 0, 0, 1, 10, 0, 0, 2, 0, 0, 63, 28, 0, 7, 0, 1,
     192, 219,
 ];
@@ -98,11 +94,16 @@ fn opened(rt: &impl Abort, alloc: Global) -> UipDevice {
 }
 
 /// Drops a handle without a device.
-pub(crate) fn let_go(device: UipDevice)
-    requires { device.held.device ≡ NoDevice }
-{
+fn let_go(rt: &impl Abort, alloc: Global, mut device: UipDevice) {
+    assert_eq!(rt; uip_close(alloc, &mut device), NO_DEVICE);
     let UipDevice { is_open: _, held } = device;
     let _alloc = held.into_alloc();
+}
+
+/// Closes a device, and drops its handle.
+pub(crate) fn close(rt: &impl Abort, alloc: Global, mut device: UipDevice) {
+    assert_eq!(rt; uip_close(alloc, &mut device), OK);
+    let_go(rt, alloc, device);
 }
 
 /// The result of a refused call.
@@ -140,7 +141,6 @@ pub(crate) fn check_refused(rt: &impl Abort, alloc: Global, device: &mut UipDevi
 fn each_call_is_made_once(rt: HostRuntime) {
     let alloc = rt.alloc();
     let mut device = opened(&rt, alloc);
-    let mut out = [0; LARGEST_TEXT];
     assert_eq!(rt; uip_open(alloc, &mut device, IMAGE, OWN).status, HAS_DEVICE);
     assert_eq!(rt;
         uip_open_ether(alloc, &mut device, IMAGE, OWN, MAC, MASK, ROUTER).status,
@@ -148,6 +148,7 @@ fn each_call_is_made_once(rt: HostRuntime) {
     );
     check_frames_refused(&rt, alloc, &mut device, WRONG_LINK);
 
+    let mut out = [0; LARGEST_TEXT];
     let heard = uip_feed(alloc, &mut device, REQUEST_TEXT, &mut out);
     assert_eq!(rt; heard, made(34, 34));
     assert!(rt; out.starts_with(REPLY_TEXT));
@@ -164,18 +165,16 @@ fn each_call_is_made_once(rt: HostRuntime) {
         assert_eq!(rt; uip_counter(alloc, &mut device, counter).number, 2);
     }
     assert_eq!(rt; uip_ticks(alloc, &mut device).number, 1);
-    assert_eq!(rt; uip_close(alloc, &mut device), OK);
-    assert_eq!(rt; uip_close(alloc, &mut device), NO_DEVICE);
-    let_go(device);
+    close(&rt, alloc, device);
 }
 
 #[test]
 fn a_call_without_a_device_says_so(rt: HostRuntime) {
     let alloc = rt.alloc();
     let mut device = no_device(alloc);
-    let mut out = [0; LARGEST_TEXT];
     check_refused(&rt, alloc, &mut device, NO_DEVICE);
     check_frames_refused(&rt, alloc, &mut device, NO_DEVICE);
+    let mut out = [0; LARGEST_TEXT];
     assert_eq!(rt; uip_drain(alloc, &mut device, &mut out), answer(NO_DEVICE));
     assert_eq!(rt; uip_counter(alloc, &mut device, 20).status, NO_DEVICE);
     assert_eq!(rt; uip_ticks(alloc, &mut device).status, NO_DEVICE);
@@ -192,8 +191,7 @@ fn a_call_without_a_device_says_so(rt: HostRuntime) {
         uip_set_value(alloc, &mut device, 0, &[b'7'; 33]),
         BAD_ARGUMENT
     );
-    assert_eq!(rt; uip_close(alloc, &mut device), NO_DEVICE);
-    let_go(device);
+    let_go(&rt, alloc, device);
 }
 
 /// The first fault of an image, by its word and its entry.
@@ -217,8 +215,7 @@ fn a_bad_image_is_told(rt: HostRuntime) {
             bad
         );
     }
-    assert_eq!(rt; uip_close(alloc, &mut device), NO_DEVICE);
-    let_go(device);
+    let_go(&rt, alloc, device);
 }
 
 /// Output goes out in pieces, and every other call is refused meanwhile. The piece after 31 bytes is an END of the datagram.
@@ -226,10 +223,7 @@ fn a_bad_image_is_told(rt: HostRuntime) {
 fn a_text_is_handed_on(rt: HostRuntime) {
     let alloc = rt.alloc();
     let mut device = opened(&rt, alloc);
-    let mut out = [0; LARGEST_TEXT];
     let mut most = [0; 30];
-    let mut few = [0; 3];
-    let mut one = [0; 1];
     let heard = uip_feed(alloc, &mut device, REQUEST_TEXT, &mut most);
     let first = UipResult {
         pending: 1,
@@ -238,10 +232,9 @@ fn a_text_is_handed_on(rt: HostRuntime) {
     assert_eq!(rt; heard, first);
     assert!(rt; most.starts_with(FIRST_PIECE));
     check_refused(&rt, alloc, &mut device, OUTPUT_PENDING);
-    assert_eq!(rt;
-        uip_drain(alloc, &mut device, &mut one),
-        answer(BAD_ARGUMENT)
-    );
+    let called = uip_drain(alloc, &mut device, &mut [0; 1]);
+    assert_eq!(rt; called, answer(BAD_ARGUMENT));
+    let mut few = [0; 3];
     let more = uip_drain(alloc, &mut device, &mut few);
     let second = UipResult {
         pending: 1,
@@ -249,12 +242,12 @@ fn a_text_is_handed_on(rt: HostRuntime) {
     };
     assert_eq!(rt; more, second);
     assert!(rt; few.starts_with(SECOND_PIECE));
+    let mut out = [0; LARGEST_TEXT];
     let more = uip_drain(alloc, &mut device, &mut out);
     assert_eq!(rt; more, made(0, 3));
     assert!(rt; out.starts_with(LAST_PIECE));
     assert_eq!(rt; uip_drain(alloc, &mut device, &mut out), answer(OK));
-    assert_eq!(rt; uip_close(alloc, &mut device), OK);
-    let_go(device);
+    close(&rt, alloc, device);
 }
 
 /// A value changes between the first transmission of its segment and the retransmission, which has the first bytes.
@@ -296,6 +289,5 @@ fn a_value_is_sent_again_as_it_was(rt: HostRuntime) {
     assert_eq!(rt; uip_connection(alloc, &mut device, 1).state, 0);
     assert_eq!(rt; uip_hits(alloc, &mut device, b"/v.shtml").number, 1);
     assert_eq!(rt; uip_hits(alloc, &mut device, b"/w.shtml").number, 0);
-    assert_eq!(rt; uip_close(alloc, &mut device), OK);
-    let_go(device);
+    close(&rt, alloc, device);
 }
