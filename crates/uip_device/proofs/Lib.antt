@@ -6,4 +6,6 @@ pub mod HandLaws
 pub mod KeepLaws
 pub mod SendLaws
 pub mod WebLaws
+pub mod QueryLaws
+mod QueryRows
 mod Prelude

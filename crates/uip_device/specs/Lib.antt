@@ -8,4 +8,5 @@ pub mod Output
 pub mod Sending
 pub mod WebDevices
 pub mod ConstantValues
+pub mod Query
 pub mod Prelude

@@ -15,3 +15,4 @@ pub use Rattle.uip_device.specs.Sending.{HandsOut, SendsOver, datagram_sent}
 pub use Rattle.uip_device.specs.WebDevices.{DeviceRepresents, FailsAs, IsFirstShared, IsFreshWebDevice, IsLongWithValues, IsOfImage}
 pub use Rattle.uip_device.specs.WebDevices.{IsSoundWebDevice, NodeRepresents, WebDevice, WebNode, first_numbers, value_pages}
 pub use Rattle.uip_device.specs.WebDevices.{value_spec, web_datagrams_sent, web_line_sent, web_node_after, web_output, write_value}
+pub use Rattle.uip_device.specs.Query.{QueryContent, ReadsQuery, query_after, query_in, query_of}

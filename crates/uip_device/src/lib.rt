@@ -9,6 +9,7 @@ mod handing;
 mod laws;
 mod node_reading;
 mod opening;
+mod query;
 mod value_pages;
 mod web_device;
 
@@ -18,8 +19,9 @@ pub use handing::LARGEST_TEXT;
 pub use laws::{calls_are_told, calls_keep_the_promise, constant_values, line_is_served};
 pub use node_reading::{is_node_idle, node_counter, node_row, node_ticks};
 pub use opening::{OpenFault, open_shared, open_web};
+pub use query::{LONGEST_QUERY, Query, QueryRead};
 pub use value_pages::ValuePages;
-pub use web_device::{WebDevice, node_hits, set_node_value};
+pub use web_device::{WebDevice, node_hits, node_query, set_node_value};
 
 #[cfg(test)]
 mod tests;

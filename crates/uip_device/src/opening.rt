@@ -11,6 +11,7 @@ ghost use Rattle.uip_device.specs.WebDevices.{OpensDevice, OpensShared, first_nu
 
 use crate::device::Device;
 use crate::device_web::{DeviceWeb, FlashWeb};
+use crate::query::Query;
 use crate::value_pages::ValuePages;
 use crate::web_device::WebDevice;
 use device_values::{Values, Word};
@@ -68,6 +69,7 @@ fn web_of(alloc: Global, site: FlashSite) -> Result<DeviceWeb, NoMemory>
     Ok(DeviceWeb {
         web,
         values: Values::new(),
+        query: Query::none(),
     })
 }
 

@@ -1,15 +1,20 @@
 //! The web server of a device, on one connection.
 
-ghost use Rattle.std.specs.Prelude.{◌≡◌, ◌++◌};
+ghost use Rattle.std.specs.Prelude.{◌≡◌, ◌++◌, [], false, true, option_map};
+ghost use Rattle.std.specs.List.{slice_index_or};
 ghost use Rattle.app_events.specs.Prelude.{AppState};
 ghost use Rattle.device_values.specs.Prelude.{record_text, words};
-ghost use Rattle.file_tree.specs.Prelude.{files_of};
+ghost use Rattle.file_tree.specs.Prelude.{AreApart, SiteContent, files_of};
 ghost use Rattle.httpd.specs.Compact.{CompactRepresent};
-ghost use Rattle.web_pages.specs.Prelude.{wanted, hits_by};
+ghost use Rattle.web_pages.specs.Prelude.{hits_by, target_of, wanted};
+ghost use Rattle.uip_device.specs.Query.{kept_query, kept_text, place_wanted, query_after, query_in, text_after_mark};
 
 use crate::device_web::{DeviceWeb, FlashWeb, see_counted};
+use crate::opening::see_loaded;
+use crate::query::{Query, text_in};
 use app_events::{App, Ending, Now, Want};
 use device_values::ValueCapture;
+use file_tree::FileId;
 use httpd::CompactPages;
 use uip_wire::{Port, WEB_PORT};
 
@@ -30,6 +35,92 @@ fn hear(pages: &mut CompactPages<ValueCapture>, web: &mut FlashWeb, piece: &[u8]
         → web.new.hits ≡ hits_by (files_of web.old.site) web.old.hits (wanted p.delivered) (wanted (p.delivered ++ piece.now)) }
 {
     pages.hear(&web.site, &mut web.hits, piece);
+}
+
+/// Returns whether nothing was delivered on the connection.
+fn is_first(pages: &CompactPages<ValueCapture>) -> bool
+    ensures first { result ≡ true → (site : SiteContent) (p : AppState) → CompactRepresent words record_text pages.now site p
+        → p.delivered ≡ [] }
+    ensures later { result ≡ false → (site : SiteContent) (p : AppState) → CompactRepresent words record_text pages.now site p
+        → p.delivered ≡ [] → ⊥ }
+{
+    match pages {
+        CompactPages::Receiving { target, line, .. } => {
+            if *target {
+                return false;
+            }
+            if line.query {
+                return false;
+            }
+            line.name.is_empty()
+        }
+        CompactPages::Replying { .. } => false,
+        CompactPages::Refused { .. } => false,
+    }
+}
+
+/// States that no two files of a web have one name.
+fn see_apart(web: &FlashWeb)
+    ensures { AreApart (files_of web.now.site) }
+{
+    see_loaded(&web.site);
+}
+
+/// Returns the hit count of a file, by its index.
+fn hit_of(web: &FlashWeb, file: FileId) -> u32
+    ensures { result ≡ slice_index_or web.now.hits file.0 0 }
+{
+    match web.hits.get(file.0 as usize) {
+        Some(hit) => *hit,
+        None => 0,
+    }
+}
+
+/// Keeps the query of a request for a file, if the file was found and there is a query.
+fn keep_for(query: &mut Query, found: Option<FileId>, web: &FlashWeb, request: &[u8])
+    ensures { query.new ≡ kept_query web.now.hits query.old (option_map (λ id. id.0) found)
+        (kept_text (text_after_mark (target_of request.now))) }
+{
+    if let Some(file) = found {
+        if let Some(text) = text_in(request) {
+            query.keep(file, hit_of(web, file), text);
+        }
+    }
+}
+
+/// Keeps the query of a request that came in one piece, if it brought one.
+fn keep(query: &mut Query, pages: &CompactPages<ValueCapture>, web: &FlashWeb, request: &[u8])
+    ensures { (p : AppState) → CompactRepresent words record_text pages.now web.now.site p → p.delivered ≡ request.now
+        → query.new ≡ kept_query web.now.hits query.old (place_wanted (files_of web.now.site) (wanted request.now))
+        (query_in request.now) }
+{
+    see_apart(web);
+    match pages {
+        CompactPages::Receiving { .. } => {}
+        CompactPages::Replying { found, .. } => keep_for(query, *found, web, request),
+        CompactPages::Refused { .. } => {}
+    }
+}
+
+/// Delivers the next bytes from the peer, counts a hit of the file that they request, and keeps the query that they bring.
+fn receive(pages: &mut CompactPages<ValueCapture>, shared: &mut DeviceWeb, piece: &[u8])
+    ensures site { shared.new.web.site ≡ shared.old.web.site }
+    ensures values { shared.new.values.bytes ≡ shared.old.values.bytes }
+    ensures part { let stands = CompactRepresent words record_text in
+        (p : AppState) → stands pages.old shared.old.web.site p
+        → stands pages.new shared.old.web.site (record p { delivered = p.delivered ++ piece.now; polls = 0 }) }
+    ensures hits { let stands = CompactRepresent words record_text in
+        (p : AppState) → stands pages.old shared.old.web.site p → shared.new.web.hits
+        ≡ hits_by (files_of shared.old.web.site) shared.old.web.hits (wanted p.delivered) (wanted (p.delivered ++ piece.now)) }
+    ensures query { let stands = CompactRepresent words record_text in
+        (p : AppState) → stands pages.old shared.old.web.site p → shared.new.query
+        ≡ query_after (files_of shared.old.web.site) shared.new.web.hits shared.old.query p.delivered piece.now }
+{
+    let first = is_first(pages);
+    hear(pages, &mut shared.web, piece);
+    if first {
+        keep(&mut shared.query, pages, &shared.web, piece);
+    }
 }
 
 impl App for ValuePages {
@@ -73,7 +164,7 @@ impl App for ValuePages {
 
     fn newdata(&mut self, shared: &mut DeviceWeb, piece: &[u8]) {
         see_counted(&shared.web);
-        hear(&mut self.pages, &mut shared.web, piece);
+        receive(&mut self.pages, shared, piece);
     }
 
     fn is_due(&self, shared: &DeviceWeb) -> bool {

@@ -6,10 +6,12 @@ ghost use Rattle.uip_node.specs.Prelude.{AbstractNode, Represents};
 ghost use Rattle.web_pages.specs.Prelude.{hits_of};
 ghost use Rattle.uip_device.specs.contracts.value_pages.ValuePagesApp.TheImpl.{ghosts};
 ghost use Rattle.uip_device.specs.Devices.{Changes, ChangesNode};
+ghost use Rattle.uip_device.specs.Query.{ReadsQuery, query_of};
 ghost use Rattle.uip_device.specs.WebDevices.{IsSoundWebDevice, site_in, write_value};
 
 use crate::device::Device;
 use crate::opening::see_loaded;
+use crate::query::QueryRead;
 use crate::value_pages::ValuePages;
 use device_values::Values;
 use uip_node::Node;
@@ -45,6 +47,17 @@ pub fn node_hits(node: &Node<ValuePages>, name: &[u8]) -> u32
         Some(id) => web.hits[id.0 as usize],
         None => 0,
     }
+}
+
+/// Copies the text of the query that a node keeps for the file of that name to the start of `out`, which has room for 64 bytes. Returns
+/// its length and the count of the file's hits after the request that brought it; both are 0 if none is kept for that file.
+pub fn node_query(node: &Node<ValuePages>, name: &[u8], out: &mut [u8]) -> QueryRead
+    requires { 64 ≤ length out.old }
+    ensures { ReadsQuery (query_of (files_of node.now.shared.web.site) node.now.shared.query name.now) result.hit result.len out.old out.new }
+{
+    let web = &node.shared.web;
+    see_loaded(&web.site);
+    node.shared.query.read(web.site.find(name), out)
 }
 
 impl WebDevice {
