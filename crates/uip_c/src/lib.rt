@@ -11,6 +11,9 @@ mod handle;
 mod held;
 mod laws;
 mod opening;
+mod query;
+#[cfg(test)]
+mod query_tests;
 mod reading;
 mod rows;
 mod status;
@@ -30,6 +33,7 @@ pub use laws::{
     frames_from_c_keep_the_promise, line_from_c_is_served,
 };
 pub use opening::{UipOpened, uip_close, uip_open};
+pub use query::{UipQuery, uip_query};
 pub use reading::{UipNumber, uip_counter, uip_hits, uip_is_idle, uip_ticks};
 pub use rows::{UipRow, uip_connection};
 pub use status::{
