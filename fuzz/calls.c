@@ -225,6 +225,24 @@ unsigned call_hits(tested *t, const byte *name, size_t len) {
     return read.number;
 }
 
+static int is_kept(byte b) {
+    return (b >= 'a' && b <= 'z') || (b >= 'A' && b <= 'Z') || (b >= '0' && b <= '9') || (b && strchr("-_.~%&=+", b));
+}
+
+query call_query(tested *t, const byte *name, size_t len, size_t room) {
+    byte *out = begin(t, room);
+    uip_query_text read = uip_query(&t->handle, put_input(&words_in, name, len), len, out, room);
+    query got = {.hit = read.hit, .len = read.len};
+    told(t, read.status, room < UIP_MAX_QUERY, "uip_query");
+    if (read.status != UIP_OK) is_untouched(t, out, room, "uip_query");
+    WANT(read.len <= (read.status == UIP_OK ? UIP_MAX_QUERY : 0), "uip_query tells %zu bytes", read.len);
+    WANT(read.status == UIP_OK || read.hit == 0, "uip_query was refused and tells a hit");
+    for (size_t k = 0; k < read.len; k++) WANT(is_kept(got.bytes[k] = out[k]), "a query has the byte %u", out[k]);
+    size_t looked = looked_at(room);
+    WANT(read.len > looked || !memcmp(before + read.len, out + read.len, looked - read.len), "uip_query wrote after its text");
+    return got;
+}
+
 int call_idle(tested *t) {
     (void)begin(t, 0);
     uip_number read = uip_is_idle(&t->handle);
@@ -251,6 +269,9 @@ static void refused_words(tested *t) {
     (void)call_row(t, chance(50) ? UIP_SLOTS : UIP_SLOTS + random_next());
     words[0] = (byte)below('/');
     WANT(call_hits(t, words, chance(20) ? len : below(70)) == 0, "uip_hits counts what is no name");
+    query none = call_query(t, words, below(70), UIP_MAX_QUERY + below(300));
+    WANT(none.hit == 0 && none.len == 0, "a query of what is no name");
+    (void)call_query(t, words, below(70), below(UIP_MAX_QUERY));
     if (t->is_open) return;
     call_value(t, below(UIP_VALUES), words, below(UIP_MAX_VALUE + 1));
     WANT(call_row(t, below(UIP_SLOTS)).state == UIP_CLOSED && !call_idle(t), "a row without a device");

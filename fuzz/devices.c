@@ -138,6 +138,11 @@ static void read_all(void) {
     unsigned told = call_hits(&under_test, name, len), rows = 0;
     WANT(told == hits_foretold(name, len), "a file was asked for %u times, and %u was foretold", told, hits_foretold(name, len));
     WANT(told == call_hits(&whole, name, len) && told == call_hits(&by_datagrams, name, len), "the hits differ");
+    query kept = call_query(&under_test, name, len, between(UIP_MAX_QUERY, 300));
+    query second = call_query(&whole, name, len, UIP_MAX_QUERY), third_kept = call_query(&by_datagrams, name, len, UIP_MAX_QUERY);
+    WANT(kept.hit <= told && (kept.hit > 0 || kept.len == 0), "a query of hit %zu, and there were %u", kept.hit, told);
+    WANT(!memcmp(&kept, &second, sizeof kept) && !memcmp(&kept, &third_kept, sizeof kept), "the queries differ");
+    counts.queries += kept.hit > 0;
     for (unsigned slot = 0; slot < UIP_SLOTS; slot++) {
         uip_row row = call_row(&under_test, slot), other = call_row(&whole, slot), third = call_row(&by_datagrams, slot);
         row_is_foretold(slot, &row);
@@ -150,7 +155,7 @@ static void read_all(void) {
     WANT(call_idle(&whole) == (rows == 0) && call_idle(&by_datagrams) == (rows == 0), "the devices are not idle alike");
     frames_read(&by_datagrams, name, len);
     counts.hits++, counts.rows += rows;
-    counts.calls -= 2 * (UIP_SLOTS + 2), counts.others += 2 * (UIP_SLOTS + 2);
+    counts.calls -= 2 * (UIP_SLOTS + 3), counts.others += 2 * (UIP_SLOTS + 3);
 }
 
 static void compare(void) {

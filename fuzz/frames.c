@@ -103,6 +103,8 @@ void frames_give(unsigned number, const value *given) {
 // What is read of the device is the same as of another one.
 void frames_read(tested *other, const byte *name, size_t len) {
     WANT(call_hits(&device, name, len) == call_hits(other, name, len), "the hits on Ethernet differ");
+    query kept = call_query(&device, name, len, UIP_MAX_QUERY), second = call_query(other, name, len, UIP_MAX_QUERY);
+    WANT(!memcmp(&kept, &second, sizeof kept), "the query on Ethernet differs");
     WANT(call_idle(&device) == call_idle(other), "the device on Ethernet is not idle alike");
     for (unsigned number = 0; number <= UIP_COUNTERS; number++)
         WANT(numbers_of(&device, number) == numbers_of(other, number), "counter %u on Ethernet differs", number);
@@ -110,7 +112,7 @@ void frames_read(tested *other, const byte *name, size_t len) {
         uip_row row = call_row(&device, slot), second = call_row(other, slot);
         WANT(!memcmp(&row, &second, sizeof row), "the row of slot %u on Ethernet differs", slot);
     }
-    unsigned made = 2 * (2 + UIP_COUNTERS + 1 + UIP_SLOTS);
+    unsigned made = 2 * (3 + UIP_COUNTERS + 1 + UIP_SLOTS);
     counts.calls -= made, counts.others += made;
 }
 

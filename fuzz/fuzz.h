@@ -65,6 +65,7 @@ void record_end(void);
 // calls.c: single calls of the device under test, fine and refused, each as it was foretold. The image stays while the device is open.
 typedef struct { uip_device handle; int is_open, has_left, is_ether; byte mac[6], mask[4], router[4]; area image; } tested;
 typedef struct { byte *bytes; size_t len; } text;
+typedef struct { size_t hit, len; byte bytes[UIP_MAX_QUERY]; } query;    // what uip_query returns, without padding
 uip_result call_hear(tested *t, const byte *bytes, size_t len, size_t room, text *to);
 uip_result call_slot(tested *t, unsigned slot, size_t room, text *to);
 uip_result call_more(tested *t, size_t room, text *to);
@@ -80,6 +81,7 @@ void calls_begin(void);
 unsigned numbers_of(tested *t, unsigned number);
 void call_value(tested *t, unsigned long number, const byte *bytes, size_t len);
 unsigned call_hits(tested *t, const byte *name, size_t len);
+query call_query(tested *t, const byte *name, size_t len, size_t room);
 int call_idle(tested *t);
 uip_row call_row(tested *t, unsigned long slot);
 

@@ -21,7 +21,7 @@ _Noreturn void fail(const char *format, ...) __attribute__((format(printf, 1, 2)
 #define WANT(is_so, ...) do { if (!(is_so)) fail(__VA_ARGS__); } while (0)
 extern struct counts {
     unsigned long calls, others, refused, opens, bad_images, refusals, sessions, pages, whole, datagrams, pings;
-    unsigned long given, shown, changed, hits, rows, framed, routed, taught;
+    unsigned long given, shown, changed, hits, rows, queries, framed, routed, taught;
 } counts;
 void report_begin(unsigned long seed, int is_mixed);
 void report_end(void);

@@ -46,7 +46,7 @@ void report_end(void) {
            "%lu pages closed, %lu of them compared whole\n", counts.sessions, counts.datagrams, counts.pings, counts.opens,
            counts.bad_images, counts.refusals, counts.pages, counts.whole);
     printf("%lu values given, %lu texts of calls in pages, %lu segments sent again at a value that was another by then, "
-           "%lu hit counts and %lu rows of connections read\n",
-           counts.given, counts.shown, counts.changed, counts.hits, counts.rows);
+           "%lu hit counts, %lu queries and %lu rows of connections read\n",
+           counts.given, counts.shown, counts.changed, counts.hits, counts.queries, counts.rows);
     printf("%lu datagrams sent in frames, %lu of them by the router; %lu addresses taught by ARP\n", counts.framed, counts.routed, counts.taught);
 }

@@ -10,8 +10,8 @@
  * of uIP would replace these calls.
  *
  * Read docs/LIMITS.md first. There is no authentication, no encryption and no DHCP; sequence numbers are predictable,
- * and ten SYNs that are never acknowledged occupy all ten slots for 51 s. A browser cannot send your program data (no
- * forms, no POST, no query strings): it sees only how often each file was requested (uip_hits).
+ * and ten SYNs that are never acknowledged occupy all ten slots for 51 s. What a browser can send your program is how
+ * often each file was requested (uip_hits) and the last query, of up to 64 bytes (uip_query). There is no POST.
  *
  * CHOOSE ONE ROW, and link its library from a release (the package that release.sh makes):
  *
@@ -100,8 +100,9 @@
  *     uip_drain                                 serial line                   yes        no          allowed
  *     uip_input, uip_periodic_datagram          datagrams                     yes        no          UIP_OUTPUT_PENDING
  *     uip_input_frame, uip_periodic_frame       Ethernet                      yes        no          -
- *     uip_set_value, uip_hits, uip_ticks,
- *     uip_counter, uip_is_idle, uip_connection  any                           no         yes         allowed
+ *     uip_set_value, uip_hits, uip_query,
+ *     uip_ticks, uip_counter, uip_is_idle,
+ *     uip_connection                            any                           no         yes         allowed
  *     uip_close                                 any                           no         no          allowed
  *
  * Five inline functions make these calls and pass the output to a sink: uip_feed_all, uip_tick_all and uip_drain_all
@@ -150,9 +151,9 @@
  * as before (a call that fails still counts for rule 3). It returns a status, and all other fields of the result are 0
  * (except `entry` and `word` after UIP_BAD_IMAGE). Null pointers and wrong areas are not detected (rules 4 and 5). Not
  * reported: a wrong rate of periodic calls, a slot that is left out or called twice in a tick, and an unknown name
- * (uip_hits returns 0). No received contents cause an error. A wrong length does: drop datagrams of 0 or of more than
- * UIP_MAX_DATAGRAM bytes, and Ethernet frames longer than `room`; do not call uip_feed with 0 bytes. The statuses of
- * each call, in the order in which they are looked for:
+ * (uip_hits and uip_query return 0). No received contents cause an error. A wrong length does: drop datagrams of 0 or
+ * of more than UIP_MAX_DATAGRAM bytes, and Ethernet frames longer than `room`; do not call uip_feed with 0 bytes. The
+ * statuses of each call, in the order in which they are looked for:
  *   uip_open, uip_open_ether    UIP_HAS_DEVICE, UIP_BAD_IMAGE or UIP_NO_MEMORY, UIP_OK
  *   every other call            UIP_BAD_ARGUMENT      an argument is out of its range
  *                               UIP_NO_DEVICE         the device is not open
@@ -227,6 +228,7 @@ enum uip_status {
 #define UIP_COUNTERS 20         /* counters: the numbers 1 to 20 */
 #define UIP_VALUES 16           /* values of a device: the numbers 0 to 15 */
 #define UIP_MAX_VALUE 32        /* bytes of the longest value */
+#define UIP_MAX_QUERY 64        /* bytes of the longest query, and the least room of uip_query */
 
 /* The counters, by the numbers of uip_counter. Each counts modulo 2^32. */
 enum uip_counter_id {
@@ -283,6 +285,9 @@ typedef struct uip_result { unsigned status, pending; size_t consumed, written; 
 
 /* The result of a call that reads a number. */
 typedef struct uip_number { unsigned status; unsigned number; } uip_number;
+
+/* The result of uip_query: the count of hits after the request that brought it, and the length of the text in bytes. */
+typedef struct uip_query_text { unsigned status; unsigned hit; size_t len; } uip_query_text;
 
 /*
  * The result of uip_connection. If the slot is CLOSED, all fields but `status` are 0.
@@ -392,8 +397,8 @@ uip_result uip_drain(uip_device *device, unsigned char *out, size_t room);
  *   to            the pointer that the caller of the function gave
  *   bytes, len    the piece, 1 byte or more; it lies in `out`, and is valid until the sink returns
  *
- * A sink may call uip_set_value and the calls that read: uip_ticks, uip_counter, uip_is_idle, uip_connection, uip_hits.
- * It may make no other call with this device.
+ * A sink may call uip_set_value and the calls that read: uip_ticks, uip_counter, uip_is_idle, uip_connection, uip_hits
+ * and uip_query. It may make no other call with this device.
  */
 typedef void (*uip_sink)(void *to, const unsigned char *bytes, size_t len);
 
@@ -560,8 +565,8 @@ UIP_INLINE unsigned uip_tick_datagrams(uip_device *device, unsigned char *out, s
  *     }
  *
  * The includes, the heap (of UIP_MEMORY_ETHER(SITE_IMAGE_FILES) bytes), half_a_second_passed and work are as above.
- * No output is ever pending. uip_ticks, uip_counter, uip_is_idle, uip_connection, uip_set_value, uip_hits and uip_close
- * serve this device too. The calls for a serial line and for datagrams return UIP_WRONG_LINK. On a device of uip_open
+ * No output is ever pending. uip_ticks, uip_counter, uip_is_idle, uip_connection, uip_set_value, uip_hits, uip_query
+ * and uip_close serve this device too. The calls for a serial line and for datagrams return UIP_WRONG_LINK. On a device of uip_open
  * the calls for frames return it.
  *
  * ARP has eight entries. A ninth address replaces the one that was learned longest ago. An entry is forgotten 2,400
@@ -718,6 +723,27 @@ unsigned uip_set_value(uip_device *device, size_t number, const void *text, size
  */
 uip_number uip_hits(uip_device *device, const void *name, size_t len);
 
+/*
+ * Copies the query that the device keeps for a file: the text after the `?` of a request, "lamp=on" of
+ * GET /set.html?lamp=on. With it a form of HTML (method GET) sets something. docs/FIRMWARE.md has an example.
+ *
+ *   name, len    the name of the file as the image has it, "/set.html", without a 0 at its end
+ *   out          where the text is copied to, without a 0 at its end; the bytes after it stay
+ *   room         the size of `out`, UIP_MAX_QUERY or more
+ *
+ * `len` of the result is the length of the text. `hit` is what uip_hits returned right after the request that brought
+ * it: another number is another request. Both are 0 if no query is kept for that file, or no file has that name.
+ *
+ * The device keeps one query: that of the last request of a file that brought one, whichever file it is. So call this
+ * after each call that receives, or set things through one file only. A request brings a query if its text has at most
+ * UIP_MAX_QUERY bytes, each a letter, a digit or one of -_.~%&=+, and if the target, up to the space after it, comes in
+ * the first segment with data of its connection. Otherwise the query before it stays. %20 and the like are not decoded.
+ * Anyone who reaches the device can send any such text: check it before use.
+ *
+ * Status: UIP_OK, UIP_BAD_ARGUMENT, UIP_NO_DEVICE.
+ */
+uip_query_text uip_query(uip_device *device, const void *name, size_t len, unsigned char *out, size_t room);
+
 /* ---- CLOSE */
 
 /*
@@ -742,8 +768,8 @@ unsigned uip_close(uip_device *device);
  *                     (`ok` 0, any address but null, the old block stays).
  *   rattle_dealloc    frees a block.
  *
- * Measured, not proved: for f files uip_open allocates six blocks: 28*f, 2*f, 4*f, 1500, 1600 and 2312 bytes.
- * uip_open_ether has 896 in place of 2312. If one fails, it frees those before it. uip_close frees
+ * Measured, not proved: for f files uip_open allocates six blocks: 28*f, 2*f, 4*f, 1500, 1600 and 2392 bytes.
+ * uip_open_ether has 976 in place of 2392. If one fails, it frees those before it. uip_close frees
  * all six. No other call allocates or frees. If you call uip_open once and never uip_close, rattle_dealloc may do
  * nothing. examples/heap.c reuses its array when all its devices are closed.
  */
@@ -760,9 +786,9 @@ void rattle_dealloc(void *block);
  */
 #define UIP_ROUNDED(len) (((size_t)(len) + 15) / 16 * 16)
 #define UIP_MEMORY(files) \
-    (UIP_ROUNDED(28 * (size_t)(files)) + UIP_ROUNDED(2 * (size_t)(files)) + UIP_ROUNDED(4 * (size_t)(files)) + 5424)
+    (UIP_ROUNDED(28 * (size_t)(files)) + UIP_ROUNDED(2 * (size_t)(files)) + UIP_ROUNDED(4 * (size_t)(files)) + 5504)
 #define UIP_MEMORY_ETHER(files) (UIP_MEMORY(files) - 1424)
-/* For example UIP_MEMORY(6) is 5,648, and UIP_MEMORY_ETHER(6) is 4,224. */
+/* For example UIP_MEMORY(6) is 5,728, and UIP_MEMORY_ETHER(6) is 4,304. */
 
 /*
  * SIZES. Nothing can be configured. MSS and window are 1460 bytes. A segment has at most the least of 1460 bytes, the

@@ -5,9 +5,11 @@
 
 typedef struct { uint32_t is_open, padding; uint64_t at; } module_device;
 typedef struct { uint32_t status, pending; uint64_t consumed, written; } module_result;
+typedef struct { uint32_t status, hit; uint64_t len; } module_text;
 typedef struct { uint64_t ok, block; } module_block;
 
-_Static_assert(sizeof(module_device) == 16 && sizeof(module_result) == 24 && sizeof(module_block) == 16, "the structs of the module");
+_Static_assert(sizeof(module_device) == 16 && sizeof(module_result) == 24 && sizeof(module_text) == 16 && sizeof(module_block) == 16,
+               "the structs of the module");
 _Static_assert(sizeof(uip_opened) == 16 && sizeof(uip_number) == 8 && sizeof(uip_row) == 28, "the structs of uip.h");
 _Static_assert(sizeof(void *) == sizeof(size_t), "the numbers of uip.h");
 
@@ -142,6 +144,14 @@ uip_number uip_hits(uip_device *device, const void *name, size_t len) {
     uint64_t both = port_uip_hits(&d, (void *)name, len);
     put_device(device, &d);
     return of_number(both);
+}
+
+uip_query_text uip_query(uip_device *device, const void *name, size_t len, unsigned char *out, size_t room) {
+    module_device d = of_device(device);
+    module_text text;
+    port_uip_query(&text, &d, (void *)name, len, out, room);
+    put_device(device, &d);
+    return (uip_query_text){text.status, text.hit, (size_t)text.len};
 }
 
 unsigned uip_close(uip_device *device) {

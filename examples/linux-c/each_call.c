@@ -74,6 +74,7 @@ static void without_a_device(void) {
     expect(uip_ticks(&device).status == UIP_NO_DEVICE, "uip_ticks without a device");
     expect(uip_counter(&device, UIP_DATAGRAMS_IN).status == UIP_NO_DEVICE, "uip_counter without a device");
     expect(uip_hits(&device, "/", 1).status == UIP_NO_DEVICE, "uip_hits without a device");
+    expect(uip_query(&device, "/", 1, out, sizeof out).status == UIP_NO_DEVICE, "uip_query without a device");
     expect(uip_is_idle(&device).status == UIP_NO_DEVICE, "uip_is_idle without a device");
     expect(uip_connection(&device, 0).status == UIP_NO_DEVICE, "uip_connection without a device");
     expect(uip_set_value(&device, 0, "7", 1) == UIP_NO_DEVICE, "uip_set_value without a device");
@@ -103,6 +104,7 @@ static void bad_calls(void) {
     expect(is(uip_periodic_frame(&device, 0, out, sizeof out), UIP_WRONG_LINK, 0, 0), "uip_periodic_frame on a line");
     expect(uip_counter(&device, 0).status == UIP_BAD_ARGUMENT && uip_counter(&device, 21).status == UIP_BAD_ARGUMENT, "uip_counter of none");
     expect(uip_connection(&device, UIP_SLOTS).status == UIP_BAD_ARGUMENT, "uip_connection of slot 10");
+    expect(uip_query(&device, "/", 1, out, UIP_MAX_QUERY - 1).status == UIP_BAD_ARGUMENT, "uip_query with too little room");
     expect(uip_set_value(&device, UIP_VALUES, "7", 1) == UIP_BAD_ARGUMENT, "uip_set_value of no number");
     expect(uip_set_value(&device, 0, out, UIP_MAX_VALUE + 1) == UIP_BAD_ARGUMENT, "uip_set_value, long");
     expect(uip_feed_all(&device, request_text, 34, out, 1, keep, out) == UIP_BAD_ARGUMENT, "uip_feed_all with too little room");
@@ -136,6 +138,8 @@ static void successful_calls(void) {
     expect(row.status == UIP_OK && row.state == UIP_CLOSED, "uip_connection");
     uip_number hits = uip_hits(&device, "/lamp-on.html", 13);
     expect(hits.status == UIP_OK && hits.number == 0, "uip_hits of no file");
+    uip_query_text query = uip_query(&device, "/set.html", 9, out, UIP_MAX_QUERY);
+    expect(query.status == UIP_OK && query.hit == 0 && query.len == 0, "uip_query of no file");
 }
 
 // Two requests in turn on the line, in the least room.

@@ -191,6 +191,15 @@ uip_row __wrap_uip_connection(uip_device *d, size_t slot) {
     return row;
 }
 
+// The hit is recorded as `pending`, and the length of the text as `written`.
+uip_query_text __real_uip_query(uip_device *d, const void *name, size_t len, unsigned char *out, size_t room);
+uip_query_text __wrap_uip_query(uip_device *d, const void *name, size_t len, unsigned char *out, size_t room) {
+    record r = begun(QUERY, d, 0, len, out, room);
+    uip_query_text text = __real_uip_query(d, name, len, out, room);
+    (void)ended(&r, (uip_result){text.status, text.hit, 0, text.len}, name, out);
+    return text;
+}
+
 unsigned __real_uip_set_value(uip_device *d, size_t number, const void *text, size_t len);
 unsigned __wrap_uip_set_value(uip_device *d, size_t number, const void *text, size_t len) {
     record r = begun(SET_VALUE, d, number, len, 0, 0);

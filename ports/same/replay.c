@@ -108,6 +108,7 @@ static uip_opened opened;
 static uip_row row;
 
 static uip_result of_number(uip_number n) { return (uip_result){n.status, n.number, 0, 0}; }
+static uip_result of_text(uip_query_text t) { return (uip_result){t.status, t.hit, 0, t.len}; }
 static uip_result of_status(unsigned status) { return (uip_result){status, 0, 0, 0}; }
 
 // Makes a call, and sets `left` to the bytes that it left.
@@ -133,6 +134,7 @@ static uip_result call(const record *r, const unsigned char *input, const unsign
     case CONNECTION: row = uip_connection(d, number); *left = (unsigned char *)&row; return of_status(row.status);
     case SET_VALUE: return of_status(uip_set_value(d, number, input, len));
     case HITS: return of_number(uip_hits(d, input, len));
+    case QUERY: return of_text(uip_query(d, input, len, out, room));
     case CLOSE: return of_status(uip_close(d));
     default: differ("the kind of a call", r->op, 0);
     }

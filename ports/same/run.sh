@@ -1,7 +1,7 @@
 # shellcheck shell=sh disable=SC2154,SC2086
 # The same calls, for run.sh: the fuzzer runs on this machine with the library of the proof run, record.c writes each of its calls and
 # results to a pipe, and replay.c makes them again on the target.
-RECORDED="open open_ether feed periodic drain input periodic_datagram input_frame periodic_frame ticks counter is_idle connection set_value hits close"
+RECORDED="open open_ether feed periodic drain input periodic_datagram input_frame periodic_frame ticks counter is_idle connection set_value hits query close"
 
 recorder() {
     if [ -x "$out/record" ] && [ -z "$(find "$ports/same" "$top/fuzz" "$top/include" "$out/host.a" -name '*.[ach]' -newer "$out/record")" ]; then
