@@ -29,7 +29,7 @@
  * compiler-rt. The Cortex-M libraries are soft-float. They link with -mfloat-abi=soft and -mfloat-abi=softfp, which
  * uses the FPU; for -mfloat-abi=hard see docs/FIRMWARE.md.
  *
- * RAM for a site of six files on a Cortex-M4: heap 5,648 bytes (Ethernet: 4,224), stack 2,048 (Ethernet: 4,496), and on
+ * RAM for a site of six files on a Cortex-M4: heap 5,728 bytes (Ethernet: 4,304), stack 2,048 (Ethernet: 4,496), and on
  * a serial line a ring for received bytes. Begin with a ring of 512 bytes, which was enough for two clients at 19,200
  * bits a second on an emulated board. An overflow damages a frame, and TCP sends it again; that a page arrives is then
  * not proved. To exclude overflow see "TIME". README.md has the flash.
