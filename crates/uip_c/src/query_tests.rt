@@ -1,16 +1,10 @@
-use crate::datagram_calls::uip_input;
-use crate::opening::{uip_close, uip_open};
+use crate::calls::uip_input;
+use crate::opening::uip_open;
 use crate::query::{UipQuery, uip_query};
 use crate::reading::uip_hits;
 use crate::status::{BAD_ARGUMENT, NO_DEVICE, OK};
-use crate::tests::{OWN, VALUE_IMAGE, let_go, made, no_device};
+use crate::tests::{OWN, SYN, VALUE_IMAGE, close, made, no_device};
 use uip_device::LARGEST_TEXT;
-
-/// A SYN from 10.0.0.2 to the port of the web (RFC 793).
-const SYN: &[u8; 40] = &[
-    69, 0, 0, 40, 0, 1, 0, 0, 64, 6, 102, 205, 10, 0, 0, 2, 10, 0, 0, 1, 4, 1, 0, 80, 0, 0, 3, 232,
-    0, 0, 0, 0, 80, 2, 32, 0, 115, 167, 0, 0,
-];
 
 /// The peer's request of `/v.shtml?lamp=1`, which acknowledges the SYN of the node.
 const GET: &[u8; 72] = &[
@@ -60,6 +54,5 @@ fn a_query_is_read(rt: HostRuntime) {
     assert_eq!(rt; uip_hits(alloc, &mut device, b"/v.shtml").number, 1);
     let asked = uip_query(alloc, &mut device, b"/v.shtml", &mut text[1..]);
     assert_eq!(rt; asked.status, BAD_ARGUMENT);
-    assert_eq!(rt; uip_close(alloc, &mut device), OK);
-    let_go(device);
+    close(&rt, alloc, device);
 }

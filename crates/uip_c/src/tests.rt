@@ -56,7 +56,7 @@ const LAST_PIECE: &[u8; 3] = &[219, 221, 192];
 pub(crate) const VALUE_IMAGE: &[u8] = b"UIPSITE1\0\x01\x08/v.shtml\0\0\0\x0ea=%! value 3\n!";
 
 /// A SYN from 10.0.0.2 to the port of the web (RFC 793).
-const SYN: &[u8; 40] = &[
+pub(crate) const SYN: &[u8; 40] = &[
     69, 0, 0, 40, 0, 1, 0, 0, 64, 6, 102, 205, 10, 0, 0, 2, 10, 0, 0, 1, 4, 1, 0, 80, 0, 0, 3, 232,
     0, 0, 0, 0, 80, 2, 32, 0, 115, 167, 0, 0,
 ];

@@ -1,42 +1,27 @@
--- Requests worked by hand: the text that each brings.
-use Rattle.std.specs.Prelude.{◌≡◌, ◌++◌, codes, replicate, Some, None, [], List, ℕ}
+-- Requests worked by hand, and the text that each brings.
+use Rattle.std.specs.Prelude.{◌≡◌, ◌++◌, codes, map, replicate, Option, Some, None, [], ◌∷◌, List, ℕ}
 use Rattle.std.proofs.Common.{refl}
 use Rattle.uip_device.specs.Query.{query_in}
 
-a_setting : query_in (codes "GET /set.shtml?lamp=1 HTTP/1.0\r\n") ≡ Some (codes "lamp=1")
-a_setting = refl
+-- a setting; at the root; no text; a space ends the text; 64 bytes
+bringing : List (List ℕ)
+bringing =
+    codes "GET /set.shtml?lamp=1 HTTP/1.0\r\n" ∷ codes "GET /?a=1&b=%20 HTTP/1.0\r\n" ∷ codes "GET /set.shtml? HTTP/1.0\r\n"
+    ∷ codes "GET /set.shtml?lamp= 1 HTTP/1.0\r\n" ∷ (codes "GET /a?" ++ replicate 64 120 ++ codes " ") ∷ []
 
-at_the_root : query_in (codes "GET /?a=1&b=%20 HTTP/1.0\r\n") ≡ Some (codes "a=1&b=%20")
-at_the_root = refl
+texts : List (Option (List ℕ))
+texts =
+    Some (codes "lamp=1") ∷ Some (codes "a=1&b=%20") ∷ Some [] ∷ Some (codes "lamp=") ∷ Some (replicate 64 120) ∷ []
 
-no_mark : query_in (codes "GET /set.shtml HTTP/1.0\r\n") ≡ None
-no_mark = refl
+each_text : map query_in bringing ≡ texts
+each_text = refl
 
-mark_after_the_target : query_in (codes "GET /set.shtml HTTP/1.0\r\nReferer: /a?b=c\r\n") ≡ None
-mark_after_the_target = refl
+-- no mark; a mark after the target; a target that has not ended; a byte that is not kept; two marks; another method; 65 bytes
+silent : List (List ℕ)
+silent =
+    codes "GET /set.shtml HTTP/1.0\r\n" ∷ codes "GET /set.shtml HTTP/1.0\r\nReferer: /a?b=c\r\n" ∷ codes "GET /set.shtml?lamp=1"
+    ∷ codes "GET /set.shtml?lamp='1' HTTP/1.0\r\n" ∷ codes "GET /set.shtml?a?b HTTP/1.0\r\n" ∷ codes "POST /set.shtml?lamp=1 HTTP/1.0\r\n"
+    ∷ (codes "GET /a?" ++ replicate 65 120 ++ codes " ") ∷ []
 
-no_text : query_in (codes "GET /set.shtml? HTTP/1.0\r\n") ≡ Some []
+no_text : map query_in silent ≡ replicate 7 None
 no_text = refl
-
--- a target that is cut: its end comes in a later piece
-cut : query_in (codes "GET /set.html?lamp=o") ≡ None
-cut = refl
-
--- a space ends the text
-a_space : query_in (codes "GET /set.shtml?lamp= 1 HTTP/1.0\r\n") ≡ Some (codes "lamp=")
-a_space = refl
-
-a_quote : query_in (codes "GET /set.shtml?lamp='1' HTTP/1.0\r\n") ≡ None
-a_quote = refl
-
-two_marks : query_in (codes "GET /set.shtml?a?b HTTP/1.0\r\n") ≡ None
-two_marks = refl
-
-a_post : query_in (codes "POST /set.shtml?lamp=1 HTTP/1.0\r\n") ≡ None
-a_post = refl
-
-all_kept : query_in (codes "GET /a?" ++ replicate 64 120 ++ codes " ") ≡ Some (replicate 64 120)
-all_kept = refl
-
-one_too_many : query_in (codes "GET /a?" ++ replicate 65 120 ++ codes " ") ≡ None
-one_too_many = refl
