@@ -4,12 +4,12 @@ use Rattle.std.proofs.Common.{refl}
 use Rattle.uip_device.specs.Query.{query_in}
 
 -- a setting; at the root; no text; a space ends the text; 64 bytes
-bringing : List (List ℕ)
+abbrev bringing : List (List ℕ)
 bringing =
     codes "GET /set.shtml?lamp=1 HTTP/1.0\r\n" ∷ codes "GET /?a=1&b=%20 HTTP/1.0\r\n" ∷ codes "GET /set.shtml? HTTP/1.0\r\n"
     ∷ codes "GET /set.shtml?lamp= 1 HTTP/1.0\r\n" ∷ (codes "GET /a?" ++ replicate 64 120 ++ codes " ") ∷ []
 
-texts : List (Option (List ℕ))
+abbrev texts : List (Option (List ℕ))
 texts =
     Some (codes "lamp=1") ∷ Some (codes "a=1&b=%20") ∷ Some [] ∷ Some (codes "lamp=") ∷ Some (replicate 64 120) ∷ []
 
@@ -17,7 +17,7 @@ each_text : map query_in bringing ≡ texts
 each_text = refl
 
 -- no mark; a mark after the target; a target that has not ended; a byte that is not kept; two marks; another method; 65 bytes
-silent : List (List ℕ)
+abbrev silent : List (List ℕ)
 silent =
     codes "GET /set.shtml HTTP/1.0\r\n" ∷ codes "GET /set.shtml HTTP/1.0\r\nReferer: /a?b=c\r\n" ∷ codes "GET /set.shtml?lamp=1"
     ∷ codes "GET /set.shtml?lamp='1' HTTP/1.0\r\n" ∷ codes "GET /set.shtml?a?b HTTP/1.0\r\n" ∷ codes "POST /set.shtml?lamp=1 HTTP/1.0\r\n"
