@@ -1,7 +1,8 @@
 #!/bin/sh
-# Proves the library and keeps the LLVM module from which it is compiled.
+# Proves a library for C and keeps the LLVM module from which it is compiled.
 #
-#     sh ports/module.sh      writes ports/out/uip_c.ll, the module as text, and ports/out/host.a, the library for this machine
+#     sh ports/module.sh [CRATE]     CRATE is uip_c, or uip_app_c; writes ports/out/CRATE.ll, the module as text, and ports/out/CRATE.a,
+#                                    the library for this machine
 #
 # `rattle build --toolchain DIR` compiles the module with the clang of the directory DIR, as its help states. Here DIR is a directory of links
 # to the toolchain of the kit, with a clang of its own: it copies the module and its words, and then runs the kit's clang. `rt` has no option
@@ -12,11 +13,16 @@
 #     1. `rt` uses the toolchain of the kit from which it runs.
 #     2. The module is passed to clang as one file FILE.bc.
 #     3. The library consists of what clang made from that file.
-case "$1" in -h|--help) sed -n '2,15s/^# \{0,1\}//p' "$0"; exit 0;; "") ;; *) echo "module.sh: unknown word $1" >&2; exit 2;; esac
+case "$1" in
+-h|--help) sed -n '2,16s/^# \{0,1\}//p' "$0"; exit 0;;
+""|uip_c|uip_app_c) crate=${1:-uip_c};;
+*) echo "module.sh: unknown word $1" >&2; exit 2;;
+esac
 here=$(cd "$(dirname "$0")" && pwd)
 top=$(cd "$here/.." && pwd)
 out=$here/out
-library=$top/crates/uip_c/out/libuip_c.a
+kept=$out/$crate
+library=$top/crates/$crate/out/lib$crate.a
 fail() { echo "ports: $1" >&2; exit 1; }
 rt=$(command -v rt) || [ -n "$KIT" ] || fail "no command rt on the path, and KIT names no kit"
 kit=${KIT:-$(dirname "$(dirname "$(readlink -f "$rt")")")}
@@ -36,11 +42,11 @@ make_kit() {
     rm "$out/kit/toolchain/bin/clang"
     cat >"$out/kit/toolchain/bin/clang" <<END
 #!/bin/sh
-echo call >>"$out/clang.calls"
+echo call >>"$kept/clang.calls"
 for word; do
     case "\$word" in *.bc)
-        echo module >>"$out/clang.calls"
-        cp "\$word" "$out/module.bc" && printf '%s\n' "\$@" >"$out/clang.words" || exit 1;;
+        echo module >>"$kept/clang.calls"
+        cp "\$word" "$kept/module.bc" && printf '%s\n' "\$@" >"$kept/clang.words" || exit 1;;
     esac
 done
 exec "$real" "\$@"
@@ -56,28 +62,29 @@ compare_with_library() {
         case "$skip$word" in
         -o) skip=1;;
         1*) skip='';;
-        *.bc) set -- "$@" "$out/module.bc";;
+        *.bc) set -- "$@" "$kept/module.bc";;
         *) set -- "$@" "$word";;
         esac
-    done <"$out/clang.words"
-    "$real" "$@" -o "$out/again.o" || fail "the kept module was not compiled again"
-    ln -sf "$real" "$out/llvm-ar"    # one program with several names
-    "$out/llvm-ar" p "$out/host.a" >"$out/members" || fail "the library was not read"
-    cmp -s "$out/again.o" "$out/members" || fail "the library is not what clang makes of the kept module (habit 3 above)"
+    done <"$kept/clang.words"
+    "$real" "$@" -o "$kept/again.o" || fail "the kept module was not compiled again"
+    ln -sf "$real" "$kept/llvm-ar"    # one program with several names
+    "$kept/llvm-ar" p "$out/$crate.a" >"$kept/members" || fail "the library was not read"
+    cmp -s "$kept/again.o" "$kept/members" || fail "the library is not what clang makes of the kept module (habit 3 above)"
 }
 
 # lib RT: runs `rt lib` with this rt.
-lib() { (cd "$top/crates/uip_c" && "$1" lib) >"$out/lib.log" 2>&1 || { tail -5 "$out/lib.log" >&2; fail "rt lib failed in crates/uip_c"; }; }
+lib() { (cd "$top/crates/$crate" && "$1" lib) >"$kept/lib.log" 2>&1 || { tail -5 "$kept/lib.log" >&2; fail "rt lib failed in crates/$crate"; }; }
 
-# The rt of the kit proves first: it begins with what it keeps beside the kit for all checkouts, and a kit of links has no such place.
-mkdir -p "$out"
+# The rt of the kit proves first: it begins with what it keeps beside the kit for all checkouts, and a kit of links has no such place. The rt
+# of the links then loads what that run has proved in this checkout.
+mkdir -p "$kept"
 lib "$kit/bin/rt"
 make_kit || fail "no kit of links was made in $out/kit"
-rm -f "$out/module.bc" "$out/clang.calls" "$out/clang.words" "$out/uip_c.ll" "$library"
+rm -f "$kept/module.bc" "$kept/clang.calls" "$kept/clang.words" "$out/$crate.ll" "$library"
 lib "$out/kit/bin/rt"
-[ -f "$out/clang.calls" ] || fail "rt did not run the clang of the kit from which it runs (habit 1 above)"
-[ "$(grep -c module "$out/clang.calls")" = 1 ] || fail "clang did not receive one module as FILE.bc (habit 2 above): see $out/clang.calls"
-cp "$library" "$out/host.a" || exit 1
+[ -f "$kept/clang.calls" ] || fail "rt did not run the clang of the kit from which it runs (habit 1 above)"
+[ "$(grep -c module "$kept/clang.calls")" = 1 ] || fail "clang did not receive one module as FILE.bc (habit 2 above): see $kept/clang.calls"
+cp "$library" "$out/$crate.a" || exit 1
 compare_with_library
-"$real" -S -emit-llvm -Xclang -disable-llvm-passes -x ir "$out/module.bc" -o "$out/uip_c.ll" || fail "the module was not printed as text"
-tail -1 "$out/lib.log"
+"$real" -S -emit-llvm -Xclang -disable-llvm-passes -x ir "$kept/module.bc" -o "$out/$crate.ll" || fail "the module was not printed as text"
+tail -1 "$kept/lib.log"

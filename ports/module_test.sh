@@ -7,15 +7,15 @@ case "$1" in -h|--help) sed -n '2,5s/^# \{0,1\}//p' "$0"; exit 0;; esac
 ports=$(cd "$(dirname "$0")" && pwd)
 out=$ports/out
 fail() { echo "module_test: $1" >&2; exit 1; }
-[ -f "$out/clang.words" ] || fail "ports/out has no module: sh ports/module.sh makes it"
+[ -f "$out/uip_c/clang.words" ] || fail "ports/out has no module: sh ports/module.sh makes it"
 room=$(mktemp -d) || exit 1
 trap 'rm -rf "$room"' EXIT
 mkdir -p "$room/ports" "$room/crates/uip_c" "$room/kit/bin" "$room/kit/toolchain/bin"
 cp "$ports/module.sh" "$room/ports/"
 ln -s "$(readlink -f "$out/kit/toolchain/bin/ld.lld")" "$room/kit/toolchain/bin/clang"
 : >"$room/kit/bin/rtlib.py"
-words=$(sed "s|^--sysroot=.*||; s|^module.o$|out/module.o|; s|^module.bc$|out/module.bc|" "$out/clang.words" | tr '\n' ' ')
-library="cp $out/host.a out/libuip_c.a"
+words=$(sed "s|^--sysroot=.*||; s|^module.o$|out/module.o|; s|^module.bc$|out/module.bc|" "$out/uip_c/clang.words" | tr '\n' ' ')
+library="cp $out/uip_c.a out/libuip_c.a"
 wrong=0
 
 # expect MESSAGE COMMANDS: an rt of these commands, which run in the crate's folder with the clang of its kit; the last line of module.sh.
@@ -31,7 +31,7 @@ expect() {
 expect "rt lib failed" 'exit 1'
 expect "habit 1" "$library"
 expect "habit 2" "\"\$clang\" --version; $library"
-expect "habit 2" "for at in 1 2; do cp $out/module.bc out/module.bc; \"\$clang\" $words; done; $library"
-expect "habit 3" "cp $out/module.bc out/module.bc; \"\$clang\" -O1 -fPIC --target=x86_64-unknown-linux-gnu -c -x ir out/module.bc -o out/module.o; $library"
-expect "the verdict" "cp $out/module.bc out/module.bc; \"\$clang\" $words; $library; echo the verdict"
+expect "habit 2" "for at in 1 2; do cp $out/uip_c/module.bc out/module.bc; \"\$clang\" $words; done; $library"
+expect "habit 3" "cp $out/uip_c/module.bc out/module.bc; \"\$clang\" -O1 -fPIC --target=x86_64-unknown-linux-gnu -c -x ir out/module.bc -o out/module.o; $library"
+expect "the verdict" "cp $out/uip_c/module.bc out/module.bc; \"\$clang\" $words; $library; echo the verdict"
 exit $wrong
