@@ -204,9 +204,11 @@ class Boundary:
 
     def export(self, name, result, kinds):
         """port_NAME, which C calls."""
-        parameters, lines = [(kind, f"%a{index}") for index, kind in enumerate(kinds)], []
-        require(all(kind in ("ptr", "i64") for kind in kinds), f"a parameter of {name}")
-        call = f"call {result} @{name}({', '.join(f'{kind} {value}' for kind, value in parameters)})"
+        require(all(kind in ("ptr", "i64", "i32") for kind in kinds), f"a parameter of {name}")
+        given = [(kind, f"%n{index}" if kind == "i32" else f"%a{index}") for index, kind in enumerate(kinds)]
+        parameters = [("i64" if kind == "i32" else kind, f"%a{index}") for index, kind in enumerate(kinds)]
+        lines = [f"%n{index} = trunc i64 %a{index} to i32" for index, kind in enumerate(kinds) if kind == "i32"]
+        call = f"call {result} @{name}({', '.join(f'{kind} {value}' for kind, value in given)})"
         returns, back = "void", "ret void"
         if result in ("void", "ptr"):    # a returned pointer is the address that the caller passed
             lines.append(call)

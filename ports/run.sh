@@ -8,10 +8,14 @@
 #     sh ports/run.sh m4 ether                     builds a firmware on Ethernet, and runs it: Linux's ARP finds it, ping and curl try it (root)
 #     sh ports/run.sh TARGET same [CALLS [SEED]]   makes CALLS random calls of the library for this machine and of this one: every
 #                                                  status, number, byte and call of the heap must be the same
+#     sh ports/run.sh TARGET same-app [CALLS [SEED]]    the same for the library of uip_app.h
 #     sh ports/run.sh TARGET speed                 counts the instructions of a ping and of a small file (not for wasm)
 #     sh ports/run.sh TARGET planted [CALLS]       plants faults in the conversion of the module: each must be found
+#     sh ports/run.sh m4 app                       builds a firmware with an application of its own (uip_app.h), and runs it: four clients of
+#                                                  its console compare each reply (root)
 #     sh ports/run.sh TARGET library               builds the library alone: ports/out/TARGET/libuip_c.a, and with the calls for
 #                                                  Ethernet libuip_c_ether.a
+#     sh ports/run.sh TARGET app-library           builds the library of uip_app.h alone: ports/out/TARGET/libuip_app_c.a
 #     sh ports/run.sh targets                      lists the targets
 #
 # TARGET is m0 (Cortex-M0+), m4, m7, m33, rv32 (rv32imac), rv64 (rv64imac), aarch64-small (compiled for size, beside the library of `rt lib`)
@@ -24,7 +28,7 @@
 #
 # The first run proves the library (module.sh). Needs python3 and the kit of `rt`; for fetch, usage and state qemu-system-arm or
 # qemu-system-misc, `ip` and /dev/net/tun; for same and planted qemu-user and a C compiler for this machine; for wasm node.
-case "$1" in -h|--help|"") sed -n '2,31s/^# \{0,1\}//p' "$0"; exit 0;; esac
+case "$1" in -h|--help|"") sed -n '2,35s/^# \{0,1\}//p' "$0"; exit 0;; esac
 ports=$(cd "$(dirname "$0")" && pwd)
 top=$(cd "$ports/.." && pwd)
 example=$top/examples/board
@@ -41,12 +45,13 @@ fi
 target=$1
 choose_target "$target"
 work=${2:-build}
-case "$work" in build|library|fetch|usage|state|ether|same|speed|planted) ;; *) fail "no work $work; --help lists what there is";; esac
+case "$work" in build|library|app-library|fetch|usage|state|ether|app|same|same-app|speed|planted) ;; *) fail "no work $work; --help lists what there is";; esac
 
 # ---- the module and the tools
 
-if [ ! -f "$out/uip_c.ll" ] || [ -n "$(find "$top/crates" -name '*.rt' -newer "$out/uip_c.ll" | head -1)" ]; then
-    sh "$ports/module.sh" || exit 1
+case "$work" in app|app-library|same-app) crate=uip_app_c;; *) crate=uip_c;; esac
+if [ ! -f "$out/$crate.ll" ] || [ -n "$(find "$top/crates" -name '*.rt' -newer "$out/$crate.ll" | head -1)" ]; then
+    sh "$ports/module.sh" "$crate" || exit 1
 fi
 mkdir -p "$out/tools"
 if [ -z "$toolchain" ]; then
@@ -67,16 +72,19 @@ c_code() {
     clang $words $c_words -ffreestanding -fno-builtin $sections -Wall -Wextra -I"$top/include" -I"$to" -I"$ports/same" \
         -I"$example" -idirafter "$example/fallback" -c "$@" || fail "clang failed"
 }
+# convert MODULE NAME HEADER: writes the converted module, NAME.ll, and the header of its calls.
 # shellcheck disable=SC2086
-library() {
+convert() {
     clang $words -S -emit-llvm -x c /dev/null -o "$to/layout.ll" || fail "clang failed"
+    python3 "${RETARGET:-$ports/retarget.py}" "$1" "$to/layout.ll" "$to/$2.ll" "$to/$3" ${CHECKED:+--checked} || fail "the module was not converted"
+}
+library() {
     module=$out/uip_c.ll
     if [ -z "$VECTORS" ]; then
         python3 "$ports/scalar.py" "$module" "$top/crates" "$to/scalar.ll" || exit 1
         module=$to/scalar.ll
     fi
-    python3 "${RETARGET:-$ports/retarget.py}" "$module" "$to/layout.ll" "$to/module.ll" "$to/calls.h" ${CHECKED:+--checked} \
-        || fail "the module was not converted"
+    convert "$module" module calls.h
     # The calls for Ethernet share functions with uip_open. A firmware without Ethernet has them built in only if its module has no such call.
     sed -E 's/^define ([a-z0-9]+) @port_uip_(open_ether|input_frame|periodic_frame)\(/define internal \1 @port_uip_\2(/' \
         "$to/module.ll" >"$to/serial.ll" || fail "the calls for Ethernet were not removed"
@@ -86,13 +94,19 @@ library() {
     archive module libuip_c_ether.a
     archive serial libuip_c.a
 }
+app_library() {
+    convert "$out/uip_app_c.ll" app_module app_calls.h
+    c_code -Os "$ports/uip_app_calls.c" -o "$to/app_module_calls.o"
+    archive app_module libuip_app_c.a
+}
+# shellcheck disable=SC2086
 archive() {
     clang $words $opt -ffreestanding -fno-builtin $sections -c -x ir "$to/$1.ll" -o "$to/$1.o" || fail "clang failed"
     rm -f "$to/$2"
     llvm-ar rcsD "$to/$2" "$to/$1.o" "$to/$1_calls.o" || fail "llvm-ar failed"
 }
-library
-
+case "$crate" in uip_c) library;; *) app_library;; esac
+[ "$work" != app-library ] || exit 0
 [ "$work" != library ] || [ "$target" = wasm ] || exit 0
 
 # ---- the firmware, or the node of the page
@@ -100,20 +114,28 @@ library
 main=main site=$top/examples/site.img link=serial
 case "$work" in
 state) main=state site=$top/examples/state.img;;
-ether) [ "$target" = m4 ] || fail "the one board with a driver for its Ethernet controller is that of m4"
-    main=ether board=lan9118 link=ether;;
+ether|app) [ "$target" = m4 ] || fail "the one board with a driver for its Ethernet controller is that of m4"
+    main=$work board=lan9118 link=$work;;
 esac
 site=${SITE:-$site}
 firmware() {
-    heap="-DUIP_HEAP_SIZE=UIP_MEMORY($(od -An -j8 -N2 -tu1 "$site" | awk '{ print $1 * 256 + $2 }'))"
-    for file in "$example/ring.c" "$example/runtime.c" "$ports/boards/$board.c" "$example/$main.c"; do
-        c_code -Os "$file" -o "$to/$(basename "$file" .c).o"
+    files=$(od -An -j8 -N2 -tu1 "$site" | awk '{ print $1 * 256 + $2 }')
+    case "$link" in
+    serial) set -- "$example/ring.c"; linked=libuip_c.a heap="UIP_MEMORY($files)";;
+    ether) set --; linked=libuip_c_ether.a heap="UIP_MEMORY_ETHER($files)";;
+    app) set -- "$top/examples/linux-app/console.c" "$top/examples/linux-app/modbus.c"; linked=libuip_app_c.a heap="UIP_APP_MEMORY";;
+    esac
+    set -- "$@" "$example/runtime.c" "$ports/boards/$board.c" "$example/$main.c"
+    for source; do
+        object=$to/$(basename "$source" .c).o
+        c_code -Os "$source" -o "$object"
+        shift
+        set -- "$@" "$object"
     done
-    c_code -Os "$heap" "$top/examples/heap.c" -o "$to/heap.o"
+    c_code -Os -include uip_app.h "-DUIP_HEAP_SIZE=$heap" "$top/examples/heap.c" -o "$to/heap.o"
     c_code -DSITE="\"$site\"" "$example/site.S" -o "$to/site.o"
-    case "$link" in serial) set -- "$to/ring.o"; linked=libuip_c.a;; ether) set --; linked=libuip_c_ether.a;; esac
     set -- -T "$example/link.ld" --defsym "flash_at=$flash" --defsym "ram_at=$ram" --discard-locals --gc-sections \
-        "$to/$board.o" "$@" "$to/$main.o" "$to/heap.o" "$to/site.o" "$to/runtime.o" "$to/$linked"
+        "$@" "$to/heap.o" "$to/site.o" "$to/$linked"
     ld.lld -Map="$to/board.map" -o "$to/board.elf" "$@" && ld.lld --oformat binary -o "$to/board.bin" "$@" || fail "ld.lld failed"
     case "$board" in
     riscv) run=$to/flash.bin; cp "$to/board.bin" "$run" && truncate -s 32M "$run";;    # the size of the board's flash
@@ -128,7 +150,7 @@ browse() {
 }
 
 case "$work" in
-same) same "${3:-1000000}" "${4:-1}"; exit;;
+same|same-app) same "${3:-1000000}" "${4:-1}"; exit;;
 speed) speed; exit;;
 planted) exec python3 "$ports/planted.py" "$target" "${3:-1000000}";;
 esac
@@ -147,5 +169,8 @@ state) browse "$top/examples/state.py" 200;;
 ether)
     usage
     BOARD=$(echo "$machine" | sed "s|{}|$run|") exec sh "$top/examples/linux-ether/run.sh";;
+app)
+    usage
+    BOARD=$(echo "$machine" | sed "s|{}|$run|") exec sh "$top/examples/linux-app/run.sh";;
 esac
 [ "$work" = fetch ] || usage "$to/memory"

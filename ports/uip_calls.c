@@ -1,17 +1,11 @@
-// The calls of uip.h over those of the module (calls.h, which retarget.py writes). There every number has 64 bits, a pointer in a struct
-// takes 8 bytes, and a struct is returned through memory at a multiple of 8. Each call copies C's handle in and out.
-#include "uip.h"
+// The calls of uip.h over those of the module (calls.h, which retarget.py writes). Each call copies C's handle in and out.
 #include "calls.h"
+#include "module_calls.h"
 
-typedef struct { uint32_t is_open, padding; uint64_t at; } module_device;
-typedef struct { uint32_t status, pending; uint64_t consumed, written; } module_result;
 typedef struct { uint32_t status, hit; uint64_t len; } module_text;
-typedef struct { uint64_t ok, block; } module_block;
 
-_Static_assert(sizeof(module_device) == 16 && sizeof(module_result) == 24 && sizeof(module_text) == 16 && sizeof(module_block) == 16,
-               "the structs of the module");
+_Static_assert(sizeof(module_text) == 16, "the structs of the module");
 _Static_assert(sizeof(uip_opened) == 16 && sizeof(uip_number) == 8 && sizeof(uip_row) == 28, "the structs of uip.h");
-_Static_assert(sizeof(void *) == sizeof(size_t), "the numbers of uip.h");
 
 static module_device of_device(const uip_device *device) {
     return (module_device){device->is_open, 0, (uintptr_t)device->at};
@@ -20,10 +14,6 @@ static module_device of_device(const uip_device *device) {
 static void put_device(uip_device *device, const module_device *from) {
     device->is_open = from->is_open;
     device->at = (void *)(uintptr_t)from->at;
-}
-
-static uip_result of_result(const module_result *from) {
-    return (uip_result){from->status, from->pending, (size_t)from->consumed, (size_t)from->written};
 }
 
 static uip_number of_number(uint64_t both) { return (uip_number){(uint32_t)both, (uint32_t)(both >> 32)}; }
@@ -160,13 +150,3 @@ unsigned uip_close(uip_device *device) {
     put_device(device, &d);
     return status;
 }
-
-static void put_block(void *to, uip_block from) { *(module_block *)to = (module_block){from.ok, (uintptr_t)from.block}; }
-
-void port_rattle_alloc(void *to, uint64_t len, uint64_t align) { put_block(to, rattle_alloc((size_t)len, (size_t)align)); }
-
-void port_rattle_realloc(void *to, void *old, uint64_t kept, uint64_t len, uint64_t align) {
-    put_block(to, rattle_realloc(old, (size_t)kept, (size_t)len, (size_t)align));
-}
-
-void port_rattle_dealloc(void *old) { rattle_dealloc(old); }

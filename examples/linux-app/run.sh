@@ -7,8 +7,9 @@
 #
 # It runs in a network namespace of its own. It needs root, /dev/net/tun, `ip` and `unshare`, python3, a C compiler, and the library that
 # `rt lib` builds in crates/uip_app_c. The Modbus part needs python3-pymodbus and python3-serial-asyncio of Debian. What the machine does
-# not have is skipped, with a line. CC names another compiler, LIBRARY another library, LINES the lines of each client (250).
-case "$1" in -h|--help) sed -n '2,10s/^# \{0,1\}//p' "$0"; exit 0;; esac
+# not have is skipped, with a line. CC names another compiler, LIBRARY another library, LINES the lines of each client (250). BOARD holds
+# the words that start qemu with a firmware, which runs in the program's place, without faults.
+case "$1" in -h|--help) sed -n '2,11s/^# \{0,1\}//p' "$0"; exit 0;; esac
 here=$(cd "$(dirname "$0")" && pwd)
 top=$(cd "$here/../.." && pwd)
 library=${LIBRARY:-$top/crates/uip_app_c/out/libuip_app_c.a}
@@ -21,7 +22,12 @@ skip() { echo "skipped: the C program with an application of its own, since ther
 
 # Starts the program, with faults or without.
 start() {
-    "$out/uip_app" tap0 "$@" >"$out/told" & node=$!
+    if [ -n "$BOARD" ]; then
+        # shellcheck disable=SC2086
+        $BOARD -display none -serial null -monitor none -nic tap,ifname=tap0,script=no,downscript=no >"$out/told" & node=$!
+    else
+        "$out/uip_app" tap0 "$@" >"$out/told" & node=$!
+    fi
     for _ in 1 2 3 4 5 6 7 8 9 10; do ip link show tap0 | grep -q LOWER_UP && break; sleep 0.2; done
 }
 
@@ -38,6 +44,10 @@ if [ "$1" = inside ]; then
     start 600
     python3 "$here/lines.py" 4 "$lines" || fail "a reply of the console was wrong"
     [ -z "$python" ] || "$python" "$here/modbus.py" 200 || fail "Modbus failed"
+    if [ -n "$BOARD" ]; then
+        kill -0 $node || fail "the board ended early"
+        exit 0
+    fi
     stop
     echo "with faults:"
     start 600 12 1
@@ -51,16 +61,18 @@ fi
 # ---- outside of it
 
 cc=${CC:-cc}
-command -v "$cc" >/dev/null || skip "C compiler $cc"
+[ -n "$BOARD" ] || command -v "$cc" >/dev/null || skip "C compiler $cc"
+[ -z "$BOARD" ] || command -v "${BOARD%% *}" >/dev/null || skip "command ${BOARD%% *}"
 [ "$(id -u)" = 0 ] || skip "right to make an interface: run it as root"
 [ -c /dev/net/tun ] || skip "/dev/net/tun"
 for program in ip unshare python3; do command -v $program >/dev/null || skip "command $program"; done
 unshare -n true 2>/dev/null || skip "right to make a network namespace"
-if [ -z "$LIBRARY" ] && { [ ! -f "$library" ] || [ -n "$(find "$top/crates" -name '*.rt' -newer "$library" | head -1)" ]; }; then
+if [ -z "$LIBRARY$BOARD" ] && { [ ! -f "$library" ] || [ -n "$(find "$top/crates" -name '*.rt' -newer "$library" | head -1)" ]; }; then
     command -v rt >/dev/null || fail "no library of these sources at $library, and no command rt to build it"
     (cd "$top/crates/uip_app_c" && rt lib) >/dev/null || fail "rt lib failed in crates/uip_app_c"
 fi
 mkdir -p "$out"
+[ -z "$BOARD" ] || exec unshare -n sh "$0" inside
 "$cc" -O2 -Wall -Wextra -I"$top/include" "$here/app.c" "$here/console.c" "$here/modbus.c" "$top/examples/linux-c/heap.c" "$library" \
     -o "$out/uip_app" || fail "app.c was not built"
 exec unshare -n sh "$0" inside

@@ -1,64 +1,6 @@
 // Linked into the fuzzer by --wrap: writes each call of the library and its result to descriptor 3, for replay.c.
-#include <stdio.h>
-#include <stdlib.h>
-#include <string.h>
 #include "fuzz.h"
-#include "stream.h"
-
-enum { BLOCKS = 64 };
-static const uip_device *devices[DEVICES];
-static struct { void *at; uint64_t number; } blocks[BLOCKS];
-static uint64_t heap, allocated;
-static FILE *to;
-
-static _Noreturn void stop(const char *why) {
-    fprintf(stderr, "record: %s\n", why);
-    exit(3);
-}
-
-static uint64_t index_of(const uip_device *device) {
-    for (unsigned k = 0; k < DEVICES; k++) {
-        if (!devices[k]) devices[k] = device;
-        if (devices[k] == device) return k;
-    }
-    stop("too many devices");
-}
-
-static void put(const record *r, const void *before, size_t before_len, const void *in, const void *out) {
-    if (!to) to = fdopen(3, "wb");
-    if (!to) stop("no descriptor 3");
-    fwrite(r, sizeof *r, 1, to);
-    fwrite(before, before_len, 1, to);
-    fwrite(in, r->in_len - before_len, 1, to);
-    if (fwrite(out, 1, r->out_len, to) != r->out_len) exit(3);
-}
-
-// ---- the heap
-
-uip_block __real_rattle_alloc(size_t len, size_t align);
-uip_block __wrap_rattle_alloc(size_t len, size_t align) {
-    uip_block b = __real_rattle_alloc(len, align);
-    heap = mixed(mixed(mixed(heap, len), align), b.ok);
-    if (!b.ok) return b;
-    for (unsigned k = 0; k < BLOCKS; k++) {
-        if (blocks[k].at) continue;
-        blocks[k].at = b.block;
-        blocks[k].number = ++allocated;
-        return b;
-    }
-    stop("too many blocks");
-}
-
-void __real_rattle_dealloc(void *block);
-void __wrap_rattle_dealloc(void *block) {
-    for (unsigned k = 0; k < BLOCKS; k++) {
-        if (blocks[k].at != block) continue;
-        heap = mixed(heap, blocks[k].number);
-        blocks[k].at = 0;
-        break;
-    }
-    __real_rattle_dealloc(block);
-}
+#include "record.h"
 
 // ---- the sites: every third one begins with a file so long that the other files start beyond 64 kB
 
@@ -84,36 +26,6 @@ void __wrap_make_site(site *s, const calls_of *has) {
 }
 
 // ---- the calls
-
-// 2^32 - 1 replaces every number that 32 bits cannot hold: both are too large for the call.
-static uint64_t fitted(size_t number) { return number > 0xffffffff ? 0xffffffff : number; }
-
-static record begun(uint64_t op, const uip_device *device, size_t number, size_t in_len, const unsigned char *out, size_t room) {
-    if (in_len > MOST_INPUT - 4 || room > MOST_ROOM) stop("too long");
-    return (record){.op = op, .device = index_of(device), .number = fitted(number), .in_len = in_len, .room = room,
-                    .fill = room ? out[0] : 0, .refuses = heap_refuses};
-}
-
-static uip_result ended(record *r, uip_result result, const void *in, const unsigned char *out) {
-    size_t least = r->room < COMPARED ? r->room : COMPARED;
-    r->status = result.status;
-    r->pending = result.pending;
-    r->consumed = result.consumed;
-    r->written = result.written;
-    r->heap = heap;
-    r->out_len = result.written > least ? result.written : least;
-    put(r, 0, 0, in, out);
-    return result;
-}
-
-// A call that returns numbers; they are recorded as a status and `pending`.
-static void returned(record *r, unsigned status, uint64_t number, const void *in, const void *out, size_t out_len) {
-    r->status = status;
-    r->pending = number;
-    r->heap = heap;
-    r->out_len = out_len;
-    put(r, 0, 0, in, out);
-}
 
 uip_opened __real_uip_open(uip_device *d, const unsigned char *image, size_t len, const unsigned char own[4]);
 uip_opened __wrap_uip_open(uip_device *d, const unsigned char *image, size_t len, const unsigned char own[4]) {

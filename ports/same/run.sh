@@ -1,25 +1,39 @@
 # shellcheck shell=sh disable=SC2154,SC2086
 # The same calls, for run.sh: the fuzzer runs on this machine with the library of the proof run, record.c writes each of its calls and
-# results to a pipe, and replay.c makes them again on the target.
+# results to a pipe, and replay.c makes them again on the target. record_app.c and replay_app.c are those of uip_app.h.
 RECORDED="open open_ether feed periodic drain input periodic_datagram input_frame periodic_frame ticks counter is_idle connection set_value hits query close"
+RECORDED_APP="open input_frame periodic_frame read write close"
 
 recorder() {
-    if [ -x "$out/record" ] && [ -z "$(find "$ports/same" "$top/fuzz" "$top/include" "$out/host.a" -name '*.[ach]' -newer "$out/record")" ]; then
+    record=$out/record-$crate
+    if [ -x "$record" ] && [ -z "$(find "$ports/same" "$top/fuzz" "$top/include" "$out/$crate.a" -name '*.[ach]' -newer "$record")" ]; then
         return
     fi
-    wraps=$(for call in $RECORDED; do printf ' -Wl,--wrap=uip_%s' "$call"; done)
+    case "$crate" in
+    uip_c)
+        wraps="$(for call in $RECORDED; do printf ' -Wl,--wrap=uip_%s' "$call"; done) -Wl,--wrap=make_site"
+        set -- "$top"/fuzz/*.c "$ports/same/record.c";;
+    uip_app_c)
+        wraps=$(for call in $RECORDED_APP; do printf ' -Wl,--wrap=uip_app_%s' "$call"; done)
+        set -- "$top"/fuzz/app/*.c "$ports/same/record_app.c"
+        for part in random report areas heap wire link arp model; do set -- "$@" "$top/fuzz/$part.c"; done;;
+    esac
     "${CC:-cc}" -std=gnu11 -O2 -I"$top/include" -I"$ports/same" -I"$top/fuzz" $wraps -Wl,--wrap=rattle_alloc -Wl,--wrap=rattle_dealloc \
-        -Wl,--wrap=make_site "$top"/fuzz/*.c "$ports/same/record.c" "$out/host.a" -o "$out/record" || fail "the recorder was not built"
+        "$@" "$out/$crate.a" -o "$record" || fail "the recorder was not built"
 }
 
 replayer() {
-    c_code -O2 "$ports/same/replay.c" -o "$to/replay.o"
+    case "$crate" in
+    uip_c) source=replay module=module;;
+    uip_app_c) source=replay_app module=app_module;;
+    esac
+    c_code -O2 "$ports/same/$source.c" -o "$to/$source.o"
     c_code -O2 "$example/runtime.c" -o "$to/replay_runtime.o"
-    set -- "$to/replay.o" "$to/replay_runtime.o" "$to/module.o" "$to/module_calls.o"
+    set -- "$to/$source.o" "$to/replay_runtime.o" "$to/$module.o" "$to/${module}_calls.o"
     case "$target" in
-    wasm) replay=$to/replay.wasm
+    wasm) replay=$to/$source.wasm
         wasm_link --export=main --allow-undefined --initial-memory=67108864 "$@" -o "$replay";;
-    *) replay=$to/replay
+    *) replay=$to/$source
         ld.lld -e _start "$@" -o "$replay" || fail "ld.lld failed";;
     esac
 }
@@ -34,19 +48,20 @@ speed() {
     python3 "$ports/speed.py" "$user" "$to/speed"
 }
 
-# same CALLS SEED: once with both kinds of link on devices of their own, once mixed on one device.
+# same CALLS SEED: once with both kinds of link on devices of their own, once mixed on one device; of uip_app.h, which has one kind, once.
 same() {
     command -v "${user%% *}" >/dev/null || fail "no ${user%% *} here: it is in the package $package"
     recorder
     replayer
     status=0
     for kind in "" mixed; do
-        { "$out/record" 1000000 "$1" "$2" $kind 3>&1 >"$to/record.txt"; } | $user "$replay" 2>"$to/replay.txt"
+        { "$record" 1000000 "$1" "$2" $kind 3>&1 >"$to/record.txt"; } | $user "$replay" 2>"$to/replay.txt"
         now=$?
         [ $now = 0 ] || status=1
         grep -q "^seed" "$to/record.txt" || status=1
         head -1 "$to/record.txt"
         if [ -s "$to/replay.txt" ]; then head -3 "$to/replay.txt"; else echo "the replay ended with $now"; fi
+        [ "$crate" = uip_c ] || break
     done
     return $status
 }

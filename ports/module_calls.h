@@ -1,0 +1,31 @@
+// What uip_calls.c and uip_app_calls.c share. In a module every number has 64 bits, a pointer in a struct takes 8 bytes, and a struct is
+// returned through memory at a multiple of 8. The including file has included the header that retarget.py writes.
+#ifndef MODULE_CALLS_H
+#define MODULE_CALLS_H
+
+#include "uip.h"
+
+typedef struct { uint32_t is_open, padding; uint64_t at; } module_device;
+typedef struct { uint32_t status, pending; uint64_t consumed, written; } module_result;
+typedef struct { uint64_t ok, block; } module_block;
+
+_Static_assert(sizeof(module_device) == 16 && sizeof(module_result) == 24 && sizeof(module_block) == 16, "the structs of the module");
+_Static_assert(sizeof(void *) == sizeof(size_t), "the numbers of uip.h");
+
+static uip_result of_result(const module_result *from) {
+    return (uip_result){from->status, from->pending, (size_t)from->consumed, (size_t)from->written};
+}
+
+// ---- the heap, which the module calls
+
+static void put_block(void *to, uip_block from) { *(module_block *)to = (module_block){from.ok, (uintptr_t)from.block}; }
+
+void port_rattle_alloc(void *to, uint64_t len, uint64_t align) { put_block(to, rattle_alloc((size_t)len, (size_t)align)); }
+
+void port_rattle_realloc(void *to, void *old, uint64_t kept, uint64_t len, uint64_t align) {
+    put_block(to, rattle_realloc(old, (size_t)kept, (size_t)len, (size_t)align));
+}
+
+void port_rattle_dealloc(void *old) { rattle_dealloc(old); }
+
+#endif

@@ -1,0 +1,62 @@
+// As record.c for the harness of uip_app.h, for replay_app.c.
+#include "app/app.h"
+#include "record.h"
+
+unsigned __real_uip_app_open(uip_app *d, const unsigned char own[4], const unsigned char mac[6], const unsigned char mask[4],
+                             const unsigned char router[4]);
+unsigned __wrap_uip_app_open(uip_app *d, const unsigned char own[4], const unsigned char mac[6], const unsigned char mask[4],
+                             const unsigned char router[4]) {
+    unsigned char addresses[18];
+    record r = begun(APP_OPEN, d, 0, sizeof addresses, 0, 0);
+    memcpy(addresses, own, 4), memcpy(addresses + 4, mac, 6), memcpy(addresses + 10, mask, 4), memcpy(addresses + 14, router, 4);
+    unsigned status = __real_uip_app_open(d, own, mac, mask, router);
+    returned(&r, status, 0, addresses, 0, 0);
+    return status;
+}
+
+// The frame lies at the start of `frame`, and what comes after it was filled.
+uip_result __real_uip_app_input_frame(uip_app *d, unsigned char *frame, size_t room, size_t len);
+uip_result __wrap_uip_app_input_frame(uip_app *d, unsigned char *frame, size_t room, size_t len) {
+    static unsigned char given[MOST_ROOM];
+    size_t part = len < room ? len : room;
+    record r = begun(APP_INPUT_FRAME, d, len, part, part < room ? frame + part : frame, room);
+    memcpy(given, frame, part);
+    return ended(&r, __real_uip_app_input_frame(d, frame, room, len), given, frame);
+}
+
+uip_result __real_uip_app_periodic_frame(uip_app *d, size_t slot, unsigned char *frame, size_t room);
+uip_result __wrap_uip_app_periodic_frame(uip_app *d, size_t slot, unsigned char *frame, size_t room) {
+    record r = begun(APP_PERIODIC_FRAME, d, slot, 0, frame, room);
+    return ended(&r, __real_uip_app_periodic_frame(d, slot, frame, room), 0, frame);
+}
+
+// The result is recorded as that of a call that writes: `ready`, `port` and `len` in the place of `pending`, `consumed` and `written`.
+uip_received __real_uip_app_read(uip_app *d, size_t slot, void *bytes, size_t room);
+uip_received __wrap_uip_app_read(uip_app *d, size_t slot, void *bytes, size_t room) {
+    record r = begun(APP_READ, d, slot, 0, bytes, room);
+    uip_received it = __real_uip_app_read(d, slot, bytes, room);
+    r.consumed = it.port;
+    r.written = it.len;
+    returned(&r, it.status, it.ready, 0, bytes, room < COMPARED ? room : COMPARED);
+    return it;
+}
+
+// Two numbers precede the text.
+uip_result __real_uip_app_write(uip_app *d, size_t slot, size_t taken, const void *text, size_t len, unsigned last, unsigned char *frame,
+                                size_t room);
+uip_result __wrap_uip_app_write(uip_app *d, size_t slot, size_t taken, const void *text, size_t len, unsigned last, unsigned char *frame,
+                                size_t room) {
+    uint64_t numbers[2] = {fitted(taken), last};
+    record r = begun(APP_WRITE, d, slot, len, frame, room);
+    uip_result result = __real_uip_app_write(d, slot, taken, text, len, last, frame, room);
+    r.in_len = len + sizeof numbers;
+    return ended_after(&r, numbers, sizeof numbers, result, text, frame);
+}
+
+unsigned __real_uip_app_close(uip_app *d);
+unsigned __wrap_uip_app_close(uip_app *d) {
+    record r = begun(APP_CLOSE, d, 0, 0, 0, 0);
+    unsigned status = __real_uip_app_close(d);
+    returned(&r, status, 0, 0, 0, 0);
+    return status;
+}
