@@ -34,12 +34,17 @@ libraries() {
         sh ports/run.sh "$target" library || fail "no library for $target"
         put "lib/$target" "ports/out/$target/libuip_c.a"
         put "lib/$target" "ports/out/$target/libuip_c_ether.a"
+        [ "$target" != wasm ] || continue
+        sh ports/run.sh "$target" app-library || fail "no library with an application of its own for $target"
+        put "lib/$target" "ports/out/$target/libuip_app_c.a"
     done
     sh examples/board/run.sh build >/dev/null || fail "no library for aarch64"
     put lib/aarch64 examples/board/out/libuip_c.a
-    put lib/x86_64 ports/out/host.a
-    mv "$made/lib/x86_64/host.a" "$made/lib/x86_64/libuip_c.a"
-    put include include/uip.h
+    for library in uip_c uip_app_c; do
+        put lib/x86_64 "ports/out/$library.a"
+        mv "$made/lib/x86_64/$library.a" "$made/lib/x86_64/lib$library.a"
+    done
+    put include include/uip.h include/uip_app.h
     put lib/cmake/uip_c uip_c-config.cmake
     mkdir -p "$made/lib/pkgconfig"
     # shellcheck disable=SC2016
@@ -65,9 +70,10 @@ examples() {
     put examples examples/browse.py
     put tools tools/pack.py
     put examples/site examples/site/*
-    put examples/common examples/board/main.c examples/board/state.c examples/board/ether.c examples/board/board.h examples/board/ring.h \
-        examples/board/ring.c examples/board/runtime.c examples/board/site.S examples/board/link.ld examples/heap.c examples/step.c \
-        ports/boards/start.h
+    put examples/common examples/board/main.c examples/board/state.c examples/board/ether.c examples/board/app.c examples/board/board.h \
+        examples/board/ring.h examples/board/ring.c examples/board/runtime.c examples/board/site.S examples/board/link.ld examples/heap.c \
+        examples/step.c examples/linux-app/console.c examples/linux-app/modbus.c ports/boards/start.h
+    put examples/common/fallback examples/board/fallback/string.h
     put examples/m4 ports/archive/m4/Makefile ports/boards/mps2.c ports/boards/lan9118.c ports/boards/cortex_m.h
     put examples/rv32 ports/archive/rv32/Makefile ports/boards/riscv.c
     put examples/linux ports/archive/linux/Makefile examples/linux-c/serve.c examples/linux-c/heap.c examples/linux-ether/tap.c

@@ -48,9 +48,17 @@ frame_calls() {
         [ "$(calls "$folder/libuip_c.a")" = "$plain" ] && [ "$(calls "$ether")" = 3 ] || return 1
     done
 }
+# libuip_app_c.a has the calls of uip_app.h, and none of uip.h.
+app_calls() {
+    for library in lib/*/libuip_app_c.a; do
+        echo "$library"
+        [ "$("${NM:-nm}" "$library" 2>/dev/null | grep -cE ' T uip_app_(open|input_frame|periodic_frame|read|write|close)$')" = 6 ] || return 1
+        [ "$("${NM:-nm}" "$library" 2>/dev/null | grep -cE ' T uip_')" = 6 ] || return 1
+    done
+}
 try "each file has its SHA-256" sha256sum --quiet -c SHA256SUMS
 try "README.md names libuip_c_ether.a" grep -q 'libuip_c_ether\.a' README.md
-has "${NM:-nm}" "the calls for frames" && try "the calls for frames" frame_calls
+has "${NM:-nm}" "the calls for frames" && try "the calls for frames" frame_calls && try "the calls of uip_app.h" app_calls
 has cc "pack.py" && try "pack.py packs the site as an array of C" sh -c 'python3 tools/pack.py examples/site site.c && cc -Wall -Werror -Wno-unused-const-variable -c site.c'
 
 # ---- the firmware
@@ -69,8 +77,11 @@ fetches() {
     has "${machine%% *}" "$what: every file" || return
     try "$what: every file" python3 "$top/examples/browse.py" --board "examples/$example/$image" --machine "$machine" -- \
         python3 "$top/examples/fetch.py" examples/site
-    [ "$example" = rv32 ] || try "$what: every file on Ethernet, by ARP" \
-        env BOARD="qemu-system-arm -M mps2-an386 -kernel $PWD/examples/$example/ether.elf" SECONDS_UP=10 sh "$top/examples/linux-ether/run.sh"
+    [ "$example" = m4 ] || return
+    try "$what: every file on Ethernet, by ARP" \
+        env BOARD="qemu-system-arm -M mps2-an386 -kernel $PWD/examples/m4/ether.elf" SECONDS_UP=10 sh "$top/examples/linux-ether/run.sh"
+    try "$what: the console and Modbus of an application of its own" \
+        env BOARD="qemu-system-arm -M mps2-an386 -kernel $PWD/examples/m4/app.elf" LINES=50 sh "$top/examples/linux-app/run.sh"
 }
 has arm-none-eabi-gcc "m4 by gcc" && fetches m4 arm-none-eabi-gcc
 has riscv64-unknown-elf-gcc "rv32 by gcc" && fetches rv32 riscv64-unknown-elf-gcc
