@@ -37,14 +37,14 @@ pending_is c a represents =
 
 open_live : (s : State) → is_open_state s ≡ true → is_live s ≡ true
 open_live Closed e = absurd (false≢true e)
-open_live SynRcvd e = absurd (false≢true e)
+open_live SynRcvd e = refl
 open_live Established e = refl
 open_live CloseWait e = refl
-open_live FinWait1 e = absurd (false≢true e)
-open_live FinWait2 e = absurd (false≢true e)
-open_live Closing e = absurd (false≢true e)
-open_live TimeWait e = absurd (false≢true e)
-open_live LastAck e = absurd (false≢true e)
+open_live FinWait1 e = refl
+open_live FinWait2 e = refl
+open_live Closing e = refl
+open_live TimeWait e = refl
+open_live LastAck e = refl
 
 pub established_is : (s : State) → is_established s ≡ true → s ≡ Established
 established_is Closed e = absurd (false≢true e)
