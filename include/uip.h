@@ -564,10 +564,10 @@ UIP_INLINE unsigned uip_tick_datagrams(uip_device *device, unsigned char *out, s
  *         return (int)status;
  *     }
  *
- * The includes, the heap (of UIP_MEMORY_ETHER(SITE_IMAGE_FILES) bytes), half_a_second_passed and work are as above.
- * No output is ever pending. uip_ticks, uip_counter, uip_is_idle, uip_connection, uip_set_value, uip_hits, uip_query
- * and uip_close serve this device too. The calls for a serial line and for datagrams return UIP_WRONG_LINK. On a device of uip_open
- * the calls for frames return it.
+ * The includes, the heap (of UIP_MEMORY_ETHER(SITE_IMAGE_FILES) bytes), half_a_second_passed and work are as above. No
+ * output is ever pending. uip_ticks, uip_counter, uip_is_idle, uip_connection, uip_set_value, uip_hits, uip_query and
+ * uip_close serve this device too. The calls for a serial line and for datagrams return UIP_WRONG_LINK. On a device of
+ * uip_open the calls for frames return it.
  *
  * ARP has eight entries. A ninth address replaces the one that was learned longest ago. An entry is forgotten 2,400
  * ticks after its address was last learned. docs/LIMITS.md has the rest.
