@@ -6,14 +6,15 @@
  * SPDX-License-Identifier: MIT OR Apache-2.0
  * Copyright 2026 The Lowunbisa authors. LICENSE also covers the run-time library that is linked into each binary.
  *
- * THIS IS NOT THE uip.h OF uIP 1.0, although the names begin alike. Never include both in one translation unit: macros
- * of uIP would replace these calls.
+ * THIS IS NOT THE uip.h OF uIP 1.0 or Contiki, whose file and many of whose names are the same. Keep their folders off
+ * the include path of each file that includes this one: macros of uIP would replace these calls.
  *
  * Read docs/LIMITS.md first. There is no authentication, no encryption and no DHCP; sequence numbers are predictable,
  * and ten SYNs that are never acknowledged occupy all ten slots for 51 s. What a browser can send your program is how
  * often each file was requested (uip_hits) and the last query, of up to 64 bytes (uip_query). There is no POST.
  *
- * CHOOSE ONE ROW, and link its library from a release (the package that release.sh makes):
+ * CHOOSE ONE ROW, and link its library from a release, the package that release.sh makes (in a source tree run it
+ * first):
  *
  *     link         open             what arrives      twice a second       library
  *     serial       uip_open         uip_feed_all      uip_tick_all         libuip_c.a
@@ -22,17 +23,20 @@
  *                                                                          else libuip_c.a
  *
  *     python3 tools/pack.py FOLDER site.c          # the site, as a constant array
- *     arm-none-eabi-gcc -mcpu=cortex-m4 -mthumb -mfloat-abi=soft -Os main.c lib/m4/libuip_c.a -lc -lgcc
- *                                                  # plus your drivers, startup code and linker script
+ *     arm-none-eabi-gcc -mcpu=cortex-m4 -mthumb -mfloat-abi=soft -Os -nostartfiles -Iinclude -Iexamples/common \
+ *         -T board.ld startup.c drivers.c main.c lib/m4/libuip_c.a -lc -lgcc
  *
+ * startup.c, drivers.c, main.c and board.ld are yours. Do not also compile site.c and heap.c: main.c includes them. On
+ * Cortex-M and RISC-V libuip_c_ether.a has all calls, and libuip_c.a those without frames: link one of them.
  * The folders of lib/ are in "TARGETS". The library needs memcpy, memmove and memset, and on 32 bits libgcc or
  * compiler-rt. The Cortex-M libraries are soft-float. They link with -mfloat-abi=soft and -mfloat-abi=softfp, which
  * uses the FPU; for -mfloat-abi=hard see docs/FIRMWARE.md.
  *
- * RAM for a site of six files on a Cortex-M4: heap 5,728 bytes (Ethernet: 4,304), stack 2,048 (Ethernet: 4,496), and on
- * a serial line a ring for received bytes. Begin with a ring of 512 bytes, which was enough for two clients at 19,200
- * bits a second on an emulated board. An overflow damages a frame, and TCP sends it again; that a page arrives is then
- * not proved. To exclude overflow see "TIME". README.md has the flash.
+ * RAM for a site of six files on a Cortex-M4: heap 5,728 bytes (Ethernet: 4,304), stack 2,048 (Ethernet: 4,496, nearly
+ * all for uip_open_ether) plus your interrupts, and on a serial line a ring for received bytes. Begin with a ring of
+ * 512 bytes, which was enough for two clients at 19,200 bits a second on an emulated board. If the ring overflows, a
+ * frame is lost, and TCP sends it again: only the proof that a page arrives assumes that no byte is lost. To exclude
+ * overflow see "TIME". README.md has the flash.
  *
  * WORDS
  *   site     a folder of files, and image: the array that tools/pack.py makes of it
@@ -46,8 +50,8 @@
  * In short: begin with UIP_INIT; never change the image, nor memory that the heap gave out; one call at a time, none in
  * an interrupt; drain before you feed; tick twice a second.
  *
- * A whole program for a serial line. You supply the first four functions. Paths are those of the repository: a release
- * has heap.c in examples/common.
+ * A whole program for a serial line. You supply the first four functions. heap.c is in examples/common of a release,
+ * and in examples of the repository.
  *
  *     #include "uip.h"
  *     #include "site.c"                                // site_image, SITE_IMAGE_LEN, SITE_IMAGE_FILES: tools/pack.py
@@ -129,8 +133,8 @@
  *      lock it. If other tasks cannot wait that long, use uip_feed and uip_drain, and write between them with the mutex
  *      free.
  *   Pointers
- *   4. No pointer argument is null, also not a function pointer or a pointer to an empty area (pass ""). The only
- *      exception is `to` of the inline functions. Each input is readable over its
+ *   4. No pointer argument is null, also not a function pointer or a pointer to an area of length 0
+ *      (pass any valid address). The only exception is `to` of the inline functions. Each input is readable over its
  *      whole length (`own`, `mask` and `router` 4 bytes, `mac` 6). `out`, and `frame` beyond `len`, need not be
  *      initialised. Areas of bytes may have any alignment.
  *   5. `out`, and `frame` of the calls for frames, may be written over the whole of `room`. It shares no byte with the
@@ -430,8 +434,8 @@ UIP_INLINE unsigned uip_drain_all(uip_device *device, uip_result done, unsigned 
  *   out, room     an area for the pieces of the output; `room` is UIP_MIN_OUT or more, and more means longer pieces
  *   sink, to      called with each piece, and with `to`, which may be null; it may wait
  *
- * Status: UIP_OK, UIP_BAD_ARGUMENT, UIP_NO_DEVICE, UIP_WRONG_LINK, UIP_OUTPUT_PENDING. If it is not UIP_OK and the
- * rules hold, nothing was fed, and the sink was not called.
+ * Status: UIP_OK, UIP_BAD_ARGUMENT, UIP_NO_DEVICE, UIP_WRONG_LINK, UIP_OUTPUT_PENDING. If it is not UIP_OK, nothing was
+ * fed, and the sink was not called.
  */
 UIP_INLINE unsigned uip_feed_all(uip_device *device, const unsigned char *bytes, size_t len,
                                  unsigned char *out, size_t room, uip_sink sink, void *to) {
@@ -450,7 +454,7 @@ UIP_INLINE unsigned uip_feed_all(uip_device *device, const unsigned char *bytes,
  *
  *   out, room, sink, to    as for uip_feed_all
  *
- * Status: as of uip_feed_all. If it is not UIP_OK and the rules hold, no slot was called, and the sink was not called.
+ * Status: as of uip_feed_all. If it is not UIP_OK, no slot was called, and the sink was not called.
  */
 UIP_INLINE unsigned uip_tick_all(uip_device *device, unsigned char *out, size_t room, uip_sink sink, void *to) {
     uip_result done = {UIP_OK, 0, 0, 0};
@@ -467,8 +471,8 @@ UIP_INLINE unsigned uip_tick_all(uip_device *device, unsigned char *out, size_t 
 /*
  * Receives one datagram from a link that carries datagrams, and writes the datagram of the reply, if there is one.
  *
- *   datagram, len    the datagram, from the first byte of its IP header; `len` is 1 to UIP_MAX_DATAGRAM. Discard any
- *                    other before the call: it returns UIP_BAD_ARGUMENT, and a loop that ends at an error would end
+ *   datagram, len    the datagram, from the first byte of its IP header; `len` is 1 to UIP_MAX_DATAGRAM. Any other
+ *                    gives UIP_BAD_ARGUMENT: discard it before the call, or the loop below ends
  *   out, room        where the reply goes, not over `datagram`; `room` is UIP_MAX_DATAGRAM or more
  *
  * Result: `consumed` is `len`; `written` is the length of the reply; `pending` is 0.
@@ -574,7 +578,8 @@ UIP_INLINE unsigned uip_tick_datagrams(uip_device *device, unsigned char *out, s
  */
 
 /*
- * Opens a device on Ethernet with a site, as uip_open does. No address is learned yet.
+ * Opens a device on Ethernet with a site, as uip_open does. No address is learned yet. Needs 4,392 bytes of stack on a
+ * Cortex-M4, over twice what a serial line needs; the heap is UIP_MEMORY_ETHER(files).
  *
  *   device        a closed device (at first UIP_INIT)
  *   image, len    as for uip_open
@@ -650,7 +655,7 @@ uip_number uip_counter(uip_device *device, size_t number);
  * UIP_NO_DEVICE.
  *
  * It may be 1 while output is pending: drain first. After a page it stays 0 for 60 s (TIME_WAIT), unless the peer
- * closed first. For the ticks of a sleep see uip_periodic.
+ * closed first. After a sleep make one tick, and not all that were missed.
  */
 uip_number uip_is_idle(uip_device *device);
 
@@ -725,14 +730,23 @@ uip_number uip_hits(uip_device *device, const void *name, size_t len);
 
 /*
  * Copies the query that the device keeps for a file: the text after the `?` of a request, "lamp=on" of
- * GET /set.html?lamp=on. With it a form of HTML (method GET) sets something. docs/FIRMWARE.md has an example.
+ * GET /set.html?lamp=on. With it a form of HTML (method GET) sets something; docs/FIRMWARE.md has the form.
+ *
+ *     static unsigned seen;                            // set to 0 when you open again
+ *     char text[UIP_MAX_QUERY];
+ *     uip_query_text query = uip_query(&device, UIP_TEXT("/set.html"), text, sizeof text);
+ *     if (query.hit != seen) {
+ *         seen = query.hit;
+ *         if (query.len == 7 && !memcmp(text, "lamp=on", 7)) switch_lamp(1);      // check it: anyone can send it
+ *     }
  *
  *   name, len    the name of the file as the image has it, "/set.html", without a 0 at its end
  *   out          where the text is copied to, without a 0 at its end; the bytes after it stay
  *   room         the size of `out`, UIP_MAX_QUERY or more
  *
  * `len` of the result is the length of the text. `hit` is what uip_hits returned right after the request that brought
- * it: another number is another request. Both are 0 if no query is kept for that file, or no file has that name.
+ * it: if it differs from last time, the text is new. Both are 0 if no query is kept for that file, or no file has that
+ * name.
  *
  * The device keeps one query: that of the last request of a file that brought one, whichever file it is. So call this
  * after each call that receives, or set things through one file only. A request brings a query if its text has at most
@@ -742,7 +756,7 @@ uip_number uip_hits(uip_device *device, const void *name, size_t len);
  *
  * Status: UIP_OK, UIP_BAD_ARGUMENT, UIP_NO_DEVICE.
  */
-uip_query_text uip_query(uip_device *device, const void *name, size_t len, unsigned char *out, size_t room);
+uip_query_text uip_query(uip_device *device, const void *name, size_t len, void *out, size_t room);
 
 /* ---- CLOSE */
 
@@ -764,7 +778,7 @@ unsigned uip_close(uip_device *device);
  *                     language of the library, have no null, so that is undefined. examples/linux-c/heap.c does it
  *                     over malloc.
  *   rattle_realloc    returns a block as rattle_alloc does, copies the first `kept` bytes of the old block into it, and
- *                     frees the old one. The linker may need it, and nothing calls it: it may always fail
+ *                     frees the old one. Define it for the linker alone: nothing calls it. It may always fail
  *                     (`ok` 0, any address but null, the old block stays).
  *   rattle_dealloc    frees a block.
  *

@@ -136,7 +136,7 @@ uip_number uip_hits(uip_device *device, const void *name, size_t len) {
     return of_number(both);
 }
 
-uip_query_text uip_query(uip_device *device, const void *name, size_t len, unsigned char *out, size_t room) {
+uip_query_text uip_query(uip_device *device, const void *name, size_t len, void *out, size_t room) {
     module_device d = of_device(device);
     module_text text;
     port_uip_query(&text, &d, (void *)name, len, out, room);
