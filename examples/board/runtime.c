@@ -89,6 +89,25 @@ __attribute__((naked)) void __aeabi_uldivmod(void) {
                      "bl divide\n ldr r0, [sp, #8]\n ldr r1, [sp, #12]\n ldr r2, [sp, #16]\n ldr r3, [sp, #20]\n add sp, #24\n pop {r4, pc}");
 }
 
+#ifndef __ARM_FEATURE_IDIV
+// For a Cortex-M0+, bit by bit: the quotient in r0, the remainder in r1.
+uint64_t __aeabi_uidivmod(uint32_t a, uint32_t b) {
+    uint32_t quotient = 0, remainder = 0;
+    for (int bit = 0; bit < 32; bit++, a <<= 1) {
+        int is_larger = (int)(remainder >> 31);
+        remainder = remainder << 1 | a >> 31;
+        quotient <<= 1;
+        if (is_larger || remainder >= b) {
+            remainder -= b;
+            quotient |= 1;
+        }
+    }
+    return (uint64_t)remainder << 32 | quotient;
+}
+
+uint32_t __aeabi_uidiv(uint32_t a, uint32_t b) { return (uint32_t)__aeabi_uidivmod(a, b); }
+#endif
+
 uint64_t __aeabi_lmul(uint64_t a, uint64_t b) {    // for a Cortex-M0+: products of 16-bit parts
     uint32_t low = (uint32_t)a, high = (uint32_t)(a >> 32), other = (uint32_t)b;
     uint64_t middle = (uint64_t)((low >> 16) * (other & 0xffff)) + (low & 0xffff) * (other >> 16);
