@@ -36,7 +36,7 @@ class Frame:
     def __init__(self):
         self.size, self.constants = 0, {}    # constants: the known contents of registers
 
-    def note_constant(self, words):
+    def note_constant(self, words, literal):
         if found := re.fullmatch(r"(?:c\.)?lui\t(\w+), (0x[0-9a-f]+|\d+)", words):
             upper = int(found[2], 0)
             self.constants[found[1]] = (upper - (upper >> 19 << 20)) << 12
@@ -44,6 +44,10 @@ class Frame:
             self.constants[found[1]] = self.constants.get(found[2], 0) + int(found[3], 0)
         elif found := re.fullmatch(r"(?:c\.)?li\t(\w+), (-?(?:0x[0-9a-f]+|\d+))", words):
             self.constants[found[1]] = int(found[2], 0)
+        elif found := re.fullmatch(r"ldr\t(\w+), \[pc, #\w+\]", words):
+            self.constants.pop(found[1], None)
+            if literal is not None:
+                self.constants[found[1]] = literal - (literal >> 31 << 32)
 
     def lowered(self, words):
         """By how many bytes an instruction lowers the stack pointer."""
@@ -55,13 +59,14 @@ class Frame:
             return int(found[1], 0)
         if found := re.fullmatch(r"(?:c\.)?addi(?:16sp)?\tsp, sp, -(0x[0-9a-f]+|\d+)", words):
             return int(found[1], 0)
-        if found := re.fullmatch(r"(?:c\.)?(sub|add)\tsp, sp, (\w+)", words):
+        if found := re.fullmatch(r"(?:c\.)?(sub|add)\tsp, (?:sp, )?(\w+)", words):
             return max(self.constants[found[2]] * (1 if found[1] == "sub" else -1), 0)
         return 0
 
-    def add(self, words):
+    def add(self, words, literal):
+        """Adds an instruction; `literal` is the word that it loads from beside the code."""
         self.size += self.lowered(words)
-        self.note_constant(words)
+        self.note_constant(words, literal)
 
 
 def read_code(elf):
@@ -69,6 +74,7 @@ def read_code(elf):
     text = subprocess.check_output(["llvm-objdump", "-d", "--no-show-raw-insn", elf], text=True)
     processor = re.search(r"file format (\S+)", text)[1]
     frames, calls, name = {}, {}, None
+    literals = {int(at, 16): int(word, 16) for at, word in re.findall(r"^ *([0-9a-f]+):.*\s\.word\s+0x([0-9a-f]+)$", text, re.M)}
     for line in text.splitlines():
         if start := re.match(r"[0-9a-f]+ <(.*)>:$", line):
             name = start[1]
@@ -79,7 +85,8 @@ def read_code(elf):
         if not found or name in (None, "vectors"):
             continue
         words = f"{found[1]}\t{found[2].strip()}"
-        frames[name].add(words)
+        literal = re.search(r"@ 0x([0-9a-f]+) ", line)
+        frames[name].add(words, literals.get(int(literal[1], 16)) if literal else None)
         if jump := CALL.match(words):
             other = re.sub(r"\+0x[0-9a-f]+$", "", jump[1])
             if other != name:
