@@ -131,7 +131,7 @@ def main():
         sys.exit(__doc__)
     firmware = sys.argv[1]
     at = read_map(firmware + ".map")
-    image = at["site_image_end"] - at["site_image"]
+    image = at.get("site_image_end", 0) - at.get("site_image", 0)    # a firmware with an application of its own has none
     static = at["__bss_end"] - at["__bss_start"]
     print(f"flash: {at['__flash_end'] - at['__flash_start'] - image} bytes, and {image} of the site's image")
     print(f"static memory: {static} bytes")
