@@ -184,7 +184,7 @@ pub extern "C" fn uip_app_write(
         put_in(device, opened);
         return AppResult::refused(NOT_READY);
     }
-    let written = opened.periodic(slot, frame);
+    let sent = opened.periodic(slot, frame);
     put_in(device, opened);
-    AppResult::done(0, written)
+    AppResult::done(0, sent)
 }
