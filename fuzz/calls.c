@@ -225,7 +225,7 @@ unsigned call_hits(tested *t, const byte *name, size_t len) {
     return read.number;
 }
 
-static int is_kept(byte b) {
+int is_kept(byte b) {
     return (b >= 'a' && b <= 'z') || (b >= 'A' && b <= 'Z') || (b >= '0' && b <= '9') || (b && strchr("-_.~%&=+", b));
 }
 

@@ -48,16 +48,19 @@ static void say_due(client *c, int asks_ack) {
 
 // A request, and the name of the file that it asks for.
 static void choose_request(client *c) {
-    static const char *const forms[] = {"GET %.*s HTTP/1.0\r\n\r\n", "GET %.*s\r\n", "GET %.*s?a=1&b HTTP/1.1\r\nHost: node\r\n\r\n",
+    static const char marks[] = "azAZ09-_.~%&=+";
+    static const char *const forms[] = {"GET %.*s HTTP/1.0\r\n\r\n", "GET %.*s\r\n", "GET %.*s?%s HTTP/1.1\r\nHost: node\r\n\r\n",
         "GET %.*s HTTP/1.1\r\nAccept: */*\r\nUser-Agent: fuzz\r\n\r\n", "POST %.*s HTTP/1.0\r\n\r\n", "GET x%.*s HTTP/1.0\r\n\r\n"};
     const byte *name = (const byte *)(chance(50) ? "/" : "/no-such-file");
     size_t len = strlen((const char *)name);
-    unsigned form = below(100) < 90 ? below(4) : between(4, 5);
+    unsigned form = below(100) < 90 ? below(4) : between(4, 5), query_len = chance(20) ? between(60, 70) : below(40);
+    char query_text[80] = "";
+    for (unsigned k = 0; k < query_len; k++) query_text[k] = chance(1) ? (char)between(33, 126) : marks[below(sizeof marks - 1)];
     if (asked->count && chance(90)) {
         const file *f = &asked->files[below(asked->count < 12 ? asked->count : 12)];
         name = f->name, len = f->name_len;
     }
-    c->request_len = (size_t)snprintf((char *)c->request, sizeof c->request, forms[form], (int)len, (const char *)name);
+    c->request_len = (size_t)snprintf((char *)c->request, sizeof c->request, forms[form], (int)len, (const char *)name, query_text);
     memcpy(c->name, name, c->name_len = form < 4 ? len : 0);
 }
 

@@ -140,7 +140,9 @@ static void read_all(void) {
     WANT(told == call_hits(&whole, name, len) && told == call_hits(&by_datagrams, name, len), "the hits differ");
     query kept = call_query(&under_test, name, len, between(UIP_MAX_QUERY, 300));
     query second = call_query(&whole, name, len, UIP_MAX_QUERY), third_kept = call_query(&by_datagrams, name, len, UIP_MAX_QUERY);
-    WANT(kept.hit <= told && (kept.hit > 0 || kept.len == 0), "a query of hit %zu, and there were %u", kept.hit, told);
+    query wanted = query_foretold(name, len);
+    WANT(!memcmp(&kept, &wanted, sizeof kept), "a query of %zu bytes of hit %zu, and one of %zu bytes of hit %zu was foretold", kept.len,
+         kept.hit, wanted.len, wanted.hit);
     WANT(!memcmp(&kept, &second, sizeof kept) && !memcmp(&kept, &third_kept, sizeof kept), "the queries differ");
     counts.queries += kept.hit > 0;
     for (unsigned slot = 0; slot < UIP_SLOTS; slot++) {

@@ -36,12 +36,17 @@ void values_given(unsigned number, const value *given);
 value random_value(void);
 size_t spell_value(const byte *argument, size_t argument_len, int spelling, byte *to);    // 0 as it is, 1 for JSON, 2 for HTML
 
+// What uip_query returns, without padding, and whether a query may have a byte (calls.c).
+typedef struct { size_t hit, len; byte bytes[UIP_MAX_QUERY]; } query;
+int is_kept(byte b);
+
 // peers.c: what is known of the connections from what the node hears (0 for a tick) and sends.
 void peers_begin(const site *s);
 void peers_see(const byte *heard, size_t heard_len, const byte *sent, size_t sent_len);
 void hits_settled(void);                                                   // all devices have heard the same
 unsigned hits_foretold(const byte *name, size_t len);
 unsigned least_hits(const byte *name, size_t len);                         // before what is being heard
+query query_foretold(const byte *name, size_t len);
 void row_is_foretold(unsigned slot, const uip_row *row);
 
 // model.c: what a node counts of datagrams that come and go.
@@ -65,7 +70,6 @@ void record_end(void);
 // calls.c: single calls of the device under test, fine and refused, each as it was foretold. The image stays while the device is open.
 typedef struct { uip_device handle; int is_open, has_left, is_ether; byte mac[6], mask[4], router[4]; area image; } tested;
 typedef struct { byte *bytes; size_t len; } text;
-typedef struct { size_t hit, len; byte bytes[UIP_MAX_QUERY]; } query;    // what uip_query returns, without padding
 uip_result call_hear(tested *t, const byte *bytes, size_t len, size_t room, text *to);
 uip_result call_slot(tested *t, unsigned slot, size_t room, text *to);
 uip_result call_more(tested *t, size_t room, text *to);

@@ -3,7 +3,7 @@
 #include <string.h>
 #include "fuzz.h"
 
-enum { MOST_PEERS = 4096, HTTP = 80, LONGEST_TARGET = 80 };
+enum { MOST_PEERS = 4096, HTTP = 80, LONGEST_TARGET = 200 };
 enum { WORD, TARGET, DECIDED };
 
 // A peer since its last SYN-ACK. `next` is the number that the node expects, `sent` the one of the last SYN, text or FIN that it sent,
@@ -11,7 +11,7 @@ enum { WORD, TARGET, DECIDED };
 typedef struct {
     byte address[4], target[LONGEST_TARGET];
     unsigned port, next, sent, again, stage;
-    int has_sent, has_text, has_fin;
+    int has_sent, has_text, has_fin, has_received;    // `has_received`: text, in an earlier piece
     size_t len;
 } peer;
 
@@ -19,9 +19,11 @@ static peer peers[MOST_PEERS];
 static unsigned count;
 static const site *asked;
 static unsigned hits[MOST_FILES], hits_before[MOST_FILES];
+static query kept;                 // the last query, and the file that it was for
+static const file *kept_for;
 
 void peers_begin(const site *s) {
-    asked = s, count = 0;
+    asked = s, count = 0, kept_for = 0;
     memset(hits, 0, sizeof hits), memset(hits_before, 0, sizeof hits_before);
 }
 
@@ -41,13 +43,27 @@ static peer *peer_at(const byte *address, unsigned port) {
     return 0;
 }
 
-// The target ended: its name is what stands before a `?`.
+query query_foretold(const byte *name, size_t len) {
+    const file *f = file_named(asked, name, len);
+    return f && f == kept_for ? kept : (query){0};
+}
+
+// The text after the `?` of a target is kept if the first piece of the connection decides the request.
+static void keep_query(const peer *p, const file *f, size_t mark) {
+    query new = {.hit = hits[f - asked->files], .len = p->len - mark - 1};
+    if (p->has_received || mark >= p->len || new.len > UIP_MAX_QUERY) return;
+    for (size_t k = 0; k < new.len; k++) if (!is_kept(new.bytes[k] = p->target[mark + 1 + k])) return;
+    kept = new, kept_for = f;
+}
+
+// The target ended: its name is what is before a `?`.
 static void decide(peer *p) {
     size_t len = 0;
     while (len < p->len && p->target[len] != '?') len++;
+    size_t mark = len;
     const byte *name = file_of_target(p->target, &len);
     const file *f = file_named(asked, name, len);
-    if (f && p->target[0] == '/') hits[f - asked->files]++;
+    if (f && p->target[0] == '/') hits[f - asked->files]++, keep_query(p, f, mark);
 }
 
 static void hear_byte(peer *p, byte b) {
@@ -68,6 +84,7 @@ static void hear_text(peer *p, const segment *in, const segment *out) {
     unsigned behind = out->ack - in->seq - (unsigned)in->len;
     if (in->seq != p->next || behind > 1 || p->has_fin) return;
     for (size_t at = 0; at < in->len; at++) hear_byte(p, in->text[at]);
+    p->has_received |= in->len > 0;
 }
 
 static peer *new_peer(const segment *out) {

@@ -59,8 +59,8 @@ asan)
     exec "$out/fuzz_asan" 1000000 "${2:-1000000}" "${3:-1}" $4;;
 planted)
     calls="open open_ether feed periodic drain input periodic_datagram input_frame periodic_frame counter"
-    calls="$calls set_value hits is_idle connection close"
-    planted 37 "$here/*.c" planted.c "$(printf 'uip_%s ' $calls)" 3000000 1 mixed;;
+    calls="$calls set_value hits query is_idle connection close"
+    planted 42 "$here/*.c" planted.c "$(printf 'uip_%s ' $calls)" 3000000 1 mixed;;
 app)
     # shellcheck disable=SC2086
     build fuzz_app -O2 $app

@@ -21,6 +21,7 @@ unsigned __real_uip_set_value(uip_device *d, size_t number, const void *text, si
 uip_number __real_uip_hits(uip_device *d, const void *name, size_t len);
 uip_number __real_uip_is_idle(uip_device *d);
 uip_row __real_uip_connection(uip_device *d, size_t slot);
+uip_query_text __real_uip_query(uip_device *d, const void *name, size_t len, byte *out, size_t room);
 
 static unsigned calls;
 
@@ -120,6 +121,21 @@ uip_row __wrap_uip_connection(uip_device *d, size_t slot) {
     if (PLANT == 26 && row.tries) row.tries--;
     if (PLANT == 27 && row.state == UIP_TIME_WAIT) row.state = UIP_FIN_WAIT_1;
     return row;
+}
+
+uip_query_text __wrap_uip_query(uip_device *d, const void *name, size_t len, byte *out, size_t room) {
+    static byte first[UIP_MAX_QUERY];
+    static size_t first_len;
+    uip_query_text read = __real_uip_query(d, name, len, out, room);
+    if (PLANT == 38 && read.len == UIP_MAX_QUERY) read.len--;                     // the last byte is missing
+    if (PLANT == 39 && read.hit > 1) read.hit--;                                  // of the request before
+    if (PLANT == 40 && read.len) {                                                // the first query stays
+        if (!first_len) memcpy(first, out, first_len = read.len);
+        memcpy(out, first, read.len = first_len);
+    }
+    if (PLANT == 41 && read.status == UIP_OK && !read.len) read.hit = 1;          // a query of a file that has none
+    if (PLANT == 42 && read.status == UIP_OK) out[read.len] = 0;                  // a 0 at its end
+    return read;
 }
 
 static byte own_mac[6], last_mac[6];
