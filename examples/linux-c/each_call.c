@@ -151,8 +151,9 @@ static void whole_lines(void) {
     expect(uip_feed_all(&device, line, 68, out, UIP_MIN_OUT, keep, &kept) == UIP_OK, "uip_feed_all");
     expect(kept.len == 68, "how much uip_feed_all passed to the sink");
     expect(!memcmp(kept.bytes, reply_text, 34) && !memcmp(kept.bytes + 34, reply_text, 34), "what uip_feed_all passed to the sink");
+    unsigned before = uip_ticks(&device).number;
     expect(uip_tick_all(&device, out, UIP_MIN_OUT, keep, &kept) == UIP_OK && kept.len == 68, "uip_tick_all");
-    expect(uip_ticks(&device).number == 3, "uip_ticks after uip_tick_all");
+    expect(uip_ticks(&device).number == before + 1, "uip_tick_all makes one tick");
 }
 
 static void opening_on_ethernet(void) {
@@ -201,11 +202,12 @@ static void successful_calls_on_ethernet(void) {
     exchange(echo_frame, 13, echo_frame, 0, "uip_input_frame, a short frame");
     exchange(echo_frame, 0, echo_frame, 0, "uip_input_frame, no bytes");
     exchange(reply_frame, 44, reply_frame, 0, "uip_input_frame, for another host");
+    unsigned before = uip_ticks(&device).number;
     for (size_t slot = 0; slot < UIP_SLOTS; slot++) {
         expect(is(uip_periodic_frame(&device, slot, out, UIP_MAX_FRAME), UIP_OK, 0, 0), "uip_periodic_frame");
     }
     uip_number ticks = uip_ticks(&device), replies = uip_counter(&device, UIP_ECHO_REPLIES_OUT), idle = uip_is_idle(&device);
-    expect(ticks.status == UIP_OK && ticks.number == 1, "uip_ticks on Ethernet");
+    expect(ticks.status == UIP_OK && ticks.number == before + 1, "uip_ticks on Ethernet");
     expect(replies.status == UIP_OK && replies.number == 4, "uip_counter on Ethernet");
     expect(idle.status == UIP_OK && idle.number == 1, "uip_is_idle on Ethernet");
     uip_row row = uip_connection(&device, 0);
