@@ -14,13 +14,12 @@ import sys
 
 HERE = os.path.dirname(os.path.abspath(__file__))
 SERVER = ("10.0.0.1", 80)
-PATIENCE = 60    # seconds, for each wait
 
 
 def fetch(name):
     """The head and the body of the reply to a request for a name."""
     reply = b""
-    with socket.create_connection(SERVER, timeout=PATIENCE) as connection:
+    with socket.create_connection(SERVER, timeout=60) as connection:
         connection.sendall(f"GET {name} HTTP/1.0\r\nHost: {SERVER[0]}\r\n\r\n".encode())
         while piece := connection.recv(4096):
             reply += piece
