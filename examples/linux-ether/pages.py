@@ -48,7 +48,9 @@ def fetch(name):
 def check(name):
     begin = time.monotonic()
     try:
-        reply = fetch(name) or fetch(name) or fetch(name) or b""
+        reply = None
+        while reply is None:
+            reply = fetch(name)
     except OSError as fault:
         return faults.append((name, str(fault) or repr(fault)))
     head, _, body = reply.partition(b"\r\n\r\n")
