@@ -18,7 +18,7 @@ import time
 sys.path.insert(0, os.path.join(os.path.dirname(os.path.abspath(__file__)), ".."))
 from fetch import SERVER, pattern  # noqa: E402
 
-IDLE = 9.5    # 20 ticks are at least so long
+IDLE = 9    # 20 ticks are 9.5 to 10 s, and a busy machine begins to count late
 folder, pages, clients = sys.argv[1], int(sys.argv[2]), int(sys.argv[3])
 patience = float(os.environ.get("PATIENCE", "120"))
 names = sorted("/" + name for name in os.listdir(folder))
