@@ -12,7 +12,6 @@ from repository import read, tracked
 
 # Calls that are right without a caller, a test and an edit, each with the reason.
 EXCEPTIONS = {
-    "uip_edge::NullSink::new": "a sink for users of the library; no crate here discards its output",
     "tcp_segment::Segment::has_psh": "one of five readers of flags; no call here depends on PSH",
 }
 CALL = re.compile(r"^(\s*)pub (?:unsafe )?(?:extern \"C\" )?fn (\w+)")
