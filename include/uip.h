@@ -10,8 +10,9 @@
  * the include path of each file that includes this one: macros of uIP would replace these calls.
  *
  * Read docs/LIMITS.md first. There is no authentication, no encryption and no DHCP; sequence numbers are predictable,
- * and ten SYNs that are never acknowledged occupy all ten slots for 51 s. What a browser can send your program is how
- * often each file was requested (uip_hits) and the last query, of up to 64 bytes (uip_query). There is no POST.
+ * and ten SYNs that are never acknowledged occupy all ten slots for 51 s. Your program learns two things from a
+ * browser: how often each file was requested (uip_hits), and the last query, of up to 64 bytes (uip_query). There is no
+ * POST.
  *
  * CHOOSE ONE ROW, and link its library from a release, the package that release.sh makes (in a source tree run it
  * first):
@@ -34,9 +35,10 @@
  *
  * RAM for a site of six files on a Cortex-M4: heap 5,728 bytes (Ethernet: 4,304), stack 2,032 (Ethernet: 5,392, nearly
  * all for uip_open_ether) plus your interrupts, and on a serial line a ring for received bytes. Begin with a ring of
- * 512 bytes, which was enough for two clients at 19,200 bits a second on an emulated board. If the ring overflows, a
- * frame is lost, and TCP sends it again: only the proof that a page arrives assumes that no byte is lost. To exclude
- * overflow see "TIME". README.md has the flash.
+ * 512 bytes, which was enough for two clients at 19,200 bits a second on an emulated board. It may overflow while the
+ * program writes: a frame is then lost, and TCP sends it again, so a page is late. To exclude overflow, 36,024 bytes
+ * must be free when the program below begins to write, and 6,004 with examples/step.c: see "TIME". README.md has the
+ * flash.
  *
  * WORDS
  *   site     a folder of files, and image: the array that tools/pack.py makes of it
@@ -313,8 +315,9 @@ typedef struct uip_row { unsigned status, state; unsigned char peer[4]; unsigned
  * the end). If it fails, it has freed them; otherwise uip_close frees them.
  *
  *   device        a closed device (at first UIP_INIT)
- *   image, len    the image of the site, from tools/pack.py, `uipd pack` or `uipd upgrade`; it is not copied, and
- *                 rule 6 holds until uip_close; after an error it is not read any more
+ *   image, len    the image of the site, from tools/pack.py, `uipd pack` or `uipd upgrade`; it is not
+ *                 copied: leave it unchanged until uip_close (rule 6). After UIP_BAD_IMAGE or UIP_NO_MEMORY you may
+ *                 free it; after UIP_HAS_DEVICE the image of the open device is still in use
  *   own           the IPv4 address, first byte first: {10, 0, 0, 1}; it is copied and not checked. To change it,
  *                 close and open.
  *                 There is no mask and no router: every reply goes out on the link.
@@ -534,13 +537,14 @@ UIP_INLINE unsigned uip_tick_datagrams(uip_device *device, unsigned char *out, s
 /* ---- ETHERNET */
 
 /*
- * A device on Ethernet (RFC 894) with ARP (RFC 826). A frame begins with the destination hardware address,
- * and has neither preamble nor frame check sequence: the controller strips and adds these. A received frame may be
- * padded. A frame to send is not padded: the controller pads it, or you add zeros up to 60 bytes. If the length that
- * your controller reports includes the check sequence, subtract 4; otherwise a frame of full size is dropped, or
- * refused as longer than `room`. If it stores the check sequence, make `frame` 1518 bytes. Let its filter pass `mac`
- * and broadcast. All but ARP and IPv4 is dropped, frames with a VLAN tag included. The node announces nothing when it
- * is opened, and needs no call when the link goes down or comes up.
+ * A device on Ethernet (RFC 894) with ARP (RFC 826). A frame begins with the destination hardware address, and has
+ * neither preamble nor frame check sequence: the controller strips and adds these. A received frame may be padded. A
+ * frame to send is not padded: the controller pads it, or you add zeros up to 60 bytes. Set up the controller: its
+ * filter passes `mac` and broadcast, and its insertion of checksums is off, since the library writes all checksums. If
+ * it stores the check sequence, make `frame` 1518 bytes. If its reported length includes it, subtract 4: otherwise a
+ * frame of full size is dropped, or refused as longer than `room`. With a data cache (Cortex-M7), mac_receive
+ * invalidates and mac_send cleans the buffer of the DMA. All but ARP and IPv4 is dropped, frames with a VLAN tag
+ * included. The node announces nothing when it is opened, and needs no call when the link goes down or comes up.
  *
  *     size_t mac_receive(unsigned char *frame, size_t room);        // the length of a frame, at most `room` (it drops
  *                                                                   // a longer one), or 0; it may sleep until a frame
@@ -583,7 +587,7 @@ UIP_INLINE unsigned uip_tick_datagrams(uip_device *device, unsigned char *out, s
  *
  *   device        a closed device (at first UIP_INIT)
  *   image, len    as for uip_open
- *   own           as for uip_open
+ *   own           the IPv4 address of the node, first byte first; it is copied and not checked
  *   mac           the hardware address of the node, 6 bytes; it is copied and not checked
  *   mask          the address mask, first byte first: {255, 255, 255, 0}; it is copied. An address is on the link if
  *                 (address & mask) == (own & mask); the mask need not be contiguous
@@ -673,9 +677,9 @@ uip_row uip_connection(uip_device *device, size_t slot);
  * Status: UIP_OK, UIP_BAD_ARGUMENT, UIP_NO_DEVICE.
  *
  * A file whose name ends in .shtml is a script: its directives %! value 3, %! value-html 3 and %! value-json 3 show
- * value 3: as it is, escaped for HTML, and escaped for a string of JSON. Show text that others can influence only by
- * value-html or value-json. docs/FIRMWARE.md has an example, and docs/FORMATS.md the rules. A value that was never set
- * is empty.
+ * value 3: as it is, escaped for HTML, and escaped for a string of JSON. If others can influence the text, use
+ * value-html or value-json, never value: otherwise they can put a script into your page. docs/FIRMWARE.md has an
+ * example, and docs/FORMATS.md the rules. A value that was never set is empty.
  *
  * You can set a value between any two calls, while output is pending, and in a sink. Any bytes are allowed. To empty
  * it, pass "" and 0. If `len` is above UIP_MAX_VALUE, the value stays. The segment being sent ends before each value.
@@ -686,7 +690,16 @@ uip_row uip_connection(uip_device *device, size_t slot);
  *     uip_set_value(&device, 3, "21.5", 4);            // %! value-html 3 shows 21.5
  *
  * A whole `work` for the program above shows a level as value 3 and a lamp as value 4; a link to /lamp-on.html is a
- * button (uip_hits). Put it below `device`, include <stdio.h>, and supply read_level and switch_lamp:
+ * button (uip_hits). Put it below `device`, and supply read_level (an unsigned number), switch_lamp and, without
+ * sprintf of the C library, a function that writes a number:
+ *
+ *     static size_t decimal(char *to, unsigned n) {
+ *         char t[10];
+ *         size_t i = 0, k = 0;
+ *         do t[i++] = (char)('0' + n % 10); while (n /= 10);
+ *         while (i) to[k++] = t[--i];
+ *         return k;
+ *     }
  *
  *     static unsigned on, off;                         // the hits at the last call: set to 0 when you open again
  *     static int is_lit;
@@ -700,7 +713,7 @@ uip_row uip_connection(uip_device *device, size_t slot);
  *         on = now_on;
  *         off = now_off;
  *         switch_lamp(is_lit);
- *         uip_set_value(&device, 3, text, (size_t)sprintf(text, "%d", read_level()));
+ *         uip_set_value(&device, 3, text, decimal(text, read_level()));
  *         uip_set_value(&device, 4, is_lit ? "on" : "off", is_lit ? 2 : 3);
  *     }
  *
@@ -748,11 +761,12 @@ uip_number uip_hits(uip_device *device, const void *name, size_t len);
  * it: if it differs from last time, the text is new. Both are 0 if no query is kept for that file, or no file has that
  * name.
  *
- * The device keeps one query: that of the last request of a file that brought one, whichever file it is. So call this
- * after each call that receives, or set things through one file only. A request brings a query if its text has at most
- * UIP_MAX_QUERY bytes, each a letter, a digit or one of -_.~%&=+, and if the target, up to the space after it, comes in
- * the first segment with data of its connection. Otherwise the query before it stays. %20 and the like are not decoded.
- * Anyone who reaches the device can send any such text: check it before use.
+ * The device keeps one query: that of the last request of a file that brought one, whichever file it is. A later query
+ * replaces it, also one of the same file. To miss none, call this after each uip_feed, uip_input or uip_input_frame;
+ * uip_feed_all may handle several requests in one call, so call it in its sink. A request brings a query if its text
+ * has at most UIP_MAX_QUERY bytes, each a letter, a digit or one of -_.~%&=+, and if the target, up to the space after
+ * it, comes in the first segment with data of its connection. Otherwise the query before it stays. %20 and the like are
+ * not decoded. Anyone who reaches the device can send any such text: check it before use.
  *
  * Status: UIP_OK, UIP_BAD_ARGUMENT, UIP_NO_DEVICE.
  */
