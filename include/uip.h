@@ -14,8 +14,8 @@
  * browser: how often each file was requested (uip_hits), and the last query, of up to 64 bytes (uip_query). There is no
  * POST.
  *
- * CHOOSE ONE ROW, and link its library from a release, the package that release.sh makes (in a source tree run it
- * first):
+ * CHOOSE ONE ROW, and link exactly one library, from lib/FOLDER of a release. In a source tree, release.sh makes the
+ * release.
  *
  *     link         open             what arrives      twice a second       library
  *     serial       uip_open         uip_feed_all      uip_tick_all         libuip_c.a
@@ -28,7 +28,8 @@
  *         -T board.ld startup.c drivers.c main.c lib/m4/libuip_c.a -lc -lgcc
  *
  * startup.c, drivers.c, main.c and board.ld are yours. Do not also compile site.c and heap.c: main.c includes them. On
- * Cortex-M and RISC-V libuip_c_ether.a has all calls, and libuip_c.a those without frames: link one of them.
+ * Cortex-M and RISC-V libuip_c.a lacks the calls for frames, and libuip_c_ether.a has all calls; elsewhere libuip_c.a
+ * has all.
  * The folders of lib/ are in "TARGETS". The library needs memcpy, memmove and memset, and on 32 bits libgcc or
  * compiler-rt. The Cortex-M libraries are soft-float. They link with -mfloat-abi=soft and -mfloat-abi=softfp, which
  * uses the FPU; for -mfloat-abi=hard see docs/FIRMWARE.md.
@@ -37,8 +38,8 @@
  * all for uip_open_ether) plus your interrupts, and on a serial line a ring for received bytes. Begin with a ring of
  * 512 bytes, which was enough for two clients at 19,200 bits a second on an emulated board. It may overflow while the
  * program writes: a frame is then lost, and TCP sends it again, so a page is late. To exclude overflow, 36,024 bytes
- * must be free when the program below begins to write, and 6,004 with examples/step.c: see "TIME". README.md has the
- * flash.
+ * must be free when the program below begins to write, and 6,004 with examples/common/step.c: see "TIME". README.md has
+ * the flash.
  *
  * WORDS
  *   site     a folder of files, and image: the array that tools/pack.py makes of it
@@ -52,13 +53,13 @@
  * In short: begin with UIP_INIT; never change the image, nor memory that the heap gave out; one call at a time, none in
  * an interrupt; drain before you feed; tick twice a second.
  *
- * A whole program for a serial line. You supply the first four functions. heap.c is in examples/common of a release,
- * and in examples of the repository.
+ * A whole program for a serial line. You supply the first four functions. Paths here are those of a release; in the
+ * repository examples/common/heap.c and step.c are in examples.
  *
  *     #include "uip.h"
  *     #include "site.c"                                // site_image, SITE_IMAGE_LEN, SITE_IMAGE_FILES: tools/pack.py
  *     #define UIP_HEAP_SIZE UIP_MEMORY(SITE_IMAGE_FILES)
- *     #include "heap.c"                                // examples/heap.c: the heap as one array
+ *     #include "heap.c"                                // examples/common/heap.c: the heap as one array
  *
  *     size_t read_serial(unsigned char *bytes, size_t room);       // moves bytes out of the ring that your interrupt
  *                                                      // fills; returns how many, or 0. It may sleep until the
@@ -173,7 +174,7 @@
  *
  * Do not compile with -fpcc-struct-return or -freg-struct-return: they change the ABI. A status is
  * unsigned, so -fshort-enums does not matter. The header is C90 or later, or C++ (tried: gcc 12.2 and clang 14, C90 to
- * C17, C++98 to C++17). The examples in its comments have comments of C99. examples/heap.c is C11 or C++11.
+ * C17, C++98 to C++17). The examples in its comments have comments of C99. examples/common/heap.c is C11 or C++11.
  */
 #ifndef LOWUNBISA_UIP_H
 #define LOWUNBISA_UIP_H
@@ -543,8 +544,10 @@ UIP_INLINE unsigned uip_tick_datagrams(uip_device *device, unsigned char *out, s
  * filter passes `mac` and broadcast, and its insertion of checksums is off, since the library writes all checksums. If
  * it stores the check sequence, make `frame` 1518 bytes. If its reported length includes it, subtract 4: otherwise a
  * frame of full size is dropped, or refused as longer than `room`. With a data cache (Cortex-M7), mac_receive
- * invalidates and mac_send cleans the buffer of the DMA. All but ARP and IPv4 is dropped, frames with a VLAN tag
- * included. The node announces nothing when it is opened, and needs no call when the link goes down or comes up.
+ * invalidates and mac_send cleans the buffer of the DMA. If that is `frame`, align it to a cache line (32 bytes) and
+ * give it whole lines (1,536 bytes): otherwise invalidating destroys variables beside it. All but ARP and IPv4 is
+ * dropped, frames with a VLAN tag included. The node announces nothing when it is opened, and needs no call when the
+ * link goes down or comes up.
  *
  *     size_t mac_receive(unsigned char *frame, size_t room);        // the length of a frame, at most `room` (it drops
  *                                                                   // a longer one), or 0; it may sleep until a frame
@@ -682,12 +685,13 @@ uip_row uip_connection(uip_device *device, size_t slot);
  * example, and docs/FORMATS.md the rules. A value that was never set is empty.
  *
  * You can set a value between any two calls, while output is pending, and in a sink. Any bytes are allowed. To empty
- * it, pass "" and 0. If `len` is above UIP_MAX_VALUE, the value stays. The segment being sent ends before each value.
- * The value is read when the peer has acknowledged all that precedes it, the HTTP header included. So each value costs
- * a round trip (with delayed acknowledgements often 40 to 200 ms), and two values of one page may be of two moments. A
- * retransmission has the same bytes, even if the value has changed.
+ * it, pass "" and 0. If `len` is above UIP_MAX_VALUE, it returns UIP_BAD_ARGUMENT and the old value stays; nothing is
+ * cut. If the node sends a page, it ends a segment before each value, and reads the value when the peer has
+ * acknowledged all before it, the HTTP header included. So each value costs a round trip (with delayed acknowledgements
+ * often 40 to 200 ms), and two values of one page may be of two moments. A retransmission has the same bytes, even if
+ * the value has changed.
  *
- *     uip_set_value(&device, 3, "21.5", 4);            // %! value-html 3 shows 21.5
+ *     uip_set_value(&device, 3, UIP_TEXT("21.5"));            // %! value-html 3 shows 21.5
  *
  * A whole `work` for the program above shows a level as value 3 and a lamp as value 4; a link to /lamp-on.html is a
  * button (uip_hits). Put it below `device`, and supply read_level (an unsigned number), switch_lamp and, without
@@ -750,7 +754,7 @@ uip_number uip_hits(uip_device *device, const void *name, size_t len);
  *     uip_query_text query = uip_query(&device, UIP_TEXT("/set.html"), text, sizeof text);
  *     if (query.hit != seen) {
  *         seen = query.hit;
- *         if (query.len == 7 && !memcmp(text, "lamp=on", 7)) switch_lamp(1);      // check it: anyone can send it
+ *         if (query.len == 7 && !memcmp(text, "lamp=on", 7)) switch_lamp(1);      // <string.h>; anyone can send it
  *     }
  *
  *   name, len    the name of the file as the image has it, "/set.html", without a 0 at its end
@@ -763,7 +767,8 @@ uip_number uip_hits(uip_device *device, const void *name, size_t len);
  *
  * The device keeps one query: that of the last request of a file that brought one, whichever file it is. A later query
  * replaces it, also one of the same file. To miss none, call this after each uip_feed, uip_input or uip_input_frame;
- * uip_feed_all may handle several requests in one call, so call it in its sink. A request brings a query if its text
+ * one uip_feed_all may handle several requests: with it, call uip_query in
+ * the sink, at each piece. A request brings a query if its text
  * has at most UIP_MAX_QUERY bytes, each a letter, a digit or one of -_.~%&=+, and if the target, up to the space after
  * it, comes in the first segment with data of its connection. Otherwise the query before it stays. %20 and the like are
  * not decoded. Anyone who reaches the device can send any such text: check it before use.
@@ -783,7 +788,7 @@ unsigned uip_close(uip_device *device);
 /* ---- THE HEAP */
 
 /*
- * The heap, which the program supplies. Take examples/heap.c (an array of UIP_HEAP_SIZE bytes, for one thread),
+ * The heap, which the program supplies. Take examples/common/heap.c (an array of UIP_HEAP_SIZE bytes, for one thread),
  * examples/linux-c/heap.c (malloc), or write your own. One heap serves all devices (rule 8).
  *
  *   rattle_alloc      returns a block of `len` bytes, or of `align` bytes if `len` is 0, at a multiple of `align` (1,
@@ -799,7 +804,7 @@ unsigned uip_close(uip_device *device);
  * Measured, not proved: for f files uip_open allocates six blocks: 28*f, 2*f, 4*f, 1500, 1600 and 2392 bytes.
  * uip_open_ether has 976 in place of 2392. If one fails, it frees those before it. uip_close frees
  * all six. No other call allocates or frees. If you call uip_open once and never uip_close, rattle_dealloc may do
- * nothing. examples/heap.c reuses its array when all its devices are closed.
+ * nothing. examples/common/heap.c reuses its array when all its devices are closed.
  */
 typedef struct uip_block { size_t ok; void *block; } uip_block;
 uip_block rattle_alloc(size_t len, size_t align);
@@ -833,11 +838,12 @@ void rattle_dealloc(void *block);
  * image; any other call handles at most one datagram. The node has no clock: a tick is half a second (see
  * uip_periodic). Give the ring room for what arrives while the program writes: up to 3,002 bytes for each frame written
  * (0.26 s at 115,200 bits a second). uip_feed or uip_periodic with its uip_drain writes 1 frame, uip_tick_all up to 10,
- * uip_feed_all one for each frame that ends in `bytes`. The program above may write twelve full frames in one pass (two
- * full ones that end in its 64 bytes, ten of a tick; 36,024 bytes). examples/step.c writes at most two before it feeds
- * (6,004 bytes). A ring with that much free when the writing begins loses nothing. With a smaller ring, bytes can be
- * lost: TCP sends them again, but that a page arrives is then not proved. 512 bytes were enough for two clients at
- * 19,200 bits a second (measured on an emulated board). The line carries all 8 bits of a byte: no XON and XOFF.
+ * uip_feed_all one for each frame that ends in `bytes`. In one pass the program above may write twelve frames of 3,002
+ * bytes, 36,024 in all: two replies, since two received frames can end in its 64 bytes, and ten of a tick.
+ * examples/common/step.c writes at most two before it feeds (6,004 bytes). A ring with that much free when the writing
+ * begins loses nothing. With a smaller ring, bytes can be lost: TCP sends them again, but that a page arrives is then
+ * not proved. 512 bytes were enough for two clients at 19,200 bits a second (measured on an emulated board). The line
+ * carries all 8 bits of a byte: no XON and XOFF.
  *
  * TARGETS. The stack is that of one firmware for a serial line (examples/board), in bytes: the greatest depth from
  * reset, with its main, drivers and memcpy, without interrupts. It is computed from the linked code and not proved. On
