@@ -53,7 +53,8 @@ pub fn node_hits(node: &Node<ValuePages>, name: &[u8]) -> u32
 /// its length and the count of the file's hits after the request that brought it; both are 0 if none is kept for that file.
 pub fn node_query(node: &Node<ValuePages>, name: &[u8], out: &mut [u8]) -> QueryRead
     requires { 64 ≤ length out.old }
-    ensures { ReadsQuery (query_of (files_of node.now.shared.web.site) node.now.shared.query name.now) result.hit result.len out.old out.new }
+    ensures { ReadsQuery (query_of (files_of node.now.shared.web.site) node.now.shared.query name.now)
+        result.hit result.len out.old out.new }
 {
     let web = &node.shared.web;
     see_loaded(&web.site);
