@@ -1,6 +1,7 @@
 use crate::row::RowList;
 
-/// A snapshot of the node, from which an application takes its captures.
+/// The status of the node, from which an application takes its captures: ticks, counters and
+/// connections.
 /// [add: counter] The length of the array `net`.
 #[derive(Drop)]
 pub struct Now {

@@ -17,6 +17,8 @@ impl Calls for Word {
 
     ghost calling = { word_calls };
 
+    // It is not inlined, since its caller is, wherever a script is read.
+    #[inline(never)]
     fn named(name: &[u8]) -> Word {
         if is_word(name, b"value") {
             Word::Value(Spelling::Plain)

@@ -1,4 +1,4 @@
--- An item that is appended to a list and moved towards its front, place by place.
+-- An item that is appended to a list and moved towards its start, place by place.
 use Rattle.file_tree.proofs.Prelude.{◌≡◌, ℕ, zero, suc, ◌-◌, ◌<◌, ◌≤◌, List, [], ◌∷◌, length, get_or, set, insert, refl, ap, sym, ◌∙◌, arith, length-insert}
 use Rattle.std.proofs.lemmas.List.Edits.{swap_is}
 use Rattle.std.specs.List.{swap}
@@ -9,7 +9,7 @@ sets-down [] k y d lt = absurd (omega arith)
 sets-down (x ∷ xs) zero y d lt = refl
 sets-down (x ∷ xs) (suc k) y d lt = ap (λ ys. x ∷ ys) (sets-down xs k y d (omega arith))
 
--- one place towards the front
+-- one place towards the start
 pub swap-down : {X : Type 0} (xs : List X) (k : ℕ) (y : X) → k < length xs → swap (insert xs (suc k) y) k (suc k) ≡ insert xs k y
 swap-down xs k y lt =
     let long = length-insert xs (suc k) y (omega arith) in

@@ -1,5 +1,5 @@
 -- What is proved of an incarnation exchange by exchange, and the guarantee that follows.
-use Rattle.node_laws.proofs.Prelude.{All, ◌≡◌, ℕ, zero, suc, ◌<◌, ◌≤◌, true, false, List, [], ◌∷◌, length, drop, refl, Some, slice_get, PlainSegment, has_fin, has_rst, IsSnapshot, first_mss, occupies_sequence_space, Alike, append_nothing, prefix_refl, Exchange, sent_at, CarriesByte, IsReceived, Account, OutputModel, Begins, IsAcceptedText, SendsSlice, Acknowledges, IsAcknowledged, IsExtendedBy}
+use Rattle.node_laws.proofs.Prelude.{All, ◌≡◌, ℕ, zero, suc, ◌<◌, ◌≤◌, Bool, true, false, List, [], ◌∷◌, length, drop, refl, Some, slice_get, PlainSegment, has_fin, has_rst, IsSnapshot, first_mss, occupies_sequence_space, Alike, append_nothing, prefix_refl, Exchange, sent_at, CarriesByte, IsReceived, Account, OutputModel, Begins, IsAcceptedText, SendsSlice, Acknowledges, IsAcknowledged, IsExtendedBy}
 use Rattle.node_laws.proofs.Speaking.{IsTold}
 
 -- a FIN was sent
@@ -16,8 +16,9 @@ Unended incarnation = HasEnded incarnation → ⊥
 
 pub record Kept (model : OutputModel) (incarnation : List Exchange) : Type 0 where
   pub account : Account
+  pub ended : Bool
   pub begins : Begins incarnation account
-  pub taken : IsAcceptedText account.irs incarnation account.accepted account.ended
+  pub taken : IsAcceptedText account.irs incarnation account.accepted ended
   pub snapshots : All IsSnapshot account.captures
   pub sent : IsReceived account.iss incarnation account.sent
   pub says : (k : ℕ) (x : Exchange) (s : PlainSegment) → slice_get incarnation k ≡ Some x → x.output ≡ Some s → SendsSlice account.iss account.sent s
@@ -31,7 +32,7 @@ pub record Kept (model : OutputModel) (incarnation : List Exchange) : Type 0 whe
   pub of_page : IsTold model (HasEnded incarnation) account.accepted account.captures account.sent
 
 pub grows_refl : (a : Account) → IsExtendedBy a a
-grows_refl a = record { irs = refl; iss = refl; peer_mss = refl; accepted = prefix_refl a.accepted; ended = λ e. e; captures = ([], append_nothing a.captures); sent = prefix_refl a.sent }
+grows_refl a = record { irs = refl; iss = refl; peer_mss = refl; accepted = prefix_refl a.accepted; captures = ([], append_nothing a.captures); sent = prefix_refl a.sent }
 
 -- the exchange in which something was sent
 pub record SaidIn (incarnation : List Exchange) (k : ℕ) (s : PlainSegment) : Type 0 where

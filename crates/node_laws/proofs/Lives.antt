@@ -10,10 +10,10 @@ use Rattle.node_laws.proofs.Replying.{answer_no_syn, said_ack, step_short}
 use Rattle.node_laws.proofs.Lines.{OfMedium, met, left_of}
 use Rattle.node_laws.proofs.Lines.OfMedium.{passes_by, evicted, unanswered, refused, born, hears, ticks}
 
-begins_on : (x : Exchange) (incarnation : List Exchange) (a : Account) (text : List ℕ) (ended : Bool) (captures : List Snapshot) (sent : List ℕ) → Begins incarnation a → Begins (x ∷ incarnation) (record a { accepted = text; ended = ended; captures = captures; sent = sent })
-begins_on x [] a text ended captures sent h = absurd h
-begins_on x (y ∷ []) a text ended captures sent h = record { syn = h.syn; received = h.received; plain = h.plain; number = h.number; mss = h.mss; answer = h.answer; output = h.output; seq = h.seq; acks = h.acks }
-begins_on x (y ∷ z ∷ older) a text ended captures sent h = begins_on y (z ∷ older) a text ended captures sent h
+begins_on : (x : Exchange) (incarnation : List Exchange) (a : Account) (text : List ℕ) (captures : List Snapshot) (sent : List ℕ) → Begins incarnation a → Begins (x ∷ incarnation) (record a { accepted = text; captures = captures; sent = sent })
+begins_on x [] a text captures sent h = absurd h
+begins_on x (y ∷ []) a text captures sent h = record { syn = h.syn; received = h.received; plain = h.plain; number = h.number; mss = h.mss; answer = h.answer; output = h.output; seq = h.seq; acks = h.acks }
+begins_on x (y ∷ z ∷ older) a text captures sent h = begins_on y (z ∷ older) a text captures sent h
 
 -- an acknowledgement, with one exchange more
 ack_later : (x : Exchange) (incarnation : List Exchange) (i j : ℕ) (s : PlainSegment) → IsAcknowledged incarnation i j s → IsAcknowledged (x ∷ incarnation) (suc i) (suc j) s
@@ -78,11 +78,11 @@ module _ (m : AppSpec) (steady : IsSteady m) (port : ℕ) (model : OutputModel) 
   At incarnation st c text e sent = AtPage m port model laws (Unended incarnation) st c text e sent
 
   -- the connection of a life
-  pub record Live (incarnation : List Exchange) (a : Account) (c : Connection) : Type 0 where
+  pub record Live (incarnation : List Exchange) (a : Account) (ended : Bool) (c : Connection) : Type 0 where
     pub first_is : c.iss ≡ a.iss
     pub peer_is : c.irs ≡ a.irs
     pub captures_are : c.part.captures ≡ a.captures
-    pub page : PageIn incarnation c a.accepted a.ended a.sent
+    pub page : PageIn incarnation c a.accepted ended a.sent
     pub safe : SafeIn c
     pub fit : FitConn c
     pub within : LensWithin (first_mss a.peer_mss) c
@@ -96,7 +96,7 @@ module _ (m : AppSpec) (steady : IsSteady m) (port : ℕ) (model : OutputModel) 
 
   pub record Good (c : Connection) (incarnation : List Exchange) : Type 0 where
     pub kept : Kept model incarnation
-    pub live : is_live c.state ≡ true → Live incarnation kept.account c
+    pub live : is_live c.state ≡ true → Live incarnation kept.account kept.ended c
     pub placed : is_live c.state ≡ true → (k : ℕ) (x : Exchange) (s : PlainSegment) → slice_get incarnation k ≡ Some x → x.output ≡ Some s → occupies_sequence_space s ≡ true → Passed incarnation k c s ⊎ DueIn c s
 
   -- one exchange longer it is good too, and its account grew
@@ -124,12 +124,12 @@ module _ (m : AppSpec) (steady : IsSteady m) (port : ℕ) (model : OutputModel) 
   unended_page incarnation incarnation' d TimeWait now over sent u h = record { end = h.end; count = h.count; len = h.len; is = h.is }
   unended_page incarnation incarnation' d LastAck now over sent u h = record { end = h.end; count = h.count; len = h.len; is = h.is }
 
-  live_longer : (incarnation incarnation' : List Exchange) (a : Account) (c : Connection) → (Unended incarnation → Unended incarnation') → Live incarnation a c → Live incarnation' a c
-  live_longer incarnation incarnation' a c u l = record {
+  live_longer : (incarnation incarnation' : List Exchange) (a : Account) (ended : Bool) (c : Connection) → (Unended incarnation → Unended incarnation') → Live incarnation a ended c → Live incarnation' a ended c
+  live_longer incarnation incarnation' a ended c u l = record {
     first_is = l.first_is;
     peer_is = l.peer_is;
     captures_are = l.captures_are;
-    page = record { at = unended_page incarnation incarnation' c c.state a.accepted a.ended a.sent (λ z. u) l.page.at; taken = l.page.taken };
+    page = record { at = unended_page incarnation incarnation' c c.state a.accepted ended a.sent (λ z. u) l.page.at; taken = l.page.taken };
     safe = l.safe;
     fit = l.fit;
     within = l.within;
@@ -163,7 +163,7 @@ module _ (m : AppSpec) (steady : IsSteady m) (port : ℕ) (model : OutputModel) 
 
     acks_on : (i : ℕ) (y : Exchange) (s : PlainSegment) → slice_get (x ∷ incarnation) i ≡ Some y → y.output ≡ Some s → has_rst s.flags ≡ false → Acknowledges k.account.irs (drop i (x ∷ incarnation)) now s
     acks_on zero y s g h r = acks s (said_is y s g h) r
-    acks_on (suc i) y s g h r = (let a = k.acknowledges i y s g h r in record { taken = a.taken; ended = a.ended; is = a.is; prefix = prefix_trans a.taken k.account.accepted now a.prefix prefix; ack = a.ack })
+    acks_on (suc i) y s g h r = (let a = k.acknowledges i y s g h r in record { selected = a.selected; ended = a.ended; is = a.is; prefix = prefix_trans a.selected k.account.accepted now a.prefix prefix; ack = a.ack })
 
     short_before : length sent < 1073741824 → length k.account.sent < 1073741824
     short_before l = omega (arith, l, prefix_length k.account.sent sent longer_sent)
@@ -180,8 +180,9 @@ module _ (m : AppSpec) (steady : IsSteady m) (port : ℕ) (model : OutputModel) 
 
     abbrev longer : Kept model (x ∷ incarnation)
     longer = record {
-      account = record k.account { accepted = now; ended = over; captures = captures; sent = sent };
-      begins = begins_on x incarnation k.account now over captures sent k.begins;
+      account = record k.account { accepted = now; captures = captures; sent = sent };
+      ended = over;
+      begins = begins_on x incarnation k.account now captures sent k.begins;
       taken = taken;
       snapshots = snapshots;
       sent = is_received;
@@ -213,7 +214,7 @@ module _ (m : AppSpec) (steady : IsSteady m) (port : ℕ) (model : OutputModel) 
     abbrev still_kept : Kept model (x ∷ incarnation)
     still_kept =
         let k : Kept model incarnation = g.kept in
-        longer x incarnation k k.account.accepted k.account.ended k.account.captures k.account.sent (inl k.taken) k.snapshots (prefix_refl k.account.accepted) (prefix_refl k.account.sent)
+        longer x incarnation k k.account.accepted k.ended k.account.captures k.account.sent (inl k.taken) k.snapshots (prefix_refl k.account.accepted) (prefix_refl k.account.sent)
         (received_on k.account.iss x incarnation k.account.sent k.sent) k.says
         (λ s e. bare_says k.account.iss _ s (bare s (resets s e).1))
         (λ s e. bare_short (first_mss k.account.peer_mss) s (bare s (resets s e).1))
@@ -235,7 +236,7 @@ module _ (m : AppSpec) (steady : IsSteady m) (port : ℕ) (model : OutputModel) 
     on_still = record {
       good = record {
         kept = still_kept;
-        live = λ l. subst (λ z. Live (x ∷ incarnation) g.kept.account z) (sym (stays l)) (live_longer incarnation (x ∷ incarnation) g.kept.account c (λ u h. u (ended_before h)) (g.live (subst (λ z. is_live z.state ≡ true) (stays l) l)));
+        live = λ l. subst (λ z. Live (x ∷ incarnation) g.kept.account g.kept.ended z) (sym (stays l)) (live_longer incarnation (x ∷ incarnation) g.kept.account g.kept.ended c (λ u h. u (ended_before h)) (g.live (subst (λ z. is_live z.state ≡ true) (stays l) l)));
         placed = still_placed;
       };
       grew = grows_refl g.kept.account;
@@ -327,7 +328,7 @@ module _ (m : AppSpec) (steady : IsSteady m) (port : ℕ) (model : OutputModel) 
     pub exact : segment.ack ≡ wrap (snd_una c + c.len)
 
   module _ (c c' : Connection) (o : Outcome) (received : Option PlainSegment) (acked : Bool) (incarnation : List Exchange) (g : Good c incarnation) (alive : is_live c.state ≡ true) (fit : FitConn o.connection)
-      (sp : Spoke m port model laws (Unended incarnation) received c g.kept.account.accepted g.kept.account.ended g.kept.account.sent o)
+      (sp : Spoke m port model laws (Unended incarnation) received c g.kept.account.accepted g.kept.ended g.kept.account.sent o)
       (tells : StepTells m steady AnyLength any_length c o.connection (segment_of m o.connection o.step) (is_again o.step))
       (moves : Moves acked c o.connection)
       (hears_ack : acked ≡ true → Acks received c)
@@ -347,19 +348,19 @@ module _ (m : AppSpec) (steady : IsSteady m) (port : ℕ) (model : OutputModel) 
     abbrev a : Account
     a = g.kept.account
 
-    abbrev w : Moved m port model laws (Unended incarnation) received c a.accepted a.ended sp.sent_now d
+    abbrev w : Moved m port model laws (Unended incarnation) received c a.accepted g.kept.ended sp.sent_now d
     w = sp.moved
 
-    lv : Live incarnation a c
+    lv : Live incarnation a g.kept.ended c
     lv = g.live alive
 
-    read : Reading received a.irs a.accepted a.ended w.now w.over
-    read = subst (λ n. Reading received n a.accepted a.ended w.now w.over) lv.peer_is w.read
+    read : Reading received a.irs a.accepted g.kept.ended w.now w.over
+    read = subst (λ n. Reading received n a.accepted g.kept.ended w.now w.over) lv.peer_is w.read
 
     step_taken : IsAcceptedText a.irs (x ∷ incarnation) w.now w.over
     step_taken = elim read [
       | inl q ↦ inl (subst (λ z. IsAcceptedText a.irs incarnation z w.over) (sym q.0) (subst (λ z. IsAcceptedText a.irs incarnation a.accepted z) (sym q.1) g.kept.taken))
-      | inr r ↦ inr record { segment = r.segment; received = r.is; taken = a.accepted; before = subst (λ z. IsAcceptedText a.irs incarnation a.accepted z) r.unended g.kept.taken; seq = r.seq; joined = r.joined; fin = r.fin }
+      | inr r ↦ inr record { segment = r.segment; received = r.is; earlier = a.accepted; before = subst (λ z. IsAcceptedText a.irs incarnation a.accepted z) r.unended g.kept.taken; seq = r.seq; joined = r.joined; fin = r.fin }
     ]
 
     step_prefix : IsPrefixOf a.accepted w.now
@@ -367,9 +368,6 @@ module _ (m : AppSpec) (steady : IsSteady m) (port : ℕ) (model : OutputModel) 
       | inl q ↦ record { rest = []; joined = append_nothing a.accepted ∙ sym q.0 }
       | inr r ↦ record { rest = r.segment.text; joined = sym r.joined }
     ]
-
-    step_ended : a.ended ≡ true → w.over ≡ true
-    step_ended e = elim read [ inl q ↦ q.1 ∙ e | inr r ↦ absurd (let f = r.unended in cc) ]
 
     captures_on : a.captures ++ w.more ≡ d.part.captures
     captures_on = ap (λ l. l ++ w.more) (sym lv.captures_are) ∙ sym w.captures
@@ -422,7 +420,7 @@ module _ (m : AppSpec) (steady : IsSteady m) (port : ℕ) (model : OutputModel) 
 
     step_acks : (s : PlainSegment) → sent ≡ Some s → has_rst s.flags ≡ false → Acknowledges a.irs (x ∷ incarnation) w.now s
     step_acks s e r = record {
-      taken = w.now;
+      selected = w.now;
       ended = w.over;
       is = step_taken;
       prefix = prefix_refl w.now;
@@ -509,7 +507,7 @@ module _ (m : AppSpec) (steady : IsSteady m) (port : ℕ) (model : OutputModel) 
     abbrev step_good : Good c' (x ∷ incarnation)
     step_good = record {
       kept = longer x incarnation g.kept w.now w.over d.part.captures sp.sent_now step_taken fit.captures step_prefix more_sent step_received older_says step_says short step_acks step_same step_one step_of_page;
-      live = λ l. subst (λ z. Live (x ∷ incarnation) (record a { accepted = w.now; ended = w.over; captures = d.part.captures; sent = sp.sent_now }) z) (sym (left l).1)
+      live = λ l. subst (λ z. Live (x ∷ incarnation) (record a { accepted = w.now; captures = d.part.captures; sent = sp.sent_now }) w.over z) (sym (left l).1)
           (let e : is_live d.state ≡ true = (left l).0 in
           record {
             first_is = first_on e;
@@ -524,7 +522,7 @@ module _ (m : AppSpec) (steady : IsSteady m) (port : ℕ) (model : OutputModel) 
     }
 
     pub on_step : Onward c incarnation g c' x
-    on_step = record { good = step_good; grew = record { irs = refl; iss = refl; peer_mss = refl; accepted = step_prefix; ended = step_ended; captures = (w.more, captures_on); sent = more_sent } }
+    on_step = record { good = step_good; grew = record { irs = refl; iss = refl; peer_mss = refl; accepted = step_prefix; captures = (w.more, captures_on); sent = more_sent } }
 
   -- ---- it begins
 
@@ -568,7 +566,8 @@ module _ (m : AppSpec) (steady : IsSteady m) (port : ℕ) (model : OutputModel) 
       let only : (k : ℕ) (y : Exchange) (t : PlainSegment) → slice_get (x ∷ []) k ≡ Some y → y.output ≡ Some t → syn_ack c ≡ t = λ k y t h e. only_one k x y (syn_ack c) t h refl e in
       record {
         kept = record {
-          account = record { irs = s.seq; iss = iss; peer_mss = s.mss; accepted = []; ended = false; captures = []; sent = [] };
+          account = record { irs = s.seq; iss = iss; peer_mss = s.mss; accepted = []; captures = []; sent = [] };
+          ended = false;
           begins = record { syn = s; received = refl; plain = ap has_syn (let q : s.flags ≡ SYN = eqb-eq s.flags SYN plain in q); number = refl; mss = refl; answer = syn_ack c; output = refl; seq = ap wrap (omega arith); acks = ap wrap (omega arith) };
           taken = inl (refl, refl);
           snapshots = all_nil IsSnapshot;
@@ -576,7 +575,7 @@ module _ (m : AppSpec) (steady : IsSteady m) (port : ℕ) (model : OutputModel) 
           says = λ k y t h e. subst (λ z. SendsSlice iss [] z) (only k y t h e) (says_due (x ∷ []) c SynRcvd [] false [] (syn_ack c) safe.state page.at due_now.len due_now.seq due_now.alike);
           short = λ k y t h e. subst (λ z. length z.text ≤ first_mss s.mss) (only k y t h e) (omega arith);
           acknowledges = λ k y t h e r. subst (λ z. Acknowledges s.seq (drop k (x ∷ [])) [] z) (only k y t h e)
-              (record { taken = []; ended = false; is = first_taken s.seq x k; prefix = prefix_refl []; ack = ap wrap (omega arith) });
+              (record { selected = []; ended = false; is = first_taken s.seq x k; prefix = prefix_refl []; ack = ap wrap (omega arith) });
           same = λ few i j y z t u l h g. absurd (no_two x i j y z l h g);
           one = λ i j y z t u l h g. absurd (no_two x i j y z l h g);
           of_page = told_starts model (HasEnded (x ∷ [])) unended;
@@ -633,7 +632,7 @@ module _ (m : AppSpec) (steady : IsSteady m) (port : ℕ) (model : OutputModel) 
           subst (λ z. Onward c incarnation g d z) (sym h.0)
           (on_step c d oo (Some s) (not (has_rst s.flags) && is_acked c s) incarnation g alive
           (stepped_fits m steady AnyLength any_length at o is fo)
-          (segment_moved m port model laws (Unended incarnation) steady at c g.kept.account.accepted g.kept.account.ended g.kept.account.sent numbers s (g.live alive).page)
+          (segment_moved m port model laws (Unended incarnation) steady at c g.kept.account.accepted g.kept.ended g.kept.account.sent numbers s (g.live alive).page)
           (stepped_tells m steady AnyLength any_length at c o is fo (segment_tells m steady AnyLength any_length c numbers s safe))
           (asked_moves m (not (has_rst s.flags) && is_acked c s) c at o (segment_moves m c numbers s))
           (acks_of c s)
@@ -649,7 +648,7 @@ module _ (m : AppSpec) (steady : IsSteady m) (port : ℕ) (model : OutputModel) 
           subst (λ z. Onward c incarnation g d z) (sym h.0)
           (on_step c d oo None false incarnation g alive
           (stepped_fits m steady AnyLength any_length at o is fo)
-          (tick_moved m port model laws (Unended incarnation) steady at c g.kept.account.accepted g.kept.account.ended g.kept.account.sent numbers (g.live alive).page)
+          (tick_moved m port model laws (Unended incarnation) steady at c g.kept.account.accepted g.kept.ended g.kept.account.sent numbers (g.live alive).page)
           (stepped_tells m steady AnyLength any_length at c o is fo (tick_tells m steady AnyLength any_length c numbers safe))
           (asked_moves m false c at o (tick_moves m c numbers))
           (λ z. absurd (cc))

@@ -1,5 +1,5 @@
 -- What any receiver of an incarnation has is a prefix of its page.
-use Rattle.node_laws.proofs.Prelude.{option_map_or, ◌≡◌, ℕ, ◌+◌, ◌<◌, ◌≤◌, true, inl, inr, List, [], ◌∷◌, length, refl, sym, ap, ◌∙◌, arith, Option, Some, None, slice_get, eqb, wrap, PlainSegment, has_fin, AppSpec, IsPrefixOf, Pages, choose, eqb-eq, same_place, wrap_wrap, prefix_length, Exchange, sent_at, Account, IsAtOffset, IsPrefixOfPage, AccountHolds, TextConforms, NumbersGiveOffsets, OutputModel, Paged, Interactive, Free, IsPagedAt, FollowsModelAt, CarriesByte, IsReceived, EndsAfter, PlainestReceives, receives, takes_next}
+use Rattle.node_laws.proofs.Prelude.{option_map_or, ◌≡◌, ℕ, ◌+◌, ◌<◌, ◌≤◌, Bool, true, false, inl, inr, List, [], ◌∷◌, length, refl, sym, ap, ◌∙◌, arith, Option, Some, None, slice_get, eqb, wrap, PlainSegment, has_fin, AppSpec, IsPrefixOf, Pages, choose, eqb-eq, same_place, wrap_wrap, prefix_length, Exchange, sent_at, Account, IsAtOffset, IsPrefixOfPage, AccountHolds, TextConforms, NumbersGiveOffsets, OutputModel, Paged, Interactive, Free, IsPagedAt, FollowsModelAt, CarriesByte, IsReceived, EndsAfter, IsAcceptedText, PlainestReceives, receives, takes_next}
 use Rattle.node_laws.proofs.Texts.{all_of_it, element, get_append, get_inside, get_slice, most_or_more, prefix_by}
 use Rattle.node_laws.proofs.Texts.InBoth.{in_first, in_second}
 use Rattle.node_laws.proofs.Kept.{HasEnded, Kept, said_in}
@@ -26,6 +26,14 @@ receives_received iss incarnation (place ∷ places) got h =
 
 pub plainest_receives : PlainestReceives
 plainest_receives iss incarnation places = receives_received iss incarnation places [] (λ at b z. absurd (cc))
+
+-- the same data without the FIN counted
+without_fin : (irs : ℕ) (incarnation : List Exchange) (selected : List ℕ) (ended : Bool) → IsAcceptedText irs incarnation selected ended → IsAcceptedText irs incarnation selected false
+without_fin irs [] selected ended h = (h.0, refl)
+without_fin irs (x ∷ older) selected ended h = elim h [
+  | inl g ↦ inl (without_fin irs older selected ended g)
+  | inr t ↦ inr record { segment = t.segment; received = t.received; earlier = t.earlier; before = t.before; seq = t.seq; joined = t.joined; fin = λ e. absurd (cc) }
+]
 
 module _ (model : OutputModel) (incarnation : List Exchange) (k : Kept model incarnation) where
   module _ (short : length k.account.sent < 1073741824) where
@@ -75,13 +83,13 @@ module _ (model : OutputModel) (incarnation : List Exchange) (k : Kept model inc
   pub keeps_account : AccountHolds incarnation k.account
   keeps_account = record {
     begins = k.begins;
-    taken = k.taken;
+    accepted = without_fin k.account.irs incarnation k.account.accepted k.ended k.taken;
     snapshots = k.snapshots;
-    sent = k.sent;
+    carried = k.sent;
     slices = λ i s h. (let w = said_in incarnation i s h in k.says i w.exchange s w.there w.output);
-    short = λ i s h. (let w = said_in incarnation i s h in k.short i w.exchange s w.there w.output);
+    within_mss = λ i s h. (let w = said_in incarnation i s h in k.short i w.exchange s w.there w.output);
     acknowledges = λ i s h r. (let w = said_in incarnation i s h in k.acknowledges i w.exchange s w.there w.output r);
-    one = λ i j s t l h g a b e. (let w = said_in incarnation i s h in let v = said_in incarnation j t g in k.one i j w.exchange v.exchange s t l w.there v.there w.output v.output a b e);
+    stop_and_wait = λ i j s t l h g a b e. (let w = said_in incarnation i s h in let v = said_in incarnation j t g in k.one i j w.exchange v.exchange s t l w.there v.there w.output v.output a b e);
   }
 
 ended_in : (incarnation : List Exchange) (k : ℕ) (s : PlainSegment) → sent_at incarnation k ≡ Some s → has_fin s.flags ≡ true → HasEnded incarnation

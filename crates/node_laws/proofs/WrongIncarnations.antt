@@ -45,7 +45,7 @@ sent_short iss sent z h = elim (most_or_more (length sent) 1073741823) [
 few_sent : (model : OutputModel) (k : IncarnationConforms model cut_again) → length (k.account 0).sent < 1073741824
 few_sent model k =
     let g : AccountHolds cut_again (k.account 0) = k.holds 0 (omega arith) in
-    sent_short (k.account 0).iss (k.account 0).sent (numbers_of (k.account 0) g.begins).iss g.sent
+    sent_short (k.account 0).iss (k.account 0).sent (numbers_of (k.account 0) g.begins).iss g.carried
 
 numbers_tell : (model : OutputModel) (k : IncarnationConforms model cut_again) → NumbersGiveOffsets cut_again (k.account 0)
 numbers_tell Free k = k.conforms 0 (omega arith) (few_sent Free k)
@@ -89,7 +89,7 @@ repeated_byte model by k =
 second_segment : (model : OutputModel) → IncarnationConforms model two_under_way → ⊥
 second_segment model k =
     let g : AccountHolds two_under_way (k.account 0) = k.holds 0 (omega arith) in
-    none_came (g.one 0 1 _ _ (omega arith) refl refl refl refl (λ e. (let z : 4 ≡ 1 = e in omega (arith, z))))
+    none_came (g.stop_and_wait 0 1 _ _ (omega arith) refl refl refl refl (λ e. (let z : 4 ≡ 1 = e in omega (arith, z))))
   where
     none_at : (s : PlainSegment) (place : ℕ) → place ≡ 0 → received_at two_under_way place ≡ Some s → ⊥
     none_at s zero e h = absurd (cc)
@@ -102,16 +102,16 @@ second_segment model k =
 opening_taken : (n : ℕ) (text : List ℕ) (ended : Bool) → n ≡ 1000 → IsAcceptedText n (opened ∷ []) text ended → (text ≡ []) × (ended ≡ false)
 opening_taken n text ended e h = elim h [
   | inl g ↦ g
-  | inr t ↦ absurd (let a : 1000 ≡ wrap (n + 1 + length t.taken) = only_some (λ s. s.seq ≡ wrap (n + 1 + length t.taken) → 1000 ≡ wrap (n + 1 + length t.taken)) (segment 1000 0 2 []) t.segment t.received (λ q. q) t.seq in
-      let b : length t.taken ≡ 0 = ap length t.before.0 in omega (arith, a, b, e))
+  | inr t ↦ absurd (let a : 1000 ≡ wrap (n + 1 + length t.earlier) = only_some (λ s. s.seq ≡ wrap (n + 1 + length t.earlier) → 1000 ≡ wrap (n + 1 + length t.earlier)) (segment 1000 0 2 []) t.segment t.received (λ q. q) t.seq in
+      let b : length t.earlier ≡ 0 = ap length t.before.0 in omega (arith, a, b, e))
 ]
 
 -- nor of what came at another number
 refused_taken : (n : ℕ) (text : List ℕ) (ended : Bool) → n ≡ 1000 → IsAcceptedText n acknowledges_refused text ended → (text ≡ []) × (ended ≡ false)
 refused_taken n text ended e h = elim h [
   | inl g ↦ opening_taken n text ended e g
-  | inr t ↦ absurd (let a : 1005 ≡ wrap (n + 1 + length t.taken) = only_some (λ s. s.seq ≡ wrap (n + 1 + length t.taken) → 1005 ≡ wrap (n + 1 + length t.taken)) (segment 1005 1 16 (120 ∷ [])) t.segment t.received (λ q. q) t.seq in
-      let b : length t.taken ≡ 0 = ap length (opening_taken n t.taken false e t.before).0 in omega (arith, a, b, e))
+  | inr t ↦ absurd (let a : 1005 ≡ wrap (n + 1 + length t.earlier) = only_some (λ s. s.seq ≡ wrap (n + 1 + length t.earlier) → 1005 ≡ wrap (n + 1 + length t.earlier)) (segment 1005 1 16 (120 ∷ [])) t.segment t.received (λ q. q) t.seq in
+      let b : length t.earlier ≡ 0 = ap length (opening_taken n t.earlier false e t.before).0 in omega (arith, a, b, e))
 ]
 
 refused : (model : OutputModel) → IncarnationConforms model acknowledges_refused → ⊥
@@ -120,16 +120,16 @@ refused model k =
     let n = numbers_of (k.account 0) g.begins in
     let p : (k.account 0).irs ≡ 1000 = n.irs in
     let a = g.acknowledges 0 _ refl refl in
-    let t = refused_taken (k.account 0).irs a.taken a.ended p a.is in
-    let l : length a.taken ≡ 0 = ap length t.0 in
-    let q : 1006 ≡ wrap ((k.account 0).irs + 1 + length a.taken + 0) = a.ack ∙ ap (λ b. wrap ((k.account 0).irs + 1 + length a.taken + (if b then 1 else 0))) t.1 in
+    let t = refused_taken (k.account 0).irs a.selected a.ended p a.is in
+    let l : length a.selected ≡ 0 = ap length t.0 in
+    let q : 1006 ≡ wrap ((k.account 0).irs + 1 + length a.selected + 0) = a.ack ∙ ap (λ b. wrap ((k.account 0).irs + 1 + length a.selected + (if b then 1 else 0))) t.1 in
     omega (arith, l, p, q)
 
 -- a segment without text adds none
 nothing_taken : (n : ℕ) (text : List ℕ) (ended : Bool) → n ≡ 1000 → IsAcceptedText n tells_another text ended → text ≡ []
 nothing_taken n text ended e h = elim h [
   | inl g ↦ (opening_taken n text ended e g).0
-  | inr t ↦ t.joined ∙ ap (λ l. l ++ t.segment.text) (opening_taken n t.taken false e t.before).0 ∙ only_some (λ s. s.text ≡ []) (segment 1001 1 16 []) t.segment t.received refl
+  | inr t ↦ t.joined ∙ ap (λ l. l ++ t.segment.text) (opening_taken n t.earlier false e t.before).0 ∙ only_some (λ s. s.text ≡ []) (segment 1001 1 16 []) t.segment t.received refl
 ]
 
 other_page : (model : OutputModel) → SpeaksBy mirror_pages model → IncarnationConforms model tells_another → ⊥
@@ -140,7 +140,7 @@ other_page model by k =
     let h = of_some_page mirror_pages model tells_another (k.account 0) by (k.conforms 0 (omega arith)) in
     let m = prefix_length (k.account 0).sent h.0 h.2.prefix in
     let o = prefix_length h.0 (k.account 0).accepted h.1 in
-    let l : length (k.account 0).accepted ≡ 0 = ap length (nothing_taken (k.account 0).irs (k.account 0).accepted (k.account 0).ended n.irs g.taken) in
+    let l : length (k.account 0).accepted ≡ 0 = ap length (nothing_taken (k.account 0).irs (k.account 0).accepted false n.irs g.accepted) in
     let f : t.at + 1 ≤ length (k.account 0).sent = t.slice.fits in
     omega (arith, l, m, o, f)
 

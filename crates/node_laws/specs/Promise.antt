@@ -10,15 +10,13 @@ use Rattle.uip_node.specs.Prelude.{Alike, IsSlice}
 use Rattle.node_laws.specs.Traces.{Exchange, sent_at, received_at}
 use Rattle.node_laws.specs.Receivers.{IsReceived, EndsAfter}
 
--- The account of an incarnation. `peer_mss` is the MSS option of the peer's SYN. `accepted` is the text accepted from the peer. If `ended`
--- is true, a FIN after it is counted: such a selection has the same data as the one that does not count it. `captures` are snapshots of
--- which the page is made, and `sent` is the text sent.
+-- The account of an incarnation. `peer_mss` is the MSS option of the peer's SYN. `accepted` is the text accepted from the peer. `captures`
+-- are the snapshots of which the page is made. `sent` is the text sent.
 pub record Account : Type 0 where
   pub irs : ℕ
   pub iss : ℕ
   pub peer_mss : Option ℕ
   pub accepted : List ℕ
-  pub ended : Bool
   pub captures : List Snapshot
   pub sent : List ℕ
 
@@ -45,32 +43,32 @@ Begins (x ∷ y ∷ older) a = Begins (y ∷ older) a
 -- ---- what is accepted from the peer
 
 -- One more received segment is accepted: its number follows everything accepted before, and no FIN was counted before.
-pub record Accepts (irs : ℕ) (x : Exchange) (Before : List ℕ → Bool → Type 0) (text : List ℕ) (ended : Bool) : Type 0 where
+pub record Accepts (irs : ℕ) (x : Exchange) (Before : List ℕ → Bool → Type 0) (selected : List ℕ) (ended : Bool) : Type 0 where
   pub segment : PlainSegment
   pub received : x.received ≡ Some segment
-  pub taken : List ℕ
-  pub before : Before taken false
-  pub seq : segment.seq ≡ wrap (irs + 1 + length taken)
-  pub joined : text ≡ taken ++ segment.text
+  pub earlier : List ℕ
+  pub before : Before earlier false
+  pub seq : segment.seq ≡ wrap (irs + 1 + length earlier)
+  pub joined : selected ≡ earlier ++ segment.text
   pub fin : ended ≡ true → has_fin segment.flags ≡ true
 
--- Some selection of the segments received in these exchanges, each accepted in order, has this text as its data. If `ended` is true, the
+-- Some selection of the segments received in these exchanges, each accepted in order, has `selected` as its data. If `ended` is true, the
 -- last one has a FIN, which is counted.
 abbrev pub IsAcceptedText : ℕ → List Exchange → List ℕ → Bool → Type 0
-IsAcceptedText irs [] text ended = (text ≡ []) × (ended ≡ false)
-IsAcceptedText irs (x ∷ older) text ended =
-    IsAcceptedText irs older text ended ⊎ Accepts irs x (IsAcceptedText irs older) text ended
+IsAcceptedText irs [] selected ended = (selected ≡ []) × (ended ≡ false)
+IsAcceptedText irs (x ∷ older) selected ended =
+    IsAcceptedText irs older selected ended ⊎ Accepts irs x (IsAcceptedText irs older) selected ended
 
 -- ---- what is sent
 
--- The text of the segment is a slice of the whole text, at the offset that its sequence number gives.
-pub record IsAtOffset (iss : ℕ) (text : List ℕ) (s : PlainSegment) : Type 0 where
+-- The data of the segment is a slice of the text sent, at the offset that its sequence number gives.
+pub record IsAtOffset (iss : ℕ) (sent : List ℕ) (s : PlainSegment) : Type 0 where
   pub at : ℕ
-  pub slice : IsSlice text s.text at
+  pub slice : IsSlice sent s.text at
   pub seq : s.seq ≡ wrap (iss + 1 + at)
 
--- A segment sends a slice of a text. A SYN has the ISS as its number, and no data. Data is a slice at the offset that the number gives. A
--- FIN has no data, and its number follows the whole text.
+-- What a segment sends. A SYN has the ISS as its number, and no data. Data is a slice of the text sent, at the offset that the number gives.
+-- A FIN has no data, and its number follows the whole text.
 pub record SendsSlice (iss : ℕ) (sent : List ℕ) (s : PlainSegment) : Type 0 where
   pub syn : has_syn s.flags ≡ true → (s.seq ≡ wrap iss) × (s.text ≡ [])
   pub bytes : 0 < length s.text → IsAtOffset iss sent s
@@ -78,12 +76,12 @@ pub record SendsSlice (iss : ℕ) (sent : List ℕ) (s : PlainSegment) : Type 0 
 
 -- The segment acknowledges some selection accepted up to this exchange, its own received segment included. The selection is a prefix of
 -- the accepted text.
-pub record Acknowledges (irs : ℕ) (by_then : List Exchange) (text : List ℕ) (s : PlainSegment) : Type 0 where
-  pub taken : List ℕ
+pub record Acknowledges (irs : ℕ) (by_then : List Exchange) (accepted : List ℕ) (s : PlainSegment) : Type 0 where
+  pub selected : List ℕ
   pub ended : Bool
-  pub is : IsAcceptedText irs by_then taken ended
-  pub prefix : IsPrefixOf taken text
-  pub ack : s.ack ≡ wrap (irs + 1 + length taken + (if ended then 1 else 0))
+  pub is : IsAcceptedText irs by_then selected ended
+  pub prefix : IsPrefixOf selected accepted
+  pub ack : s.ack ≡ wrap (irs + 1 + length selected + (if ended then 1 else 0))
 
 -- SEG.LEN (RFC 793, section 3.3): the sequence numbers that a segment occupies.
 abbrev pub sequence_length : PlainSegment → ℕ
@@ -101,20 +99,20 @@ pub record IsAcknowledged (incarnation : List Exchange) (i j : ℕ) (t : PlainSe
 
 -- ---- the guarantee
 
--- This account holds for the incarnation. Each byte of `sent` was sent, and the data of each segment is a slice of `sent`, no longer than
--- the MSS of the peer allows. Each segment without RST acknowledges only what was accepted. Stop and wait: let t, and later s, be sent with
+-- This account holds for the incarnation. A segment carried each byte of `sent`. The data of each segment is a slice of `sent`, no longer
+-- than the MSS of the peer allows. Each segment without RST acknowledges only what was accepted. Stop and wait: let t, and later s, be sent with
 -- SEG.LEN above 0 and different SEG.SEQ (i < j: exchange i is newer). Then the end of t was acknowledged after t was sent, and before s was
 -- sent or in the same exchange.
 pub record AccountHolds (incarnation : List Exchange) (a : Account) : Type 0 where
   pub begins : Begins incarnation a
-  pub taken : IsAcceptedText a.irs incarnation a.accepted a.ended
+  pub accepted : IsAcceptedText a.irs incarnation a.accepted false
   pub snapshots : All IsSnapshot a.captures
-  pub sent : IsReceived a.iss incarnation a.sent
+  pub carried : IsReceived a.iss incarnation a.sent
   pub slices : (k : ℕ) (s : PlainSegment) → sent_at incarnation k ≡ Some s → SendsSlice a.iss a.sent s
-  pub short : (k : ℕ) (s : PlainSegment) → sent_at incarnation k ≡ Some s → length s.text ≤ first_mss a.peer_mss
+  pub within_mss : (k : ℕ) (s : PlainSegment) → sent_at incarnation k ≡ Some s → length s.text ≤ first_mss a.peer_mss
   pub acknowledges : (k : ℕ) (s : PlainSegment) → sent_at incarnation k ≡ Some s → has_rst s.flags ≡ false
       → Acknowledges a.irs (drop k incarnation) a.accepted s
-  pub one : (i j : ℕ) (s t : PlainSegment) → i < j → sent_at incarnation i ≡ Some s → sent_at incarnation j ≡ Some t
+  pub stop_and_wait : (i j : ℕ) (s t : PlainSegment) → i < j → sent_at incarnation i ≡ Some s → sent_at incarnation j ≡ Some t
       → occupies_sequence_space s ≡ true → occupies_sequence_space t ≡ true → (s.seq ≡ t.seq → ⊥) → IsAcknowledged incarnation i j t
 
 -- Sequence numbers determine offsets. Two segments with the same SEG.SEQ, and SEG.LEN above 0, have the same flags and text. Whatever a
@@ -152,7 +150,6 @@ pub record IsExtendedBy (older newer : Account) : Type 0 where
   pub iss : older.iss ≡ newer.iss
   pub peer_mss : older.peer_mss ≡ newer.peer_mss
   pub accepted : IsPrefixOf older.accepted newer.accepted
-  pub ended : older.ended ≡ true → newer.ended ≡ true
   pub captures : (more : List Snapshot) × (older.captures ++ more ≡ newer.captures)
   pub sent : IsPrefixOf older.sent newer.sent
 

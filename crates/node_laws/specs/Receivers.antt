@@ -17,9 +17,9 @@ pub record CarriesByte (iss : ℕ) (incarnation : List Exchange) (at byte : ℕ)
   pub sum : at ≡ from + within
   pub is : slice_get segment.text within ≡ Some byte
 
--- Each byte of the text was carried by a segment, at its sequence number.
+-- What a receiver may have: a segment carried each of these bytes, at its sequence number.
 abbrev pub IsReceived : ℕ → List Exchange → List ℕ → Type 0
-IsReceived iss incarnation text = (at byte : ℕ) → slice_get text at ≡ Some byte → CarriesByte iss incarnation at byte
+IsReceived iss incarnation got = (at byte : ℕ) → slice_get got at ≡ Some byte → CarriesByte iss incarnation at byte
 
 -- A segment of the incarnation has a FIN, whose number follows `count` bytes of text.
 pub record EndsAfter (iss : ℕ) (incarnation : List Exchange) (count : ℕ) : Type 0 where

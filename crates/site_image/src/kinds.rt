@@ -15,6 +15,8 @@ pub fn is_script(name: &[u8]) -> bool
 
 /// Returns the content type by the ending of the name.
 /// [add: content-type] The ending of a name, and its type.
+// It is not inlined, since its caller is, wherever a reply begins.
+#[inline(never)]
 pub fn content_kind(name: &[u8]) -> &'static [u8]
     ensures { result.now ≡ names.kind_by_name name.now }
 {

@@ -170,7 +170,7 @@ fn text_after_mark(target: &[u8]) -> Option<&[u8]>
 }
 
 /// Returns the text that is kept of a request for a file.
-pub(crate) fn text_in(request: &[u8]) -> Option<&[u8]>
+pub(crate) fn query_text(request: &[u8]) -> Option<&[u8]>
     ensures { option_map (λ text. text.now) result ≡ kept_text (text_after_mark (target_of request.now)) }
 {
     match text_after_mark(target_in(request)) {

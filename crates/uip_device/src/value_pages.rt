@@ -11,7 +11,7 @@ ghost use Rattle.uip_device.specs.Query.{kept_query, kept_text, place_wanted, qu
 
 use crate::device_web::{DeviceWeb, FlashWeb, see_counted};
 use crate::opening::see_loaded;
-use crate::query::{Query, text_in};
+use crate::query::{Query, query_text};
 use app_events::{App, Ending, Now, Want};
 use device_values::ValueCapture;
 use file_tree::FileId;
@@ -82,7 +82,7 @@ fn keep_for(query: &mut Query, found: Option<FileId>, web: &FlashWeb, request: &
         (kept_text (text_after_mark (target_of request.now))) }
 {
     if let Some(file) = found {
-        if let Some(text) = text_in(request) {
+        if let Some(text) = query_text(request) {
             query.keep(file, hit_of(web, file), text);
         }
     }
