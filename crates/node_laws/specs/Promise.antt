@@ -100,9 +100,9 @@ pub record IsAcknowledged (incarnation : List Exchange) (i j : ℕ) (t : PlainSe
 -- ---- the guarantee
 
 -- This account holds for the incarnation. A segment carried each byte of `sent`. The data of each segment is a slice of `sent`, no longer
--- than the MSS of the peer allows. Each segment without RST acknowledges only what was accepted. Stop and wait: let t, and later s, be sent with
--- SEG.LEN above 0 and different SEG.SEQ (i < j: exchange i is newer). Then the end of t was acknowledged after t was sent, and before s was
--- sent or in the same exchange.
+-- than the MSS of the peer allows. Each segment without RST acknowledges only what was accepted. Stop and wait: let t, and later s, be sent
+-- with SEG.LEN above 0 and different SEG.SEQ (i < j: exchange i is newer). Then the end of t was acknowledged after t was sent, and before
+-- s was sent or in the same exchange.
 pub record AccountHolds (incarnation : List Exchange) (a : Account) : Type 0 where
   pub begins : Begins incarnation a
   pub accepted : IsAcceptedText a.irs incarnation a.accepted false
