@@ -67,8 +67,8 @@ pub record IsAtOffset (iss : ℕ) (sent : List ℕ) (s : PlainSegment) : Type 0 
   pub slice : IsSlice sent s.text at
   pub seq : s.seq ≡ wrap (iss + 1 + at)
 
--- What a segment sends. A SYN has the ISS as its number, and no data. Data is a slice of the text sent, at the offset that the number gives.
--- A FIN has no data, and its number follows the whole text.
+-- What a segment sends. A SYN has the ISS as its number, and no data. Data is a slice of the text sent, at the offset that the number
+-- gives. A FIN has no data, and its number follows the whole text.
 pub record SendsSlice (iss : ℕ) (sent : List ℕ) (s : PlainSegment) : Type 0 where
   pub syn : has_syn s.flags ≡ true → (s.seq ≡ wrap iss) × (s.text ≡ [])
   pub bytes : 0 < length s.text → IsAtOffset iss sent s
