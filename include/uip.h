@@ -36,7 +36,7 @@
  *
  *     static uip_device device = UIP_INIT;
  *
- *     int half_a_second_passed(void) {                 // returns 1 for each tick that is due; after a stall 1 once
+ *     int half_a_second_passed(void) {                 // 1 for each tick that is due; after a stall of 1.5 s once
  *         static unsigned last;
  *         unsigned now = milliseconds();
  *         if (now - last < 500) return 0;
@@ -93,9 +93,9 @@
  * ERRORS. If a call fails, device, `out` and counters are as before, and all other fields of the result are 0 (but see
  * uip_opened). Below, the statuses of a call are in the order in which they are looked for. No received contents cause
  * an error. A wrong length does: drop datagrams of 0 or of more than UIP_MAX_DATAGRAM bytes, and frames longer than
- * `room`; do not feed 0 bytes. A loop that passes correct arguments, and drains (uip_drain) before it feeds or ticks,
- * sees only UIP_OK. Not reported: null pointers, wrong areas, a wrong rate of ticks, a slot left out or called twice in
- * a tick, and an unknown name (uip_hits and uip_query return 0).
+ * `room`; do not call uip_feed with 0 bytes. A loop that passes correct arguments, and drains before it feeds or ticks,
+ * as uip_feed_all and uip_tick_all do, sees only UIP_OK. Not reported: null pointers, wrong areas, a wrong rate of
+ * ticks, a slot left out or called twice in a tick, and an unknown name (uip_hits and uip_query return 0).
  */
 #ifndef LOWUNBISA_UIP_H
 #define LOWUNBISA_UIP_H
@@ -595,7 +595,7 @@ uip_number uip_counter(uip_device *device, size_t number);
  *
  * While it is 1, a tick sends nothing, and you may leave ticks out: the processor can sleep until the next byte,
  * datagram or frame. After a sleep make one tick, and not all that were missed. It may be 1 while output is pending:
- * drain first. After a page it stays 0 for 60 s (TIME_WAIT), unless the peer closed first. FIRMWARE "Sleep".
+ * drain first. After a page it stays 0 for 60 s (TIME_WAIT), unless the peer closed first. See FIRMWARE "Sleep".
  */
 uip_number uip_is_idle(uip_device *device);
 
