@@ -20,7 +20,7 @@
  *     #define UIP_HEAP_SIZE UIP_APP_MEMORY
  *     #include "heap.c"                                   // examples/heap.c: the heap as one array
  *
- *     size_t mac_receive(unsigned char *frame, size_t room);    // these three as in uip.h
+ *     size_t mac_receive(unsigned char *frame, size_t room);    // these three as in uip.h; mac_send has no `to`
  *     void mac_send(const unsigned char *frame, size_t len);
  *     int half_a_second_passed(void);
  *     size_t answer(const char *line, size_t len, char *reply, unsigned *last);    // yours: at most 260 bytes
