@@ -655,7 +655,8 @@ uip_number uip_hits(uip_device *device, const void *name, size_t len);
  *
  * Anyone who reaches the device can send a text: check it before use. The device keeps one query: the last, of whatever
  * file. To miss none, call this after each uip_feed, uip_input or uip_input_frame, and with uip_feed_all in the sink,
- * at each piece. A query is kept if it has at most 64 letters, digits and -_.~%&=+; nothing is decoded. FIRMWARE
+ * at each piece. A query is kept if it has at most 64 letters, digits and -_.~%&=+, and if the target of the request
+ * comes in the first segment with data of its connection; else the one before stays. Nothing is decoded. FIRMWARE
  * "Settings from a browser" has the form and a program, and "Queries in detail" the rest.
  */
 uip_query_text uip_query(uip_device *device, const void *name, size_t len, void *out, size_t room);
