@@ -27,7 +27,7 @@
  *     #include "uip.h"
  *     #include "site.c"                                // the site as an array: python3 tools/pack.py FOLDER site.c
  *     #define UIP_HEAP_SIZE UIP_MEMORY(SITE_IMAGE_FILES)
- *     #include "heap.c"                                // examples/common/heap.c of a release; here examples/heap.c
+ *     #include "heap.c"                                // examples/common/heap.c; in the repository examples/heap.c
  *
  *     size_t read_serial(unsigned char *bytes, size_t room);      // yours: from your receive ring; it may return 0
  *     void write_serial(void *to, const unsigned char *bytes, size_t len);      // yours: a uip_sink; it may wait
@@ -66,36 +66,42 @@
  *     }
  *
  * RULES, explained in FIRMWARE "The ten rules". The library cannot check them. If one is broken, the behaviour is
- * undefined. An inline function counts as one call. In it only its sink may read `out` or `frame`, and use the device,
- * by the calls that uip_sink lists.
- *   1. Both members of a device are 0 before its first call (UIP_INIT, or memset). If your startup code does not clear
- *      the RAM of device or heap, set both to 0 and empty the heap at each reset (heap.c: heap_used = heap_blocks = 0).
- *   2. While a device is open, only calls of this library read or write it, and nothing copies it.
- *   3. Calls with one device never overlap, also not those that read. No interrupt makes a call, not even with a device
- *      of its own. Under an RTOS one task makes all calls, or a mutex of the device is held over each call. A call and
- *      a sink run to their end: no longjmp, no exception, no deleted task.
- *   4. No pointer argument is null, also not to a function or to 0 bytes, but for `to` of the inline functions. Each
- *      input is readable over its whole length (`own`, `mask` and `router` 4 bytes, `mac` 6). On 32 bits no object has
- *      2^31 bytes or more.
- *   5. `out`, and `frame` of the calls for frames, is writable over the whole of `room`, and shares no byte with the
- *      device or another argument. Nothing else (no DMA) reads or writes it until the call returns.
- *   6. The image stays at its address until uip_close, and its bytes are the same at each call: it is not copied.
- *   7. All other input stays unchanged until the call returns. After the call the library does not use it.
- *   8. The program supplies memcpy, memmove, memset and the heap (at the end). Live blocks overlap neither each other
- *      nor anything else in use. The functions of the heap make no call of the library. They are thread-safe if the
- *      opening or closing of two devices may overlap.
- *   9. The stack is large enough: on a Cortex-M4 2,032 bytes from reset, on Ethernet 5,392, and more for your functions
- *      and interrupts (computed; FIRMWARE "Targets"). It is aligned as the ABI demands, to 8 bytes at least.
- *  10. The processor is set up. Cortex-M4, M7, M33: CCR.UNALIGN_TRP is 0; the image and all memory that is passed are
- *      Normal memory. aarch64: SIMD is on, interrupt handlers save the SIMD registers that they use; code, image and
- *      data lie in normal memory. x86-64: level v2 or later. RISC-V: ABI ilp32, or lp64 and medany. Others: nothing.
+ * undefined. An inline function counts as one call. While it runs, its sink alone may use the device (by the calls that
+ * uip_sink lists) and read `out` or `frame`, also by a DMA that ends before the sink returns.
+ *   1. Before the first call both members of a device must be 0: use UIP_INIT, or memset. If your startup code does not
+ *      clear the RAM of device and heap, do it at each reset (for heap.c: FIRMWARE "The ten rules").
+ *   2. While a device is open, only calls of this library may read or write it. Never copy it.
+ *   3. Calls with one device must not overlap, also not those that only read. No interrupt may make a call, not even
+ *      with a device of its own. Under an RTOS let one task make all calls, or hold a mutex of the device over each
+ *      call. A call and a sink must run to their end: no longjmp, no exception, no deleted task.
+ *   4. No pointer may be null; for 0 bytes pass any valid address. Only `to` of the inline functions may be null. Each
+ *      input must be readable over its whole length (`own`, `mask` and `router` have 4 bytes, `mac` 6). Areas of bytes
+ *      may have any alignment. On 32 bits no object may have 2^31 bytes or more.
+ *   5. `out`, and `frame` of the calls for frames, must be writable over the whole of `room`. It may share no byte with
+ *      the device or another argument. Until the call returns nothing else may read or write it, also no DMA.
+ *   6. The image must stay at its address, unchanged, until uip_close: it is not copied.
+ *   7. All other input must stay unchanged until the call returns. After the call the library does not use it.
+ *   8. The program must supply memcpy, memmove, memset and the heap (at the end of this file), and on 32 bits libgcc or
+ *      compiler-rt. Live blocks of the heap must overlap neither each other nor anything else in use. The functions of
+ *      the heap must not call the library. They must be thread-safe if two devices may be opened or closed at once.
+ *   9. The stack must be large enough, and aligned as the ABI demands. From reset, without your functions and
+ *      interrupts, a Cortex-M4 needs 2,032 bytes on a serial line. On Ethernet uip_open_ether brings it to 5,392, since
+ *      it moves the new device several times; the other calls for frames take at most 1,864 (computed; FIRMWARE
+ *      "Targets").
+ *  10. The processor must be set up. Cortex-M4, M7, M33: CCR.UNALIGN_TRP is 0, and stack, heap, image and all areas
+ *      that are passed lie in Normal memory. aarch64: these and the code lie in normal memory, SIMD is on, and
+ *      interrupt handlers save the SIMD registers that they use. x86-64: level v2 or later. RISC-V: ABI ilp32, or lp64
+ *      and medany. Others: nothing.
  *
- * ERRORS. If a call fails, device, `out` and counters are as before, and all other fields of the result are 0 (but see
- * uip_opened). Below, the statuses of a call are in the order in which they are looked for. No received contents cause
- * an error. A wrong length does: drop datagrams of 0 or of more than UIP_MAX_DATAGRAM bytes, and frames longer than
- * `room`; do not call uip_feed with 0 bytes. A loop that passes correct arguments, and drains before it feeds or ticks,
- * as uip_feed_all and uip_tick_all do, sees only UIP_OK. Not reported: null pointers, wrong areas, a wrong rate of
- * ticks, a slot left out or called twice in a tick, and an unknown name (uip_hits and uip_query return 0).
+ * ERRORS. If a call fails, the device, `out`, `frame` and the counters are as before, and all other fields of the
+ * result are 0 (but see uip_opened). The statuses of a call are listed in the order in which they are looked for. No
+ * received contents cause an error. A wrong length does: drop datagrams of 0 or of more than UIP_MAX_DATAGRAM bytes,
+ * and frames longer than `room`; do not call uip_feed with 0 bytes. A loop that passes correct arguments, and drains
+ * before it feeds or ticks, as uip_feed_all and uip_tick_all do, sees only UIP_OK. Not reported: null pointers, wrong
+ * areas, a wrong rate of ticks, a slot left out or called twice in a tick, and an unknown name (uip_hits and uip_query
+ * return 0).
+ *
+ * TIME. No call waits, and after opening no call takes memory. An inline function waits as long as its sink does.
  */
 #ifndef LOWUNBISA_UIP_H
 #define LOWUNBISA_UIP_H
@@ -119,7 +125,7 @@ extern "C" {
 #define UIP_VERSION_MINOR 1
 #define UIP_VERSION_PATCH 0
 
-/* The number of this interface, not of the release: it changes only when MAJOR does. Releases 1.x have interface 3. */
+/* The number of this interface, for #if. It is 3 in each release 1.x. */
 #define UIP_INTERFACE 3
 
 /*
@@ -152,7 +158,7 @@ enum uip_status {
 };
 
 /* Sizes and counts. Nothing can be configured. FIRMWARE "Sizes and timers" has MSS, window and the timers of TCP. */
-#define UIP_MAX_OUT 3002        /* bytes of the longest SLIP frame: with this room no output is ever pending */
+#define UIP_MAX_OUT 3002        /* bytes of the longest frame as SLIP encodes it: with this room none is ever pending */
 #define UIP_MIN_OUT 2           /* the least room of uip_feed, uip_periodic and uip_drain, in bytes */
 #define UIP_MAX_DATAGRAM 1500   /* bytes of the longest datagram, and the least room of the calls for datagrams */
 #define UIP_MAX_FRAME 1514      /* bytes of the longest Ethernet frame, and the least room of the calls for frames */
@@ -166,7 +172,7 @@ enum uip_status {
 enum uip_counter_id {
     UIP_DATAGRAMS_IN = 1,      /* reached IP, later drops included; not what Ethernet or ARP dropped */
     UIP_DATAGRAMS_OUT = 2,
-    UIP_OVERLONG_FRAMES = 3,   /* SLIP frames of more than 1500 bytes, dropped */
+    UIP_OVERLONG_FRAMES = 3,   /* SLIP frames of more than 1500 bytes after decoding, dropped */
     /* Datagrams that IP dropped: */
     UIP_IP_SHORT = 4,          /* shorter than a header */
     UIP_IP_VERSION = 5,        /* another version, or with options */
@@ -227,23 +233,23 @@ typedef struct uip_query_text { unsigned status; unsigned hit; size_t len; } uip
  * The result of uip_connection. If the slot is CLOSED, all fields but `status` are 0.
  *   state         an enum uip_state
  *   peer, port    the address, first byte first, and the TCP port of the peer (a number, not in network byte order)
- *   tries         how often the outstanding segment was sent again
- *   count         `waiting` is 1: how many ticks pass before the one that sends the segment again or resets the
- *                     connection (0: the next tick does)
- *                 FIN_WAIT_2, TIME_WAIT: the ticks spent there, of 120
- *                 else 0: the idle time of an ESTABLISHED connection is not shown
  *   waiting       1 if a segment is outstanding, else 0
+ *   tries         how often the outstanding segment was sent again
+ *   count         if `waiting` is 1: how many ticks pass before the one that sends the segment again or resets the
+ *                     connection (0: the next tick does)
+ *                 in FIN_WAIT_2 and TIME_WAIT: the ticks spent there, of 120
+ *                 else 0: the idle time of an ESTABLISHED connection is not shown
  */
 typedef struct uip_row { unsigned status, state; unsigned char peer[4]; unsigned port, tries, count, waiting; } uip_row;
 
-/* ---- OPEN (for Ethernet: uip_open_ether) */
+/* ---- OPEN, for a serial line or a link of datagrams (for Ethernet: uip_open_ether) */
 
 /*
  * Opens a device with a site, at an address, for a serial line or a link of datagrams.
  *
  *   device        a closed device (at first UIP_INIT)
- *   image, len    the site: the array that tools/pack.py, `uipd pack` or `uipd upgrade` makes of a folder. It is not
- *                 copied: leave it unchanged until uip_close (rule 6)
+ *   image, len    the site: the array that tools/pack.py makes of a folder. It is not copied: leave it unchanged until
+ *                 uip_close (rule 6)
  *   own           the IPv4 address, first byte first: {10, 0, 0, 1}; it is copied and not checked
  *
  * Status: UIP_HAS_DEVICE (it stays open, unchanged), UIP_BAD_IMAGE or UIP_NO_MEMORY (it is closed: you may free the
@@ -254,6 +260,60 @@ typedef struct uip_row { unsigned status, state; unsigned char peer[4]; unsigned
  * link.
  */
 uip_opened uip_open(uip_device *device, const unsigned char *image, size_t len, const unsigned char own[4]);
+
+/* ---- VALUES AND HITS. On any link, also while output is pending, and in a sink. */
+
+/*
+ * Sets a value that the pages show.
+ *
+ *   number       0 to 15
+ *   text, len    the bytes of the value, any bytes; they are copied. `len` is 0 to UIP_MAX_VALUE, in bytes
+ *
+ * Status: UIP_BAD_ARGUMENT (nothing is cut, the old value stays), UIP_NO_DEVICE, UIP_OK.
+ *
+ * In a file whose name ends in .shtml the line %! value-html 3 shows value 3, escaped for HTML. value-json escapes for
+ * a string of JSON, and value does not escape: if others can influence the text, never use it, or they can put a script
+ * into your page. A value that was never set is empty. Each value on a page costs a round trip, and two values of one
+ * page may be of two moments. See FIRMWARE "Values and clicks", and "Values in detail" with a longer `work`.
+ */
+unsigned uip_set_value(uip_device *device, size_t number, const void *text, size_t len);
+
+/* A literal as two arguments, without its 0: uip_hits(&device, UIP_TEXT("/lamp-on.html")). */
+#define UIP_TEXT(literal) ("" literal), sizeof("" literal) - 1
+
+/*
+ * Returns how often a file was requested since the device was opened, modulo 2^32; 0 if no file of the site has that
+ * name.
+ *
+ *   name, len    the name of the file as the image has it, "/lamp-on.html", without a 0 at its end
+ *
+ * Status: UIP_NO_DEVICE, UIP_OK.
+ *
+ * Each GET of the name counts, whatever follows a `?`; a retransmitted request counts once; a request of / counts for
+ * /index.html. A browser may follow a link by itself, or twice: let a link set a state, and not toggle it. It may also
+ * show a stored copy and ask nothing: FIRMWARE "Values and clicks" has the cure.
+ */
+uip_number uip_hits(uip_device *device, const void *name, size_t len);
+
+/*
+ * Copies the query that the device keeps for a file: "lamp=on" of GET /set.html?lamp=on, which a form of HTML sends.
+ *
+ *   name, len    the name of the file as the image has it, "/set.html", without a 0 at its end
+ *   out          where the text is copied to, without a 0 at its end; the bytes after it stay
+ *   room         the size of `out`, UIP_MAX_QUERY or more
+ *
+ * Result: `len` is the length of the text, which may be 0. `hit` is what uip_hits returned right after the request that
+ * brought it: if it is not 0 and differs from last time, the text is new. Both are 0 if no query is kept for that file,
+ * or no file has that name.
+ * Status: UIP_BAD_ARGUMENT, UIP_NO_DEVICE, UIP_OK.
+ *
+ * Anyone who reaches the device can send a text: check it before use. The device keeps one query: the last, of whatever
+ * file. To miss none, call this after each uip_feed, uip_input or uip_input_frame, and with uip_feed_all in the sink,
+ * at each piece. A query is kept if it has at most 64 letters, digits and -_.~%&=+, and if the target of the request
+ * comes in the first segment with data of its connection; else the one before stays. Nothing is decoded. FIRMWARE
+ * "Settings from a browser" has the form and a program, and "Queries in detail" the rest.
+ */
+uip_query_text uip_query(uip_device *device, const void *name, size_t len, void *out, size_t room);
 
 /* ---- SERIAL LINE. If your write may wait, uip_feed_all and uip_tick_all, below, are all that you need: skip to them.
  * uip_feed, uip_periodic and uip_drain are for a loop that must not wait: FIRMWARE "A loop that never waits". */
@@ -449,7 +509,7 @@ uip_result uip_periodic_datagram(uip_device *device, size_t slot, unsigned char 
  *   out, room    as for uip_periodic_datagram
  *   sink, to     called with each datagram, and with `to`
  *
- * Status: UIP_OK, or the first of uip_periodic_datagram that is not: if the rules hold, nothing was sent then.
+ * Status: as of uip_input. If it is not UIP_OK, nothing was sent, and the sink was not called.
  */
 UIP_INLINE unsigned uip_tick_datagrams(uip_device *device, unsigned char *out, size_t room, uip_sink sink, void *to) {
     uip_result done = {UIP_OK, 0, 0, 0};
@@ -469,16 +529,16 @@ UIP_INLINE unsigned uip_tick_datagrams(uip_device *device, unsigned char *out, s
  * pass `mac` and broadcast, and turn its insertion of checksums off: the library writes all checksums. If the length of
  * a received frame counts the check sequence, subtract 4. For a data cache see FIRMWARE "The Ethernet controller".
  *
- * The program on Ethernet has the includes, half_a_second_passed and work of the program above. UIP_HEAP_SIZE is
- * UIP_MEMORY_ETHER(SITE_IMAGE_FILES). The rest is:
+ * The program on Ethernet has the includes of the program above, the prototypes of milliseconds and lamp, `device`,
+ * half_a_second_passed and work. UIP_HEAP_SIZE is UIP_MEMORY_ETHER(SITE_IMAGE_FILES). The rest is:
  *
  *     size_t mac_receive(unsigned char *frame, size_t room);    // the length of a frame, at most `room` (it drops a
  *                                                               // longer one), or 0; it may sleep until a frame
  *                                                               // arrives or a tick is due
- *     void mac_send(void *to, const unsigned char *frame, size_t len);      // a uip_sink: returns when `frame` may be
- *                                                                           // overwritten
- *     static uip_device device = UIP_INIT;
- *     static unsigned char frame[UIP_MAX_FRAME];       // 1518 if the controller stores the check sequence
+ *     void mac_send(void *to, const unsigned char *frame, size_t len);      // a uip_sink: it may send by DMA, and
+ *                                                                           // returns when that has read `frame`
+ *     static unsigned char frame[UIP_MAX_FRAME];       // 1518 if the controller stores the check sequence; it lies in
+ *                                                      // Normal memory (rule 10)
  *
  *     int main(void) {
  *         static const unsigned char own[4] = {10, 0, 0, 1}, mac[6] = {2, 0, 0, 0, 0, 1};
@@ -558,7 +618,7 @@ uip_result uip_periodic_frame(uip_device *device, size_t slot, unsigned char *fr
  *   frame, room    as for uip_periodic_frame
  *   sink, to       called with each frame, and with `to`
  *
- * Status: UIP_OK, or the first of uip_periodic_frame that is not: if the rules hold, nothing was sent then.
+ * Status: as of uip_input_frame. If it is not UIP_OK, nothing was sent, and the sink was not called.
  */
 UIP_INLINE unsigned uip_tick_frames(uip_device *device, unsigned char *frame, size_t room, uip_sink sink, void *to) {
     uip_result done = {UIP_OK, 0, 0, 0};
@@ -594,8 +654,9 @@ uip_number uip_counter(uip_device *device, size_t number);
  * Status: UIP_NO_DEVICE, UIP_OK.
  *
  * While it is 1, a tick sends nothing, and you may leave ticks out: the processor can sleep until the next byte,
- * datagram or frame. After a sleep make one tick, and not all that were missed. It may be 1 while output is pending:
- * drain first. After a page it stays 0 for 60 s (TIME_WAIT), unless the peer closed first. See FIRMWARE "Sleep".
+ * datagram or frame. After a sleep make one tick, and not all that were missed. Ticks left out do not age the addresses
+ * that ARP learned. It may be 1 while output is pending: drain first. After a page it stays 0 for 60 s (TIME_WAIT),
+ * unless the peer closed first. See FIRMWARE "Sleep".
  */
 uip_number uip_is_idle(uip_device *device);
 
@@ -607,59 +668,6 @@ uip_number uip_is_idle(uip_device *device);
  * Status: UIP_BAD_ARGUMENT, UIP_NO_DEVICE, UIP_OK.
  */
 uip_row uip_connection(uip_device *device, size_t slot);
-
-/* ---- VALUES AND HITS. On any link, also while output is pending, and in a sink. */
-
-/*
- * Sets a value that the pages show.
- *
- *   number       0 to 15
- *   text, len    the bytes of the value, any bytes; they are copied. `len` is 0 to UIP_MAX_VALUE, in bytes
- *
- * Status: UIP_BAD_ARGUMENT (nothing is cut, the old value stays), UIP_NO_DEVICE, UIP_OK.
- *
- * In a file whose name ends in .shtml the line %! value-html 3 shows value 3, escaped for HTML. value-json escapes for
- * a string of JSON, and value does not escape: if others can influence the text, never use it, or they can put a script
- * into your page. A value that was never set is empty. Each value on a page costs a round trip, and two values of one
- * page may be of two moments. See FIRMWARE "Values and clicks", and "Values in detail" with a longer `work`.
- */
-unsigned uip_set_value(uip_device *device, size_t number, const void *text, size_t len);
-
-/* A literal as two arguments, without its 0: uip_hits(&device, UIP_TEXT("/lamp-on.html")). */
-#define UIP_TEXT(literal) ("" literal), sizeof("" literal) - 1
-
-/*
- * Returns how often a file was requested since the device was opened, modulo 2^32; 0 if no file of the site has that
- * name.
- *
- *   name, len    the name of the file as the image has it, "/lamp-on.html", without a 0 at its end
- *
- * Status: UIP_NO_DEVICE, UIP_OK.
- *
- * Each GET of the name counts, whatever follows a `?`; a retransmitted request counts once; a request of / counts for
- * /index.html. A browser may follow a link by itself, or twice: let a link set a state, and not toggle it. It may also
- * show a stored copy and ask nothing: FIRMWARE "Values and clicks" has the cure.
- */
-uip_number uip_hits(uip_device *device, const void *name, size_t len);
-
-/*
- * Copies the query that the device keeps for a file: "lamp=on" of GET /set.html?lamp=on, which a form of HTML sends.
- *
- *   name, len    the name of the file as the image has it, "/set.html", without a 0 at its end
- *   out          where the text is copied to, without a 0 at its end; the bytes after it stay
- *   room         the size of `out`, UIP_MAX_QUERY or more
- *
- * Result: `len` is the length of the text. `hit` is what uip_hits returned right after the request that brought it: if
- * it differs from last time, the text is new. Both are 0 if no query is kept for that file, or no file has that name.
- * Status: UIP_BAD_ARGUMENT, UIP_NO_DEVICE, UIP_OK.
- *
- * Anyone who reaches the device can send a text: check it before use. The device keeps one query: the last, of whatever
- * file. To miss none, call this after each uip_feed, uip_input or uip_input_frame, and with uip_feed_all in the sink,
- * at each piece. A query is kept if it has at most 64 letters, digits and -_.~%&=+, and if the target of the request
- * comes in the first segment with data of its connection; else the one before stays. Nothing is decoded. FIRMWARE
- * "Settings from a browser" has the form and a program, and "Queries in detail" the rest.
- */
-uip_query_text uip_query(uip_device *device, const void *name, size_t len, void *out, size_t room);
 
 /* ---- CLOSE, on any link */
 
