@@ -14,22 +14,25 @@
  * docs/LIMITS.md before you connect a node: there is no authentication, no encryption, no DHCP and no POST, sequence
  * numbers are predictable, and ten SYNs that are never acknowledged occupy all ten connections for 51 s.
  *
- * CHOOSE ONE ROW, and link exactly one library (FIRMWARE "Link the library"):
+ * CHOOSE ONE ROW, or for one device with both links the first two, and link exactly one library (FIRMWARE "Link the
+ * library"):
  *
  *     link        open            what arrives     each half second    library, in lib/TARGET of a release
  *     serial      uip_open        uip_feed_all     uip_tick_all        libuip_c.a
  *     datagrams   uip_open        uip_input        uip_tick_datagrams  libuip_c.a
- *     Ethernet    uip_open_ether  uip_input_frame  uip_tick_frames     libuip_c_ether.a; x86_64 and aarch64: libuip_c.a
+ *     Ethernet    uip_open_ether  uip_input_frame  uip_tick_frames     libuip_c_ether.a (x86_64, aarch64: libuip_c.a)
  *
  * A PROGRAM for a serial line (FIRMWARE "A loop that waits"). It includes site.c and heap.c: do not also compile these.
- * The others are above uip_input and uip_open_ether.
+ * site.c defines site_image, SITE_IMAGE_LEN and SITE_IMAGE_FILES. The programs for the other links are above uip_input
+ * and uip_open_ether.
  *
  *     #include "uip.h"
  *     #include "site.c"                                // the site as an array: python3 tools/pack.py FOLDER site.c
  *     #define UIP_HEAP_SIZE UIP_MEMORY(SITE_IMAGE_FILES)
  *     #include "heap.c"                                // examples/common/heap.c; in the repository examples/heap.c
  *
- *     size_t read_serial(unsigned char *bytes, size_t room);      // yours: from your receive ring; it may return 0
+ *     size_t read_serial(unsigned char *bytes, size_t room);      // yours: takes bytes from your receive ring; if none
+ *                                                      // arrive, it returns 0, at the latest when a tick is due
  *     void write_serial(void *to, const unsigned char *bytes, size_t len);      // yours: a uip_sink; it may wait
  *     unsigned milliseconds(void);                     // yours: modulo 2^32
  *     void lamp(int is_on);                            // yours
@@ -66,8 +69,8 @@
  *     }
  *
  * RULES, explained in FIRMWARE "The ten rules". The library cannot check them. If one is broken, the behaviour is
- * undefined. An inline function counts as one call. While it runs, its sink alone may use the device (by the calls that
- * uip_sink lists) and read `out` or `frame`, also by a DMA that ends before the sink returns.
+ * undefined. For rules 3 and 5 an inline function is one call. While it runs, only its sink may use the device, by the
+ * calls that uip_sink lists. Only its sink may read `out` or `frame`, also by a DMA that ends before the sink returns.
  *   1. Before the first call both members of a device must be 0: use UIP_INIT, or memset. If your startup code does not
  *      clear the RAM of device and heap, do it at each reset (for heap.c: FIRMWARE "The ten rules").
  *   2. While a device is open, only calls of this library may read or write it. Never copy it.
@@ -84,24 +87,22 @@
  *   8. The program must supply memcpy, memmove, memset and the heap (at the end of this file), and on 32 bits libgcc or
  *      compiler-rt. Live blocks of the heap must overlap neither each other nor anything else in use. The functions of
  *      the heap must not call the library. They must be thread-safe if two devices may be opened or closed at once.
- *   9. The stack must be large enough, and aligned as the ABI demands. From reset, without your functions and
- *      interrupts, a Cortex-M4 needs 2,032 bytes on a serial line. On Ethernet uip_open_ether brings it to 5,392, since
- *      it moves the new device several times; the other calls for frames take at most 1,864 (computed; FIRMWARE
- *      "Targets").
- *  10. The processor must be set up. Cortex-M4, M7, M33: CCR.UNALIGN_TRP is 0, and stack, heap, image and all areas
- *      that are passed lie in Normal memory. aarch64: these and the code lie in normal memory, SIMD is on, and
- *      interrupt handlers save the SIMD registers that they use. x86-64: level v2 or later. RISC-V: ABI ilp32, or lp64
- *      and medany. Others: nothing.
+ *   9. The stack must be large enough, and aligned as the ABI demands. Computed for a Cortex-M4, from reset, with main
+ *      and drivers of examples/board and without interrupts: 2,032 bytes on a serial line, 5,392 on Ethernet (FIRMWARE
+ *      "Targets" and "Stack").
+ *  10. The processor must be set up as FIRMWARE "Targets" states for yours. For example on a Cortex-M4, M7 or M33
+ *      CCR.UNALIGN_TRP is 0, and stack, heap, image and all areas that are passed lie in Normal memory.
  *
  * ERRORS. If a call fails, the device, `out`, `frame` and the counters are as before, and all other fields of the
  * result are 0 (but see uip_opened). The statuses of a call are listed in the order in which they are looked for. No
  * received contents cause an error. A wrong length does: drop datagrams of 0 or of more than UIP_MAX_DATAGRAM bytes,
  * and frames longer than `room`; do not call uip_feed with 0 bytes. A loop that passes correct arguments, and drains
- * before it feeds or ticks, as uip_feed_all and uip_tick_all do, sees only UIP_OK. Not reported: null pointers, wrong
- * areas, a wrong rate of ticks, a slot left out or called twice in a tick, and an unknown name (uip_hits and uip_query
- * return 0).
+ * what is pending before it feeds or ticks, sees only UIP_OK. Not detected: null pointers and wrong areas (rules 4 and
+ * 5). Not reported, and harmless to memory: a wrong rate of ticks, a slot left out or called twice in a tick, and an
+ * unknown name (uip_hits and uip_query return 0).
  *
- * TIME. No call waits, and after opening no call takes memory. An inline function waits as long as its sink does.
+ * TIME. No call waits, and after opening none takes memory. No bound on the time of a call is known; each handles at
+ * most one datagram. An inline function waits as long as its sink does.
  */
 #ifndef LOWUNBISA_UIP_H
 #define LOWUNBISA_UIP_H
@@ -125,7 +126,7 @@ extern "C" {
 #define UIP_VERSION_MINOR 1
 #define UIP_VERSION_PATCH 0
 
-/* The number of this interface, for #if. It is 3 in each release 1.x. */
+/* The number of the interface: 3 in each release 1.x. */
 #define UIP_INTERFACE 3
 
 /*
@@ -170,7 +171,7 @@ enum uip_status {
 
 /* The counters, by the numbers of uip_counter. Each counts modulo 2^32. */
 enum uip_counter_id {
-    UIP_DATAGRAMS_IN = 1,      /* reached IP, later drops included; not what Ethernet or ARP dropped */
+    UIP_DATAGRAMS_IN = 1,      /* reached IP, later drops included. What Ethernet or ARP drops has no counter */
     UIP_DATAGRAMS_OUT = 2,
     UIP_OVERLONG_FRAMES = 3,   /* SLIP frames of more than 1500 bytes after decoding, dropped */
     /* Datagrams that IP dropped: */
@@ -233,8 +234,8 @@ typedef struct uip_query_text { unsigned status; unsigned hit; size_t len; } uip
  * The result of uip_connection. If the slot is CLOSED, all fields but `status` are 0.
  *   state         an enum uip_state
  *   peer, port    the address, first byte first, and the TCP port of the peer (a number, not in network byte order)
- *   waiting       1 if a segment is outstanding, else 0
- *   tries         how often the outstanding segment was sent again
+ *   waiting       1 if a segment is outstanding, else 0 (the last member)
+ *   tries         how often the outstanding segment was sent again; 0 if none is
  *   count         if `waiting` is 1: how many ticks pass before the one that sends the segment again or resets the
  *                     connection (0: the next tick does)
  *                 in FIN_WAIT_2 and TIME_WAIT: the ticks spent there, of 120
@@ -273,8 +274,9 @@ uip_opened uip_open(uip_device *device, const unsigned char *image, size_t len, 
  *
  * In a file whose name ends in .shtml the line %! value-html 3 shows value 3, escaped for HTML. value-json escapes for
  * a string of JSON, and value does not escape: if others can influence the text, never use it, or they can put a script
- * into your page. A value that was never set is empty. Each value on a page costs a round trip, and two values of one
- * page may be of two moments. See FIRMWARE "Values and clicks", and "Values in detail" with a longer `work`.
+ * into your page. The file of / is /index.html, which is no script. A value that was never set is empty. Each value on
+ * a page costs a round trip, and two values of one page may be of two moments. See FIRMWARE "Values and clicks", and
+ * "Values in detail" with a longer `work`.
  */
 unsigned uip_set_value(uip_device *device, size_t number, const void *text, size_t len);
 
@@ -314,6 +316,41 @@ uip_number uip_hits(uip_device *device, const void *name, size_t len);
  * "Settings from a browser" has the form and a program, and "Queries in detail" the rest.
  */
 uip_query_text uip_query(uip_device *device, const void *name, size_t len, void *out, size_t room);
+
+/* ---- SINKS, for all links: the output of uip_feed_all, uip_tick_all, uip_drain_all, uip_tick_datagrams and
+ * uip_tick_frames */
+
+/*
+ * How the functions with a sink are inline. If a C90 compiler has no word for it, they are plain static functions. You
+ * may define UIP_INLINE before this header, with `static`: #define UIP_INLINE static __inline. (If a compiler keeps
+ * plain static functions that nobody calls, uip_tick_frames does not link with a libuip_c.a without the calls for
+ * frames.)
+ */
+#ifndef UIP_INLINE
+#if defined(__cplusplus)
+#define UIP_INLINE inline
+#elif defined(__STDC_VERSION__) && __STDC_VERSION__ >= 199901L
+#define UIP_INLINE static inline
+#elif defined(__GNUC__)
+#define UIP_INLINE static __inline__
+#else
+#define UIP_INLINE static
+#endif
+#endif
+
+/*
+ * A function of yours that takes a piece of output: it writes it to the serial port, or gives it to the controller.
+ *
+ *   to            the pointer that the caller of the inline function gave; it may be null
+ *   bytes, len    the piece, 1 byte or more, on the other links a whole datagram or frame; it lies in `out`
+ *                 or `frame`, and is valid until the sink returns
+ *
+ * The inline functions call it with each piece, in order. It must return. It accepts the whole piece, waiting until
+ * there is room, or discards bytes if the line is down: that frame is lost, as on the line, and TCP sends it again.
+ * Of the calls with this device it may make uip_set_value and those that read: uip_ticks, uip_counter, uip_is_idle,
+ * uip_connection, uip_hits and uip_query. It may make no other.
+ */
+typedef void (*uip_sink)(void *to, const unsigned char *bytes, size_t len);
 
 /* ---- SERIAL LINE. If your write may wait, uip_feed_all and uip_tick_all, below, are all that you need: skip to them.
  * uip_feed, uip_periodic and uip_drain are for a loop that must not wait: FIRMWARE "A loop that never waits". */
@@ -362,57 +399,7 @@ uip_result uip_periodic(uip_device *device, size_t slot, unsigned char *out, siz
  */
 uip_result uip_drain(uip_device *device, unsigned char *out, size_t room);
 
-/* ---- SERIAL LINE, with a sink: uip_drain_all, uip_feed_all, uip_tick_all */
-
-/*
- * How the functions with a sink are inline. If a C90 compiler has no word for it, they are plain static functions. You
- * may define UIP_INLINE before this header, with `static`: #define UIP_INLINE static __inline. (A plain static function
- * that is not used may still be compiled, and uip_tick_frames then needs the calls for frames.)
- */
-#ifndef UIP_INLINE
-#if defined(__cplusplus)
-#define UIP_INLINE inline
-#elif defined(__STDC_VERSION__) && __STDC_VERSION__ >= 199901L
-#define UIP_INLINE static inline
-#elif defined(__GNUC__)
-#define UIP_INLINE static __inline__
-#else
-#define UIP_INLINE static
-#endif
-#endif
-
-/*
- * A function of yours that takes a piece of output: for example, writes it to the serial port.
- *
- *   to            the pointer that the caller of the inline function gave; it may be null
- *   bytes, len    the piece, 1 byte or more; it lies in `out`, and is valid until the sink returns
- *
- * The inline functions call it with each piece, in order. It must return. It accepts the whole piece, waiting until
- * there is room, or discards bytes if the line is down: that frame is lost, as on the line, and TCP sends it again.
- * Of the calls with this device it may make uip_set_value and those that read: uip_ticks, uip_counter, uip_is_idle,
- * uip_connection, uip_hits and uip_query. It may make no other.
- */
-typedef void (*uip_sink)(void *to, const unsigned char *bytes, size_t len);
-
-/*
- * Passes the output of a uip_feed or uip_periodic to `sink`, and then all that is pending. For a serial line.
- *
- *   done         the result of that call; if done.consumed is less than the input, feed the rest afterwards
- *   out, room    the area of that call
- *   sink, to     called with each piece, and with `to`
- *
- * Status: done.status if that is not UIP_OK (the sink is then not called); else that of a uip_drain that failed, or
- * UIP_OK.
- */
-UIP_INLINE unsigned uip_drain_all(uip_device *device, uip_result done, unsigned char *out, size_t room, uip_sink sink,
-                                  void *to) {
-    while (done.status == UIP_OK) {
-        if (done.written) sink(to, out, done.written);
-        if (!done.pending) break;
-        done = uip_drain(device, out, room);
-    }
-    return done.status;
-}
+/* ---- SERIAL LINE, with a sink: uip_feed_all, uip_tick_all, uip_drain_all */
 
 /*
  * Feeds all bytes, and passes all output to `sink`: at most one frame for each frame that ends in `bytes`. For a serial
@@ -453,6 +440,27 @@ UIP_INLINE unsigned uip_tick_all(uip_device *device, unsigned char *out, size_t 
     while (done.status == UIP_OK && (done.pending || slot < UIP_SLOTS)) {
         done = done.pending ? uip_drain(device, out, room) : uip_periodic(device, slot++, out, room);
         if (done.written) sink(to, out, done.written);
+    }
+    return done.status;
+}
+
+/*
+ * Passes the output of a uip_feed or uip_periodic of your own to `sink`, and then all that is pending. For a serial
+ * line.
+ *
+ *   done         the result of that call; if done.consumed is less than the input, feed the rest afterwards
+ *   out, room    the area of that call
+ *   sink, to     called with each piece, and with `to`
+ *
+ * Status: done.status if that is not UIP_OK (the sink is then not called); else that of a uip_drain that failed, or
+ * UIP_OK.
+ */
+UIP_INLINE unsigned uip_drain_all(uip_device *device, uip_result done, unsigned char *out, size_t room, uip_sink sink,
+                                  void *to) {
+    while (done.status == UIP_OK) {
+        if (done.written) sink(to, out, done.written);
+        if (!done.pending) break;
+        done = uip_drain(device, out, room);
     }
     return done.status;
 }
@@ -577,7 +585,8 @@ UIP_INLINE unsigned uip_tick_datagrams(uip_device *device, unsigned char *out, s
  *
  * Status: UIP_HAS_DEVICE, UIP_BAD_IMAGE or UIP_NO_MEMORY, UIP_OK, as of uip_open.
  *
- * Needs 5,280 bytes of stack on a Cortex-M4. The heap is UIP_MEMORY_ETHER(files). No hardware address is known yet, and
+ * This call alone needs 5,280 bytes of stack on a Cortex-M4, since it moves the new device several times; the other
+ * calls for frames need at most 1,864. The heap is UIP_MEMORY_ETHER(files). No hardware address is known yet, and
  * nothing is sent.
  */
 uip_opened uip_open_ether(uip_device *device, const unsigned char *image, size_t len, const unsigned char own[4],
@@ -587,8 +596,8 @@ uip_opened uip_open_ether(uip_device *device, const unsigned char *image, size_t
  * Receives one frame, and writes the frame to send, if there is one, over it: an ARP reply, an ARP request, or a frame
  * with a datagram. Send the first `written` bytes of `frame`.
  *
- *   frame, room    the received frame in its first `len` bytes; the frame to send overwrites it from the start;
- *                  `room` is UIP_MAX_FRAME or more, and comes before `len`
+ *   frame, room    the received frame in its first `len` bytes; the frame to send overwrites it from the start. Each
+ *                  call may have another buffer. `room` is UIP_MAX_FRAME or more, and comes before `len`
  *   len            the length of the received frame, 0 to `room`; it may be padded
  *
  * Result: `consumed` is `len`; `written` is the length of the frame to send, 0 if there is none; `pending` is 0. The
@@ -685,14 +694,13 @@ unsigned uip_close(uip_device *device);
 
 /*
  * The heap, which the program supplies. Take examples/common/heap.c of a release (an array of UIP_HEAP_SIZE bytes, for
- * one thread) or examples/linux/heap.c (malloc), or write your own. One heap serves all devices (rule 8).
+ * one thread; in the repository examples/heap.c) or examples/linux/heap.c (malloc; examples/linux-c/heap.c), or write
+ * your own. The names come from Rattle, the language of the library. One heap serves all devices (rule 8).
  *
  *   rattle_alloc      returns a block of `len` bytes, or of `align` bytes if `len` is 0, at a multiple of `align` (1,
  *                     2, 4 or 8), with `ok` 1. If there is no room: `ok` 0, and a `block` that is not null, for
  *                     example the address of a static byte. NEVER RETURN A NULL BLOCK: that is undefined.
- *   rattle_realloc    returns a block as rattle_alloc does, copies the first `kept` bytes of the old block into it, and
- *                     frees the old one. Define it for the linker alone: nothing calls it. It may always fail
- *                     (`ok` 0, any address but null, the old block stays).
+ *   rattle_realloc    is for the linker alone: nothing calls it. Return `ok` 0 and any address but null.
  *   rattle_dealloc    frees a block.
  *
  * Opening allocates, and uip_close frees; no other call does (measured: FIRMWARE "The heap").
