@@ -14,8 +14,7 @@
  * docs/LIMITS.md before you connect a node: there is no authentication, no encryption, no DHCP and no POST, sequence
  * numbers are predictable, and ten SYNs that are never acknowledged occupy all ten connections for 51 s.
  *
- * CHOOSE ONE ROW, or for one device with both links the first two, and link exactly one library (FIRMWARE "Link the
- * library"):
+ * CHOOSE ONE ROW, and link exactly one library (FIRMWARE "Link the library"). A device may have both links of uip_open:
  *
  *     link        open            what arrives     each half second    library, in lib/TARGET of a release
  *     serial      uip_open        uip_feed_all     uip_tick_all        libuip_c.a
@@ -69,27 +68,28 @@
  *     }
  *
  * RULES, explained in FIRMWARE "The ten rules". The library cannot check them. If one is broken, the behaviour is
- * undefined. For rules 3 and 5 an inline function is one call. While it runs, only its sink may use the device, by the
- * calls that uip_sink lists. Only its sink may read `out` or `frame`, also by a DMA that ends before the sink returns.
+ * undefined.
  *   1. Before the first call both members of a device must be 0: use UIP_INIT, or memset. If your startup code does not
  *      clear the RAM of device and heap, do it at each reset (for heap.c: FIRMWARE "The ten rules").
  *   2. While a device is open, only calls of this library may read or write it. Never copy it.
- *   3. Calls with one device must not overlap, also not those that only read. No interrupt may make a call, not even
- *      with a device of its own. Under an RTOS let one task make all calls, or hold a mutex of the device over each
- *      call. A call and a sink must run to their end: no longjmp, no exception, no deleted task.
+ *   3. Calls with one device must not overlap, also not those that read: they change it inside. No interrupt may make a
+ *      call, not even with a device of its own. A call and a sink must run to their end: no longjmp, no exception, no
+ *      deleted task. An inline function is one call; while it runs, only its sink may use the device, by the calls that
+ *      uip_sink lists. Under an RTOS (not tried yet: FIRMWARE "RTOS") let one task make all calls, or hold a mutex of
+ *      the device over each call; a sink then runs with the mutex held.
  *   4. No pointer may be null; for 0 bytes pass any valid address. Only `to` of the inline functions may be null. Each
  *      input must be readable over its whole length (`own`, `mask` and `router` have 4 bytes, `mac` 6). Areas of bytes
  *      may have any alignment. On 32 bits no object may have 2^31 bytes or more.
  *   5. `out`, and `frame` of the calls for frames, must be writable over the whole of `room`. It may share no byte with
- *      the device or another argument. Until the call returns nothing else may read or write it, also no DMA.
+ *      the device or another argument. Until the call returns nothing else may read or write it, also no DMA, but for
+ *      the sink of an inline function: it may read it, also by a DMA that ends before the sink returns.
  *   6. The image must stay at its address, unchanged, until uip_close: it is not copied.
  *   7. All other input must stay unchanged until the call returns. After the call the library does not use it.
  *   8. The program must supply memcpy, memmove, memset and the heap (at the end of this file), and on 32 bits libgcc or
  *      compiler-rt. Live blocks of the heap must overlap neither each other nor anything else in use. The functions of
  *      the heap must not call the library. They must be thread-safe if two devices may be opened or closed at once.
- *   9. The stack must be large enough, and aligned as the ABI demands. Computed for a Cortex-M4, from reset, with main
- *      and drivers of examples/board and without interrupts: 2,032 bytes on a serial line, 5,392 on Ethernet (FIRMWARE
- *      "Targets" and "Stack").
+ *   9. The stack must be large enough, and aligned as the ABI demands. Computed for our test firmwares on a Cortex-M4,
+ *      from reset, without interrupts: 2,032 bytes on a serial line, 5,392 on Ethernet. FIRMWARE "Stack": yours.
  *  10. The processor must be set up as FIRMWARE "Targets" states for yours. For example on a Cortex-M4, M7 or M33
  *      CCR.UNALIGN_TRP is 0, and stack, heap, image and all areas that are passed lie in Normal memory.
  *
@@ -132,8 +132,8 @@ extern "C" {
 /*
  * Refuses targets of 8 and 16 bits, and big-endian ones if the compiler names the byte order. size_t and pointers
  * have 32 bits, or both have 64, and unsigned has 32. Nothing else is checked. Do not compile with -fpcc-struct-return
- * or -freg-struct-return: they change the ABI. On Cortex-M use -mfloat-abi=soft or softfp; for hard see FIRMWARE
- * "Compilers". The header is C90 or later, or C++.
+ * or -freg-struct-return: they change the ABI. The libraries for Cortex-M link with -mfloat-abi=soft or softfp; there
+ * is none for hard. The header is C90 or later, or C++.
  */
 #if defined(__BYTE_ORDER__) && defined(__ORDER_BIG_ENDIAN__) && __BYTE_ORDER__ == __ORDER_BIG_ENDIAN__
 #error "there is no library for big-endian targets"
@@ -158,7 +158,8 @@ enum uip_status {
     UIP_WRONG_LINK = 7         /* the device is on Ethernet and the call is for another link, or the other way round */
 };
 
-/* Sizes and counts. Nothing can be configured. FIRMWARE "Sizes and timers" has MSS, window and the timers of TCP. */
+/* Sizes and counts. Nothing can be configured. FIRMWARE "Sizes and timers" has MSS, window, timers, and the limits of a
+ * site. */
 #define UIP_MAX_OUT 3002        /* bytes of the longest frame as SLIP encodes it: with this room none is ever pending */
 #define UIP_MIN_OUT 2           /* the least room of uip_feed, uip_periodic and uip_drain, in bytes */
 #define UIP_MAX_DATAGRAM 1500   /* bytes of the longest datagram, and the least room of the calls for datagrams */
@@ -193,7 +194,7 @@ enum uip_counter_id {
     UIP_TCP_DROPPED = 17,      /* too short, or a wrong data offset */
     UIP_TCP_CHECKSUM = 18,     /* dropped: a wrong checksum */
     UIP_RETRANSMISSIONS = 19,  /* SYN-ACKs, data and FINs that the timer sent again */
-    UIP_SYN_DROPPED = 20       /* SYNs to a served port that found no free slot */
+    UIP_SYN_DROPPED = 20       /* SYNs to a served port that found no slot in CLOSED or TIME_WAIT */
 };
 
 /* The states of a connection (RFC 793, section 3.2), as in the field `state` of uip_row. */
@@ -234,12 +235,12 @@ typedef struct uip_query_text { unsigned status; unsigned hit; size_t len; } uip
  * The result of uip_connection. If the slot is CLOSED, all fields but `status` are 0.
  *   state         an enum uip_state
  *   peer, port    the address, first byte first, and the TCP port of the peer (a number, not in network byte order)
- *   waiting       1 if a segment is outstanding, else 0 (the last member)
- *   tries         how often the outstanding segment was sent again; 0 if none is
- *   count         if `waiting` is 1: how many ticks pass before the one that sends the segment again or resets the
+ *   tries         how often the outstanding segment was sent again; 0 if none is outstanding
+ *   count         if a segment is outstanding: how many ticks pass before the one that sends it again or resets the
  *                     connection (0: the next tick does)
  *                 in FIN_WAIT_2 and TIME_WAIT: the ticks spent there, of 120
  *                 else 0: the idle time of an ESTABLISHED connection is not shown
+ *   waiting       1 if a segment is outstanding, else 0
  */
 typedef struct uip_row { unsigned status, state; unsigned char peer[4]; unsigned port, tries, count, waiting; } uip_row;
 
@@ -272,11 +273,11 @@ uip_opened uip_open(uip_device *device, const unsigned char *image, size_t len, 
  *
  * Status: UIP_BAD_ARGUMENT (nothing is cut, the old value stays), UIP_NO_DEVICE, UIP_OK.
  *
- * In a file whose name ends in .shtml the line %! value-html 3 shows value 3, escaped for HTML. value-json escapes for
- * a string of JSON, and value does not escape: if others can influence the text, never use it, or they can put a script
- * into your page. The file of / is /index.html, which is no script. A value that was never set is empty. Each value on
- * a page costs a round trip, and two values of one page may be of two moments. See FIRMWARE "Values and clicks", and
- * "Values in detail" with a longer `work`.
+ * In a file whose name ends in .shtml the line "%! value-html 3" shows value 3, escaped for HTML. "%! value-json 3"
+ * escapes it for a string of JSON. "%! value 3" does not escape it: if others can influence the value, do not use this
+ * one, or they can put a script into your page. /index.html, the file of /, shows no values: its name ends otherwise.
+ * A value that was never set is empty. Each value on a page costs a round trip, and two values of one page may be of
+ * two moments. See FIRMWARE "Values and clicks", and "Values in detail" with a longer `work`.
  */
 unsigned uip_set_value(uip_device *device, size_t number, const void *text, size_t len);
 
@@ -452,8 +453,8 @@ UIP_INLINE unsigned uip_tick_all(uip_device *device, unsigned char *out, size_t 
  *   out, room    the area of that call
  *   sink, to     called with each piece, and with `to`
  *
- * Status: done.status if that is not UIP_OK (the sink is then not called); else that of a uip_drain that failed, or
- * UIP_OK.
+ * Status: done.status if that is not UIP_OK (the sink is then not called); else that of a uip_drain that failed (if
+ * `room` is below UIP_MIN_OUT; the sink then has the output of `done` alone), or UIP_OK.
  */
 UIP_INLINE unsigned uip_drain_all(uip_device *device, uip_result done, unsigned char *out, size_t room, uip_sink sink,
                                   void *to) {
@@ -512,7 +513,8 @@ uip_result uip_input(uip_device *device, const unsigned char *datagram, size_t l
 uip_result uip_periodic_datagram(uip_device *device, size_t slot, unsigned char *out, size_t room);
 
 /*
- * Makes one tick on a link of datagrams, and passes each datagram to `sink`: at most ten.
+ * Makes one tick on a link of datagrams, and passes each datagram to `sink`: at most ten. Call it each half second; see
+ * uip_periodic for what is due after a stall.
  *
  *   out, room    as for uip_periodic_datagram
  *   sink, to     called with each datagram, and with `to`
@@ -545,8 +547,8 @@ UIP_INLINE unsigned uip_tick_datagrams(uip_device *device, unsigned char *out, s
  *                                                               // arrives or a tick is due
  *     void mac_send(void *to, const unsigned char *frame, size_t len);      // a uip_sink: it may send by DMA, and
  *                                                                           // returns when that has read `frame`
- *     static unsigned char frame[UIP_MAX_FRAME];       // 1518 if the controller stores the check sequence; it lies in
- *                                                      // Normal memory (rule 10)
+ *     static unsigned char frame[UIP_MAX_FRAME];       // 1518 if the controller stores the check sequence. With a data
+ *                                                      // cache: aligned to its lines, and 1536 bytes
  *
  *     int main(void) {
  *         static const unsigned char own[4] = {10, 0, 0, 1}, mac[6] = {2, 0, 0, 0, 0, 1};
@@ -598,6 +600,7 @@ uip_opened uip_open_ether(uip_device *device, const unsigned char *image, size_t
  *
  *   frame, room    the received frame in its first `len` bytes; the frame to send overwrites it from the start. Each
  *                  call may have another buffer. `room` is UIP_MAX_FRAME or more, and comes before `len`
+ *                  (exchanged with it, a call returns UIP_BAD_ARGUMENT, unless both are that long)
  *   len            the length of the received frame, 0 to `room`; it may be padded
  *
  * Result: `consumed` is `len`; `written` is the length of the frame to send, 0 if there is none; `pending` is 0. The
@@ -622,7 +625,8 @@ uip_result uip_input_frame(uip_device *device, unsigned char *frame, size_t room
 uip_result uip_periodic_frame(uip_device *device, size_t slot, unsigned char *frame, size_t room);
 
 /*
- * Makes one tick on Ethernet, and passes each frame to `sink`: at most ten.
+ * Makes one tick on Ethernet, and passes each frame to `sink`: at most ten. Call it each half second; see uip_periodic
+ * for what is due after a stall.
  *
  *   frame, room    as for uip_periodic_frame
  *   sink, to       called with each frame, and with `to`
