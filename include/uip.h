@@ -14,7 +14,8 @@
  * docs/LIMITS.md before you connect a node: there is no authentication, no encryption, no DHCP and no POST, sequence
  * numbers are predictable, and ten SYNs that are never acknowledged occupy all ten connections for 51 s.
  *
- * CHOOSE ONE ROW, and link exactly one library (FIRMWARE "Link the library"). A device may have both links of uip_open:
+ * LINKS. Choose a row, and link exactly one library (FIRMWARE "Link the library"). One device of uip_open can serve the
+ * first two rows at once.
  *
  *     link        open            what arrives     each half second    library, in lib/TARGET of a release
  *     serial      uip_open        uip_feed_all     uip_tick_all        libuip_c.a
@@ -31,7 +32,7 @@
  *     #include "heap.c"                                // examples/common/heap.c; in the repository examples/heap.c
  *
  *     size_t read_serial(unsigned char *bytes, size_t room);      // yours: takes bytes from your receive ring; if none
- *                                                      // arrive, it returns 0, at the latest when a tick is due
+ *                                                      // are there it returns 0, at once or within some 100 ms
  *     void write_serial(void *to, const unsigned char *bytes, size_t len);      // yours: a uip_sink; it may wait
  *     unsigned milliseconds(void);                     // yours: modulo 2^32
  *     void lamp(int is_on);                            // yours
@@ -70,7 +71,7 @@
  * RULES, explained in FIRMWARE "The ten rules". The library cannot check them. If one is broken, the behaviour is
  * undefined.
  *   1. Before the first call both members of a device must be 0: use UIP_INIT, or memset. If your startup code does not
- *      clear the RAM of device and heap, do it at each reset (for heap.c: FIRMWARE "The ten rules").
+ *      initialise RAM, set both to 0 at each reset, and empty the heap (heap.c: heap_used and heap_blocks to 0).
  *   2. While a device is open, only calls of this library may read or write it. Never copy it.
  *   3. Calls with one device must not overlap, also not those that read: they change it inside. No interrupt may make a
  *      call, not even with a device of its own. A call and a sink must run to their end: no longjmp, no exception, no
@@ -80,16 +81,18 @@
  *   4. No pointer may be null; for 0 bytes pass any valid address. Only `to` of the inline functions may be null. Each
  *      input must be readable over its whole length (`own`, `mask` and `router` have 4 bytes, `mac` 6). Areas of bytes
  *      may have any alignment. On 32 bits no object may have 2^31 bytes or more.
- *   5. `out`, and `frame` of the calls for frames, must be writable over the whole of `room`. It may share no byte with
- *      the device or another argument. Until the call returns nothing else may read or write it, also no DMA, but for
- *      the sink of an inline function: it may read it, also by a DMA that ends before the sink returns.
+ *   5. `out`, and `frame` of the calls for frames, must be writable over the whole of `room`. It may share no byte
+ *      with the device or another argument (but it may lie in what `to` points to). Until the call returns nothing
+ *      else may read or write it, also no DMA. The sink of an inline function may read it, also by a DMA that ends
+ *      before the sink returns.
  *   6. The image must stay at its address, unchanged, until uip_close: it is not copied.
  *   7. All other input must stay unchanged until the call returns. After the call the library does not use it.
  *   8. The program must supply memcpy, memmove, memset and the heap (at the end of this file), and on 32 bits libgcc or
  *      compiler-rt. Live blocks of the heap must overlap neither each other nor anything else in use. The functions of
  *      the heap must not call the library. They must be thread-safe if two devices may be opened or closed at once.
- *   9. The stack must be large enough, and aligned as the ABI demands. Computed for our test firmwares on a Cortex-M4,
- *      from reset, without interrupts: 2,032 bytes on a serial line, 5,392 on Ethernet. FIRMWARE "Stack": yours.
+ *   9. The stack must be large enough, and aligned as the ABI demands. Computed for our test firmwares, from reset,
+ *      without interrupts: on a serial line at most 2,304 bytes on each target (FIRMWARE "Targets" has each), and on
+ *      Ethernet 5,392 on a Cortex-M4, the only one that was computed. FIRMWARE "Stack" computes yours.
  *  10. The processor must be set up as FIRMWARE "Targets" states for yours. For example on a Cortex-M4, M7 or M33
  *      CCR.UNALIGN_TRP is 0, and stack, heap, image and all areas that are passed lie in Normal memory.
  *
@@ -101,8 +104,8 @@
  * 5). Not reported, and harmless to memory: a wrong rate of ticks, a slot left out or called twice in a tick, and an
  * unknown name (uip_hits and uip_query return 0).
  *
- * TIME. No call waits, and after opening none takes memory. No bound on the time of a call is known; each handles at
- * most one datagram. An inline function waits as long as its sink does.
+ * TIME. No function of the library waits, and after opening none takes memory. Each handles at most one datagram, but
+ * no bound on its time is known. An inline function waits as long as its sink does.
  */
 #ifndef LOWUNBISA_UIP_H
 #define LOWUNBISA_UIP_H
@@ -310,11 +313,12 @@ uip_number uip_hits(uip_device *device, const void *name, size_t len);
  * or no file has that name.
  * Status: UIP_BAD_ARGUMENT, UIP_NO_DEVICE, UIP_OK.
  *
- * Anyone who reaches the device can send a text: check it before use. The device keeps one query: the last, of whatever
- * file. To miss none, call this after each uip_feed, uip_input or uip_input_frame, and with uip_feed_all in the sink,
- * at each piece. A query is kept if it has at most 64 letters, digits and -_.~%&=+, and if the target of the request
- * comes in the first segment with data of its connection; else the one before stays. Nothing is decoded. FIRMWARE
- * "Settings from a browser" has the form and a program, and "Queries in detail" the rest.
+ * Anyone who reaches the device can send a text: check it before use. The device keeps one query: the last, of
+ * whatever file. One uip_feed_all can bring several: to miss none, call this in its sink, at each piece, and otherwise
+ * after each uip_feed, uip_input or uip_input_frame. A query is kept if it has at most 64 letters, digits and
+ * -_.~%&=+, and if the target of the request comes in the first segment with data of its connection; else the one
+ * before stays. Nothing is decoded. FIRMWARE "Settings from a browser" has the form and a program, and "Queries in
+ * detail" the rest.
  */
 uip_query_text uip_query(uip_device *device, const void *name, size_t len, void *out, size_t room);
 
@@ -353,8 +357,19 @@ uip_query_text uip_query(uip_device *device, const void *name, size_t len, void 
  */
 typedef void (*uip_sink)(void *to, const unsigned char *bytes, size_t len);
 
-/* ---- SERIAL LINE. If your write may wait, uip_feed_all and uip_tick_all, below, are all that you need: skip to them.
- * uip_feed, uip_periodic and uip_drain are for a loop that must not wait: FIRMWARE "A loop that never waits". */
+/* ---- SERIAL LINE */
+
+/*
+ * SLIP (RFC 1055), uncompressed. The line carries all 8 bits of a byte: no parity, no XON and XOFF. Each frame that is
+ * sent begins and ends with an END, so what was on the line before it does no harm. An empty frame is ignored, and a
+ * frame with a damaged byte is dropped by its checksum.
+ *
+ * If your write may wait, uip_feed_all and uip_tick_all, below, are all that you need. Give the receive ring 512 bytes
+ * for a start. While the program writes, it can overflow, and TCP sends the lost data again. With 36,024 bytes it
+ * cannot: twelve frames, 3.1 s at 115,200 bits a second, are the most that one pass of the program above writes. For a
+ * product see FIRMWARE "A loop that never waits": uip_feed, uip_periodic and uip_drain, with a ring of 6,004 bytes.
+ * FIRMWARE "How much to buffer" has the sums, and "Connect it to a PC" the other end. Feed a watchdog in the sink.
+ */
 
 /*
  * Feeds bytes that were received. Stops after the first complete frame, handles it, and writes the SLIP-framed reply.
@@ -453,8 +468,7 @@ UIP_INLINE unsigned uip_tick_all(uip_device *device, unsigned char *out, size_t 
  *   out, room    the area of that call
  *   sink, to     called with each piece, and with `to`
  *
- * Status: done.status if that is not UIP_OK (the sink is then not called); else that of a uip_drain that failed (if
- * `room` is below UIP_MIN_OUT; the sink then has the output of `done` alone), or UIP_OK.
+ * Status: done.status if that is not UIP_OK (the sink is then not called); else UIP_OK.
  */
 UIP_INLINE unsigned uip_drain_all(uip_device *device, uip_result done, unsigned char *out, size_t room, uip_sink sink,
                                   void *to) {
@@ -643,7 +657,7 @@ UIP_INLINE unsigned uip_tick_frames(uip_device *device, unsigned char *frame, si
     return done.status;
 }
 
-/* ---- DIAGNOSTICS. On any link, also while output is pending, and in a sink. */
+/* ---- SLEEP AND DIAGNOSTICS. On any link, also while output is pending, and in a sink. */
 
 /*
  * Returns the number of ticks since the device was opened, modulo 2^32: the number of periodic calls of slot 0.
