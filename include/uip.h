@@ -14,8 +14,9 @@
  * docs/LIMITS.md before you connect a node: there is no authentication, no encryption, no DHCP and no POST, sequence
  * numbers are predictable, and ten SYNs that are never acknowledged occupy all ten connections for 51 s.
  *
- * LINKS. Choose a row, and link exactly one library (FIRMWARE "Link the library"). One device of uip_open can serve the
- * first two rows at once.
+ * LINKS. Choose a row, and link exactly one library (FIRMWARE "Link the library"). One device of uip_open can serve
+ * the first two rows at once. The libraries for Cortex-M link with -mfloat-abi=soft or softfp; none is supplied for
+ * hard.
  *
  *     link        open            what arrives     each half second    library, in lib/TARGET of a release
  *     serial      uip_open        uip_feed_all     uip_tick_all        libuip_c.a
@@ -51,7 +52,7 @@
  *         static unsigned seen;                        // a link to /lamp-on.html, a file of the site, is a button:
  *         unsigned hits = uip_hits(&device, UIP_TEXT("/lamp-on.html")).number;
  *         if (hits != seen) { seen = hits; lamp(1); }
- *         uip_set_value(&device, 3, UIP_TEXT("21.5")); // the line "%! value-html 3" of a file .shtml becomes 21.5
+ *         uip_set_value(&device, 3, UIP_TEXT("21.5")); // "%! value-html 3" in a file .shtml becomes 21.5
  *     }
  *
  *     int main(void) {
@@ -67,6 +68,10 @@
  *         }
  *         return (int)status;                          // a bad image, or too small a heap
  *     }
+ *
+ * WORDS. A slot is one of the ten places for a connection. A tick is ten periodic calls, one for each slot; one tick
+ * is due each half second. Output is pending if it did not fit into `out`: uip_drain writes it. A sink is your
+ * function that takes output.
  *
  * RULES, explained in FIRMWARE "The ten rules". The library cannot check them. If one is broken, the behaviour is
  * undefined.
@@ -87,12 +92,13 @@
  *      before the sink returns.
  *   6. The image must stay at its address, unchanged, until uip_close: it is not copied.
  *   7. All other input must stay unchanged until the call returns. After the call the library does not use it.
- *   8. The program must supply memcpy, memmove, memset and the heap (at the end of this file), and on 32 bits libgcc or
- *      compiler-rt. Live blocks of the heap must overlap neither each other nor anything else in use. The functions of
- *      the heap must not call the library. They must be thread-safe if two devices may be opened or closed at once.
+ *   8. The program must link memcpy, memmove and memset (those of your C library will do), on 32 bits libgcc or
+ *      compiler-rt, and the heap (at the end of this file). Live blocks of the heap must overlap neither each other
+ *      nor anything else in use. The functions of the heap must not call the library. They must be thread-safe if two
+ *      devices may be opened or closed at once.
  *   9. The stack must be large enough, and aligned as the ABI demands. Computed for our test firmwares, from reset,
- *      without interrupts: on a serial line at most 2,304 bytes on each target (FIRMWARE "Targets" has each), and on
- *      Ethernet 5,392 on a Cortex-M4, the only one that was computed. FIRMWARE "Stack" computes yours.
+ *      without interrupts: on a serial line at most 2,304 bytes on Cortex-M, RISC-V and aarch64, and on Ethernet 5,392
+ *      on a Cortex-M4. FIRMWARE "Targets" has each, and "Stack" how to compute yours.
  *  10. The processor must be set up as FIRMWARE "Targets" states for yours. For example on a Cortex-M4, M7 or M33
  *      CCR.UNALIGN_TRP is 0, and stack, heap, image and all areas that are passed lie in Normal memory.
  *
@@ -104,8 +110,9 @@
  * 5). Not reported, and harmless to memory: a wrong rate of ticks, a slot left out or called twice in a tick, and an
  * unknown name (uip_hits and uip_query return 0).
  *
- * TIME. No function of the library waits, and after opening none takes memory. Each handles at most one datagram, but
- * no bound on its time is known. An inline function waits as long as its sink does.
+ * TIME. No function of the library waits, and after opening none takes memory. Opening reads the whole image. Any
+ * other function, the inline ones apart, handles at most one datagram, but no bound on its time is known. An inline
+ * function waits as long as its sink does.
  */
 #ifndef LOWUNBISA_UIP_H
 #define LOWUNBISA_UIP_H
@@ -129,14 +136,14 @@ extern "C" {
 #define UIP_VERSION_MINOR 1
 #define UIP_VERSION_PATCH 0
 
-/* The number of the interface: 3 in each release 1.x. */
+/* The number of the interface. It rises if a C program may have to change; releases 1.x have 3. */
 #define UIP_INTERFACE 3
 
 /*
  * Refuses targets of 8 and 16 bits, and big-endian ones if the compiler names the byte order. size_t and pointers
  * have 32 bits, or both have 64, and unsigned has 32. Nothing else is checked. Do not compile with -fpcc-struct-return
- * or -freg-struct-return: they change the ABI. The libraries for Cortex-M link with -mfloat-abi=soft or softfp; there
- * is none for hard. The header is C90 or later, or C++.
+ * or -freg-struct-return: they change the ABI. The header is C90 or later,
+ * or C++.
  */
 #if defined(__BYTE_ORDER__) && defined(__ORDER_BIG_ENDIAN__) && __BYTE_ORDER__ == __ORDER_BIG_ENDIAN__
 #error "there is no library for big-endian targets"
@@ -276,11 +283,12 @@ uip_opened uip_open(uip_device *device, const unsigned char *image, size_t len, 
  *
  * Status: UIP_BAD_ARGUMENT (nothing is cut, the old value stays), UIP_NO_DEVICE, UIP_OK.
  *
- * In a file whose name ends in .shtml the line "%! value-html 3" shows value 3, escaped for HTML. "%! value-json 3"
- * escapes it for a string of JSON. "%! value 3" does not escape it: if others can influence the value, do not use this
- * one, or they can put a script into your page. /index.html, the file of /, shows no values: its name ends otherwise.
- * A value that was never set is empty. Each value on a page costs a round trip, and two values of one page may be of
- * two moments. See FIRMWARE "Values and clicks", and "Values in detail" with a longer `work`.
+ * In a file whose name ends in .shtml, "%! value-html 3", up to the end of the line, shows value 3, escaped for HTML.
+ * "%! value-json 3" escapes it for a string of JSON. "%! value 3" does not escape it: if others can influence the
+ * value, do not use this one, or they can put a script into your page. /index.html, the file of /, shows no values:
+ * its name ends otherwise. A value that was never set is empty. Each value on a page costs a round trip, and two
+ * values of one page may be of two moments. See FIRMWARE "Values and clicks", and "Values in detail" with a longer
+ * `work`.
  */
 unsigned uip_set_value(uip_device *device, size_t number, const void *text, size_t len);
 
@@ -553,12 +561,18 @@ UIP_INLINE unsigned uip_tick_datagrams(uip_device *device, unsigned char *out, s
  * pass `mac` and broadcast, and turn its insertion of checksums off: the library writes all checksums. If the length of
  * a received frame counts the check sequence, subtract 4. For a data cache see FIRMWARE "The Ethernet controller".
  *
- * The program on Ethernet has the includes of the program above, the prototypes of milliseconds and lamp, `device`,
- * half_a_second_passed and work. UIP_HEAP_SIZE is UIP_MEMORY_ETHER(SITE_IMAGE_FILES). The rest is:
+ * The program on Ethernet:
+ *
+ *     #include "uip.h"
+ *     #include "site.c"
+ *     #define UIP_HEAP_SIZE UIP_MEMORY_ETHER(SITE_IMAGE_FILES)
+ *     #include "heap.c"
+ *     // here milliseconds, lamp, device, half_a_second_passed and work, as in the program above
  *
  *     size_t mac_receive(unsigned char *frame, size_t room);    // the length of a frame, at most `room` (it drops a
  *                                                               // longer one), or 0; it may sleep until a frame
- *                                                               // arrives or a tick is due
+ *                                                               // arrives or a tick is due. When it returns, no
+ *                                                               // DMA writes to `frame` any more
  *     void mac_send(void *to, const unsigned char *frame, size_t len);      // a uip_sink: it may send by DMA, and
  *                                                                           // returns when that has read `frame`
  *     static unsigned char frame[UIP_MAX_FRAME];       // 1518 if the controller stores the check sequence. With a data
@@ -614,7 +628,7 @@ uip_opened uip_open_ether(uip_device *device, const unsigned char *image, size_t
  *
  *   frame, room    the received frame in its first `len` bytes; the frame to send overwrites it from the start. Each
  *                  call may have another buffer. `room` is UIP_MAX_FRAME or more, and comes before `len`
- *                  (exchanged with it, a call returns UIP_BAD_ARGUMENT, unless both are that long)
+ *                  (a call with the two exchanged returns UIP_BAD_ARGUMENT, unless they are equal)
  *   len            the length of the received frame, 0 to `room`; it may be padded
  *
  * Result: `consumed` is `len`; `written` is the length of the frame to send, 0 if there is none; `pending` is 0. The
@@ -623,7 +637,7 @@ uip_opened uip_open_ether(uip_device *device, const unsigned char *image, size_t
  *
  * Drops a frame of fewer than 14 or more than 1514 bytes, and one for another host. If the hardware address of the
  * destination, or of the router that leads to it, is not known, the frame that is written is an ARP request for it, and
- * the datagram is lost: TCP sends it again.
+ * the datagram is lost. TCP sends it again; a ping stays without its reply.
  */
 uip_result uip_input_frame(uip_device *device, unsigned char *frame, size_t room, size_t len);
 
