@@ -79,7 +79,7 @@ module _ (k : Interface) (mac6 : length k.host.mac ≡ 6) where
         choose (λ (l : List (MediumInput Act)). CameHome s l) (bytes_eq (mac_at frame 0) host.mac || bytes_eq (mac_at frame 0) broadcast) _ _
         (λ e. payload_home s (word_at frame 12) (drop 14 frame) sound) (λ e. none_home s sound)
 
-    call_home : (call : FrameCall) (s : Station Act) → AllSound s.acts → IsHomeBy s (station_events_by (ether_frames k) own call)
+    pub call_home : (call : FrameCall) (s : Station Act) → AllSound s.acts → IsHomeBy s (station_events_by (ether_frames k) own call)
     call_home (InputsFrame frame) s sound = choose (λ (l : List (MediumInput Act)). CameHome s l) (is_taken frame) _ _ (λ e. frame_home s frame sound) (λ e. none_home s sound)
     call_home (CallsSlot slot) s sound =
         choose (λ (acts : List Act). IsHomeBy s (map OfMedium acts ++ OfNode (Periodic slot) ∷ [])) (slot == 0) (Ticked ∷ []) []
