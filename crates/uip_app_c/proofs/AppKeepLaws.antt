@@ -12,7 +12,7 @@ use Rattle.uip_wire.specs.declared.addr.Addr.{Addr}
 use Rattle.app_events.specs.declared.state.State.{State}
 use Rattle.app_events.specs.declared.state.State.TheVariants.{SynRcvd}
 use Rattle.tcp_machine.specs.Prelude.{Connection, closed, is_live}
-use Rattle.uip_node.specs.Prelude.{AbstractNode, Event, connection_in, event_of, run, serving, step}
+use Rattle.uip_node.specs.Prelude.{AbstractNode, Event, connection_in, event_of, run, step}
 use Rattle.uip_node.proofs.Basics.{both_ways, choose}
 use Rattle.uip_node.specs.Events.Event.{Periodic}
 use Rattle.uip_node.specs.Node.{periodic}
@@ -33,11 +33,11 @@ use Rattle.own_node.specs.Prelude.{HasCaptured, can_write_in, is_ready_at, next_
 use Rattle.own_node.proofs.CaptureLaws.{captures_ready}
 use Rattle.own_node.proofs.ReadingLaws.{ready_has}
 use Rattle.uip_app_c.specs.AppCalls.{AnsweredCall, AppCall, Calls, CouldWrite, CouldWriteAll, Writes, calls_of, first_station, frame_call_of, frames_of_calls, link_of, station_after_call, station_after_calls, station_before}
-use Rattle.uip_app_c.specs.AppPromise.{AppCallsConform, Captures, CapturesAll, GoHome, IsCallOfBytes, NewestIsOf, frames_of, is_accepted, text_in_call, text_written}
+use Rattle.uip_app_c.specs.AppPromise.{AppCallsConform, Captures, CapturesAll, GoHome, IsCallOfBytes, SendsMessages, connection_after, frames_of, is_accepted, text_in_call, text_written}
 use Rattle.uip_app_c.proofs.AppLaws.{calls_exact}
-use Rattle.uip_app_c.proofs.Current.{newest_is, node_after_steps}
+use Rattle.uip_app_c.proofs.Current.{node_after_steps, sent_in_slot}
 use Rattle.uip_app_c.proofs.Slots.{InEach, each_closed, slots_step}
-use Rattle.uip_app_c.proofs.Tickets.{IsTicketed, first_ticketed, message_fits, ticketed_on, written_u32}
+use Rattle.uip_app_c.proofs.Tickets.{IsTicketed, first_ticketed, message_fits, ticketed_on}
 use Rattle.uip_app_c.proofs.Written.{HasWrittenText, IsSettled, event_leaves, first_settled, same_slot, still_leaves, node_wrote, text_grows, text_stays, write_leaves}
 
 -- ---- steps of the node
@@ -345,11 +345,11 @@ calls_conform own is mac network all bytes closed old new opens did =
         keeps = subst (λ (l : List TraceEntry). TraceConforms own_output_model is_own_port l) (sym t.turns) kept.0;
         read = subst (λ (l : List TraceEntry). All (IsReadByPeer own) l) (sym t.turns) kept.1;
       };
+      sent = λ slot live.
+          subst (λ (l : List TraceEntry). SendsMessages (connection_after own mac network all slot) (exchanges_with (connection_after own mac network all slot).sockets l)) (sym t.turns)
+          (subst (λ (n : AbstractNode). is_live (connection_in slot n).state ≡ true → SendsMessages (connection_in slot n) (exchanges_with (connection_in slot n).sockets (own_trace is_own_port steps s.node)))
+          (nodes_are own mac network calls s) (sent_in_slot is_own_port own numbers first_words steps are slot) live);
       captured = captures_all own mac network calls s bytes exact.could;
-      received = λ p.
-          subst (λ (l : List TraceEntry). NewestIsOf p (serving p (station_after_calls own mac network calls s).node.connections) (exchanges_with p l)) (sym t.turns)
-          (subst (λ (n : AbstractNode). NewestIsOf p (serving p n.connections) (exchanges_with p (own_trace is_own_port steps s.node))) (nodes_are own mac network calls s)
-          (newest_is is_own_port p own numbers first_words steps are written_u32));
       written = λ few slot.
           (all_leave own mac network calls s 0 slot [] (let size = length-map all (λ (it : AnsweredCall). it.call) in omega (arith, few, size)) bytes exact.could (first_settled own) (first_text own mac network slot)).text_is;
       home = λ six6. go_home own mac network six6 calls s tt;

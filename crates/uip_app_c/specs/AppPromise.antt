@@ -1,12 +1,12 @@
 -- What the peers receive, for any calls on a handle that was just opened.
 use Rattle.std.specs.List.{All, flat_map}
 use Rattle.std.specs.Prelude.{◌≡◌, ◌<◌, ◌++◌, ◌==◌, ℕ, Bool, List, [], ◌∷◌, if◌then◌else◌, map, length, true, false, ⊤}
-use Rattle.app_events.specs.Prelude.{IsAddr, IsByte}
+use Rattle.app_events.specs.Prelude.{IsAddr, IsByte, IsPrefixOf}
 use Rattle.app_events.specs.declared.state.State.{State}
 use Rattle.app_events.specs.declared.state.State.TheVariants.{SynRcvd}
 use Rattle.uip_wire.specs.declared.addr.Addr.{Addr}
-use Rattle.tcp_machine.specs.Prelude.{Connection, Sockets, is_live}
-use Rattle.uip_node.specs.Prelude.{connection_in, serving}
+use Rattle.tcp_machine.specs.Prelude.{Connection, is_live}
+use Rattle.uip_node.specs.Prelude.{connection_in}
 use Rattle.node_laws.specs.Prelude.{Exchange, IncarnationConforms, exchanges_with, is_incarnation}
 use Rattle.ethernet_arp.specs.Prelude.{Act}
 use Rattle.ethernet_arp.specs.declared.mac.Mac.{Mac}
@@ -62,18 +62,18 @@ text_written own mac network slot (call ∷ calls) s before =
     text_written own mac network slot calls next
     (if is_accepted (connection_in slot next.node).state then [] else before ++ text_in_call slot call)
 
--- ---- what its peer receives
+-- ---- what is sent to its peer
 
--- The incarnation conforms, and the messages of its account are those that the connection captured.
-pub record IsOfConnection (p : Sockets) (c : Connection) (incarnation : List Exchange) : Type 0 where
-  pub conforms : IncarnationConforms (own_output_model p.own_port.0) incarnation
+-- The newest incarnation among these exchanges is that of the connection. It conforms, and the text sent in it is a prefix of the messages
+-- that the connection captured.
+pub record SendsMessages (c : Connection) (exchanges : List Exchange) : Type 0 where
+  pub incarnation : List Exchange
+  pub before : List Exchange
+  pub split : exchanges ≡ incarnation ++ before
+  pub is : is_incarnation incarnation ≡ true
+  pub conforms : IncarnationConforms (own_output_model c.sockets.own_port.0) incarnation
   pub captures : (conforms.account 0).captures ≡ c.part.captures
-
--- So does the newest incarnation among these exchanges, while the connection is not CLOSED.
-abbrev pub NewestIsOf : Sockets → Connection → List Exchange → Type 0
-NewestIsOf p c exchanges =
-    (incarnation before : List Exchange) → exchanges ≡ incarnation ++ before → is_incarnation incarnation ≡ true
-    → is_live c.state ≡ true → IsOfConnection p c incarnation
+  pub prefix : IsPrefixOf (conforms.account 0).sent (messages_text c.part.captures)
 
 -- ---- where its frames go
 
@@ -88,17 +88,21 @@ GoHome own mac network (call ∷ calls) s =
 
 -- ---- the law
 
--- Each call writes the frame of what is sent in trace entries of its own events, or of ARP, and the trace conforms. What the peer of a
--- connection receives is made of the messages that this connection captured. Each message that was written is captured in its call. For
--- fewer than 2^32 calls, the text of these messages is what C wrote to the connection.
+-- the connection in a slot after all calls
+abbrev pub connection_after : Addr → Mac → Network → List AnsweredCall → ℕ → Connection
+connection_after own mac network all slot = connection_in slot (station_after_calls own mac network (calls_of all) (first_station own)).node
+
+-- Each call writes the frame of what is sent in trace entries of its own events, or of ARP, and the trace conforms. What is sent to the peer
+-- of a connection that is not CLOSED is a prefix of the messages that this connection captured. Each message that was written is captured in
+-- its call. For fewer than 2^32 calls, the messages of a connection are what C wrote to it.
 pub record AppTraceConforms (own : Addr) (mac : Mac) (network : Network) (all : List AnsweredCall) : Type 0 where
   pub frames : FramesConform (link_of own mac network) own_output_model is_own_port own (frames_of all)
+  pub sent : (slot : ℕ) → is_live (connection_after own mac network all slot).state ≡ true
+      → SendsMessages (connection_after own mac network all slot)
+      (exchanges_with (connection_after own mac network all slot).sockets (flat_map (λ it. it.turns) frames.moves))
   pub captured : CapturesAll own mac network (calls_of all) (first_station own)
-  pub received : (p : Sockets)
-      → NewestIsOf p (serving p (station_after_calls own mac network (calls_of all) (first_station own)).node.connections)
-      (exchanges_with p (flat_map (λ it. it.turns) frames.moves))
   pub written : length all < 4294967296 → (slot : ℕ)
-      → messages_text (connection_in slot (station_after_calls own mac network (calls_of all) (first_station own)).node).part.captures
+      → messages_text (connection_after own mac network all slot).part.captures
       ≡ text_written own mac network slot (calls_of all) (first_station own) []
   pub home : length mac.0 ≡ 6 → GoHome own mac network (calls_of all) (first_station own)
 
