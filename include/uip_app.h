@@ -68,8 +68,9 @@
  * What the peer receives is a prefix of the messages, in the order in which they were written. A segment that is sent
  * again has the same bytes. If a connection ends before its last message, the peer sees a reset or nothing more.
  *
- * PROVED, if the caller keeps the rules: what these two paragraphs state of the bytes, of the node that the calls
- * drive; and that each call writes exactly the frame that the definition of this node and ARP sends (crates/uip_app_c).
+ * PROVED of these calls, if the caller keeps the rules: what these two paragraphs state of the bytes, for fewer than
+ * 2^32 calls and 2^30 bytes to a connection; and that each call writes exactly the frame that the definition of this
+ * node and ARP sends (crates/uip_app_c).
  *
  * LIMITS. A peer that sends more than UIP_MAX_RECEIVED bytes before the program takes some is reset: the window stays
  * 1460. A peer that closes before it has its reply is reset too, so `echo get | nc -N` has no reply, while telnet and a

@@ -1,5 +1,5 @@
 -- Over Ethernet each frame with a datagram goes to the hardware address that its next hop taught last.
-use Rattle.frame_device.proofs.Prelude.{◌≡◌, ℕ, ◌+◌, ◌&&◌, ◌||◌, ◌==◌, Bool, true, nat_lt, List, [], ◌∷◌, ◌++◌, Option, None, Some, length, drop, map, refl, sym, ap, ◌∙◌, subst, append-nil, bytes_eq, AppSpec, address_at, word_at, Addr, reply_bytes, Event, Reply, step, MediumInput, StationEvent, OfMedium, OfNode, Station, station_after, output, reply_text, station_event_by, is_taken, Host, arp_brings, arp_packet, broadcast, frame_brings, frame_with, is_arp, is_arp_for, is_datagram, is_sendable, mac_at, no_mac, payload_brings, sender_of, Act, Asked, Replied, Ticked, known, last_learning, AllSound, IsActSound, kind_of, known_last, last_six, payload_of, sound_more, to_of, choose, event_of, Periodic, station_after_all, wrapped_to, wrapped_via, Interface, hop_of, as_medium, CallsSlot, DoesNothing, FrameCall, FrameMove, Gives, InputsFrame, Makes, Writing, station_after_move, station_events_by, initial_station, AllHome, FramesGoHome, IsHome, ether_frames}
+use Rattle.frame_device.proofs.Prelude.{◌≡◌, ℕ, ◌&&◌, ◌||◌, ◌==◌, Bool, true, nat_lt, List, [], ◌∷◌, ◌++◌, Option, None, Some, length, drop, map, refl, sym, ap, ◌∙◌, subst, append-nil, bytes_eq, AppSpec, word_at, Addr, reply_bytes, Event, Reply, step, MediumInput, StationEvent, OfMedium, OfNode, Station, station_after, output, reply_text, station_event_by, is_taken, Host, arp_brings, arp_packet, broadcast, frame_brings, frame_with, is_arp, is_arp_for, is_datagram, is_sendable, mac_at, no_mac, payload_brings, sender_of, Act, Asked, Replied, Ticked, known, last_learning, AllSound, IsActSound, kind_of, known_last, last_six, payload_of, sound_more, to_of, choose, event_of, Periodic, station_after_all, wrapped_to, wrapped_via, Interface, hop_of, as_medium, CallsSlot, DoesNothing, FrameCall, FrameMove, Gives, InputsFrame, Makes, Writing, station_after_move, station_events_by, initial_station, AllHome, FramesGoHome, IsHome, ether_frames}
 
 -- ---- frames that are sent
 
@@ -79,7 +79,7 @@ module _ (k : Interface) (mac6 : length k.host.mac ≡ 6) where
         choose (λ (l : List (MediumInput Act)). CameHome s l) (bytes_eq (mac_at frame 0) host.mac || bytes_eq (mac_at frame 0) broadcast) _ _
         (λ e. payload_home s (word_at frame 12) (drop 14 frame) sound) (λ e. none_home s sound)
 
-    call_home : (call : FrameCall) (s : Station Act) → AllSound s.acts → IsHomeBy s (station_events_by (ether_frames k) own call)
+    pub call_home : (call : FrameCall) (s : Station Act) → AllSound s.acts → IsHomeBy s (station_events_by (ether_frames k) own call)
     call_home (InputsFrame frame) s sound = choose (λ (l : List (MediumInput Act)). CameHome s l) (is_taken frame) _ _ (λ e. frame_home s frame sound) (λ e. none_home s sound)
     call_home (CallsSlot slot) s sound =
         choose (λ (acts : List Act). IsHomeBy s (map OfMedium acts ++ OfNode (Periodic slot) ∷ [])) (slot == 0) (Ticked ∷ []) []

@@ -1,5 +1,5 @@
 -- How the trace of a device on a link of frames conforms, move by move.
-use Rattle.frame_device.proofs.Prelude.{All, flat_map, ◌≡◌, ℕ, Bool, List, [], ◌∷◌, ◌++◌, map, refl, sym, ap, ◌∙◌, subst, append-nil, append_assoc, All-append, All-cons, All-head, All-nil, All-tail, IsAddr, IsPaged, IsU32, Pages, AppSpec, Ghosts, Addr, event_of, Event, HasBytes, AbstractNode, run, MediumInput, Datagram, Overlong, Own, MediumSpec, StationEvent, OfMedium, OfNode, Station, station_after, station_after_all, output, output_of_event, CarriesBytes, station_event_by, events_among, text_in, TraceConforms, at_every_port, TraceEntry, trace_of, IsOfLine, IsReadByPeer, of_bytes, of_overlong, of_call, every_step_of_pages, turn_events, DecodesBytes, FrameSpec, acts_before, as_medium, AnsweredFrame, AnswersAllFrames, CallsSlot, DoesNothing, FrameCall, FrameMove, Gives, InputsFrame, IsFreshFrameDevice, Makes, RepresentsStation, Writing, station_after_move, station_events_by, station_events_of_move, frame_moves_of, with_value, initial_station, AllHandOut, HandsOutFrame, IsFrameOfBytes, FramesConform, KeepsU32, MoveTrace, acts_in, FrameDevice}
+use Rattle.frame_device.proofs.Prelude.{All, flat_map, ◌≡◌, ℕ, Bool, List, [], ◌∷◌, ◌++◌, map, refl, sym, ap, ◌∙◌, subst, append-nil, append_assoc, All-append, All-cons, All-head, All-nil, All-tail, IsAddr, IsPaged, IsU32, Pages, AppSpec, Ghosts, Addr, event_of, Event, HasBytes, AbstractNode, run, MediumInput, Datagram, Overlong, Own, MediumSpec, StationEvent, OfMedium, OfNode, Station, station_after, station_after_all, output, output_of_event, CarriesBytes, station_event_by, events_among, text_in, TraceConforms, at_every_port, TraceEntry, trace_of, IsOfLine, IsReadByPeer, of_bytes, of_overlong, of_call, every_step, paged_everywhere, steady_of, page_bytes, OutputModel, HasOutputModel, IsSteady, SendsBytes, turn_events, DecodesBytes, FrameSpec, acts_before, as_medium, AnsweredFrame, AnswersAllFrames, CallsSlot, DoesNothing, FrameCall, FrameMove, Gives, InputsFrame, IsFreshFrameDevice, Makes, RepresentsStation, Writing, station_after_move, station_events_by, station_events_of_move, frame_moves_of, with_value, initial_station, AllHandOut, HandsOutFrame, IsFrameOfBytes, FrameTrace, FramesConform, KeepsU32, acts_in, FrameDevice}
 use Rattle.uip_node.specs.Events.Event.{Overlong as OverlongFrame, Periodic}
 use Rattle.node_laws.proofs.Steps.{Changes, OfNode as HappensAt, IsStep, LineStep, all_happen, trace_over, turns_then}
 use Rattle.frame_device.specs.declared.frames.Frames.{Ghosts as FramesGhosts}
@@ -8,20 +8,29 @@ use Rattle.frame_device.proofs.MoveLaws.{MovesOn, moves_on}
 -- ---- what events lead to, and their output
 
 module _ {C : Type 0} (m : AppSpec) (served : ℕ → Bool) where
-  said_in : (w : MediumSpec C) (own : Addr) (station_events : List (StationEvent C)) (s : Station C) → output m served w own station_events s ≡ text_in w own s.acts station_events (trace_of m served (events_among station_events) s.node)
+  pub said_in : (w : MediumSpec C) (own : Addr) (station_events : List (StationEvent C)) (s : Station C) → output m served w own station_events s ≡ text_in w own s.acts station_events (trace_of m served (events_among station_events) s.node)
   said_in w own [] s = refl
   said_in w own (OfMedium a ∷ station_events) s = ap (λ l. w.says a ++ l) (said_in w own station_events (station_after m served s (OfMedium a)))
   said_in w own (OfNode e ∷ station_events) s = ap (λ l. output_of_event m served w own s (OfNode e) ++ l) (said_in w own station_events (station_after m served s (OfNode e)))
 
-  node_after : (station_events : List (StationEvent C)) (s : Station C) → (station_after_all m served station_events s).node ≡ (run m served (events_among station_events) s.node).node
+  pub node_after : (station_events : List (StationEvent C)) (s : Station C) → (station_after_all m served station_events s).node ≡ (run m served (events_among station_events) s.node).node
   node_after [] s = refl
   node_after (OfMedium a ∷ station_events) s = node_after station_events (station_after m served s (OfMedium a))
   node_after (OfNode e ∷ station_events) s = node_after station_events (station_after m served s (OfNode e))
 
-  acts_after : (station_events : List (StationEvent C)) (s : Station C) → (station_after_all m served station_events s).acts ≡ s.acts ++ acts_in station_events
+  pub acts_after : (station_events : List (StationEvent C)) (s : Station C) → (station_after_all m served station_events s).acts ≡ s.acts ++ acts_in station_events
   acts_after [] s = sym (append-nil s.acts)
   acts_after (OfMedium a ∷ station_events) s = acts_after station_events (station_after m served s (OfMedium a)) ∙ append_assoc s.acts (a ∷ []) (acts_in station_events)
   acts_after (OfNode e ∷ station_events) s = acts_after station_events (station_after m served s (OfNode e))
+
+  -- the trace entries of a call, and what it writes for them
+  abbrev pub turns_of_call : FrameSpec C → Addr → FrameCall → Station C → List TraceEntry
+  turns_of_call w own call s = trace_of m served (events_among (station_events_by w own call)) s.node
+
+  pub call_hands_out : (w : FrameSpec C) (own : Addr) (call : FrameCall) (s : Station C) (handed : List ℕ) → handed ≡ output m served (as_medium w) own (station_events_by w own call) s
+      → HandsOutFrame w own s.acts (record { answered = record { move = Makes call; handed = handed }; turns = turns_of_call w own call s })
+  call_hands_out w own call s handed wrote =
+      record { over = turn_events m served (events_among (station_events_by w own call)) s.node; hands = wrote ∙ said_in (as_medium w) own (station_events_by w own call) s }
 
 -- ---- what calls bring
 
@@ -51,7 +60,7 @@ module _ {C : Type 0} (own : Addr) where
   steps_of w gives [] = []
   steps_of w gives (move ∷ moves) = steps_of_move w gives move ++ steps_of w gives moves
 
-  call_of_line : (w : FrameSpec C) → DecodesBytes w → (call : FrameCall) → IsFrameOfBytes (Makes call) → AllOf own (events_among (station_events_by w own call))
+  pub call_of_line : (w : FrameSpec C) → DecodesBytes w → (call : FrameCall) → IsFrameOfBytes (Makes call) → AllOf own (events_among (station_events_by w own call))
   call_of_line w decodes (InputsFrame frame) is = came_of_line (w.decodes frame) (decodes frame is)
   call_of_line w decodes (CallsSlot slot) is = acts_of_line (acts_before w slot) slot
   call_of_line w decodes DoesNothing is = All-nil (IsOfLine own)
@@ -73,7 +82,7 @@ module _ {A S M : Type 0} (g : Ghosts A S) (h : FramesGhosts M) (k : h.Config) (
   turns_by move s = trace_of m g.served (events_among (station_events_of_move (h.spec k) own move)) (with_value gives move s).node
 
   record InTurns (all : List AnsweredFrame) (s : Station h.Act) : Type 0 where
-    moves : List MoveTrace
+    moves : List FrameTrace
     answered : map (λ it. it.answered) moves ≡ all
     each : AllHandOut (h.spec k) own s.acts moves
     turns : flat_map (λ it. it.turns) moves ≡ trace_over m g.served (steps_of own (h.spec k) gives (frame_moves_of all)) s.node
@@ -120,17 +129,23 @@ module _ {A S M : Type 0} (g : Ghosts A S) (h : FramesGhosts M) (k : h.Config) (
         turns = ap (λ l. turns_by it.move s ++ l) rest.turns ∙ move_turns it.move (steps_of own (h.spec k) gives (frame_moves_of all)) s;
       }
 
-  pub keeps_frames : (pages : Pages) → IsPaged m pages → HasBytes pages → KeepsU32 gives → DecodesBytes (h.spec k) → (numbers : List ℕ) → All IsU32 numbers → IsAddr own
+  pub keeps_frames_by : (model : ℕ → OutputModel) → IsSteady m → SendsBytes m → HasOutputModel m model → KeepsU32 gives → DecodesBytes (h.spec k) → (numbers : List ℕ) → All IsU32 numbers → IsAddr own
       → (all : List AnsweredFrame) → All IsFrameOfBytes (frame_moves_of all) → (old new : FrameDevice A M S) → IsFreshFrameDevice g h k m numbers own old → AnswersAllFrames g h gives all old new
-      → FramesConform (h.spec k) pages g.served own all
-  keeps_frames pages lawful page low decodes numbers words is all bytes old new fresh answered =
+      → FramesConform (h.spec k) model g.served own all
+  keeps_frames_by model steady bytes speaks low decodes numbers words is all brought old new fresh answered =
       let steps : List LineStep = steps_of own (h.spec k) gives (frame_moves_of all) in
       let t = in_turns all old new (initial_station own numbers) fresh.stands answered in
-      let kept = every_step_of_pages m pages lawful page g.served own is numbers words steps (steps_are own (h.spec k) decodes gives low (frame_moves_of all) bytes) in
+      let kept = every_step m model steady bytes speaks g.served own is numbers words steps (steps_are own (h.spec k) decodes gives low (frame_moves_of all) brought) in
       record {
         moves = t.moves;
         answered = t.answered;
         each = t.each;
-        keeps = subst (λ (l : List TraceEntry). TraceConforms (at_every_port pages) g.served l) (sym t.turns) kept.0;
+        keeps = subst (λ (l : List TraceEntry). TraceConforms model g.served l) (sym t.turns) kept.0;
         read = subst (λ (l : List TraceEntry). All (IsReadByPeer own) l) (sym t.turns) kept.1;
       }
+
+  -- of pages at every port
+  pub keeps_frames : (pages : Pages) → IsPaged m pages → HasBytes pages → KeepsU32 gives → DecodesBytes (h.spec k) → (numbers : List ℕ) → All IsU32 numbers → IsAddr own
+      → (all : List AnsweredFrame) → All IsFrameOfBytes (frame_moves_of all) → (old new : FrameDevice A M S) → IsFreshFrameDevice g h k m numbers own old → AnswersAllFrames g h gives all old new
+      → FramesConform (h.spec k) (at_every_port pages) g.served own all
+  keeps_frames pages lawful page = keeps_frames_by (at_every_port pages) (steady_of m pages lawful) (page_bytes m pages lawful page) (paged_everywhere m pages lawful)

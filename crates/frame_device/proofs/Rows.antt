@@ -1,5 +1,5 @@
 -- The next hop from 10.0.0.1 with the mask 255.255.255.0 and the router 10.0.0.254, worked by hand; and with other masks and routers.
-use Rattle.frame_device.proofs.Prelude.{◌≡◌, ℕ, List, [], ◌∷◌, refl, Addr, Network, next_hop}
+use Rattle.frame_device.proofs.Prelude.{◌≡◌, ℕ, List, [], ◌∷◌, refl, Network, next_hop}
 
 abbrev own : List ℕ
 own = 10 ∷ 0 ∷ 0 ∷ 1 ∷ []

@@ -1,7 +1,7 @@
 -- Ethernet with ARP over whole frames, and how it compares with a line, on which each frame follows its length.
 use Rattle.std.specs.Prelude.{◌≡◌, ℕ, Bool, true, if◌then◌else◌, List, [], ◌∷◌, length, Some, ⊤}
 use Rattle.app_events.specs.Prelude.{AppSpec}
-use Rattle.uip_wire.specs.Prelude.{address_at, word_at}
+use Rattle.uip_wire.specs.Prelude.{word_at}
 use Rattle.uip_wire.specs.declared.addr.Addr.{Addr}
 use Rattle.serve_loop.specs.Prelude.{Station, output, initial_station}
 use Rattle.ethernet_arp.specs.Prelude.{ether_medium, is_taken, Host, arp_reply, frame_brings, framed, is_datagram}

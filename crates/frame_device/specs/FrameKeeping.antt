@@ -1,9 +1,9 @@
 -- How the trace of a device on a link of frames conforms, move by move.
 use Rattle.std.specs.List.{All, flat_map}
 use Rattle.std.specs.Prelude.{◌≡◌, ◌≤◌, ℕ, Bool, length, List, [], ◌∷◌, ◌++◌, map, ⊤}
-use Rattle.app_events.specs.Prelude.{IsByte, IsU32, Pages}
+use Rattle.app_events.specs.Prelude.{IsByte, IsU32}
 use Rattle.uip_wire.specs.declared.addr.Addr.{Addr}
-use Rattle.node_laws.specs.Prelude.{TraceConforms, at_every_port, TraceEntry, IsReadByPeer}
+use Rattle.node_laws.specs.Prelude.{OutputModel, TraceConforms, TraceEntry, IsReadByPeer}
 use Rattle.serve_loop.specs.Prelude.{StationEvent, OfMedium, OfNode}
 use Rattle.line_promise.specs.Prelude.{events_among, text_in}
 use Rattle.frame_device.specs.FrameCalls.{AnsweredFrame, FrameMove, Gives, InputsFrame, Makes, Writing, station_events_of_move}
@@ -26,28 +26,28 @@ acts_in (OfMedium a ∷ station_events) = a ∷ acts_in station_events
 acts_in (OfNode e ∷ station_events) = acts_in station_events
 
 -- A move that was answered, and the trace entries of its events.
-pub record MoveTrace : Type 0 where
+pub record FrameTrace : Type 0 where
   pub answered : AnsweredFrame
   pub turns : List TraceEntry
 
 -- The entries are of the events of the move. After these events of the link it writes the frame of what is sent in them, or of the
 -- link's own event.
-pub record HandsOutFrame {A : Type 0} (w : FrameSpec A) (own : Addr) (acts : List A) (it : MoveTrace) : Type 0 where
+pub record HandsOutFrame {A : Type 0} (w : FrameSpec A) (own : Addr) (acts : List A) (it : FrameTrace) : Type 0 where
   pub over : map (λ t. t.event) it.turns ≡ events_among (station_events_of_move w own it.answered.move)
   pub hands : it.answered.handed ≡ text_in (as_medium w) own acts (station_events_of_move w own it.answered.move) it.turns
 
 -- so does each of these moves in turn
-abbrev pub AllHandOut : {A : Type 0} → FrameSpec A → Addr → List A → List MoveTrace → Type 0
+abbrev pub AllHandOut : {A : Type 0} → FrameSpec A → Addr → List A → List FrameTrace → Type 0
 AllHandOut w own acts [] = ⊤
 AllHandOut w own acts (it ∷ more) =
     HandsOutFrame w own acts it × AllHandOut w own (acts ++ acts_in (station_events_of_move w own it.answered.move)) more
 
 -- Moves of a fresh device were answered so in turn. Each writes the frame of what is sent in entries of its own. The trace of all moves
 -- conforms, and each segment is read by its peer.
-pub record FramesConform {A : Type 0} (w : FrameSpec A) (pages : Pages) (served : ℕ → Bool)
+pub record FramesConform {A : Type 0} (w : FrameSpec A) (model : ℕ → OutputModel) (served : ℕ → Bool)
     (own : Addr) (all : List AnsweredFrame) : Type 0 where
-  pub moves : List MoveTrace
+  pub moves : List FrameTrace
   pub answered : map (λ it. it.answered) moves ≡ all
   pub each : AllHandOut w own [] moves
-  pub keeps : TraceConforms (at_every_port pages) served (flat_map (λ it. it.turns) moves)
+  pub keeps : TraceConforms model served (flat_map (λ it. it.turns) moves)
   pub read : All (IsReadByPeer own) (flat_map (λ it. it.turns) moves)

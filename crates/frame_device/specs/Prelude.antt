@@ -7,6 +7,6 @@ pub use Rattle.frame_device.specs.FrameCalls.{Gives, InputsFrame, IsFreshFrameDe
 pub use Rattle.frame_device.specs.FrameCalls.{Writing, frame_moves_of, frames_sent, handed_of, station_after_move}
 pub use Rattle.frame_device.specs.FrameCalls.{station_after_moves, station_events_by, station_events_of_move}
 pub use Rattle.frame_device.specs.FrameCalls.{with_value}
-pub use Rattle.frame_device.specs.FrameKeeping.{AllHandOut, FramesConform, HandsOutFrame, IsFrameOfBytes, KeepsU32, MoveTrace, acts_in}
+pub use Rattle.frame_device.specs.FrameKeeping.{AllHandOut, FrameTrace, FramesConform, HandsOutFrame, IsFrameOfBytes, KeepsU32, acts_in}
 pub use Rattle.frame_device.specs.FrameSpecs.{DecodesBytes, FrameSpec, IsSilent, acts_before, as_medium}
 pub use Rattle.frame_device.specs.NextHop.{Interface, IsOneLink, hop_of, interface_at, is_on_link, masked, next_hop, no_address}

@@ -2,8 +2,9 @@
 
 ghost use Rattle.std.specs.Prelude.{◌≡◌, ℕ, List, []};
 ghost use Rattle.std.specs.List.{All};
-ghost use Rattle.app_events.specs.Prelude.{IsAddr, IsPaged, IsU32, Pages, AppSpec};
-ghost use Rattle.uip_node.specs.Prelude.{HasBytes};
+ghost use Rattle.app_events.specs.Prelude.{IsAddr, IsU32, AppSpec};
+ghost use Rattle.uip_node.specs.Prelude.{IsSteady, SendsBytes};
+ghost use Rattle.node_laws.specs.Prelude.{HasOutputModel, OutputModel};
 ghost use Rattle.uip_wire.specs.declared.addr.Addr.{Addr};
 ghost use Rattle.frame_device.specs.declared.device.FrameDevice.{FrameDevice as AnyDevice};
 ghost use Rattle.frame_device.specs.Prelude.{FramesGoHome, SentAsOnLine, AnsweredFrame, AnswersAllFrames, FromFresh};
@@ -26,15 +27,15 @@ pub fn frame_calls_are_exact<A: App, M: Frames>()
     ensures kept { FromFresh A.App M.Frames (λ k m gives numbers own all old new. A.config new.node.shared ≡ A.config old.node.shared) }
 {}
 
-/// Holds for any frames of bytes and any other calls of a fresh device in turn, and any values that are set between them, if the text of
-/// its application is a page of bytes. Each call writes the frame of what is sent in trace entries of its own events, or of the link's own
+/// Holds for any frames of bytes and any other calls of a fresh device in turn, and any values that are set between them, if its application
+/// never retracts text, and sends bytes. Each call writes the frame of what is sent in trace entries of its own events, or of the link's own
 /// event, and the trace conforms.
 pub fn frame_calls_keep_the_promise<A: App, M: Frames>()
-    ensures { (k : M.Config) (m : AppSpec) (pages : Pages) → IsPaged m pages → HasBytes pages → (gives : Writing) → KeepsU32 gives
-        → (numbers : List ℕ) → All IsU32 numbers → (own : Addr) → IsAddr own
+    ensures { (k : M.Config) (m : AppSpec) (model : ℕ → OutputModel) → IsSteady m → SendsBytes m → HasOutputModel m model
+        → (gives : Writing) → KeepsU32 gives → (numbers : List ℕ) → All IsU32 numbers → (own : Addr) → IsAddr own
         → (all : List AnsweredFrame) → All IsFrameOfBytes (frame_moves_of all) → (old new : AnyDevice A M A.Shared)
         → IsFreshFrameDevice A.App M.Frames k m numbers own old → AnswersAllFrames A.App M.Frames gives all old new
-        → FramesConform (M.spec k) pages A.served own all }
+        → FramesConform (M.spec k) model A.served own all }
 {}
 
 /// Over Ethernet, if every address is on the link, a call writes what `ether_medium` sends on a line for the same events, without the

@@ -2,4 +2,5 @@ pub mod Kept
 pub mod Holding
 pub mod Handles
 pub mod AppCalls
+pub mod AppPromise
 pub mod ConstantValues

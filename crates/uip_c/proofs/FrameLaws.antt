@@ -1,5 +1,5 @@
 -- Moves on a handle over Ethernet, one after the other, are moves of its device.
-use Rattle.uip_c.proofs.Prelude.{All, ◌≡◌, ℕ, List, [], ◌∷◌, refl, sym, ap, ◌∙◌, subst, IsAddr, IsByte, File, HasSoundScripts, IsLoaded, SiteContent, files_of, is_served, made_of_bytes_by, keeps_page_laws_by, word_calls, words, words_bytes, words_short, Addr, initial_station, Interface, Mac, Network, ether_brings_bytes, ether_frames, AnsweredFrame, AnswersAllFrames, AnswersFrame, AnswersFrameMove, CallsSlot, ChangesNumbers, DoesNothing, FrameCall, FrameMove, Gives, InputsFrame, Makes, handed_of, frame_moves_of, FramesConform, IsFrameOfBytes, keeps_frames, device_stands, frames_exact, same_kept, first_numbers, value_pages, value_spec, write_value, first_words, written_words, EtherRepresents, interface_at, web_frames_sent, web_station_after, DidFrame, DidFrames, EtherAnswers, OpensEtherAs, HandleGives, EtherWeb, IsEther, Kept, NoDevice, OnEther, OnLine}
+use Rattle.uip_c.proofs.Prelude.{All, ◌≡◌, ℕ, List, [], ◌∷◌, refl, sym, ap, ◌∙◌, subst, IsAddr, IsByte, File, HasSoundScripts, IsLoaded, SiteContent, files_of, is_served, at_every_port, made_of_bytes_by, keeps_page_laws_by, word_calls, words, words_bytes, words_short, Addr, initial_station, Interface, Mac, Network, ether_brings_bytes, ether_frames, AnsweredFrame, AnswersAllFrames, AnswersFrame, AnswersFrameMove, CallsSlot, ChangesNumbers, DoesNothing, FrameCall, FrameMove, Gives, InputsFrame, Makes, handed_of, frame_moves_of, FramesConform, IsFrameOfBytes, keeps_frames, device_stands, frames_exact, same_kept, first_numbers, value_pages, value_spec, write_value, first_words, written_words, EtherRepresents, interface_at, web_frames_sent, web_station_after, DidFrame, DidFrames, EtherAnswers, OpensEtherAs, HandleGives, EtherWeb, IsEther, Kept, NoDevice, OnEther, OnLine}
 use Rattle.uip_device.specs.contracts.value_pages.ValuePagesApp.TheImpl.{ghosts}
 use Rattle.frame_device.specs.contracts.ether.EthernetFrames.TheImpl.{ghosts as ether_link}
 
@@ -88,7 +88,7 @@ module _ (files : List File) (own : Addr) (mac : Mac) (network : Network) (all :
 
 module _ (site : SiteContent) (loaded : IsLoaded site) (image : All IsByte site.image) (sound : HasSoundScripts word_calls (files_of site)) (own : Addr) (is : IsAddr own) (mac : Mac) (network : Network) where
   pub f_keeps : (all : List AnsweredFrame) → All IsFrameOfBytes (frame_moves_of all) → (closed old new : Kept) → OpensEtherAs (files_of site) own mac network closed old
-      → DidFrames all old new → FramesConform (ether_frames (interface_at own mac network)) (value_pages (files_of site)) is_served own all
+      → DidFrames all old new → FramesConform (ether_frames (interface_at own mac network)) (at_every_port (value_pages (files_of site))) is_served own all
   f_keeps all bytes closed old new opens did =
       let files : List File = files_of site in
       let on : OnDevices all opens.1.0 new = on_devices all opens.1.0 old new opens.1.1 did in

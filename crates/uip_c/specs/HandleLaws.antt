@@ -11,6 +11,7 @@ use Rattle.uip_edge.specs.declared.item.Item.{Item}
 use Rattle.uip_wire.specs.declared.addr.Addr.{Addr}
 use Rattle.ethernet_arp.specs.declared.mac.Mac.{Mac}
 use Rattle.frame_device.specs.declared.network.Network.{Network}
+use Rattle.node_laws.specs.Prelude.{at_every_port}
 use Rattle.frame_device.specs.Prelude.{AnsweredFrame, FramesConform, IsFrameOfBytes, ether_frames, frame_moves_of, interface_at}
 use Rattle.uip_device.specs.Prelude.{Answered, Bring, CallsConform, IsOfBytes, line_handed, moves_of, value_pages, web_output}
 use Rattle.uip_c.specs.FrameHandles.{DidFrames, OpensEtherAs}
@@ -43,4 +44,4 @@ abbrev pub FramesFromCConform : Type 0
 FramesFromCConform = OfSites (λ site own.
     (mac : Mac) (network : Network) (all : List AnsweredFrame) → All IsFrameOfBytes (frame_moves_of all) → (closed old new : Kept)
     → OpensEtherAs (files_of site) own mac network closed old → DidFrames all old new
-    → FramesConform (ether_frames (interface_at own mac network)) (value_pages (files_of site)) is_served own all)
+    → FramesConform (ether_frames (interface_at own mac network)) (at_every_port (value_pages (files_of site))) is_served own all)

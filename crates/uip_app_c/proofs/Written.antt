@@ -1,0 +1,373 @@
+-- What a connection captured is what C wrote to it, for fewer than 2^32 calls.
+use Rattle.std.specs.List.{All}
+use Rattle.std.proofs.Common.{◌≡◌, ◌∙◌, ℕ, ◌+◌, ◌<◌, ◌≤◌, ◌%◌, inl, inr, Bool, true, false, List, [], ◌∷◌, ◌++◌, append-nil, drop, if◌then◌else◌, length, length-append, nat_le, refl, sym, ap, subst, arith}
+use Rattle.std.proofs.lemmas.Bool.{and_parts, eqb-true, false≢true}
+use Rattle.std.specs.Prelude.{slice_index_or, slice_set}
+use Rattle.app_events.specs.Prelude.{AppState, IsByte, Snapshot}
+use Rattle.app_events.specs.declared.now.Now.{Now}
+use Rattle.app_events.specs.declared.state.State.{State}
+use Rattle.app_events.specs.declared.state.State.TheVariants.{Closed, SynRcvd, Established, CloseWait, FinWait1, FinWait2, Closing, TimeWait, LastAck}
+use Rattle.uip_wire.specs.declared.addr.Addr.{Addr}
+use Rattle.tcp_machine.specs.Prelude.{Connection, Outcome, accepted, closed, is_open}
+use Rattle.uip_node.specs.Prelude.{AbstractNode, connection_in, initial_node}
+use Rattle.uip_node.specs.Node.{periodic}
+use Rattle.uip_node.proofs.Basics.{both_ways}
+use Rattle.uip_node.proofs.Cases.{is_ask}
+use Rattle.own_app.specs.Prelude.{PlainMessage, is_next_message, message_in, messages_text, next_ticket, no_message, numbers_of, opened_in, own_spec, pending as pending_of, with_message, with_written}
+use Rattle.own_app.proofs.CaptureLaws.{message_back}
+use Rattle.own_node.specs.Prelude.{HasCaptured, can_write_in, is_ready_at, next_message}
+use Rattle.own_node.proofs.ReadingLaws.{IsReady, ready_has}
+use Rattle.uip_app_c.specs.AppPromise.{is_accepted}
+use Rattle.uip_app_c.proofs.Parts.{AskedPart}
+use Rattle.uip_app_c.proofs.Parts.OutParts.{opened, same}
+use Rattle.uip_app_c.proofs.Slots.{InEach, MovesSlot, SlotsStep, each_closed, each_set, index_set, periodic_step}
+use Rattle.uip_app_c.proofs.Slots.IndexSet.{new_at, old_at}
+use Rattle.uip_app_c.proofs.Slots.SlotsStep.{accepts_slot, moves_slot, still}
+use Rattle.uip_app_c.proofs.Tickets.{prepared_own}
+
+-- ---- the newest message and the tickets
+
+-- an open connection cannot capture the message
+abbrev IsSpent : PlainMessage → Connection → Type 0
+IsSpent message c = is_open c.state ≡ true → message.to ≡ c.part.own → message.number ≡ length c.part.captures % 4294967296 → ⊥
+
+-- open connections have different tickets
+abbrev AreApart : List Connection → Type 0
+AreApart cs =
+    (i j : ℕ) → (i ≡ j → ⊥) → is_open (slice_index_or cs i closed).state ≡ true → is_open (slice_index_or cs j closed).state ≡ true
+    → (slice_index_or cs i closed).part.own ≡ (slice_index_or cs j closed).part.own → ⊥
+
+-- At most `count` connections were opened, with tickets up to that. The newest message is spent.
+pub record IsSettled (n : AbstractNode) (count : ℕ) : Type 0 where
+  pub few : opened_in n.numbers ≤ count
+  pub tickets : InEach (λ c. c.part.own ≤ opened_in n.numbers) n.connections
+  pub newest : (message_in n.numbers).to ≤ opened_in n.numbers
+  pub apart : AreApart n.connections
+  pub spent : InEach (IsSpent (message_in n.numbers)) n.connections
+
+pub first_settled : (own : Addr) → IsSettled (initial_node own (numbers_of 0 no_message)) 0
+first_settled own = record {
+  few = omega arith;
+  tickets = λ slot. subst (λ (c : Connection). c.part.own ≤ 0) (sym (each_closed 10 slot)) (omega arith);
+  newest = omega arith;
+  apart = λ i j n o. absurd (false≢true (subst (λ (c : Connection). is_open c.state ≡ true) (each_closed 10 i) o));
+  spent = λ slot o. absurd (false≢true (subst (λ (c : Connection). is_open c.state ≡ true) (each_closed 10 slot) o));
+}
+
+apart_set : (cs : List Connection) (i : ℕ) (new : Connection)
+    → ((j : ℕ) → (j ≡ i → ⊥) → is_open new.state ≡ true → is_open (slice_index_or cs j closed).state ≡ true → new.part.own ≡ (slice_index_or cs j closed).part.own → ⊥)
+    → AreApart cs → AreApart (slice_set cs i new)
+apart_set cs i new alone apart a b ne =
+    elim (index_set cs i new a) [
+      | new_at e v ↦
+          elim (index_set cs i new b) [
+            | new_at f w ↦ λ o p q. ne (e ∙ sym f)
+            | old_at h w ↦ λ o p q.
+                alone b (λ f. ne (e ∙ sym f)) (subst (λ (c : Connection). is_open c.state ≡ true) v o) (subst (λ (c : Connection). is_open c.state ≡ true) w p)
+                (ap (λ (c : Connection). c.part.own) (sym v) ∙ q ∙ ap (λ (c : Connection). c.part.own) w)
+          ]
+      | old_at h v ↦
+          elim (index_set cs i new b) [
+            | new_at f w ↦ λ o p q.
+                alone a (λ e. ne (e ∙ sym f)) (subst (λ (c : Connection). is_open c.state ≡ true) w p) (subst (λ (c : Connection). is_open c.state ≡ true) v o)
+                (ap (λ (c : Connection). c.part.own) (sym w) ∙ sym q ∙ ap (λ (c : Connection). c.part.own) v)
+            | old_at g w ↦ λ o p q.
+                apart a b ne (subst (λ (c : Connection). is_open c.state ≡ true) v o) (subst (λ (c : Connection). is_open c.state ≡ true) w p)
+                (ap (λ (c : Connection). c.part.own) (sym v) ∙ q ∙ ap (λ (c : Connection). c.part.own) w)
+          ]
+    ]
+
+same_message : (ticket : ℕ) (numbers : List ℕ) → message_in (ticket ∷ drop 1 numbers) ≡ message_in numbers
+same_message ticket [] = refl
+same_message ticket (a ∷ []) = refl
+same_message ticket (a ∷ b ∷ []) = refl
+same_message ticket (a ∷ b ∷ c ∷ []) = refl
+same_message ticket (a ∷ b ∷ c ∷ d ∷ []) = refl
+same_message ticket (a ∷ b ∷ c ∷ d ∷ e ∷ text) = refl
+
+-- ---- an event captures nothing
+
+prepared_none : (numbers : List ℕ) (p : AppState) (now : Now) → ((message_in numbers).to ≡ p.own → (message_in numbers).number ≡ length p.captures % 4294967296 → ⊥)
+    → (own_spec.prepare numbers p now).captures ≡ p.captures
+prepared_none numbers p now spent =
+    elim (is_next_message (message_in numbers) p) as (λ b. is_next_message (message_in numbers) p ≡ b → (if b then with_message numbers p now else p).captures ≡ p.captures) [
+      | true ↦ λ e. (let first = and_parts _ _ (and_parts _ _ (and_parts _ _ (and_parts _ _ (and_parts _ _ e).0).0).0).0 in
+          absurd (spent (eqb-true (message_in numbers).to p.own first.0) (eqb-true (message_in numbers).number (length p.captures % 4294967296) first.1)))
+      | false ↦ λ e. refl
+    ] refl
+
+asked_none : (o result : Outcome) → AskedPart o result
+    → (is_ask o.step ≡ true → (message_in o.numbers).to ≡ o.connection.part.own → (message_in o.numbers).number ≡ length o.connection.part.captures % 4294967296 → ⊥)
+    → result.connection.part.captures ≡ o.connection.part.captures
+asked_none o result h spent =
+    elim h.part [
+      | inl e ↦ ap (λ (p : AppState). p.captures) e
+      | inr e ↦ ap (λ (p : AppState). p.captures) e.1.1 ∙ prepared_none o.numbers o.connection.part e.1.0 (spent e.0)
+    ]
+
+asked_own : (o result : Outcome) → AskedPart o result → result.connection.part.own ≡ o.connection.part.own
+asked_own o result h =
+    elim h.part [
+      | inl e ↦ ap (λ (p : AppState). p.own) e
+      | inr e ↦ ap (λ (p : AppState). p.own) e.1.1 ∙ prepared_own o.numbers o.connection.part e.1.0
+    ]
+
+-- The connection in a slot after an event has the captures of before; or it begins, without captures.
+pub data SlotAfter (c d : Connection) : Type 0 where
+  goes_on : d.part.captures ≡ c.part.captures → (d.state ≡ SynRcvd → c.state ≡ SynRcvd) → SlotAfter c d
+  opens : c.state ≡ SynRcvd → (d.state ≡ SynRcvd → ⊥) → d.part.captures ≡ [] → SlotAfter c d
+  begins : d.state ≡ SynRcvd → d.part.captures ≡ [] → SlotAfter c d
+
+pub record EventLeaves (n m : AbstractNode) (count : ℕ) : Type 0 where
+  pub settled : IsSettled m count
+  pub slots : (slot : ℕ) → SlotAfter (connection_in slot n) (connection_in slot m)
+
+pub still_leaves : (n m : AbstractNode) (count : ℕ) → m.connections ≡ n.connections → m.numbers ≡ n.numbers → IsSettled n count → EventLeaves n m (count + 1)
+still_leaves n m count cs ns g = record {
+  settled = record {
+    few = (let few = g.few in omega (arith, few, ap (λ (l : List ℕ). opened_in l) ns));
+    tickets = subst (λ (l : List Connection). InEach (λ c. c.part.own ≤ opened_in m.numbers) l) (sym cs) (subst (λ (l : List ℕ). InEach (λ c. c.part.own ≤ opened_in l) n.connections) (sym ns) g.tickets);
+    newest = subst (λ (l : List ℕ). (message_in l).to ≤ opened_in l) (sym ns) g.newest;
+    apart = subst AreApart (sym cs) g.apart;
+    spent = subst (λ (l : List Connection). InEach (IsSpent (message_in m.numbers)) l) (sym cs) (subst (λ (l : List ℕ). InEach (IsSpent (message_in l)) n.connections) (sym ns) g.spent);
+  };
+  slots = λ slot. (let e : connection_in slot m ≡ connection_in slot n = ap (λ (l : List Connection). slice_index_or l slot closed) cs in
+      goes_on (ap (λ (c : Connection). c.part.captures) e) (λ z. ap (λ (c : Connection). c.state) (sym e) ∙ z));
+}
+
+-- a slot gets a new connection, and the others stay
+module _ (n m : AbstractNode) (count slot : ℕ) (d : Connection) (cs : m.connections ≡ slice_set n.connections slot d) (g : IsSettled n count) where
+  others_stay : SlotAfter (connection_in slot n) d → (at : ℕ) → SlotAfter (connection_in at n) (connection_in at m)
+  others_stay here at =
+      elim (index_set n.connections slot d at) [
+        | new_at e v ↦
+            (let f : connection_in at m ≡ d = ap (λ (l : List Connection). slice_index_or l at closed) cs ∙ v in
+            subst (λ (x : Connection). SlotAfter (connection_in at n) x) (sym f) (subst (λ (k : ℕ). SlotAfter (connection_in k n) d) (sym e) here))
+        | old_at h v ↦
+            (let f : connection_in at m ≡ connection_in at n = ap (λ (l : List Connection). slice_index_or l at closed) cs ∙ v in
+            goes_on (ap (λ (c : Connection). c.part.captures) f) (λ z. ap (λ (c : Connection). c.state) (sym f) ∙ z))
+      ]
+
+  -- with its ticket, and no capture more
+  settled_same : m.numbers ≡ n.numbers → d.part.own ≡ (connection_in slot n).part.own → d.part.captures ≡ (connection_in slot n).part.captures
+      → (is_open d.state ≡ true → is_open (connection_in slot n).state ≡ true) → IsSettled m (count + 1)
+  settled_same ns own captures opened_before = record {
+    few = (let few = g.few in omega (arith, few, ap (λ (l : List ℕ). opened_in l) ns));
+    tickets =
+        subst (λ (l : List Connection). InEach (λ c. c.part.own ≤ opened_in m.numbers) l) (sym cs)
+        (subst (λ (l : List ℕ). InEach (λ c. c.part.own ≤ opened_in l) (slice_set n.connections slot d)) (sym ns)
+        (each_set (λ c. c.part.own ≤ opened_in n.numbers) n.connections slot d (let low = g.tickets slot in omega (arith, low, own)) g.tickets));
+    newest = subst (λ (l : List ℕ). (message_in l).to ≤ opened_in l) (sym ns) g.newest;
+    apart = subst AreApart (sym cs) (apart_set n.connections slot d (λ j ne o p q. g.apart slot j (λ e. ne (sym e)) (opened_before o) p (sym own ∙ q)) g.apart);
+    spent =
+        subst (λ (l : List Connection). InEach (IsSpent (message_in m.numbers)) l) (sym cs)
+        (subst (λ (l : List ℕ). InEach (IsSpent (message_in l)) (slice_set n.connections slot d)) (sym ns)
+        (each_set (IsSpent (message_in n.numbers)) n.connections slot d
+        (λ o to number. g.spent slot (opened_before o) (to ∙ own) (number ∙ ap (λ (l : List Snapshot). length l % 4294967296) captures)) g.spent));
+  }
+
+  -- not open
+  settled_shut : m.numbers ≡ n.numbers → d.part.own ≡ 0 → is_open d.state ≡ false → IsSettled m (count + 1)
+  settled_shut ns own shut = record {
+    few = (let few = g.few in omega (arith, few, ap (λ (l : List ℕ). opened_in l) ns));
+    tickets =
+        subst (λ (l : List Connection). InEach (λ c. c.part.own ≤ opened_in m.numbers) l) (sym cs)
+        (each_set (λ c. c.part.own ≤ opened_in m.numbers) n.connections slot d (omega (arith, own)) (subst (λ (l : List ℕ). InEach (λ c. c.part.own ≤ opened_in l) n.connections) (sym ns) g.tickets));
+    newest = subst (λ (l : List ℕ). (message_in l).to ≤ opened_in l) (sym ns) g.newest;
+    apart = subst AreApart (sym cs) (apart_set n.connections slot d (λ j ne o p q. absurd (false≢true (sym shut ∙ o))) g.apart);
+    spent =
+        subst (λ (l : List Connection). InEach (IsSpent (message_in m.numbers)) l) (sym cs)
+        (each_set (IsSpent (message_in m.numbers)) n.connections slot d (λ o. absurd (false≢true (sym shut ∙ o)))
+        (subst (λ (l : List ℕ). InEach (IsSpent (message_in l)) n.connections) (sym ns) g.spent));
+  }
+
+  -- with the next ticket
+  settled_opened : count + 1 < 4294967296 → m.numbers ≡ next_ticket n.numbers ∷ drop 1 n.numbers → d.part.own ≡ next_ticket n.numbers → IsSettled m (count + 1)
+  settled_opened low ns own =
+      let few = g.few in
+      let next : next_ticket n.numbers ≡ opened_in n.numbers + 1 = omega (arith, few, low) in
+      let now : opened_in m.numbers ≡ opened_in n.numbers + 1 = ap (λ (l : List ℕ). opened_in l) ns ∙ next in
+      let message : message_in m.numbers ≡ message_in n.numbers = ap (λ (l : List ℕ). message_in l) ns ∙ same_message (next_ticket n.numbers) n.numbers in
+      record {
+        few = omega (arith, few, now);
+        tickets =
+            subst (λ (l : List Connection). InEach (λ c. c.part.own ≤ opened_in m.numbers) l) (sym cs)
+            (each_set (λ c. c.part.own ≤ opened_in m.numbers) n.connections slot d (omega (arith, own, next, now)) (λ j. (let l = g.tickets j in omega (arith, l, now))));
+        newest = (let newest = g.newest in omega (arith, newest, now, ap (λ (x : PlainMessage). x.to) message));
+        apart = subst AreApart (sym cs) (apart_set n.connections slot d (λ j ne o p q. (let l = g.tickets j in omega (arith, l, q, own, next))) g.apart);
+        spent =
+            subst (λ (l : List Connection). InEach (IsSpent (message_in m.numbers)) l) (sym cs)
+            (each_set (IsSpent (message_in m.numbers)) n.connections slot d
+            (λ o to number. (let newest = g.newest in omega (arith, newest, to, own, next, ap (λ (x : PlainMessage). x.to) message)))
+            (subst (λ (x : PlainMessage). InEach (IsSpent x) n.connections) (sym message) g.spent));
+      }
+
+not_syn : (d : Connection) → d.state ≡ Established → d.state ≡ SynRcvd → ⊥
+not_syn d e f = absurd (let z : Established ≡ SynRcvd = sym e ∙ f in cc)
+
+moves_leaves : (n m : AbstractNode) (count slot : ℕ) → count + 1 < 4294967296 → MovesSlot n m slot → IsSettled n count → EventLeaves n m (count + 1)
+moves_leaves n m count slot low it g =
+    let c : Connection = connection_in slot n in
+    let d : Connection = it.result.connection in
+    elim it.parts [
+      | same own captures numbers_are opens_before asks syn ↦
+          (let numbers : m.numbers ≡ n.numbers = it.numbers ∙ it.asked.numbers ∙ numbers_are in
+          let none : d.part.captures ≡ it.o.connection.part.captures =
+          asked_none it.o it.result it.asked (λ a to number.
+          g.spent slot (asks a) (sym (ap (λ (l : List ℕ). (message_in l).to) numbers_are) ∙ to ∙ own)
+          (sym (ap (λ (l : List ℕ). (message_in l).number) numbers_are) ∙ number ∙ ap (λ (l : List Snapshot). length l % 4294967296) captures)) in
+          record {
+            settled = settled_same n m count slot d it.connections g numbers (asked_own it.o it.result it.asked ∙ own) (none ∙ captures) (λ o. opens_before (it.asked.opens o));
+            slots = others_stay n m count slot d it.connections g (goes_on (none ∙ captures) (λ z. syn (it.asked.syn z)));
+          })
+      | opened state now own captures numbers_are ↦
+          (let few = g.few in
+          let newest = g.newest in
+          let next : next_ticket n.numbers ≡ opened_in n.numbers + 1 = omega (arith, few, low) in
+          let message : message_in it.o.numbers ≡ message_in n.numbers = ap (λ (l : List ℕ). message_in l) numbers_are ∙ same_message (next_ticket n.numbers) n.numbers in
+          let none : d.part.captures ≡ it.o.connection.part.captures =
+          asked_none it.o it.result it.asked (λ a to number. omega (arith, newest, to, own, next, ap (λ (x : PlainMessage). x.to) message)) in
+          record {
+            settled = settled_opened n m count slot d it.connections g low (it.numbers ∙ it.asked.numbers ∙ numbers_are) (asked_own it.o it.result it.asked ∙ own);
+            slots = others_stay n m count slot d it.connections g (opens state (λ z. not_syn it.o.connection now (it.asked.syn z)) (none ∙ captures));
+          })
+    ]
+
+pub event_leaves : (n m : AbstractNode) (count : ℕ) → count + 1 < 4294967296 → SlotsStep n m → IsSettled n count → EventLeaves n m (count + 1)
+event_leaves n m count low does g =
+    elim does [
+      | still cs ns ↦ still_leaves n m count cs ns g
+      | accepts_slot slot iss sockets s cs ns ↦ record {
+        settled = settled_shut n m count slot (accepted iss sockets s) cs g ns refl refl;
+        slots = others_stay n m count slot (accepted iss sockets s) cs g (begins refl refl);
+      }
+      | moves_slot slot it ↦ moves_leaves n m count slot low it g
+    ]
+
+-- ---- a message is written, and its connection captures it
+
+pub record WriteLeaves (n m : AbstractNode) (count slot : ℕ) (text : List ℕ) : Type 0 where
+  pub settled : IsSettled m count
+  pub here : messages_text (connection_in slot m).part.captures ≡ messages_text (connection_in slot n).part.captures ++ text
+  pub established : (connection_in slot m).state ≡ SynRcvd → ⊥
+  pub others : (at : ℕ) → (at ≡ slot → ⊥) → connection_in at m ≡ connection_in at n
+
+next_count : (k : ℕ) → k % 4294967296 ≡ (k + 1) % 4294967296 → ⊥
+next_count k e = omega (arith, e)
+
+-- the node after a message was written to a slot and the slot was called
+abbrev pub node_wrote : ℕ → ℕ → List ℕ → Bool → AbstractNode → AbstractNode
+node_wrote slot taken text last n = (periodic own_spec (with_written (next_message slot taken text last n) n) slot).node
+
+pub write_leaves : (n : AbstractNode) (count slot taken : ℕ) (text : List ℕ) (last : Bool) → All IsByte text → can_write_in slot taken n ≡ true
+    → HasCaptured (next_message slot taken text last n) (connection_in slot n) (connection_in slot (node_wrote slot taken text last n)) → IsSettled n count
+    → WriteLeaves n (node_wrote slot taken text last n) (count + 1) slot text
+write_leaves n count slot taken text last bytes can has g =
+    let message : PlainMessage = next_message slot taken text last n in
+    let w : AbstractNode = with_written message n in
+    let m : AbstractNode = (periodic own_spec w slot).node in
+    let c : Connection = connection_in slot n in
+    let ready : IsReady c = ready_has c (and_parts (is_ready_at c) (nat_le taken (length (pending_of c.part))) can).0 in
+    let it : MovesSlot w m slot = periodic_step w slot in
+    let d : Connection = it.result.connection in
+    let back : message_in w.numbers ≡ message = message_back (opened_in n.numbers) message bytes in
+    elim it.parts [
+      | opened state now own captures numbers_are ↦ absurd (not_syn c ready.state state)
+      | same own captures numbers_are opens_before asks syn ↦
+          (let numbers : m.numbers ≡ w.numbers = it.numbers ∙ it.asked.numbers ∙ numbers_are in
+          let newest : message_in m.numbers ≡ message = ap (λ (l : List ℕ). message_in l) numbers ∙ back in
+          let count_is : opened_in m.numbers ≡ opened_in n.numbers = ap (λ (l : List ℕ). opened_in l) numbers in
+          let own_is : d.part.own ≡ c.part.own = asked_own it.o it.result it.asked ∙ own in
+          let few = g.few in
+          let ticket = g.tickets slot in
+          let is_open_now : is_open c.state ≡ true = ready.opened in
+          let placed : connection_in slot m ≡ d = (elim (index_set n.connections slot d slot) [
+            | new_at e v ↦ ap (λ (l : List Connection). slice_index_or l slot closed) it.connections ∙ v
+            | old_at h v ↦ absurd (false≢true (subst (λ (x : Connection). is_open x.state ≡ true) (h refl) is_open_now))
+          ]) in
+          let more : length d.part.captures ≡ length c.part.captures + 1 =
+          ap (λ (x : Connection). length x.part.captures) (sym placed) ∙ ap (λ (l : List Snapshot). length l) has.captures ∙ length-append c.part.captures (has.capture ∷ []) in
+          record {
+            settled = record {
+              few = omega (arith, few, count_is);
+              tickets =
+                  subst (λ (l : List Connection). InEach (λ x. x.part.own ≤ opened_in m.numbers) l) (sym it.connections)
+                  (each_set (λ x. x.part.own ≤ opened_in m.numbers) n.connections slot d (omega (arith, ticket, own_is, count_is)) (λ j. (let l = g.tickets j in omega (arith, l, count_is))));
+              newest = (let to : (message_in m.numbers).to ≡ c.part.own = ap (λ (x : PlainMessage). x.to) newest in omega (arith, to, ticket, count_is));
+              apart = subst AreApart (sym it.connections) (apart_set n.connections slot d (λ j ne o p q. g.apart slot j (λ e. ne (sym e)) is_open_now p (sym own_is ∙ q)) g.apart);
+              spent =
+                  subst (λ (x : PlainMessage). InEach (IsSpent x) m.connections) (sym newest)
+                  (subst (λ (l : List Connection). InEach (IsSpent message) l) (sym it.connections)
+                  (λ j. spent_at n.connections slot d message is_open_now (λ o to number. next_count (length c.part.captures) (number ∙ ap (λ (k : ℕ). k % 4294967296) more))
+                  (λ i ne o to number. g.apart slot i ne is_open_now o to) j));
+            };
+            here = has.text;
+            established = λ z. not_syn c ready.state (syn (it.asked.syn (ap (λ (x : Connection). x.state) (sym placed) ∙ z)));
+            others = λ at ne. elim (index_set n.connections slot d at) [
+              | new_at e v ↦ absurd (ne e)
+              | old_at h v ↦ ap (λ (l : List Connection). slice_index_or l at closed) it.connections ∙ v
+            ];
+          })
+    ]
+  where
+    spent_at : (cs : List Connection) (slot : ℕ) (d : Connection) (message : PlainMessage) → is_open (slice_index_or cs slot closed).state ≡ true → IsSpent message d
+        → ((j : ℕ) → (slot ≡ j → ⊥) → IsSpent message (slice_index_or cs j closed)) → InEach (IsSpent message) (slice_set cs slot d)
+    spent_at cs slot d message there new old j =
+        elim (index_set cs slot d j) [
+          | new_at e v ↦ subst (IsSpent message) (sym v) new
+          | old_at h v ↦ subst (IsSpent message) (sym v)
+              (λ o to number. old j (λ e. false≢true (subst (λ (x : Connection). is_open x.state ≡ true) (h (sym e)) o)) o to number)
+        ]
+
+-- ---- the text of a slot
+
+-- It is what C wrote, and nothing before the connection opens.
+pub record HasWrittenText (c : Connection) (text : List ℕ) : Type 0 where
+  pub text_is : messages_text c.part.captures ≡ text
+  pub none : c.state ≡ SynRcvd → c.part.captures ≡ []
+
+accepted_is : (st : State) → is_accepted st ≡ true → st ≡ SynRcvd
+accepted_is SynRcvd e = refl
+accepted_is Closed e = absurd (false≢true e)
+accepted_is Established e = absurd (false≢true e)
+accepted_is CloseWait e = absurd (false≢true e)
+accepted_is FinWait1 e = absurd (false≢true e)
+accepted_is FinWait2 e = absurd (false≢true e)
+accepted_is Closing e = absurd (false≢true e)
+accepted_is TimeWait e = absurd (false≢true e)
+accepted_is LastAck e = absurd (false≢true e)
+
+not_accepted : (st : State) → (st ≡ SynRcvd → ⊥) → is_accepted st ≡ false
+not_accepted st none = both_ways (is_accepted st) (λ e. absurd (none (accepted_is st e))) (λ e. e)
+
+-- after a call in which nothing was written to it
+pub text_stays : (c d : Connection) (text : List ℕ) → SlotAfter c d → HasWrittenText c text → HasWrittenText d (if is_accepted d.state then [] else text ++ [])
+text_stays c d text after h =
+    elim after [
+      | goes_on captures syn ↦ record {
+        text_is = both_ways (is_accepted d.state)
+            (λ e. ap (λ (l : List Snapshot). messages_text l) (captures ∙ h.none (syn (accepted_is d.state e))) ∙ sym (ap (λ (b : Bool). if b then [] else text ++ []) e))
+            (λ e. ap (λ (l : List Snapshot). messages_text l) captures ∙ h.text_is ∙ sym (append-nil text) ∙ sym (ap (λ (b : Bool). if b then [] else text ++ []) e));
+        none = λ z. captures ∙ h.none (syn z);
+      }
+      | opens state not_now captures ↦ record {
+        text_is = ap (λ (l : List Snapshot). messages_text l) (captures ∙ sym (h.none state)) ∙ h.text_is ∙ sym (append-nil text)
+            ∙ sym (ap (λ (b : Bool). if b then [] else text ++ []) (not_accepted d.state not_now));
+        none = λ z. captures;
+      }
+      | begins state captures ↦ record {
+        text_is = ap (λ (l : List Snapshot). messages_text l) captures ∙ sym (ap (λ (v : State). if is_accepted v then [] else text ++ []) state);
+        none = λ z. captures;
+      }
+    ]
+
+-- after a call that wrote to it
+pub text_grows : (c d : Connection) (text more : List ℕ) → messages_text d.part.captures ≡ messages_text c.part.captures ++ more → (d.state ≡ SynRcvd → ⊥) → HasWrittenText c text
+    → HasWrittenText d (if is_accepted d.state then [] else text ++ more)
+text_grows c d text more grows not_now h = record {
+  text_is = grows ∙ ap (λ (l : List ℕ). l ++ more) h.text_is ∙ sym (ap (λ (b : Bool). if b then [] else text ++ more) (not_accepted d.state not_now));
+  none = λ z. absurd (not_now z);
+}
+
+pub same_slot : (c d : Connection) → d ≡ c → SlotAfter c d
+same_slot c d e = goes_on (ap (λ (x : Connection). x.part.captures) e) (λ z. ap (λ (x : Connection). x.state) (sym e) ∙ z)
