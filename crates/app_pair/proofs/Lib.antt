@@ -1,0 +1,4 @@
+pub mod PairActs
+pub mod PairLines
+pub mod PairParts
+pub mod Rows

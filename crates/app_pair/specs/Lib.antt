@@ -1,0 +1,7 @@
+pub mod PairNumbers
+pub mod PairSpec
+pub mod PairRepresents
+pub mod TwoApplications
+pub mod PairLines
+pub mod Worked
+pub mod Lemmas
