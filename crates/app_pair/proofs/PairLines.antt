@@ -15,7 +15,7 @@ use Rattle.node_laws.specs.Speakers.{HasDelivered}
 use Rattle.node_laws.proofs.EveryTraceConforms.{every_step}
 use Rattle.node_laws.proofs.Steps.{Changes as ChangesAll, IsStep, LineStep, OfNode, trace_over}
 use Rattle.app_pair.specs.PairNumbers.{own_numbers, with_own}
-use Rattle.app_pair.specs.PairSpec.{KeepsCaptures, KeepsPort, by_port, one_of_two, own_part, own_snapshot, pair_spec, spec_at}
+use Rattle.app_pair.specs.PairSpec.{KeepsCaptures, StaysAtPort, by_port, one_of_two, own_part, own_snapshot, pair_spec, spec_at}
 use Rattle.app_pair.specs.PairLines.{Changes, Happens, IsPairStep, PairSpeaksOnLines, PairStep, PairTraceConforms, SpeaksOnLines, change_own, own_model, own_pages, pair_model, pair_trace, with_changed}
 use Rattle.app_pair.specs.Lemmas.NumberLaws.{own_u32, with_own_u32}
 use Rattle.app_pair.specs.Lemmas.PairLaws.{at_each_port, at_each_state, at_state, by_port_keeps, by_port_lawful_at, one_captures, one_lawful_at, pair_port, sees_acked, sees_connected, sees_newdata, sees_polled, sees_prepare}
@@ -121,7 +121,7 @@ both true true e f = refl
 both true false e f = f
 both false b e f = e
 
-module _ (at : ℕ → AppSpec) (keeps : (port : ℕ) → KeepsPort (at port)) where
+module _ (at : ℕ → AppSpec) (keeps : (port : ℕ) → StaysAtPort (at port)) where
   by_port_steady : ((port : ℕ) → IsSteady (at port)) → IsSteady (by_port at)
   by_port_steady steady = record {
     lawful = at_each_state (by_port at) (λ p. Unit {0}) (λ p s. by_port_lawful_at at keeps p (at_state (at p.port) (λ q. Unit {0}) (steady p.port).lawful p s));

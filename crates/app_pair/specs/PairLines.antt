@@ -7,7 +7,7 @@ use Rattle.uip_node.specs.Prelude.{AbstractNode, Event, IsSteady, SendsBytes, in
 use Rattle.node_laws.specs.Prelude.{HasOutputModel, IsOfLine, IsReadByPeer, OutputModel, TraceConforms, TraceEntry}
 use Rattle.node_laws.specs.Prelude.{Free, Interactive, Paged}
 use Rattle.app_pair.specs.PairNumbers.{own_numbers, with_own}
-use Rattle.app_pair.specs.PairSpec.{KeepsPort, own_snapshot, pair_spec}
+use Rattle.app_pair.specs.PairSpec.{StaysAtPort, own_snapshot, pair_spec}
 
 -- the pages of one of the two: those of the snapshots that it sees
 abbrev pub own_pages : Bool → Pages → Pages
@@ -30,7 +30,7 @@ pub record SpeaksOnLines (m : AppSpec) (model : ℕ → OutputModel) : Type 0 wh
   pub steady : IsSteady m
   pub bytes : SendsBytes m
   pub speaks : HasOutputModel m model
-  pub port : KeepsPort m
+  pub port : StaysAtPort m
 
 abbrev pub PairSpeaksOnLines : Type 0
 PairSpeaksOnLines =

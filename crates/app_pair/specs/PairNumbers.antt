@@ -6,21 +6,21 @@ abbrev pub pair_numbers : List ℕ → List ℕ → List ℕ
 pair_numbers [] ys = 0 ∷ ys
 pair_numbers (x ∷ xs) ys = 1 ∷ x ∷ pair_numbers xs ys
 
-abbrev pub first_numbers : List ℕ → List ℕ
-first_numbers (suc mark ∷ x ∷ numbers) = x ∷ first_numbers numbers
-first_numbers _ = []
+abbrev pub numbers_of_first : List ℕ → List ℕ
+numbers_of_first (suc mark ∷ x ∷ numbers) = x ∷ numbers_of_first numbers
+numbers_of_first _ = []
 
-abbrev pub second_numbers : List ℕ → List ℕ
-second_numbers (zero ∷ numbers) = numbers
-second_numbers (suc mark ∷ x ∷ numbers) = second_numbers numbers
-second_numbers _ = []
+abbrev pub numbers_of_second : List ℕ → List ℕ
+numbers_of_second (zero ∷ numbers) = numbers
+numbers_of_second (suc mark ∷ x ∷ numbers) = numbers_of_second numbers
+numbers_of_second _ = []
 
 -- the numbers of one of the two: the second, if `second` is true
 abbrev pub own_numbers : Bool → List ℕ → List ℕ
-own_numbers true numbers = second_numbers numbers
-own_numbers false numbers = first_numbers numbers
+own_numbers true numbers = numbers_of_second numbers
+own_numbers false numbers = numbers_of_first numbers
 
 -- the same numbers, but these are its own
 abbrev pub with_own : Bool → List ℕ → List ℕ → List ℕ
-with_own true own numbers = pair_numbers (first_numbers numbers) own
-with_own false own numbers = pair_numbers own (second_numbers numbers)
+with_own true own numbers = pair_numbers (numbers_of_first numbers) own
+with_own false own numbers = pair_numbers own (numbers_of_second numbers)

@@ -66,7 +66,7 @@ pair_spec second m n = by_port (spec_at second m n)
 -- ---- what is required of each
 
 -- No call changes the port of a connection.
-pub record KeepsPort (m : AppSpec) : Type 0 where
+pub record StaysAtPort (m : AppSpec) : Type 0 where
   pub connected : (numbers : List ℕ) (port : ℕ) → (m.connected numbers port).part.port ≡ port
   pub newdata : (numbers : List ℕ) (p : AppState) (piece : List ℕ) → (m.newdata numbers p piece).part.port ≡ p.port
   pub prepare : (numbers : List ℕ) (p : AppState) (now : Now) → (m.prepare numbers p now).port ≡ p.port
@@ -85,5 +85,5 @@ pub record KeepsCaptures (m : AppSpec) : Type 0 where
 
 -- An application that can be one of a pair.
 pub record CanBePaired (m : AppSpec) : Type 0 where
-  pub port : KeepsPort m
+  pub port : StaysAtPort m
   pub captures : KeepsCaptures m

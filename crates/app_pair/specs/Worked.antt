@@ -4,7 +4,7 @@ use Rattle.std.specs.List.{flat_map}
 use Rattle.app_events.specs.Prelude.{AppSpec, AppState}
 use Rattle.app_events.specs.declared.now.Now.{Now}
 use Rattle.app_events.specs.declared.want.Want.TheVariants.{Nothing}
-use Rattle.app_pair.specs.PairNumbers.{first_numbers, own_numbers, pair_numbers, second_numbers, with_own}
+use Rattle.app_pair.specs.PairNumbers.{numbers_of_first, own_numbers, pair_numbers, numbers_of_second, with_own}
 use Rattle.app_pair.specs.PairSpec.{pair_spec}
 
 -- An application whose numbers count its connections. It sends the numbers of its captures.
@@ -33,8 +33,8 @@ at_port port = record { port = port; delivered = []; captures = []; acked = 0; p
 pub record AreWorkedPairs : Type 0 where
   pub numbers : pair_numbers (5 ∷ 6 ∷ []) (9 ∷ 0 ∷ []) ≡ 1 ∷ 5 ∷ 1 ∷ 6 ∷ 0 ∷ 9 ∷ 0 ∷ []
   pub none : pair_numbers [] [] ≡ 0 ∷ []
-  pub first : first_numbers (1 ∷ 5 ∷ 1 ∷ 6 ∷ 0 ∷ 9 ∷ 0 ∷ []) ≡ 5 ∷ 6 ∷ []
-  pub second : second_numbers (1 ∷ 5 ∷ 1 ∷ 6 ∷ 0 ∷ 9 ∷ 0 ∷ []) ≡ 9 ∷ 0 ∷ []
+  pub first : numbers_of_first (1 ∷ 5 ∷ 1 ∷ 6 ∷ 0 ∷ 9 ∷ 0 ∷ []) ≡ 5 ∷ 6 ∷ []
+  pub second : numbers_of_second (1 ∷ 5 ∷ 1 ∷ 6 ∷ 0 ∷ 9 ∷ 0 ∷ []) ≡ 9 ∷ 0 ∷ []
   pub changed : with_own true (8 ∷ []) (1 ∷ 5 ∷ 0 ∷ 9 ∷ []) ≡ 1 ∷ 5 ∷ 0 ∷ 8 ∷ []
   -- connections at port 80 and at port 7
   pub at_first : (two_counting.connected (pair_numbers (5 ∷ []) (9 ∷ [])) 80).numbers ≡ pair_numbers (6 ∷ []) (9 ∷ [])

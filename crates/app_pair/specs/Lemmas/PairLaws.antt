@@ -6,7 +6,7 @@ use Rattle.std.proofs.lemmas.Bool.{le-ltb, lt-ltb}
 use Rattle.app_events.specs.Prelude.{AppSpec, AppState, CanSend, Grows, IsLawful, Snapshot, StartsAnew, text_left}
 use Rattle.app_events.specs.declared.now.Now.{Now}
 use Rattle.app_pair.specs.PairNumbers.{own_numbers}
-use Rattle.app_pair.specs.PairSpec.{CanBePaired, KeepsCaptures, KeepsPort, after_prepare, by_port, one_of_two, own_part, own_snapshot}
+use Rattle.app_pair.specs.PairSpec.{CanBePaired, KeepsCaptures, StaysAtPort, after_prepare, by_port, one_of_two, own_part, own_snapshot}
 use Rattle.app_pair.specs.PairSpec.{pair_spec, spec_at}
 use Rattle.app_pair.specs.PairRepresents.{PairRepresents, RepresentsOwn}
 use Rattle.app_pair.specs.declared.pair.AppPair.{AppPair}
@@ -120,7 +120,7 @@ module _ (second : Bool) where
         let both = starts (own_numbers second numbers) port in
         (ap (λ (x : AppState). m.output x) (sees_connected numbers port) ∙ both.0, both.1)
 
-  pub one_port : (m : AppSpec) → KeepsPort m → KeepsPort (one_of_two second m)
+  pub one_port : (m : AppSpec) → StaysAtPort m → StaysAtPort (one_of_two second m)
   one_port m port = record {
     connected = λ numbers at. port.connected (own_numbers second numbers) at;
     newdata = λ numbers p piece. port.newdata (own_numbers second numbers) (own_part second p) piece;
@@ -159,7 +159,7 @@ by_port_captures at keeps = record {
 
 -- ---- by port
 
-module _ (at : ℕ → AppSpec) (keeps : (port : ℕ) → KeepsPort (at port)) where
+module _ (at : ℕ → AppSpec) (keeps : (port : ℕ) → StaysAtPort (at port)) where
   -- at the same port it sends what the application of that port sends
   says_at : (p q : AppState) → q.port ≡ p.port → (by_port at).output q ≡ (at p.port).output q
   says_at p q e = ap (λ (port : ℕ). (at port).output q) e
@@ -188,7 +188,7 @@ module _ (at : ℕ → AppSpec) (keeps : (port : ℕ) → KeepsPort (at port)) w
         both.1,
       )
 
-  pub by_port_keeps : KeepsPort (by_port at)
+  pub by_port_keeps : StaysAtPort (by_port at)
   by_port_keeps = record {
     connected = λ numbers port. (keeps port).connected numbers port;
     newdata = λ numbers p piece. (keeps p.port).newdata numbers p piece;
@@ -216,17 +216,17 @@ module _ (second : ℕ → Bool) (m n : AppSpec) where
   pub at_second : (P : AppSpec → Type 0) (port : ℕ) → second port ≡ true → P (one_of_two true n) → P (spec_at second m n port)
   at_second P port e x = subst (λ (b : Bool). P (if b then one_of_two true n else one_of_two false m)) (sym e) x
 
-  pub pair_port : KeepsPort m → KeepsPort n → (port : ℕ) → KeepsPort (spec_at second m n port)
-  pair_port x y = at_each_port KeepsPort (one_port false m x) (one_port true n y)
+  pub pair_port : StaysAtPort m → StaysAtPort n → (port : ℕ) → StaysAtPort (spec_at second m n port)
+  pair_port x y = at_each_port StaysAtPort (one_port false m x) (one_port true n y)
 
-  pub pair_again : KeepsPort m → KeepsPort n → CanBePaired (pair_spec second m n)
+  pub pair_again : StaysAtPort m → StaysAtPort n → CanBePaired (pair_spec second m n)
   pair_again x y = record {
     port = by_port_keeps (spec_at second m n) (pair_port x y);
     captures = by_port_captures (spec_at second m n) (at_each_port KeepsCaptures (one_captures false m) (one_captures true n));
   }
 
   module _ (first : CanBePaired m) (other : CanBePaired n) where
-    keeps : (port : ℕ) → KeepsPort (spec_at second m n port)
+    keeps : (port : ℕ) → StaysAtPort (spec_at second m n port)
     keeps = pair_port first.port other.port
 
     pub pair_starts : StartsAnew m → StartsAnew n → StartsAnew (pair_spec second m n)
