@@ -11,7 +11,6 @@ use Rattle.app_events.specs.declared.want.Want.TheVariants.{Close}
 use Rattle.uip_node.specs.Prelude.{AbstractNode, IsSteady, SendsBytes, initial_node, step}
 use Rattle.node_laws.specs.Prelude.{AcceptsPrefix, FollowsModelAt, FollowsPagesAt, HasOutputModel, IsPagedAt, IsReadByPeer, LeavesDelivered, OutputModel, TraceConforms, TraceEntry}
 use Rattle.node_laws.specs.Prelude.{Free, Interactive, Paged}
-use Rattle.node_laws.specs.Speakers.{HasDelivered}
 use Rattle.node_laws.proofs.EveryTraceConforms.{every_step}
 use Rattle.node_laws.proofs.Steps.{Changes as ChangesAll, IsStep, LineStep, OfNode, trace_over}
 use Rattle.app_pair.specs.PairNumbers.{own_numbers, with_own}
@@ -28,6 +27,10 @@ captures_of m steady = record {
   acked = steady.acked_captures;
   polled = steady.polled_captures;
 }
+
+-- q is a state of this kind, and its delivered input is this text
+abbrev HasText : (AppState → Bool) → AppState → List ℕ → Type 0
+HasText here q text = (here q ≡ true) × (q.delivered ≡ text)
 
 -- ---- one of two
 
@@ -84,7 +87,7 @@ module _ (second : Bool) (m : AppSpec) where
           lost = λ p. h.lost (own_part second p);
           output = λ p e. h.output (own_part second p) e;
           connected = λ numbers.
-              subst (λ (x : AppState). HasDelivered h.here x []) (sym (sees_connected second m captures numbers port)) (h.connected (own_numbers second numbers));
+              subst (λ (x : AppState). HasText h.here x []) (sym (sees_connected second m captures numbers port)) (h.connected (own_numbers second numbers));
           newdata = λ numbers p piece e.
               let a = subst (λ (x : AppState). AcceptsPrefix h.here h.lost (own_part second p) x piece) (sym (sees_newdata second m captures numbers p piece))
               (h.newdata (own_numbers second numbers) (own_part second p) piece e) in
@@ -162,7 +165,7 @@ module _ (at : ℕ → AppSpec) (keeps : (port : ℕ) → StaysAtPort (at port))
     there : (P : AppSpec → Type 0) (p : AppState) → p.port ≡ port → P (at port) → P (at p.port)
     there P p e x = subst (λ (n : ℕ). P (at n)) (sym e) x
 
-    stays_here : (here : AppState → Bool) (q : AppState) (text : List ℕ) → q.port ≡ port → HasDelivered here q text → HasDelivered (here_at here) q text
+    stays_here : (here : AppState → Bool) (q : AppState) (text : List ℕ) → q.port ≡ port → HasText here q text → HasText (here_at here) q text
     stays_here here q text e h = (both (q.port == port) (here q) (eq-eqb q.port port e) h.0, h.1)
 
     leaves : (here lost : AppState → Bool) (p q : AppState) → q.port ≡ port → LeavesDelivered here lost p q → LeavesDelivered (here_at here) lost p q

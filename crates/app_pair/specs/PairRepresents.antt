@@ -12,7 +12,7 @@ pub record RepresentsOwn {A K : Type 0} (second : ℕ → Bool) (is_second : Boo
   pub own : represents a k (own_part is_second p)
 
 -- It is a value of the application at the port of the connection.
-abbrev pub PairRepresents : {A B K L : Type 0} (second : ℕ → Bool) (firsts : A → K → AppState → Type 0) (seconds : B → L → AppState → Type 0)
-    → AppPair A B → K × L → AppState → Type 0
+abbrev pub PairRepresents : {A B K L : Type 0} (second : ℕ → Bool) (firsts : A → K → AppState → Type 0)
+    (seconds : B → L → AppState → Type 0) → AppPair A B → K × L → AppState → Type 0
 PairRepresents second firsts seconds (pair.First a) k p = RepresentsOwn second false firsts a k.0 p
 PairRepresents second firsts seconds (pair.Second b) k p = RepresentsOwn second true seconds b k.1 p

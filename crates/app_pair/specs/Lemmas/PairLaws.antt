@@ -64,7 +64,8 @@ module _ (second : Bool) where
       let own : List Snapshot = record { numbers = own_numbers second numbers; now = now } ∷ [] in
       let some : nat_lt (length p.captures) (length q.captures) ≡ true =
       lt-ltb (length p.captures) (length q.captures)
-      (omega (arith, ap (λ l. length l) e, length-append (map (own_snapshot second) p.captures) own, length-map p.captures (own_snapshot second))) in
+      (let seen : List Snapshot = map (own_snapshot second) p.captures in
+      omega (arith, ap (λ l. length l) e, length-append seen own, length-map p.captures (own_snapshot second))) in
       e ∙ sym (map-append (own_snapshot second) p.captures more)
       ∙ ap (λ (b : Bool). map (own_snapshot second) (if b then p.captures ++ more else p.captures)) (sym some)
 
@@ -272,7 +273,8 @@ module _ {A B K L : Type 0} (second : ℕ → Bool) (firsts : A → K → AppSta
 
   pub pair_same_left : ((a : A) (k : K) (p q : AppState) → firsts a k p → firsts a k q → text_left (m k) p ≡ text_left (m k) q)
       → ((b : B) (l : L) (p q : AppState) → seconds b l p → seconds b l q → text_left (n l) p ≡ text_left (n l) q)
-      → (x : AppPair A B) (k : K × L) (p q : AppState) → PairRepresents second firsts seconds x k p → PairRepresents second firsts seconds x k q
+      → (x : AppPair A B) (k : K × L) (p q : AppState)
+      → PairRepresents second firsts seconds x k p → PairRepresents second firsts seconds x k q
       → text_left (pair_spec second (m k.0) (n k.1)) p ≡ text_left (pair_spec second (m k.0) (n k.1)) q
   pair_same_left f s (pair.First a) k p q g h =
       first_left k p g.port ∙ f a k.0 (own_part false p) (own_part false q) g.own h.own ∙ sym (first_left k q h.port)
