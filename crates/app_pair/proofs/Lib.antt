@@ -1,4 +1,3 @@
 pub mod PairActs
-pub mod PairLines
 pub mod PairParts
 pub mod Rows

@@ -2,6 +2,5 @@ pub mod PairNumbers
 pub mod PairSpec
 pub mod PairRepresents
 pub mod TwoApplications
-pub mod PairLines
 pub mod Worked
 pub mod Lemmas

@@ -24,3 +24,7 @@ own_numbers false numbers = numbers_of_first numbers
 abbrev pub with_own : Bool → List ℕ → List ℕ → List ℕ
 with_own true own numbers = pair_numbers (numbers_of_first numbers) own
 with_own false own numbers = pair_numbers own (numbers_of_second numbers)
+
+-- a change of the numbers of one of the two
+abbrev pub change_own : Bool → (List ℕ → List ℕ) → List ℕ → List ℕ
+change_own second change numbers = with_own second (change (own_numbers second numbers)) numbers

@@ -8,5 +8,5 @@ mod pair;
 mod tests;
 
 pub use can_pair::CanPair;
-pub use laws::{pair_is_two_applications, pair_speaks_on_lines, pair_trace_conforms, worked_pairs};
+pub use laws::{pair_is_two_applications, worked_pairs};
 pub use pair::{AppPair, PairShared};

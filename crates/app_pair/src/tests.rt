@@ -1,11 +1,9 @@
-//! A pair on a node, and how large a value is.
+//! The ports of a pair, and how large a value is.
 
-use crate::{AppPair, PairShared};
+use crate::AppPair;
 use app_events::{App, Fixed};
 use std::mem::size_of;
-use std::test::Fail;
-use uip_node::Node;
-use uip_wire::{Addr, Port};
+use uip_wire::Port;
 
 /// Three applications.
 type Three = AppPair<AppPair<Fixed, Fixed>, Fixed>;
@@ -21,20 +19,4 @@ fn a_pair_serves_the_ports_of_both(rt: HostRuntime) {
 fn a_value_has_one_application(rt: HostRuntime) {
     assert!(rt; size_of::<AppPair<Fixed, Fixed>>() <= size_of::<Fixed>() + 4);
     assert!(rt; size_of::<Three>() <= size_of::<Fixed>() + 8);
-}
-
-#[test]
-fn a_node_has_three_applications(rt: HostRuntime) -> Result<(), Fail> {
-    let shared = PairShared {
-        first: PairShared {
-            first: (),
-            second: (),
-        },
-        second: (),
-    };
-    let Ok(mut node) = Node::<Three>::new(rt.alloc(), Addr([10, 0, 0, 1]), shared) else {
-        return Err("no memory".into());
-    };
-    assert!(rt; node.periodic(0).is_none());
-    Ok(())
 }

@@ -13,9 +13,9 @@ use Rattle.node_laws.specs.Prelude.{AcceptsPrefix, FollowsModelAt, FollowsPagesA
 use Rattle.node_laws.specs.Prelude.{Free, Interactive, Paged}
 use Rattle.node_laws.proofs.EveryTraceConforms.{every_step}
 use Rattle.node_laws.proofs.Steps.{Changes as ChangesAll, IsStep, LineStep, OfNode, trace_over}
-use Rattle.app_pair.specs.PairNumbers.{own_numbers, with_own}
+use Rattle.app_pair.specs.PairNumbers.{change_own, own_numbers, with_own}
 use Rattle.app_pair.specs.PairSpec.{KeepsCaptures, StaysAtPort, by_port, one_of_two, own_part, own_snapshot, pair_spec, spec_at}
-use Rattle.app_pair.specs.PairLines.{Changes, Happens, IsPairStep, PairSpeaksOnLines, PairStep, PairTraceConforms, SpeaksOnLines, change_own, own_model, own_pages, pair_model, pair_trace, with_changed}
+use Rattle.pair_laws.specs.PairLines.{Changes, Happens, IsPairStep, PairSpeaksOnLines, PairStep, PairTraceConforms, SpeaksOnLines, own_model, own_pages, pair_model, pair_trace, with_changed}
 use Rattle.app_pair.specs.Lemmas.NumberLaws.{own_u32, with_own_u32}
 use Rattle.app_pair.specs.Lemmas.PairLaws.{at_each_port, at_each_state, at_state, by_port_keeps, by_port_lawful_at, one_captures, one_lawful_at, pair_port, sees_acked, sees_connected, sees_newdata, sees_polled, sees_prepare}
 

@@ -6,7 +6,7 @@ use Rattle.uip_wire.specs.declared.addr.Addr.{Addr}
 use Rattle.uip_node.specs.Prelude.{AbstractNode, Event, IsSteady, SendsBytes, initial_node, step}
 use Rattle.node_laws.specs.Prelude.{HasOutputModel, IsOfLine, IsReadByPeer, OutputModel, TraceConforms, TraceEntry}
 use Rattle.node_laws.specs.Prelude.{Free, Interactive, Paged}
-use Rattle.app_pair.specs.PairNumbers.{own_numbers, with_own}
+use Rattle.app_pair.specs.PairNumbers.{change_own}
 use Rattle.app_pair.specs.PairSpec.{StaysAtPort, own_snapshot, pair_spec}
 
 -- the pages of one of the two: those of the snapshots that it sees
@@ -47,9 +47,6 @@ pub data PairStep : Type 0 where
 abbrev pub IsPairStep : Addr → PairStep → Type 0
 IsPairStep own (Happens event) = IsOfLine own event
 IsPairStep own (Changes second change) = (numbers : List ℕ) → All IsU32 numbers → All IsU32 (change numbers)
-
-abbrev pub change_own : Bool → (List ℕ → List ℕ) → List ℕ → List ℕ
-change_own second change numbers = with_own second (change (own_numbers second numbers)) numbers
 
 abbrev pub with_changed : Bool → (List ℕ → List ℕ) → AbstractNode → AbstractNode
 with_changed second change n = record n { numbers = change_own second change n.numbers }
