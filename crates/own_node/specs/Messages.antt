@@ -6,7 +6,8 @@ use Rattle.app_events.specs.declared.state.State.TheVariants.{Established}
 use Rattle.tcp_machine.specs.Prelude.{Connection, closed, is_open}
 use Rattle.uip_node.specs.Prelude.{AbstractNode, Node, Represents, connection_in}
 use Rattle.app_pair.specs.PairSpec.{own_part}
-use Rattle.own_app.specs.Prelude.{OwnRepresents, PlainMessage, has_last, is_overrun, is_own_port, len_left, pending as pending_of, write_message}
+use Rattle.own_app.specs.Prelude.{OwnRepresents, PlainMessage, has_last, is_overrun, is_own_port, len_left, pending as pending_of}
+use Rattle.own_app.specs.Prelude.{write_message}
 use Rattle.own_app.specs.contracts.app.OwnAppApp.TheImpl.{ghosts}
 use Rattle.own_app.specs.declared.app.OwnApp.{OwnApp}
 use Rattle.own_app.specs.declared.shared.OwnShared.{OwnShared}
@@ -76,10 +77,13 @@ next_message slot taken text last n = next_message_at taken text last (connectio
 
 -- ---- of a node with an application that holds `OwnApp`
 
--- A connection of a pair, as `OwnApp` sees it, if that is the second. One that is open for the first application is CLOSED.
+-- a connection of `OwnApp` in a pair of which it is the second, as it sees it
+abbrev pub own_connection : Connection → Connection
+own_connection c = record c { part = own_part true c.part }
+
+-- any connection of the pair, as it sees it: one that is open for the first application is CLOSED
 abbrev pub seen_in_pair : Connection → Connection
-seen_in_pair c =
-    if is_open_state c.state && not (is_own_port c.part.port) then closed else record c { part = own_part true c.part }
+seen_in_pair c = if is_open_state c.state && not (is_own_port c.part.port) then closed else own_connection c
 
 -- The connection is seen with another part, and while it is open this value represents that.
 pub record SeesOwn (own : OwnApp) (seen c : Connection) : Type 0 where

@@ -10,6 +10,6 @@ mod tests;
 mod writing;
 
 pub use holding::HoldsOwn;
-pub use laws::ready_messages_are_captured;
+pub use laws::{pairs_capture_ready_messages, ready_messages_are_captured};
 pub use reading::{is_ready, own_port, pending};
 pub use writing::write;
