@@ -1,2 +1,3 @@
 -- Proofs about the definitions of this crate. They need not be read.
 pub mod OwnLaws
+pub mod OwnPairs

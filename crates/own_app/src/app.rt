@@ -4,6 +4,7 @@ use crate::record::{advanced, copied, copy_from, rest_len, see_bytes};
 use crate::shared::{Message, OwnShared};
 use crate::{MESSAGE_ROOM, MODBUS_PORT, MOST_SILENT_POLLS, OWN_PORT, RECEIVED_ROOM};
 use app_events::{App, Ending, Now, Want};
+use app_pair::CanPair;
 use arrayvec::ArrayVec;
 use uip_wire::Port;
 
@@ -172,4 +173,10 @@ impl App for OwnApp {
     ghost starts = { λ _. own_starts };
 
     ghost same_left = { λ a _ p q. own_same_left a p q };
+}
+
+impl CanPair for OwnApp {
+    ghost use Rattle.own_app.specs.Lemmas.OwnPairs.{own_can_pair};
+
+    ghost can_pair = { λ _. own_can_pair };
 }

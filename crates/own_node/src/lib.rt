@@ -1,13 +1,15 @@
-//! A node with the application for which the program answers. Between the calls of a node the program reads what a connection received, and
-//! writes a message to it.
+//! A node with the application for which the program answers, alone or in a pair. Between the calls of a node the program reads what a
+//! connection received, and writes a message to it.
 #![tactic(auto)]
 
+mod holding;
 mod laws;
 mod reading;
 #[cfg(test)]
 mod tests;
 mod writing;
 
-pub use laws::ready_messages_are_captured;
+pub use holding::HoldsOwn;
+pub use laws::{pairs_capture_ready_messages, ready_messages_are_captured};
 pub use reading::{is_ready, own_port, pending};
 pub use writing::write;

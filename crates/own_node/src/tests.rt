@@ -1,10 +1,20 @@
-//! A node without connections.
+//! A node without connections, with `OwnApp` alone and in a pair.
 
-use crate::{is_ready, own_port, pending, write};
+use crate::{HoldsOwn, is_ready, own_port, pending, write};
+use app_events::{App, Fixed};
+use app_pair::{AppPair, PairShared};
 use own_app::{OwnApp, OwnShared};
 use std::test::Fail;
 use uip_node::Node;
-use uip_wire::Addr;
+use uip_wire::{Addr, Port};
+
+/// Returns whether nothing is read of a node, and nothing is written.
+fn is_without_connections<H: HoldsOwn>(node: &mut Node<H>) -> bool {
+    pending(node, 0).is_empty()
+        && !is_ready(node, 0)
+        && own_port(node, 9) == 0
+        && !write(node, 9, 0, b"bye\n", true)
+}
 
 #[test]
 fn without_connections_nothing_is_read_or_written(rt: HostRuntime) -> Result<(), Fail> {
@@ -12,9 +22,28 @@ fn without_connections_nothing_is_read_or_written(rt: HostRuntime) -> Result<(),
     else {
         return Err("no memory".into());
     };
-    assert!(rt; pending(&node, 0).is_empty());
-    assert!(rt; !is_ready(&node, 0));
-    assert!(rt; own_port(&node, 9) == 0);
-    assert!(rt; !write(&mut node, 9, 0, b"bye\n", true));
+    assert!(rt; is_without_connections(&mut node));
     Ok(())
+}
+
+#[test]
+fn nor_in_a_pair(rt: HostRuntime) -> Result<(), Fail> {
+    let shared = PairShared {
+        first: (),
+        second: OwnShared::first(),
+    };
+    let Ok(mut node) = Node::<AppPair<Fixed, OwnApp>>::new(rt.alloc(), Addr([10, 0, 0, 1]), shared)
+    else {
+        return Err("no memory".into());
+    };
+    assert!(rt; is_without_connections(&mut node));
+    Ok(())
+}
+
+#[test]
+fn a_pair_with_pages_serves_three_ports(rt: HostRuntime) {
+    assert!(rt; AppPair::<Fixed, OwnApp>::serves(Port(80)));
+    assert!(rt; AppPair::<Fixed, OwnApp>::serves(Port(502)));
+    assert!(rt; AppPair::<Fixed, OwnApp>::serves(Port(5025)));
+    assert!(rt; !AppPair::<Fixed, OwnApp>::serves(Port(23)));
 }

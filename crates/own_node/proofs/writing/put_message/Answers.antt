@@ -1,12 +1,19 @@
-use Rattle.std.proofs.Common.{List, ℕ, ap}
-use Rattle.own_app.specs.Prelude.{message_of, numbers_of, opened_in}
+use Rattle.std.proofs.Common.{List, ap, subst, sym, ℕ, ◌∙◌}
+use Rattle.uip_node.specs.Prelude.{AllWellFormed, SlotsRepresent}
+use Rattle.own_app.specs.Prelude.{message_of, write_message}
 use Rattle.own_node.proofs.writing.put_message.Goals as goal
 
+pub invariant_of-node : goal.invariant_of-node
+invariant_of-node g c = record {
+  size = c.node.invariant.size;
+  kept = subst (λ k. AllWellFormed g.H.App k c.node.inside.table.conns) (sym c.put.ensures.same) c.node.invariant.kept;
+}
+
 pub returns : goal.returns
-returns c = rw (← c.node.view_is) (λ n represents. record {
+returns g c = rw (← c.node.view_is) (λ n represents. record {
   addr = represents.addr;
-  slots = represents.slots;
+  slots = subst (λ k. SlotsRepresent g.H.App k c.node.inside.table.conns n.connections) (sym c.put.ensures.same) represents.slots;
   iss = represents.iss;
-  numbers_stand = ap (λ (l : List ℕ). numbers_of (opened_in l) (message_of c.args.message)) represents.numbers_stand;
+  numbers_stand = c.put.ensures.numbers ∙ ap (λ (l : List ℕ). g.H.HoldsOwn.among (write_message (message_of c.args.message)) l) represents.numbers_stand;
   counts = represents.counts;
 })

@@ -1,0 +1,3 @@
+pub mod PairActs
+pub mod PairParts
+pub mod Rows

@@ -1,0 +1,4 @@
+-- Proofs about the definitions of this crate. They need not be read.
+pub mod FixedPairs
+pub mod NumberLaws
+pub mod PairLaws

@@ -1,0 +1,13 @@
+use Rattle.std.proofs.Common.{List, ap, sym, true, ℕ, ◌∙◌}
+use Rattle.own_app.specs.Prelude.{message_of, numbers_of, write_message}
+use Rattle.app_pair.specs.PairNumbers.{pair_numbers, with_own}
+use Rattle.app_pair.specs.Lemmas.NumberLaws.{second_back, second_kept}
+use Rattle.own_node.proofs.holding.AppPairOwnAppHoldsOwn.put.Goals as goal
+
+pub returns-clause-numbers : goal.returns-clause-numbers
+returns-clause-numbers g c =
+    let xs : List ℕ = g.A.App.numbers c.args.shared.now.first in
+    let opened : ℕ = c.args.shared.now.second.opened in
+    let ys : List ℕ = numbers_of opened (message_of c.args.shared.now.second.message) in
+    second_kept (numbers_of opened (message_of c.args.message)) xs ys
+    ∙ ap (λ (z : List ℕ). with_own true (write_message (message_of c.args.message) z) (pair_numbers xs ys)) (sym (second_back xs ys))
