@@ -123,12 +123,12 @@ impl Decoder {
             let is_alone = self.waits || is_mark(bytes[count]);
             let prefix = self.feed_part(&bytes[count..], is_alone || dense > 0);
             count += prefix.count;
-            if !is_alone {
-                dense = still_dense(dense, prefix.count, bytes[count - 1]);
-            }
             match prefix.fed {
                 Fed::More => {}
                 fed => return FedRun { count, fed },
+            }
+            if !is_alone {
+                dense = still_dense(dense, prefix.count, bytes[count - 1]);
             }
         }
         FedRun {
