@@ -96,18 +96,17 @@ impl Decoder {
         ensures prefix { FeedsPrefix self.old bytes.now result self.new }
         ensures whole { result.fed ≡ More → result.count ≡ length bytes.now }
     {
-        if bytes[0] != END {
-            return self.feed_parts(bytes);
-        }
-        match self.feed(bytes[0]) {
-            Fed::More if bytes.len() > 1 => {
-                let parts = self.feed_parts(&bytes[1..]);
-                FedRun {
-                    count: 1 + parts.count,
-                    fed: parts.fed,
-                }
+        let mut first = 0;
+        if bytes[0] == END {
+            match self.feed(END) {
+                Fed::More if bytes.len() > 1 => first = 1,
+                fed => return FedRun { count: 1, fed },
             }
-            fed => FedRun { count: 1, fed },
+        }
+        let parts = self.feed_parts(&bytes[first..]);
+        FedRun {
+            count: first + parts.count,
+            fed: parts.fed,
         }
     }
 
