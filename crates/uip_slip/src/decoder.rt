@@ -81,12 +81,23 @@ impl Decoder {
         ensures leaves { Leaves result self.new }
         ensures end { EndsFrame result byte }
     {
-        self.reopen();
         if byte == END {
-            return self.close();
+            return self.feed_end();
         }
+        self.reopen();
         self.take(byte);
         Fed::More
+    }
+
+    /// Feeds an END, as `feed` does.
+    #[inline(always)]
+    fn feed_end(&mut self) -> Fed
+        ensures frames { (bytes : List ℕ) → WasFed bytes self.old → WasFed (bytes ++ END ∷ []) self.new
+            × (frames (bytes ++ END ∷ []) ≡ frames bytes ++ reported_by result self.new) }
+        ensures leaves { Leaves result self.new }
+    {
+        self.reopen();
+        self.close()
     }
 
     /// Feeds a prefix of the bytes: up to an END that completes a frame, or all of them. The result is that of feeding them one by one, but
@@ -98,7 +109,7 @@ impl Decoder {
     {
         let mut first = 0;
         if bytes[0] == END {
-            match self.feed(END) {
+            match self.feed_end() {
                 Fed::More if bytes.len() > 1 => first = 1,
                 fed => return FedRun { count: 1, fed },
             }
