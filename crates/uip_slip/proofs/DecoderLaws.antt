@@ -223,6 +223,16 @@ fed_on before bytes n k s t told so_far step =
     let both = step (before ++ take n bytes) so_far.0 in
     (subst (λ l. WasFed l t) at both.0, ap frames (sym at) ∙ both.1 ∙ ap (λ l. l ++ told) so_far.1)
 
+-- the same, where the other bytes completed nothing
+pub fed_more : (before bytes : List ℕ) (n k : ℕ) (s t : State) (done : Fed) → done ≡ fed.More
+    → WasFed (before ++ take n bytes) s × (frames (before ++ take n bytes) ≡ frames before)
+    → ((b : List ℕ) → WasFed b s → WasFed (b ++ take k (take (length bytes - n) (drop n bytes))) t
+    × (frames (b ++ take k (take (length bytes - n) (drop n bytes))) ≡ frames b ++ reported_by done t))
+    → WasFed (before ++ take (n + k) bytes) t × (frames (before ++ take (n + k) bytes) ≡ frames before)
+fed_more before bytes n k s t done more so_far step =
+    let both = fed_on before bytes n k s t (reported_by done t) so_far step in
+    (both.0, both.1 ∙ ap (λ x. frames before ++ reported_by x t) more ∙ append-nil (frames before))
+
 -- the last byte of a piece is there in the whole
 pub ends_on : (bytes : List ℕ) (n k : ℕ) (fed : Fed) → 0 < k → k ≤ length (take (length bytes - n) (drop n bytes))
     → EndsFrame fed (get_or (take (length bytes - n) (drop n bytes)) (k - 1) 0) → EndsFrame fed (get_or bytes (n + k - 1) 0)

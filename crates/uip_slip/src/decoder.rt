@@ -81,12 +81,23 @@ impl Decoder {
         ensures leaves { Leaves result self.new }
         ensures end { EndsFrame result byte }
     {
-        self.reopen();
         if byte == END {
-            return self.close();
+            return self.feed_end();
         }
+        self.reopen();
         self.take(byte);
         Fed::More
+    }
+
+    /// Feeds an END, as `feed` does.
+    #[inline(always)]
+    fn feed_end(&mut self) -> Fed
+        ensures frames { (bytes : List ℕ) → WasFed bytes self.old → WasFed (bytes ++ END ∷ []) self.new
+            × (frames (bytes ++ END ∷ []) ≡ frames bytes ++ reported_by result self.new) }
+        ensures leaves { Leaves result self.new }
+    {
+        self.reopen();
+        self.close()
     }
 
     /// Feeds a prefix of the bytes: up to an END that completes a frame, or all of them. The result is that of feeding them one by one, but
@@ -96,18 +107,17 @@ impl Decoder {
         ensures prefix { FeedsPrefix self.old bytes.now result self.new }
         ensures whole { result.fed ≡ More → result.count ≡ length bytes.now }
     {
-        if bytes[0] != END {
-            return self.feed_parts(bytes);
-        }
-        match self.feed(bytes[0]) {
-            Fed::More if bytes.len() > 1 => {
-                let parts = self.feed_parts(&bytes[1..]);
-                FedRun {
-                    count: 1 + parts.count,
-                    fed: parts.fed,
-                }
+        let mut first = 0;
+        if bytes[0] == END {
+            match self.feed_end() {
+                Fed::More if bytes.len() > 1 => first = 1,
+                fed => return FedRun { count: 1, fed },
             }
-            fed => FedRun { count: 1, fed },
+        }
+        let parts = self.feed_parts(&bytes[first..]);
+        FedRun {
+            count: first + parts.count,
+            fed: parts.fed,
         }
     }
 
@@ -123,12 +133,12 @@ impl Decoder {
             let is_alone = self.waits || is_mark(bytes[count]);
             let prefix = self.feed_part(&bytes[count..], is_alone || dense > 0);
             count += prefix.count;
-            if !is_alone {
-                dense = still_dense(dense, prefix.count, bytes[count - 1]);
-            }
             match prefix.fed {
                 Fed::More => {}
                 fed => return FedRun { count, fed },
+            }
+            if !is_alone {
+                dense = still_dense(dense, prefix.count, bytes[count - 1]);
             }
         }
         FedRun {

@@ -115,14 +115,14 @@ fn plain_lanes<const N: usize>(bytes: &[u8], at: usize) -> usize
     mask.trailing_zeros() as usize
 }
 
-/// The same for the wide lanes.
+/// The same for the wide lanes. Those after the first lanes are seldom ASCII: a datagram's header is there.
 #[inline(always)]
 fn plain_wide(bytes: &[u8], at: usize) -> usize
     requires { at + WIDE ≤ length bytes.now }
     ensures count { result ≡ prefix_len (λ b. not (is_mark b)) (slice_range bytes.now at (at + WIDE)) }
     ensures bound { result ≤ WIDE }
 {
-    if is_ascii(bytes, at) {
+    if at > LANES && is_ascii(bytes, at) {
         return WIDE;
     }
     plain_lanes::<WIDE>(bytes, at)

@@ -1,5 +1,5 @@
-use Rattle.uip_slip.proofs.Prelude.{◌∙◌, ◌++◌, ◌-◌, ap, append-nil, arith, drop, length, length-drop, length-take, rules, subst, Leaves, reported_by, frames}
-use Rattle.uip_slip.proofs.DecoderLaws.{ends_on, fed_on}
+use Rattle.uip_slip.proofs.Prelude.{◌-◌, arith, drop, length, length-drop, length-take, rules, subst, Leaves}
+use Rattle.uip_slip.proofs.DecoderLaws.{ends_on, fed_more, fed_on}
 use Rattle.uip_slip.proofs.decoder.Decoder.feed_parts.Goals as goal
 
 pub returns-in_default-clause-prefix : goal.returns-in_default-clause-prefix
@@ -14,6 +14,18 @@ returns-in_default-clause-prefix c = record {
       c.feed_part-prefix.ensures.within c.feed_part-prefix.ensures.end;
 }
 
+pub loop-count-preserved-then-not-is_alone : goal.loop-count-preserved-then-not-is_alone
+loop-count-preserved-then-not-is_alone c =
+    let s = c.feed_part-prefix.new.self in
+    let prefix = c.feed_part-prefix.ensures in
+    record {
+      within = omega (arith, prefix.within, length-take (length c.args.bytes.now - c.loop-count.count) (drop c.loop-count.count c.args.bytes.now), length-drop c.loop-count.count c.args.bytes.now, c.loop-count.invariant.within);
+      leaves = λ _. subst (λ x. Leaves x s) c.in-More.is prefix.leaves;
+      frames = λ before f.
+          fed_more before c.args.bytes.now c.loop-count.count c.feed_part-prefix.result.count c.loop-count.self s c.feed_part-prefix.result.fed
+          c.in-More.is (c.loop-count.invariant.frames before f) prefix.frames;
+    }
+
 pub loop-count-preserved : goal.loop-count-preserved
 loop-count-preserved c =
     let s = c.feed_part-prefix.new.self in
@@ -22,7 +34,6 @@ loop-count-preserved c =
       within = omega (arith, prefix.within, length-take (length c.args.bytes.now - c.loop-count.count) (drop c.loop-count.count c.args.bytes.now), length-drop c.loop-count.count c.args.bytes.now, c.loop-count.invariant.within);
       leaves = λ _. subst (λ x. Leaves x s) c.in-More.is prefix.leaves;
       frames = λ before f.
-          let so_far = c.loop-count.invariant.frames before f in
-          let both = fed_on before c.args.bytes.now c.loop-count.count c.feed_part-prefix.result.count c.loop-count.self s _ so_far prefix.frames in
-          (both.0, both.1 ∙ ap (λ x. frames before ++ reported_by x s) c.in-More.is ∙ append-nil (frames before));
+          fed_more before c.args.bytes.now c.loop-count.count c.feed_part-prefix.result.count c.loop-count.self s c.feed_part-prefix.result.fed
+          c.in-More.is (c.loop-count.invariant.frames before f) prefix.frames;
     }

@@ -1,19 +1,25 @@
-use Rattle.uip_slip.proofs.Prelude.{◌≡◌, ◌∙◌, ◌++◌, ◌∷◌, [], ap, append-nil, get_or, rules, subst, sym, take, WasFed, frames}
+use Rattle.uip_slip.proofs.Prelude.{◌≡◌, ◌∙◌, ◌++◌, ◌-◌, append-nil, arith, drop, length, length-take, refl, take, WasFed, frames}
 use Rattle.uip_slip.proofs.DecoderLaws.{ends_on, fed_on, take_first}
 use Rattle.uip_slip.proofs.decoder.Decoder.feed_run.Goals as goal
+use Rattle.uip_slip.proofs.decoder.Decoder.feed_run.Goals.{then-bytes+in-More, else-bytes}
 
-pub returns-in-More-clause-prefix : goal.returns-in-More-clause-prefix
-returns-in-More-clause-prefix c = record {
-  some = search rules;
-  within = search rules;
-  frames = λ before f.
-      let one = c.in-More.ensures.frames before f in
-      let whole : before ++ take 1 c.args.bytes.now ≡ before ++ get_or c.args.bytes.now 0 0 ∷ [] =
-      ap (λ l. before ++ l) (take_first c.args.bytes.now c.requires) in
-      fed_on before c.args.bytes.now 1 c.feed_parts-parts.result.count c.feed.new.self c.feed_parts-parts.new.self _
-      (subst (λ l. WasFed l c.feed.new.self) (sym whole) one.0, ap frames whole ∙ one.1 ∙ append-nil (frames before))
-      c.feed_parts-parts.ensures.prefix.frames;
-  leaves = search rules;
-  end = ends_on c.args.bytes.now 1 c.feed_parts-parts.result.count c.feed_parts-parts.result.fed c.feed_parts-parts.ensures.prefix.some
-      c.feed_parts-parts.ensures.prefix.within c.feed_parts-parts.ensures.prefix.end;
-}
+pub returns-clause-prefix : goal.returns-clause-prefix
+returns-clause-prefix c =
+    let bytes = c.args.bytes.now in
+    let first = c.if-bytes.first in
+    let parts = c.feed_parts-parts.ensures.prefix in
+    record {
+      some = omega (arith, parts.some);
+      within = omega (arith, parts.some, parts.within, length-take (length bytes - first) (drop first bytes));
+      frames = λ before f.
+          let so_far : WasFed (before ++ take first bytes) c.if-bytes.self × (frames (before ++ take first bytes) ≡ frames before) =
+          elim c.if-bytes.branch [
+            | then-bytes+in-More w ↦
+                let one = w.in-More.ensures.frames before f in
+                rw (w.first-is, w.self-is, take_first bytes c.requires, w.if-bytes.true) (one.0, one.1 ∙ append-nil (frames before))
+            | else-bytes w ↦ rw (w.first-is, w.self-is, append-nil before) (f, refl)
+          ] in
+          fed_on before bytes first c.feed_parts-parts.result.count c.if-bytes.self c.feed_parts-parts.new.self _ so_far parts.frames;
+      leaves = parts.leaves;
+      end = ends_on bytes first c.feed_parts-parts.result.count c.feed_parts-parts.result.fed parts.some parts.within parts.end;
+    }
