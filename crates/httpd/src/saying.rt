@@ -89,6 +89,9 @@ pub(crate) fn want_reply<B: Image, R: Record>(
     let mut place = thread;
     let mut ready = 0;
     while ready < LARGEST_SEGMENT {
+        if let Thread::End = place {
+            return sent_or(Want::Close, ready);
+        }
         let seen = look(site, found, capture, place);
         match seen.span {
             Span::Call { .. } => return sent_or(Want::Nothing, ready),

@@ -12,6 +12,7 @@ use uip_ipv4::IpHead;
 use uip_wire::{Addr, Port, Seq, get16, get32};
 
 /// Returns the segment of a datagram whose header was checked, or the first check that fails.
+#[inline(always)]
 pub fn check(bytes: &[u8], head: &IpHead) -> Result<Segment, TcpFate>
     requires { IsHeadOf head.now bytes.now }
     ensures exact { result ≡ segment_or_fate head.now bytes.now }
@@ -24,6 +25,7 @@ pub fn check(bytes: &[u8], head: &IpHead) -> Result<Segment, TcpFate>
 /// Returns the segment between two addresses that these bytes represent, or the first check that fails.
 /// [add: fate] TCP: its check.
 #[tactic(auto, unfolding(crate::specs::Received::segment_in))]
+#[inline(always)]
 fn read(payload: &[u8], source: Addr, target: Addr) -> Result<Segment, TcpFate>
     requires { length payload.now < 2 ^ 16 }
     ensures exact { result ≡ segment_in source.0 target.0 payload.now }

@@ -54,10 +54,10 @@ impl<A> Conn<A> {
     pub fn is_at(&self, peer: Addr, peer_port: Port, own_port: Port) -> bool
         ensures { result ≡ is_at peer peer_port own_port self.now }
     {
-        self.state != State::Closed
-            && self.peer == peer
-            && self.peer_port == peer_port
+        self.peer_port == peer_port
             && self.own_port == own_port
+            && self.state != State::Closed
+            && self.peer == peer
     }
 
     /// Returns whether it is in any state other than CLOSED.

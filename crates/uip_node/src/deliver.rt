@@ -133,7 +133,33 @@ fn ask_in<A: App>(table: &mut Table<A>, shared: &A::Shared, slot: usize, fresh: 
     ask_prepared(conn, shared, fresh)
 }
 
+/// Lets the application of the connection in a slot take a capture, if it needs one, and asks it what to send.
+fn ask_ready<A: App>(
+    table: &mut Table<A>,
+    shared: &A::Shared,
+    slot: usize,
+    fresh: bool,
+    ticks: u32,
+    net: &[u32; 20],
+) -> Step
+    requires within { slot < length table.old.conns }
+    requires asked { IsIn table.old.conns slot CanBeAsked }
+    requires sound { AllSound A.App (A.config shared.now) table.old.conns }
+    requires others { OthersRest slot table.old.conns }
+    ensures long { length table.new.conns ≡ length table.old.conns }
+    ensures iss { table.new.iss ≡ table.old.iss }
+    ensures kept { AllWellFormed A.App (A.config shared.now) table.new.conns }
+    ensures answer { IsAnswer result }
+    ensures text { IsIn table.new.conns slot (λ c. StepFits c result) }
+    ensures meets { SettlesIn A.App (A.config shared.now) slot ticks net.now
+        table.old.conns table.new.conns (A.numbers shared.now) (Step.Ask fresh) result }
+{
+    ready_in(table, shared, slot, ticks, net);
+    ask_in(table, shared, slot, fresh)
+}
+
 /// Asks the application of the connection in a slot, if the step demands it. `ticks` and `net` are those of the node at this event.
+#[inline(always)]
 pub(crate) fn ask_app<A: App>(
     table: &mut Table<A>,
     shared: &A::Shared,
@@ -155,10 +181,7 @@ pub(crate) fn ask_app<A: App>(
         table.old.conns table.new.conns (A.numbers shared.now) step result }
 {
     match step {
-        Step::Ask { fresh } => {
-            ready_in(table, shared, slot, ticks, net);
-            ask_in(table, shared, slot, fresh)
-        }
+        Step::Ask { fresh } => ask_ready(table, shared, slot, fresh, ticks, net),
         other => other,
     }
 }
