@@ -34,6 +34,15 @@ pub(crate) fn decimal_len(number: u32) -> usize
     len + 3
 }
 
+/// Returns the number of digits of a byte.
+#[inline(always)]
+pub(crate) fn byte_len(number: u8) -> usize
+    ensures length { result ≡ length (decimal number) }
+    ensures bound { result ≤ 3 }
+{
+    1 + usize::from(number >= 10) + usize::from(number >= 100)
+}
+
 /// Returns the length of a number in ten places.
 pub(crate) fn in_ten_places_len(_number: u32) -> usize
     ensures length { result ≡ length (in_ten_places _number) }
