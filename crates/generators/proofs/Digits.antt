@@ -1,5 +1,5 @@
 -- The digits of a number, from its last one on.
-use Rattle.generators.proofs.Prelude.{◌≡◌, ◌+◌, ◌++◌, ◌<◌, ◌≤◌, ◌/◌, ◌%◌, ◌∙◌, ◌∷◌, [], ℕ, List, ap, append_assoc, arith, decimal, decimal_digit, decimal_step, decimal_nonempty, drop, drop-set, length, length-append, length-decimal-le, set, sym, take, take-set, take-take, lit<}
+use Rattle.generators.proofs.Prelude.{◌≡◌, ◌+◌, ◌++◌, ◌<◌, ◌≤◌, ◌/◌, ◌%◌, ◌∙◌, ◌∷◌, [], ℕ, List, ap, append_assoc, arith, cases_lt, decimal, decimal_digit, decimal_step, decimal_nonempty, drop, drop-set, from_bool, inl, inr, le-leb, length, length-append, length-decimal-le, lit<, lt-leb, nat_le, one_digit, set, sym, take, take-set, take-take, three_digits, two_digits}
 
 one_more : (n : ℕ) → 10 ≤ n → n < 4294967296 → length (decimal n) ≡ length (decimal (n / 10)) + 1
 one_more n low high = ap length (decimal_step n low (omega (arith, high))) ∙ length-append (decimal (n / 10)) ((48 + n % 10) ∷ [])
@@ -17,6 +17,19 @@ three_more n low high =
 
 pub ten_most : (n : ℕ) → n < 4294967296 → length (decimal n) ≤ 10
 ten_most n high = length-decimal-le 10 n (lit< tt) (omega (arith, high)) (omega (arith, high))
+
+-- a byte has a digit, and one more from 10 and from 100 on
+pub byte_digits : (n : ℕ) → n < 256 → 1 + from_bool (nat_le 10 n) + from_bool (nat_le 100 n) ≡ length (decimal n)
+byte_digits n high =
+    elim (cases_lt n 10) [
+      | inl one ↦ (λ i. 1 + from_bool (lt-leb 10 n one i) + from_bool (lt-leb 100 n (omega (arith, one)) i)) ∙ one_digit n one
+      | inr ten ↦
+          elim (cases_lt n 100) [
+            | inl two ↦ (λ i. 1 + from_bool (le-leb 10 n ten i) + from_bool (lt-leb 100 n two i)) ∙ two_digits n ten two
+            | inr hundred ↦
+                (λ i. 1 + from_bool (le-leb 10 n ten i) + from_bool (le-leb 100 n hundred i)) ∙ three_digits n hundred (omega (arith, high))
+          ]
+    ]
 
 -- what is left has fewer digits
 pub fewer : (n : ℕ) → 10 ≤ n → n < 4294967296 → (length (decimal n) ≡ length (decimal (n / 10)) + 1) × (0 < length (decimal (n / 10)))

@@ -3,7 +3,7 @@
 ghost use Rattle.std.specs.Prelude.{◌≡◌, ◌+◌, ◌++◌, ◌≤◌, ◌<◌, decimal, length, take};
 ghost use Rattle.generators.specs.Text.{state_name, waiting_mark, row_text};
 
-use crate::numbers::{PLACES, decimal_len, put_digits};
+use crate::numbers::{PLACES, byte_len, decimal_len, put_digits};
 use crate::parts::{Place, put};
 use crate::written::Written;
 use app_events::{Row, State};
@@ -127,15 +127,15 @@ impl Written for Row {
     fn len(&self) -> usize {
         let peer = self.peer.0;
         FIXED_LEN
-            + decimal_len(self.slot as u32)
-            + decimal_len(peer[0] as u32)
-            + decimal_len(peer[1] as u32)
-            + decimal_len(peer[2] as u32)
-            + decimal_len(peer[3] as u32)
+            + byte_len(self.slot)
+            + byte_len(peer[0])
+            + byte_len(peer[1])
+            + byte_len(peer[2])
+            + byte_len(peer[3])
             + decimal_len(self.port.0 as u32)
             + name_of(self.state).len()
-            + decimal_len(self.tries as u32)
-            + decimal_len(self.count as u32)
+            + byte_len(self.tries)
+            + byte_len(self.count)
     }
 
     fn put(&self, place: Place, out: &mut [u8]) -> Place {

@@ -34,6 +34,15 @@ pub(crate) fn decimal_len(number: u32) -> usize
     len + 3
 }
 
+/// Returns the number of digits of a byte.
+#[inline(always)]
+pub(crate) fn byte_len(number: u8) -> usize
+    ensures length { result ≡ length (decimal number) }
+    ensures bound { result ≤ 3 }
+{
+    1 + usize::from(number >= 10) + usize::from(number >= 100)
+}
+
 /// Returns the length of a number in ten places.
 pub(crate) fn in_ten_places_len(_number: u32) -> usize
     ensures length { result ≡ length (in_ten_places _number) }
@@ -70,6 +79,15 @@ fn in_ten(number: u32) -> [u8; PLACES]
     text
 }
 
+/// Returns a number in ten places, and the end of the line.
+fn in_line(number: u32) -> [u8; LINE_LEN]
+    ensures { result ≡ counter_line number }
+{
+    let mut line = [b'\n'; LINE_LEN];
+    line[..PLACES].copy_from_slice(&in_ten(number));
+    line
+}
+
 /// Appends a number in ten places.
 #[inline(always)]
 pub(crate) fn put_in_ten_places(place: Place, out: &mut [u8], number: u32) -> Place
@@ -94,8 +112,6 @@ impl Written for u32 {
     }
 
     fn put(&self, place: Place, out: &mut [u8]) -> Place {
-        let numbered = put_in_ten_places(place, out, *self);
-        let line_end: &[u8] = b"\n";
-        put(numbered, out, line_end)
+        put(place, out, &in_line(*self))
     }
 }

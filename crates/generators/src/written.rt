@@ -50,12 +50,15 @@ fn put_needed<T: Written>(item: &T, place: Place, out: &mut [u8]) -> Place
     ensures bound { length (T.text item.now) ≤ T.longest }
     ensures part { (before : List ℕ) → HoldsPart before place out.old → HoldsPart (before ++ T.text item.now) result out.new }
 {
-    let so_far = place.so_far + item.len();
-    if so_far <= place.at || place.so_far.saturating_sub(place.at) >= out.len() {
-        return Place {
-            at: place.at,
-            so_far,
-        };
+    let is_after = place.so_far.saturating_sub(place.at) >= out.len();
+    if is_after || place.so_far < place.at {
+        let so_far = place.so_far + item.len();
+        if is_after || so_far <= place.at {
+            return Place {
+                at: place.at,
+                so_far,
+            };
+        }
     }
     item.put(place, out)
 }
