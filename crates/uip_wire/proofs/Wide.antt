@@ -59,6 +59,17 @@ eight_at sum k bytes h =
     ap (λ (l : List ℕ). folded (sum + little_number 8 (drop k bytes) + swapped_sum l)) (sym (drop-drop 8 k bytes))
     ∙ next_eight sum (drop k bytes) (omega (arith, length-drop k bytes))
 
+-- twice eight bytes
+pub next_sixteen : (sum one two : ℕ) (bytes : List ℕ) → 16 ≤ length bytes
+    → one ≡ little_number 8 bytes → two ≡ little_number 8 (drop 8 bytes)
+    → folded (sum + (one + two) + swapped_sum (drop 16 bytes)) ≡ folded (sum + swapped_sum bytes)
+next_sixteen sum one two bytes h a b =
+    ap folded (omega arith)
+    ∙ ap (λ (n : ℕ). folded (sum + one + n + swapped_sum (drop 16 bytes))) b
+    ∙ eight_at (sum + one) 8 bytes (omega arith)
+    ∙ ap (λ (n : ℕ). folded (sum + n + swapped_sum (drop 8 bytes))) a
+    ∙ next_eight sum bytes (omega arith)
+
 -- four times eight bytes
 pub next_block : (sum one two three four : ℕ) (bytes : List ℕ) → 32 ≤ length bytes
     → one ≡ little_number 8 bytes → two ≡ little_number 8 (drop 8 bytes) → three ≡ little_number 8 (drop 16 bytes) → four ≡ little_number 8 (drop 24 bytes)

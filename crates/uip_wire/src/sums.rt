@@ -55,11 +55,42 @@ fn wide_sum(bytes: &[u8]) -> u128
         sum += block_sum(rest);
         rest = &rest[32..];
     }
-    'eights: while rest.len() >= 8 {
-        sum += u128::from(LittleEndian::read_u64(rest));
-        rest = &rest[8..];
+    let (most, rest) = with_sixteen(sum, rest);
+    let (all, rest) = with_eight(most, rest);
+    all + tail_sum(rest)
+}
+
+/// Adds the first sixteen of fewer than 32 bytes to a sum, as two numbers, if there are as many. Returns the sum and the rest.
+#[inline(always)]
+fn with_sixteen(sum: u128, bytes: &[u8]) -> (u128, &[u8])
+    requires room { sum < 2 ^ 124 }
+    requires few { length bytes.now < 32 }
+    ensures fits { result.0 + 2 ^ 61 * length result.1.now ≤ sum + 2 ^ 61 * length bytes.now }
+    ensures rest { length result.1.now < 16 }
+    ensures same { folded (result.0 + swapped_sum result.1.now) ≡ folded (sum + swapped_sum bytes.now) }
+{
+    if bytes.len() >= 16 {
+        let two = u128::from(LittleEndian::read_u64(bytes))
+            + u128::from(LittleEndian::read_u64(&bytes[8..]));
+        return (sum + two, &bytes[16..]);
     }
-    sum + tail_sum(rest)
+    (sum, bytes)
+}
+
+/// Adds the first eight of fewer than sixteen bytes to a sum, as one number, if there are as many. Returns the sum and the rest.
+#[inline(always)]
+fn with_eight(sum: u128, bytes: &[u8]) -> (u128, &[u8])
+    requires room { sum < 2 ^ 124 }
+    requires few { length bytes.now < 16 }
+    ensures fits { result.0 + 2 ^ 61 * length result.1.now ≤ sum + 2 ^ 61 * length bytes.now }
+    ensures rest { length result.1.now < 8 }
+    ensures same { folded (result.0 + swapped_sum result.1.now) ≡ folded (sum + swapped_sum bytes.now) }
+{
+    if bytes.len() >= 8 {
+        let one = u128::from(LittleEndian::read_u64(bytes));
+        return (sum + one, &bytes[8..]);
+    }
+    (sum, bytes)
 }
 
 /// Returns the first four of fewer than eight bytes as one number, if there are as many, and the rest.
