@@ -1,6 +1,6 @@
 -- Eight bytes that are added as one number of 64 bits.
-use Rattle.uip_wire.proofs.Prelude.{◌≡◌, ℕ, ◌+◌, ◌-◌, ◌*◌, ◌/◌, ◌%◌, ◌^◌, ◌<◌, ◌≤◌, ◌⊎◌, inl, inr, List, [], ◌∷◌, length, drop, length-drop, slice_index, sym, ap, ◌∙◌, refl, arith, drop-drop, little_number, folded, word_sum, swapped_sum}
-use Rattle.uip_wire.proofs.Folding.{folded_cases, folded_most, same_folded}
+use Rattle.uip_wire.proofs.Prelude.{◌≡◌, ℕ, ◌+◌, ◌-◌, ◌*◌, ◌/◌, ◌%◌, ◌^◌, ◌<◌, ◌≤◌, ◌⊎◌, inl, inr, List, [], ◌∷◌, ◌++◌, length, drop, length-drop, slice_index, sym, ap, ◌∙◌, refl, arith, add_comm, drop-drop, little_number, folded, word_sum, swapped_sum}
+use Rattle.uip_wire.proofs.Folding.{folded_add, folded_cases, folded_most, same_folded}
 
 zero_or_more : (n : ℕ) → (n ≡ 0) ⊎ (0 < n)
 zero_or_more n = grind arith
@@ -134,3 +134,23 @@ swapped_back bytes sum e =
     no_swapped [] h = refl
     no_swapped (last ∷ []) h = omega arith
     no_swapped (high ∷ low ∷ rest) h = omega (arith, no_swapped rest (omega arith))
+
+-- no word has bytes of both pieces if the first has an even number of bytes
+swapped_join : (bytes piece : List ℕ) → length bytes % 2 ≡ 0 → swapped_sum (bytes ++ piece) ≡ swapped_sum bytes + swapped_sum piece
+swapped_join [] piece h = omega arith
+swapped_join (a ∷ []) piece h = absurd (omega arith)
+swapped_join (a ∷ b ∷ bytes) piece h = omega (arith, swapped_join bytes piece (omega arith))
+
+-- the sums of two pieces, of which the first has an even number of bytes
+pub joined_back : (first second : List ℕ) (one two sum : ℕ) → length first % 2 ≡ 0
+    → folded one ≡ folded (swapped_sum first) → folded two ≡ folded (swapped_sum second) → sum ≡ folded (one + two)
+    → sum % 256 * 256 + sum / 256 ≡ folded (word_sum (first ++ second))
+joined_back first second one two sum h e f g =
+    swapped_back (first ++ second) sum
+    (g ∙ same_first one (swapped_sum first) two e
+    ∙ ap folded (add_comm (swapped_sum first) two)
+    ∙ same_first two (swapped_sum second) (swapped_sum first) f
+    ∙ ap folded (add_comm (swapped_sum second) (swapped_sum first) ∙ sym (swapped_join first second h)))
+  where
+    same_first : (s t more : ℕ) → folded s ≡ folded t → folded (s + more) ≡ folded (t + more)
+    same_first s t more e = sym (folded_add s more) ∙ ap (λ (n : ℕ). folded (n + more)) e ∙ folded_add t more

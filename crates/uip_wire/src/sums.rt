@@ -1,6 +1,6 @@
 //! The checksum of RFC 791, computed eight bytes at a time (RFC 1071, section 2).
 
-ghost use Rattle.std.specs.Prelude.{◌≡◌, ◌+◌, ◌-◌, ◌*◌, ◌^◌, ◌<◌, ◌≤◌, ℕ, drop, length};
+ghost use Rattle.std.specs.Prelude.{◌≡◌, ◌+◌, ◌-◌, ◌*◌, ◌%◌, ◌^◌, ◌<◌, ◌≤◌, ◌++◌, ℕ, drop, length};
 ghost use Rattle.uip_wire.specs.Checksum.{OneByteTells, checksum_of, folded, word_sum};
 ghost use Rattle.uip_wire.specs.Sums.{swapped_sum};
 
@@ -12,6 +12,16 @@ pub fn checksum(bytes: &[u8]) -> u16
     ensures { result ≡ checksum_of bytes.now }
 {
     65535 - ones_sum(bytes)
+}
+
+/// Returns the checksum of two pieces, one after the other. The first has an even number of bytes.
+#[inline(always)]
+pub fn checksum_joined(first: &[u8], second: &[u8]) -> u16
+    requires { length first.now % 2 ≡ 0 }
+    ensures { result ≡ checksum_of (first.now ++ second.now) }
+{
+    let swapped = fold(wide_sum(first) + wide_sum(second));
+    65535 - (swapped % 256 * 256 + swapped / 256)
 }
 
 /// Two lists of bytes of the same length that differ in exactly one byte have different checksums.
@@ -152,7 +162,7 @@ const WORD64: u128 = 0x1_0000_0000_0000_0000;
 /// Adds the carries of a sum back to it.
 #[inline(always)]
 fn fold(sum: u128) -> u16
-    requires { sum < 2 ^ 124 }
+    requires { sum < 2 ^ 125 }
     ensures { result ≡ folded sum }
 {
     let once = sum / WORD64 + sum % WORD64;
