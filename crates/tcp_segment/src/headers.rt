@@ -5,9 +5,9 @@ ghost use Rattle.tcp_segment.specs.Prelude.{offset_of, pseudo_header, around, fi
 ghost use Rattle.uip_wire.specs.Prelude.{checksum_of};
 
 use crate::out::Out;
-use crate::sums::pseudo_sum;
+use crate::sums::pseudo_header;
 use uip_ipv4::{Proto, put_head};
-use uip_wire::{LARGEST_DATAGRAM, put16, put32};
+use uip_wire::{LARGEST_DATAGRAM, checksum_joined, put16, put32};
 
 /// Writes both headers before the option and the text, which are at offset 40.
 pub(crate) fn put_headers(area: &mut [u8], out: &Out, total: usize)
@@ -34,9 +34,10 @@ fn segment_sum(out: &Out, segment: &[u8]) -> u16
     requires { 20 + length segment.now ≤ LARGEST_DATAGRAM }
     ensures { result ≡ checksum_of (pseudo_header out.now.source.0 out.now.target.0 (length segment.now) ++ segment.now) }
 {
-    let mut sum = pseudo_sum(out.source, out.target, segment.len() as u16);
-    sum.add(segment);
-    sum.finish()
+    checksum_joined(
+        &pseudo_header(out.source, out.target, segment.len() as u16),
+        segment,
+    )
 }
 
 /// Writes the first 20 bytes of the header, with 0 in place of the checksum.

@@ -7,9 +7,9 @@ ghost use Rattle.uip_ipv4.specs.Prelude.{IsHeadOf};
 use crate::fate::TcpFate;
 use crate::options::read_mss;
 use crate::segment::Segment;
-use crate::sums::pseudo_sum;
+use crate::sums::pseudo_header;
 use uip_ipv4::IpHead;
-use uip_wire::{Addr, Port, Seq, get16, get32};
+use uip_wire::{Addr, Port, Seq, checksum_joined, get16, get32};
 
 /// Returns the segment of a datagram whose header was checked, or the first check that fails.
 #[inline(always)]
@@ -62,7 +62,8 @@ fn checksum(payload: &[u8], source: Addr, target: Addr) -> u16
     requires { length payload.now < 2 ^ 16 }
     ensures { result ≡ checksum_of (pseudo_header source.0 target.0 (length payload.now) ++ payload.now) }
 {
-    let mut sum = pseudo_sum(source, target, payload.len() as u16);
-    sum.add(payload);
-    sum.finish()
+    checksum_joined(
+        &pseudo_header(source, target, payload.len() as u16),
+        payload,
+    )
 }

@@ -1,20 +1,10 @@
 ghost use Rattle.std.specs.Prelude.{◌≡◌};
 ghost use Rattle.tcp_segment.specs.Prelude.{pseudo_header};
-ghost use Rattle.uip_wire.specs.Prelude.{sum_of};
 
-use uip_wire::{Addr, Summer};
-
-/// Returns the sum with which a segment's checksum begins: that of the pseudo header for a segment of `len` bytes.
-pub(crate) fn pseudo_sum(source: Addr, target: Addr, len: u16) -> Summer
-    ensures { result ≡ sum_of (pseudo_header source.0 target.0 len) }
-{
-    let mut sum = Summer::new();
-    sum.add(&pseudo_header(source, target, len));
-    sum
-}
+use uip_wire::Addr;
 
 /// Returns the pseudo header: the addresses, the protocol's number and the length (RFC 793, section 3.1).
-fn pseudo_header(source: Addr, target: Addr, len: u16) -> [u8; 12]
+pub(crate) fn pseudo_header(source: Addr, target: Addr, len: u16) -> [u8; 12]
     ensures { result ≡ pseudo_header source.0 target.0 len }
 {
     let [source0, source1, source2, source3] = source.0;

@@ -1,6 +1,6 @@
 -- Eight bytes that are added as one number of 64 bits.
-use Rattle.uip_wire.proofs.Prelude.{◌≡◌, ℕ, ◌+◌, ◌-◌, ◌*◌, ◌/◌, ◌%◌, ◌^◌, ◌<◌, ◌≤◌, ◌⊎◌, inl, inr, List, [], ◌∷◌, length, drop, length-drop, slice_index, sym, ap, ◌∙◌, refl, arith, drop-drop, little_number, folded, word_sum, swapped_sum}
-use Rattle.uip_wire.proofs.Folding.{folded_cases, folded_most, same_folded}
+use Rattle.uip_wire.proofs.Prelude.{◌≡◌, ℕ, ◌+◌, ◌-◌, ◌*◌, ◌/◌, ◌%◌, ◌^◌, ◌<◌, ◌≤◌, ◌⊎◌, inl, inr, List, [], ◌∷◌, ◌++◌, length, drop, length-drop, slice_index, sym, ap, ◌∙◌, refl, arith, add_comm, drop-drop, little_number, folded, word_sum, swapped_sum}
+use Rattle.uip_wire.proofs.Folding.{folded_add, folded_cases, folded_most, same_folded}
 
 zero_or_more : (n : ℕ) → (n ≡ 0) ⊎ (0 < n)
 zero_or_more n = grind arith
@@ -58,6 +58,17 @@ eight_at : (sum k : ℕ) (bytes : List ℕ) → k + 8 ≤ length bytes
 eight_at sum k bytes h =
     ap (λ (l : List ℕ). folded (sum + little_number 8 (drop k bytes) + swapped_sum l)) (sym (drop-drop 8 k bytes))
     ∙ next_eight sum (drop k bytes) (omega (arith, length-drop k bytes))
+
+-- twice eight bytes
+pub next_sixteen : (sum one two : ℕ) (bytes : List ℕ) → 16 ≤ length bytes
+    → one ≡ little_number 8 bytes → two ≡ little_number 8 (drop 8 bytes)
+    → folded (sum + (one + two) + swapped_sum (drop 16 bytes)) ≡ folded (sum + swapped_sum bytes)
+next_sixteen sum one two bytes h a b =
+    ap folded (omega arith)
+    ∙ ap (λ (n : ℕ). folded (sum + one + n + swapped_sum (drop 16 bytes))) b
+    ∙ eight_at (sum + one) 8 bytes (omega arith)
+    ∙ ap (λ (n : ℕ). folded (sum + n + swapped_sum (drop 8 bytes))) a
+    ∙ next_eight sum bytes (omega arith)
 
 -- four times eight bytes
 pub next_block : (sum one two three four : ℕ) (bytes : List ℕ) → 32 ≤ length bytes
@@ -123,3 +134,23 @@ swapped_back bytes sum e =
     no_swapped [] h = refl
     no_swapped (last ∷ []) h = omega arith
     no_swapped (high ∷ low ∷ rest) h = omega (arith, no_swapped rest (omega arith))
+
+-- no word has bytes of both pieces if the first has an even number of bytes
+swapped_join : (bytes piece : List ℕ) → length bytes % 2 ≡ 0 → swapped_sum (bytes ++ piece) ≡ swapped_sum bytes + swapped_sum piece
+swapped_join [] piece h = omega arith
+swapped_join (a ∷ []) piece h = absurd (omega arith)
+swapped_join (a ∷ b ∷ bytes) piece h = omega (arith, swapped_join bytes piece (omega arith))
+
+-- the sums of two pieces, of which the first has an even number of bytes
+pub joined_back : (first second : List ℕ) (one two sum : ℕ) → length first % 2 ≡ 0
+    → folded one ≡ folded (swapped_sum first) → folded two ≡ folded (swapped_sum second) → sum ≡ folded (one + two)
+    → sum % 256 * 256 + sum / 256 ≡ folded (word_sum (first ++ second))
+joined_back first second one two sum h e f g =
+    swapped_back (first ++ second) sum
+    (g ∙ same_first one (swapped_sum first) two e
+    ∙ ap folded (add_comm (swapped_sum first) two)
+    ∙ same_first two (swapped_sum second) (swapped_sum first) f
+    ∙ ap folded (add_comm (swapped_sum second) (swapped_sum first) ∙ sym (swapped_join first second h)))
+  where
+    same_first : (s t more : ℕ) → folded s ≡ folded t → folded (s + more) ≡ folded (t + more)
+    same_first s t more e = sym (folded_add s more) ∙ ap (λ (n : ℕ). folded (n + more)) e ∙ folded_add t more

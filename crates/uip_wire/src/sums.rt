@@ -1,6 +1,6 @@
 //! The checksum of RFC 791, computed eight bytes at a time (RFC 1071, section 2).
 
-ghost use Rattle.std.specs.Prelude.{◌≡◌, ◌+◌, ◌-◌, ◌*◌, ◌^◌, ◌<◌, ◌≤◌, ℕ, drop, length};
+ghost use Rattle.std.specs.Prelude.{◌≡◌, ◌+◌, ◌-◌, ◌*◌, ◌%◌, ◌^◌, ◌<◌, ◌≤◌, ◌++◌, ℕ, drop, length};
 ghost use Rattle.uip_wire.specs.Checksum.{OneByteTells, checksum_of, folded, word_sum};
 ghost use Rattle.uip_wire.specs.Sums.{swapped_sum};
 
@@ -12,6 +12,16 @@ pub fn checksum(bytes: &[u8]) -> u16
     ensures { result ≡ checksum_of bytes.now }
 {
     65535 - ones_sum(bytes)
+}
+
+/// Returns the checksum of two pieces, one after the other. The first has an even number of bytes.
+#[inline(always)]
+pub fn checksum_joined(first: &[u8], second: &[u8]) -> u16
+    requires { length first.now % 2 ≡ 0 }
+    ensures { result ≡ checksum_of (first.now ++ second.now) }
+{
+    let swapped = fold(wide_sum(first) + wide_sum(second));
+    65535 - (swapped % 256 * 256 + swapped / 256)
 }
 
 /// Two lists of bytes of the same length that differ in exactly one byte have different checksums.
@@ -55,11 +65,42 @@ fn wide_sum(bytes: &[u8]) -> u128
         sum += block_sum(rest);
         rest = &rest[32..];
     }
-    'eights: while rest.len() >= 8 {
-        sum += u128::from(LittleEndian::read_u64(rest));
-        rest = &rest[8..];
+    let (most, rest) = with_sixteen(sum, rest);
+    let (all, rest) = with_eight(most, rest);
+    all + tail_sum(rest)
+}
+
+/// Adds the first sixteen of fewer than 32 bytes to a sum, as two numbers, if there are as many. Returns the sum and the rest.
+#[inline(always)]
+fn with_sixteen(sum: u128, bytes: &[u8]) -> (u128, &[u8])
+    requires room { sum < 2 ^ 124 }
+    requires few { length bytes.now < 32 }
+    ensures fits { result.0 + 2 ^ 61 * length result.1.now ≤ sum + 2 ^ 61 * length bytes.now }
+    ensures rest { length result.1.now < 16 }
+    ensures same { folded (result.0 + swapped_sum result.1.now) ≡ folded (sum + swapped_sum bytes.now) }
+{
+    if bytes.len() >= 16 {
+        let two = u128::from(LittleEndian::read_u64(bytes))
+            + u128::from(LittleEndian::read_u64(&bytes[8..]));
+        return (sum + two, &bytes[16..]);
     }
-    sum + tail_sum(rest)
+    (sum, bytes)
+}
+
+/// Adds the first eight of fewer than sixteen bytes to a sum, as one number, if there are as many. Returns the sum and the rest.
+#[inline(always)]
+fn with_eight(sum: u128, bytes: &[u8]) -> (u128, &[u8])
+    requires room { sum < 2 ^ 124 }
+    requires few { length bytes.now < 16 }
+    ensures fits { result.0 + 2 ^ 61 * length result.1.now ≤ sum + 2 ^ 61 * length bytes.now }
+    ensures rest { length result.1.now < 8 }
+    ensures same { folded (result.0 + swapped_sum result.1.now) ≡ folded (sum + swapped_sum bytes.now) }
+{
+    if bytes.len() >= 8 {
+        let one = u128::from(LittleEndian::read_u64(bytes));
+        return (sum + one, &bytes[8..]);
+    }
+    (sum, bytes)
 }
 
 /// Returns the first four of fewer than eight bytes as one number, if there are as many, and the rest.
@@ -121,7 +162,7 @@ const WORD64: u128 = 0x1_0000_0000_0000_0000;
 /// Adds the carries of a sum back to it.
 #[inline(always)]
 fn fold(sum: u128) -> u16
-    requires { sum < 2 ^ 124 }
+    requires { sum < 2 ^ 125 }
     ensures { result ≡ folded sum }
 {
     let once = sum / WORD64 + sum % WORD64;

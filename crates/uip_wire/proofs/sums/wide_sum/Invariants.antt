@@ -2,12 +2,6 @@ use Rattle.uip_wire.proofs.Wide.{Adding}
 use Rattle.uip_wire.proofs.Prelude.{length}
 use Rattle.uip_wire.proofs.sums.wide_sum.Given as goal
 
-abbrev pub invariant-eights : goal.invariant-eights
-invariant-eights l = Adding l.sum l.rest l.bytes
-
-abbrev pub decreases-eights : goal.decreases-eights
-decreases-eights l = length l.rest
-
 abbrev pub invariant-longs : goal.invariant-longs
 invariant-longs l = Adding l.sum l.rest l.bytes
 
