@@ -9,4 +9,5 @@ pub mod Sending
 pub mod WebDevices
 pub mod ConstantValues
 pub mod Query
+pub mod Lemmas
 pub mod Prelude

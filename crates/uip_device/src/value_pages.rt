@@ -13,6 +13,7 @@ use crate::device_web::{DeviceWeb, FlashWeb, see_counted};
 use crate::opening::see_loaded;
 use crate::query::{Query, text_in};
 use app_events::{App, Ending, Now, Want};
+use app_pair::CanPair;
 use device_values::ValueCapture;
 use file_tree::FileId;
 use httpd::CompactPages;
@@ -204,4 +205,12 @@ impl App for ValuePages {
     ghost starts = { λ site. web_starts words (files_of site) };
 
     ghost same_left = { λ a site p q s t. same_left_by words (λ made. made) (pages_kept record_text a.pages) site p q s t };
+}
+
+impl CanPair for ValuePages {
+    ghost use Rattle.file_tree.specs.Site.{files_of};
+    ghost use Rattle.device_values.specs.Words.{words};
+    ghost use Rattle.uip_device.specs.Lemmas.PagePairs.{pages_can_pair};
+
+    ghost can_pair = { λ site. pages_can_pair words (files_of site) };
 }
