@@ -5,7 +5,7 @@
  * server at port 80 is the only application of this library: for one of your own, without web server, see uip_app.h.
  *
  * SPDX-License-Identifier: MIT OR Apache-2.0
- * Copyright 2026 The Lowunbisa authors. LICENSE states what holds for the run-time library in each binary.
+ * Copyright 2026 The Lowunbisa authors. Each binary contains a run-time library without a stated licence: see LICENSE.
  *
  * THIS IS NOT THE uip.h OF uIP 1.0 or Contiki, whose file and many of whose names are the same. Keep their folders off
  * the include path of each file that includes this one: macros of uIP would replace these calls.
@@ -15,8 +15,8 @@
  * numbers are predictable, and ten SYNs that are never acknowledged occupy all ten connections for 51 s.
  *
  * LINKS. Choose a row, and link exactly one library (FIRMWARE "Link the library"). One device of uip_open can serve
- * the first two rows at once. The libraries for Cortex-M link with -mfloat-abi=soft or softfp; none is supplied for
- * hard.
+ * the first two rows at once. libuip_c_ether.a has all calls. The libraries for Cortex-M link with -mfloat-abi=soft or
+ * softfp; none is supplied for hard.
  *
  *     link        open            what arrives     each half second    library, in lib/TARGET of a release
  *     serial      uip_open        uip_feed_all     uip_tick_all        libuip_c.a
@@ -30,7 +30,7 @@
  *     #include "uip.h"
  *     #include "site.c"                                // the site as an array: python3 tools/pack.py FOLDER site.c
  *     #define UIP_HEAP_SIZE UIP_MEMORY(SITE_IMAGE_FILES)
- *     #include "heap.c"                                // examples/common/heap.c; in the repository examples/heap.c
+ *     #include "heap.c"                                // examples/common/heap.c: C11 or C++11
  *
  *     size_t read_serial(unsigned char *bytes, size_t room);      // yours: takes bytes from your receive ring; if none
  *                                                      // are there it returns 0, at once or within some 100 ms
@@ -56,7 +56,7 @@
  *     }
  *
  *     int main(void) {
- *         static unsigned char bytes[64], out[32];     // output is written in pieces of up to sizeof out
+ *         static unsigned char bytes[64], out[32];     // with more `bytes`, more output follows (SERIAL LINE)
  *         static const unsigned char own[4] = {10, 0, 0, 1};
  *         unsigned status = uip_open(&device, site_image, SITE_IMAGE_LEN, own).status;
  *         while (status == UIP_OK) {                   // nothing that arrives ends it
@@ -104,15 +104,15 @@
  *
  * ERRORS. If a call fails, the device, `out`, `frame` and the counters are as before, and all other fields of the
  * result are 0 (but see uip_opened). The statuses of a call are listed in the order in which they are looked for. No
- * received contents cause an error. A wrong length does: drop datagrams of 0 or of more than UIP_MAX_DATAGRAM bytes,
- * and frames longer than `room`; do not call uip_feed with 0 bytes. A loop that passes correct arguments, and drains
- * what is pending before it feeds or ticks, sees only UIP_OK. Not detected: null pointers and wrong areas (rules 4 and
- * 5). Not reported, and harmless to memory: a wrong rate of ticks, a slot left out or called twice in a tick, and an
- * unknown name (uip_hits and uip_query return 0).
+ * received contents cause an error. A wrong length does: do not pass on datagrams of 0 or of more than
+ * UIP_MAX_DATAGRAM bytes, and frames longer than `room`; do not call uip_feed with 0 bytes. A loop that passes correct
+ * arguments, and drains what is pending before it feeds or ticks, sees only UIP_OK. Not detected: null pointers and
+ * wrong areas (rules 4 and 5). Not reported, and harmless to memory: a wrong rate of ticks, a slot left out or called
+ * twice in a tick, and an unknown name (uip_hits and uip_query return 0).
  *
- * TIME. No function of the library waits, and after opening none takes memory. Opening reads the whole image. Any
- * other function, the inline ones apart, handles at most one datagram, but no bound on its time is known. An inline
- * function waits as long as its sink does.
+ * TIME. Functions that are not inline never wait, and after opening they take no memory. Opening reads the whole
+ * image; any other handles at most one datagram, but no bound on its time is known. An inline function waits as long
+ * as its sink does.
  */
 #ifndef LOWUNBISA_UIP_H
 #define LOWUNBISA_UIP_H
@@ -264,12 +264,12 @@ typedef struct uip_row { unsigned status, state; unsigned char peer[4]; unsigned
  *                 uip_close (rule 6)
  *   own           the IPv4 address, first byte first: {10, 0, 0, 1}; it is copied and not checked
  *
- * Status: UIP_HAS_DEVICE (it stays open, unchanged), UIP_BAD_IMAGE or UIP_NO_MEMORY (it is closed: you may free the
- * image, and open it again), UIP_OK.
+ * Status: UIP_HAS_DEVICE (it stays open, unchanged); UIP_BAD_IMAGE or UIP_NO_MEMORY, whichever is found first (it is
+ * closed, and you may open it again); UIP_OK.
  *
- * Reads the whole image. Allocates all the memory of the device (UIP_MEMORY). If it fails, it has freed it; otherwise
- * uip_close frees it. To change the address close and open. There is no mask and no router: every reply goes out on the
- * link.
+ * Reads the whole image. Allocates all the memory of the device (UIP_MEMORY), which uip_close frees. If it returns
+ * UIP_BAD_IMAGE or UIP_NO_MEMORY, it has freed what it took. To change the address close and open. There is no mask
+ * and no router: every reply goes out on the link.
  */
 uip_opened uip_open(uip_device *device, const unsigned char *image, size_t len, const unsigned char own[4]);
 
@@ -372,11 +372,14 @@ typedef void (*uip_sink)(void *to, const unsigned char *bytes, size_t len);
  * sent begins and ends with an END, so what was on the line before it does no harm. An empty frame is ignored, and a
  * frame with a damaged byte is dropped by its checksum.
  *
- * If your write may wait, uip_feed_all and uip_tick_all, below, are all that you need. Give the receive ring 512 bytes
- * for a start. While the program writes, it can overflow, and TCP sends the lost data again. With 36,024 bytes it
- * cannot: twelve frames, 3.1 s at 115,200 bits a second, are the most that one pass of the program above writes. For a
- * product see FIRMWARE "A loop that never waits": uip_feed, uip_periodic and uip_drain, with a ring of 6,004 bytes.
- * FIRMWARE "How much to buffer" has the sums, and "Connect it to a PC" the other end. Feed a watchdog in the sink.
+ * If your write may wait, uip_feed_all and uip_tick_all, below, are all that you need. Feed a watchdog in the sink.
+ * While the program writes, the receive ring can overflow; TCP then sends the lost data again. Begin with a ring of
+ * 512 bytes. One pass of the program above writes at most twelve frames, 36,024 bytes (3.1 s at 115,200 bits a
+ * second): a ring with that much free when the writing begins loses nothing.
+ *
+ * A product should not wait: take examples/common/step.c, which calls uip_feed, uip_periodic and uip_drain, with a
+ * ring of 6,004 bytes (FIRMWARE "A loop that never waits" and "How much to buffer"). FIRMWARE "Connect it to a PC" has
+ * the other end.
  */
 
 /*
@@ -726,8 +729,7 @@ unsigned uip_close(uip_device *device);
 
 /*
  * The heap, which the program supplies. Take examples/common/heap.c of a release (an array of UIP_HEAP_SIZE bytes, for
- * one thread; in the repository examples/heap.c) or examples/linux/heap.c (malloc; examples/linux-c/heap.c), or write
- * your own. The names come from Rattle, the language of the library. One heap serves all devices (rule 8).
+ * one thread) or examples/linux/heap.c (malloc), or write your own. One heap serves all devices (rule 8).
  *
  *   rattle_alloc      returns a block of `len` bytes, or of `align` bytes if `len` is 0, at a multiple of `align` (1,
  *                     2, 4 or 8), with `ok` 1. If there is no room: `ok` 0, and a `block` that is not null, for
