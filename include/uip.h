@@ -97,7 +97,7 @@
  *      nor anything else in use. The functions of the heap must not call the library. They must be thread-safe if two
  *      devices may be opened or closed at once.
  *   9. The stack must be large enough, and aligned as the ABI demands. Computed for our test firmwares, from reset,
- *      without interrupts: on a serial line at most 2,304 bytes on Cortex-M, RISC-V and aarch64, and on Ethernet 5,392
+ *      without interrupts: on a serial line at most 2,336 bytes on Cortex-M, RISC-V and aarch64, and on Ethernet 5,392
  *      on a Cortex-M4. FIRMWARE "Targets" has each, and "Stack" how to compute yours.
  *  10. The processor must be set up as FIRMWARE "Targets" states for yours. For example on a Cortex-M4, M7 or M33
  *      CCR.UNALIGN_TRP is 0, and stack, heap, image and all areas that are passed lie in Normal memory.
@@ -619,7 +619,7 @@ UIP_INLINE unsigned uip_tick_datagrams(uip_device *device, unsigned char *out, s
  * Status: UIP_HAS_DEVICE, UIP_BAD_IMAGE or UIP_NO_MEMORY, UIP_OK, as of uip_open.
  *
  * This call alone needs 5,280 bytes of stack on a Cortex-M4, since it moves the new device several times; the other
- * calls for frames need at most 1,864. The heap is UIP_MEMORY_ETHER(files). No hardware address is known yet, and
+ * calls for frames need at most 1,872. The heap is UIP_MEMORY_ETHER(files). No hardware address is known yet, and
  * nothing is sent.
  */
 uip_opened uip_open_ether(uip_device *device, const unsigned char *image, size_t len, const unsigned char own[4],
