@@ -1,0 +1,5 @@
+pub mod Opened
+pub mod PageNumbers
+pub mod Taking
+pub mod Words
+mod Prelude
