@@ -285,7 +285,7 @@ fn a_line_is_answered(rt: HostRuntime) {
         uip_write(alloc, &mut device, 0, 4, b"42\n", 0, &mut frame),
         UipResult::done(0, 57)
     );
-    assert!(rt; frame[54..57] == *b"42\n");
+    assert!(rt; frame[54..].starts_with(b"42\n"));
     assert_eq!(rt;
         uip_read(alloc, &mut device, 0, &mut line),
         received(0, 5025, 0)
