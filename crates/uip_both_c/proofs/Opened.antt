@@ -1,5 +1,5 @@
 -- What opening a device and setting a value in it give.
-use Rattle.uip_both_c.proofs.Prelude.{◌≡◌, Addr, BothApps, BothEther, BothNode, BothShared, Bool, ChangesNode, ChangesNumbers, DeviceWeb, IsFirstShared, IsFreshFrameDevice, IsOfImage, IsOpenedBoth, List, Mac, Network, OwnShared, PlainMessage, ap, both, both_spec, change_own, false, files_of, first_both_numbers, first_numbers, if◌then◌else◌, interface_at, message_of, no_message, numbers_of, pair_numbers, refl, subst, sym, true, write_value, ℕ, ◌∙◌}
+use Rattle.uip_both_c.proofs.Prelude.{◌≡◌, Addr, BothEther, BothNode, BothShared, Bool, ChangesNode, ChangesNumbers, DeviceWeb, IsFirstShared, IsFreshFrameDevice, IsOfImage, IsOpenedBoth, List, Mac, Network, OwnShared, PlainMessage, ap, both, both_spec, change_own, false, files_of, first_both_numbers, first_numbers, if◌then◌else◌, interface_at, message_of, no_message, numbers_of, pair_numbers, refl, subst, sym, true, write_value, ℕ, ◌∙◌}
 use mir.Val.{bool_byte}
 use Rattle.frame_device.specs.contracts.ether.EthernetFrames.TheImpl.{ghosts as ether_link}
 

@@ -21,7 +21,7 @@ pub use Rattle.std.specs.Option.{is_some}
 pub use Rattle.std.specs.Prelude.{if◌then◌else◌, true}
 pub use Rattle.uip_both_c.specs.BothSpec.{both, both_spec, first_both_numbers}
 pub use Rattle.uip_both_c.specs.Holding.{DeviceRow, holds}
-pub use Rattle.uip_both_c.specs.Kept.{BothApps, BothEther, BothNode, BothShared, HasBoth, Kept}
+pub use Rattle.uip_both_c.specs.Kept.{BothEther, BothNode, BothShared, Kept}
 pub use Rattle.uip_both_c.specs.Opening.{IsOpenedBoth}
 pub use Rattle.uip_both_c.specs.Rows.{TellsRow}
 pub use Rattle.uip_both_c.specs.declared.held.Held.{Held}

@@ -1,5 +1,5 @@
 -- A node with the pages of a site at port 80 and the application of the program's own at its ports.
-use Rattle.std.specs.Prelude.{◌≡◌, ℕ, ◌||◌, Bool, List}
+use Rattle.std.specs.Prelude.{◌≡◌, ℕ, ◌||◌, Bool, List, if◌then◌else◌}
 use Rattle.app_events.specs.Prelude.{AppSpec}
 use Rattle.app_events.specs.declared.app.App.{Ghosts}
 use Rattle.app_pair.specs.PairNumbers.{pair_numbers}
@@ -8,7 +8,7 @@ use Rattle.app_pair.specs.PairSpec.{pair_spec}
 use Rattle.file_tree.specs.Prelude.{SiteContent, files_of}
 use Rattle.own_app.specs.Prelude.{is_own_port, no_message, numbers_of, own_spec}
 use Rattle.own_app.specs.contracts.app.OwnAppApp.TheImpl.{ghosts as own_ghosts}
-use Rattle.own_node.specs.Prelude.{OfNodeWith, seen_in_pair}
+use Rattle.own_node.specs.Prelude.{OfNodeWith, is_open_state, seen_in_pair}
 use Rattle.serve_loop.specs.Prelude.{IsNode}
 use Rattle.site_image.specs.Prelude.{File}
 use Rattle.tcp_machine.specs.Prelude.{Connection}
@@ -44,6 +44,10 @@ first_both_numbers files = pair_numbers (first_numbers files) (numbers_of 0 no_m
 -- the connection in a slot, as the program's application sees it: CLOSED if it is open at port 80
 abbrev pub own_in : ℕ → AbstractNode → Connection
 own_in slot n = seen_in_pair (connection_in slot n)
+
+-- the port at which it opened, while the application may send on it
+abbrev pub own_port_in : ℕ → AbstractNode → ℕ
+own_port_in slot n = if is_open_state (own_in slot n).state then (own_in slot n).sockets.own_port.0 else 0
 
 abbrev pub site_of : BothNode → SiteContent
 site_of node = node.shared.first.web.site

@@ -7,9 +7,9 @@ use Rattle.frame_device.specs.Prelude.{AnswersFrame, CallsSlot, ChangesNumbers, 
 use Rattle.frame_device.specs.contracts.ether.EthernetFrames.TheImpl.{ghosts as ether_link}
 use Rattle.frame_device.specs.declared.network.Network.{Network}
 use Rattle.file_tree.specs.Prelude.{files_of}
-use Rattle.own_node.specs.Prelude.{WritesMessageWith, can_write_at, is_ready_at, pending_at, port_at, seen_in_pair}
+use Rattle.own_node.specs.Prelude.{WritesMessageWith, can_write_at, is_ready_at, pending_at, seen_in_pair}
 use Rattle.site_image.specs.Prelude.{File}
-use Rattle.uip_both_c.specs.BothSpec.{OfBoth, both, both_spec, first_both_numbers, own_in, site_of}
+use Rattle.uip_both_c.specs.BothSpec.{OfBoth, both, both_spec, first_both_numbers, own_in, own_port_in, site_of}
 use Rattle.uip_both_c.specs.Kept.{BothEther, HasBoth, Kept}
 use Rattle.uip_both_c.specs.declared.calls.UipReceived.{UipReceived}
 use Rattle.uip_both_c.specs.declared.status.TheConstants.{BAD_ARGUMENT, NO_DEVICE, NOT_READY, OK}
@@ -69,7 +69,7 @@ flag_of false = 0
 -- the area has as many as it has room for.
 pub record ReadsSlotOf (slot : ℕ) (result : UipReceived) (area area' : List ℕ) (d : BothEther) : Type 0 where
   pub ready : OfBoth d (λ n. result.ready ≡ flag_of (is_ready_at (own_in slot n)))
-  pub port : OfBoth d (λ n. result.port ≡ port_at (own_in slot n))
+  pub port : OfBoth d (λ n. result.port ≡ own_port_in slot n)
   pub len : OfBoth d (λ n. result.len ≡ length (pending_at (own_in slot n)))
   pub bytes : OfBoth d (λ n. area' ≡ written area 0 (take (length area) (pending_at (own_in slot n))))
 

@@ -4,8 +4,8 @@ ghost use Rattle.std.specs.Prelude.{◌≡◌, ◌<◌, ◌≤◌, false, length
 ghost use Rattle.app_pair.specs.PairNumbers.{change_own};
 ghost use Rattle.frame_device.specs.Prelude.{AnswersFrame, CallsSlot, ChangesNumbers, InputsFrame};
 ghost use Rattle.frame_device.specs.contracts.ether.EthernetFrames.TheImpl.{ghosts as ether_link};
-ghost use Rattle.own_node.specs.Prelude.{WritesMessageWith, can_write_at, is_ready_at, pending_at, port_at, seen_in_pair};
-ghost use Rattle.uip_both_c.specs.BothSpec.{OfBoth, both, own_in};
+ghost use Rattle.own_node.specs.Prelude.{WritesMessageWith, can_write_at, is_ready_at, pending_at, seen_in_pair};
+ghost use Rattle.uip_both_c.specs.BothSpec.{OfBoth, both, own_in, own_port_in};
 ghost use Rattle.uip_device.specs.Prelude.{write_value};
 
 use crate::held::BothEther;
@@ -56,7 +56,7 @@ pub(crate) fn is_ready(device: &BothEther, slot: usize) -> bool
 /// Returns the port of the connection in a slot; 0 if it is not open, or is open at port 80.
 pub(crate) fn own_port(device: &BothEther, slot: usize) -> u16
     requires { slot < 10 }
-    ensures { OfBoth device.now (λ n. result ≡ port_at (own_in slot n)) }
+    ensures { OfBoth device.now (λ n. result ≡ own_port_in slot n) }
 {
     own_node::own_port(&device.node, slot)
 }

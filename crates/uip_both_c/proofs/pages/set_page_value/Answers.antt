@@ -1,4 +1,4 @@
-use Rattle.uip_both_c.proofs.Prelude.{List, ℕ, ◌++◌, refl}
+use Rattle.uip_both_c.proofs.Prelude.{List, refl, ℕ}
 use Rattle.uip_both_c.proofs.PageNumbers.{value_set}
 use Rattle.uip_both_c.proofs.pages.set_page_value.Goals as goal
 
