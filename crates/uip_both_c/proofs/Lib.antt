@@ -1,3 +1,4 @@
+pub mod BothLaws
 pub mod Opened
 pub mod PageNumbers
 pub mod Taking

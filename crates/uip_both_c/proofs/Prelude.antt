@@ -31,3 +31,15 @@ pub use Rattle.uip_device.specs.Query.{query_for}
 pub use Rattle.uip_device.specs.declared.device_web.DeviceWeb.{DeviceWeb}
 pub use Rattle.uip_wire.specs.declared.addr.Addr.{Addr}
 pub use Rattle.web_pages.specs.Prelude.{hits_of, place_of}
+pub use Rattle.ethernet_arp.specs.Prelude.{Act}
+pub use Rattle.frame_device.specs.Prelude.{CallsSlot, DoesNothing, FrameCall, InputsFrame}
+pub use Rattle.frame_device.specs.declared.ether.Ethernet.{Ethernet}
+pub use Rattle.own_app.specs.Prelude.{write_message}
+pub use Rattle.own_node.specs.Prelude.{with_change}
+pub use Rattle.serve_loop.specs.Prelude.{Station}
+pub use Rattle.std.proofs.Common.{[], map, ◌∷◌}
+pub use Rattle.uip_both_c.specs.BothCalls.{AnsweredCall, BothAtStation, BothCall, Calls, CallsAreExact, CouldWrite, CouldWriteAll, DidCall, DidCalls, Gives, Writes, calls_of, first_station, frame_of_call, frames_of_calls, station_after_call, station_after_calls, station_before}
+pub use Rattle.uip_both_c.specs.BothSpec.{site_of}
+pub use Rattle.uip_both_c.specs.Handles.{BothAnswers, BothGives, BothWrites}
+pub use Rattle.uip_both_c.specs.Kept.{HasBoth}
+pub use Rattle.uip_node.specs.Prelude.{AbstractNode, Represents}

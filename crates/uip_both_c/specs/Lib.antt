@@ -4,4 +4,5 @@ pub mod Holding
 pub mod Handles
 pub mod Opening
 pub mod Rows
+pub mod BothCalls
 pub mod ConstantValues
