@@ -11,7 +11,7 @@ from repository import TOP, read, tracked
 
 MOST_IN_A_CHAIN = 8
 # A crate at the end of a longer chain, with the length allowed (docs/DECISIONS.md): ARP is below the device on Ethernet.
-LONGER_CHAINS = {"uip_c": 9, "uip_app_c": 9}
+LONGER_CHAINS = {"uip_c": 9, "uip_app_c": 9, "uip_both_c": 9}
 WIDTH = 100
 # Names in documents that no source has: words of the kit, of std and of the system.
 OUTSIDE = set("""

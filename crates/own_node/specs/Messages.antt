@@ -106,6 +106,7 @@ pub record WritesMessageWith {A S : Type 0} (g : Ghosts A S) (seen : Connection 
   pub message : PlainMessage
   pub next : OfNodeWith g old (λ n. message ≡ next_message_at taken text last (seen (connection_in slot n)))
   pub changes : ReplacesNewestWith g among message old new
+  pub kept : g.config new.shared ≡ g.config old.shared
 
 -- with `OwnApp` alone
 abbrev pub WritesMessage : ℕ → ℕ → List ℕ → Bool → OwnNode → OwnNode → Type 0

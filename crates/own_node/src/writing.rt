@@ -40,7 +40,8 @@ fn next_message(app: &OwnApp, taken: usize, text: &[u8], last: bool) -> Message
 
 /// Puts a message in the place of the newest.
 fn put_message<H: HoldsOwn>(node: &mut Node<H>, message: Message)
-    ensures { ReplacesNewestWith H.App H.among (message_of message) node.old node.new }
+    ensures replaces { ReplacesNewestWith H.App H.among (message_of message) node.old node.new }
+    ensures kept { H.App.config node.new.shared ≡ H.App.config node.old.shared }
 {
     H::put(&mut node.shared, message);
 }

@@ -74,7 +74,7 @@ impl Query {
     }
 
     /// Copies the text that is kept for a file to the start of `out`, which has room for 64 bytes; nothing if none is kept for it.
-    pub(crate) fn read(&self, file: Option<FileId>, out: &mut [u8]) -> QueryRead
+    pub fn read(&self, file: Option<FileId>, out: &mut [u8]) -> QueryRead
         requires { 64 ≤ length out.old }
         ensures { ReadsQuery (query_for self.now (option_map (λ id. id.0) file)) result.hit result.len out.old out.new }
     {

@@ -33,5 +33,6 @@ returns-clause-written g c = λ done. record {
       (own_seen g.H.App g.H.HoldsOwn.seen c.args.node.now.table.conns n c.args.slot c.conn-conn.result.now (g.H.App.config c.args.node.now.shared) c.own.result represents.slots c.conn-conn.ensures
       c.own.ensures c.in-Some.app c.in-Some.is)
       (sym c.can_write_by.ensures ∙ c.if-not-can_write_by.false);
-  changes = c.put_message.ensures;
+  changes = c.put_message.ensures.replaces;
+  kept = c.put_message.ensures.kept;
 }

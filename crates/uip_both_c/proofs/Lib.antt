@@ -1,0 +1,6 @@
+pub mod BothLaws
+pub mod Opened
+pub mod PageNumbers
+pub mod Taking
+pub mod Words
+mod Prelude

@@ -1,0 +1,42 @@
+-- What opening a device and setting a value in it give.
+use Rattle.uip_both_c.proofs.Prelude.{◌≡◌, Addr, BothEther, BothNode, BothShared, Bool, ChangesNode, ChangesNumbers, DeviceWeb, IsFirstShared, IsFreshFrameDevice, IsOfImage, IsOpenedBoth, List, Mac, Network, OwnShared, PlainMessage, ap, both, both_spec, change_own, false, files_of, first_both_numbers, first_numbers, if◌then◌else◌, interface_at, message_of, no_message, numbers_of, pair_numbers, refl, subst, sym, true, write_value, ℕ, ◌∙◌}
+use mir.Val.{bool_byte}
+use Rattle.frame_device.specs.contracts.ether.EthernetFrames.TheImpl.{ghosts as ether_link}
+
+abbrev shared_of : DeviceWeb → OwnShared → BothShared
+shared_of first second = record { first = first; second = second }
+
+first_numbered : (image : List ℕ) (first : DeviceWeb) (second : OwnShared) → IsFirstShared image first → second.opened ≡ 0 → message_of second.message ≡ no_message
+    → both.numbers (shared_of first second) ≡ first_both_numbers (files_of first.web.site)
+first_numbered image first second its opened none =
+    ap (λ (l : List ℕ). pair_numbers l (numbers_of second.opened (message_of second.message))) its.numbers
+    ∙ ap (λ (k : ℕ). pair_numbers (first_numbers (files_of first.web.site)) (numbers_of k (message_of second.message))) opened
+    ∙ ap (λ (m : PlainMessage). pair_numbers (first_numbers (files_of first.web.site)) (numbers_of 0 m)) none
+
+pub opened_both : (image : List ℕ) (own : Addr) (mac : Mac) (network : Network) (d : BothEther) (first : DeviceWeb) (second : OwnShared)
+    → d.node.shared ≡ shared_of first second → IsFirstShared image first → second.opened ≡ 0 → message_of second.message ≡ no_message
+    → IsFreshFrameDevice both ether_link (interface_at own mac network) (both_spec (files_of first.web.site)) (both.numbers (shared_of first second)) own d
+    → IsOpenedBoth image own mac network d
+opened_both image own mac network d first second same its opened none fresh =
+    let numbered = subst (λ (l : List ℕ). IsFreshFrameDevice both ether_link (interface_at own mac network) (both_spec (files_of first.web.site)) l own d)
+    (first_numbered image first second its opened none) fresh in
+    record {
+      site = subst (λ (s : BothShared). IsOfImage image s.first.web.site) (sym same) its.site;
+      fresh = record {
+        files_are = refl;
+        fresh = subst (λ (s : BothShared). IsFreshFrameDevice both ether_link (interface_at own mac network) (both_spec (files_of s.first.web.site)) (first_both_numbers (files_of s.first.web.site)) own d)
+            (sym same) numbered;
+      };
+    }
+
+-- a value is set in the node of a device
+pub both_given : (number : ℕ) (text : List ℕ) (d : BothEther) (node : BothNode) → ChangesNode both (change_own false (write_value number text)) d.node node
+    → ChangesNumbers both ether_link (change_own false (write_value number text)) d (record { frames = d.frames; node = node })
+both_given number text d node changes = record {
+  kept = changes.kept;
+  each = λ k m own s here. record { stands = changes.stands m own s.node here.stands; acted = here.acted };
+}
+
+pub byte_of : (b : Bool) → bool_byte b ≡ (if b then 1 else 0)
+byte_of true = refl
+byte_of false = refl

@@ -1,0 +1,10 @@
+use Rattle.uip_both_c.proofs.Prelude.{File, List, ap, hits_of, numbers_of_first, ◌∙◌}
+use Rattle.uip_both_c.proofs.Taking.{read_out}
+use Rattle.uip_both_c.proofs.reading.uip_hits.Goals as goal
+
+pub returns-clause-fine : goal.returns-clause-fine
+returns-clause-fine c = λ fine. (
+  c.deref.result.now,
+  read_out c.deref.result.now c.in-Some.opened.value _ c.deref.ensures c.in-Some.ensures.taken,
+  λ files own n s. c.page_hits-number.ensures n s.node.stands ∙ ap (λ (l : List File). hits_of l (numbers_of_first n.numbers) c.args.name.now) s.files_are,
+)

@@ -1,0 +1,5 @@
+use Rattle.uip_both_c.proofs.Taking.{read_out}
+use Rattle.uip_both_c.proofs.reading.uip_ticks.Goals as goal
+
+pub returns-clause-fine : goal.returns-clause-fine
+returns-clause-fine c = λ fine. (c.deref.result.now, read_out c.deref.result.now c.in-Some.opened.value _ c.deref.ensures c.in-Some.ensures.taken, λ files own n s. c.node_ticks-number.ensures n s.node.stands)

@@ -1,0 +1,120 @@
+-- Calls on a handle, one after the other, and what the definition of the node and its link gives for them.
+use Rattle.std.specs.Prelude.{◌≡◌, ℕ, Bool, List, [], ◌∷◌, false, map, true, ⊤}
+use Rattle.app_pair.specs.PairNumbers.{change_own}
+use Rattle.ethernet_arp.specs.Prelude.{Act}
+use Rattle.ethernet_arp.specs.declared.mac.Mac.{Mac}
+use Rattle.file_tree.specs.Prelude.{files_of}
+use Rattle.frame_device.specs.Prelude.{CallsSlot, DoesNothing, FrameCall, FrameSpec, RepresentsStation, as_medium, ether_frames}
+use Rattle.frame_device.specs.Prelude.{interface_at, station_events_by}
+use Rattle.frame_device.specs.contracts.ether.EthernetFrames.TheImpl.{ghosts as ether_link}
+use Rattle.frame_device.specs.declared.network.Network.{Network}
+use Rattle.own_app.specs.Prelude.{write_message}
+use Rattle.own_node.specs.Prelude.{can_write_at, next_message_at, with_change}
+use Rattle.serve_loop.specs.Prelude.{Station, initial_station, output, station_after_all}
+use Rattle.site_image.specs.Prelude.{File}
+use Rattle.uip_both_c.specs.BothSpec.{both, both_spec, first_both_numbers, is_both_port, own_in, site_of}
+use Rattle.uip_both_c.specs.Handles.{BothAnswers, BothGives, BothWrites, OpensBothAs}
+use Rattle.uip_both_c.specs.Kept.{BothEther, HasBoth, Kept}
+use Rattle.uip_device.specs.Prelude.{write_value}
+use Rattle.uip_wire.specs.declared.addr.Addr.{Addr}
+
+-- `Calls`: a frame is received, or a slot is called. A call that is refused or that reads is `Calls DoesNothing`. `Gives`: a value is set.
+pub data BothCall : Type 0 where
+  Calls : (call : FrameCall) → BothCall
+  Writes : (slot taken : ℕ) (text : List ℕ) (last : Bool) → BothCall
+  Gives : (number : ℕ) (text : List ℕ) → BothCall
+
+-- a call, and the frame that it wrote, or no bytes
+pub record AnsweredCall : Type 0 where
+  pub call : BothCall
+  pub handed : List ℕ
+
+-- What a call did, by its clauses.
+abbrev pub DidCall : BothCall → Kept → Kept → List ℕ → Type 0
+DidCall (Calls DoesNothing) old new handed = (new ≡ old) × (handed ≡ [])
+DidCall (Calls call) old new handed = BothAnswers call old new handed
+DidCall (Writes slot taken text last) old new handed = BothWrites slot taken text last old new handed
+DidCall (Gives number text) old new handed = BothGives number text old new × (handed ≡ [])
+
+-- Calls one after the other, on a handle that nothing else touches.
+abbrev pub DidCalls : List AnsweredCall → Kept → Kept → Type 0
+DidCalls [] a c = a ≡ c
+DidCalls (it ∷ all) a c = (b : Kept) × DidCall it.call a b it.handed × DidCalls all b c
+
+-- ---- by definition
+
+abbrev pub link_of : Addr → Mac → Network → FrameSpec Act
+link_of own mac network = ether_frames (interface_at own mac network)
+
+-- the station at which a call makes its frame call: the next message of the connection in the slot was written, or a value was set; and
+-- that frame call
+abbrev pub station_before : BothCall → Station Act → Station Act
+station_before (Calls call) s = s
+station_before (Writes slot taken text last) s = record {
+  acts = s.acts;
+  node = with_change (change_own true (write_message (next_message_at taken text last (own_in slot s.node)))) s.node;
+}
+station_before (Gives number text) s = record { acts = s.acts; node = with_change (change_own false (write_value number text)) s.node }
+
+abbrev pub frame_call_of : BothCall → FrameCall
+frame_call_of (Calls call) = call
+frame_call_of (Writes slot taken text last) = CallsSlot slot
+frame_call_of (Gives number text) = DoesNothing
+
+-- A message was written to a connection that could capture it.
+abbrev pub CouldWrite : BothCall → Station Act → Type 0
+CouldWrite (Calls call) s = ⊤
+CouldWrite (Writes slot taken text last) s = can_write_at taken (own_in slot s.node) ≡ true
+CouldWrite (Gives number text) s = ⊤
+
+-- the station after a call, and after calls
+module _ (files : List File) (own : Addr) (mac : Mac) (network : Network) where
+  abbrev pub station_after_call : BothCall → Station Act → Station Act
+  station_after_call call s =
+      station_after_all (both_spec files) is_both_port (station_events_by (link_of own mac network) own (frame_call_of call)) (station_before call s)
+
+  abbrev pub station_after_calls : List BothCall → Station Act → Station Act
+  station_after_calls [] s = s
+  station_after_calls (call ∷ calls) s = station_after_calls calls (station_after_call call s)
+
+  -- the frame that is sent at a call, or no bytes, and at each of these
+  abbrev pub frame_of_call : BothCall → Station Act → List ℕ
+  frame_of_call call s =
+      output (both_spec files) is_both_port (as_medium (link_of own mac network)) own
+      (station_events_by (link_of own mac network) own (frame_call_of call)) (station_before call s)
+
+  abbrev pub frames_of_calls : List BothCall → Station Act → List (List ℕ)
+  frames_of_calls [] s = []
+  frames_of_calls (call ∷ calls) s = frame_of_call call s ∷ frames_of_calls calls (station_after_call call s)
+
+  -- each message was written so
+  abbrev pub CouldWriteAll : List BothCall → Station Act → Type 0
+  CouldWriteAll [] s = ⊤
+  CouldWriteAll (call ∷ calls) s = CouldWrite call s × CouldWriteAll calls (station_after_call call s)
+
+-- ---- the law
+
+abbrev pub first_station : List File → Addr → Station Act
+first_station files own = initial_station own (first_both_numbers files)
+
+abbrev pub calls_of : List AnsweredCall → List BothCall
+calls_of all = map (λ it. it.call) all
+
+-- The device serves these files and represents this station: an abstract node, and the events of ARP so far.
+pub record BothAtStation (files : List File) (own : Addr) (mac : Mac) (network : Network) (d : BothEther) (s : Station Act) : Type 0 where
+  pub files_are : files_of (site_of d.node) ≡ files
+  pub station : RepresentsStation both ether_link (interface_at own mac network) (both_spec files) own d s
+
+-- Each call wrote exactly the frame of the definition, or none. Each message was written to a connection that could capture it. The device
+-- represents the station after all calls.
+pub record IsExact (files : List File) (own : Addr) (mac : Mac) (network : Network) (all : List AnsweredCall) (new : Kept) : Type 0 where
+  pub frames : map (λ it. it.handed) all ≡ frames_of_calls files own mac network (calls_of all) (first_station files own)
+  pub could : CouldWriteAll files own mac network (calls_of all) (first_station files own)
+  pub represents : HasBoth (λ d. BothAtStation files own mac network d
+      (station_after_calls files own mac network (calls_of all) (first_station files own))) new
+
+-- So is every sequence of calls on a handle that was just opened.
+abbrev pub CallsAreExact : Type 0
+CallsAreExact =
+    (files : List File) (own : Addr) (mac : Mac) (network : Network) (all : List AnsweredCall) (closed old new : Kept)
+    → OpensBothAs files own mac network closed old → DidCalls all old new → IsExact files own mac network all new

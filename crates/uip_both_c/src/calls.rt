@@ -1,0 +1,190 @@
+//! The calls over Ethernet (RFC 894) with ARP (RFC 826); what the program reads of a connection, and writes to it.
+
+ghost use Rattle.std.specs.Prelude.{◌≡◌, ◌==◌, ◌||◌, ◌≤◌, length, nat_le, nat_lt, take};
+ghost use Rattle.std.specs.declared.option.Option.TheVariants.{None};
+ghost use Rattle.uip_wire.specs.Prelude.{written};
+ghost use Rattle.frame_device.specs.Prelude.{CallsSlot, InputsFrame};
+ghost use Rattle.uip_both_c.specs.Handles.{CannotWrite, IsCallStatus, IsWriteStatus, BothAnswers, BothWrites, ReadsSlot, Refused, flag_of};
+
+use crate::device::{call_slot, input_frame, is_ready, own_port, pending, write};
+use crate::handle::{UipDevice, put_in, take_out};
+use crate::status::{BAD_ARGUMENT, NO_DEVICE, NOT_READY, OK, UipResult};
+use frame_device::LARGEST_OUT;
+use own_app::MESSAGE_ROOM;
+use std::alloc::Global;
+
+/// Receives the frame of `len` bytes at the start of `frame`, which has room for 1514 bytes, and writes the frame that is sent, if there is
+/// one, to the same place: an ARP packet, or the reply of the node. A frame of fewer than 14 or more than 1514 bytes is dropped, and so is
+/// one for another host.
+#[unsafe(no_mangle)]
+pub extern "C" fn uip_input_frame(
+    alloc: Global,
+    device: &mut UipDevice,
+    frame: &mut [u8],
+    len: usize,
+) -> UipResult
+    ensures known { IsCallStatus result.status }
+    ensures fine { result.status ≡ OK
+        → BothAnswers (InputsFrame (take len frame.old)) device.old.held.device device.new.held.device (take result.written frame.new) }
+    ensures whole { result.status ≡ OK → result.consumed ≡ len }
+    ensures within { result.written ≤ length frame.new }
+    ensures pending { result.pending ≡ 0 }
+    ensures no_device { result.status ≡ NO_DEVICE → device.old.held.device ≡ None }
+    ensures bad_call { (result.status == BAD_ARGUMENT) ≡ (nat_lt (length frame.old) LARGEST_OUT || nat_lt (length frame.old) len) }
+    ensures refused { (result.status ≡ OK → ⊥)
+        → Refused result frame.old frame.new device.old.held.device device.new.held.device }
+{
+    if frame.len() < LARGEST_OUT || frame.len() < len {
+        return UipResult::refused(BAD_ARGUMENT);
+    }
+    let Some(mut opened) = take_out(alloc, device) else {
+        return UipResult::refused(NO_DEVICE);
+    };
+    let written = input_frame(&mut opened, frame, len);
+    put_in(device, opened);
+    UipResult::done(len, written)
+}
+
+/// Makes the periodic call of a slot, due for each of the ten in turn twice a second; that of slot 0 begins a tick. Writes the frame that
+/// is sent, if there is one.
+#[unsafe(no_mangle)]
+pub extern "C" fn uip_periodic_frame(
+    alloc: Global,
+    device: &mut UipDevice,
+    slot: usize,
+    frame: &mut [u8],
+) -> UipResult
+    ensures known { IsCallStatus result.status }
+    ensures fine { result.status ≡ OK
+        → BothAnswers (CallsSlot slot) device.old.held.device device.new.held.device (take result.written frame.new) }
+    ensures within { (result.consumed ≡ 0) × (result.written ≤ length frame.new) }
+    ensures pending { result.pending ≡ 0 }
+    ensures no_device { result.status ≡ NO_DEVICE → device.old.held.device ≡ None }
+    ensures bad_call { (result.status == BAD_ARGUMENT) ≡ (nat_le 10 slot || nat_lt (length frame.old) LARGEST_OUT) }
+    ensures refused { (result.status ≡ OK → ⊥)
+        → Refused result frame.old frame.new device.old.held.device device.new.held.device }
+{
+    if slot >= 10 || frame.len() < LARGEST_OUT {
+        return UipResult::refused(BAD_ARGUMENT);
+    }
+    let Some(mut opened) = take_out(alloc, device) else {
+        return UipResult::refused(NO_DEVICE);
+    };
+    let written = call_slot(&mut opened, slot, frame);
+    put_in(device, opened);
+    UipResult::done(0, written)
+}
+
+/// What was read of a connection: whether it is ready for a message (1), its port, and how many bytes are pending. The port is 0 if the
+/// connection is not open.
+#[repr(C)]
+#[derive(Clone, Copy, Debug, PartialEq, Eq)]
+pub struct UipReceived {
+    pub status: u32,
+    pub ready: u32,
+    pub port: u32,
+    pub len: usize,
+}
+
+/// Reports a status without a connection.
+fn unread(status: u32) -> UipReceived
+    ensures { result ≡ record { status = status; ready = 0; port = 0; len = 0 } }
+{
+    UipReceived {
+        status,
+        ready: 0,
+        port: 0,
+        len: 0,
+    }
+}
+
+/// Returns 1 for true, else 0.
+fn ready_flag(is_ready: bool) -> u32
+    ensures { result ≡ flag_of is_ready }
+{
+    if is_ready { 1 } else { 0 }
+}
+
+/// Copies as many of these bytes as an area has room for. Returns how many there are.
+fn copy_prefix(bytes: &[u8], area: &mut [u8]) -> usize
+    ensures len { result ≡ length bytes.now }
+    ensures bytes { area.new ≡ written area.old 0 (take (length area.old) bytes.now) }
+{
+    let count = bytes.len().min(area.len());
+    area[..count].copy_from_slice(&bytes[..count]);
+    bytes.len()
+}
+
+/// Reads the connection in a slot: whether it is ready for a message, and what it received that no message has answered. Copies as many of
+/// these bytes as `bytes` has room for, and takes none: `uip_write` does.
+#[unsafe(no_mangle)]
+pub extern "C" fn uip_read(
+    alloc: Global,
+    device: &mut UipDevice,
+    slot: usize,
+    bytes: &mut [u8],
+) -> UipReceived
+    ensures known { IsCallStatus result.status }
+    ensures fine { result.status ≡ OK → ReadsSlot slot result bytes.old bytes.new device.old.held.device }
+    ensures no_device { result.status ≡ NO_DEVICE → device.old.held.device ≡ None }
+    ensures bad_call { (result.status == BAD_ARGUMENT) ≡ nat_le 10 slot }
+    ensures unread { (result.status ≡ OK → ⊥)
+        → (result ≡ record { status = result.status; ready = 0; port = 0; len = 0 }) × (bytes.new ≡ bytes.old) }
+    ensures same { device.new.held.device ≡ device.old.held.device }
+{
+    if slot >= 10 {
+        return unread(BAD_ARGUMENT);
+    }
+    let Some(opened) = take_out(alloc, device) else {
+        return unread(NO_DEVICE);
+    };
+    let ready = ready_flag(is_ready(&opened, slot));
+    let port = own_port(&opened, slot) as u32;
+    let len = copy_prefix(pending(&opened, slot), bytes);
+    put_in(device, opened);
+    UipReceived {
+        status: OK,
+        ready,
+        port,
+        len,
+    }
+}
+
+/// Writes a message of at most 260 bytes to the connection in a slot, and makes the periodic call of the slot, which sends it. The message
+/// answers the first `taken` of the bytes that are pending, and these are dropped. If `last` is 1, the connection closes after it.
+#[unsafe(no_mangle)]
+pub extern "C" fn uip_write(
+    alloc: Global,
+    device: &mut UipDevice,
+    slot: usize,
+    taken: usize,
+    text: &[u8],
+    last: u32,
+    frame: &mut [u8],
+) -> UipResult
+    ensures known { IsWriteStatus result.status }
+    ensures fine { result.status ≡ OK
+        → BothWrites slot taken text.now (last == 1) device.old.held.device device.new.held.device (take result.written frame.new) }
+    ensures within { (result.consumed ≡ 0) × (result.written ≤ length frame.new) }
+    ensures pending { result.pending ≡ 0 }
+    ensures no_device { result.status ≡ NO_DEVICE → device.old.held.device ≡ None }
+    ensures not_ready { result.status ≡ NOT_READY → CannotWrite slot taken device.old.held.device }
+    ensures bad_call { (result.status == BAD_ARGUMENT)
+        ≡ (nat_le 10 slot || nat_lt MESSAGE_ROOM (length text.now) || nat_lt (length frame.old) LARGEST_OUT) }
+    ensures refused { (result.status ≡ OK → ⊥)
+        → Refused result frame.old frame.new device.old.held.device device.new.held.device }
+{
+    if slot >= 10 || text.len() > MESSAGE_ROOM || frame.len() < LARGEST_OUT {
+        return UipResult::refused(BAD_ARGUMENT);
+    }
+    let Some(mut opened) = take_out(alloc, device) else {
+        return UipResult::refused(NO_DEVICE);
+    };
+    if !write(&mut opened, slot, taken, text, last == 1) {
+        put_in(device, opened);
+        return UipResult::refused(NOT_READY);
+    }
+    let sent = call_slot(&mut opened, slot, frame);
+    put_in(device, opened);
+    UipResult::done(0, sent)
+}

@@ -1,0 +1,54 @@
+//! The handle of a device, and how a call takes the device out of it and puts it back.
+
+ghost use Rattle.std.specs.Prelude.{◌≡◌, ◌==◌, option_map};
+ghost use Rattle.std.specs.Option.{is_some};
+ghost use Rattle.std.specs.declared.option.Option.TheVariants.{None, Some};
+
+use crate::held::{BothEther, Held};
+use loose_box::BoxParts;
+use std::alloc::Global;
+use std::mem::replace;
+
+/// A handle. All bytes 0 represent a handle without a device.
+#[repr(C)]
+pub struct UipDevice {
+    pub is_open: u32,
+    pub held: Held,
+    pub ghost tied: { (is_open == 1) ≡ is_some held.device },
+}
+
+/// Takes the device out of the handle, if there is one. The handle has none after.
+pub(crate) fn take_out(alloc: Global, device: &mut UipDevice) -> Option<Box<BothEther>>
+    ensures taken { option_map (λ b. b.value) result ≡ device.old.held.device }
+    ensures none { device.new.held.device ≡ None }
+    ensures shut { device.new.is_open ≡ 0 }
+{
+    let UipDevice { is_open, held } = replace(
+        device,
+        UipDevice {
+            is_open: 0,
+            held: Held::none(alloc),
+        },
+    );
+    if is_open == 1 {
+        Some(held.into_parts().into_box())
+    } else {
+        let _alloc = held.into_alloc();
+        None
+    }
+}
+
+/// Puts a device into a handle that has none.
+pub(crate) fn put_in(device: &mut UipDevice, opened: Box<BothEther>)
+    requires none { device.old.held.device ≡ None }
+    ensures { device.new.held.device ≡ Some opened.value }
+{
+    let UipDevice { is_open: _, held } = replace(
+        device,
+        UipDevice {
+            is_open: 1,
+            held: Held::of(BoxParts::from_box(opened)),
+        },
+    );
+    let _alloc = held.into_alloc();
+}
