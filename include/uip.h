@@ -2,7 +2,8 @@
  * Lowunbisa for C: one IPv4 node with ping and a web server, on a serial line (SLIP, RFC 1055), on any link that
  * carries datagrams, or on Ethernet with ARP. The program sets values that the pages show (uip_set_value), counts the
  * requests of a file, so that a link is a button (uip_hits), and reads the last query of a form (uip_query). The web
- * server at port 80 is the only application of this library: for one of your own, without web server, see uip_app.h.
+ * server at port 80 is the only application of this library: for one of your own on Ethernet see uip_app.h (without
+ * web server) and uip_both.h (with it).
  *
  * SPDX-License-Identifier: MIT OR Apache-2.0
  * Copyright 2026 The Lowunbisa authors. Each binary contains a run-time library without a stated licence: see LICENSE.

@@ -6,7 +6,8 @@
  * Copyright 2026 The Lowunbisa authors; see LICENSE on the run-time library in each binary
  *
  * The library is libuip_app_c.a: `rt lib` in crates/uip_app_c. It has none of the calls of uip.h, and the other way
- * round; a program links one of the two. This header takes from uip.h the statuses, uip_result and the heap.
+ * round; a program links one library. For pages and an application of your own on one device see uip_both.h. This
+ * header takes from uip.h the statuses, uip_result and the heap.
  *
  * RULES FOR THE CALLER: 1 to 5 and 7 to 10 of uip.h. In them uip_app_open and uip_app_close have the
  * place of uip_open_ether and uip_close, and rule 5 holds for `bytes` of uip_app_read as for `out`. The stack of this
