@@ -27,9 +27,9 @@ pub fn frame_calls_are_exact<A: App, M: Frames>()
     ensures kept { FromFresh A.App M.Frames (λ k m gives numbers own all old new. A.config new.node.shared ≡ A.config old.node.shared) }
 {}
 
-/// Holds for any frames of bytes and any other calls of a fresh device in turn, and any values that are set between them, if its application
-/// never retracts text, and sends bytes. Each call writes the frame of what is sent in trace entries of its own events, or of the link's own
-/// event, and the trace conforms.
+/// Holds for any frames of bytes and any other calls of a fresh device in turn, and any values that are set between them, if its
+/// application never retracts text, and sends bytes. Each call writes the frame of what is sent in trace entries of its own events, or of
+/// the link's own event, and the trace conforms.
 pub fn frame_calls_keep_the_promise<A: App, M: Frames>()
     ensures { (k : M.Config) (m : AppSpec) (model : ℕ → OutputModel) → IsSteady m → SendsBytes m → HasOutputModel m model
         → (gives : Writing) → KeepsU32 gives → (numbers : List ℕ) → All IsU32 numbers → (own : Addr) → IsAddr own

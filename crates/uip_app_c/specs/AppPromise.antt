@@ -92,9 +92,9 @@ GoHome own mac network (call ∷ calls) s =
 abbrev pub connection_after : Addr → Mac → Network → List AnsweredCall → ℕ → Connection
 connection_after own mac network all slot = connection_in slot (station_after_calls own mac network (calls_of all) (first_station own)).node
 
--- Each call writes the frame of what is sent in trace entries of its own events, or of ARP, and the trace conforms. What is sent to the peer
--- of a connection that is not CLOSED is a prefix of the messages that this connection captured. Each message that was written is captured in
--- its call. For fewer than 2^32 calls, the messages of a connection are what C wrote to it.
+-- Each call writes the frame of what is sent in trace entries of its own events, or of ARP, and the trace conforms. What is sent to the
+-- peer of a connection that is not CLOSED is a prefix of the messages that this connection captured. Each message that was written is
+-- captured in its call. For fewer than 2^32 calls, the messages of a connection are what C wrote to it.
 pub record AppTraceConforms (own : Addr) (mac : Mac) (network : Network) (all : List AnsweredCall) : Type 0 where
   pub frames : FramesConform (link_of own mac network) own_output_model is_own_port own (frames_of all)
   pub sent : (slot : ℕ) → is_live (connection_after own mac network all slot).state ≡ true

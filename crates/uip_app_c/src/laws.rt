@@ -13,8 +13,8 @@ pub fn app_calls_are_exact()
 
 /// Holds for any frames and texts of bytes, and any sequence of calls on a handle that was just opened, successful or refused. Each call
 /// writes the frame of what is sent in the trace entries of its input, or of ARP, and the trace satisfies the guarantee. What is sent to a
-/// peer is a prefix of the messages that its connection captured, in order. For fewer than 2^32 calls, that is what C wrote to the connection.
-/// Each frame with a datagram goes to the hardware address that its next hop taught last.
+/// peer is a prefix of the messages that its connection captured, in order. For fewer than 2^32 calls, that is what C wrote to the
+/// connection. Each frame with a datagram goes to the hardware address that its next hop taught last.
 pub fn app_calls_keep_the_promise()
     ensures { AppCallsConform }
 {}

@@ -71,7 +71,8 @@ CouldWrite (Gives number text) s = ⊤
 module _ (files : List File) (own : Addr) (mac : Mac) (network : Network) where
   abbrev pub station_after_call : BothCall → Station Act → Station Act
   station_after_call call s =
-      station_after_all (both_spec files) is_both_port (station_events_by (link_of own mac network) own (frame_call_of call)) (station_before call s)
+      station_after_all (both_spec files) is_both_port (station_events_by (link_of own mac network) own (frame_call_of call))
+      (station_before call s)
 
   abbrev pub station_after_calls : List BothCall → Station Act → Station Act
   station_after_calls [] s = s

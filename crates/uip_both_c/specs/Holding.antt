@@ -20,7 +20,8 @@ use Rattle.uip_both_c.specs.Kept.{Kept}
 -- The memory layout of a device on Ethernet with both applications.
 abbrev pub DeviceRow : RattleType
 DeviceRow =
-    frame_device.the_row (pair.the_row pages.the_row own_app.the_row) ethernet.the_row (pair_shared.the_row web.the_row own_shared.the_row) both
+    frame_device.the_row (pair.the_row pages.the_row own_app.the_row) ethernet.the_row
+    (pair_shared.the_row web.the_row own_shared.the_row) both
 
 -- The device at the pointer, with the right to free its block; nothing if there is no device.
 abbrev pub holds : Global → Ptr → Kept → Fml

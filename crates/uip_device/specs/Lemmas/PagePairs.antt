@@ -6,7 +6,8 @@ use Rattle.generators.specs.Prelude.{Giving}
 use Rattle.site_image.specs.Prelude.{File}
 use Rattle.web_pages.specs.Prelude.{is_acknowledged_by, waits_for_capture_by, wanted, web_spec_by}
 
-either_port : (waits : Bool) (p : AppState) (k : Snapshot) → (if waits then record p { captures = p.captures ++ k ∷ [] } else p).port ≡ p.port
+either_port : (waits : Bool) (p : AppState) (k : Snapshot)
+    → (if waits then record p { captures = p.captures ++ k ∷ [] } else p).port ≡ p.port
 either_port true p k = refl
 either_port false p k = refl
 
