@@ -14,7 +14,7 @@ text_short (x ∷ xs) = omega arith
 
 pub room : (a : Fixed) (n : ℕ) → CanSay means Represents a tt n → a.at + n ≤ 6
 room a n can =
-    ∥∥₁_elim can le_prop (λ c. omega (arith, text_short c.0.delivered, c.1.at, c.1.within, c.2, length-drop c.0.acked (fixed_text c.0.delivered)))
+    ∥∥₁_elim can le_prop (λ c. omega (arith, text_short c.0.input, c.1.at, c.1.within, c.2, length-drop c.0.acked (fixed_text c.0.input)))
 
 output : (xs : List ℕ) (at n : ℕ) → at ≤ length (fixed_text xs) → n ≤ length (drop at (fixed_text xs)) → take n (drop at hello) ≡ take n (drop at (fixed_text xs))
 output (x ∷ xs) at n h k = refl
@@ -26,10 +26,10 @@ output [] at n h k =
 pub written : (a : Fixed) (n : ℕ) → CanSay means Represents a tt n → (p : AppState) → FixedRepresents a p → take n (drop a.at hello) ≡ take n (text_left fixed_spec p)
 written a n can p s =
     let k : n ≤ length (text_left fixed_spec p) = can_say_each means Represents (λ x y q r. fixed_same_left x q r) a tt n can p s in
-    rw s.at (output p.delivered p.acked n s.within k)
+    rw s.at (output p.input p.acked n s.within k)
 
 -- how far the offset may move
-pub moves : (a : Fixed) (n : ℕ) → CanSay means Represents a tt n → (p : AppState) → FixedRepresents a p → p.acked + n ≤ length (fixed_text p.delivered)
+pub moves : (a : Fixed) (n : ℕ) → CanSay means Represents a tt n → (p : AppState) → FixedRepresents a p → p.acked + n ≤ length (fixed_text p.input)
 moves a n can p s =
     let k : n ≤ length (text_left fixed_spec p) = can_say_each means Represents (λ x y q r. fixed_same_left x q r) a tt n can p s in
-    omega (arith, k, s.within, length-drop p.acked (fixed_text p.delivered))
+    omega (arith, k, s.within, length-drop p.acked (fixed_text p.input))

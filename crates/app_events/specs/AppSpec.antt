@@ -4,8 +4,8 @@ use Rattle.app_events.specs.declared.ending.Ending.{Ending}
 use Rattle.app_events.specs.declared.now.Now.{Now}
 use Rattle.app_events.specs.declared.want.Want.{Want}
 
--- What generated text may show. `numbers` are the counters of the application, such as the hits of files. `now` has the counters, ticks
--- and connections of the node.
+-- What generated text may show. `numbers` are the shared numbers of the application, such as the hits of files. `now` is the status of the
+-- node: its ticks, statistics and connections.
 pub record Snapshot : Type 0 where
   pub numbers : List ℕ
   pub now : Now
@@ -13,13 +13,13 @@ pub record Snapshot : Type 0 where
 -- The state of an application on one connection.
 pub record AppState : Type 0 where
   pub port : ℕ  -- the port at which the connection opened
-  pub delivered : List ℕ  -- all bytes delivered to the application
-  pub captures : List Snapshot  -- the snapshots that it captured, the oldest first
+  pub input : List ℕ  -- all bytes that the node delivered to it
+  pub snapshots : List Snapshot  -- the snapshots that it captured, the oldest first
   pub acked : ℕ  -- how many bytes of its output are acknowledged
   pub polls : ℕ  -- calls of its slot with nothing outstanding, since it last received or sent something
-  pub own : ℕ  -- one number for its own use
+  pub own : ℕ  -- one number for its own use: no clause constrains it
 
--- The state and the counters after a call.
+-- The state and the shared numbers after a call.
 pub record After : Type 0 where
   pub part : AppState
   pub numbers : List ℕ

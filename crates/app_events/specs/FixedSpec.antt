@@ -18,14 +18,14 @@ fixed_want output acked = if output == 0 then Nothing else (if nat_lt acked outp
 
 abbrev pub fixed_spec : AppSpec
 fixed_spec = record {
-  output = λ p. fixed_text p.delivered;
+  output = λ p. fixed_text p.input;
   connected = λ numbers port. record {
-    part = record { port = port; delivered = []; captures = []; acked = 0; polls = 0; own = 0 };
+    part = record { port = port; input = []; snapshots = []; acked = 0; polls = 0; own = 0 };
     numbers = numbers;
   };
-  newdata = λ numbers p piece. record { part = record p { delivered = p.delivered ++ piece; polls = 0 }; numbers = numbers };
+  newdata = λ numbers p piece. record { part = record p { input = p.input ++ piece; polls = 0 }; numbers = numbers };
   prepare = λ numbers p now. p;
-  want = λ numbers p. fixed_want (length (fixed_text p.delivered)) p.acked;
+  want = λ numbers p. fixed_want (length (fixed_text p.input)) p.acked;
   acked = λ numbers p n. record { part = record p { acked = p.acked + n; polls = 0 }; numbers = numbers };
   polled = λ numbers p. record { part = record p { polls = p.polls + 1 }; numbers = numbers };
   ended = λ numbers p how. numbers;
@@ -37,6 +37,6 @@ some_heard (x ∷ xs) = true
 
 -- the states that a value of `Fixed` represents
 pub record FixedRepresents (a : Fixed) (p : AppState) : Type 0 where
-  pub delivered : a.heard ≡ some_heard p.delivered
+  pub input : a.heard ≡ some_heard p.input
   pub at : a.at ≡ p.acked
-  pub within : p.acked ≤ length (fixed_text p.delivered)
+  pub within : p.acked ≤ length (fixed_text p.input)

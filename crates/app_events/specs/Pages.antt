@@ -1,4 +1,4 @@
--- An application whose output is a page, determined by the delivered input and the captured snapshots. The laws of pages and sessions rest
+-- An application whose output is a page, determined by the input and the captured snapshots. The laws of pages and sessions rest
 -- on this.
 -- [add: counter] `IsNow`: how many counters a snapshot has.
 use Rattle.std.specs.List.{All}
@@ -12,10 +12,10 @@ use Rattle.app_events.specs.declared.row.Row.{Row}
 use Rattle.app_events.specs.declared.want.Want.{Want}
 use Rattle.app_events.specs.declared.want.Want.TheVariants.{Nothing, Send, Close, Abort}
 
--- The output that the delivered input and the snapshots determine, and whether it is complete.
+-- The page that an input and snapshots determine, and whether it is complete.
 pub record Pages : Type 0 where
-  pub text : (delivered : List ℕ) (captures : List Snapshot) → List ℕ
-  pub whole : (delivered : List ℕ) (captures : List Snapshot) → Bool
+  pub page : (input : List ℕ) (snapshots : List Snapshot) → List ℕ
+  pub complete : (input : List ℕ) (snapshots : List Snapshot) → Bool
 
 abbrev pub IsByte : ℕ → Type 0
 IsByte n = n < 256
@@ -28,7 +28,7 @@ pub record IsAddr (addr : Addr) : Type 0 where
   pub four : length addr.0 ≡ 4
   pub all_bytes : All IsByte addr.0
 
--- A row of the table of connections as a node makes it: slot and tries have one digit, the other numbers fit their types.
+-- A row of the table of connections, in range: slot and tries have one digit, the other numbers fit their types.
 pub record IsRow (row : Row) : Type 0 where
   pub slot : row.slot < 10
   pub tries : row.tries < 10
@@ -36,7 +36,7 @@ pub record IsRow (row : Row) : Type 0 where
   pub port : row.port.0 < 65536
   pub peer : IsAddr row.peer
 
--- Ticks, counters and table of connections as a node can have them.
+-- The status of a node, in range: ticks, statistics and table of connections.
 pub record IsNow (now : Now) : Type 0 where
   pub ticks : IsU32 now.ticks
   pub twenty : length now.net ≡ 20
@@ -44,54 +44,57 @@ pub record IsNow (now : Now) : Type 0 where
   pub slots : length now.rows ≤ 10
   pub rows : All IsRow now.rows
 
--- A snapshot as a node can have it: its numbers are in their ranges.
+-- A snapshot in range.
 pub record IsSnapshot (snapshot : Snapshot) : Type 0 where
   pub numbers : All IsU32 snapshot.numbers
   pub now : IsNow snapshot.now
 
--- q has the delivered input, the snapshots and the acknowledged offset of p.
+-- q has the input, the snapshots and the acknowledged offset of p.
 pub record SameProgress (p q : AppState) : Type 0 where
-  pub delivered : q.delivered ≡ p.delivered
-  pub captures : q.captures ≡ p.captures
+  pub input : q.input ≡ p.input
+  pub snapshots : q.snapshots ≡ p.snapshots
   pub acked : q.acked ≡ p.acked
 
 -- What the application may request. It sends at least one byte, and no more than is left of its page. It closes only at the end of a
 -- complete page.
 abbrev pub MayWant : Pages → AppState → Want → Type 0
-MayWant pages p (Send n) = (1 ≤ n) × (p.acked + n ≤ length (pages.text p.delivered p.captures))
-MayWant pages p Close = (pages.whole p.delivered p.captures ≡ true) × (p.acked ≡ length (pages.text p.delivered p.captures))
+MayWant pages p (Send n) = (1 ≤ n) × (p.acked + n ≤ length (pages.page p.input p.snapshots))
+MayWant pages p Close = (pages.complete p.input p.snapshots ≡ true) × (p.acked ≡ length (pages.page p.input p.snapshots))
 MayWant pages p Nothing = Unit {0}
 MayWant pages p Abort = Unit {0}
 
--- The output of the application is a page: a function of the delivered input and the snapshots. Each call changes the state as stated.
+-- The output of the application is its page: a function of input and snapshots. Each call changes the state as stated.
 pub record IsPaged (m : AppSpec) (pages : Pages) : Type 0 where
   -- More input and more snapshots only extend a page, and leave a complete one unchanged. If its
-  -- snapshots satisfy `IsSnapshot`, a page is shorter than 2^30 bytes.
-  pub grows : (q more : List ℕ) (k later : List Snapshot) → IsPrefixOf (pages.text q k) (pages.text (q ++ more) (k ++ later))
-  pub stays : (q more : List ℕ) (k later : List Snapshot) → pages.whole q k ≡ true → pages.text (q ++ more) (k ++ later) ≡ pages.text q k
-  pub stays_whole : (q more : List ℕ) (k later : List Snapshot) → pages.whole q k ≡ true → pages.whole (q ++ more) (k ++ later) ≡ true
-  pub short : (q : List ℕ) (k : List Snapshot) → All IsSnapshot k → length (pages.text q k) < 1073741824
+  -- snapshots are in range, a page is shorter than 2^30 bytes.
+  pub grows : (input more : List ℕ) (snapshots later : List Snapshot)
+      → IsPrefixOf (pages.page input snapshots) (pages.page (input ++ more) (snapshots ++ later))
+  pub stays : (input more : List ℕ) (snapshots later : List Snapshot) → pages.complete input snapshots ≡ true
+      → pages.page (input ++ more) (snapshots ++ later) ≡ pages.page input snapshots
+  pub stays_complete : (input more : List ℕ) (snapshots later : List Snapshot) → pages.complete input snapshots ≡ true
+      → pages.complete (input ++ more) (snapshots ++ later) ≡ true
+  pub short : (input : List ℕ) (snapshots : List Snapshot) → All IsSnapshot snapshots → length (pages.page input snapshots) < 1073741824
   -- The output is the page.
-  pub output : (p : AppState) → m.output p ≡ pages.text p.delivered p.captures
-  -- How each call changes the delivered input, the snapshots and the acknowledged offset.
-  pub connected_delivered : (numbers : List ℕ) (port : ℕ) → (m.connected numbers port).part.delivered ≡ []
-  pub connected_captures : (numbers : List ℕ) (port : ℕ) → (m.connected numbers port).part.captures ≡ []
+  pub output : (p : AppState) → m.output p ≡ pages.page p.input p.snapshots
+  -- How each call changes the input, the snapshots and the acknowledged offset.
+  pub connected_input : (numbers : List ℕ) (port : ℕ) → (m.connected numbers port).part.input ≡ []
+  pub connected_snapshots : (numbers : List ℕ) (port : ℕ) → (m.connected numbers port).part.snapshots ≡ []
   pub connected_acked : (numbers : List ℕ) (port : ℕ) → (m.connected numbers port).part.acked ≡ 0
-  pub newdata_delivered : (numbers : List ℕ) (p : AppState) (piece : List ℕ)
-      → (m.newdata numbers p piece).part.delivered ≡ p.delivered ++ piece
-  pub newdata_captures : (numbers : List ℕ) (p : AppState) (piece : List ℕ) → (m.newdata numbers p piece).part.captures ≡ p.captures
+  pub newdata_input : (numbers : List ℕ) (p : AppState) (piece : List ℕ)
+      → (m.newdata numbers p piece).part.input ≡ p.input ++ piece
+  pub newdata_snapshots : (numbers : List ℕ) (p : AppState) (piece : List ℕ) → (m.newdata numbers p piece).part.snapshots ≡ p.snapshots
   pub newdata_acked : (numbers : List ℕ) (p : AppState) (piece : List ℕ) → (m.newdata numbers p piece).part.acked ≡ p.acked
-  pub prepare_delivered : (numbers : List ℕ) (p : AppState) (now : Now) → (m.prepare numbers p now).delivered ≡ p.delivered
-  pub prepare_captures : (numbers : List ℕ) (p : AppState) (now : Now)
-      → ((m.prepare numbers p now).captures ≡ p.captures)
-      ⊎ ((m.prepare numbers p now).captures ≡ p.captures ++ record { numbers = numbers; now = now } ∷ [])
+  pub prepare_input : (numbers : List ℕ) (p : AppState) (now : Now) → (m.prepare numbers p now).input ≡ p.input
+  pub prepare_snapshots : (numbers : List ℕ) (p : AppState) (now : Now)
+      → ((m.prepare numbers p now).snapshots ≡ p.snapshots)
+      ⊎ ((m.prepare numbers p now).snapshots ≡ p.snapshots ++ record { numbers = numbers; now = now } ∷ [])
   pub prepare_acked : (numbers : List ℕ) (p : AppState) (now : Now) → (m.prepare numbers p now).acked ≡ p.acked
-  pub acked_delivered : (numbers : List ℕ) (p : AppState) (n : ℕ) → (m.acked numbers p n).part.delivered ≡ p.delivered
-  pub acked_captures : (numbers : List ℕ) (p : AppState) (n : ℕ) → (m.acked numbers p n).part.captures ≡ p.captures
+  pub acked_input : (numbers : List ℕ) (p : AppState) (n : ℕ) → (m.acked numbers p n).part.input ≡ p.input
+  pub acked_snapshots : (numbers : List ℕ) (p : AppState) (n : ℕ) → (m.acked numbers p n).part.snapshots ≡ p.snapshots
   pub acked_moves : (numbers : List ℕ) (p : AppState) (n : ℕ) → (m.acked numbers p n).part.acked ≡ p.acked + n
   pub polled_same : (numbers : List ℕ) (p : AppState) → SameProgress p (m.polled numbers p).part
   pub wants : (numbers : List ℕ) (p : AppState) → MayWant pages p (m.want numbers p)
-  -- The counters stay below 2^32.
+  -- The shared numbers stay below 2^32.
   pub connected_numbers : (numbers : List ℕ) (port : ℕ) → All IsU32 numbers → All IsU32 (m.connected numbers port).numbers
   pub newdata_numbers : (numbers : List ℕ) (p : AppState) (piece : List ℕ) → All IsU32 numbers
       → All IsU32 (m.newdata numbers p piece).numbers

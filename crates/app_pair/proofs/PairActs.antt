@@ -38,8 +38,8 @@ by_port_acts at second m p h = record {
 pub two_applications : PairIsTwoApplications
 two_applications = record {
   first = λ second m n x y p e.
-      by_port_acts (spec_at second m n) false m p (at_first second m n (λ (z : AppSpec). ActsAs false z m p) p.port e (one_acts false m x.captures p));
+      by_port_acts (spec_at second m n) false m p (at_first second m n (λ (z : AppSpec). ActsAs false z m p) p.port e (one_acts false m x.snapshots p));
   second = λ second m n x y p e.
-      by_port_acts (spec_at second m n) true n p (at_second second m n (λ (z : AppSpec). ActsAs true z n p) p.port e (one_acts true n y.captures p));
+      by_port_acts (spec_at second m n) true n p (at_second second m n (λ (z : AppSpec). ActsAs true z n p) p.port e (one_acts true n y.snapshots p));
   again = λ second m n x y. pair_again second m n x.port y.port;
 }

@@ -29,20 +29,20 @@ module _ {A S : Type 0} (ghosts : Ghosts A S) (can : (k : ghosts.Config) → Can
       → Own new ((one_of_two second spec).connected numbers port).part
   one_begins new port e h = record {
     port = ap served ((can k).port.connected (own_numbers second numbers) port) ∙ e;
-    own = subst (λ (x : AppState). ghosts.represents new k x) (sym (sees_connected second spec (can k).captures numbers port))
+    own = subst (λ (x : AppState). ghosts.represents new k x) (sym (sees_connected second spec (can k).snapshots numbers port))
         (subst (λ (l : List ℕ). ghosts.represents new k (spec.connected l port).part) (sym is) h);
   }
 
   module _ (a : A) where
     one_moves : (new : A) (call : List ℕ → AppState → After) → ((l : List ℕ) (p : AppState) → (call l p).part.port ≡ p.port)
-        → ((l : List ℕ) (p : AppState) → (call l p).part.captures ≡ p.captures)
+        → ((l : List ℕ) (p : AppState) → (call l p).part.snapshots ≡ p.snapshots)
         → ((p : AppState) → ghosts.represents a k p → ghosts.represents new k (call own p).part)
-        → (p : AppState) → Own a p → Own new (after_call second numbers p.captures (call (own_numbers second numbers) (own_part second p))).part
+        → (p : AppState) → Own a p → Own new (after_call second numbers p.snapshots (call (own_numbers second numbers) (own_part second p))).part
     one_moves new call port captures h p s =
         let after : AppState = (call (own_numbers second numbers) (own_part second p)).part in
         record {
           port = ap served (port (own_numbers second numbers) (own_part second p)) ∙ s.port;
-          own = subst (λ (x : AppState). ghosts.represents new k x) (sym (sees_after second after p.captures (captures (own_numbers second numbers) (own_part second p))))
+          own = subst (λ (x : AppState). ghosts.represents new k x) (sym (sees_after second after p.snapshots (captures (own_numbers second numbers) (own_part second p))))
               (subst (λ (l : List ℕ). ghosts.represents new k (call l (own_part second p)).part) (sym is) (h (own_part second p) s.own));
         }
 
@@ -50,7 +50,7 @@ module _ {A S : Type 0} (ghosts : Ghosts A S) (can : (k : ghosts.Config) → Can
         → (p : AppState) → Own a p → Own new ((one_of_two second spec).prepare numbers p now)
     one_prepares new now h p s = record {
       port = ap served ((can k).port.prepare (own_numbers second numbers) (own_part second p) now) ∙ s.port;
-      own = subst (λ (x : AppState). ghosts.represents new k x) (sym (sees_prepare second spec (can k).captures numbers p now))
+      own = subst (λ (x : AppState). ghosts.represents new k x) (sym (sees_prepare second spec (can k).snapshots numbers p now))
           (subst (λ (l : List ℕ). ghosts.represents new k (spec.prepare l (own_part second p) now)) (sym is) (h (own_part second p) s.own));
     }
 
@@ -61,9 +61,9 @@ module _ {A S : Type 0} (ghosts : Ghosts A S) (can : (k : ghosts.Config) → Can
     -- if an application changes nothing in `prepare`, nothing is changed
     nothing_captured : (p : AppState) (now : Now) → after_prepare numbers p now (own_part second p) ≡ p
     nothing_captured p now =
-        let more : List Snapshot = p.captures ++ record { numbers = numbers; now = now } ∷ [] in
-        ap (λ (b : Bool). record p { captures = if b then more else p.captures })
-        (le-ltb (length p.captures) (length (map (own_snapshot second) p.captures)) (omega (arith, length-map p.captures (own_snapshot second))))
+        let more : List Snapshot = p.snapshots ++ record { numbers = numbers; now = now } ∷ [] in
+        ap (λ (b : Bool). record p { snapshots = if b then more else p.snapshots })
+        (le-ltb (length p.snapshots) (length (map (own_snapshot second) p.snapshots)) (omega (arith, length-map p.snapshots (own_snapshot second))))
 
     one_rests : (now : Now) → ((p : AppState) → ghosts.represents a k p → spec.prepare own p now ≡ p)
         → (p : AppState) → Own a p → (one_of_two second spec).prepare numbers p now ≡ p
@@ -186,9 +186,9 @@ module _ {A B S T : Type 0} (firsts : Ghosts A S) (seconds : Ghosts B T) (can : 
   module _ (a : A) (is : d ≡ pair.First a) where
     -- a call, as a function of the specification
     pub first_moves : (new : A) (call : AppSpec → List ℕ → AppState → After)
-        → ((p : AppState) → call one_first both p ≡ after_call false both p.captures (call (firsts.app_spec k) (own_numbers false both) (own_part false p)))
+        → ((p : AppState) → call one_first both p ≡ after_call false both p.snapshots (call (firsts.app_spec k) (own_numbers false both) (own_part false p)))
         → ((z : List ℕ) (p : AppState) → (call (firsts.app_spec k) z p).part.port ≡ p.port)
-        → ((z : List ℕ) (p : AppState) → (call (firsts.app_spec k) z p).part.captures ≡ p.captures)
+        → ((z : List ℕ) (p : AppState) → (call (firsts.app_spec k) z p).part.snapshots ≡ p.snapshots)
         → ((p : AppState) → firsts.represents a k p → firsts.represents new k (call (firsts.app_spec k) xs p).part)
         → (p : AppState) → Stands p → IsFirst new (call (at p.port) both p).part
     first_moves new call lifts port captures h p st =
@@ -229,9 +229,9 @@ module _ {A B S T : Type 0} (firsts : Ghosts A S) (seconds : Ghosts B T) (can : 
 
   module _ (b : B) (is : d ≡ pair.Second b) where
     pub second_moves : (new : B) (call : AppSpec → List ℕ → AppState → After)
-        → ((p : AppState) → call one_second both p ≡ after_call true both p.captures (call (seconds.app_spec l) (own_numbers true both) (own_part true p)))
+        → ((p : AppState) → call one_second both p ≡ after_call true both p.snapshots (call (seconds.app_spec l) (own_numbers true both) (own_part true p)))
         → ((z : List ℕ) (p : AppState) → (call (seconds.app_spec l) z p).part.port ≡ p.port)
-        → ((z : List ℕ) (p : AppState) → (call (seconds.app_spec l) z p).part.captures ≡ p.captures)
+        → ((z : List ℕ) (p : AppState) → (call (seconds.app_spec l) z p).part.snapshots ≡ p.snapshots)
         → ((p : AppState) → seconds.represents b l p → seconds.represents new l (call (seconds.app_spec l) ys p).part)
         → (p : AppState) → Stands p → IsSecond new (call (at p.port) both p).part
     second_moves new call lifts port captures h p st =

@@ -11,12 +11,12 @@ abbrev pub own_snapshot : Bool → Snapshot → Snapshot
 own_snapshot second k = record { numbers = own_numbers second k.numbers; now = k.now }
 
 abbrev pub own_part : Bool → AppState → AppState
-own_part second p = record p { captures = map (own_snapshot second) p.captures }
+own_part second p = record p { snapshots = map (own_snapshot second) p.snapshots }
 
 -- the state and the numbers after a call that captures nothing
 abbrev pub after_call : Bool → List ℕ → List Snapshot → After → After
 after_call second numbers captures r = record {
-  part = record (r.part) { captures = captures };
+  part = record (r.part) { snapshots = captures };
   numbers = with_own second r.numbers numbers;
 }
 
@@ -24,8 +24,8 @@ after_call second numbers captures r = record {
 abbrev pub after_prepare : List ℕ → AppState → Now → AppState → AppState
 after_prepare numbers p now q = record q {
   captures =
-      if nat_lt (length p.captures) (length q.captures) then p.captures ++ record { numbers = numbers; now = now } ∷ []
-      else p.captures;
+      if nat_lt (length p.snapshots) (length q.snapshots) then p.snapshots ++ record { numbers = numbers; now = now } ∷ []
+      else p.snapshots;
 }
 
 -- Each call sees its own numbers only, and leaves those of the other application unchanged.
@@ -33,11 +33,11 @@ abbrev pub one_of_two : Bool → AppSpec → AppSpec
 one_of_two second m = record {
   output = λ p. m.output (own_part second p);
   connected = λ numbers port. after_call second numbers [] (m.connected (own_numbers second numbers) port);
-  newdata = λ numbers p piece. after_call second numbers p.captures (m.newdata (own_numbers second numbers) (own_part second p) piece);
+  newdata = λ numbers p piece. after_call second numbers p.snapshots (m.newdata (own_numbers second numbers) (own_part second p) piece);
   prepare = λ numbers p now. after_prepare numbers p now (m.prepare (own_numbers second numbers) (own_part second p) now);
   want = λ numbers p. m.want (own_numbers second numbers) (own_part second p);
-  acked = λ numbers p count. after_call second numbers p.captures (m.acked (own_numbers second numbers) (own_part second p) count);
-  polled = λ numbers p. after_call second numbers p.captures (m.polled (own_numbers second numbers) (own_part second p));
+  acked = λ numbers p count. after_call second numbers p.snapshots (m.acked (own_numbers second numbers) (own_part second p) count);
+  polled = λ numbers p. after_call second numbers p.snapshots (m.polled (own_numbers second numbers) (own_part second p));
   ended = λ numbers p how. with_own second (m.ended (own_numbers second numbers) (own_part second p) how) numbers;
 }
 
@@ -75,15 +75,15 @@ pub record StaysAtPort (m : AppSpec) : Type 0 where
 
 -- Only `prepare` captures, at most one snapshot, with the numbers and the `now` of the call.
 pub record KeepsCaptures (m : AppSpec) : Type 0 where
-  pub connected : (numbers : List ℕ) (port : ℕ) → (m.connected numbers port).part.captures ≡ []
-  pub newdata : (numbers : List ℕ) (p : AppState) (piece : List ℕ) → (m.newdata numbers p piece).part.captures ≡ p.captures
+  pub connected : (numbers : List ℕ) (port : ℕ) → (m.connected numbers port).part.snapshots ≡ []
+  pub newdata : (numbers : List ℕ) (p : AppState) (piece : List ℕ) → (m.newdata numbers p piece).part.snapshots ≡ p.snapshots
   pub prepare : (numbers : List ℕ) (p : AppState) (now : Now)
-      → ((m.prepare numbers p now).captures ≡ p.captures)
-      ⊎ ((m.prepare numbers p now).captures ≡ p.captures ++ record { numbers = numbers; now = now } ∷ [])
-  pub acked : (numbers : List ℕ) (p : AppState) (count : ℕ) → (m.acked numbers p count).part.captures ≡ p.captures
-  pub polled : (numbers : List ℕ) (p : AppState) → (m.polled numbers p).part.captures ≡ p.captures
+      → ((m.prepare numbers p now).snapshots ≡ p.snapshots)
+      ⊎ ((m.prepare numbers p now).snapshots ≡ p.snapshots ++ record { numbers = numbers; now = now } ∷ [])
+  pub acked : (numbers : List ℕ) (p : AppState) (count : ℕ) → (m.acked numbers p count).part.snapshots ≡ p.snapshots
+  pub polled : (numbers : List ℕ) (p : AppState) → (m.polled numbers p).part.snapshots ≡ p.snapshots
 
 -- An application that can be one of a pair.
 pub record CanBePaired (m : AppSpec) : Type 0 where
   pub port : StaysAtPort m
-  pub captures : KeepsCaptures m
+  pub snapshots : KeepsCaptures m

@@ -10,13 +10,13 @@ use Rattle.app_pair.specs.PairSpec.{pair_spec}
 -- An application whose numbers count its connections. It sends the numbers of its captures.
 abbrev pub counting : AppSpec
 counting = record {
-  output = λ p. flat_map (λ k. k.numbers) p.captures;
+  output = λ p. flat_map (λ k. k.numbers) p.snapshots;
   connected = λ numbers port. record {
-    part = record { port = port; delivered = []; captures = []; acked = 0; polls = 0; own = 0 };
+    part = record { port = port; input = []; snapshots = []; acked = 0; polls = 0; own = 0 };
     numbers = map (λ n. n + 1) numbers;
   };
-  newdata = λ numbers p piece. record { part = record p { delivered = p.delivered ++ piece }; numbers = numbers };
-  prepare = λ numbers p now. record p { captures = p.captures ++ record { numbers = numbers; now = now } ∷ [] };
+  newdata = λ numbers p piece. record { part = record p { input = p.input ++ piece }; numbers = numbers };
+  prepare = λ numbers p now. record p { snapshots = p.snapshots ++ record { numbers = numbers; now = now } ∷ [] };
   want = λ numbers p. Nothing;
   acked = λ numbers p count. record { part = record p { acked = p.acked + count }; numbers = numbers };
   polled = λ numbers p. record { part = p; numbers = numbers };
@@ -28,7 +28,7 @@ abbrev pub two_counting : AppSpec
 two_counting = pair_spec (λ port. port == 7) counting counting
 
 abbrev pub at_port : ℕ → AppState
-at_port port = record { port = port; delivered = []; captures = []; acked = 0; polls = 0; own = 0 }
+at_port port = record { port = port; input = []; snapshots = []; acked = 0; polls = 0; own = 0 }
 
 pub record AreWorkedPairs : Type 0 where
   pub numbers : pair_numbers (5 ∷ 6 ∷ []) (9 ∷ 0 ∷ []) ≡ 1 ∷ 5 ∷ 1 ∷ 6 ∷ 0 ∷ 9 ∷ 0 ∷ []

@@ -20,7 +20,7 @@ text_short n (x ∷ xs) = omega arith
 
 pub room : (a : Counter) (n : ℕ) → CanSay means Represents a tt n → a.at + n ≤ 2
 room a n can =
-    ∥∥₁_elim can le_prop (λ c. omega (arith, text_short c.0.own c.0.delivered, c.1.at, c.1.within, c.2, length-drop c.0.acked (counter_text c.0.own c.0.delivered)))
+    ∥∥₁_elim can le_prop (λ c. omega (arith, text_short c.0.own c.0.input, c.1.at, c.1.within, c.2, length-drop c.0.acked (counter_text c.0.own c.0.input)))
 
 output : (own : ℕ) (xs : List ℕ) (at n : ℕ) → at ≤ length (counter_text own xs) → n ≤ length (drop at (counter_text own xs))
     → take n (drop at (own ∷ 10 ∷ [])) ≡ take n (drop at (counter_text own xs))
@@ -35,10 +35,10 @@ can a n says p s = can_say_each means Represents (λ x y q r. counter_same_left 
 -- what is written is the text of any part
 pub written : (a : Counter) (n : ℕ) → CanSay means Represents a tt n → (p : AppState) → CounterRepresents a p
     → take n (drop a.at (a.number ∷ 10 ∷ [])) ≡ take n (text_left counter_spec p)
-written a n says p s = rw (s.at, s.number) (output p.own p.delivered p.acked n s.within (can a n says p s))
+written a n says p s = rw (s.at, s.number) (output p.own p.input p.acked n s.within (can a n says p s))
 
 -- how far the offset may move
-pub moves : (a : Counter) (n : ℕ) → CanSay means Represents a tt n → (p : AppState) → CounterRepresents a p → p.acked + n ≤ length (counter_text p.own p.delivered)
+pub moves : (a : Counter) (n : ℕ) → CanSay means Represents a tt n → (p : AppState) → CounterRepresents a p → p.acked + n ≤ length (counter_text p.own p.input)
 moves a n says p s =
     let k : n ≤ length (text_left counter_spec p) = can a n says p s in
-    omega (arith, k, s.within, length-drop p.acked (counter_text p.own p.delivered))
+    omega (arith, k, s.within, length-drop p.acked (counter_text p.own p.input))

@@ -26,17 +26,17 @@ count_after numbers (y ∷ delivered) piece = numbers
 
 abbrev pub counter_spec : AppSpec
 counter_spec = record {
-  output = λ p. counter_text p.own p.delivered;
+  output = λ p. counter_text p.own p.input;
   connected = λ numbers port. record {
-    part = record { port = port; delivered = []; captures = []; acked = 0; polls = 0; own = 0 };
+    part = record { port = port; input = []; snapshots = []; acked = 0; polls = 0; own = 0 };
     numbers = numbers;
   };
   newdata = λ numbers p piece. record {
-    part = record p { delivered = p.delivered ++ piece; polls = 0; own = number_after numbers p.delivered piece p.own };
-    numbers = count_after numbers p.delivered piece;
+    part = record p { input = p.input ++ piece; polls = 0; own = number_after numbers p.input piece p.own };
+    numbers = count_after numbers p.input piece;
   };
   prepare = λ numbers p now. p;
-  want = λ numbers p. fixed_want (length (counter_text p.own p.delivered)) p.acked;
+  want = λ numbers p. fixed_want (length (counter_text p.own p.input)) p.acked;
   acked = λ numbers p n. record { part = record p { acked = p.acked + n; polls = 0 }; numbers = numbers };
   polled = λ numbers p. record { part = record p { polls = p.polls + 1 }; numbers = numbers };
   ended = λ numbers p how. numbers;
@@ -44,7 +44,7 @@ counter_spec = record {
 
 -- the states that a value represents
 pub record CounterRepresents (a : Counter) (p : AppState) : Type 0 where
-  pub delivered : a.heard ≡ some_heard p.delivered
+  pub input : a.heard ≡ some_heard p.input
   pub number : a.number ≡ p.own
   pub at : a.at ≡ p.acked
-  pub within : p.acked ≤ length (counter_text p.own p.delivered)
+  pub within : p.acked ≤ length (counter_text p.own p.input)

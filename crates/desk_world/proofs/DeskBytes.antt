@@ -18,5 +18,5 @@ module _ (site : SiteContent) (loaded : IsLoaded site) (page : HasBytes (pages_o
     accepted_knows = λ first sockets s. all_nil IsByte;
     segment_knows = λ at c numbers s are h. asked_bytes desk says_bytes at (on_segment desk c numbers s) (on_segment_bytes desk says_bytes c numbers s are h);
     tick_knows = λ at c numbers h. asked_bytes desk says_bytes at (on_tick desk c numbers) (on_tick_bytes desk says_bytes c numbers h);
-    says = λ c f h. says_bytes.output c.part h f.captures;
+    says = λ c f h. says_bytes.output c.part h f.snapshots;
   }

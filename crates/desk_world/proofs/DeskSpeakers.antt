@@ -4,8 +4,8 @@ use Rattle.desk_world.proofs.ShortSessions.{sessions_short}
 
 abbrev pub session_speaker : Speaker
 session_speaker = record {
-  text = sessions.text;
-  whole = sessions.whole;
+  text = sessions.page;
+  whole = sessions.complete;
   at = λ port. port == TELNET_PORT;
   here = λ p. p.port == TELNET_PORT;
   lost = λ p. p.own == 1;
@@ -13,8 +13,8 @@ session_speaker = record {
 
 abbrev pub web_speaker : List File → Speaker
 web_speaker files = record {
-  text = (pages_of files).text;
-  whole = (pages_of files).whole;
+  text = (pages_of files).page;
+  whole = (pages_of files).complete;
   at = λ port. not (port == TELNET_PORT);
   here = λ p. not (p.port == TELNET_PORT);
   lost = λ p. false;
@@ -39,7 +39,7 @@ module _ (site : SiteContent) (loaded : IsLoaded site) where
 
   -- ---- the shell's talk
 
-  short_session : (q : List ℕ) (k : List Snapshot) → length q ≤ 4096 → All IsSnapshot k → length (sessions.text q k) < 1073741824
+  short_session : (q : List ℕ) (k : List Snapshot) → length q ≤ 4096 → All IsSnapshot k → length (sessions.page q k) < 1073741824
   short_session q k l all = omega (arith, sessions_short q k all, l)
 
   still_session : (p q : AppState) → q.port ≡ p.port → session_speaker.here p ≡ true → session_speaker.here q ≡ true
@@ -55,7 +55,7 @@ module _ (site : SiteContent) (loaded : IsLoaded site) where
         prefix = f.prefix;
         rest = f.rest;
         joined = f.joined;
-        delivered = f.delivered;
+        input = f.input;
         all = elim (f.all) [ inl e ↦ inl e | inr e ↦ inr (ap (λ (n : ℕ). n == 1) e) ];
         no_more = λ l. (let own : p.own ≡ 1 = eqb-true p.own 1 l in (
           keeps_session.hears_no_more numbers p piece own,
@@ -64,14 +64,14 @@ module _ (site : SiteContent) (loaded : IsLoaded site) where
       }) port
 
   -- a call that leaves what was received unchanged
-  session_keeps : (p q : AppState) → q.port ≡ p.port → session_speaker.here p ≡ true → (q.delivered ≡ p.delivered) × (q.own ≡ p.own) → KeepsHeard session_speaker p q
-  session_keeps p q e h x = record { here = still_session p q e h; delivered = x.0; lost = ap (λ (n : ℕ). n == 1) x.1 }
+  session_keeps : (p q : AppState) → q.port ≡ p.port → session_speaker.here p ≡ true → (q.input ≡ p.input) × (q.own ≡ p.own) → KeepsHeard session_speaker p q
+  session_keeps p q e h x = record { here = still_session p q e h; input = x.0; lost = ap (λ (n : ℕ). n == 1) x.1 }
 
   session_prepares : (numbers : List ℕ) (p : AppState) (now : Now) → session_speaker.here p ≡ true → KeepsHeard session_speaker p (desk.prepare numbers p now)
   session_prepares numbers p now h =
       as_shell files p.port (λ m. (m.prepare numbers p now).port ≡ p.port → KeepsHeard session_speaker p (m.prepare numbers p now)) h
       (λ e. session_keeps p (shell_spec.prepare numbers p now) e h
-      (choose (λ (q : AppState). (q.delivered ≡ p.delivered) × (q.own ≡ p.own)) (is_stopped p) (take_capture numbers p now) p (λ s. (refl, refl)) (λ s. (refl, refl))))
+      (choose (λ (q : AppState). (q.input ≡ p.input) × (q.own ≡ p.own)) (is_stopped p) (take_capture numbers p now) p (λ s. (refl, refl)) (λ s. (refl, refl))))
       (keeps_port.prepare numbers p now)
 
   session_acked : (numbers : List ℕ) (p : AppState) (n : ℕ) → session_speaker.here p ≡ true → KeepsHeard session_speaker p (desk.acked numbers p n).part
@@ -94,11 +94,11 @@ module _ (site : SiteContent) (loaded : IsLoaded site) where
     steady = desk_steady site loaded;
     grows = keeps_session.grows;
     stays = keeps_session.stays;
-    stays_whole = keeps_session.stays_whole;
+    stays_complete = keeps_session.stays_complete;
     short = short_session;
-    output = λ p h. as_shell files p.port (λ m. m.output p ≡ sessions.text p.delivered p.captures) h (keeps_session.output p);
+    output = λ p h. as_shell files p.port (λ m. m.output p ≡ sessions.page p.input p.snapshots) h (keeps_session.output p);
     connected_here = λ numbers port h. ap (λ (n : ℕ). n == TELNET_PORT) (keeps_port.connected numbers port) ∙ h;
-    connected_delivered = λ numbers port h. as_shell files port (λ m. (m.connected numbers port).part.delivered ≡ []) h refl;
+    connected_input = λ numbers port h. as_shell files port (λ m. (m.connected numbers port).part.input ≡ []) h refl;
     newdata = session_hears;
     prepare = session_prepares;
     acked = session_acked;
@@ -114,8 +114,8 @@ module _ (site : SiteContent) (loaded : IsLoaded site) where
   still_web : (p q : AppState) → q.port ≡ p.port → (web_speaker files).here p ≡ true → (web_speaker files).here q ≡ true
   still_web p q e h = ap (λ (n : ℕ). not (n == TELNET_PORT)) e ∙ h
 
-  web_keeps : (p q : AppState) → q.port ≡ p.port → (web_speaker files).here p ≡ true → q.delivered ≡ p.delivered → KeepsHeard (web_speaker files) p q
-  web_keeps p q e h x = record { here = still_web p q e h; delivered = x; lost = refl }
+  web_keeps : (p q : AppState) → q.port ≡ p.port → (web_speaker files).here p ≡ true → q.input ≡ p.input → KeepsHeard (web_speaker files) p q
+  web_keeps p q e h x = record { here = still_web p q e h; input = x; lost = refl }
 
   web_hears : (numbers : List ℕ) (p : AppState) (piece : List ℕ) → (web_speaker files).here p ≡ true → HearsSome (web_speaker files) p (desk.newdata numbers p piece).part piece
   web_hears numbers p piece h = record {
@@ -123,7 +123,7 @@ module _ (site : SiteContent) (loaded : IsLoaded site) where
     prefix = piece;
     rest = [];
     joined = append-nil piece;
-    delivered = as_web files p.port (λ m. (m.newdata numbers p piece).part.delivered ≡ p.delivered ++ piece) h (web_laws.newdata_delivered numbers p piece);
+    input = as_web files p.port (λ m. (m.newdata numbers p piece).part.input ≡ p.input ++ piece) h (web_laws.newdata_input numbers p piece);
     all = inl refl;
     no_more = λ e. absurd (cc);
   }
@@ -138,15 +138,15 @@ module _ (site : SiteContent) (loaded : IsLoaded site) where
     steady = desk_steady site loaded;
     grows = web_laws.grows;
     stays = web_laws.stays;
-    stays_whole = web_laws.stays_whole;
+    stays_complete = web_laws.stays_complete;
     short = λ q k l all. web_laws.short q k all;
-    output = λ p h. as_web files p.port (λ m. m.output p ≡ (pages_of files).text p.delivered p.captures) h (web_laws.output p);
+    output = λ p h. as_web files p.port (λ m. m.output p ≡ (pages_of files).page p.input p.snapshots) h (web_laws.output p);
     connected_here = λ numbers port h. ap (λ (n : ℕ). not (n == TELNET_PORT)) (keeps_port.connected numbers port) ∙ h;
-    connected_delivered = λ numbers port h. as_web files port (λ m. (m.connected numbers port).part.delivered ≡ []) h (web_laws.connected_delivered numbers port);
+    connected_input = λ numbers port h. as_web files port (λ m. (m.connected numbers port).part.input ≡ []) h (web_laws.connected_input numbers port);
     newdata = web_hears;
-    prepare = λ numbers p now h. web_keeps p (desk.prepare numbers p now) (keeps_port.prepare numbers p now) h (as_web files p.port (λ m. (m.prepare numbers p now).delivered ≡ p.delivered) h (web_laws.prepare_delivered numbers p now));
-    acked = λ numbers p n h. web_keeps p (desk.acked numbers p n).part (keeps_port.acked numbers p n) h (as_web files p.port (λ m. (m.acked numbers p n).part.delivered ≡ p.delivered) h (web_laws.acked_delivered numbers p n));
-    polled = λ numbers p h. web_keeps p (desk.polled numbers p).part (keeps_port.polled numbers p) h (as_web files p.port (λ m. (m.polled numbers p).part.delivered ≡ p.delivered) h (web_laws.polled_same numbers p).delivered);
+    prepare = λ numbers p now h. web_keeps p (desk.prepare numbers p now) (keeps_port.prepare numbers p now) h (as_web files p.port (λ m. (m.prepare numbers p now).input ≡ p.input) h (web_laws.prepare_input numbers p now));
+    acked = λ numbers p n h. web_keeps p (desk.acked numbers p n).part (keeps_port.acked numbers p n) h (as_web files p.port (λ m. (m.acked numbers p n).part.input ≡ p.input) h (web_laws.acked_input numbers p n));
+    polled = λ numbers p h. web_keeps p (desk.polled numbers p).part (keeps_port.polled numbers p) h (as_web files p.port (λ m. (m.polled numbers p).part.input ≡ p.input) h (web_laws.polled_same numbers p).input);
     closes = web_closes;
   }
 

@@ -33,7 +33,7 @@ DeskServes =
 -- The output of a session is at most 1,032 bytes for each byte received.
 abbrev pub SessionsAreShort : Type 0
 SessionsAreShort = (delivered : List ℕ) (captures : List Snapshot) → All IsSnapshot captures
-    → length (sessions.text delivered captures) ≤ 1032 * length delivered
+    → length (sessions.page delivered captures) ≤ 1032 * length delivered
 
 -- This holds for any loss, duplication, reordering and damage. If a datagram is marked as a retransmission, it was sent before, with the
 -- same number, flags and text. This includes clients of the shell, and clients that are not clean.

@@ -13,20 +13,20 @@ end_of g text a site found = left_whole (reply_by g text site found a.capture) a
 
 record IsSaid {F : Type 0} (g : Giving F) (files : List File) (p : AppState) (text : List ℕ) (whole : Bool) : Type 0 where
   left : left_of_by g files p ≡ length text
-  ends : is_whole_by g files p.delivered p.captures ≡ whole
-  within : p.acked ≤ length (page_by g files p.delivered p.captures)
+  ends : is_whole_by g files p.input p.snapshots ≡ whole
+  within : p.acked ≤ length (page_by g files p.input p.snapshots)
 
 is_said : {F R : Type 0} (g : Giving F) (text : R → List ℕ) (a : Pages R) (site : SiteContent) (found : Option FileId) (p : AppState) (name : List ℕ) → IsReplying g text a site name found p → IsSaid g (files_of site) p (text_of g text a site found) (end_of g text a site found)
 is_said g text a site found p name is =
     let files = files_of site in
-    let own : page_by g files p.delivered p.captures ≡ text_by g files (reply_pieces_by g.calling.named files name) p.captures = ap (λ w. page_for_by g files w p.captures) is.wanted in
-    let ends : is_whole_by g files p.delivered p.captures ≡ reach_by g (reply_pieces_by g.calling.named files name) p.captures = ap (λ w. whole_for_by g files w p.captures) is.wanted in
-    let rest : text_of g text a site found ≡ drop p.acked (text_by g files (reply_pieces_by g.calling.named files name) p.captures) =
-    is.left.text [] ∙ ap (λ ks. drop p.acked (text_by g files (reply_pieces_by g.calling.named files name) ks)) (append-nil p.captures) in
+    let own : page_by g files p.input p.snapshots ≡ text_by g files (reply_pieces_by g.calling.named files name) p.snapshots = ap (λ w. page_for_by g files w p.snapshots) is.wanted in
+    let ends : is_whole_by g files p.input p.snapshots ≡ reach_by g (reply_pieces_by g.calling.named files name) p.snapshots = ap (λ w. whole_for_by g files w p.snapshots) is.wanted in
+    let rest : text_of g text a site found ≡ drop p.acked (text_by g files (reply_pieces_by g.calling.named files name) p.snapshots) =
+    is.left.text [] ∙ ap (λ ks. drop p.acked (text_by g files (reply_pieces_by g.calling.named files name) ks)) (append-nil p.snapshots) in
     let size = ap length own in
     record {
-      left = omega (arith, size, ap length rest, length-drop p.acked (text_by g files (reply_pieces_by g.calling.named files name) p.captures));
-      ends = ends ∙ ap (λ ks. reach_by g (reply_pieces_by g.calling.named files name) ks) (sym (append-nil p.captures)) ∙ sym (is.left.whole []);
+      left = omega (arith, size, ap length rest, length-drop p.acked (text_by g files (reply_pieces_by g.calling.named files name) p.snapshots));
+      ends = ends ∙ ap (λ ks. reach_by g (reply_pieces_by g.calling.named files name) ks) (sym (append-nil p.snapshots)) ∙ sym (is.left.whole []);
       within = omega (arith, size, is.left.within);
     }
 
@@ -38,14 +38,14 @@ same_bool a b c d f g = elim (cases_eq a b) [
 
 acked_all : {F : Type 0} (g : Giving F) (files : List File) (p : AppState) (text : List ℕ) (whole : Bool) → IsSaid g files p text whole → is_acknowledged_by g files p ≡ (length text == 0)
 acked_all g files p text whole output =
-    same_bool p.acked (length (page_by g files p.delivered p.captures)) (length text) 0
+    same_bool p.acked (length (page_by g files p.input p.snapshots)) (length text) 0
     (λ e. omega (arith, e, output.left)) (λ e. omega (arith, e, output.left, output.within))
 
 -- ---- what is requested
 
 want_by : {F : Type 0} (g : Giving F) (files : List File) (p : AppState) (text : List ℕ) (whole : Bool) → IsSaid g files p text whole → (p.polls == 20) ≡ false → want_left text whole ≡ web_want_by g files p
 want_by g files p text whole output polls = sym (
-    ap (λ b. if b then Abort else (if is_whole_by g files p.delivered p.captures && is_acknowledged_by g files p then Close else (if nat_lt 0 (left_of_by g files p) then Send (min 1460 (left_of_by g files p)) else Nothing))) polls
+    ap (λ b. if b then Abort else (if is_whole_by g files p.input p.snapshots && is_acknowledged_by g files p then Close else (if nat_lt 0 (left_of_by g files p) then Send (min 1460 (left_of_by g files p)) else Nothing))) polls
     ∙ (λ i. if output.ends i && acked_all g files p text whole output i then Close else (if nat_lt 0 (output.left i) then Send (min 1460 (output.left i)) else Nothing)))
 
 pub reply_wants : {F R : Type 0} (g : Giving F) (text : R → List ℕ) (a : Pages R) (site : SiteContent) (found : Option FileId) (p : AppState) → a.stage ≡ stage.Reply found → (a.polls ≡ 20 → ⊥) → PagesRepresent g text a site p
@@ -55,34 +55,34 @@ reply_wants g text a site found p e polls s =
     want_by g (files_of site) p (text_of g text a site found) (end_of g text a site found) (is_said g text a site found p is.0 is.1) (ne_eqb p.polls 20 (λ h. polls (s.polls ∙ h)))
 
 -- if nothing is sent
-nothing_said : {F : Type 0} (g : Giving F) (files : List File) (p : AppState) (w : Wanted) (whole : Bool) → wanted p.delivered ≡ w → page_for_by g files w p.captures ≡ [] → whole_for_by g files w p.captures ≡ whole → SaysNothing p → IsSaid g files p [] whole
+nothing_said : {F : Type 0} (g : Giving F) (files : List File) (p : AppState) (w : Wanted) (whole : Bool) → wanted p.input ≡ w → page_for_by g files w p.snapshots ≡ [] → whole_for_by g files w p.snapshots ≡ whole → SaysNothing p → IsSaid g files p [] whole
 nothing_said g files p w whole e text end none =
-    let size : length (page_by g files p.delivered p.captures) ≡ 0 = ap (λ v. length (page_for_by g files v p.captures)) e ∙ ap length text in
+    let size : length (page_by g files p.input p.snapshots) ≡ 0 = ap (λ v. length (page_for_by g files v p.snapshots)) e ∙ ap length text in
     record {
       left = omega (arith, size, none.acked);
-      ends = ap (λ v. whole_for_by g files v p.captures) e ∙ end;
+      ends = ap (λ v. whole_for_by g files v p.snapshots) e ∙ end;
       within = omega (arith, none.acked);
     }
 
-pub open_wants : {F : Type 0} (g : Giving F) (files : List File) (p : AppState) → wanted p.delivered ≡ NotYet → SaysNothing p → (p.polls ≡ 20 → ⊥) → Nothing ≡ web_want_by g files p
+pub open_wants : {F : Type 0} (g : Giving F) (files : List File) (p : AppState) → wanted p.input ≡ NotYet → SaysNothing p → (p.polls ≡ 20 → ⊥) → Nothing ≡ web_want_by g files p
 open_wants g files p e none polls = want_by g files p [] false (nothing_said g files p NotYet false e refl refl none) (ne_eqb p.polls 20 polls)
 
-pub refused_wants : {F : Type 0} (g : Giving F) (files : List File) (p : AppState) → wanted p.delivered ≡ Refused → SaysNothing p → (p.polls ≡ 20 → ⊥) → Close ≡ web_want_by g files p
+pub refused_wants : {F : Type 0} (g : Giving F) (files : List File) (p : AppState) → wanted p.input ≡ Refused → SaysNothing p → (p.polls ≡ 20 → ⊥) → Close ≡ web_want_by g files p
 refused_wants g files p e none polls = want_by g files p [] true (nothing_said g files p Refused true e refl refl none) (ne_eqb p.polls 20 polls)
 
 pub gives_up : {F : Type 0} (g : Giving F) (files : List File) (p : AppState) → p.polls ≡ 20 → Abort ≡ web_want_by g files p
 gives_up g files p e =
-    sym (ap (λ b. if b then Abort else (if is_whole_by g files p.delivered p.captures && is_acknowledged_by g files p then Close else (if nat_lt 0 (left_of_by g files p) then Send (min 1460 (left_of_by g files p)) else Nothing))) (eq-eqb p.polls 20 e))
+    sym (ap (λ b. if b then Abort else (if is_whole_by g files p.input p.snapshots && is_acknowledged_by g files p then Close else (if nat_lt 0 (left_of_by g files p) then Send (min 1460 (left_of_by g files p)) else Nothing))) (eq-eqb p.polls 20 e))
 
 -- ---- taking a capture
 
 abbrev pub with_capture : AppState → Snapshot → AppState
-with_capture p snapshot = record p { captures = p.captures ++ snapshot ∷ [] }
+with_capture p snapshot = record p { snapshots = p.snapshots ++ snapshot ∷ [] }
 
 abbrev pub prepared : {F : Type 0} → Giving F → List File → AppState → Snapshot → AppState
-prepared g files p snapshot = if is_acknowledged_by g files p && waits_for_capture_by g files (wanted p.delivered) p then with_capture p snapshot else p
+prepared g files p snapshot = if is_acknowledged_by g files p && waits_for_capture_by g files (wanted p.input) p then with_capture p snapshot else p
 
-prepared_by : {F : Type 0} (g : Giving F) (files : List File) (p : AppState) (snapshot : Snapshot) (b : Bool) → (is_acknowledged_by g files p && waits_for_capture_by g files (wanted p.delivered) p) ≡ b → prepared g files p snapshot ≡ (if b then with_capture p snapshot else p)
+prepared_by : {F : Type 0} (g : Giving F) (files : List File) (p : AppState) (snapshot : Snapshot) (b : Bool) → (is_acknowledged_by g files p && waits_for_capture_by g files (wanted p.input) p) ≡ b → prepared g files p snapshot ≡ (if b then with_capture p snapshot else p)
 prepared_by g files p snapshot b e = ap (λ t. if t then with_capture p snapshot else p) e
 
 unless_whole : (b w : Bool) → (b ≡ true → w ≡ true) → (b && not w) ≡ false
@@ -90,9 +90,9 @@ unless_whole false w h = refl
 unless_whole true w h = ap not (h refl)
 
 abbrev waits_named : {F : Type 0} → Giving F → List File → AppState → Bool
-waits_named g files p = not (is_whole_by g files p.delivered p.captures)
+waits_named g files p = not (is_whole_by g files p.input p.snapshots)
 
-waits : {F : Type 0} (g : Giving F) (files : List File) (p : AppState) (name : List ℕ) → wanted p.delivered ≡ Name name → waits_for_capture_by g files (wanted p.delivered) p ≡ waits_named g files p
+waits : {F : Type 0} (g : Giving F) (files : List File) (p : AppState) (name : List ℕ) → wanted p.input ≡ Name name → waits_for_capture_by g files (wanted p.input) p ≡ waits_named g files p
 waits g files p name e = ap (λ w. waits_for_capture_by g files w p) e
 
 -- no call is due: the part stays
@@ -101,9 +101,9 @@ pub none_due : {F R : Type 0} (g : Giving F) (text : R → List ℕ) (a : Pages 
 none_due g text a site found p snapshot e due s =
     let is = replying g text a site p found e s in
     let output = is_said g text a site found p is.0 is.1 in
-    let stays : (is_acknowledged_by g (files_of site) p && waits_for_capture_by g (files_of site) (wanted p.delivered) p) ≡ false =
+    let stays : (is_acknowledged_by g (files_of site) p && waits_for_capture_by g (files_of site) (wanted p.input) p) ≡ false =
     ap (λ w. is_acknowledged_by g (files_of site) p && w) (waits g (files_of site) p is.0 is.1.wanted)
-    ∙ unless_whole (is_acknowledged_by g (files_of site) p) (is_whole_by g (files_of site) p.delivered p.captures)
+    ∙ unless_whole (is_acknowledged_by g (files_of site) p) (is_whole_by g (files_of site) p.input p.snapshots)
     (λ h. output.ends ∙ due (eqb-true (length (text_of g text a site found)) 0 (sym (acked_all g (files_of site) p (text_of g text a site found) (end_of g text a site found) output) ∙ h))) in
     prepared_by g (files_of site) p snapshot false stays
 
@@ -143,7 +143,7 @@ not_due g text a site found p snapshot e due s =
     subst (λ q. PagesRepresent g text a site q) (sym (none_due g text a site found p snapshot e due s)) s
 
 -- a request that is not decided, or refused: the part stays
-pub quiet_prepared : {F : Type 0} (g : Giving F) (files : List File) (p : AppState) (snapshot : Snapshot) (w : Wanted) → wanted p.delivered ≡ w → waits_for_capture_by g files w p ≡ false → prepared g files p snapshot ≡ p
+pub quiet_prepared : {F : Type 0} (g : Giving F) (files : List File) (p : AppState) (snapshot : Snapshot) (w : Wanted) → wanted p.input ≡ w → waits_for_capture_by g files w p ≡ false → prepared g files p snapshot ≡ p
 quiet_prepared g files p snapshot w e never =
     prepared_by g files p snapshot false
     (ap (λ v. is_acknowledged_by g files p && waits_for_capture_by g files v p) e ∙ ap (λ b. is_acknowledged_by g files p && b) never ∙ Rattle.std.proofs.Math.Bool.and-false (is_acknowledged_by g files p))
@@ -196,17 +196,17 @@ due_left g text a site found p name due capture snapshot is_due is made =
           ∙ ap (λ ps. text_by g files ps (snapshot ∷ later)) (sym b.pieces_are)
           ∙ is_due.history.text (snapshot ∷ later)
           ∙ is.left.text (snapshot ∷ later)
-          ∙ ap (λ ks. drop p.acked (text_by g files reply ks)) (sym (append_assoc p.captures (snapshot ∷ []) later));
+          ∙ ap (λ ks. drop p.acked (text_by g files reply ks)) (sym (append_assoc p.snapshots (snapshot ∷ []) later));
       whole = λ later.
           b.ends later
           ∙ sym (made_end g due.function due.argument.now b.more snapshot later b.takes)
           ∙ ap (λ ps. reach_by g ps (snapshot ∷ later)) (sym b.pieces_are)
           ∙ is_due.history.whole (snapshot ∷ later)
           ∙ is.left.whole (snapshot ∷ later)
-          ∙ ap (λ ks. reach_by g reply ks) (sym (append_assoc p.captures (snapshot ∷ []) later));
+          ∙ ap (λ ks. reach_by g reply ks) (sym (append_assoc p.snapshots (snapshot ∷ []) later));
       calls = omega (
         arith,
-        length-append p.captures (snapshot ∷ []),
+        length-append p.snapshots (snapshot ∷ []),
         b.calls,
         is.left.calls,
         is_due.history.calls,
@@ -214,8 +214,8 @@ due_left g text a site found p name due capture snapshot is_due is made =
         ap (λ t. if t then 1 + calls_in g.calling b.more else calls_in g.calling b.more) b.takes,
       );
       within =
-          let grows = text_grows g files reply p.captures (snapshot ∷ []) in
-          omega (arith, is.left.within, ap length grows.joined, length-append (text_by g files reply p.captures) grows.rest);
+          let grows = text_grows g files reply p.snapshots (snapshot ∷ []) in
+          omega (arith, is.left.within, ap length grows.joined, length-append (text_by g files reply p.snapshots) grows.rest);
     }
 
 -- the record is that of the last capture
@@ -236,7 +236,7 @@ taken_by g text site found old new pieces f argument next captures snapshot sees
 
 -- nothing is left before the call, and the end is not reached
 due_waits : {F R : Type 0} (g : Giving F) (text : R → List ℕ) (a : Pages R) (site : SiteContent) (found : Option FileId) (p : AppState) (name : List ℕ) (due : Due F) → IsDueReply (reply_by g text site found a.capture) a.thread due → IsReplying g text a site name found p
-    → (is_acknowledged_by g (files_of site) p && waits_for_capture_by g (files_of site) (wanted p.delivered) p) ≡ true
+    → (is_acknowledged_by g (files_of site) p && waits_for_capture_by g (files_of site) (wanted p.input) p) ≡ true
 due_waits g text a site found p name due is_due is =
     let files = files_of site in
     let output = is_said g text a site found p name is in
@@ -259,7 +259,7 @@ due_stands g text a site found p due capture snapshot e is_due s made =
           there = is.1.there;
           file = is.1.file;
           fits = (begun g text site found a.capture capture is_due.pieces due.function due.argument.now due.next is_due.call).fits;
-          kept = taken_by g text site found a.capture capture is_due.pieces due.function due.argument.now due.next p.captures snapshot is_due.call made;
+          kept = taken_by g text site found a.capture capture is_due.pieces due.function due.argument.now due.next p.snapshots snapshot is_due.call made;
           left = due_left g text a site found p is.0 due capture snapshot is_due is.1 made;
         },
       );

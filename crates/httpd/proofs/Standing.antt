@@ -80,12 +80,12 @@ quiet_zero g text a site n never can =
 acked_left : {F : Type 0} (r : FileReply F) (t u : Thread) (name : List ℕ) (p : AppState) (n : ℕ) → IsLeft r t name p → IsPast r.gives r.files n (left_from r t) (left_from r u) → n ≤ length (text_by r.gives r.files (left_from r t) [])
     → IsLeft r u name (record p { acked = p.acked + n; polls = 0 })
 acked_left r t u name p n is history enough = record {
-  text = λ later. history.text later ∙ ap (λ xs. drop n xs) (is.text later) ∙ drop-drop n p.acked (text_by r.gives r.files (reply_pieces_by r.gives.calling.named r.files name) (p.captures ++ later));
+  text = λ later. history.text later ∙ ap (λ xs. drop n xs) (is.text later) ∙ drop-drop n p.acked (text_by r.gives r.files (reply_pieces_by r.gives.calling.named r.files name) (p.snapshots ++ later));
   whole = λ later. history.whole later ∙ is.whole later;
-  calls = ap (λ k. length p.captures + k) history.calls ∙ is.calls;
+  calls = ap (λ k. length p.snapshots + k) history.calls ∙ is.calls;
   within =
-      let here = ap length (is.text [] ∙ ap (λ ks. drop p.acked (text_by r.gives r.files (reply_pieces_by r.gives.calling.named r.files name) ks)) (append-nil p.captures)) in
-      omega (arith, here, enough, is.within, length-drop p.acked (text_by r.gives r.files (reply_pieces_by r.gives.calling.named r.files name) p.captures));
+      let here = ap length (is.text [] ∙ ap (λ ks. drop p.acked (text_by r.gives r.files (reply_pieces_by r.gives.calling.named r.files name) ks)) (append-nil p.snapshots)) in
+      omega (arith, here, enough, is.within, length-drop p.acked (text_by r.gives r.files (reply_pieces_by r.gives.calling.named r.files name) p.snapshots));
 }
 
 pub reply_acked : {F R : Type 0} (g : Giving F) (text : R → List ℕ) (a : Pages R) (site : SiteContent) (found : Option FileId) (p : AppState) (n : ℕ) (u : Thread) → a.stage ≡ stage.Reply found → Fits (reply_by g text site found a.capture) u → KeepsOn (reply_by g text site found a.capture) a.thread u
@@ -103,7 +103,7 @@ reply_acked g text a site found p n u e fits kept history enough s =
           there = is.1.there;
           file = is.1.file;
           fits = fits;
-          kept = kept p.captures is.1.kept;
+          kept = kept p.snapshots is.1.kept;
           left = acked_left (reply_by g text site found a.capture) a.thread u is.0 p n is.1.left history enough;
         },
       );
@@ -112,9 +112,9 @@ reply_acked g text a site found p n u e fits kept history enough s =
 -- if nothing is sent, nothing can be acknowledged
 nothing_acked : {F R : Type 0} (g : Giving F) (text : R → List ℕ) (a : Pages R) (site : SiteContent) (p : AppState) (n : ℕ) (s : Stage) → ((found : Option FileId) → s ≡ stage.Reply found → ⊥) → n ≡ 0 → StandsIn g text a site p s
     → StandsIn g text (record a { polls = 0 }) site (record p { acked = p.acked + n; polls = 0 }) s
-nothing_acked g text a site p n stage.Method never e (hears, none) = (hears, record { captures = none.captures; acked = omega (arith, none.acked, e) })
-nothing_acked g text a site p n stage.Target never e (hears, none) = (hears, record { captures = none.captures; acked = omega (arith, none.acked, e) })
-nothing_acked g text a site p n stage.Refused never e (refused, none) = (refused, record { captures = none.captures; acked = omega (arith, none.acked, e) })
+nothing_acked g text a site p n stage.Method never e (hears, none) = (hears, record { snapshots = none.snapshots; acked = omega (arith, none.acked, e) })
+nothing_acked g text a site p n stage.Target never e (hears, none) = (hears, record { snapshots = none.snapshots; acked = omega (arith, none.acked, e) })
+nothing_acked g text a site p n stage.Refused never e (refused, none) = (refused, record { snapshots = none.snapshots; acked = omega (arith, none.acked, e) })
 nothing_acked g text a site p n (stage.Reply found) never e stands = absurd (never found refl)
 
 pub quiet_acked : {F R : Type 0} (g : Giving F) (text : R → List ℕ) (a : Pages R) (site : SiteContent) (p : AppState) (n : ℕ) → ((found : Option FileId) → a.stage ≡ stage.Reply found → ⊥) → CanSay (means g) (PagesRepresent g text) a site n → PagesRepresent g text a site p

@@ -13,51 +13,51 @@ prefix_left r name p e none =
     let pieces : left_from r (Head 0) ≡ reply_pieces_by r.gives.calling.named r.files name = reply_start r.gives r.files r.file r.made ∙ ap (reply_to_by r.gives.calling.named r.files) e in
     record {
       text = λ later. ap (λ ps. text_by r.gives r.files ps later) pieces
-          ∙ (λ i. drop (sym none.acked i) (text_by r.gives r.files (reply_pieces_by r.gives.calling.named r.files name) (sym none.captures i ++ later)));
-      whole = λ later. ap (λ ps. reach_by r.gives ps later) pieces ∙ ap (λ ks. reach_by r.gives (reply_pieces_by r.gives.calling.named r.files name) (ks ++ later)) (sym none.captures);
-      calls = omega (arith, ap length none.captures, ap (calls_in r.gives.calling) pieces);
-      within = subst (λ n. n ≤ length (text_by r.gives r.files (reply_pieces_by r.gives.calling.named r.files name) p.captures)) (sym none.acked) (omega arith);
+          ∙ (λ i. drop (sym none.acked i) (text_by r.gives r.files (reply_pieces_by r.gives.calling.named r.files name) (sym none.snapshots i ++ later)));
+      whole = λ later. ap (λ ps. reach_by r.gives ps later) pieces ∙ ap (λ ks. reach_by r.gives (reply_pieces_by r.gives.calling.named r.files name) (ks ++ later)) (sym none.snapshots);
+      calls = omega (arith, ap length none.snapshots, ap (calls_in r.gives.calling) pieces);
+      within = subst (λ n. n ≤ length (text_by r.gives r.files (reply_pieces_by r.gives.calling.named r.files name) p.snapshots)) (sym none.acked) (omega arith);
     }
 
 pub prefix_fits : {F : Type 0} (r : FileReply F) → Fits r (Head 0)
 unfolding Fits
 prefix_fits r = omega arith
 
-begins : {F R : Type 0} (g : Giving F) (text : R → List ℕ) (a : Pages R) (site : SiteContent) (p : AppState) (found : Option FileId) (name : List ℕ) → a.thread ≡ Head 0 → SaysNothing p → wanted p.delivered ≡ Name name → IsFound (files_of site) found
+begins : {F R : Type 0} (g : Giving F) (text : R → List ℕ) (a : Pages R) (site : SiteContent) (p : AppState) (found : Option FileId) (name : List ℕ) → a.thread ≡ Head 0 → SaysNothing p → wanted p.input ≡ Name name → IsFound (files_of site) found
     → found_file (files_of site) found ≡ file_named (files_of site) name → IsReplying g text a site name found p
 begins g text a site p found name e none is there file = record {
   wanted = is;
   there = there;
   file = file;
   fits = subst (λ t. Fits (reply_by g text site found a.capture) t) (sym e) (prefix_fits (reply_by g text site found a.capture));
-  kept = subst (λ t. KeepsDirective (reply_by g text site found a.capture) p.captures t) (sym e) tt;
+  kept = subst (λ t. KeepsDirective (reply_by g text site found a.capture) p.snapshots t) (sym e) tt;
   left = subst (λ t. IsLeft (reply_by g text site found a.capture) t name p) (sym e) (prefix_left (reply_by g text site found a.capture) name p file none);
 }
 
 -- where a stage was decided
-pub decided_stands : {F R : Type 0} (g : Giving F) (text : R → List ℕ) (a : Pages R) (site : SiteContent) (p : AppState) (s : Stage) → a.thread ≡ Head 0 → SaysNothing p → IsDecided (files_of site) a.line p.delivered s → StandsIn g text a site p s
+pub decided_stands : {F R : Type 0} (g : Giving F) (text : R → List ℕ) (a : Pages R) (site : SiteContent) (p : AppState) (s : Stage) → a.thread ≡ Head 0 → SaysNothing p → IsDecided (files_of site) a.line p.input s → StandsIn g text a site p s
 decided_stands g text a site p stage.Method e none is = (is, none)
 decided_stands g text a site p stage.Target e none is = (is, none)
 decided_stands g text a site p stage.Refused e none is = (is, none)
 decided_stands g text a site p (stage.Reply found) e none is = (is.name, begins g text a site p found is.name e none is.wanted is.there is.file)
 
 abbrev pub with_more : AppState → List ℕ → AppState
-with_more p piece = record p { delivered = p.delivered ++ piece; polls = 0 }
+with_more p piece = record p { input = p.input ++ piece; polls = 0 }
 
 still_nothing : (p : AppState) (piece : List ℕ) → SaysNothing p → SaysNothing (with_more p piece)
-still_nothing p piece none = record { captures = none.captures; acked = none.acked }
+still_nothing p piece none = record { snapshots = none.snapshots; acked = none.acked }
 
-pub method_heard : {F R : Type 0} (g : Giving F) (text : R → List ℕ) (a : Pages R) (site : SiteContent) (p : AppState) → a.stage ≡ stage.Method → PagesRepresent g text a site p → HearsMethod a.line p.delivered × SaysNothing p
+pub method_heard : {F R : Type 0} (g : Giving F) (text : R → List ℕ) (a : Pages R) (site : SiteContent) (p : AppState) → a.stage ≡ stage.Method → PagesRepresent g text a site p → HearsMethod a.line p.input × SaysNothing p
 method_heard g text a site p e s = subst (λ st. StandsIn g text a site p st) e s.stands
 
-pub target_heard : {F R : Type 0} (g : Giving F) (text : R → List ℕ) (a : Pages R) (site : SiteContent) (p : AppState) → a.stage ≡ stage.Target → PagesRepresent g text a site p → HearsTarget a.line p.delivered × SaysNothing p
+pub target_heard : {F R : Type 0} (g : Giving F) (text : R → List ℕ) (a : Pages R) (site : SiteContent) (p : AppState) → a.stage ≡ stage.Target → PagesRepresent g text a site p → HearsTarget a.line p.input × SaysNothing p
 target_heard g text a site p e s = subst (λ st. StandsIn g text a site p st) e s.stands
 
-pub refused_heard : {F R : Type 0} (g : Giving F) (text : R → List ℕ) (a : Pages R) (site : SiteContent) (p : AppState) → a.stage ≡ stage.Refused → PagesRepresent g text a site p → (wanted p.delivered ≡ Refused) × SaysNothing p
+pub refused_heard : {F R : Type 0} (g : Giving F) (text : R → List ℕ) (a : Pages R) (site : SiteContent) (p : AppState) → a.stage ≡ stage.Refused → PagesRepresent g text a site p → (wanted p.input ≡ Refused) × SaysNothing p
 refused_heard g text a site p e s = subst (λ st. StandsIn g text a site p st) e s.stands
 
 -- a request that a piece may decide
-pub heard_stands : {F R : Type 0} (g : Giving F) (text : R → List ℕ) (a b : Pages R) (site : SiteContent) (p : AppState) (piece : List ℕ) → SaysNothing p → b.thread ≡ Head 0 → b.polls ≡ 0 → IsDecided (files_of site) b.line (p.delivered ++ piece) b.stage → PagesRepresent g text b site (with_more p piece)
+pub heard_stands : {F R : Type 0} (g : Giving F) (text : R → List ℕ) (a b : Pages R) (site : SiteContent) (p : AppState) (piece : List ℕ) → SaysNothing p → b.thread ≡ Head 0 → b.polls ≡ 0 → IsDecided (files_of site) b.line (p.input ++ piece) b.stage → PagesRepresent g text b site (with_more p piece)
 heard_stands g text a b site p piece none e polls is = record { polls = polls; stands = decided_stands g text b site (with_more p piece) b.stage e (still_nothing p piece none) is }
 
 -- a request that was decided
@@ -69,7 +69,7 @@ reply_stays g text a site p piece found e s =
       stands = subst (λ st. StandsIn g text (record a { polls = 0 }) site (with_more p piece) st) (sym e) (
         is.0,
         record {
-          wanted = more_by (Name is.0) p.delivered piece is.1.wanted (λ h. cc);
+          wanted = more_by (Name is.0) p.input piece is.1.wanted (λ h. cc);
           there = is.1.there;
           file = is.1.file;
           fits = is.1.fits;
@@ -85,7 +85,7 @@ refused_stays g text a site p piece e s =
     record {
       polls = refl;
       stands = subst (λ st. StandsIn g text (record a { polls = 0 }) site (with_more p piece) st) (sym e)
-          (more_by Refused p.delivered piece is.0 (λ h. cc), still_nothing p piece is.1);
+          (more_by Refused p.input piece is.0 (λ h. cc), still_nothing p piece is.1);
     }
 
 -- ---- the hits

@@ -25,34 +25,34 @@ page_pieces reply name = reply_pieces_by reply.gives.calling.named reply.files n
 -- end if the page does. The reply has passed as many calls as there are snapshots.
 pub record IsLeft {F : Type 0} (reply : FileReply F) (thread : Thread) (name : List ℕ) (part : AppState) : Type 0 where
   pub text : (later : List Snapshot) → text_by reply.gives reply.files (left_from reply thread) later
-      ≡ drop part.acked (text_by reply.gives reply.files (page_pieces reply name) (part.captures ++ later))
+      ≡ drop part.acked (text_by reply.gives reply.files (page_pieces reply name) (part.snapshots ++ later))
   pub whole : (later : List Snapshot) → reach_by reply.gives (left_from reply thread) later
-      ≡ reach_by reply.gives (page_pieces reply name) (part.captures ++ later)
-  pub calls : length part.captures + calls_in reply.gives.calling (left_from reply thread)
+      ≡ reach_by reply.gives (page_pieces reply name) (part.snapshots ++ later)
+  pub calls : length part.snapshots + calls_in reply.gives.calling (left_from reply thread)
       ≡ calls_in reply.gives.calling (page_pieces reply name)
-  pub within : part.acked ≤ length (text_by reply.gives reply.files (page_pieces reply name) part.captures)
+  pub within : part.acked ≤ length (text_by reply.gives reply.files (page_pieces reply name) part.snapshots)
 
 -- A reply to a request for the name is being sent.
 pub record IsReplying {F R : Type 0} (g : Giving F) (text : R → List ℕ) (a : Pages R) (site : SiteContent)
     (name : List ℕ) (found : Option FileId) (part : AppState) : Type 0 where
-  pub wanted : wanted part.delivered ≡ Name name
+  pub wanted : wanted part.input ≡ Name name
   pub there : IsFound (files_of site) found
   pub file : found_file (files_of site) found ≡ file_named (files_of site) name
   pub fits : Fits (reply_by g text site found a.capture) a.thread
-  pub kept : KeepsDirective (reply_by g text site found a.capture) part.captures a.thread
+  pub kept : KeepsDirective (reply_by g text site found a.capture) part.snapshots a.thread
   pub left : IsLeft (reply_by g text site found a.capture) a.thread name part
 
 -- Nothing was sent, captured or acknowledged.
 pub record SaysNothing (part : AppState) : Type 0 where
-  pub captures : part.captures ≡ []
+  pub snapshots : part.snapshots ≡ []
   pub acked : part.acked ≡ 0
 
 -- The state by the stage of the request.
 abbrev pub StandsIn : {F R : Type 0} → Giving F → (R → List ℕ) → Pages R → SiteContent → AppState → Stage → Type 0
-StandsIn g text a site part stage.Method = HearsMethod a.line part.delivered × SaysNothing part
-StandsIn g text a site part stage.Target = HearsTarget a.line part.delivered × SaysNothing part
+StandsIn g text a site part stage.Method = HearsMethod a.line part.input × SaysNothing part
+StandsIn g text a site part stage.Target = HearsTarget a.line part.input × SaysNothing part
 StandsIn g text a site part (stage.Reply found) = (name : List ℕ) × IsReplying g text a site name found part
-StandsIn g text a site part stage.Refused = (wanted part.delivered ≡ Refused) × SaysNothing part
+StandsIn g text a site part stage.Refused = (wanted part.input ≡ Refused) × SaysNothing part
 
 pub record PagesRepresent {F R : Type 0} (g : Giving F) (text : R → List ℕ) (a : Pages R)
     (site : SiteContent) (part : AppState) : Type 0 where
@@ -75,8 +75,8 @@ TakesNoCapture m Stands = (numbers : List ℕ) (p : AppState) (now : Now) → St
 
 -- the state of a connection at this port that has received nothing
 abbrev pub before_input : ℕ → AppState
-before_input port = record { port = port; delivered = []; captures = []; acked = 0; polls = 0; own = 0 }
+before_input port = record { port = port; input = []; snapshots = []; acked = 0; polls = 0; own = 0 }
 
 -- the hits of the files after a piece was delivered
 abbrev pub hits_after : List File → AppState → List ℕ → List ℕ → List ℕ
-hits_after files p piece hits = hits_by files hits (wanted p.delivered) (wanted (p.delivered ++ piece))
+hits_after files p piece hits = hits_by files hits (wanted p.input) (wanted (p.input ++ piece))

@@ -81,7 +81,7 @@ impl<R: Record> CompactPages<R> {
     pub fn fresh() -> CompactPages<R>
         ensures { let stands = CompactRepresent (gives R.Function.calling R.output) R.text in
             (site : SiteContent) (port : ℕ) → stands result site
-            (record { port = port; delivered = []; captures = []; acked = 0; polls = 0; own = 0 }) }
+            (record { port = port; input = []; snapshots = []; acked = 0; polls = 0; own = 0 }) }
     {
         CompactPages::Receiving {
             polls: 0,
@@ -117,10 +117,10 @@ impl<R: Record> CompactPages<R> {
         requires counted { IsCounted site.now hits.old }
         ensures part { let stands = CompactRepresent (gives R.Function.calling R.output) R.text in
             (p : AppState) → stands self.old site.now p
-            → stands self.new site.now (record p { delivered = p.delivered ++ piece.now; polls = 0 }) }
+            → stands self.new site.now (record p { input = p.input ++ piece.now; polls = 0 }) }
         ensures hits { let stands = CompactRepresent (gives R.Function.calling R.output) R.text in
             (p : AppState) → stands self.old site.now p
-            → hits.new ≡ hits_by (files_of site.now) hits.old (wanted p.delivered) (wanted (p.delivered ++ piece.now)) }
+            → hits.new ≡ hits_by (files_of site.now) hits.old (wanted p.input) (wanted (p.input ++ piece.now)) }
     {
         let stage = match self {
             CompactPages::Receiving {

@@ -57,7 +57,7 @@ impl<R: Record> Pages<R> {
     pub fn hear<B: Image>(&mut self, site: &SiteOf<B>, hits: &mut [u32], piece: &[u8])
         requires counted { IsCounted site.now hits.old }
         ensures part { Becomes (PagesRepresent (gives R.Function.calling R.output) R.text) site.now
-            (λ p. record p { delivered = p.delivered ++ piece.now; polls = 0 }) self.old self.new }
+            (λ p. record p { input = p.input ++ piece.now; polls = 0 }) self.old self.new }
         ensures hits { (p : AppState) → PagesRepresent (gives R.Function.calling R.output) R.text self.old site.now p
             → hits.new ≡ hits_after (files_of site.now) p piece.now hits.old }
     {

@@ -184,76 +184,76 @@ module _ (files : List File) (request : List ℕ) (decided : wanted request ≢ 
 
   -- it was polled this often, and no more is acknowledged than was sent
   abbrev pub fine : ℕ → AppState → Bool
-  fine waited p = nat_le p.polls waited && nat_le p.acked (length (page files p.delivered p.captures))
+  fine waited p = nat_le p.polls waited && nat_le p.acked (length (page files p.input p.snapshots))
 
   -- the texts that are left
   abbrev pub left : AppState → ℕ
-  left p = left_in mss some (sizes files wanted_pieces p.captures) p.acked
+  left p = left_in mss some (sizes files wanted_pieces p.snapshots) p.acked
 
   -- the output is that of the pieces of the whole request
   record SaysPieces (p : AppState) : Type 0 where
-    text : page files p.delivered p.captures ≡ page_text files wanted_pieces p.captures
-    whole : is_page_whole files p.delivered p.captures ≡ reach_end wanted_pieces p.captures
+    text : page files p.input p.snapshots ≡ page_text files wanted_pieces p.snapshots
+    whole : is_page_whole files p.input p.snapshots ≡ reach_end wanted_pieces p.snapshots
 
-  says_named : (p : AppState) (rest name : List ℕ) → p.delivered ++ rest ≡ request → wanted p.delivered ≡ Name name → SaysPieces p
+  says_named : (p : AppState) (rest name : List ℕ) → p.input ++ rest ≡ request → wanted p.input ≡ Name name → SaysPieces p
   says_named p rest name joined e =
-      let all : wanted request ≡ Name name = ap wanted (sym joined) ∙ name_stays p.delivered rest name e in
+      let all : wanted request ≡ Name name = ap wanted (sym joined) ∙ name_stays p.input rest name e in
       record {
-        text = ap (λ w. page_for files w p.captures) e ∙ ap (λ w. page_text files (pieces_for files w) p.captures) (sym all);
-        whole = ap (λ w. whole_for files w p.captures) e ∙ ap (λ w. reach_end (pieces_for files w) p.captures) (sym all);
+        text = ap (λ w. page_for files w p.snapshots) e ∙ ap (λ w. page_text files (pieces_for files w) p.snapshots) (sym all);
+        whole = ap (λ w. whole_for files w p.snapshots) e ∙ ap (λ w. reach_end (pieces_for files w) p.snapshots) (sym all);
       }
 
-  says_some : (p : AppState) (rest : List ℕ) → p.delivered ++ rest ≡ request → (w : Wanted) → wanted p.delivered ≡ w → 0 < length (page files p.delivered p.captures) → SaysPieces p
-  says_some p rest joined NotYet e h = absurd (let z : ⊥ = omega (arith, h, ap (λ w. length (page_for files w p.captures)) e) in z)
-  says_some p rest joined Refused e h = absurd (let z : ⊥ = omega (arith, h, ap (λ w. length (page_for files w p.captures)) e) in z)
+  says_some : (p : AppState) (rest : List ℕ) → p.input ++ rest ≡ request → (w : Wanted) → wanted p.input ≡ w → 0 < length (page files p.input p.snapshots) → SaysPieces p
+  says_some p rest joined NotYet e h = absurd (let z : ⊥ = omega (arith, h, ap (λ w. length (page_for files w p.snapshots)) e) in z)
+  says_some p rest joined Refused e h = absurd (let z : ⊥ = omega (arith, h, ap (λ w. length (page_for files w p.snapshots)) e) in z)
   says_some p rest joined (Name name) e h = says_named p rest name joined e
 
   -- after this number of polls
   module _ (waited : ℕ) (patient : waited < 20) where
     record IsFine (p : AppState) : Type 0 where
       polls : p.polls ≤ waited
-      acked : p.acked ≤ length (page files p.delivered p.captures)
+      acked : p.acked ≤ length (page files p.input p.snapshots)
 
     is_fine : (p : AppState) → fine waited p ≡ true → IsFine p
     is_fine p e =
-        let both = and_parts (nat_le p.polls waited) (nat_le p.acked (length (page files p.delivered p.captures))) e in
-        record { polls = leb-true p.polls waited both.0; acked = leb-true p.acked (length (page files p.delivered p.captures)) both.1 }
+        let both = and_parts (nat_le p.polls waited) (nat_le p.acked (length (page files p.input p.snapshots))) e in
+        record { polls = leb-true p.polls waited both.0; acked = leb-true p.acked (length (page files p.input p.snapshots)) both.1 }
 
-    as_fine : (p : AppState) → p.polls ≤ waited → p.acked ≤ length (page files p.delivered p.captures) → fine waited p ≡ true
-    as_fine p e h = ap (λ b. b && nat_le p.acked (length (page files p.delivered p.captures))) (le-leb p.polls waited e) ∙ le-leb p.acked (length (page files p.delivered p.captures)) h
+    as_fine : (p : AppState) → p.polls ≤ waited → p.acked ≤ length (page files p.input p.snapshots) → fine waited p ≡ true
+    as_fine p e h = ap (λ b. b && nat_le p.acked (length (page files p.input p.snapshots))) (le-leb p.polls waited e) ∙ le-leb p.acked (length (page files p.input p.snapshots)) h
 
     -- what it requests, if nothing is wrong
-    wants_on : (q : AppState) (most : ℕ) (rest : List ℕ) → q.delivered ++ rest ≡ request → fine waited q ≡ true → left q ≤ most →
-        (left_of files q ≡ 0 → is_page_whole files q.delivered q.captures && is_acknowledged files q ≡ false → q.delivered ≡ request → ⊥) → GoesOnBy (web_spec files) request mss (fine waited) left q most (web_want files q)
+    wants_on : (q : AppState) (most : ℕ) (rest : List ℕ) → q.input ++ rest ≡ request → fine waited q ≡ true → left q ≤ most →
+        (left_of files q ≡ 0 → is_page_whole files q.input q.snapshots && is_acknowledged files q ≡ false → q.input ≡ request → ⊥) → GoesOnBy (web_spec files) request mss (fine waited) left q most (web_want files q)
     wants_on q most rest joined f few none =
         let is = is_fine q f in
         let P : Want → Type 0 = GoesOnBy (web_spec files) request mss (fine waited) left q most in
-        let by_end : Want = if is_page_whole files q.delivered q.captures && is_acknowledged files q then Close else (if nat_lt 0 (left_of files q) then Send (min 1460 (left_of files q)) else Nothing) in
+        let by_end : Want = if is_page_whole files q.input q.snapshots && is_acknowledged files q then Close else (if nat_lt 0 (left_of files q) then Send (min 1460 (left_of files q)) else Nothing) in
         subst P (sym (ap (λ b. if b then Abort else by_end) (let z : (q.polls == 20) ≡ false = not_twenty q.polls (let y = is.polls in omega (arith, y, patient)) in z)))
-        (both_ways (is_page_whole files q.delivered q.captures && is_acknowledged files q)
+        (both_ways (is_page_whole files q.input q.snapshots && is_acknowledged files q)
         (λ e. subst P (sym (ap (λ b. if b then Close else (if nat_lt 0 (left_of files q) then Send (min 1460 (left_of files q)) else Nothing)) e)) tt)
         (λ e. subst P (sym (ap (λ b. if b then Close else (if nat_lt 0 (left_of files q) then Send (min 1460 (left_of files q)) else Nothing)) e))
         (both_ways (nat_lt 0 (left_of files q))
         (λ l. subst P (sym (ap (λ b. if b then Send (min 1460 (left_of files q)) else Nothing) l)) (sends q most rest joined is few (ltb-true 0 (left_of files q) l)))
         (λ l. subst P (sym (ap (λ b. if b then Send (min 1460 (left_of files q)) else Nothing) l)) (f, few, none (ltb-zero (left_of files q) l) e)))))
       where
-        sends : (q : AppState) (most : ℕ) (rest : List ℕ) → q.delivered ++ rest ≡ request → IsFine q → left q ≤ most → 0 < left_of files q → GoesOnBy (web_spec files) request mss (fine waited) left q most (Send (min 1460 (left_of files q)))
+        sends : (q : AppState) (most : ℕ) (rest : List ℕ) → q.input ++ rest ≡ request → IsFine q → left q ≤ most → 0 < left_of files q → GoesOnBy (web_spec files) request mss (fine waited) left q most (Send (min 1460 (left_of files q)))
         sends q most rest joined is few l =
             let x : ℕ = min (min 1460 (left_of files q)) mss in
-            let says = says_some q rest joined (wanted q.delivered) refl (omega (arith, l)) in
-            let size : length (page files q.delivered q.captures) ≡ length (page_text files wanted_pieces q.captures) = ap length says.text in
-            let whole : (x ≡ mss) ⊎ (q.acked + x ≡ length (page_text files wanted_pieces q.captures)) =
+            let says = says_some q rest joined (wanted q.input) refl (omega (arith, l)) in
+            let size : length (page files q.input q.snapshots) ≡ length (page_text files wanted_pieces q.snapshots) = ap length says.text in
+            let whole : (x ≡ mss) ⊎ (q.acked + x ≡ length (page_text files wanted_pieces q.snapshots)) =
             elim (cases_lt (left_of files q) mss) [ inl h ↦ inr (omega (arith, h, low, is.acked, size)) | inr h ↦ inl (omega (arith, h, low)) ] in
-            let less = less_left files mss some wanted_pieces q.captures q.acked x (omega (arith, l, some)) (omega (arith, l, is.acked, size)) whole in
+            let less = less_left files mss some wanted_pieces q.snapshots q.acked x (omega (arith, l, some)) (omega (arith, l, is.acked, size)) whole in
             λ ns. (as_fine (record q { acked = q.acked + x; polls = 0 }) (omega arith) (omega (arith, l, is.acked)), omega (arith, less, few))
 
     -- nothing is requested only while the request is not decided
-    never_rests : (p : AppState) → is_acknowledged files p && waits_for_capture files (wanted p.delivered) p ≡ false → IsFine p → left_of files p ≡ 0 → is_page_whole files p.delivered p.captures && is_acknowledged files p ≡ false → p.delivered ≡ request → ⊥
+    never_rests : (p : AppState) → is_acknowledged files p && waits_for_capture files (wanted p.input) p ≡ false → IsFine p → left_of files p ≡ 0 → is_page_whole files p.input p.snapshots && is_acknowledged files p ≡ false → p.input ≡ request → ⊥
     never_rests p waits is z rests all =
-        let acked : is_acknowledged files p ≡ true = eq-eqb p.acked (length (page files p.delivered p.captures)) (omega (arith, z, is.acked)) in
-        let part_whole : is_page_whole files p.delivered p.captures ≡ false = unless_right (is_page_whole files p.delivered p.captures) (is_acknowledged files p) rests acked in
-        let no_call : waits_for_capture files (wanted p.delivered) p ≡ false = unless_left (is_acknowledged files p) (waits_for_capture files (wanted p.delivered) p) waits acked in
-        by_wanted (wanted p.delivered) refl part_whole no_call
+        let acked : is_acknowledged files p ≡ true = eq-eqb p.acked (length (page files p.input p.snapshots)) (omega (arith, z, is.acked)) in
+        let part_whole : is_page_whole files p.input p.snapshots ≡ false = unless_right (is_page_whole files p.input p.snapshots) (is_acknowledged files p) rests acked in
+        let no_call : waits_for_capture files (wanted p.input) p ≡ false = unless_left (is_acknowledged files p) (waits_for_capture files (wanted p.input) p) waits acked in
+        by_wanted (wanted p.input) refl part_whole no_call
       where
         unless_right : (a b : Bool) → a && b ≡ false → b ≡ true → a ≡ false
         unless_right true b e f = absurd (cc)
@@ -263,43 +263,43 @@ module _ (files : List File) (request : List ℕ) (decided : wanted request ≢ 
         unless_left true b e f = e
         unless_left false b e f = absurd (cc)
 
-        by_wanted : (w : Wanted) → wanted p.delivered ≡ w → is_page_whole files p.delivered p.captures ≡ false → waits_for_capture files w p ≡ false → ⊥
+        by_wanted : (w : Wanted) → wanted p.input ≡ w → is_page_whole files p.input p.snapshots ≡ false → waits_for_capture files w p ≡ false → ⊥
         by_wanted NotYet e open_end no_call = decided (ap wanted (sym all) ∙ e)
-        by_wanted Refused e open_end no_call = true≢false (sym (ap (λ w. whole_for files w p.captures) e) ∙ open_end)
+        by_wanted Refused e open_end no_call = true≢false (sym (ap (λ w. whole_for files w p.snapshots) e) ∙ open_end)
         by_wanted (Name name) e open_end no_call = true≢false (sym (ap not open_end) ∙ no_call)
 
     -- with a capture that is needed, there is more to send
-    after_capture : (p : AppState) (capture : Snapshot) (rest : List ℕ) → p.delivered ++ rest ≡ request → fine waited p ≡ true → IsSnapshot capture → 0 < length capture.now.rows → (w : Wanted) → wanted p.delivered ≡ w →
+    after_capture : (p : AppState) (capture : Snapshot) (rest : List ℕ) → p.input ++ rest ≡ request → fine waited p ≡ true → IsSnapshot capture → 0 < length capture.now.rows → (w : Wanted) → wanted p.input ≡ w →
         is_acknowledged files p ≡ true → waits_for_capture files w p ≡ true → GoesOnBy (web_spec files) request mss (fine waited) left (with_capture p capture) (left p) (web_want files (with_capture p capture))
     after_capture p capture rest joined f is l NotYet named acked waits = absurd (cc)
     after_capture p capture rest joined f is l Refused named acked waits = absurd (cc)
     after_capture p capture rest joined f is l (Name name) named acked waits =
         let q : AppState = with_capture p capture in
         let fine_p = is_fine p f in
-        let at_end : p.acked ≡ length (page files p.delivered p.captures) = eqb-true p.acked (length (page files p.delivered p.captures)) acked in
+        let at_end : p.acked ≡ length (page files p.input p.snapshots) = eqb-true p.acked (length (page files p.input p.snapshots)) acked in
         let says = says_named p rest name joined named in
         let says_more = says_named q rest name joined named in
-        let stops : reach_end wanted_pieces p.captures ≡ false = sym says.whole ∙ not-true (is_page_whole files p.delivered p.captures) waits in
-        let more = text_longer files mss some wanted_pieces p.captures capture is l stops in
-        let longer : p.acked < length (page files q.delivered q.captures) = omega (arith, at_end, ap length says.text, ap length says_more.text, more) in
-        let goes : p.acked ≤ length (page files q.delivered q.captures) = omega (arith, longer) in
+        let stops : reach_end wanted_pieces p.snapshots ≡ false = sym says.whole ∙ not-true (is_page_whole files p.input p.snapshots) waits in
+        let more = text_longer files mss some wanted_pieces p.snapshots capture is l stops in
+        let longer : p.acked < length (page files q.input q.snapshots) = omega (arith, at_end, ap length says.text, ap length says_more.text, more) in
+        let goes : p.acked ≤ length (page files q.input q.snapshots) = omega (arith, longer) in
         wants_on q (left p) rest joined (as_fine q fine_p.polls goes)
-        (fewer_left files mss some wanted_pieces p.captures capture p.acked is stops (at_end ∙ ap length says.text))
+        (fewer_left files mss some wanted_pieces p.snapshots capture p.acked is stops (at_end ∙ ap length says.text))
         (λ z e all. let y : ⊥ = omega (arith, z, longer) in y)
 
     pub answers : AnswersIn (web_spec files) request mss (fine waited) left (texts_for mss wanted_pieces)
     answers = record {
-      starts = λ hits port. (as_fine (record { port = port; delivered = []; captures = []; acked = 0; polls = 0; own = 0 }) (omega arith) (omega arith), counted_all files mss some wanted_pieces);
+      starts = λ hits port. (as_fine (record { port = port; input = []; snapshots = []; acked = 0; polls = 0; own = 0 }) (omega arith) (omega arith), counted_all files mss some wanted_pieces);
       hears = λ hits p piece rest f joined. (
-        as_fine (record p { delivered = p.delivered ++ piece; polls = 0 }) (omega arith)
-            (let h = prefix_length (page files p.delivered p.captures) (page files (p.delivered ++ piece) p.captures) (newdata_grows uip files p piece) in omega (arith, (is_fine p f).acked, h)),
+        as_fine (record p { input = p.input ++ piece; polls = 0 }) (omega arith)
+            (let h = prefix_length (page files p.input p.snapshots) (page files (p.input ++ piece) p.snapshots) (newdata_grows uip files p piece) in omega (arith, (is_fine p f).acked, h)),
         omega arith,
       );
       goes_on = λ hits p now rest f joined words is l.
           (let capture : Snapshot = record { numbers = hits; now = now } in
           let P : AppState → Type 0 = λ q. GoesOnBy (web_spec files) request mss (fine waited) left q (left p) (web_want files q) in
-          both_ways (is_acknowledged files p && waits_for_capture files (wanted p.delivered) p)
-          (λ e. subst P (sym (ap (λ b. if b then with_capture p capture else p) e)) (let both = and_parts (is_acknowledged files p) (waits_for_capture files (wanted p.delivered) p) e in after_capture p capture rest joined f record { numbers = words; now = is } l (wanted p.delivered) refl both.0 both.1))
+          both_ways (is_acknowledged files p && waits_for_capture files (wanted p.input) p)
+          (λ e. subst P (sym (ap (λ b. if b then with_capture p capture else p) e)) (let both = and_parts (is_acknowledged files p) (waits_for_capture files (wanted p.input) p) e in after_capture p capture rest joined f record { numbers = words; now = is } l (wanted p.input) refl both.0 both.1))
           (λ e. subst P (sym (ap (λ b. if b then with_capture p capture else p) e)) (wants_on p (left p) rest joined f (omega arith) (never_rests p e (is_fine p f)))));
     }
 

@@ -74,26 +74,26 @@ module _ (files : List File) where
   below a b l true e = absurd (let z : ⊥ = omega (arith, l, eqb-eq a b e) in z)
   below a b l false e = refl
 
-  longer : (p : AppState) (new : Snapshot) (w : Wanted) → wanted p.delivered ≡ w → IsSeen new.now → waits_for_capture files w p ≡ true
-      → length (page_for files w p.captures) < length (page_for files w (p.captures ++ new ∷ []))
+  longer : (p : AppState) (new : Snapshot) (w : Wanted) → wanted p.input ≡ w → IsSeen new.now → waits_for_capture files w p ≡ true
+      → length (page_for files w p.snapshots) < length (page_for files w (p.snapshots ++ new ∷ []))
   longer p new NotYet e g h = absurd (cc)
   longer p new Refused e g h = absurd (cc)
   longer p new (Name name) e g h =
-      grows (reply_pieces files name) p.captures new g (sym (ap (λ w. whole_for files w p.captures) e) ∙ not-true (is_page_whole files p.delivered p.captures) h)
+      grows (reply_pieces files name) p.snapshots new g (sym (ap (λ w. whole_for files w p.snapshots) e) ∙ not-true (is_page_whole files p.input p.snapshots) h)
 
-  captured_apart : (p : AppState) (new : Snapshot) → IsSeen new.now → is_acknowledged files p && waits_for_capture files (wanted p.delivered) p ≡ true
-      → is_at_end files (record p { captures = p.captures ++ new ∷ [] }) ≡ false
+  captured_apart : (p : AppState) (new : Snapshot) → IsSeen new.now → is_acknowledged files p && waits_for_capture files (wanted p.input) p ≡ true
+      → is_at_end files (record p { snapshots = p.snapshots ++ new ∷ [] }) ≡ false
   captured_apart p new g h =
-      let both = and_true (is_acknowledged files p) (waits_for_capture files (wanted p.delivered) p) h in
-      let q : AppState = record p { captures = p.captures ++ new ∷ [] } in
-      let here : p.acked ≡ length (page files p.delivered p.captures) = eqb-eq p.acked (length (page files p.delivered p.captures)) both.0 in
-      let more = longer p new (wanted p.delivered) refl g both.1 in
-      let none : is_acknowledged files q ≡ false = below q.acked (length (page files q.delivered q.captures)) (omega (arith, here, more)) (is_acknowledged files q) refl in
-      ap (λ b. is_page_whole files q.delivered q.captures && b) none ∙ and-false (is_page_whole files q.delivered q.captures)
+      let both = and_true (is_acknowledged files p) (waits_for_capture files (wanted p.input) p) h in
+      let q : AppState = record p { snapshots = p.snapshots ++ new ∷ [] } in
+      let here : p.acked ≡ length (page files p.input p.snapshots) = eqb-eq p.acked (length (page files p.input p.snapshots)) both.0 in
+      let more = longer p new (wanted p.input) refl g both.1 in
+      let none : is_acknowledged files q ≡ false = below q.acked (length (page files q.input q.snapshots)) (omega (arith, here, more)) (is_acknowledged files q) refl in
+      ap (λ b. is_page_whole files q.input q.snapshots && b) none ∙ and-false (is_page_whole files q.input q.snapshots)
 
   prepared_apart : (numbers : List ℕ) (p : AppState) (now : Now) → IsSeen now → Apart p → Apart (m.prepare numbers p now)
   prepared_apart numbers p now g h =
-      choose (λ q. Apart q) (is_acknowledged files p && waits_for_capture files (wanted p.delivered) p) _ _
+      choose (λ q. Apart q) (is_acknowledged files p && waits_for_capture files (wanted p.input) p) _ _
       (λ e q. captured_apart p (record { numbers = numbers; now = now }) g e) (λ e. h)
 
   never_open : (st : State) → after_own_fin st ≡ Established → ⊥

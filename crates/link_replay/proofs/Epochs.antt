@@ -32,10 +32,10 @@ addressed_later number p (y ∷ ys) x found (s ∷ ss) l at e later h =
     later ss (subst (λ (l : List CodeSide). Matched SideRepresents l ss) (sym (take_rest (y ∷ ys) 1)) (matched_tail SideRepresents y s ys ss h)) ∙ sym (ap (λ (b : Bool). if b then number else addressed (number + 1) (sockets_at p) ss) f)
 
 buried_by : (b : Bool) (g : Connection) (x : CodeSide) (s : Side) → SideRepresents x s →
-    SideRepresents (if b then record x { epoch = x.epoch + 1 } else x) (if b then record s { history = s.history ++ record { iss = g.iss; captures = g.part.captures } ∷ [] } else s)
+    SideRepresents (if b then record x { epoch = x.epoch + 1 } else x) (if b then record s { history = s.history ++ record { iss = g.iss; snapshots = g.part.snapshots } ∷ [] } else s)
 buried_by true g x s h = record {
   client = h.client;
-  epoch = (let e = h.epoch in let f = length-append s.history (record { iss = g.iss; captures = g.part.captures } ∷ []) in omega (arith, e, f));
+  epoch = (let e = h.epoch in let f = length-append s.history (record { iss = g.iss; snapshots = g.part.snapshots } ∷ []) in omega (arith, e, f));
   first_stale = h.first_stale;
 }
 buried_by false g x s h = h
@@ -44,7 +44,7 @@ buried_by false g x s h = h
 buried_stands : (g : Connection) (x : CodeSide) (s : Side) → SideRepresents x s → SideRepresents (buried (pair_at g.sockets) x) (retires_in g s)
 buried_stands g x s h =
     let e : same_sockets g.sockets (sockets_for x.client.setup) ≡ same_sockets g.sockets (client_sockets s) = has_same g.sockets x s h in
-    subst (λ (b : Bool). SideRepresents (buried (pair_at g.sockets) x) (if b then record s { history = s.history ++ record { iss = g.iss; captures = g.part.captures } ∷ [] } else s)) e
+    subst (λ (b : Bool). SideRepresents (buried (pair_at g.sockets) x) (if b then record s { history = s.history ++ record { iss = g.iss; snapshots = g.part.snapshots } ∷ [] } else s)) e
     (buried_by (same_sockets g.sockets (sockets_for x.client.setup)) g x s h)
 
 pub all_buried : (gone : SocketPair) (g : Connection) (xs : List CodeSide) (ss : List Side) → pair_at g.sockets ≡ gone → Matched SideRepresents xs ss → Matched SideRepresents (map (buried gone) xs) (retires (Some g) ss)

@@ -5,7 +5,7 @@ use Rattle.link_replay.proofs.Prelude.{◌≡◌, ℕ, zero, suc, ◌+◌, ◌%�
 -- ---- one connection
 
 abbrev asks : Connection → Wanted
-asks c = wanted c.part.delivered
+asks c = wanted c.part.input
 
 -- the numbers after a step, by what was asked for before and after
 module _ (files : List File) where
@@ -14,7 +14,7 @@ module _ (files : List File) where
 
   -- before a connection is open nothing was received
   abbrev Fresh : State → Connection → Type 0
-  Fresh SynRcvd c = c.part.delivered ≡ []
+  Fresh SynRcvd c = c.part.input ≡ []
   Fresh _ c = Unit {0}
 
   record Counts (before : Wanted) (numbers : List ℕ) (o : Outcome) : Type 0 where
@@ -26,12 +26,12 @@ module _ (files : List File) where
   same_by numbers Refused = refl
   same_by numbers (Name name) = refl
 
-  late : (st : State) (c d : Connection) → d.part.delivered ≡ c.part.delivered → Fresh st c → Fresh st d
+  late : (st : State) (c d : Connection) → d.part.input ≡ c.part.input → Fresh st c → Fresh st d
   late SynRcvd c d e h = e ∙ h
   late _ c d e h = tt
 
   -- a step in which nothing is received
-  quiet : (c d : Connection) (numbers : List ℕ) (s : Step) → d.part.delivered ≡ c.part.delivered → Fresh d.state d → Counts (asks c) numbers (record { connection = d; numbers = numbers; step = s })
+  quiet : (c d : Connection) (numbers : List ℕ) (s : Step) → d.part.input ≡ c.part.input → Fresh d.state d → Counts (asks c) numbers (record { connection = d; numbers = numbers; step = s })
   quiet c d numbers s e f = record { hits = sym (same_by numbers (asks c)) ∙ ap (λ xs. hits_by files numbers (asks c) (wanted xs)) (sym e); fresh = f }
 
   at_state : (d : Connection) (st : State) → d.state ≡ st → Fresh st d → Fresh d.state d
@@ -49,40 +49,40 @@ module _ (files : List File) where
   closes_counts c how numbers s = record { hits = told_same how c.state c.part numbers ∙ sym (same_by numbers (asks c)); fresh = tt }
 
   -- what the application receives
-  hears_hits : (numbers : List ℕ) (p : AppState) (text : List ℕ) → (hears m numbers p text).numbers ≡ hits_by files numbers (wanted p.delivered) (wanted (hears m numbers p text).part.delivered)
-  hears_hits numbers p [] = sym (same_by numbers (wanted p.delivered))
+  hears_hits : (numbers : List ℕ) (p : AppState) (text : List ℕ) → (hears m numbers p text).numbers ≡ hits_by files numbers (wanted p.input) (wanted (hears m numbers p text).part.input)
+  hears_hits numbers p [] = sym (same_by numbers (wanted p.input))
   hears_hits numbers p (x ∷ xs) = refl
 
   -- ---- asking
 
   record Like (o r : Outcome) : Type 0 where
     numbers : r.numbers ≡ o.numbers
-    delivered : r.connection.part.delivered ≡ o.connection.part.delivered
+    input : r.connection.part.input ≡ o.connection.part.input
     fresh : Fresh r.connection.state r.connection
 
-  wanted_like : (w : Want) (fresh : Bool) (c : Connection) (o : Outcome) → c.part.delivered ≡ o.connection.part.delivered → Fresh c.state c → Like o (does_as_wanted w fresh c o.numbers)
+  wanted_like : (w : Want) (fresh : Bool) (c : Connection) (o : Outcome) → c.part.input ≡ o.connection.part.input → Fresh c.state c → Like o (does_as_wanted w fresh c o.numbers)
   unfolding idles
-  wanted_like Abort fresh c o e f = record { numbers = refl; delivered = e; fresh = tt }
-  wanted_like Close fresh c o e f = record { numbers = refl; delivered = e; fresh = fin_fresh (does_as_wanted Close fresh c o.numbers).connection c.state }
-  wanted_like (Send n) fresh c o e f = record { numbers = refl; delivered = e; fresh = late c.state c (does_as_wanted (Send n) fresh c o.numbers).connection refl f }
+  wanted_like Abort fresh c o e f = record { numbers = refl; input = e; fresh = tt }
+  wanted_like Close fresh c o e f = record { numbers = refl; input = e; fresh = fin_fresh (does_as_wanted Close fresh c o.numbers).connection c.state }
+  wanted_like (Send n) fresh c o e f = record { numbers = refl; input = e; fresh = late c.state c (does_as_wanted (Send n) fresh c o.numbers).connection refl f }
   wanted_like Nothing fresh c o e f =
-      choose (λ (r : Outcome). Like o r) (peer_has_closed c.state) _ _ (λ x. record { numbers = refl; delivered = e; fresh = tt })
-      (λ x. choose (λ (r : Outcome). Like o r) fresh _ _ (λ y. record { numbers = refl; delivered = e; fresh = f }) (λ y. record { numbers = refl; delivered = e; fresh = f }))
+      choose (λ (r : Outcome). Like o r) (peer_has_closed c.state) _ _ (λ x. record { numbers = refl; input = e; fresh = tt })
+      (λ x. choose (λ (r : Outcome). Like o r) fresh _ _ (λ y. record { numbers = refl; input = e; fresh = f }) (λ y. record { numbers = refl; input = e; fresh = f }))
 
   asked_for_like : (at : Connection → Now) (o : Outcome) (s : Step) → Fresh o.connection.state o.connection → Like o (asked_for m at o s)
   asked_for_like at o (Step.Ask fresh) f =
       let now : Now = at o.connection in
       let b : Connection = prepared m now o.connection o.numbers in
-      let same : b.part.delivered ≡ o.connection.part.delivered =
-      choose (λ (p : AppState). p.delivered ≡ o.connection.part.delivered) (is_acknowledged files o.connection.part && waits_for_capture files (wanted o.connection.part.delivered) o.connection.part) _ _ (λ e. refl) (λ e. refl) in
+      let same : b.part.input ≡ o.connection.part.input =
+      choose (λ (p : AppState). p.input ≡ o.connection.part.input) (is_acknowledged files o.connection.part && waits_for_capture files (wanted o.connection.part.input) o.connection.part) _ _ (λ e. refl) (λ e. refl) in
       wanted_like (m.want o.numbers (m.prepare o.numbers o.connection.part now)) fresh b o same (late o.connection.state o.connection b same f)
-  asked_for_like at o Step.Drop f = record { numbers = refl; delivered = refl; fresh = f }
-  asked_for_like at o _ f = record { numbers = refl; delivered = refl; fresh = f }
+  asked_for_like at o Step.Drop f = record { numbers = refl; input = refl; fresh = f }
+  asked_for_like at o _ f = record { numbers = refl; input = refl; fresh = f }
 
   asked_counts : (at : Connection → Now) (before : Wanted) (numbers : List ℕ) (o : Outcome) → Counts before numbers o → Counts before numbers (asked m at o)
   asked_counts at before numbers o h =
       let l = asked_for_like at o o.step h.fresh in
-      record { hits = l.numbers ∙ h.hits ∙ ap (λ xs. hits_by files numbers before (wanted xs)) (sym l.delivered); fresh = l.fresh }
+      record { hits = l.numbers ∙ h.hits ∙ ap (λ xs. hits_by files numbers before (wanted xs)) (sym l.input); fresh = l.fresh }
 
   -- ---- a segment
 

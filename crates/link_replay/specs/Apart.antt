@@ -11,7 +11,7 @@ use Rattle.web_pages.specs.declared.TheConstants.{MOST_POLLS}
 
 -- All of a complete page is acknowledged.
 abbrev pub is_at_end : List File → AppState → Bool
-is_at_end files part = is_page_whole files part.delivered part.captures && is_acknowledged files part
+is_at_end files part = is_page_whole files part.input part.snapshots && is_acknowledged files part
 
 -- A connection is not idle at the end of its page, so it is not there after its last poll. A CLOSED one has the state in which it was last
 -- asked.

@@ -25,7 +25,7 @@ abbrev pub one_hits : List File → ℕ → List Connection → List Connection 
 one_hits files place [] after = false
 one_hits files place (c ∷ before) [] = false
 one_hits files place (c ∷ before) (d ∷ after) =
-    becomes_hit files place (wanted c.part.delivered) (wanted d.part.delivered) || one_hits files place before after
+    becomes_hit files place (wanted c.part.input) (wanted d.part.input) || one_hits files place before after
 
 -- the number of events of a run at which this happened
 abbrev pub hits_over : List File → ℕ → List Event → AbstractNode → ℕ

@@ -317,11 +317,11 @@ module _ (m : AppSpec) (G : ℕ → Side → Connection → List Sent → Type 0
       (λ k x p z. other k x (serving (client_sockets x) w.node.connections) w.sent (entry (FromClient (suc n)) new (ticks_of w.node.history) 0 (model false s)) z (λ u. absurd (cc)) (λ u. p (let r : suc n ≡ suc k = cc in omega (arith, r))))))
 
   abbrev pub Own : (AbstractClient → ClientStep) → Type 0
-  Own act = (w : World) (k : ℕ) (side : Side) (c : Connection) → ((o : ℕ) → All IsSnapshot (era side.history c o).captures) → G k side c w.sent → Refines w k side c (act side.client)
+  Own act = (w : World) (k : ℕ) (side : Side) (c : Connection) → ((o : ℕ) → All IsSnapshot (era side.history c o).snapshots) → G k side c w.sent → Refines w k side c (act side.client)
 
   -- what the steps of a client do
   pub record OnClients : Type 0 where
-    pub took : (w : World) (k j : ℕ) (side : Side) (c : Connection) (number : ℕ) (e : Sent) → ((o : ℕ) → All IsSnapshot (era side.history c o).captures) → slice_get w.sent j ≡ Some e → e.who ≡ to k → G k side c w.sent → Refines w k (marked side number e) c (client_takes side.client (seg e))
+    pub took : (w : World) (k j : ℕ) (side : Side) (c : Connection) (number : ℕ) (e : Sent) → ((o : ℕ) → All IsSnapshot (era side.history c o).snapshots) → slice_get w.sent j ≡ Some e → e.who ≡ to k → G k side c w.sent → Refines w k (marked side number e) c (client_takes side.client (seg e))
     pub opens : Own client_opens
     pub again : Own client_again
     pub closes : Own client_closes
@@ -433,7 +433,7 @@ module _ (m : AppSpec) (G : ℕ → Side → Connection → List Sent → Type 0
         subst (λ x. Framed (node_handles m served v (Arrived (client_sockets side) x))) q
         (arrives_framed v n j (marked side k e) e vg (put_fits w n side (marked side k e) at refl refl fw) (get_set_same w.sides n side (marked side k e) at) sent who (λ c. (clean_before side k e c).1))
 
-    eras_fit : (w : World) (n : ℕ) (side : Side) → FitWorld w → slice_get w.sides n ≡ Some side → (o : ℕ) → All IsSnapshot (era side.history (serving (client_sockets side) w.node.connections) o).captures
+    eras_fit : (w : World) (n : ℕ) (side : Side) → FitWorld w → slice_get w.sides n ≡ Some side → (o : ℕ) → All IsSnapshot (era side.history (serving (client_sockets side) w.node.connections) o).snapshots
     eras_fit w n side f at o = era_fits side.history (serving (client_sockets side) w.node.connections) (f.sides n side at).eras (serving_fits (client_sockets side) w.node.connections f.node.conns) o
 
     to_client : (w : World) (n k j : ℕ) (e : Sent) (s : PlainSegment) (side : Side) → Framed w → FitWorld w → slice_get w.sides n ≡ Some side → slice_get w.sent j ≡ Some e → e.who ≡ to n → seg e ≡ s

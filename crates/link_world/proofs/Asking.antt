@@ -183,7 +183,7 @@ pub record Row (c d : Connection) (s : PlainSegment) : Type 0 where
   pub more : d.taken ≡ c.taken + count
   pub most : count ≤ length s.text + one_if (has_fin s.flags)
   pub handed : ℕ
-  pub delivered : length d.part.delivered ≤ length c.part.delivered + handed
+  pub input : length d.part.input ≤ length c.part.input + handed
   pub handed_text : handed ≤ length s.text
   pub handed_taken : handed ≤ count
 
@@ -196,9 +196,9 @@ pub record Refines (c d : Connection) (s : PlainSegment) : Type 0 where
 record Stays (c d : Connection) : Type 0 where
   peer : d.irs ≡ c.irs
   taken : d.taken ≡ c.taken
-  delivered : d.part.delivered ≡ c.part.delivered
+  input : d.part.input ≡ c.part.input
 
-as_long : (p q : AppState) → q.delivered ≡ p.delivered → length q.delivered ≡ length p.delivered
+as_long : (p q : AppState) → q.input ≡ p.input → length q.input ≡ length p.input
 as_long p q e = ap (λ (x : List ℕ). length x) e
 
 abbrev row_none : (c d : Connection) (s : PlainSegment) → Stays c d → Row c d s
@@ -208,7 +208,7 @@ row_none c d s g = record {
   more = (let z = g.taken in omega (arith, z));
   most = omega arith;
   handed = 0;
-  delivered = omega (arith, as_long c.part d.part g.delivered);
+  input = omega (arith, as_long c.part d.part g.input);
   handed_text = omega arith;
   handed_taken = omega arith;
 }
@@ -216,15 +216,15 @@ row_none c d s g = record {
 takes_none : (c d : Connection) (s : PlainSegment) → Stays c d → Refines c d s
 takes_none c d s g = record { row = row_none c d s g; place = λ l. absurd (let z : 0 < 0 = l in omega (arith, z)) }
 
-row_text : (c d : Connection) (s : PlainSegment) → d.irs ≡ c.irs → d.taken ≡ c.taken + length s.text → length d.part.delivered ≤ length c.part.delivered + length s.text → Row c d s
-row_text c d s p t h = record { peer = p; count = length s.text; more = t; most = omega arith; handed = length s.text; delivered = h; handed_text = omega arith; handed_taken = omega arith }
+row_text : (c d : Connection) (s : PlainSegment) → d.irs ≡ c.irs → d.taken ≡ c.taken + length s.text → length d.part.input ≤ length c.part.input + length s.text → Row c d s
+row_text c d s p t h = record { peer = p; count = length s.text; more = t; most = omega arith; handed = length s.text; input = h; handed_text = omega arith; handed_taken = omega arith }
 
-row_fin : (c d : Connection) (s : PlainSegment) → has_fin s.flags ≡ true → d.irs ≡ c.irs → d.taken ≡ c.taken + (length s.text + 1) → length d.part.delivered ≤ length c.part.delivered + length s.text → Row c d s
-row_fin c d s f p t h = record { peer = p; count = length s.text + 1; more = t; most = omega (arith, ap one_if f); handed = length s.text; delivered = h; handed_text = omega arith; handed_taken = omega arith }
+row_fin : (c d : Connection) (s : PlainSegment) → has_fin s.flags ≡ true → d.irs ≡ c.irs → d.taken ≡ c.taken + (length s.text + 1) → length d.part.input ≤ length c.part.input + length s.text → Row c d s
+row_fin c d s f p t h = record { peer = p; count = length s.text + 1; more = t; most = omega (arith, ap one_if f); handed = length s.text; input = h; handed_text = omega arith; handed_taken = omega arith }
 
 module _ (m : AppSpec) (pages : Pages) (lawful : IsPaged m pages) where
-  hears_at_most : (numbers : List ℕ) (p : AppState) (text : List ℕ) → length (hears m numbers p text).part.delivered ≤ length p.delivered + length text
-  hears_at_most numbers p text = omega (arith, ap (λ (y : List ℕ). length y) (hears_is m pages lawful numbers p text).delivered, length-append p.delivered text)
+  hears_at_most : (numbers : List ℕ) (p : AppState) (text : List ℕ) → length (hears m numbers p text).part.input ≤ length p.input + length text
+  hears_at_most numbers p text = omega (arith, ap (λ (y : List ℕ). length y) (hears_is m pages lawful numbers p text).input, length-append p.input text)
 
   pub asked_takes : (now : Connection → Now) (c : Connection) (s : PlainSegment) (o : Outcome) → Refines c o.connection s → Refines c (asked m now o).connection s
   asked_takes now c s o t =
@@ -232,9 +232,9 @@ module _ (m : AppSpec) (pages : Pages) (lawful : IsPaged m pages) where
       (λ a fresh. (let b : Connection = prepared m (now o.connection) o.connection o.numbers in
       let d : Connection = (ask m (now o.connection) fresh o.connection o.numbers).connection in
       let u = wanted_unmoved m (m.want o.numbers b.part) fresh b o.numbers in
-      let delivered : d.part.delivered ≡ o.connection.part.delivered = ap (λ (p : AppState). p.delivered) u.part ∙ lawful.prepare_delivered o.numbers o.connection.part (now o.connection) in
+      let delivered : d.part.input ≡ o.connection.part.input = ap (λ (p : AppState). p.input) u.part ∙ lawful.prepare_input o.numbers o.connection.part (now o.connection) in
       let r = t.row in
-      let h = r.delivered in
+      let h = r.input in
       record {
         row = record {
           peer = u.irs ∙ r.peer;
@@ -242,7 +242,7 @@ module _ (m : AppSpec) (pages : Pages) (lawful : IsPaged m pages) where
           more = u.taken ∙ r.more;
           most = r.most;
           handed = r.handed;
-          delivered = omega (arith, as_long o.connection.part d.part delivered, h);
+          input = omega (arith, as_long o.connection.part d.part delivered, h);
           handed_text = r.handed_text;
           handed_taken = r.handed_taken;
         };
@@ -255,46 +255,46 @@ module _ (m : AppSpec) (pages : Pages) (lawful : IsPaged m pages) where
   established_row acked b c numbers s g =
       let with_fin = ap (λ n. n + (length s.text + 1)) g.taken in
       let with_text = ap (λ n. n + length s.text) g.taken in
-      let output : length (hears m numbers c.part s.text).part.delivered ≤ length b.part.delivered + length s.text = omega (arith, as_long b.part c.part g.delivered, hears_at_most numbers c.part s.text) in
+      let output : length (hears m numbers c.part s.text).part.input ≤ length b.part.input + length s.text = omega (arith, as_long b.part c.part g.input, hears_at_most numbers c.part s.text) in
       choose (λ (o : Outcome). Row b o.connection s) (has_fin s.flags) _ _
       (λ f. choose (λ (o : Outcome). Row b o.connection s) (ltb 0 c.len) _ _ (λ l. row_fin b _ s f g.peer with_fin output) (λ l. row_fin b _ s f g.peer with_fin output))
       (λ f. choose (λ (o : Outcome). Row b o.connection s) (not acked && not (has_text s)) _ _ (λ l. row_text b _ s g.peer with_text output)
       (λ l. choose (λ (o : Outcome). Row b o.connection s) (ltb 0 c.len) _ _ (λ i. row_text b _ s g.peer with_text output) (λ i. row_text b _ s g.peer with_text output)))
 
-  connects_at_most : (c : Connection) (numbers : List ℕ) (s : PlainSegment) → length (connects m c numbers s).connection.part.delivered ≤ length c.part.delivered + length s.text
+  connects_at_most : (c : Connection) (numbers : List ℕ) (s : PlainSegment) → length (connects m c numbers s).connection.part.input ≤ length c.part.input + length s.text
   connects_at_most c numbers s =
       let start : After = m.connected numbers c.sockets.own_port.0 in
-      let none : length start.part.delivered ≡ 0 = ap (λ (x : List ℕ). length x) (lawful.connected_delivered numbers c.sockets.own_port.0) in
+      let none : length start.part.input ≡ 0 = ap (λ (x : List ℕ). length x) (lawful.connected_input numbers c.sockets.own_port.0) in
       omega (arith, none, hears_at_most start.numbers start.part s.text)
 
   -- text is discarded
-  let_go_fin : (c d : Connection) (s : PlainSegment) → has_fin s.flags ≡ true → d.irs ≡ c.irs → d.taken ≡ c.taken + (length s.text + 1) → d.part.delivered ≡ c.part.delivered → Row c d s
+  let_go_fin : (c d : Connection) (s : PlainSegment) → has_fin s.flags ≡ true → d.irs ≡ c.irs → d.taken ≡ c.taken + (length s.text + 1) → d.part.input ≡ c.part.input → Row c d s
   let_go_fin c d s f p t h = row_fin c d s f p t (omega (arith, as_long c.part d.part h))
 
-  let_go_text : (c d : Connection) (s : PlainSegment) → d.irs ≡ c.irs → d.taken ≡ c.taken + length s.text → d.part.delivered ≡ c.part.delivered → Row c d s
+  let_go_text : (c d : Connection) (s : PlainSegment) → d.irs ≡ c.irs → d.taken ≡ c.taken + length s.text → d.part.input ≡ c.part.input → Row c d s
   let_go_text c d s p t h = row_text c d s p t (omega (arith, as_long c.part d.part h))
 
   by_state_row : (st : State) (acked : Bool) (c : Connection) (numbers : List ℕ) (s : PlainSegment) → Row c (by_state m st acked c numbers s).connection s
   unfolding fin_acked fin_waits
   by_state_row SynRcvd true c numbers s = row_text c _ s refl refl (connects_at_most c numbers s)
-  by_state_row SynRcvd false c numbers s = row_none c _ s record { peer = refl; taken = refl; delivered = refl }
-  by_state_row Established true c numbers s = established_row true c _ (m.acked numbers c.part c.len).numbers s record { peer = refl; taken = refl; delivered = lawful.acked_delivered numbers c.part c.len }
-  by_state_row Established false c numbers s = established_row false c c numbers s record { peer = refl; taken = refl; delivered = refl }
-  by_state_row CloseWait true c numbers s = row_none c _ s record { peer = refl; taken = refl; delivered = lawful.acked_delivered numbers c.part c.len }
-  by_state_row CloseWait false c numbers s = row_none c _ s record { peer = refl; taken = refl; delivered = refl }
+  by_state_row SynRcvd false c numbers s = row_none c _ s record { peer = refl; taken = refl; input = refl }
+  by_state_row Established true c numbers s = established_row true c _ (m.acked numbers c.part c.len).numbers s record { peer = refl; taken = refl; input = lawful.acked_input numbers c.part c.len }
+  by_state_row Established false c numbers s = established_row false c c numbers s record { peer = refl; taken = refl; input = refl }
+  by_state_row CloseWait true c numbers s = row_none c _ s record { peer = refl; taken = refl; input = lawful.acked_input numbers c.part c.len }
+  by_state_row CloseWait false c numbers s = row_none c _ s record { peer = refl; taken = refl; input = refl }
   by_state_row FinWait1 true c numbers s = choose (λ (o : Outcome). Row c o.connection s) (has_fin s.flags) _ _ (λ f. let_go_fin c _ s f refl refl refl) (λ f. let_go_text c _ s refl refl refl)
   by_state_row FinWait1 false c numbers s =
       choose (λ (o : Outcome). Row c o.connection s) (has_fin s.flags) _ _ (λ f. let_go_fin c _ s f refl refl refl)
-      (λ f. choose (λ (o : Outcome). Row c o.connection s) (has_text s) _ _ (λ l. let_go_text c _ s refl refl refl) (λ l. row_none c _ s record { peer = refl; taken = refl; delivered = refl }))
+      (λ f. choose (λ (o : Outcome). Row c o.connection s) (has_text s) _ _ (λ l. let_go_text c _ s refl refl refl) (λ l. row_none c _ s record { peer = refl; taken = refl; input = refl }))
   by_state_row FinWait2 acked c numbers s =
       choose (λ (o : Outcome). Row c o.connection s) (has_fin s.flags) _ _ (λ f. let_go_fin c _ s f refl refl refl)
-      (λ f. choose (λ (o : Outcome). Row c o.connection s) (has_text s) _ _ (λ l. let_go_text c _ s refl refl refl) (λ l. row_none c _ s record { peer = refl; taken = refl; delivered = refl }))
-  by_state_row Closing true c numbers s = row_none c _ s record { peer = refl; taken = refl; delivered = refl }
-  by_state_row Closing false c numbers s = row_none c _ s record { peer = refl; taken = refl; delivered = refl }
-  by_state_row LastAck true c numbers s = row_none c _ s record { peer = refl; taken = refl; delivered = refl }
-  by_state_row LastAck false c numbers s = row_none c _ s record { peer = refl; taken = refl; delivered = refl }
-  by_state_row TimeWait acked c numbers s = row_none c _ s record { peer = refl; taken = refl; delivered = refl }
-  by_state_row Closed acked c numbers s = row_none c _ s record { peer = refl; taken = refl; delivered = refl }
+      (λ f. choose (λ (o : Outcome). Row c o.connection s) (has_text s) _ _ (λ l. let_go_text c _ s refl refl refl) (λ l. row_none c _ s record { peer = refl; taken = refl; input = refl }))
+  by_state_row Closing true c numbers s = row_none c _ s record { peer = refl; taken = refl; input = refl }
+  by_state_row Closing false c numbers s = row_none c _ s record { peer = refl; taken = refl; input = refl }
+  by_state_row LastAck true c numbers s = row_none c _ s record { peer = refl; taken = refl; input = refl }
+  by_state_row LastAck false c numbers s = row_none c _ s record { peer = refl; taken = refl; input = refl }
+  by_state_row TimeWait acked c numbers s = row_none c _ s record { peer = refl; taken = refl; input = refl }
+  by_state_row Closed acked c numbers s = row_none c _ s record { peer = refl; taken = refl; input = refl }
 
   pub some_place : (s : PlainSegment) (n : ℕ) → n ≤ length s.text + one_if (has_fin s.flags) → 0 < n → occupies_sequence_space s ≡ true
   some_place s n h l = placed (ltb 0 (length s.text)) (has_syn s.flags) (has_fin s.flags) refl refl
@@ -308,8 +308,8 @@ module _ (m : AppSpec) (pages : Pages) (lawful : IsPaged m pages) where
   pub segment_takes : (c : Connection) (numbers : List ℕ) (s : PlainSegment) → Refines c (on_segment m c numbers s).connection s
   unfolding on_segment
   segment_takes c numbers s =
-      choose (λ (o : Outcome). Refines c o.connection s) (has_rst s.flags) _ _ (λ r. takes_none c _ s record { peer = refl; taken = refl; delivered = refl })
-      (λ r. choose (λ (o : Outcome). Refines c o.connection s) (is_out_of_order c s) _ _ (λ i. takes_none c _ s record { peer = refl; taken = refl; delivered = refl })
+      choose (λ (o : Outcome). Refines c o.connection s) (has_rst s.flags) _ _ (λ r. takes_none c _ s record { peer = refl; taken = refl; input = refl })
+      (λ r. choose (λ (o : Outcome). Refines c o.connection s) (is_out_of_order c s) _ _ (λ i. takes_none c _ s record { peer = refl; taken = refl; input = refl })
       (λ i. let g = by_state_row c.state (is_acked c s) c numbers s in
       record {
         row = g;
@@ -323,19 +323,19 @@ module _ (m : AppSpec) (pages : Pages) (lawful : IsPaged m pages) where
       }))
 
   beat_stays : (b : Beat) (c : Connection) (numbers : List ℕ) → Stays c (by_beat m b c numbers).connection
-  beat_stays Beat.Wait c numbers = record { peer = refl; taken = refl; delivered = refl }
-  beat_stays Beat.Again c numbers = record { peer = refl; taken = refl; delivered = refl }
-  beat_stays Beat.GiveUp c numbers = record { peer = refl; taken = refl; delivered = refl }
+  beat_stays Beat.Wait c numbers = record { peer = refl; taken = refl; input = refl }
+  beat_stays Beat.Again c numbers = record { peer = refl; taken = refl; input = refl }
+  beat_stays Beat.GiveUp c numbers = record { peer = refl; taken = refl; input = refl }
 
   pub tick_takes : (c : Connection) (numbers : List ℕ) (s : PlainSegment) → Refines c (on_tick m c numbers).connection s
   tick_takes c numbers s =
       takes_none c (on_tick m c numbers).connection s
       (on_tick_by m (λ o. Stays c o.connection) c numbers record {
-        none = record { peer = refl; taken = refl; delivered = refl };
+        none = record { peer = refl; taken = refl; input = refl };
         beats = λ r b. beat_stays b c numbers;
-        rested = λ e. record { peer = refl; taken = refl; delivered = refl };
-        ends = record { peer = refl; taken = refl; delivered = refl };
-        polled = λ e l. record { peer = refl; taken = refl; delivered = (lawful.polled_same numbers c.part).delivered };
+        rested = λ e. record { peer = refl; taken = refl; input = refl };
+        ends = record { peer = refl; taken = refl; input = refl };
+        polled = λ e l. record { peer = refl; taken = refl; input = (lawful.polled_same numbers c.part).input };
       })
 
   -- what a connection sends acknowledges all that it accepted

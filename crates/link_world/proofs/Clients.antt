@@ -60,7 +60,7 @@ not_opening history Is.Idle x o h = absurd (cc)
 not_opening history Is.Opening x o h = absurd (cc)
 not_opening history _ x o h = refl
 
-module _ (m : AppSpec) (speaker : Speaker) (laws : HasOutputModel m speaker) (history : List PastConnection) (conn : Connection) (fit : (o : ℕ) → All IsSnapshot (era history conn o).captures) where
+module _ (m : AppSpec) (speaker : Speaker) (laws : HasOutputModel m speaker) (history : List PastConnection) (conn : Connection) (fit : (o : ℕ) → All IsSnapshot (era history conn o).snapshots) where
   -- its own counts and its window do not matter to what it received
   recounts : (c : AbstractClient) (o : ℕ) (a u : ℕ) (f : FinAt) (w : ℕ) → HasOpened speaker c history conn o → HasOpened speaker (record c { acked = a; out = u; fin = f; window = w }) history conn o
   recounts c o a u f w h = record {
@@ -133,16 +133,16 @@ module _ (m : AppSpec) (speaker : Speaker) (laws : HasOutputModel m speaker) (hi
   after_deaf _ h e = cc
 
   next_place : (c : AbstractClient) (o at : ℕ) (s : PlainSegment) → length c.request ≤ 4096 → HasOpened speaker c history conn o → is_receiving c.state ≡ true → s.seq ≡ c.expected →
-      s.seq ≡ wrap ((era history conn o).iss + 1 + at) → at ≤ length (speaker.text c.request (era history conn o).captures) → at ≡ length c.received
+      s.seq ≡ wrap ((era history conn o).iss + 1 + at) → at ≤ length (speaker.text c.request (era history conn o).snapshots) → at ≡ length c.received
   next_place c o at s low h i e q l =
-      let short = laws.short c.request (era history conn o).captures low (fit o) in
+      let short = laws.short c.request (era history conn o).snapshots low (fit o) in
       same_place ((era history conn o).iss + 1) at (length c.received) (omega (arith, short, l)) (omega (arith, short, h.part.fits)) (sym q ∙ e ∙ h.expected i)
 
   text_taken : (c : AbstractClient) (o : ℕ) (s : PlainSegment) → length c.request ≤ 4096 → HasOpened speaker c history conn o → is_receiving c.state ≡ true → s.seq ≡ c.expected →
-      IsText speaker c (era history conn o).iss (era history conn o).captures s → HasOpened speaker (takes_text c s) history conn o
+      IsText speaker c (era history conn o).iss (era history conn o).snapshots s → HasOpened speaker (takes_text c s) history conn o
   text_taken c o s low h i e n =
       let here : n.at ≡ length c.received = next_place c o n.at s low h i e n.seq (omega (arith, n.part.fits)) in
-      let p : IsPart (speaker.text c.request (era history conn o).captures) s.text (length c.received) = subst (λ x. IsPart (speaker.text c.request (era history conn o).captures) s.text x) here n.part in
+      let p : IsPart (speaker.text c.request (era history conn o).snapshots) s.text (length c.received) = subst (λ x. IsPart (speaker.text c.request (era history conn o).snapshots) s.text x) here n.part in
       let moved : wrap (c.expected + length s.text + 0) ≡ wrap ((era history conn o).iss + 1 + length (c.received ++ s.text)) =
       ap (λ x. wrap (x + length s.text + 0)) (h.expected i) ∙ omega (arith, length-append c.received s.text) in
       let x : HasOpened speaker (took c false s.text) history conn o = record {
@@ -150,16 +150,16 @@ module _ (m : AppSpec) (speaker : Speaker) (laws : HasOutputModel m speaker) (hi
         then_live = h.then_live;
         live_then = h.live_then;
         asked = h.asked;
-        part = part_joins (speaker.text c.request (era history conn o).captures) c.received s.text h.part p;
+        part = part_joins (speaker.text c.request (era history conn o).snapshots) c.received s.text h.part p;
         expected = λ y. moved;
         all = λ y. absurd (not_closed c.state i y);
       } in
       subst (λ b. HasOpened speaker (took c b s.text) history conn o) (sym n.no_fin) x
 
   fin_taken : (c : AbstractClient) (o : ℕ) (s : PlainSegment) → length c.request ≤ 4096 → HasOpened speaker c history conn o → is_receiving c.state ≡ true → s.seq ≡ c.expected → has_fin s.flags ≡ true →
-      IsFin speaker c (era history conn o).iss (era history conn o).captures s → HasOpened speaker (takes_text c s) history conn o
+      IsFin speaker c (era history conn o).iss (era history conn o).snapshots s → HasOpened speaker (takes_text c s) history conn o
   fin_taken c o s low h i e f n =
-      let k : List Snapshot = (era history conn o).captures in
+      let k : List Snapshot = (era history conn o).snapshots in
       let none : c.received ++ [] ≡ c.received = append_nothing c.received in
       let part : IsPart (speaker.text c.request k) (c.received ++ []) 0 = subst (λ x. IsPart (speaker.text c.request k) x 0) (sym none) h.part in
       let here : n.at ≡ length c.received = next_place c o n.at s low h i e n.seq (omega (arith, n.ends.end)) in
@@ -176,7 +176,7 @@ module _ (m : AppSpec) (speaker : Speaker) (laws : HasOutputModel m speaker) (hi
 
   -- text or FIN at the expected number of a client that asked
   placed : (c : AbstractClient) (P : Type 0) (o : ℕ) (s : PlainSegment) → length c.request ≤ 4096 → HasOpened speaker c history conn o → has_rst s.flags ≡ false → has_syn s.flags ≡ false → occupies_sequence_space s ≡ true →
-      is_receiving c.state ≡ true → s.seq ≡ c.expected → NodeSaid speaker c P (era history conn o).iss (era history conn o).captures s → HasOpened speaker (takes_text c s) history conn o
+      is_receiving c.state ≡ true → s.seq ≡ c.expected → NodeSaid speaker c P (era history conn o).iss (era history conn o).snapshots s → HasOpened speaker (takes_text c s) history conn o
   placed c P o s low h nr ns pl i e (node_reset r) = absurd (cc)
   placed c P o s low h nr ns pl i e (node_syn r n) = absurd (let z : has_syn s.flags ≡ true = n.syn in cc)
   placed c P o s low h nr ns pl i e (node_ack r n) = absurd (nothing_placed s n.no_syn n.no_fin n.no_text pl)
@@ -186,7 +186,7 @@ module _ (m : AppSpec) (speaker : Speaker) (laws : HasOutputModel m speaker) (hi
   in_order_good : (client c : AbstractClient) (P : Type 0) (o : ℕ) (s : PlainSegment) → is_unasked client.state ≡ false →
       c.request ≡ client.request → own_first c ≡ own_first client →
       Steady c → HasOpened speaker c history conn o → has_rst s.flags ≡ false →
-      NodeSaid speaker c P (era history conn o).iss (era history conn o).captures s → TookGood speaker client history conn (Some o) (Some o) (takes_in_order c s)
+      NodeSaid speaker c P (era history conn o).iss (era history conn o).snapshots s → TookGood speaker client history conn (Some o) (Some o) (takes_in_order c s)
   unfolding takes_in_order
   in_order_good client c P o s un r f steady h nr output =
       let on : (owed : Bool) → TookGood speaker client history conn (Some o) (Some o) (sends_next owed c) =
@@ -203,14 +203,14 @@ module _ (m : AppSpec) (speaker : Speaker) (laws : HasOutputModel m speaker) (hi
 
   -- a segment at a client that has opened
   asked_good : (client : AbstractClient) (P : Type 0) (o : ℕ) (s : PlainSegment) → Steady client → HasOpened speaker client history conn o → has_rst s.flags ≡ false →
-      NodeSaid speaker client P (era history conn o).iss (era history conn o).captures s → TookGood speaker client history conn (Some o) (Some o) (takes_in_order (hears_ack client s) s)
+      NodeSaid speaker client P (era history conn o).iss (era history conn o).snapshots s → TookGood speaker client history conn (Some o) (Some o) (takes_in_order (hears_ack client s) s)
   asked_good client P o s steady h nr output =
       let g : Hearing client (hears_ack client s) = hears_ack_is client s steady.out_fits in
       let c : AbstractClient = recounted client g.acked g.out g.fin in
       subst (λ x. TookGood speaker client history conn (Some o) (Some o) (takes_in_order x s)) (sym g.is)
       (in_order_good client c P o s h.asked refl refl record { short = steady.short; low = steady.low; out_fits = g.fits }
       (recounts client o g.acked g.out g.fin client.window h) nr
-      (node_later m speaker laws client c P P (era history conn o).iss (era history conn o).iss (era history conn o).captures (era history conn o).captures [] s refl (λ x. x) refl (sym (append_nothing (era history conn o).captures)) output))
+      (node_later m speaker laws client c P P (era history conn o).iss (era history conn o).iss (era history conn o).snapshots (era history conn o).snapshots [] s refl (λ x. x) refl (sym (append_nothing (era history conn o).snapshots)) output))
 
   -- a step that sends the given segment, or nothing
   stands : (client d : AbstractClient) (opened : Option ℕ) → becomes_opened client.state d.state ≡ false → d.request ≡ client.request → own_first d ≡ own_first client → Steady d → OpenedGood speaker d history conn opened →
@@ -253,7 +253,7 @@ module _ (m : AppSpec) (speaker : Speaker) (laws : HasOutputModel m speaker) (hi
 
   -- a client that opens
   opens_good : (client : AbstractClient) (P : Type 0) (s : PlainSegment) → client.state ≡ Is.Opening → Steady client → NotOpened client → is_live conn.state ≡ true →
-      has_rst s.flags ≡ false → has_syn s.flags ≡ true → NodeSaid speaker client P (era history conn (length history)).iss (era history conn (length history)).captures s →
+      has_rst s.flags ≡ false → has_syn s.flags ≡ true → NodeSaid speaker client P (era history conn (length history)).iss (era history conn (length history)).snapshots s →
       TookGood speaker client history conn None (Some (length history)) (sends_next true (opened_by client s))
   opens_good client P s st steady h lv nr sy (node_reset r) = absurd (cc)
   opens_good client P s st steady h lv nr sy (node_ack r n) = absurd (let z : has_syn s.flags ≡ false = n.no_syn in cc)
@@ -262,7 +262,7 @@ module _ (m : AppSpec) (speaker : Speaker) (laws : HasOutputModel m speaker) (hi
   opens_good client P s st steady h lv nr sy (node_syn r n) =
       let c : AbstractClient = opened_by client s in
       let none : [] ≡ client.received = sym h.nothing in
-      let k : List Snapshot = (era history conn (length history)).captures in
+      let k : List Snapshot = (era history conn (length history)).snapshots in
       let f : ℕ = (era history conn (length history)).iss in
       let e : wrap (s.seq + 1) ≡ wrap (f + 1 + 0) = ap (λ x. wrap (x + 1)) n.seq ∙ omega arith in
       let g : HasOpened speaker c history conn (length history) = record {
@@ -287,7 +287,7 @@ module _ (m : AppSpec) (speaker : Speaker) (laws : HasOutputModel m speaker) (hi
   not_early client st e n h = let z : is_early client.state ≡ is_early st = ap is_early e in let y : is_early client.state ≡ true = h.early in absurd (cc)
 
   by_good : (st : ClientState) (client : AbstractClient) (P : Type 0) (opened : Option ℕ) (s : PlainSegment) → client.state ≡ st → Steady client → OpenedGood speaker client history conn opened → has_rst s.flags ≡ false →
-      is_live conn.state ≡ true → NodeSaid speaker client P (era history conn (length history)).iss (era history conn (length history)).captures s → Took_it client opened (takes_by st client s)
+      is_live conn.state ≡ true → NodeSaid speaker client P (era history conn (length history)).iss (era history conn (length history)).snapshots s → Took_it client opened (takes_by st client s)
   unfolding takes_by
   by_good Is.Idle client P opened s st steady h nr lv output = record { next = opened; good = stays client opened steady h }
   by_good Is.Reset client P opened s st steady h nr lv output = record { next = opened; good = stays client opened steady h }
@@ -300,10 +300,10 @@ module _ (m : AppSpec) (speaker : Speaker) (laws : HasOutputModel m speaker) (hi
   by_good Is.Closing client P None s st steady h nr lv output = absurd (not_early client _ st refl h)
   by_good Is.Closed client P None s st steady h nr lv output = absurd (not_early client _ st refl h)
   by_good Is.Ended client P None s st steady h nr lv output = absurd (not_early client _ st refl h)
-  by_good Is.Opened client P (Some o) s st steady h nr lv output = record { next = Some o; good = asked_good client P o s steady h nr (subst (λ n. NodeSaid speaker client P (era history conn n).iss (era history conn n).captures s) (sym (h.live_then lv)) output) }
-  by_good Is.Closing client P (Some o) s st steady h nr lv output = record { next = Some o; good = asked_good client P o s steady h nr (subst (λ n. NodeSaid speaker client P (era history conn n).iss (era history conn n).captures s) (sym (h.live_then lv)) output) }
-  by_good Is.Closed client P (Some o) s st steady h nr lv output = record { next = Some o; good = asked_good client P o s steady h nr (subst (λ n. NodeSaid speaker client P (era history conn n).iss (era history conn n).captures s) (sym (h.live_then lv)) output) }
-  by_good Is.Ended client P (Some o) s st steady h nr lv output = record { next = Some o; good = asked_good client P o s steady h nr (subst (λ n. NodeSaid speaker client P (era history conn n).iss (era history conn n).captures s) (sym (h.live_then lv)) output) }
+  by_good Is.Opened client P (Some o) s st steady h nr lv output = record { next = Some o; good = asked_good client P o s steady h nr (subst (λ n. NodeSaid speaker client P (era history conn n).iss (era history conn n).snapshots s) (sym (h.live_then lv)) output) }
+  by_good Is.Closing client P (Some o) s st steady h nr lv output = record { next = Some o; good = asked_good client P o s steady h nr (subst (λ n. NodeSaid speaker client P (era history conn n).iss (era history conn n).snapshots s) (sym (h.live_then lv)) output) }
+  by_good Is.Closed client P (Some o) s st steady h nr lv output = record { next = Some o; good = asked_good client P o s steady h nr (subst (λ n. NodeSaid speaker client P (era history conn n).iss (era history conn n).snapshots s) (sym (h.live_then lv)) output) }
+  by_good Is.Ended client P (Some o) s st steady h nr lv output = record { next = Some o; good = asked_good client P o s steady h nr (subst (λ n. NodeSaid speaker client P (era history conn n).iss (era history conn n).snapshots s) (sym (h.live_then lv)) output) }
 
   -- any datagram of the node that is not stale
   pub client_takes_good : (client : AbstractClient) (opened : Option ℕ) (e : Sent) → Steady client → OpenedGood speaker client history conn opened → e.epoch ≡ length history →
@@ -319,7 +319,7 @@ module _ (m : AppSpec) (speaker : Speaker) (laws : HasOutputModel m speaker) (hi
       })
       (λ b. record { next = opened; good = stays client opened steady h }))
       (λ r. by_good client.state client (opened ≡ Some e.epoch) opened (seg e) refl steady h r (g.incarnations r fresh)
-      (subst (λ n. NodeSaid speaker client (opened ≡ Some e.epoch) (era history conn n).iss (era history conn n).captures (seg e)) fresh g.output))
+      (subst (λ n. NodeSaid speaker client (opened ≡ Some e.epoch) (era history conn n).iss (era history conn n).snapshots (seg e)) fresh g.output))
 
   -- its own acts
   says_syn : (client d : AbstractClient) → own_first d ≡ own_first client → ClientSaid client None (length history) (syn_of d)

@@ -339,7 +339,7 @@ module _ (m : AppSpec) (ports : AtPorts m) where
   never_acked client at_epoch s (said_data d) n a = absurd (let z : false ≡ true = d.opened_is in cc)
 
   open_exact : (speaker : Speaker) (k : ℕ) (client d : AbstractClient) (history : List PastConnection) (c : Connection) (sent : List Sent) (s : PlainSegment) (P : Type 0) → is_live c.state ≡ true → Good speaker k client None history c sent →
-      has_rst s.flags ≡ false → has_syn s.flags ≡ true → NodeSaid speaker client P (era history c (length history)).iss (era history c (length history)).captures s → d.received ≡ client.received → d.expected ≡ wrap (s.seq + 1) → has_closed d.state ≡ false →
+      has_rst s.flags ≡ false → has_syn s.flags ≡ true → NodeSaid speaker client P (era history c (length history)).iss (era history c (length history)).snapshots s → d.received ≡ client.received → d.expected ≡ wrap (s.seq + 1) → has_closed d.state ≡ false →
       Exact k d history c (length history) sent
   open_exact speaker k client d history c sent s P l g nr sy output r e n =
       let empty : length d.received ≡ 0 = ap (λ (x : List ℕ). length x) (r ∙ g.opened_good.nothing) in
@@ -348,7 +348,7 @@ module _ (m : AppSpec) (ports : AtPorts m) where
       let y = (unopened speaker client c c.state l (g.connection l).state).1 in
       let y0 = y.acked in
       let y1 = y.len in
-      let q : s.seq ≡ wrap (era history c (length history)).iss = syn_seq speaker client P (era history c (length history)).iss (era history c (length history)).captures s nr sy output in
+      let q : s.seq ≡ wrap (era history c (length history)).iss = syn_seq speaker client P (era history c (length history)).iss (era history c (length history)).snapshots s nr sy output in
       record {
         expected = e ∙ ap (λ x. wrap (x + 1)) q ∙ wrap_wrap (era history c (length history)).iss 1 ∙ ap wrap (omega (arith, z));
         low = λ x. omega (arith, y0, z);
@@ -368,7 +368,7 @@ module _ (m : AppSpec) (ports : AtPorts m) where
   kind_exact speaker k client d history c sent (Some o) e (took_open st nr sy r x n) fresh f en t g y = absurd (let h : is_unasked client.state ≡ false = g.opened_good.asked in let z : is_unasked client.state ≡ true = ap is_unasked st in cc)
   kind_exact speaker k client d history c sent None e (took_open st nr sy r x n) fresh f en t g y =
       let l : is_live c.state ≡ true = t.incarnations nr fresh in
-      let o : Exact k d history c (length history) sent = open_exact speaker k client d history c sent (seg e) (None ≡ Some e.epoch) l g nr sy (subst (λ z. NodeSaid speaker client (None ≡ Some e.epoch) (era history c z).iss (era history c z).captures (seg e)) fresh t.output) r x n in
+      let o : Exact k d history c (length history) sent = open_exact speaker k client d history c sent (seg e) (None ≡ Some e.epoch) l g nr sy (subst (λ z. NodeSaid speaker client (None ≡ Some e.epoch) (era history c z).iss (era history c z).snapshots (seg e)) fresh t.output) r x n in
       exact_either (becomes_opened client.state d.state) o
     where
       exact_either : (b : Bool) → Exact k d history c (length history) sent → ExactOpen k d history c sent (if b then Some (length history) else None)
@@ -396,7 +396,7 @@ module _ (m : AppSpec) (ports : AtPorts m) where
         };
       }
 
-  took : (w : World) (k j : ℕ) (side : Side) (c : Connection) (number : ℕ) (e : Sent) → ((o : ℕ) → All IsSnapshot (era side.history c o).captures) → slice_get w.sent j ≡ Some e → e.who ≡ to k → G k side c w.sent →
+  took : (w : World) (k j : ℕ) (side : Side) (c : Connection) (number : ℕ) (e : Sent) → ((o : ℕ) → All IsSnapshot (era side.history c o).snapshots) → slice_get w.sent j ≡ Some e → e.who ≡ to k → G k side c w.sent →
       Refines m G other reset evict mark w k (marked side number e) c (client_takes side.client (seg e))
   took w k j side c number e fit sent who g =
       let n : Counted side.client (seg e) (client_takes side.client (seg e)) = client_counted side.client (seg e) in

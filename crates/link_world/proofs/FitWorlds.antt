@@ -2,7 +2,7 @@
 use Rattle.link_world.proofs.Prelude.{All, ◌≡◌, ℕ, zero, suc, ◌<◌, Bool, false, List, [], ◌∷◌, ◌++◌, length, get_or, refl, sym, ap, ◌∙◌, subst, Option, Some, None, slice_get, position, ltb, PlainSegment, AppSpec, IsSteady, IsSnapshot, IsAddr, Sockets, Connection, closed, serves, same_sockets, on_tick, Reply, Arrived, Periodic, Echo, Tcp, AbstractNode, NodeStep, snapshot, connection_in, step, ClientStep, World, Side, PastConnection, Content, client_sockets, retires, retires_in, addressed, posts, posts_reply, node_stepped, node_handles, with_client, with_side, posts_of_client, client_stepped, past_connection_of, Who, FromNode, era, choose, get_map, get_set, here, there, FitConn, all_nil, asked_fits, on_tick_fits, FitNode, FitStep, index_fits, node_snapshot, still_fits, happened_fits, arrives_fits}
 
 abbrev pub FitPast : List PastConnection → Type 0
-FitPast history = (n : ℕ) → All IsSnapshot (get_or history n (past_connection_of closed)).captures
+FitPast history = (n : ℕ) → All IsSnapshot (get_or history n (past_connection_of closed)).snapshots
 
 pub record FitSide (side : Side) : Type 0 where
   pub eras : FitPast side.history
@@ -16,10 +16,10 @@ pub record FitWorld (w : World) : Type 0 where
   pub node : FitNode w.node
   pub sides : FitSides w.sides
 
-pub era_fits : (history : List PastConnection) (c : Connection) → FitPast history → FitConn c → (o : ℕ) → All IsSnapshot (era history c o).captures
-era_fits history c p f o = choose (λ (e : PastConnection). All IsSnapshot e.captures) (ltb o (length history)) _ _ (λ e. p o) (λ e. f.captures)
+pub era_fits : (history : List PastConnection) (c : Connection) → FitPast history → FitConn c → (o : ℕ) → All IsSnapshot (era history c o).snapshots
+era_fits history c p f o = choose (λ (e : PastConnection). All IsSnapshot e.snapshots) (ltb o (length history)) _ _ (λ e. p o) (λ e. f.snapshots)
 
-past_push : (history : List PastConnection) (x : PastConnection) → FitPast history → All IsSnapshot x.captures → FitPast (history ++ x ∷ [])
+past_push : (history : List PastConnection) (x : PastConnection) → FitPast history → All IsSnapshot x.snapshots → FitPast (history ++ x ∷ [])
 past_push [] x h f zero = f
 past_push [] x h f (suc n) = all_nil IsSnapshot
 past_push (a ∷ history) x h f zero = h zero
@@ -32,7 +32,7 @@ buries_fit (Some g) sides f h k side x =
     let s : FitSide m.from = h k m.from m.get in
     subst (λ (o : Side). FitSide o) m.is
     (choose (λ (o : Side). FitSide o) (same_sockets g.sockets (client_sockets m.from)) _ _
-    (λ e. record { eras = past_push m.from.history (record { iss = g.iss; captures = g.part.captures }) s.eras (f g refl).captures; addr = s.addr; port = s.port })
+    (λ e. record { eras = past_push m.from.history (record { iss = g.iss; snapshots = g.part.snapshots }) s.eras (f g refl).snapshots; addr = s.addr; port = s.port })
     (λ e. s))
 
 posts_fit : (w : World) (who : Who) (again : Bool) (content : Content) → FitWorld w → FitWorld (posts w who again content)

@@ -45,31 +45,31 @@ pub record AtSyn (speaker : Speaker) (c : Connection) : Type 0 where
   pub port : speaker.at c.sockets.own_port.0 ≡ true
   pub taken : c.taken ≡ 0
   pub len : c.len ≡ 1
-  pub captures : c.part.captures ≡ []
+  pub snapshots : c.part.snapshots ≡ []
   pub acked : c.acked ≡ 0
-  pub delivered : c.part.delivered ≡ []
+  pub input : c.part.input ≡ []
 
 pub record AtText (speaker : Speaker) (opened : Option ℕ) (client : AbstractClient) (c : Connection) : Type 0 where
   pub opened_is : is_some opened ≡ true
   pub here : speaker.here c.part ≡ true
-  pub delivered : IsPrefixOf c.part.delivered client.request
-  pub fits : c.part.acked + c.len ≤ length (speaker.text c.part.delivered c.part.captures)
+  pub input : IsPrefixOf c.part.input client.request
+  pub fits : c.part.acked + c.len ≤ length (speaker.text c.part.input c.part.snapshots)
   pub count : c.acked ≡ 1 + c.part.acked
 
 -- in ESTABLISHED all that was accepted was delivered, if the state is not lost
 pub record AtOpen (speaker : Speaker) (opened : Option ℕ) (client : AbstractClient) (c : Connection) : Type 0 where
   pub text : AtText speaker opened client c
-  pub taken : speaker.lost c.part ≡ false → c.taken ≡ length c.part.delivered
+  pub taken : speaker.lost c.part ≡ false → c.taken ≡ length c.part.input
 
 pub record AtFin (speaker : Speaker) (opened : Option ℕ) (client : AbstractClient) (c : Connection) : Type 0 where
   pub opened_is : is_some opened ≡ true
-  pub ends : IsAll speaker client c.part.captures c.part.acked
+  pub ends : IsAll speaker client c.part.snapshots c.part.acked
   pub count : c.acked ≡ 1 + c.part.acked
-  pub delivered : IsPrefixOf c.part.delivered client.request
+  pub input : IsPrefixOf c.part.input client.request
 
 pub record AtRest (opened : Option ℕ) (client : AbstractClient) (c : Connection) : Type 0 where
   pub opened_is : is_some opened ≡ true
-  pub delivered : IsPrefixOf c.part.delivered client.request
+  pub input : IsPrefixOf c.part.input client.request
 
 abbrev pub StateGood : Speaker → Option ℕ → AbstractClient → Connection → State → Type 0
 StateGood speaker opened client c Closed = Unit {0}
@@ -148,13 +148,13 @@ pub data NodeSaid (speaker : Speaker) (client : AbstractClient) (IsOpen : Type 0
 -- One step of a connection that lives, seen from its client.
 pub record SentGood (speaker : Speaker) (opened : Option ℕ) (client : AbstractClient) (c : Connection) (s : PlainSegment) : Type 0 where
   pub incarnations : has_rst s.flags ≡ false → is_live c.state ≡ true
-  pub output : NodeSaid speaker client (is_some opened ≡ true) c.iss c.part.captures s
+  pub output : NodeSaid speaker client (is_some opened ≡ true) c.iss c.part.snapshots s
 
 -- the connection afterwards, d, beside the one before, c
 pub record Moved (speaker : Speaker) (opened : Option ℕ) (client : AbstractClient) (c d : Connection) : Type 0 where
   pub iss : d.iss ≡ c.iss
   pub more : List Snapshot
-  pub captures : d.part.captures ≡ c.part.captures ++ more
+  pub snapshots : d.part.snapshots ≡ c.part.snapshots ++ more
   pub good : is_live d.state ≡ true → ConnGood speaker opened client d
 
 pub record StepGood (speaker : Speaker) (opened : Option ℕ) (client : AbstractClient) (c : Connection) (step : Spoken) : Type 0 where
@@ -169,7 +169,7 @@ pub record FromGood (client : AbstractClient) (opened : Option ℕ) (history : L
 pub record ToGood (speaker : Speaker) (client : AbstractClient) (opened : Option ℕ) (history : List PastConnection) (c : Connection) (e : Sent) : Type 0 where
   pub time : e.epoch ≤ length history
   pub incarnations : has_rst (seg e).flags ≡ false → e.epoch ≡ length history → is_live c.state ≡ true
-  pub output : NodeSaid speaker client (opened ≡ Some e.epoch) (era history c e.epoch).iss (era history c e.epoch).captures (seg e)
+  pub output : NodeSaid speaker client (opened ≡ Some e.epoch) (era history c e.epoch).iss (era history c e.epoch).snapshots (seg e)
 
 -- it has not opened
 abbrev pub is_early : ClientState → Bool
@@ -193,9 +193,9 @@ pub record HasOpened (speaker : Speaker) (client : AbstractClient) (history : Li
   pub then_live : o ≡ length history → is_live c.state ≡ true
   pub live_then : is_live c.state ≡ true → o ≡ length history
   pub asked : is_unasked client.state ≡ false
-  pub part : IsPart (speaker.text client.request (era history c o).captures) client.received 0
+  pub part : IsPart (speaker.text client.request (era history c o).snapshots) client.received 0
   pub expected : is_receiving client.state ≡ true → client.expected ≡ wrap ((era history c o).iss + 1 + length client.received)
-  pub all : has_closed client.state ≡ true → IsAll speaker client (era history c o).captures (length client.received)
+  pub all : has_closed client.state ≡ true → IsAll speaker client (era history c o).snapshots (length client.received)
 
 abbrev pub OpenedGood : Speaker → AbstractClient → List PastConnection → Connection → Option ℕ → Type 0
 OpenedGood speaker client history c None = NotOpened client

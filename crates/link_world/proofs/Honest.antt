@@ -74,7 +74,7 @@ module _ (m : AppSpec) (pages : Pages) (lawful : IsPaged m pages) (served : ℕ 
         let one : List Sent = by_client (ticks_of []) 0 (syn_of opening_client) ∷ [] in
         let two : List Sent = one ++ by_node (ticks_of o.history) o.id s ∷ [] in
         let expected : x ≡ wrap (o.iss + 1) = wrap_wrap (o.iss + 0) 1 ∙ ap wrap (let z : o.iss + 0 + 1 ≡ o.iss + 1 = omega arith in z) in
-        let fit : FitConn k = record { rest = λ r. absurd (cc); captures = subst (λ l. All Rattle.app_events.specs.Pages.IsSnapshot l) (sym o.none) (all_nil Rattle.app_events.specs.Pages.IsSnapshot); addr = is.addr; port = is.port } in
+        let fit : FitConn k = record { rest = λ r. absurd (cc); snapshots = subst (λ l. All Rattle.app_events.specs.Pages.IsSnapshot l) (sym o.none) (all_nil Rattle.app_events.specs.Pages.IsSnapshot); addr = is.addr; port = is.port } in
         let seg : 1 ≤ setup.seg = is.seg.0 in
         let says = visits_first m pages lawful served addr setup request fine left texts answers numbers o.history o.iss x o.part next.segment seg next.decodes expected words fit in
         let more : 1 ≤ parts = some_part parts (length request) setup.seg some long in

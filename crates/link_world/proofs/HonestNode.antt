@@ -79,7 +79,7 @@ module _ (m : AppSpec) (pages : Pages) (lawful : IsPaged m pages) (served : ℕ 
     pub history : List HistoryEntry
     pub id : ℕ
     pub part : AppState
-    pub none : part.captures ≡ []
+    pub none : part.snapshots ≡ []
     pub iss : ℕ
     pub is : r ≡ answers_with numbers history (conn_at SynRcvd 0 iss 0 1 part) id false (node_syn_ack setup request (wrap (iss + 0)) (wrap (setup.iss.0 + 1 + 0)))
 
@@ -94,7 +94,7 @@ module _ (m : AppSpec) (pages : Pages) (lawful : IsPaged m pages) (served : ℕ 
       record {
         history = now;
         id = ident_of now;
-        part = record { port = setup.server_port.0; delivered = []; captures = []; acked = 0; polls = 0; own = 0 };
+        part = record { port = setup.server_port.0; input = []; snapshots = []; acked = 0; polls = 0; own = 0 };
         none = refl;
         iss = initial_number [];
         is = ap (λ b. if b then opens m n sockets syn (slot_for_syn n.connections) else (if has_rst syn.flags then passes n (Arrived sockets syn) Silent else refuses n sockets syn)) e;
@@ -210,12 +210,12 @@ module _ (m : AppSpec) (pages : Pages) (lawful : IsPaged m pages) (served : ℕ 
     -- the application has received this much of the request, and this number of texts is left
     pub record IsReady (p : AppState) (taken most : ℕ) : Type 0 where
       pub good : fine p ≡ true
-      pub delivered : p.delivered ≡ take taken request
+      pub input : p.input ≡ take taken request
       pub few : left p ≤ most
 
     -- what is outstanding: a text, whose acknowledgement leaves one text less, or nothing
     pub data Awaits (p : AppState) (taken most : ℕ) : ℕ → Type 0 where
-      awaits_text : (len : ℕ) → 0 < len → p.delivered ≡ take taken request →
+      awaits_text : (len : ℕ) → 0 < len → p.input ≡ take taken request →
           ((numbers : List ℕ) → (fine (m.acked numbers p len).part ≡ true) × (left (m.acked numbers p len).part < most)) → Awaits p taken most len
       awaits_none : 0 < next_out setup request taken → IsReady p taken most → Awaits p taken most 0
 
@@ -235,21 +235,21 @@ module _ (m : AppSpec) (pages : Pages) (lawful : IsPaged m pages) (served : ℕ 
 
     hears_more : (numbers : List ℕ) (p : AppState) (taken most : ℕ) (text : List ℕ) → taken ≤ length request → text ≡ brought taken → IsReady p taken most →
         IsReady (hears m numbers p text).part (taken + length text) most
-    hears_more numbers p taken most [] h e r = record { good = r.good; delivered = r.delivered ∙ ap (λ n. take n request) (let z : taken ≡ taken + 0 = omega arith in z); few = r.few }
+    hears_more numbers p taken most [] h e r = record { good = r.good; input = r.input ∙ ap (λ n. take n request) (let z : taken ≡ taken + 0 = omega arith in z); few = r.few }
     hears_more numbers p taken most (y ∷ ys) h e r =
         let text : List ℕ = y ∷ ys in
         let own : text ≡ take (length text) (drop taken request) = e ∙ ap (λ n. take n (drop taken request)) (sym (ap length e ∙ brought_length taken h)) in
-        let now : p.delivered ++ text ≡ take (taken + length text) request =
-        ap (λ l. l ++ text) r.delivered ∙ ap (λ l. take taken request ++ l) own ∙ sym (take-add taken (length text) request) in
+        let now : p.input ++ text ≡ take (taken + length text) request =
+        ap (λ l. l ++ text) r.input ∙ ap (λ l. take taken request ++ l) own ∙ sym (take-add taken (length text) request) in
         let more = answers.hears numbers p text (drop (taken + length text) request) r.good (ap (λ l. l ++ drop (taken + length text) request) now ∙ take-append-drop (taken + length text) request) in
-        record { good = more.0; delivered = lawful.newdata_delivered numbers p text ∙ now; few = omega (arith, more.1, r.few) }
+        record { good = more.0; input = lawful.newdata_input numbers p text ∙ now; few = omega (arith, more.1, r.few) }
 
-    all_of : (p : AppState) (taken : ℕ) → p.delivered ≡ take taken request → length request ≤ taken → p.delivered ≡ request
+    all_of : (p : AppState) (taken : ℕ) → p.input ≡ take taken request → length request ≤ taken → p.input ≡ request
     all_of p taken e h = e ∙ take_all taken request h
 
     -- what is requested
     by_want : (old : Connection) (before numbers : List ℕ) (history : List HistoryEntry) (event : Event) (fresh : Bool) (taken iss acked most : ℕ) (q : AppState) (w : Want) →
-        (fresh ≡ true) ⊎ (length request ≤ taken) → q.delivered ≡ take taken request → All IsU32 numbers → MayWant pages q w → GoesOnBy m request mss fine left q most w →
+        (fresh ≡ true) ⊎ (length request ≤ taken) → q.input ≡ take taken request → All IsU32 numbers → MayWant pages q w → GoesOnBy m request mss fine left q most w →
         FitOut (does_as_wanted w fresh (conn_at Established taken iss acked 0 q) numbers) →
         Says (happened m (node_at before history old) event 0 old (does_as_wanted w fresh (conn_at Established taken iss acked 0 q) numbers)) taken iss acked most
     unfolding idles
@@ -263,7 +263,7 @@ module _ (m : AppSpec) (pages : Pages) (lawful : IsPaged m pages) (served : ℕ 
         let k : Connection = conn_at Established taken iss acked len q in
         let text : List ℕ = take len (text_left m q) in
         let size : length text ≡ len =
-        ap (λ t. length (take len (drop q.acked t))) (lawful.output q) ∙ cut_length (pages.text q.delivered q.captures) q.acked len (omega (arith, may.1)) in
+        ap (λ t. length (take len (drop q.acked t))) (lawful.output q) ∙ cut_length (pages.page q.input q.snapshots) q.acked len (omega (arith, may.1)) in
         let some : 0 < len = omega (arith, may.0, mss_low (offered setup.mss)) in
         says_text numbers (remembered event (Step.Text false) history) (ident_of (remembered event (Step.Text false) history)) q text len size some (awaits_text len some e g) n fit.conn
         (answered old k before numbers history event (Step.Text false) (node_says setup request (ACK + PSH) (snd_una k) (rcv_nxt k) text) refl refl refl)
@@ -273,7 +273,7 @@ module _ (m : AppSpec) (pages : Pages) (lawful : IsPaged m pages) (served : ℕ 
           | inl l ↦
               let is : fresh ≡ true = elim f [ inl y ↦ y | inr y ↦ absurd (let z : ⊥ = omega (arith, l, y) in z) ] in
               let output : idles fresh k numbers ≡ leaves k numbers Step.Ack = ap (λ b. if b then leaves k numbers Step.Ack else leaves k numbers Step.Drop) is in
-              says_ack numbers (remembered event Step.Ack history) (ident_of (remembered event Step.Ack history)) q l record { good = g.0; delivered = e; few = g.1 } n (subst (λ (o : Outcome). FitOut o) output fit).conn
+              says_ack numbers (remembered event Step.Ack history) (ident_of (remembered event Step.Ack history)) q l record { good = g.0; input = e; few = g.1 } n (subst (λ (o : Outcome). FitOut o) output fit).conn
               (ap (λ o. happened m (node_at before history old) event 0 old o) output
               ∙ answered old k before numbers history event Step.Ack (node_says setup request ACK (snd_una k) (rcv_nxt k) []) refl refl refl)
           | inr l ↦ absurd (g.2 (all_of q taken e l))
@@ -300,8 +300,8 @@ module _ (m : AppSpec) (pages : Pages) (lawful : IsPaged m pages) (served : ℕ 
         let now : Now = snapshot node event 0 d in
         let is : (c : Connection) → FitConn c → IsNow (snapshot node event 0 c) = λ c g. snapshot_fits node event 0 c (omega arith) (fits_all old o) g in
         let q : AppState = m.prepare numbers p now in
-        let delivered : q.delivered ≡ take taken request = lawful.prepare_delivered numbers p now ∙ r.delivered in
-        let goes = answers.goes_on numbers p now (drop taken request) r.good (ap (λ l. l ++ drop taken request) r.delivered ∙ take-append-drop taken request) n (is d k) (omega arith) in
+        let delivered : q.input ≡ take taken request = lawful.prepare_input numbers p now ∙ r.input in
+        let goes = answers.goes_on numbers p now (drop taken request) r.good (ap (λ l. l ++ drop taken request) r.input ∙ take-append-drop taken request) n (is d k) (omega arith) in
         by_want old before numbers history event fresh taken iss acked most q (m.want numbers q) f delivered n (lawful.wants numbers q) (at_most_more q (left p) most (m.want numbers q) r.few goes)
         (asked_fits m (steady_of m pages lawful) (snapshot node event 0) is (leaves d numbers (Step.Ask fresh)) record { conn = k; numbers = n })
 
@@ -334,7 +334,7 @@ module _ (m : AppSpec) (pages : Pages) (lawful : IsPaged m pages) (served : ℕ 
         let start : After = m.connected numbers setup.server_port.0 in
         let begins = answers.starts numbers setup.server_port.0 in
         asked_after SynRcvd numbers start.numbers history 0 iss 0 1 (0 + 1) texts p start.part s seg (omega arith) b.text refl (first_visit numbers iss x p s b e)
-        record { good = begins.0; delivered = lawful.connected_delivered numbers setup.server_port.0; few = begins.1 } n f
+        record { good = begins.0; input = lawful.connected_input numbers setup.server_port.0; few = begins.1 } n f
 
     -- and less is left
     pub record Visited (r : NodeStep) (taken iss acked most : ℕ) : Type 0 where
@@ -353,7 +353,7 @@ module _ (m : AppSpec) (pages : Pages) (lawful : IsPaged m pages) (served : ℕ 
           less = inr (rest numbers).1;
           at_most = omega (arith, (rest numbers).1);
           says = asked_after Established numbers told.numbers history taken iss acked len (acked + len) (left told.part) p told.part s seg h b.text refl (told_visit numbers taken iss acked len x p s b l e)
-              record { good = (rest numbers).0; delivered = lawful.acked_delivered numbers p len ∙ delivered; few = omega arith } n f;
+              record { good = (rest numbers).0; input = lawful.acked_input numbers p len ∙ delivered; few = omega arith } n f;
         }
     visits numbers history taken iss acked _ x most p s seg b e h (awaits_none l r) n f =
         let some : 0 < length s.text = omega (arith, l, ap length b.text, brought_length taken h) in

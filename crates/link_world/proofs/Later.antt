@@ -13,7 +13,7 @@ module _ (m : AppSpec) (speaker : Speaker) (laws : HasOutputModel m speaker) whe
   page_heard q more k = subst (λ l. IsPrefixOf (speaker.text q k) (speaker.text (q ++ more) l)) (append_nothing k) (laws.grows q more k [])
 
   whole_more : (r : List ℕ) (k more : List Snapshot) → speaker.whole r k ≡ true → speaker.whole r (k ++ more) ≡ true
-  whole_more r k more w = subst (λ q. speaker.whole q (k ++ more) ≡ true) (append_nothing r) (laws.stays_whole r [] k more w)
+  whole_more r k more w = subst (λ q. speaker.whole q (k ++ more) ≡ true) (append_nothing r) (laws.stays_complete r [] k more w)
 
   page_whole : (r : List ℕ) (k more : List Snapshot) → speaker.whole r k ≡ true → speaker.text r (k ++ more) ≡ speaker.text r k
   page_whole r k more w = subst (λ q. speaker.text q (k ++ more) ≡ speaker.text r k) (append_nothing r) (laws.stays r [] k more w)
@@ -25,7 +25,7 @@ module _ (m : AppSpec) (speaker : Speaker) (laws : HasOutputModel m speaker) whe
   -- if the page of what was received is whole, it is the page of the whole request
   pub prefix_all : (c : AbstractClient) (delivered : List ℕ) (k : List Snapshot) (at : ℕ) → IsPrefixOf delivered c.request → speaker.whole delivered k ≡ true → at ≡ length (speaker.text delivered k) → IsAll speaker c k at
   prefix_all c delivered k at h w e =
-      let a : speaker.whole c.request k ≡ true = subst (λ q. speaker.whole q k ≡ true) h.joined (subst (λ l. speaker.whole (delivered ++ h.rest) l ≡ true) (append_nothing k) (laws.stays_whole delivered h.rest k [] w)) in
+      let a : speaker.whole c.request k ≡ true = subst (λ q. speaker.whole q k ≡ true) h.joined (subst (λ l. speaker.whole (delivered ++ h.rest) l ≡ true) (append_nothing k) (laws.stays_complete delivered h.rest k [] w)) in
       let b : speaker.text c.request k ≡ speaker.text delivered k = subst (λ q. speaker.text q k ≡ speaker.text delivered k) h.joined (subst (λ l. speaker.text (delivered ++ h.rest) l ≡ speaker.text delivered k) (append_nothing k) (laws.stays delivered h.rest k [] w)) in
       record { whole = a; end = e ∙ ap length (sym b) }
 

@@ -85,8 +85,8 @@ module _ (m : AppSpec) (pages : Pages) (lawful : IsPaged m pages) where
       (run_fits r.served r.events (initial_node r.addr r.numbers) r.are_events record { size = omega arith; conns = λ i x y. subst FitConn (all_closed 10 i x y) closed_fits; numbers = r.in_range }).conns r.slot c r.there
 
 pub captures_fit : CapturesFit
-captures_fit m pages lawful c r = (fits_of m pages lawful c r).captures
+captures_fit m pages lawful c r = (fits_of m pages lawful c r).snapshots
 
 pub texts_are_short : TextsAreShort
 texts_are_short m pages lawful c r =
-    subst (λ (xs : List ℕ). length xs < 1073741824) (sym (lawful.output c.part)) (lawful.short c.part.delivered c.part.captures (fits_of m pages lawful c r).captures)
+    subst (λ (xs : List ℕ). length xs < 1073741824) (sym (lawful.output c.part)) (lawful.short c.part.input c.part.snapshots (fits_of m pages lawful c r).snapshots)

@@ -16,7 +16,7 @@ slice_of whole text at p = record { fits = p.fits; same = p.same }
 no_text : (s : PlainSegment) → s.text ≡ [] → 0 < length s.text → ⊥
 no_text s e l = let z : length s.text ≡ 0 = ap (λ (x : List ℕ). length x) e in omega (arith, z, l)
 
-says_page : (pages : Pages) (side : Side) (epoch : ℕ) (era : PastConnection) (s : PlainSegment) → has_rst s.flags ≡ false → NodeSaid (paged pages) side.client (side.opened ≡ Some epoch) era.iss era.captures s → SaysPage pages side epoch era s
+says_page : (pages : Pages) (side : Side) (epoch : ℕ) (era : PastConnection) (s : PlainSegment) → has_rst s.flags ≡ false → NodeSaid (paged pages) side.client (side.opened ≡ Some epoch) era.iss era.snapshots s → SaysPage pages side epoch era s
 says_page pages side epoch era s nr (node_reset r) = absurd (cc)
 says_page pages side epoch era s nr (node_syn r n) = record { syn = λ y. n.seq; text = λ y l. absurd (let z : has_syn s.flags ≡ true = n.syn in cc); fin = λ y f. absurd (let z : has_syn s.flags ≡ true = n.syn in cc) }
 says_page pages side epoch era s nr (node_ack r n) = record {
@@ -26,7 +26,7 @@ says_page pages side epoch era s nr (node_ack r n) = record {
 }
 says_page pages side epoch era s nr (node_text r p n) = record {
   syn = λ y. absurd (let z : has_syn s.flags ≡ false = n.no_syn in cc);
-  text = λ y l. record { opened = p; at = n.at; slice = slice_of (pages.text side.client.request era.captures) s.text n.at n.part; seq = n.seq };
+  text = λ y l. record { opened = p; at = n.at; slice = slice_of (pages.page side.client.request era.snapshots) s.text n.at n.part; seq = n.seq };
   fin = λ y f. absurd (let z : has_fin s.flags ≡ false = n.no_fin in cc);
 }
 says_page pages side epoch era s nr (node_fin r p n) = record {
@@ -79,19 +79,19 @@ prefix_within xs ys n l p =
     record { rest = take (n - length xs) p.rest; joined = sym (take-append-add xs p.rest (n - length xs)) ∙ ap (λ k. take k (xs ++ p.rest)) room ∙ ap (λ (zs : List ℕ). take n zs) p.joined }
 
 -- what was received is a prefix of the request
-heard_prefix : (pages : Pages) (opened : Option ℕ) (client : AbstractClient) (c : Connection) (st : State) → is_live st ≡ true → StateGood (paged pages) opened client c st → IsPrefixOf c.part.delivered client.request
+heard_prefix : (pages : Pages) (opened : Option ℕ) (client : AbstractClient) (c : Connection) (st : State) → is_live st ≡ true → StateGood (paged pages) opened client c st → IsPrefixOf c.part.input client.request
 heard_prefix pages opened client c Closed l g = absurd (cc)
-heard_prefix pages opened client c SynRcvd l g = subst (λ (xs : List ℕ). IsPrefixOf xs client.request) (sym g.delivered) record { rest = client.request; joined = refl }
-heard_prefix pages opened client c Established l g = g.text.delivered
-heard_prefix pages opened client c _ l g = g.delivered
+heard_prefix pages opened client c SynRcvd l g = subst (λ (xs : List ℕ). IsPrefixOf xs client.request) (sym g.input) record { rest = client.request; joined = refl }
+heard_prefix pages opened client c Established l g = g.text.input
+heard_prefix pages opened client c _ l g = g.input
 
 has_taken : (pages : Pages) (k : ℕ) (client : AbstractClient) (c : Connection) (sent : List Sent) (opened : Option ℕ) → RequestedBy k client c sent opened → is_some opened ≡ true → is_live c.state ≡ true → StateGood (paged pages) opened client c c.state → HasTextNumbers c → HasTaken client c
 has_taken pages k client c sent None r s l g n = absurd (cc)
 has_taken pages k client c sent (Some o) r s l g n =
     let q = r l in
     let v = q.within in
-    let p = split_taken client c.taken (length c.part.delivered) (fin_sent client.fin) refl q.low v.high v.delivered v.asked in
-    record { bytes = p.0; least = p.1; most = p.2; taken = p.3; delivered = prefix_within c.part.delivered client.request p.0 p.4 (heard_prefix pages (Some o) client c c.state l g); numbers = n }
+    let p = split_taken client c.taken (length c.part.input) (fin_sent client.fin) refl q.low v.high v.input v.asked in
+    record { bytes = p.0; least = p.1; most = p.2; taken = p.3; input = prefix_within c.part.input client.request p.0 p.4 (heard_prefix pages (Some o) client c c.state l g); numbers = n }
 
 pub clean_parts : CleanParts
 clean_parts m pages lawful w r k side x clean =

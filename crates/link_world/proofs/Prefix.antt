@@ -49,9 +49,9 @@ module _ (m : AppSpec) (speaker : Speaker) (laws : HasOutputModel m speaker) whe
         let q : d ≡ c = same l in
         let lc : is_live c.state ≡ true = ap (λ (x : Connection). is_live x.state) (sym q) ∙ l in
         let n : era history c e.epoch ≡ past_connection_of c = era_now history c e.epoch (omega (arith, at)) in
-        node_later m speaker laws client client (is_some opened ≡ true) (opened ≡ Some e.epoch) d.iss (era history c e.epoch).iss d.part.captures (era history c e.epoch).captures [] (seg e) refl
+        node_later m speaker laws client client (is_some opened ≡ true) (opened ≡ Some e.epoch) d.iss (era history c e.epoch).iss d.part.snapshots (era history c e.epoch).snapshots [] (seg e) refl
         (λ y. opened_here client history c opened lc g.opened_good y ∙ ap Some (sym at)) (ap (λ (x : PastConnection). x.iss) n ∙ ap (λ (x : Connection). x.iss) (sym q))
-        (ap (λ (x : PastConnection). x.captures) n ∙ ap (λ (x : Connection). x.part.captures) (sym q) ∙ sym (append_nothing d.part.captures)) h.output);
+        (ap (λ (x : PastConnection). x.snapshots) n ∙ ap (λ (x : Connection). x.part.snapshots) (sym q) ∙ sym (append_nothing d.part.snapshots)) h.output);
   }
 
 module _ (m : AppSpec) (ports : AtPorts m) where
@@ -79,7 +79,7 @@ module _ (m : AppSpec) (ports : AtPorts m) where
   ))
 
   pub evict : (k : ℕ) (side : Side) (c : Connection) (sent : List Sent) → is_live c.state ≡ true → G k side c sent → G k (older side c) closed sent
-  evict k side c sent l g = λ cl. view_dead m (speaker_of side) (laws_of side) k side.client side.opened side.history c c closed [] sent (g cl) refl refl (sym (append_nothing c.part.captures))
+  evict k side c sent l g = λ cl. view_dead m (speaker_of side) (laws_of side) k side.client side.opened side.history c c closed [] sent (g cl) refl refl (sym (append_nothing c.part.snapshots))
 
   pub mark : (k : ℕ) (side : Side) (c : Connection) (sent : List Sent) (n : ℕ) (e : Sent) → G k side c sent → G k (marked side n e) c sent
   mark k side c sent n e g = λ cl. g (clean_before side n e cl).0
@@ -87,7 +87,7 @@ module _ (m : AppSpec) (ports : AtPorts m) where
   steps_by : (w : World) (old : Connection) (o : Outcome) (k : ℕ) (side : Side) → is_live old.state ≡ true → G k side old w.sent → (is_clean side ≡ true → StepGood (speaker_of side) side.opened side.client old (spoken m o)) → Steps m G other reset evict mark w o k side
   steps_by w old o k side lv g st =
       let live : is_live o.connection.state ≡ true → G k side o.connection w.sent = λ l cl. view_live m (speaker_of side) (laws_of side) k side.client side.opened side.history old o.connection w.sent (g cl) lv l (st cl).moved in
-      let last : G k (older side o.connection) closed w.sent = λ cl. view_dead m (speaker_of side) (laws_of side) k side.client side.opened side.history old o.connection closed (st cl).moved.more w.sent (g cl) refl (st cl).moved.iss (st cl).moved.captures in
+      let last : G k (older side o.connection) closed w.sent = λ cl. view_dead m (speaker_of side) (laws_of side) k side.client side.opened side.history old o.connection closed (st cl).moved.more w.sent (g cl) refl (st cl).moved.iss (st cl).moved.snapshots in
       record {
         quiet = λ n l. live l;
         quiet_last = λ n l. last;
@@ -128,11 +128,11 @@ module _ (m : AppSpec) (ports : AtPorts m) where
       let c : Connection = accepted iss sockets (seg e) in
       let good : G k side c w.sent = λ cl. (let y = born_by side e ((g cl).of_client j e sent who).output (plain_is (seg e) plain) in
       view_born m (speaker_of side) (laws_of side) k side.client side.opened side.history closed c w.sent (g cl) refl refl
-      record { irs = y.seq; state = record { port = ap (λ (x : Sockets). (speaker_of side).at x.own_port.0) (sym own) ∙ ports.there side.client.setup.server_port.0; taken = refl; len = refl; captures = refl; acked = refl; delivered = refl } } (λ o p. subst (λ n. n ≤ o) (fresh cl) (y.before o p))) in
+      record { irs = y.seq; state = record { port = ap (λ (x : Sockets). (speaker_of side).at x.own_port.0) (sym own) ∙ ports.there side.client.setup.server_port.0; taken = refl; len = refl; snapshots = refl; acked = refl; input = refl } } (λ o p. subst (λ n. n ≤ o) (fresh cl) (y.before o p))) in
       push k side c w.sent (entry (to k) side tick id (model false (syn_ack c))) good
       (λ cl. (λ f. absurd (cc), λ t. entry_good m (speaker_of side) (laws_of side) k side.client side.opened side.history c c w.sent (entry (to k) side tick id (model false (syn_ack c))) (good cl) refl (λ x. refl) (says_syn m (speaker_of side) (laws_of side) side.opened side.client c refl refl)))
 
-  took_by : (w : World) (k : ℕ) (base : Side) (c : Connection) (step : ClientStep) (fit : (o : ℕ) → All IsSnapshot (era base.history c o).captures) → SameSetup base.client step → (is_clean base ≡ true → Good (speaker_of base) k base.client base.opened base.history c w.sent) →
+  took_by : (w : World) (k : ℕ) (base : Side) (c : Connection) (step : ClientStep) (fit : (o : ℕ) → All IsSnapshot (era base.history c o).snapshots) → SameSetup base.client step → (is_clean base ≡ true → Good (speaker_of base) k base.client base.opened base.history c w.sent) →
       (is_clean base ≡ true → Took_it m (speaker_of base) (laws_of base) base.history c fit base.client base.opened step) → Refines m G other reset evict mark w k base c step
   took_by w k base c step fit same g t =
       let by : speaker_of base ≡ speaker_of (with_client base step.client) = ap (λ (x : Setup). ports.of x.server_port.0) (sym same) in
@@ -145,7 +145,7 @@ module _ (m : AppSpec) (ports : AtPorts m) where
             (λ cl. (λ f. (let x = t cl in record { time = omega arith; output = subst (λ o. ClientSaid step.client o (length base.history) s) x.good.next_is (x.good.output s e) }), λ z. absurd (cc)));
       }
 
-  pub took : (w : World) (k j : ℕ) (side : Side) (c : Connection) (number : ℕ) (e : Sent) → ((o : ℕ) → All IsSnapshot (era side.history c o).captures) → slice_get w.sent j ≡ Some e → e.who ≡ to k → G k side c w.sent →
+  pub took : (w : World) (k j : ℕ) (side : Side) (c : Connection) (number : ℕ) (e : Sent) → ((o : ℕ) → All IsSnapshot (era side.history c o).snapshots) → slice_get w.sent j ≡ Some e → e.who ≡ to k → G k side c w.sent →
       Refines m G other reset evict mark w k (marked side number e) c (client_takes side.client (seg e))
   took w k j side c number e fit sent who g =
       took_by w k (marked side number e) c (client_takes side.client (seg e)) fit (takes_setup side.client (seg e)) (λ cl. g (clean_before side number e cl).0)
@@ -153,7 +153,7 @@ module _ (m : AppSpec) (ports : AtPorts m) where
       client_takes_good m (speaker_of side) (laws_of side) side.history c fit side.client side.opened e h.steady h.opened_good a.1 (h.of_node j e sent who))
 
   abbrev pub Own : (AbstractClient → ClientStep) → Type 0
-  Own act = (w : World) (k : ℕ) (side : Side) (c : Connection) → ((o : ℕ) → All IsSnapshot (era side.history c o).captures) → G k side c w.sent → Refines m G other reset evict mark w k side c (act side.client)
+  Own act = (w : World) (k : ℕ) (side : Side) (c : Connection) → ((o : ℕ) → All IsSnapshot (era side.history c o).snapshots) → G k side c w.sent → Refines m G other reset evict mark w k side c (act side.client)
 
   pub own_open : Own client_opens
   own_open w k side c fit g = took_by w k side c (client_opens side.client) fit (opens_setup side.client) g (λ cl. opens_by_good m (speaker_of side) (laws_of side) side.history c fit side.client.state side.client side.opened refl (g cl).steady (g cl).opened_good)
@@ -207,11 +207,11 @@ module _ (m : AppSpec) (ports : AtPorts m) where
   served_by w side (Some o) q h =
       let c : Connection = serving (client_sockets side) w.node.connections in
       let text : List Snapshot → List ℕ = λ x. (speaker_of side).text side.client.request x in
-      let k : captures_of w side ≡ (era side.history c o).captures = ap (λ (x : Option ℕ). option_map_or (λ n. (era side.history c n).captures) x []) q in
-      let p : page_of (page_by (speaker_of side)) w side ≡ text (era side.history c o).captures = ap text k in
+      let k : captures_of w side ≡ (era side.history c o).snapshots = ap (λ (x : Option ℕ). option_map_or (λ n. (era side.history c n).snapshots) x []) q in
+      let p : page_of (page_by (speaker_of side)) w side ≡ text (era side.history c o).snapshots = ap text k in
       record {
-        prefix = subst (λ x. IsPrefixOf side.client.received x) (sym p) (part_prefix (text (era side.history c o).captures) side.client.received h.part);
-        all = λ e. h.part.same ∙ ap (λ n. take n (text (era side.history c o).captures)) (h.all e).end ∙ take-length (text (era side.history c o).captures) ∙ sym p;
+        prefix = subst (λ x. IsPrefixOf side.client.received x) (sym p) (part_prefix (text (era side.history c o).snapshots) side.client.received h.part);
+        all = λ e. h.part.same ∙ ap (λ n. take n (text (era side.history c o).snapshots)) (h.all e).end ∙ take-length (text (era side.history c o).snapshots) ∙ sym p;
         whole = λ e. ap (λ x. (speaker_of side).whole side.client.request x) k ∙ (h.all e).whole;
       }
 

@@ -16,8 +16,8 @@ use Rattle.link_world.proofs.Prefix
 -- and no more of the request than was sent.
 pub record Within (client : AbstractClient) (c : Connection) : Type 0 where
   pub high : c.taken ≤ used client
-  pub delivered : length c.part.delivered ≤ c.taken
-  pub asked : length c.part.delivered ≤ asked_bytes client
+  pub input : length c.part.input ≤ c.taken
+  pub asked : length c.part.input ≤ asked_bytes client
 
 -- what the connection took of the client's numbers, and where each datagram of the client ends
 pub record Requested (k : ℕ) (client : AbstractClient) (c : Connection) (sent : List Sent) : Type 0 where
@@ -152,14 +152,14 @@ module _ (m : AppSpec) (pages : Pages) (lawful : IsPaged m pages) where
   enough_room client opened epoch k j c d sent e st output iss there who t r =
       let row = t.row in
       let more = row.more in
-      let now = row.delivered in
+      let now = row.input in
       let text = row.handed_text in
       let taken = row.handed_taken in
       let high = r.within.high in
-      let delivered = r.within.delivered in
+      let delivered = r.within.input in
       let before = r.within.asked in
       elim (zero_or_more row.count) [
-        | inl z ↦ record { high = omega (arith, z, high, more); delivered = omega (arith, z, delivered, more, now, taken); asked = omega (arith, z, before, now, taken) }
+        | inl z ↦ record { high = omega (arith, z, high, more); input = omega (arith, z, delivered, more, now, taken); asked = omega (arith, z, before, now, taken) }
         | inr l ↦ (let at = t.place l in
             let seq : (seg e).seq ≡ wrap (own_first client + 1 + c.taken) = at.0 ∙ ap (λ n. wrap (n + 1 + c.taken)) iss in
             let small : one_if (fin_sent client.fin) ≤ 1 = one_small (fin_sent client.fin) in
@@ -170,7 +170,7 @@ module _ (m : AppSpec) (pages : Pages) (lawful : IsPaged m pages) where
             let all = end.all in
             let most = row.most in
             let output = end.text in
-            record { high = omega (arith, all, more, most); delivered = omega (arith, delivered, more, now, taken); asked = omega (arith, delivered, now, text, output) })
+            record { high = omega (arith, all, more, most); input = omega (arith, delivered, more, now, taken); asked = omega (arith, delivered, now, text, output) })
       ]
 
   segment : (w : World) (old : Connection) (numbers : List ℕ) (now : Connection → Now) (k j : ℕ) (side : Side) (e : Sent) → is_live old.state ≡ true → FitConn old → All IsU32 numbers → ((c : Connection) → FitConn c → IsNow (now c)) →
@@ -187,12 +187,12 @@ module _ (m : AppSpec) (pages : Pages) (lawful : IsPaged m pages) where
   nothing_more client c d row g =
       let more = row.more in
       let most = row.most in
-      let now = row.delivered in
+      let now = row.input in
       let none = row.handed_text in
       let high = g.high in
-      let delivered = g.delivered in
+      let delivered = g.input in
       let asked = g.asked in
-      record { high = omega (arith, high, more, most); delivered = omega (arith, delivered, more, now, none); asked = omega (arith, asked, now, none) }
+      record { high = omega (arith, high, more, most); input = omega (arith, delivered, more, now, none); asked = omega (arith, asked, now, none) }
 
   tick : (w : World) (old : Connection) (numbers : List ℕ) (now : Connection → Now) (k : ℕ) (side : Side) → is_live old.state ≡ true → FitConn old → All IsU32 numbers → ((c : Connection) → FitConn c → IsNow (now c)) →
       G k side old w.sent → Steps m G other reset evict mark w (asked m now (on_tick m old numbers)) k side
@@ -229,7 +229,7 @@ module _ (m : AppSpec) (pages : Pages) (lawful : IsPaged m pages) where
   goes_on : (k : ℕ) (client d : AbstractClient) (c : Connection) (sent : List Sent) → used client ≤ used d → asked_bytes client ≤ asked_bytes d → own_first d ≡ own_first client → d.acked ≤ c.taken → Requested k client c sent → Requested k d c sent
   goes_on k client d c sent u b f l r = record {
     low = l;
-    within = (let z = r.within.high in let y = r.within.asked in record { high = omega (arith, z, u); delivered = r.within.delivered; asked = omega (arith, y, b) });
+    within = (let z = r.within.high in let y = r.within.asked in record { high = omega (arith, z, u); input = r.within.input; asked = omega (arith, y, b) });
     ends = λ j e x w nr ns p at lo q.
         (let z = r.ends j e x w nr ns p at lo (q ∙ ap (λ n. wrap (n + 1 + at)) f) in let all = z.all in let text = z.text in record { text = omega (arith, text, b); all = omega (arith, all, u) });
   }
@@ -257,9 +257,9 @@ module _ (m : AppSpec) (pages : Pages) (lawful : IsPaged m pages) where
   after_step k client history c sent later None s t false g a h low r = a.early h.opened_good.early ∙ r
   after_step k client history c sent later None s t true g a h low r = λ l. (let none = (unopened (paged pages) client c c.state l (g.connection l).state).1 in
       let zero = acked_low client s t a r in
-      let silent : length c.part.delivered ≡ 0 = ap (λ (x : List ℕ). length x) none.delivered in
+      let silent : length c.part.input ≡ 0 = ap (λ (x : List ℕ). length x) none.input in
       let start = none.taken in
-      record { low = omega (arith, zero); within = record { high = omega (arith, start); delivered = omega (arith, silent); asked = omega (arith, silent) }; ends = λ j e x w. never_asked client t.client e.epoch (seg e) (g.of_client j e x w).output })
+      record { low = omega (arith, zero); within = record { high = omega (arith, start); input = omega (arith, silent); asked = omega (arith, silent) }; ends = λ j e x w. never_asked client t.client e.epoch (seg e) (g.of_client j e x w).output })
 
   abbrev GoodTakes : World → ℕ → Side → Connection → ClientStep → Type 0
   GoodTakes w k base c t = Refines m (Prefix.G m (everywhere m pages lawful)) (Prefix.other m (everywhere m pages lawful)) (Prefix.reset m (everywhere m pages lawful)) (Prefix.evict m (everywhere m pages lawful)) (Prefix.mark m (everywhere m pages lawful)) w k base c t
@@ -297,7 +297,7 @@ module _ (m : AppSpec) (pages : Pages) (lawful : IsPaged m pages) where
             omega (arith, now, all, at))
       ]
 
-  took : (w : World) (k j : ℕ) (side : Side) (c : Connection) (number : ℕ) (e : Sent) → ((o : ℕ) → All IsSnapshot (era side.history c o).captures) → slice_get w.sent j ≡ Some e → e.who ≡ to k → G k side c w.sent →
+  took : (w : World) (k j : ℕ) (side : Side) (c : Connection) (number : ℕ) (e : Sent) → ((o : ℕ) → All IsSnapshot (era side.history c o).snapshots) → slice_get w.sent j ≡ Some e → e.who ≡ to k → G k side c w.sent →
       Refines m G other reset evict mark w k (marked side number e) c (client_takes side.client (seg e))
   took w k j side c number e fit sent who g =
       let a = client_asks side.client (seg e) in

@@ -16,5 +16,5 @@ pages_say_bytes m pages lawful page = (let bytes : SendsBytes m = page_bytes m p
   accepted_knows = λ iss sockets s. all_nil IsByte;
   segment_knows = λ at c numbers s are h. asked_bytes m bytes at (on_segment m c numbers s) (on_segment_bytes m bytes c numbers s are h);
   tick_knows = λ at c numbers h. asked_bytes m bytes at (on_tick m c numbers) (on_tick_bytes m bytes c numbers h);
-  says = λ c f h. bytes.output c.part h f.captures;
+  says = λ c f h. bytes.output c.part h f.snapshots;
 })

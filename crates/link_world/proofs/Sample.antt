@@ -23,10 +23,10 @@ abbrev pub is_decided : List ℕ → Bool
 is_decided delivered = nat_lt 5 (length delivered)
 
 abbrev pub page : List Piece → AppState → List ℕ
-page pieces p = if is_decided p.delivered then joined pieces p.captures else []
+page pieces p = if is_decided p.input then joined pieces p.snapshots else []
 
 abbrev pub is_whole : List Piece → AppState → Bool
-is_whole pieces p = is_decided p.delivered && all_there pieces p.captures
+is_whole pieces p = is_decided p.input && all_there pieces p.snapshots
 
 abbrev pub wants : AppState → Bool → ℕ → Want
 wants p whole output =
@@ -36,14 +36,14 @@ wants p whole output =
     else Nothing
 
 abbrev pub needs_capture : List Piece → AppState → Bool
-needs_capture pieces p = is_decided p.delivered && (not (all_there pieces p.captures) && (p.acked == length (joined pieces p.captures)))
+needs_capture pieces p = is_decided p.input && (not (all_there pieces p.snapshots) && (p.acked == length (joined pieces p.snapshots)))
 
 abbrev pub sample : List Piece → AppSpec
 sample pieces = record {
   output = λ p. page pieces p;
-  connected = λ numbers port. record { part = record { port = port; delivered = []; captures = []; acked = 0; polls = 0; own = 0 }; numbers = numbers };
-  newdata = λ numbers p piece. record { part = record p { delivered = p.delivered ++ piece; polls = 0 }; numbers = numbers };
-  prepare = λ numbers p now. (if needs_capture pieces p then record p { captures = p.captures ++ record { numbers = numbers; now = now } ∷ [] } else p);
+  connected = λ numbers port. record { part = record { port = port; input = []; snapshots = []; acked = 0; polls = 0; own = 0 }; numbers = numbers };
+  newdata = λ numbers p piece. record { part = record p { input = p.input ++ piece; polls = 0 }; numbers = numbers };
+  prepare = λ numbers p now. (if needs_capture pieces p then record p { snapshots = p.snapshots ++ record { numbers = numbers; now = now } ∷ [] } else p);
   want = λ numbers p. wants p (is_whole pieces p) (length (page pieces p));
   acked = λ numbers p n. record { part = record p { acked = p.acked + n; polls = 0 }; numbers = numbers };
   polled = λ numbers p. record { part = record p { polls = p.polls + 1 }; numbers = numbers };

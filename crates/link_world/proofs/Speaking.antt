@@ -14,7 +14,7 @@ pub record Speaker : Type 0 where
 
 -- its text as a page
 abbrev pub page_by : Speaker → Pages
-page_by speaker = record { text = speaker.text; whole = speaker.whole }
+page_by speaker = record { page = speaker.text; complete = speaker.whole }
 
 -- A piece is received, or a prefix of it after which the state is lost. A lost state receives nothing more.
 pub record HearsSome (speaker : Speaker) (p q : AppState) (piece : List ℕ) : Type 0 where
@@ -22,25 +22,25 @@ pub record HearsSome (speaker : Speaker) (p q : AppState) (piece : List ℕ) : T
   pub prefix : List ℕ
   pub rest : List ℕ
   pub joined : prefix ++ rest ≡ piece
-  pub delivered : q.delivered ≡ p.delivered ++ prefix
+  pub input : q.input ≡ p.input ++ prefix
   pub all : (rest ≡ []) ⊎ (speaker.lost q ≡ true)
-  pub no_more : speaker.lost p ≡ true → (q.delivered ≡ p.delivered) × (speaker.lost q ≡ true)
+  pub no_more : speaker.lost p ≡ true → (q.input ≡ p.input) × (speaker.lost q ≡ true)
 
 pub record KeepsHeard (speaker : Speaker) (p q : AppState) : Type 0 where
   pub here : speaker.here q ≡ true
-  pub delivered : q.delivered ≡ p.delivered
+  pub input : q.input ≡ p.input
   pub lost : speaker.lost q ≡ speaker.lost p
 
 pub record HasOutputModel (m : AppSpec) (speaker : Speaker) : Type 0 where
   pub steady : IsSteady m
   pub grows : (q more : List ℕ) (k later : List Snapshot) → IsPrefixOf (speaker.text q k) (speaker.text (q ++ more) (k ++ later))
   pub stays : (q more : List ℕ) (k later : List Snapshot) → speaker.whole q k ≡ true → speaker.text (q ++ more) (k ++ later) ≡ speaker.text q k
-  pub stays_whole : (q more : List ℕ) (k later : List Snapshot) → speaker.whole q k ≡ true → speaker.whole (q ++ more) (k ++ later) ≡ true
+  pub stays_complete : (q more : List ℕ) (k later : List Snapshot) → speaker.whole q k ≡ true → speaker.whole (q ++ more) (k ++ later) ≡ true
   -- the text of a request of at most 4096 bytes is shorter than 2^30
   pub short : (q : List ℕ) (k : List Snapshot) → length q ≤ 4096 → All IsSnapshot k → length (speaker.text q k) < 1073741824
-  pub output : (p : AppState) → speaker.here p ≡ true → m.output p ≡ speaker.text p.delivered p.captures
+  pub output : (p : AppState) → speaker.here p ≡ true → m.output p ≡ speaker.text p.input p.snapshots
   pub connected_here : (numbers : List ℕ) (port : ℕ) → speaker.at port ≡ true → speaker.here (m.connected numbers port).part ≡ true
-  pub connected_delivered : (numbers : List ℕ) (port : ℕ) → speaker.at port ≡ true → (m.connected numbers port).part.delivered ≡ []
+  pub connected_input : (numbers : List ℕ) (port : ℕ) → speaker.at port ≡ true → (m.connected numbers port).part.input ≡ []
   pub newdata : (numbers : List ℕ) (p : AppState) (piece : List ℕ) → speaker.here p ≡ true → HearsSome speaker p (m.newdata numbers p piece).part piece
   pub prepare : (numbers : List ℕ) (p : AppState) (now : Now) → speaker.here p ≡ true → KeepsHeard speaker p (m.prepare numbers p now)
   pub acked : (numbers : List ℕ) (p : AppState) (n : ℕ) → speaker.here p ≡ true → KeepsHeard speaker p (m.acked numbers p n).part
@@ -52,18 +52,18 @@ module _ (m : AppSpec) (speaker : Speaker) (laws : HasOutputModel m speaker) whe
   -- what receiving text does to a state
   pub record Heard (p q : AppState) (text : List ℕ) : Type 0 where
     pub some : HearsSome speaker p q text
-    pub captures : q.captures ≡ p.captures
+    pub snapshots : q.snapshots ≡ p.snapshots
     pub acked : q.acked ≡ p.acked
 
   pub hears_is : (numbers : List ℕ) (p : AppState) (text : List ℕ) → speaker.here p ≡ true → Heard p (hears m numbers p text).part text
   hears_is numbers p [] h = record {
-    some = record { here = h; prefix = []; rest = []; joined = refl; delivered = sym (append_nothing p.delivered); all = inl refl; no_more = λ e. (refl, e) };
-    captures = refl;
+    some = record { here = h; prefix = []; rest = []; joined = refl; input = sym (append_nothing p.input); all = inl refl; no_more = λ e. (refl, e) };
+    snapshots = refl;
     acked = refl;
   }
   hears_is numbers p (x ∷ xs) h = record {
     some = laws.newdata numbers p (x ∷ xs) h;
-    captures = laws.steady.newdata_captures numbers p (x ∷ xs);
+    snapshots = laws.steady.newdata_snapshots numbers p (x ∷ xs);
     acked = (laws.steady.lawful.newdata_grows numbers p (x ∷ xs) tt).offset;
   }
 
@@ -71,27 +71,27 @@ module _ (m : AppSpec) (speaker : Speaker) (laws : HasOutputModel m speaker) whe
   pub record Prepared (p q : AppState) : Type 0 where
     pub keeps : KeepsHeard speaker p q
     pub more : List Snapshot
-    pub captures : q.captures ≡ p.captures ++ more
+    pub snapshots : q.snapshots ≡ p.snapshots ++ more
     pub acked : q.acked ≡ p.acked
 
   pub prepare_is : (numbers : List ℕ) (p : AppState) (now : Now) → speaker.here p ≡ true → Prepared p (m.prepare numbers p now)
   prepare_is numbers p now h =
-      elim (laws.steady.prepare_captures numbers p now) [
-        | inl e ↦ record { keeps = laws.prepare numbers p now h; more = []; captures = e ∙ sym (append_nothing p.captures); acked = (laws.steady.lawful.prepare_grows numbers p now tt).offset }
-        | inr e ↦ record { keeps = laws.prepare numbers p now h; more = record { numbers = numbers; now = now } ∷ []; captures = e; acked = (laws.steady.lawful.prepare_grows numbers p now tt).offset }
+      elim (laws.steady.prepare_snapshots numbers p now) [
+        | inl e ↦ record { keeps = laws.prepare numbers p now h; more = []; snapshots = e ∙ sym (append_nothing p.snapshots); acked = (laws.steady.lawful.prepare_grows numbers p now tt).offset }
+        | inr e ↦ record { keeps = laws.prepare numbers p now h; more = record { numbers = numbers; now = now } ∷ []; snapshots = e; acked = (laws.steady.lawful.prepare_grows numbers p now tt).offset }
       ]
 
   -- an acknowledgement of this much of what is left
-  pub acked_is : (numbers : List ℕ) (p : AppState) (n : ℕ) → speaker.here p ≡ true → p.acked + n ≤ length (speaker.text p.delivered p.captures) → (m.acked numbers p n).part.acked ≡ p.acked + n
+  pub acked_is : (numbers : List ℕ) (p : AppState) (n : ℕ) → speaker.here p ≡ true → p.acked + n ≤ length (speaker.text p.input p.snapshots) → (m.acked numbers p n).part.acked ≡ p.acked + n
   acked_is numbers p n h l =
-      let size : length (m.output p) ≡ length (speaker.text p.delivered p.captures) = ap (λ (xs : List ℕ). length xs) (laws.output p h) in
+      let size : length (m.output p) ≡ length (speaker.text p.input p.snapshots) = ap (λ (xs : List ℕ). length xs) (laws.output p h) in
       (laws.steady.lawful.acked_moves numbers p n tt (omega (arith, l, size, length-drop p.acked (m.output p)))).1
 
   -- what is requested, if no more is acknowledged than was sent
-  pub wants_is : (numbers : List ℕ) (p : AppState) → speaker.here p ≡ true → p.acked ≤ length (speaker.text p.delivered p.captures) → MayWant (page_by speaker) p (m.want numbers p)
+  pub wants_is : (numbers : List ℕ) (p : AppState) → speaker.here p ≡ true → p.acked ≤ length (speaker.text p.input p.snapshots) → MayWant (page_by speaker) p (m.want numbers p)
   wants_is numbers p h l = go (m.want numbers p) refl
     where
-      size : length (m.output p) ≡ length (speaker.text p.delivered p.captures)
+      size : length (m.output p) ≡ length (speaker.text p.input p.snapshots)
       size = ap (λ (xs : List ℕ). length xs) (laws.output p h)
 
       go : (w : Want) → m.want numbers p ≡ w → MayWant (page_by speaker) p w
@@ -104,30 +104,30 @@ module _ (m : AppSpec) (speaker : Speaker) (laws : HasOutputModel m speaker) whe
 -- ---- an application whose text is a page, at every port
 
 abbrev pub paged : Pages → Speaker
-paged pages = record { text = pages.text; whole = pages.whole; at = λ port. true; here = λ p. true; lost = λ p. false }
+paged pages = record { text = pages.page; whole = pages.complete; at = λ port. true; here = λ p. true; lost = λ p. false }
 
 pub paged_speaks : (m : AppSpec) (pages : Pages) → IsPaged m pages → HasOutputModel m (paged pages)
 paged_speaks m pages lawful = record {
   steady = steady_of m pages lawful;
   grows = lawful.grows;
   stays = lawful.stays;
-  stays_whole = lawful.stays_whole;
+  stays_complete = lawful.stays_complete;
   short = λ q k l f. lawful.short q k f;
   output = λ p h. lawful.output p;
   connected_here = λ numbers port h. refl;
-  connected_delivered = λ numbers port h. lawful.connected_delivered numbers port;
+  connected_input = λ numbers port h. lawful.connected_input numbers port;
   newdata = λ numbers p piece h. record {
     here = refl;
     prefix = piece;
     rest = [];
     joined = append_nothing piece;
-    delivered = lawful.newdata_delivered numbers p piece;
+    input = lawful.newdata_input numbers p piece;
     all = inl refl;
     no_more = λ e. absurd (cc);
   };
-  prepare = λ numbers p now h. record { here = refl; delivered = lawful.prepare_delivered numbers p now; lost = refl };
-  acked = λ numbers p n h. record { here = refl; delivered = lawful.acked_delivered numbers p n; lost = refl };
-  polled = λ numbers p h. record { here = refl; delivered = (lawful.polled_same numbers p).delivered; lost = refl };
+  prepare = λ numbers p now h. record { here = refl; input = lawful.prepare_input numbers p now; lost = refl };
+  acked = λ numbers p n h. record { here = refl; input = lawful.acked_input numbers p n; lost = refl };
+  polled = λ numbers p h. record { here = refl; input = (lawful.polled_same numbers p).input; lost = refl };
   closes = λ numbers p h fits e. subst (λ w. MayWant (page_by (paged pages)) p w) e (closes_page numbers p);
 }
   where

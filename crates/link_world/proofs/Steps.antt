@@ -20,16 +20,16 @@ module _ (m : AppSpec) (speaker : Speaker) (laws : HasOutputModel m speaker) whe
 
     says_text : (d : Connection) → is_live d.state ≡ true → AtText speaker opened client d → SentGood speaker opened client d (text_segment m d)
     says_text d l h =
-        let output : m.output d.part ≡ speaker.text d.part.delivered d.part.captures = laws.output d.part h.here in
+        let output : m.output d.part ≡ speaker.text d.part.input d.part.snapshots = laws.output d.part h.here in
         record {
           incarnations = λ e. l;
           output = node_text refl h.opened_is record {
             no_syn = refl;
             no_fin = refl;
             at = d.part.acked;
-            part = subst (λ t. IsPart (speaker.text client.request d.part.captures) (take d.len (drop d.part.acked t)) d.part.acked) (sym output)
-                (prefix_part (speaker.text d.part.delivered d.part.captures) (speaker.text client.request d.part.captures) (take d.len (drop d.part.acked (speaker.text d.part.delivered d.part.captures))) d.part.acked
-                (prefix_grows m speaker laws d.part.delivered client.request d.part.captures h.delivered) (cut_part (speaker.text d.part.delivered d.part.captures) d.part.acked d.len h.fits));
+            part = subst (λ t. IsPart (speaker.text client.request d.part.snapshots) (take d.len (drop d.part.acked t)) d.part.acked) (sym output)
+                (prefix_part (speaker.text d.part.input d.part.snapshots) (speaker.text client.request d.part.snapshots) (take d.len (drop d.part.acked (speaker.text d.part.input d.part.snapshots))) d.part.acked
+                (prefix_grows m speaker laws d.part.input client.request d.part.snapshots h.input) (cut_part (speaker.text d.part.input d.part.snapshots) d.part.acked d.len h.fits));
             seq = ap wrap (omega (arith, h.count));
           };
         }
@@ -47,22 +47,22 @@ module _ (m : AppSpec) (speaker : Speaker) (laws : HasOutputModel m speaker) whe
     move_says c d s h g = record { moved = h; output = λ x e. subst (λ y. SentGood speaker opened client d y) (let e' : s ≡ x = cc in e') g }
 
     stays_good : (c : Connection) → ConnGood speaker opened client c → Moved speaker opened client c c
-    stays_good c g = record { iss = refl; more = []; captures = sym (append_nothing c.part.captures); good = λ l. g }
+    stays_good c g = record { iss = refl; more = []; snapshots = sym (append_nothing c.part.snapshots); good = λ l. g }
 
     -- d is c in another state, or with other counts
-    turns : (c d : Connection) → d.iss ≡ c.iss → d.part.captures ≡ c.part.captures → d.irs ≡ own_first client → StateGood speaker opened client d d.state → Moved speaker opened client c d
-    turns c d f k pf s = record { iss = f; more = []; captures = k ∙ sym (append_nothing c.part.captures); good = λ y. record { irs = pf; state = s } }
+    turns : (c d : Connection) → d.iss ≡ c.iss → d.part.snapshots ≡ c.part.snapshots → d.irs ≡ own_first client → StateGood speaker opened client d d.state → Moved speaker opened client c d
+    turns c d f k pf s = record { iss = f; more = []; snapshots = k ∙ sym (append_nothing c.part.snapshots); good = λ y. record { irs = pf; state = s } }
 
-    closes_good : (c d : Connection) → d.iss ≡ c.iss → d.part.captures ≡ c.part.captures → Moved speaker opened client c (closes d)
-    closes_good c d f k = record { iss = f; more = []; captures = k ∙ sym (append_nothing c.part.captures); good = λ l. absurd (cc) }
+    closes_good : (c d : Connection) → d.iss ≡ c.iss → d.part.snapshots ≡ c.part.snapshots → Moved speaker opened client c (closes d)
+    closes_good c d f k = record { iss = f; more = []; snapshots = k ∙ sym (append_nothing c.part.snapshots); good = λ l. absurd (cc) }
 
     -- a step from b, which c had become
-    from_good : (c b : Connection) (step : Spoken) (more : List Snapshot) → b.iss ≡ c.iss → b.part.captures ≡ c.part.captures ++ more → StepGood speaker opened client b step → StepGood speaker opened client c step
+    from_good : (c b : Connection) (step : Spoken) (more : List Snapshot) → b.iss ≡ c.iss → b.part.snapshots ≡ c.part.snapshots ++ more → StepGood speaker opened client b step → StepGood speaker opened client c step
     from_good c b step more f k g = record {
       moved = record {
         iss = g.moved.iss ∙ f;
         more = more ++ g.moved.more;
-        captures = g.moved.captures ∙ ap (λ l. l ++ g.moved.more) k ∙ append_assoc c.part.captures more g.moved.more;
+        snapshots = g.moved.snapshots ∙ ap (λ l. l ++ g.moved.more) k ∙ append_assoc c.part.snapshots more g.moved.more;
         good = g.moved.good;
       };
       output = g.output;
@@ -75,7 +75,7 @@ module _ (m : AppSpec) (speaker : Speaker) (laws : HasOutputModel m speaker) whe
     text_at : (c : Connection) (st : State) → is_open st ≡ true → StateGood speaker opened client c st → AtText speaker opened client c
     text_at c st o h = by_open (λ x. StateGood speaker opened client c x → AtText speaker opened client c) (λ g. g.text) (λ g. g) st o h
 
-    text_state : (c d : Connection) (st : State) → is_open st ≡ true → StateGood speaker opened client c st → AtText speaker opened client d → d.taken ≡ c.taken → d.part.delivered ≡ c.part.delivered → speaker.lost d.part ≡ speaker.lost c.part → StateGood speaker opened client d st
+    text_state : (c d : Connection) (st : State) → is_open st ≡ true → StateGood speaker opened client c st → AtText speaker opened client d → d.taken ≡ c.taken → d.part.input ≡ c.part.input → speaker.lost d.part ≡ speaker.lost c.part → StateGood speaker opened client d st
     text_state c d st o h t e f l =
         by_open (λ x. StateGood speaker opened client c x → StateGood speaker opened client d x) (λ g. record { text = t; taken = λ n. e ∙ g.taken (sym l ∙ n) ∙ ap length (sym f) }) (λ g. t) st o h
 
@@ -83,10 +83,10 @@ module _ (m : AppSpec) (speaker : Speaker) (laws : HasOutputModel m speaker) whe
     fin_state d st h = by_own_fin (λ x. StateGood speaker opened client d x) h h st
 
     -- the same text with other counts
-    like_text : (c d : Connection) → speaker.here d.part ≡ true → d.part.delivered ≡ c.part.delivered → d.part.captures ≡ c.part.captures → d.acked ≡ 1 + d.part.acked → d.part.acked + d.len ≤ length (speaker.text c.part.delivered c.part.captures) → AtText speaker opened client c → AtText speaker opened client d
+    like_text : (c d : Connection) → speaker.here d.part ≡ true → d.part.input ≡ c.part.input → d.part.snapshots ≡ c.part.snapshots → d.acked ≡ 1 + d.part.acked → d.part.acked + d.len ≤ length (speaker.text c.part.input c.part.snapshots) → AtText speaker opened client c → AtText speaker opened client d
     like_text c d here f k n l h =
-        let e : length (speaker.text d.part.delivered d.part.captures) ≡ length (speaker.text c.part.delivered c.part.captures) = ap (λ q. length (speaker.text q d.part.captures)) f ∙ ap (λ q. length (speaker.text c.part.delivered q)) k in
-        record { opened_is = h.opened_is; here = here; delivered = subst (λ q. IsPrefixOf q client.request) (sym f) h.delivered; fits = omega (arith, e, l); count = n }
+        let e : length (speaker.text d.part.input d.part.snapshots) ≡ length (speaker.text c.part.input c.part.snapshots) = ap (λ q. length (speaker.text q d.part.snapshots)) f ∙ ap (λ q. length (speaker.text c.part.input q)) k in
+        record { opened_is = h.opened_is; here = here; input = subst (λ q. IsPrefixOf q client.request) (sym f) h.input; fits = omega (arith, e, l); count = n }
 
     -- what is requested
     wanted_good : (w : Want) (fresh : Bool) (c : Connection) (numbers : List ℕ) → is_open c.state ≡ true → ConnGood speaker opened client c → AtText speaker opened client c → MayWant (page_by speaker) c.part w →
@@ -95,7 +95,7 @@ module _ (m : AppSpec) (speaker : Speaker) (laws : HasOutputModel m speaker) whe
     wanted_good Abort fresh c numbers o g h w = move_says c (closes c) (reset_of (closes c)) (closes_good c c refl refl) (says_reset (closes c) (closes c))
     wanted_good Close fresh c numbers o g h w =
         let d : Connection = record c { state = after_own_fin c.state; len = 1; age = 0 } in
-        let a : AtFin speaker opened client d = record { opened_is = h.opened_is; ends = prefix_all m speaker laws client c.part.delivered c.part.captures c.part.acked h.delivered w.0 w.1; count = h.count; delivered = h.delivered } in
+        let a : AtFin speaker opened client d = record { opened_is = h.opened_is; ends = prefix_all m speaker laws client c.part.input c.part.snapshots c.part.acked h.input w.0 w.1; count = h.count; input = h.input } in
         move_says c d (fin_of d) (turns c d refl refl g.irs (fin_state d c.state a)) (says_fin d (fin_lives c.state) a)
     wanted_good (Send n) fresh c numbers o g h w =
         let d : Connection = record c { len = min n c.mss; age = 0 } in
@@ -121,12 +121,12 @@ module _ (m : AppSpec) (speaker : Speaker) (laws : HasOutputModel m speaker) whe
         let p = prepare_is m speaker laws numbers d.part now h.here in
         let q : AppState = m.prepare numbers d.part now in
         let b : Connection = prepared m now d numbers in
-        let e : length (speaker.text q.delivered q.captures) ≡ length (speaker.text d.part.delivered (d.part.captures ++ p.more)) = ap (λ x. length (speaker.text x q.captures)) p.keeps.delivered ∙ ap (λ x. length (speaker.text d.part.delivered x)) p.captures in
-        let more : length (speaker.text d.part.delivered d.part.captures) ≤ length (speaker.text d.part.delivered (d.part.captures ++ p.more)) = prefix_length (speaker.text d.part.delivered d.part.captures) (speaker.text d.part.delivered (d.part.captures ++ p.more)) (page_more m speaker laws d.part.delivered d.part.captures p.more) in
-        let t : AtText speaker opened client b = record { opened_is = h.opened_is; here = p.keeps.here; delivered = subst (λ x. IsPrefixOf x client.request) (sym p.keeps.delivered) h.delivered; fits = omega (arith, e, more, h.fits, p.acked); count = omega (arith, h.count, p.acked) } in
-        let gb : ConnGood speaker opened client b = record { irs = g.irs; state = text_state d b d.state a.is_asked g.state t refl p.keeps.delivered p.keeps.lost } in
+        let e : length (speaker.text q.input q.snapshots) ≡ length (speaker.text d.part.input (d.part.snapshots ++ p.more)) = ap (λ x. length (speaker.text x q.snapshots)) p.keeps.input ∙ ap (λ x. length (speaker.text d.part.input x)) p.snapshots in
+        let more : length (speaker.text d.part.input d.part.snapshots) ≤ length (speaker.text d.part.input (d.part.snapshots ++ p.more)) = prefix_length (speaker.text d.part.input d.part.snapshots) (speaker.text d.part.input (d.part.snapshots ++ p.more)) (page_more m speaker laws d.part.input d.part.snapshots p.more) in
+        let t : AtText speaker opened client b = record { opened_is = h.opened_is; here = p.keeps.here; input = subst (λ x. IsPrefixOf x client.request) (sym p.keeps.input) h.input; fits = omega (arith, e, more, h.fits, p.acked); count = omega (arith, h.count, p.acked) } in
+        let gb : ConnGood speaker opened client b = record { irs = g.irs; state = text_state d b d.state a.is_asked g.state t refl p.keeps.input p.keeps.lost } in
         from_good c b (spoken m (ask m now fresh d numbers)) (a.moved.more ++ p.more) a.moved.iss
-        (p.captures ∙ ap (λ l. l ++ p.more) a.moved.captures ∙ append_assoc c.part.captures a.moved.more p.more)
+        (p.snapshots ∙ ap (λ l. l ++ p.more) a.moved.snapshots ∙ append_assoc c.part.snapshots a.moved.more p.more)
         (wanted_good (m.want numbers q) fresh b numbers a.is_asked gb t (wants_is m speaker laws numbers q t.here (omega (arith, t.fits))))
 
     abbrev pub OutBy : Connection → Connection → Step → Type 0
@@ -168,63 +168,63 @@ module _ (m : AppSpec) (speaker : Speaker) (laws : HasOutputModel m speaker) whe
     is_data at_epoch s (said_data d) nr a = d
 
     -- What is received of a text that follows what was received: a prefix of it, or nothing if the state is lost.
-    heard_prefix : (p q : AppState) (text : List ℕ) → IsPrefixOf p.delivered client.request → (speaker.lost p ≡ false → IsPart client.request text (length p.delivered)) → HearsSome speaker p q text → IsPrefixOf q.delivered client.request
+    heard_prefix : (p q : AppState) (text : List ℕ) → IsPrefixOf p.input client.request → (speaker.lost p ≡ false → IsPart client.request text (length p.input)) → HearsSome speaker p q text → IsPrefixOf q.input client.request
     heard_prefix p q text h t x =
         both_ways (speaker.lost p)
         (λ l. subst (λ y. IsPrefixOf y client.request) (sym (x.no_more l).0) h)
-        (λ l. let all : IsPrefixOf (p.delivered ++ text) client.request = prefix_joins client.request p.delivered text h (t l) in
-        subst (λ y. IsPrefixOf y client.request) (sym x.delivered) record {
+        (λ l. let all : IsPrefixOf (p.input ++ text) client.request = prefix_joins client.request p.input text h (t l) in
+        subst (λ y. IsPrefixOf y client.request) (sym x.input) record {
           rest = x.rest ++ all.rest;
-          joined = sym (append_assoc (p.delivered ++ x.prefix) x.rest all.rest) ∙ ap (λ y. y ++ all.rest) (append_assoc p.delivered x.prefix x.rest ∙ ap (λ y. p.delivered ++ y) x.joined) ∙ all.joined;
+          joined = sym (append_assoc (p.input ++ x.prefix) x.rest all.rest) ∙ ap (λ y. y ++ all.rest) (append_assoc p.input x.prefix x.rest ∙ ap (λ y. p.input ++ y) x.joined) ∙ all.joined;
         })
 
     -- if the state is not lost afterwards, all of it is received
-    heard_whole : (p q : AppState) (text : List ℕ) → HearsSome speaker p q text → speaker.lost q ≡ false → (speaker.lost p ≡ false) × (length q.delivered ≡ length p.delivered + length text)
+    heard_whole : (p q : AppState) (text : List ℕ) → HearsSome speaker p q text → speaker.lost q ≡ false → (speaker.lost p ≡ false) × (length q.input ≡ length p.input + length text)
     heard_whole p q text x l = (
       both_ways (speaker.lost p) (λ y. absurd (let z : speaker.lost q ≡ true = (x.no_more y).1 in cc)) (λ y. y),
       elim (x.all) [
         | inl e ↦ (let t : x.prefix ≡ text = sym (append_nothing x.prefix) ∙ ap (λ y. x.prefix ++ y) (sym e) ∙ x.joined in
-            ap (λ y. length y) x.delivered ∙ length-append p.delivered x.prefix ∙ ap (λ y. length p.delivered + length y) t)
+            ap (λ y. length y) x.input ∙ length-append p.input x.prefix ∙ ap (λ y. length p.input + length y) t)
         | inr e ↦ absurd (cc)
       ],
     )
 
     -- text is received in ESTABLISHED; the state may change, and the peer's window
-    heard_text : (c d : Connection) (text : List ℕ) → AtText speaker opened client c → (speaker.lost c.part ≡ false → IsPart client.request text (length c.part.delivered)) → Heard m speaker laws c.part d.part text → d.acked ≡ c.acked → d.len ≡ c.len → AtText speaker opened client d
+    heard_text : (c d : Connection) (text : List ℕ) → AtText speaker opened client c → (speaker.lost c.part ≡ false → IsPart client.request text (length c.part.input)) → Heard m speaker laws c.part d.part text → d.acked ≡ c.acked → d.len ≡ c.len → AtText speaker opened client d
     heard_text c d text h p x ea el =
         let prefix : List ℕ = x.some.prefix in
-        let e : length (speaker.text d.part.delivered d.part.captures) ≡ length (speaker.text (c.part.delivered ++ prefix) c.part.captures) = ap (λ q. length (speaker.text q d.part.captures)) x.some.delivered ∙ ap (λ q. length (speaker.text (c.part.delivered ++ prefix) q)) x.captures in
-        let more : length (speaker.text c.part.delivered c.part.captures) ≤ length (speaker.text (c.part.delivered ++ prefix) c.part.captures) = prefix_length (speaker.text c.part.delivered c.part.captures) (speaker.text (c.part.delivered ++ prefix) c.part.captures) (page_heard m speaker laws c.part.delivered prefix c.part.captures) in
+        let e : length (speaker.text d.part.input d.part.snapshots) ≡ length (speaker.text (c.part.input ++ prefix) c.part.snapshots) = ap (λ q. length (speaker.text q d.part.snapshots)) x.some.input ∙ ap (λ q. length (speaker.text (c.part.input ++ prefix) q)) x.snapshots in
+        let more : length (speaker.text c.part.input c.part.snapshots) ≤ length (speaker.text (c.part.input ++ prefix) c.part.snapshots) = prefix_length (speaker.text c.part.input c.part.snapshots) (speaker.text (c.part.input ++ prefix) c.part.snapshots) (page_heard m speaker laws c.part.input prefix c.part.snapshots) in
         record {
           opened_is = h.opened_is;
           here = x.some.here;
-          delivered = heard_prefix c.part d.part text h.delivered p x.some;
+          input = heard_prefix c.part d.part text h.input p x.some;
           fits = omega (arith, e, more, h.fits, x.acked, el);
           count = omega (arith, h.count, x.acked, ea);
         }
 
-    prefix_fits : (c : Connection) → AtText speaker opened client c → length c.part.delivered ≤ length client.request
-    prefix_fits c h = prefix_length c.part.delivered client.request h.delivered
+    prefix_fits : (c : Connection) → AtText speaker opened client c → length c.part.input ≤ length client.request
+    prefix_fits c h = prefix_length c.part.input client.request h.input
 
-    peer_closes_good : (c : Connection) (numbers : List ℕ) (s : PlainSegment) → c.irs ≡ own_first client → AtOpen speaker opened client c → (speaker.lost c.part ≡ false → IsPart client.request s.text (length c.part.delivered)) → OutGood c (peer_closes m c numbers s)
+    peer_closes_good : (c : Connection) (numbers : List ℕ) (s : PlainSegment) → c.irs ≡ own_first client → AtOpen speaker opened client c → (speaker.lost c.part ≡ false → IsPart client.request s.text (length c.part.input)) → OutGood c (peer_closes m c numbers s)
     unfolding peer_closes
     peer_closes_good c numbers s pf h part =
         let x = hears_is m speaker laws numbers c.part s.text h.text.here in
         let d : Connection = in_state CloseWait (with_window s.window (with_part (hears m numbers c.part s.text).part (takes (length s.text + 1) c))) in
         let t : AtText speaker opened client d = heard_text c d s.text h.text part x refl refl in
-        let w : Moved speaker opened client c d = turns c d refl x.captures pf t in
+        let w : Moved speaker opened client c d = turns c d refl x.snapshots pf t in
         choose (λ (o : Outcome). OutGood c o) (ltb 0 c.len) _ _
         (λ e. move_says c d (bare_ack d) w (says_ack d refl))
         (λ e. record { moved = w; is_asked = refl; idle = ltb-zero c.len e })
 
-    goes_on_good : (acked : Bool) (c : Connection) (numbers : List ℕ) (s : PlainSegment) → c.state ≡ Established → c.irs ≡ own_first client → AtOpen speaker opened client c → (speaker.lost c.part ≡ false → IsPart client.request s.text (length c.part.delivered)) → OutGood c (stays_established m acked c numbers s)
+    goes_on_good : (acked : Bool) (c : Connection) (numbers : List ℕ) (s : PlainSegment) → c.state ≡ Established → c.irs ≡ own_first client → AtOpen speaker opened client c → (speaker.lost c.part ≡ false → IsPart client.request s.text (length c.part.input)) → OutGood c (stays_established m acked c numbers s)
     unfolding stays_established
     goes_on_good acked c numbers s st pf h part =
         let x = hears_is m speaker laws numbers c.part s.text h.text.here in
         let d : Connection = with_window s.window (with_part (hears m numbers c.part s.text).part (takes (length s.text) c)) in
         let t : AtText speaker opened client d = heard_text c d s.text h.text part x refl refl in
         let a : AtOpen speaker opened client d = record { text = t; taken = λ l. (let y = heard_whole c.part d.part s.text x.some l in omega (arith, h.taken y.0, y.1)) } in
-        let w : Moved speaker opened client c d = turns c d refl x.captures pf (state_at d Established st a) in
+        let w : Moved speaker opened client c d = turns c d refl x.snapshots pf (state_at d Established st a) in
         let l : is_live d.state ≡ true = ap is_live st in
         choose (λ (o : Outcome). OutGood c o) (not acked && not (has_text s)) _ _
         (λ e. move_silent c d w)
@@ -236,7 +236,7 @@ module _ (m : AppSpec) (speaker : Speaker) (laws : HasOutputModel m speaker) whe
         c.state ≡ Established → c.irs ≡ own_first client → AtOpen speaker opened client c → (0 < length s.text → s.seq ≡ rcv_nxt c) → OutGood c (in_established m acked c numbers s)
     unfolding in_established
     established_good at_epoch acked c numbers s steady output nr st pf h e =
-        let part : speaker.lost c.part ≡ false → IsPart client.request s.text (length c.part.delivered) = λ l. said_part at_epoch c s (length c.part.delivered) steady output nr pf (h.taken l) (prefix_fits c h.text) e in
+        let part : speaker.lost c.part ≡ false → IsPart client.request s.text (length c.part.input) = λ l. said_part at_epoch c s (length c.part.input) steady output nr pf (h.taken l) (prefix_fits c h.text) e in
         choose (λ (o : Outcome). OutGood c o) (has_fin s.flags) _ _
         (λ f. peer_closes_good c numbers s pf h part)
         (λ f. goes_on_good acked c numbers s st pf h part)
@@ -246,20 +246,20 @@ module _ (m : AppSpec) (speaker : Speaker) (laws : HasOutputModel m speaker) whe
     ack_text c numbers h =
         let n : (m.acked numbers c.part c.len).part.acked ≡ c.part.acked + c.len = acked_is m speaker laws numbers c.part c.len h.here h.fits in
         let x : KeepsHeard speaker c.part (m.acked numbers c.part c.len).part = laws.acked numbers c.part c.len h.here in
-        like_text c (with_part (m.acked numbers c.part c.len).part (rests c)) x.here x.delivered (laws.steady.acked_captures numbers c.part c.len) (omega (arith, n, h.count)) (omega (arith, n, h.fits)) h
+        like_text c (with_part (m.acked numbers c.part c.len).part (rests c)) x.here x.input (laws.steady.acked_snapshots numbers c.part c.len) (omega (arith, n, h.count)) (omega (arith, n, h.fits)) h
 
-    out_from : (c b : Connection) (d : Connection) (s : Step) → b.iss ≡ c.iss → b.part.captures ≡ c.part.captures → OutBy b d s → OutBy c d s
+    out_from : (c b : Connection) (d : Connection) (s : Step) → b.iss ≡ c.iss → b.part.snapshots ≡ c.part.snapshots → OutBy b d s → OutBy c d s
     out_from c b d (Step.Ask fresh) f k h = record {
-      moved = record { iss = h.moved.iss ∙ f; more = h.moved.more; captures = h.moved.captures ∙ ap (λ l. l ++ h.moved.more) k; good = h.moved.good };
+      moved = record { iss = h.moved.iss ∙ f; more = h.moved.more; snapshots = h.moved.snapshots ∙ ap (λ l. l ++ h.moved.more) k; good = h.moved.good };
       is_asked = h.is_asked;
       idle = h.idle;
     }
-    out_from c b d Step.Drop f k h = from_good c b (record { connection = d; sent = None }) [] f (k ∙ sym (append_nothing c.part.captures)) h
-    out_from c b d Step.Ack f k h = from_good c b (record { connection = d; sent = Some (bare_ack d) }) [] f (k ∙ sym (append_nothing c.part.captures)) h
-    out_from c b d (Step.SynAck again) f k h = from_good c b (record { connection = d; sent = Some (syn_ack d) }) [] f (k ∙ sym (append_nothing c.part.captures)) h
-    out_from c b d (Step.Text again) f k h = from_good c b (record { connection = d; sent = Some (text_segment m d) }) [] f (k ∙ sym (append_nothing c.part.captures)) h
-    out_from c b d (Step.Fin again) f k h = from_good c b (record { connection = d; sent = Some (fin_of d) }) [] f (k ∙ sym (append_nothing c.part.captures)) h
-    out_from c b d Step.Reset f k h = from_good c b (record { connection = d; sent = Some (reset_of d) }) [] f (k ∙ sym (append_nothing c.part.captures)) h
+    out_from c b d Step.Drop f k h = from_good c b (record { connection = d; sent = None }) [] f (k ∙ sym (append_nothing c.part.snapshots)) h
+    out_from c b d Step.Ack f k h = from_good c b (record { connection = d; sent = Some (bare_ack d) }) [] f (k ∙ sym (append_nothing c.part.snapshots)) h
+    out_from c b d (Step.SynAck again) f k h = from_good c b (record { connection = d; sent = Some (syn_ack d) }) [] f (k ∙ sym (append_nothing c.part.snapshots)) h
+    out_from c b d (Step.Text again) f k h = from_good c b (record { connection = d; sent = Some (text_segment m d) }) [] f (k ∙ sym (append_nothing c.part.snapshots)) h
+    out_from c b d (Step.Fin again) f k h = from_good c b (record { connection = d; sent = Some (fin_of d) }) [] f (k ∙ sym (append_nothing c.part.snapshots)) h
+    out_from c b d Step.Reset f k h = from_good c b (record { connection = d; sent = Some (reset_of d) }) [] f (k ∙ sym (append_nothing c.part.snapshots)) h
 
     connects_good : (at_epoch : ℕ) (c : Connection) (numbers : List ℕ) (s : PlainSegment) → Steady client → ClientSaid client opened at_epoch s → has_rst s.flags ≡ false → has_ack s.flags ≡ true →
         c.irs ≡ own_first client → AtSyn speaker c → (0 < length s.text → s.seq ≡ rcv_nxt c) → OutGood c (connects m c numbers s)
@@ -268,17 +268,17 @@ module _ (m : AppSpec) (speaker : Speaker) (laws : HasOutputModel m speaker) whe
         let start : AppState = (m.connected numbers c.sockets.own_port.0).part in
         let x = hears_is m speaker laws (m.connected numbers c.sockets.own_port.0).numbers start s.text (laws.connected_here numbers c.sockets.own_port.0 h.port) in
         let d : Connection = with_part (hears m (m.connected numbers c.sockets.own_port.0).numbers start s.text).part (takes (length s.text) (in_state Established (rests c))) in
-        let none : start.delivered ≡ [] = laws.connected_delivered numbers c.sockets.own_port.0 h.port in
+        let none : start.input ≡ [] = laws.connected_input numbers c.sockets.own_port.0 h.port in
         let part : IsPart client.request s.text 0 = said_part at_epoch c s 0 steady output nr pf h.taken (omega arith) e in
-        let begins : IsPrefixOf start.delivered client.request = subst (λ q. IsPrefixOf q client.request) (sym none) record { rest = client.request; joined = refl } in
+        let begins : IsPrefixOf start.input client.request = subst (λ q. IsPrefixOf q client.request) (sym none) record { rest = client.request; joined = refl } in
         let acked : d.part.acked ≡ 0 = x.acked ∙ laws.steady.connected_acked numbers c.sockets.own_port.0 in
-        let k : d.part.captures ≡ [] = x.captures ∙ laws.steady.connected_captures numbers c.sockets.own_port.0 in
+        let k : d.part.snapshots ≡ [] = x.snapshots ∙ laws.steady.connected_snapshots numbers c.sockets.own_port.0 in
         record {
-          moved = turns c d refl (k ∙ sym h.captures) pf record {
+          moved = turns c d refl (k ∙ sym h.snapshots) pf record {
             text = record {
               opened_is = told.opened_is;
               here = x.some.here;
-              delivered = heard_prefix start d.part s.text begins (λ l. subst (λ n. IsPart client.request s.text n) (sym (ap length none)) part) x.some;
+              input = heard_prefix start d.part s.text begins (λ l. subst (λ n. IsPart client.request s.text n) (sym (ap length none)) part) x.some;
               fits = omega (arith, acked);
               count = omega (arith, acked, h.acked, h.len);
             };
@@ -298,42 +298,42 @@ module _ (m : AppSpec) (speaker : Speaker) (laws : HasOutputModel m speaker) whe
     by_state_good at_epoch Established true c numbers s steady output nr st pf h ac e lv =
         let b : Connection = with_part (m.acked numbers c.part c.len).part (rests c) in
         let o : Outcome = in_established m true b (m.acked numbers c.part c.len).numbers s in
-        out_from c b o.connection o.step refl (laws.steady.acked_captures numbers c.part c.len)
-        (established_good at_epoch true b (m.acked numbers c.part c.len).numbers s steady output nr st pf record { text = ack_text c numbers h.text; taken = λ l. (let x = laws.acked numbers c.part c.len h.text.here in h.taken (sym x.lost ∙ l) ∙ ap length (sym x.delivered)) } e)
+        out_from c b o.connection o.step refl (laws.steady.acked_snapshots numbers c.part c.len)
+        (established_good at_epoch true b (m.acked numbers c.part c.len).numbers s steady output nr st pf record { text = ack_text c numbers h.text; taken = λ l. (let x = laws.acked numbers c.part c.len h.text.here in h.taken (sym x.lost ∙ l) ∙ ap length (sym x.input)) } e)
     by_state_good at_epoch Established false c numbers s steady output nr st pf h ac e lv = established_good at_epoch false c numbers s steady output nr st pf h e
     by_state_good at_epoch CloseWait true c numbers s steady output nr st pf h ac e lv =
         let b : Connection = with_part (m.acked numbers c.part c.len).part (rests c) in
         let d : Connection = with_window s.window b in
         let t : AtText speaker opened client b = ack_text c numbers h in
-        let u : AtText speaker opened client d = record { opened_is = t.opened_is; here = t.here; delivered = t.delivered; fits = t.fits; count = t.count } in
-        record { moved = turns c d refl (laws.steady.acked_captures numbers c.part c.len) pf (state_at d CloseWait st u); is_asked = ap is_open st; idle = refl }
+        let u : AtText speaker opened client d = record { opened_is = t.opened_is; here = t.here; input = t.input; fits = t.fits; count = t.count } in
+        record { moved = turns c d refl (laws.steady.acked_snapshots numbers c.part c.len) pf (state_at d CloseWait st u); is_asked = ap is_open st; idle = refl }
     by_state_good at_epoch CloseWait false c numbers s steady output nr st pf h ac e lv =
         let d : Connection = with_window s.window c in
-        let u : AtText speaker opened client d = record { opened_is = h.opened_is; here = h.here; delivered = h.delivered; fits = h.fits; count = h.count } in
+        let u : AtText speaker opened client d = record { opened_is = h.opened_is; here = h.here; input = h.input; fits = h.fits; count = h.count } in
         move_silent c d (turns c d refl refl pf (state_at d CloseWait st u))
     by_state_good at_epoch FinWait1 true c numbers s steady output nr st pf h ac e lv =
         choose (λ (o : Outcome). OutGood c o) (has_fin s.flags) _ _
-        (λ f. let d : Connection = in_state TimeWait (takes (length s.text + 1) (rests c)) in move_says c d (bare_ack d) (turns c d refl refl pf record { opened_is = h.opened_is; delivered = h.delivered }) (says_ack d refl))
-        (λ f. let d : Connection = in_state FinWait2 (takes (length s.text) (rests c)) in move_silent c d (turns c d refl refl pf record { opened_is = h.opened_is; delivered = h.delivered }))
+        (λ f. let d : Connection = in_state TimeWait (takes (length s.text + 1) (rests c)) in move_says c d (bare_ack d) (turns c d refl refl pf record { opened_is = h.opened_is; input = h.input }) (says_ack d refl))
+        (λ f. let d : Connection = in_state FinWait2 (takes (length s.text) (rests c)) in move_silent c d (turns c d refl refl pf record { opened_is = h.opened_is; input = h.input }))
     by_state_good at_epoch FinWait1 false c numbers s steady output nr st pf h ac e lv =
         let g : ConnGood speaker opened client c = record { irs = pf; state = state_at c FinWait1 st h } in
         choose (λ (o : Outcome). OutGood c o) (has_fin s.flags) _ _
         (λ f. let d : Connection = in_state Closing (takes (length s.text + 1) c) in
-        let a : AtFin speaker opened client d = record { opened_is = h.opened_is; ends = h.ends; count = h.count; delivered = h.delivered } in
+        let a : AtFin speaker opened client d = record { opened_is = h.opened_is; ends = h.ends; count = h.count; input = h.input } in
         move_says c d (bare_ack d) (turns c d refl refl pf a) (says_ack d refl))
         (λ f. choose (λ (o : Outcome). OutGood c o) (has_text s) _ _
         (λ i. let d : Connection = takes (length s.text) c in
-        let a : AtFin speaker opened client d = record { opened_is = h.opened_is; ends = h.ends; count = h.count; delivered = h.delivered } in
+        let a : AtFin speaker opened client d = record { opened_is = h.opened_is; ends = h.ends; count = h.count; input = h.input } in
         move_says c d (bare_ack d) (turns c d refl refl pf (state_at d FinWait1 st a)) (says_ack d (ap is_live st)))
         (λ i. move_silent c c (stays_good c g)))
     by_state_good at_epoch FinWait2 acked c numbers s steady output nr st pf h ac e lv =
         choose (λ (o : Outcome). OutGood c o) (has_fin s.flags) _ _
-        (λ f. let d : Connection = record (in_state TimeWait (takes (length s.text + 1) c)) { age = 0 } in move_says c d (bare_ack d) (turns c d refl refl pf record { opened_is = h.opened_is; delivered = h.delivered }) (says_ack d refl))
+        (λ f. let d : Connection = record (in_state TimeWait (takes (length s.text + 1) c)) { age = 0 } in move_says c d (bare_ack d) (turns c d refl refl pf record { opened_is = h.opened_is; input = h.input }) (says_ack d refl))
         (λ f. choose (λ (o : Outcome). OutGood c o) (has_text s) _ _
-        (λ i. let d : Connection = takes (length s.text) c in move_says c d (bare_ack d) (turns c d refl refl pf (state_at d FinWait2 st record { opened_is = h.opened_is; delivered = h.delivered })) (says_ack d (ap is_live st)))
+        (λ i. let d : Connection = takes (length s.text) c in move_says c d (bare_ack d) (turns c d refl refl pf (state_at d FinWait2 st record { opened_is = h.opened_is; input = h.input })) (says_ack d (ap is_live st)))
         (λ i. move_silent c c (stays_good c record { irs = pf; state = state_at c FinWait2 st h })))
     by_state_good at_epoch Closing true c numbers s steady output nr st pf h ac e lv =
-        let d : Connection = in_state TimeWait (rests c) in move_silent c d (turns c d refl refl pf record { opened_is = h.opened_is; delivered = h.delivered })
+        let d : Connection = in_state TimeWait (rests c) in move_silent c d (turns c d refl refl pf record { opened_is = h.opened_is; input = h.input })
     by_state_good at_epoch Closing false c numbers s steady output nr st pf h ac e lv = move_silent c c (stays_good c record { irs = pf; state = state_at c Closing st h })
     by_state_good at_epoch LastAck true c numbers s steady output nr st pf h ac e lv = move_silent c (closes (rests c)) (closes_good c (rests c) refl refl)
     by_state_good at_epoch LastAck false c numbers s steady output nr st pf h ac e lv = move_silent c c (stays_good c record { irs = pf; state = state_at c LastAck st h })
@@ -354,14 +354,14 @@ module _ (m : AppSpec) (speaker : Speaker) (laws : HasOutputModel m speaker) whe
     -- the timer
     older : (c : Connection) (st : State) → StateGood speaker opened client c st → StateGood speaker opened client (grows_older c) st
     older c Closed h = tt
-    older c SynRcvd h = record { port = h.port; taken = h.taken; len = h.len; captures = h.captures; acked = h.acked; delivered = h.delivered }
-    older c Established h = record { text = record { opened_is = h.text.opened_is; here = h.text.here; delivered = h.text.delivered; fits = h.text.fits; count = h.text.count }; taken = h.taken }
-    older c CloseWait h = record { opened_is = h.opened_is; here = h.here; delivered = h.delivered; fits = h.fits; count = h.count }
-    older c FinWait1 h = record { opened_is = h.opened_is; ends = h.ends; count = h.count; delivered = h.delivered }
-    older c FinWait2 h = record { opened_is = h.opened_is; delivered = h.delivered }
-    older c Closing h = record { opened_is = h.opened_is; ends = h.ends; count = h.count; delivered = h.delivered }
-    older c TimeWait h = record { opened_is = h.opened_is; delivered = h.delivered }
-    older c LastAck h = record { opened_is = h.opened_is; ends = h.ends; count = h.count; delivered = h.delivered }
+    older c SynRcvd h = record { port = h.port; taken = h.taken; len = h.len; snapshots = h.snapshots; acked = h.acked; input = h.input }
+    older c Established h = record { text = record { opened_is = h.text.opened_is; here = h.text.here; input = h.text.input; fits = h.text.fits; count = h.text.count }; taken = h.taken }
+    older c CloseWait h = record { opened_is = h.opened_is; here = h.here; input = h.input; fits = h.fits; count = h.count }
+    older c FinWait1 h = record { opened_is = h.opened_is; ends = h.ends; count = h.count; input = h.input }
+    older c FinWait2 h = record { opened_is = h.opened_is; input = h.input }
+    older c Closing h = record { opened_is = h.opened_is; ends = h.ends; count = h.count; input = h.input }
+    older c TimeWait h = record { opened_is = h.opened_is; input = h.input }
+    older c LastAck h = record { opened_is = h.opened_is; ends = h.ends; count = h.count; input = h.input }
 
     older_moved : (c : Connection) → ConnGood speaker opened client c → Moved speaker opened client c (grows_older c)
     older_moved c g = turns c (grows_older c) refl refl g.irs (older c c.state g.state)
@@ -393,11 +393,11 @@ module _ (m : AppSpec) (speaker : Speaker) (laws : HasOutputModel m speaker) whe
           (let h : AtOpen speaker opened client c = subst (λ st. StateGood speaker opened client c st) e g.state in
           let x : KeepsHeard speaker c.part (m.polled numbers c.part).part = laws.polled numbers c.part h.text.here in
           let a : (m.polled numbers c.part).part.acked ≡ c.part.acked = (laws.steady.lawful.polled_keeps numbers c.part tt).1 in
-          let k : (m.polled numbers c.part).part.captures ≡ c.part.captures = laws.steady.polled_captures numbers c.part in
+          let k : (m.polled numbers c.part).part.snapshots ≡ c.part.snapshots = laws.steady.polled_snapshots numbers c.part in
           let d : Connection = with_part (m.polled numbers c.part).part c in
-          let t : AtText speaker opened client d = like_text c d x.here x.delivered k (omega (arith, h.text.count, a)) (omega (arith, h.text.fits, a)) h.text in
+          let t : AtText speaker opened client d = like_text c d x.here x.input k (omega (arith, h.text.count, a)) (omega (arith, h.text.fits, a)) h.text in
           record {
-            moved = turns c d refl k g.irs (state_at d Established e record { text = t; taken = λ l. h.taken (sym x.lost ∙ l) ∙ ap length (sym x.delivered) });
+            moved = turns c d refl k g.irs (state_at d Established e record { text = t; taken = λ l. h.taken (sym x.lost ∙ l) ∙ ap length (sym x.input) });
             is_asked = ap is_open e;
             idle = z;
           });

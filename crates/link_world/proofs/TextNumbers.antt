@@ -4,10 +4,10 @@ use Rattle.link_world.proofs.Prelude.{◌≡◌, ℕ, ◌+◌, ◌≤◌, Bool, 
 -- the numbers, by the state
 abbrev AtNumbers : State → Connection → Type 0
 AtNumbers Closed c = Unit {0}
-AtNumbers SynRcvd c = (c.acked ≡ 0) × (c.len ≡ 1) × (c.taken ≡ 0) × (c.part.delivered ≡ [])
-AtNumbers Established c = (c.acked ≡ 1 + c.part.acked) × (c.taken ≡ length c.part.delivered)
-AtNumbers CloseWait c = (c.acked ≡ 1 + c.part.acked) × (c.taken ≡ length c.part.delivered + 1)
-AtNumbers _ c = length c.part.delivered ≤ c.taken
+AtNumbers SynRcvd c = (c.acked ≡ 0) × (c.len ≡ 1) × (c.taken ≡ 0) × (c.part.input ≡ [])
+AtNumbers Established c = (c.acked ≡ 1 + c.part.acked) × (c.taken ≡ length c.part.input)
+AtNumbers CloseWait c = (c.acked ≡ 1 + c.part.acked) × (c.taken ≡ length c.part.input + 1)
+AtNumbers _ c = length c.part.input ≤ c.taken
 
 pub record Num (c : Connection) : Type 0 where
   pub at : AtNumbers c.state c
@@ -24,19 +24,19 @@ closes_num : (c : Connection) → Num (closes c)
 closes_num c = record { at = tt }
 
 -- in ESTABLISHED and CLOSE-WAIT, with the same numbers
-open_num : (c d : Connection) (st : State) → is_open st ≡ true → d.acked ≡ c.acked → d.taken ≡ c.taken → d.part.acked ≡ c.part.acked → d.part.delivered ≡ c.part.delivered → AtNumbers st c → AtNumbers st d
+open_num : (c d : Connection) (st : State) → is_open st ≡ true → d.acked ≡ c.acked → d.taken ≡ c.taken → d.part.acked ≡ c.part.acked → d.part.input ≡ c.part.input → AtNumbers st c → AtNumbers st d
 open_num c d st o a t pa ph h =
     by_open (λ x. AtNumbers x c → AtNumbers x d) (λ g. (omega (arith, a, pa, g.0), omega (arith, t, ap length ph, g.1))) (λ g. (omega (arith, a, pa, g.0), omega (arith, t, ap length ph, g.1))) st o h
 
 -- the same numbers in the same state; what is outstanding stays too
-like_num : (c d : Connection) (st : State) → d.acked ≡ c.acked → d.len ≡ c.len → d.taken ≡ c.taken → d.part.acked ≡ c.part.acked → d.part.delivered ≡ c.part.delivered → AtNumbers st c → AtNumbers st d
+like_num : (c d : Connection) (st : State) → d.acked ≡ c.acked → d.len ≡ c.len → d.taken ≡ c.taken → d.part.acked ≡ c.part.acked → d.part.input ≡ c.part.input → AtNumbers st c → AtNumbers st d
 like_num c d Closed a l t pa ph h = tt
 like_num c d SynRcvd a l t pa ph h = (a ∙ h.0, l ∙ h.1, t ∙ h.2, ph ∙ h.3)
 like_num c d Established a l t pa ph h = (omega (arith, a, pa, h.0), omega (arith, t, ap length ph, h.1))
 like_num c d CloseWait a l t pa ph h = (omega (arith, a, pa, h.0), omega (arith, t, ap length ph, h.1))
 like_num c d _ a l t pa ph h = omega (arith, t, ap length ph, h)
 
-low_num : (c : Connection) (st : State) → is_live st ≡ true → AtNumbers st c → length c.part.delivered ≤ c.taken
+low_num : (c : Connection) (st : State) → is_live st ≡ true → AtNumbers st c → length c.part.input ≤ c.taken
 low_num c Closed l h = absurd (cc)
 low_num c SynRcvd l h = omega (arith, ap length h.3)
 low_num c Established l h = omega (arith, h.1)
@@ -44,7 +44,7 @@ low_num c CloseWait l h = omega (arith, h.1)
 low_num c _ l h = h
 
 -- the state after an own FIN
-fin_num : (d : Connection) (st : State) → length d.part.delivered ≤ d.taken → AtNumbers (after_own_fin st) d
+fin_num : (d : Connection) (st : State) → length d.part.input ≤ d.taken → AtNumbers (after_own_fin st) d
 fin_num d st h = by_own_fin (λ x. AtNumbers x d) h h st
 
 module _ (m : AppSpec) (pages : Pages) (lawful : IsPaged m pages) where
@@ -64,31 +64,31 @@ module _ (m : AppSpec) (pages : Pages) (lawful : IsPaged m pages) where
       let b : Connection = prepared m now o.connection o.numbers in
       let p = h.open_there a in
       let g = h.num in
-      let same : Num b = record { at = open_num o.connection b o.connection.state p refl refl (lawful.prepare_acked o.numbers o.connection.part now) (lawful.prepare_delivered o.numbers o.connection.part now) g.at } in
+      let same : Num b = record { at = open_num o.connection b o.connection.state p refl refl (lawful.prepare_acked o.numbers o.connection.part now) (lawful.prepare_input o.numbers o.connection.part now) g.at } in
       wanted_num (m.want o.numbers b.part) fresh b o.numbers p same))
       h.num
 
   -- ---- a segment
 
-  closes_in : (c : Connection) (numbers : List ℕ) (s : PlainSegment) → c.acked ≡ 1 + c.part.acked → c.taken ≡ length c.part.delivered → OutNum (peer_closes m c numbers s)
+  closes_in : (c : Connection) (numbers : List ℕ) (s : PlainSegment) → c.acked ≡ 1 + c.part.acked → c.taken ≡ length c.part.input → OutNum (peer_closes m c numbers s)
   unfolding peer_closes
   closes_in c numbers s a t =
       let x : Heard m pages lawful c.part (hears m numbers c.part s.text).part s.text = hears_is m pages lawful numbers c.part s.text in
       let d : Connection = in_state CloseWait (with_window s.window (with_part (hears m numbers c.part s.text).part (takes (length s.text + 1) c))) in
-      let g : Num d = record { at = (omega (arith, a, x.acked), omega (arith, t, ap length x.delivered, length-append c.part.delivered s.text)) } in
+      let g : Num d = record { at = (omega (arith, a, x.acked), omega (arith, t, ap length x.input, length-append c.part.input s.text)) } in
       choose (λ (o : Outcome). OutNum o) (ltb 0 c.len) _ _ (λ e. record { num = g; open_there = λ z. refl }) (λ e. record { num = g; open_there = λ z. refl })
 
-  goes_on_in : (acked : Bool) (c : Connection) (numbers : List ℕ) (s : PlainSegment) → c.state ≡ Established → c.acked ≡ 1 + c.part.acked → c.taken ≡ length c.part.delivered → OutNum (stays_established m acked c numbers s)
+  goes_on_in : (acked : Bool) (c : Connection) (numbers : List ℕ) (s : PlainSegment) → c.state ≡ Established → c.acked ≡ 1 + c.part.acked → c.taken ≡ length c.part.input → OutNum (stays_established m acked c numbers s)
   unfolding stays_established
   goes_on_in acked c numbers s st a t =
       let x : Heard m pages lawful c.part (hears m numbers c.part s.text).part s.text = hears_is m pages lawful numbers c.part s.text in
       let d : Connection = with_window s.window (with_part (hears m numbers c.part s.text).part (takes (length s.text) c)) in
-      let g : Num d = num_at d Established st (omega (arith, a, x.acked), omega (arith, t, ap length x.delivered, length-append c.part.delivered s.text)) in
+      let g : Num d = num_at d Established st (omega (arith, a, x.acked), omega (arith, t, ap length x.input, length-append c.part.input s.text)) in
       let o : is_open d.state ≡ true = ap is_open st in
       choose (λ (o : Outcome). OutNum o) (not acked && not (has_text s)) _ _ (λ e. record { num = g; open_there = λ z. o })
       (λ e. choose (λ (o : Outcome). OutNum o) (ltb 0 c.len) _ _ (λ f. record { num = g; open_there = λ z. o }) (λ f. record { num = g; open_there = λ z. o }))
 
-  established_num : (acked : Bool) (c : Connection) (numbers : List ℕ) (s : PlainSegment) → c.state ≡ Established → c.acked ≡ 1 + c.part.acked → c.taken ≡ length c.part.delivered → OutNum (in_established m acked c numbers s)
+  established_num : (acked : Bool) (c : Connection) (numbers : List ℕ) (s : PlainSegment) → c.state ≡ Established → c.acked ≡ 1 + c.part.acked → c.taken ≡ length c.part.input → OutNum (in_established m acked c numbers s)
   unfolding in_established
   established_num acked c numbers s st a t = choose (λ (o : Outcome). OutNum o) (has_fin s.flags) _ _ (λ e. closes_in c numbers s a t) (λ e. goes_on_in acked c numbers s st a t)
 
@@ -102,23 +102,23 @@ module _ (m : AppSpec) (pages : Pages) (lawful : IsPaged m pages) where
       let port : ℕ = c.sockets.own_port.0 in
       let start = m.connected numbers port in
       let x : Heard m pages lawful start.part (hears m start.numbers start.part s.text).part s.text = hears_is m pages lawful start.numbers start.part s.text in
-      let none : start.part.delivered ≡ [] = lawful.connected_delivered numbers port in
+      let none : start.part.input ≡ [] = lawful.connected_input numbers port in
       let zero : start.part.acked ≡ 0 = lawful.connected_acked numbers port in
-      let text : length (hears m start.numbers start.part s.text).part.delivered ≡ length s.text = ap length x.delivered ∙ ap (λ l. length (l ++ s.text)) none in
+      let text : length (hears m start.numbers start.part s.text).part.input ≡ length s.text = ap length x.input ∙ ap (λ l. length (l ++ s.text)) none in
       record { num = record { at = (omega (arith, h.0, h.1, x.acked, zero), omega (arith, h.2, text)) }; open_there = λ z. refl }
   by_state_num SynRcvd false c numbers s e h = still c SynRcvd Step.Drop numbers e refl h
   by_state_num Established true c numbers s e h =
       let told = m.acked numbers c.part c.len in
       let b : Connection = with_part told.part (rests c) in
       let moved : told.part.acked ≡ c.part.acked + c.len = lawful.acked_moves numbers c.part c.len in
-      let same : told.part.delivered ≡ c.part.delivered = lawful.acked_delivered numbers c.part c.len in
+      let same : told.part.input ≡ c.part.input = lawful.acked_input numbers c.part c.len in
       established_num true b told.numbers s e (omega (arith, h.0, moved)) (omega (arith, h.1, ap length same))
   by_state_num Established false c numbers s e h = established_num false c numbers s e h.0 h.1
   by_state_num CloseWait true c numbers s e h =
       let told = m.acked numbers c.part c.len in
       let d : Connection = with_window s.window (with_part told.part (rests c)) in
       let moved : told.part.acked ≡ c.part.acked + c.len = lawful.acked_moves numbers c.part c.len in
-      let same : told.part.delivered ≡ c.part.delivered = lawful.acked_delivered numbers c.part c.len in
+      let same : told.part.input ≡ c.part.input = lawful.acked_input numbers c.part c.len in
       record { num = num_at d CloseWait e (omega (arith, h.0, moved), omega (arith, h.1, ap length same)); open_there = λ z. ap is_open e }
   by_state_num CloseWait false c numbers s e h = still (with_window s.window c) CloseWait Step.Drop numbers e refl (h.0, h.1)
   by_state_num FinWait1 true c numbers s e h =
@@ -164,7 +164,7 @@ module _ (m : AppSpec) (pages : Pages) (lawful : IsPaged m pages) where
     polled = λ e l.
         (let x = lawful.polled_same numbers c.part in
         let d : Connection = with_part (m.polled numbers c.part).part c in
-        record { num = record { at = open_num c d c.state (ap is_open e) refl refl x.acked x.delivered g.at }; open_there = λ z. ap is_open e });
+        record { num = record { at = open_num c d c.state (ap is_open e) refl refl x.acked x.input g.at }; open_there = λ z. ap is_open e });
   }
 
   pub segment_num : (at : Connection → Now) (c : Connection) (numbers : List ℕ) (s : PlainSegment) → Num c → Num (asked m at (on_segment m c numbers s)).connection
@@ -188,5 +188,5 @@ text_numbers c g = record {
   ];
   established = λ x. (let h : AtNumbers Established c = subst (λ st. AtNumbers st c) x g.at in h.1);
   close_wait = λ x. (let h : AtNumbers CloseWait c = subst (λ st. AtNumbers st c) x g.at in h.1);
-  delivered = λ l. low_num c c.state l g.at;
+  input = λ l. low_num c c.state l g.at;
 }

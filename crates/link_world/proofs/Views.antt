@@ -10,7 +10,7 @@ use Rattle.link_world.proofs.Good.NodeSaid.{node_reset}
 pub record EraLater (a b : PastConnection) : Type 0 where
   pub iss : b.iss ≡ a.iss
   pub more : List Snapshot
-  pub captures : b.captures ≡ a.captures ++ more
+  pub snapshots : b.snapshots ≡ a.snapshots ++ more
 
 pub record Onward (history : List PastConnection) (c : Connection) (history' : List PastConnection) (c' : Connection) : Type 0 where
   pub longer : length history ≤ length history'
@@ -18,7 +18,7 @@ pub record Onward (history : List PastConnection) (c : Connection) (history' : L
   pub live : length history' ≡ length history → is_live c.state ≡ true → is_live c'.state ≡ true
 
 same_era : (a : PastConnection) → EraLater a a
-same_era a = record { iss = refl; more = []; captures = sym (append_nothing a.captures) }
+same_era a = record { iss = refl; more = []; snapshots = sym (append_nothing a.snapshots) }
 
 later_by : (a a' b b' : PastConnection) → a' ≡ a → b' ≡ b → EraLater a b → EraLater a' b'
 later_by a a' b b' e f h = subst (λ x. EraLater x b') (sym e) (subst (λ x. EraLater a x) (sym f) h)
@@ -67,23 +67,23 @@ first_dead history c d dead f o le =
     ]
 
 -- the connection continues
-onward_live : (history : List PastConnection) (c d : Connection) (more : List Snapshot) → d.iss ≡ c.iss → d.part.captures ≡ c.part.captures ++ more → is_live d.state ≡ true → Onward history c history d
+onward_live : (history : List PastConnection) (c d : Connection) (more : List Snapshot) → d.iss ≡ c.iss → d.part.snapshots ≡ c.part.snapshots ++ more → is_live d.state ≡ true → Onward history c history d
 onward_live history c d more f k l = record {
   longer = omega arith;
   eras = λ n le lv. elim (low_or_not n (length history)) [
     | inl h ↦ later_by _ _ _ _ (era_old history c n h) (era_old history d n h) (same_era (get_or history n (past_connection_of closed)))
-    | inr h ↦ later_by _ _ _ _ (era_now history c n h) (era_now history d n h) record { iss = f; more = more; captures = k }
+    | inr h ↦ later_by _ _ _ _ (era_now history c n h) (era_now history d n h) record { iss = f; more = more; snapshots = k }
   ];
   live = λ e x. l;
 }
 
 -- the connection is gone: d is its last form, and another one that is CLOSED is in its place
-onward_dead : (history : List PastConnection) (c d dead : Connection) (more : List Snapshot) → d.iss ≡ c.iss → d.part.captures ≡ c.part.captures ++ more → Onward history c (history ++ past_connection_of d ∷ []) dead
+onward_dead : (history : List PastConnection) (c d dead : Connection) (more : List Snapshot) → d.iss ≡ c.iss → d.part.snapshots ≡ c.part.snapshots ++ more → Onward history c (history ++ past_connection_of d ∷ []) dead
 onward_dead history c d dead more f k = record {
   longer = omega (arith, length_push history (past_connection_of d));
   eras = λ n le lv. elim (low_or_not n (length history)) [
     | inl h ↦ later_by _ _ _ _ (era_old history c n h) (era_old (history ++ past_connection_of d ∷ []) dead n (omega (arith, length_push history (past_connection_of d))) ∙ get_or_before history (past_connection_of d) (past_connection_of closed) n h) (same_era (get_or history n (past_connection_of closed)))
-    | inr h ↦ later_by _ _ _ _ (era_now history c n h) (era_old (history ++ past_connection_of d ∷ []) dead n (omega (arith, length_push history (past_connection_of d))) ∙ get_or_last history (past_connection_of d) (past_connection_of closed) n (omega arith)) record { iss = f; more = more; captures = k }
+    | inr h ↦ later_by _ _ _ _ (era_now history c n h) (era_old (history ++ past_connection_of d ∷ []) dead n (omega (arith, length_push history (past_connection_of d))) ∙ get_or_last history (past_connection_of d) (past_connection_of closed) n (omega arith)) record { iss = f; more = more; snapshots = k }
   ];
   live = λ e x. absurd (omega (arith, length_push history (past_connection_of d)));
 }
@@ -110,8 +110,8 @@ module _ (m : AppSpec) (speaker : Speaker) (laws : HasOutputModel m speaker) whe
     output = both_ways (has_rst (seg e).flags)
         (λ r. node_reset r)
         (λ r. let x : EraLater (era history c e.epoch) (era history' c' e.epoch) = o.eras e.epoch g.time (λ t. g.incarnations r t) in
-        node_later m speaker laws client client (opened ≡ Some e.epoch) (opened ≡ Some e.epoch) (era history c e.epoch).iss (era history' c' e.epoch).iss (era history c e.epoch).captures (era history' c' e.epoch).captures x.more (seg e)
-        refl (λ y. y) x.iss x.captures g.output);
+        node_later m speaker laws client client (opened ≡ Some e.epoch) (opened ≡ Some e.epoch) (era history c e.epoch).iss (era history' c' e.epoch).iss (era history c e.epoch).snapshots (era history' c' e.epoch).snapshots x.more (seg e)
+        refl (λ y. y) x.iss x.snapshots g.output);
   }
 
   opened_onward : (client : AbstractClient) (history history' : List PastConnection) (c c' : Connection) (o : ℕ) → Onward history c history' c' → (is_live c'.state ≡ true → o ≡ length history') → HasOpened speaker client history c o → HasOpened speaker client history' c' o
@@ -122,9 +122,9 @@ module _ (m : AppSpec) (speaker : Speaker) (laws : HasOutputModel m speaker) whe
         then_live = λ t. w.live (omega (arith, w.longer, h.time)) (h.then_live (omega (arith, w.longer, h.time)));
         live_then = alive;
         asked = h.asked;
-        part = part_later m speaker laws client.request client.request (era history c o).captures (era history' c' o).captures x.more client.received 0 refl x.captures h.part;
+        part = part_later m speaker laws client.request client.request (era history c o).snapshots (era history' c' o).snapshots x.more client.received 0 refl x.snapshots h.part;
         expected = λ y. h.expected y ∙ ap (λ n. wrap (n + 1 + length client.received)) (sym x.iss);
-        all = λ y. all_later m speaker laws client client (era history c o).captures (era history' c' o).captures x.more (length client.received) refl x.captures (h.all y);
+        all = λ y. all_later m speaker laws client client (era history c o).snapshots (era history' c' o).snapshots x.more (length client.received) refl x.snapshots (h.all y);
       }
 
   from_longer : (client : AbstractClient) (opened : Option ℕ) (history history' : List PastConnection) (e : Sent) → length history ≤ length history' → FromGood client opened history e → FromGood client opened history' e
@@ -134,7 +134,7 @@ module _ (m : AppSpec) (speaker : Speaker) (laws : HasOutputModel m speaker) whe
   pub view_live : (number : ℕ) (client : AbstractClient) (opened : Option ℕ) (history : List PastConnection) (c d : Connection) (sent : List Sent) → Good speaker number client opened history c sent →
       is_live c.state ≡ true → is_live d.state ≡ true → Moved speaker opened client c d → Good speaker number client opened history d sent
   view_live number client opened history c d sent g lc ld mv =
-      let w : Onward history c history d = onward_live history c d mv.more mv.iss mv.captures ld in
+      let w : Onward history c history d = onward_live history c d mv.more mv.iss mv.snapshots ld in
       record {
         steady = g.steady;
         opened_good = go opened g.opened_good;
@@ -145,11 +145,11 @@ module _ (m : AppSpec) (speaker : Speaker) (laws : HasOutputModel m speaker) whe
     where
       go : (o : Option ℕ) → OpenedGood speaker client history c o → OpenedGood speaker client history d o
       go None h = h
-      go (Some o) h = opened_onward client history history c d o (onward_live history c d mv.more mv.iss mv.captures ld) (λ x. h.live_then lc) h
+      go (Some o) h = opened_onward client history history c d o (onward_live history c d mv.more mv.iss mv.snapshots ld) (λ x. h.live_then lc) h
 
   -- the connection c is gone, and was d at last
   pub view_dead : (number : ℕ) (client : AbstractClient) (opened : Option ℕ) (history : List PastConnection) (c d dead : Connection) (more : List Snapshot) (sent : List Sent) → Good speaker number client opened history c sent →
-      is_live dead.state ≡ false → d.iss ≡ c.iss → d.part.captures ≡ c.part.captures ++ more → Good speaker number client opened (history ++ past_connection_of d ∷ []) dead sent
+      is_live dead.state ≡ false → d.iss ≡ c.iss → d.part.snapshots ≡ c.part.snapshots ++ more → Good speaker number client opened (history ++ past_connection_of d ∷ []) dead sent
   view_dead number client opened history c d dead more sent g ld f k =
       let w : Onward history c (history ++ past_connection_of d ∷ []) dead = onward_dead history c d dead more f k in
       record {
@@ -196,13 +196,13 @@ module _ (m : AppSpec) (speaker : Speaker) (laws : HasOutputModel m speaker) whe
 
   -- the client takes a step
   text_later : (client d : AbstractClient) (opened next : Option ℕ) (c : Connection) → d.request ≡ client.request → (is_some opened ≡ true → is_some next ≡ true) → AtText speaker opened client c → AtText speaker next d c
-  text_later client d opened next c r s h = record { opened_is = s h.opened_is; here = h.here; delivered = subst (λ x. IsPrefixOf c.part.delivered x) (sym r) h.delivered; fits = h.fits; count = h.count }
+  text_later client d opened next c r s h = record { opened_is = s h.opened_is; here = h.here; input = subst (λ x. IsPrefixOf c.part.input x) (sym r) h.input; fits = h.fits; count = h.count }
 
   fin_later : (client d : AbstractClient) (opened next : Option ℕ) (c : Connection) → d.request ≡ client.request → (is_some opened ≡ true → is_some next ≡ true) → AtFin speaker opened client c → AtFin speaker next d c
-  fin_later client d opened next c r s h = record { opened_is = s h.opened_is; ends = all_later m speaker laws client d c.part.captures c.part.captures [] c.part.acked r (sym (append_nothing c.part.captures)) h.ends; count = h.count; delivered = subst (λ x. IsPrefixOf c.part.delivered x) (sym r) h.delivered }
+  fin_later client d opened next c r s h = record { opened_is = s h.opened_is; ends = all_later m speaker laws client d c.part.snapshots c.part.snapshots [] c.part.acked r (sym (append_nothing c.part.snapshots)) h.ends; count = h.count; input = subst (λ x. IsPrefixOf c.part.input x) (sym r) h.input }
 
   rest_later : (client d : AbstractClient) (opened next : Option ℕ) (c : Connection) → d.request ≡ client.request → (is_some opened ≡ true → is_some next ≡ true) → AtRest opened client c → AtRest next d c
-  rest_later client d opened next c r s h = record { opened_is = s h.opened_is; delivered = subst (λ x. IsPrefixOf c.part.delivered x) (sym r) h.delivered }
+  rest_later client d opened next c r s h = record { opened_is = s h.opened_is; input = subst (λ x. IsPrefixOf c.part.input x) (sym r) h.input }
 
   conn_later : (client d : AbstractClient) (opened next : Option ℕ) (c : Connection) (st : State) → d.request ≡ client.request →
       (is_some opened ≡ true → is_some next ≡ true) → StateGood speaker opened client c st → StateGood speaker next d c st
@@ -245,7 +245,7 @@ module _ (m : AppSpec) (speaker : Speaker) (laws : HasOutputModel m speaker) whe
         of_node = λ k e x y. let f = g.of_node k e x y in record {
           time = f.time;
           incarnations = f.incarnations;
-          output = node_later m speaker laws client took.client (opened ≡ Some e.epoch) (next ≡ Some e.epoch) (era history c e.epoch).iss (era history c e.epoch).iss (era history c e.epoch).captures (era history c e.epoch).captures [] (seg e)
-              t.request (kept e.epoch) refl (sym (append_nothing (era history c e.epoch).captures)) f.output;
+          output = node_later m speaker laws client took.client (opened ≡ Some e.epoch) (next ≡ Some e.epoch) (era history c e.epoch).iss (era history c e.epoch).iss (era history c e.epoch).snapshots (era history c e.epoch).snapshots [] (seg e)
+              t.request (kept e.epoch) refl (sym (append_nothing (era history c e.epoch).snapshots)) f.output;
         };
       }

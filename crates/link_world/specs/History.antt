@@ -16,14 +16,14 @@ era history c o = if nat_lt o (length history) then slice_index_or history o (pa
 
 -- the snapshots captured for a client: those of the server's connection of the epoch in which it opened
 abbrev pub captures_of : World → Side → List Snapshot
-captures_of w side = option_map_or (λ o. (era side.history (serving (client_sockets side) w.node.connections) o).captures) side.opened []
+captures_of w side = option_map_or (λ o. (era side.history (serving (client_sockets side) w.node.connections) o).snapshots) side.opened []
 
 -- the page of a client: that of its whole request and its snapshots
 abbrev pub page_of : Pages → World → Side → List ℕ
-page_of pages w side = pages.text side.client.request (captures_of w side)
+page_of pages w side = pages.page side.client.request (captures_of w side)
 
 abbrev pub is_whole : Pages → World → Side → Bool
-is_whole pages w side = pages.whole side.client.request (captures_of w side)
+is_whole pages w side = pages.complete side.client.request (captures_of w side)
 
 -- A client in a plan.
 pub record Planned : Type 0 where

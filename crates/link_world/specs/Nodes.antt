@@ -22,9 +22,9 @@ pub record IsOfNode (m : AppSpec) (c : Connection) : Type 0 where
 -- and the FIN in CLOSE-WAIT. Later the application receives nothing more.
 pub record HasTextNumbers (c : Connection) : Type 0 where
   pub output : (c.state ≡ Established) ⊎ (c.state ≡ CloseWait) → c.acked ≡ 1 + c.part.acked
-  pub established : c.state ≡ Established → c.taken ≡ length c.part.delivered
-  pub close_wait : c.state ≡ CloseWait → c.taken ≡ length c.part.delivered + 1
-  pub delivered : is_live c.state ≡ true → length c.part.delivered ≤ c.taken
+  pub established : c.state ≡ Established → c.taken ≡ length c.part.input
+  pub close_wait : c.state ≡ CloseWait → c.taken ≡ length c.part.input + 1
+  pub input : is_live c.state ≡ true → length c.part.input ≤ c.taken
 
 -- The counts of text agree, at every node.
 abbrev pub TextNumbers : Type 0
@@ -32,7 +32,7 @@ TextNumbers = (m : AppSpec) (pages : Pages) → IsPaged m pages → (c : Connect
 
 -- Snapshots fit: a captured snapshot has rows with one digit for slot and tries, and numbers within their types.
 abbrev pub CapturesFit : Type 0
-CapturesFit = (m : AppSpec) (pages : Pages) → IsPaged m pages → (c : Connection) → IsOfNode m c → All IsSnapshot c.part.captures
+CapturesFit = (m : AppSpec) (pages : Pages) → IsPaged m pages → (c : Connection) → IsOfNode m c → All IsSnapshot c.part.snapshots
 
 -- Texts are short: no connection sends 2^30 bytes.
 abbrev pub TextsAreShort : Type 0

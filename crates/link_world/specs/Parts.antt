@@ -17,7 +17,7 @@ use Rattle.link_world.specs.Nodes.{HasTextNumbers}
 
 -- the page that the snapshots of a past connection determine
 abbrev pub page_in : Pages → Side → PastConnection → List ℕ
-page_in pages side era = pages.text side.client.request era.captures
+page_in pages side era = pages.page side.client.request era.snapshots
 
 pub record IsText (pages : Pages) (side : Side) (epoch : ℕ) (era : PastConnection) (s : PlainSegment) : Type 0 where
   pub opened : side.opened ≡ Some epoch
@@ -28,7 +28,7 @@ pub record IsText (pages : Pages) (side : Side) (epoch : ℕ) (era : PastConnect
 pub record IsFin (pages : Pages) (side : Side) (epoch : ℕ) (era : PastConnection) (s : PlainSegment) : Type 0 where
   pub opened : side.opened ≡ Some epoch
   pub alone : s.text ≡ []
-  pub whole : pages.whole side.client.request era.captures ≡ true
+  pub whole : pages.complete side.client.request era.snapshots ≡ true
   pub seq : s.seq ≡ wrap (era.iss + 1 + length (page_in pages side era))
 
 -- A segment of the node to a client, without RST. A SYN-ACK has the ISS of its connection. Text is a slice of the page at its offset, and
@@ -59,7 +59,7 @@ pub record HasTaken (client : AbstractClient) (c : Connection) : Type 0 where
   pub least : client.acked ≤ bytes
   pub most : bytes ≤ client.acked + client.out
   pub taken : (c.taken ≡ bytes) ⊎ ((fin_sent client.fin ≡ true) × (c.taken ≡ bytes + 1))
-  pub delivered : IsPrefixOf c.part.delivered (take bytes client.request)
+  pub input : IsPrefixOf c.part.input (take bytes client.request)
   pub numbers : HasTextNumbers c
 
 -- Every datagram of the node and of the client is one of these segments. A client acknowledges nothing before it opened. Its server

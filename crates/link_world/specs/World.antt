@@ -15,10 +15,10 @@ use Rattle.link_world.specs.declared.who.Who.TheVariants.{FromClient, FromNode, 
 -- What the world keeps of a connection that became CLOSED.
 pub record PastConnection : Type 0 where
   pub iss : ℕ  -- its ISS
-  pub captures : List Snapshot
+  pub snapshots : List Snapshot
 
 abbrev pub past_connection_of : Connection → PastConnection
-past_connection_of c = record { iss = c.iss; captures = c.part.captures }
+past_connection_of c = record { iss = c.iss; snapshots = c.part.snapshots }
 
 -- A client, and what the world keeps of it.
 pub record Side : Type 0 where

@@ -71,7 +71,7 @@ module _ (m : AppSpec) where
 
   -- ---- what is outstanding
 
-  module _ (steady : IsSteady m) (Low : ℕ → Type 0) (low_text : (p : AppState) → All IsSnapshot p.captures → Low (length (m.output p))) where
+  module _ (steady : IsSteady m) (Low : ℕ → Type 0) (low_text : (p : AppState) → All IsSnapshot p.snapshots → Low (length (m.output p))) where
     abbrev pub SafeAt : Connection → State → Type 0
     SafeAt c st = SafeState m steady Low low_text c st
 

@@ -75,22 +75,22 @@ module _ (m : AppSpec) (pages : Pages) (lawful : IsPaged m pages) where
     follows = record {
       grows = lawful.grows;
       stays = lawful.stays;
-      stays_whole = lawful.stays_whole;
+      stays_complete = lawful.stays_complete;
       here = λ p. true;
       lost = λ p. false;
       output = λ p h. lawful.output p;
-      connected = λ numbers. (refl, lawful.connected_delivered numbers port);
+      connected = λ numbers. (refl, lawful.connected_input numbers port);
       newdata = λ numbers p piece h. record {
         prefix = piece;
         rest = [];
         joined = append_nothing piece;
-        delivered = (refl, lawful.newdata_delivered numbers p piece);
+        input = (refl, lawful.newdata_input numbers p piece);
         all = inl refl;
         no_more = λ e. absurd (cc);
       };
-      prepare = λ numbers p now h. ((refl, lawful.prepare_delivered numbers p now), refl);
-      acked = λ numbers p n h. ((refl, lawful.acked_delivered numbers p n), refl);
-      polled = λ numbers p h. ((refl, (lawful.polled_same numbers p).delivered), refl);
+      prepare = λ numbers p now h. ((refl, lawful.prepare_input numbers p now), refl);
+      acked = λ numbers p n h. ((refl, lawful.acked_input numbers p n), refl);
+      polled = λ numbers p h. ((refl, (lawful.polled_same numbers p).input), refl);
       closes = λ numbers p h fits e. closes_at_end numbers p e;
     };
     accepts_all = λ p. refl;

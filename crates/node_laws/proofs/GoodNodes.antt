@@ -24,7 +24,7 @@ first_is own e es l = wire_event e (line_wire own e (All-head (IsOfLine own) e e
 abbrev pub AnyLength : ℕ → Type 0
 AnyLength n = Unit {0}
 
-pub low_text : (m : AppSpec) (q : AppState) → All IsSnapshot q.captures → AnyLength (length (m.output q))
+pub low_text : (m : AppSpec) (q : AppState) → All IsSnapshot q.snapshots → AnyLength (length (m.output q))
 low_text m q h = tt
 
 abbrev pub SafeConn : (m : AppSpec) → IsSteady m → Connection → Type 0

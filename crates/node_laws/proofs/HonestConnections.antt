@@ -1,5 +1,5 @@
 -- The connection with an honest peer: at each segment of its peer it sends what the application has next.
-use Rattle.node_laws.proofs.Prelude.{All, option_map_or, ◌≡◌, ℕ, suc, ◌+◌, ◌<◌, ◌≤◌, ◌==◌, min, Bool, true, false, if◌then◌else◌, not, ◌&&◌, inl, inr, List, [], ◌∷◌, ◌++◌, length, take, drop, refl, sym, ap, ◌∙◌, subst, arith, Option, Some, None, is_some, eqb, ltb, length-append, eq-eqb, take-append-le, take_all, length-take-le, common_steps, take-add, wrap, PlainSegment, has_fin, has_rst, has_ack, beat_at, Beat, AppState, After, AppSpec, IsPrefixOf, Pages, IsPaged, IsU32, IsNow, IsSnapshot, MayWant, Now, Reset, State, SynRcvd, Established, FinWait1, Want, Nothing, Send, Close, Abort, Sockets, Connection, is_live, serves, snd_una, rcv_nxt, occupies_sequence_space, segment_of, bare_ack, fin_of, reset_of, syn_ack, text_segment, Outcome, leaves, closes, idles, does_as_wanted, ask, asked, told_end, peer_closes, is_out_of_order, is_acked, has_text, hears, with_window, stays_established, in_established, by_state, on_segment, Step, choose, ltb-yes, cut_length, wrap_wrap, prefix_length, append_nothing, zero_or_more, same_place, is_time_wait, same_self, FitOut, prepared_captures, steady_of, hears_is, prepare_is, Exchange, AnswersPolled, GoesOnBy, Asker, text_received, awaits_ack, is_bare_ack, bare_acks, SendsNext, HasItsPage}
+use Rattle.node_laws.proofs.Prelude.{All, option_map_or, ◌≡◌, ℕ, suc, ◌+◌, ◌<◌, ◌≤◌, ◌==◌, min, Bool, true, false, if◌then◌else◌, not, ◌&&◌, inl, inr, List, [], ◌∷◌, ◌++◌, length, take, drop, refl, sym, ap, ◌∙◌, subst, arith, Option, Some, None, is_some, eqb, ltb, length-append, eq-eqb, take-append-le, take_all, length-take-le, common_steps, take-add, wrap, PlainSegment, has_fin, has_rst, has_ack, beat_at, Beat, AppState, After, AppSpec, IsPrefixOf, Pages, IsPaged, IsU32, IsNow, IsSnapshot, MayWant, Now, Reset, State, SynRcvd, Established, FinWait1, Want, Nothing, Send, Close, Abort, Sockets, Connection, is_live, serves, snd_una, rcv_nxt, occupies_sequence_space, segment_of, bare_ack, fin_of, reset_of, syn_ack, text_segment, Outcome, leaves, closes, idles, does_as_wanted, ask, asked, told_end, peer_closes, is_out_of_order, is_acked, has_text, hears, with_window, stays_established, in_established, by_state, on_segment, Step, choose, ltb-yes, cut_length, wrap_wrap, prefix_length, append_nothing, zero_or_more, same_place, is_time_wait, same_self, FitOut, prepared_snapshots, steady_of, hears_is, prepare_is, Exchange, AnswersPolled, GoesOnBy, Asker, text_received, awaits_ack, is_bare_ack, bare_acks, SendsNext, HasItsPage}
 use Rattle.tcp_machine.specs.OnTick.{by_beat, limit_of, on_tick, polls as polled_by, ticks_established}
 use Rattle.node_laws.proofs.HonestSessions.{has_of, has_on, lets_go, nothing_more, takes_at}
 use Rattle.node_laws.proofs.Lines.{quiet, met}
@@ -49,7 +49,7 @@ module _ (m : AppSpec) (pages : Pages) (lawful : IsPaged m pages) (p : Sockets) 
   }
 
   abbrev page : AppState → List ℕ
-  page q = pages.text q.delivered q.captures
+  page q = pages.page q.input q.snapshots
 
   -- the connection's first number is the talk's
   abbrev pub Counts : ℕ → Type 0
@@ -62,7 +62,7 @@ module _ (m : AppSpec) (pages : Pages) (lawful : IsPaged m pages) (p : Sockets) 
 
   -- this much was accepted, acknowledged and sent
   pub record Interactive (incarnation : List Exchange) (part : AppState) (taken acked len : ℕ) : Type 0 where
-    pub delivered : part.delivered ≡ text_received incarnation
+    pub input : part.input ≡ text_received incarnation
     pub is_taken : taken ≡ length (text_received incarnation)
     pub asked : IsPrefixOf (text_received incarnation) a.request
     pub is_acked : acked ≡ 1 + part.acked
@@ -78,7 +78,7 @@ module _ (m : AppSpec) (pages : Pages) (lawful : IsPaged m pages) (p : Sockets) 
   pub record Rests (polls : ℕ) (part : AppState) (most : ℕ) : Type 0 where
     pub good : fine polls part ≡ true
     pub few : left part ≤ most
-    pub more : part.delivered ≡ a.request → ⊥
+    pub more : part.input ≡ a.request → ⊥
 
   pub data Stage (polls : ℕ) (incarnation : List Exchange) (c : Connection) : Type 0 where
     at_syn : (iss age : ℕ) (part : AppState) → Counts iss → c ≡ conn_at SynRcvd 0 iss 0 1 age part → AtSyn incarnation → Stage polls incarnation c
@@ -103,7 +103,7 @@ module _ (m : AppSpec) (pages : Pages) (lawful : IsPaged m pages) (p : Sockets) 
   session_kept_still incarnation output part taken acked len same h =
       let e : text_received (met None output ∷ incarnation) ≡ text_received incarnation = append_nothing (text_received incarnation) in
       record {
-        delivered = h.delivered ∙ sym e;
+        input = h.input ∙ sym e;
         is_taken = h.is_taken ∙ ap length (sym e);
         asked = subst (λ t. IsPrefixOf t a.request) (sym e) h.asked;
         is_acked = h.is_acked;
@@ -129,7 +129,7 @@ module _ (m : AppSpec) (pages : Pages) (lawful : IsPaged m pages) (p : Sockets) 
 
   -- before it is asked, with what came
   pub record Ready (received : Option PlainSegment) (older : List Exchange) (part : AppState) (taken acked most : ℕ) : Type 0 where
-    pub delivered : part.delivered ≡ text_received older ++ brought received
+    pub input : part.input ≡ text_received older ++ brought received
     pub is_taken : taken ≡ length (text_received older ++ brought received)
     pub asked : IsPrefixOf (text_received older ++ brought received) a.request
     pub is_acked : acked ≡ 1 + part.acked
@@ -142,10 +142,10 @@ module _ (m : AppSpec) (pages : Pages) (lawful : IsPaged m pages) (p : Sockets) 
       let q : AppState = m.prepare numbers part now in
       let is = prepare_is m pages lawful numbers part now in
       let grows : IsPrefixOf (page part) (page q) =
-      subst (λ k. IsPrefixOf (page part) (pages.text q.delivered k)) (sym is.captures)
-      (subst (λ t. IsPrefixOf (page part) (pages.text t (part.captures ++ is.more))) (append_nothing part.delivered ∙ sym is.delivered) (lawful.grows part.delivered [] part.captures is.more)) in
+      subst (λ k. IsPrefixOf (page part) (pages.page q.input k)) (sym is.snapshots)
+      (subst (λ t. IsPrefixOf (page part) (pages.page t (part.snapshots ++ is.more))) (append_nothing part.input ∙ sym is.input) (lawful.grows part.input [] part.snapshots is.more)) in
       record {
-        delivered = is.delivered ∙ h.delivered;
+        input = is.input ∙ h.input;
         is_taken = h.is_taken;
         asked = h.asked;
         is_acked = h.is_acked ∙ ap (λ n. 1 + n) (sym is.acked);
@@ -155,19 +155,19 @@ module _ (m : AppSpec) (pages : Pages) (lawful : IsPaged m pages) (p : Sockets) 
       }
 
   -- the page was sent whole, and the FIN follows it
-  closes_whole : (received : Option PlainSegment) (older : List Exchange) (q : AppState) (taken iss acked most : ℕ) → Counts iss → Ready received older q taken acked most → All IsSnapshot q.captures → MayWant pages q Close →
+  closes_whole : (received : Option PlainSegment) (older : List Exchange) (q : AppState) (taken iss acked most : ℕ) → Counts iss → Ready received older q taken acked most → All IsSnapshot q.snapshots → MayWant pages q Close →
       HasItsPage pages a (met received (Some (fin_of (conn_at FinWait1 taken iss acked 1 0 q))) ∷ older)
   closes_whole received older q taken iss acked most k h snapshots may =
       let fin : PlainSegment = fin_of (conn_at FinWait1 taken iss acked 1 0 q) in
-      let joined : q.delivered ++ h.asked.rest ≡ a.request = ap (λ t. t ++ h.asked.rest) h.delivered ∙ h.asked.joined in
-      let same : pages.text a.request q.captures ≡ page q =
-      ap (λ t. pages.text t q.captures) (sym joined) ∙ ap (λ c. pages.text (q.delivered ++ h.asked.rest) c) (sym (append_nothing q.captures)) ∙ lawful.stays q.delivered h.asked.rest q.captures [] may.0 in
-      let all : pages.whole a.request q.captures ≡ true =
-      ap (λ t. pages.whole t q.captures) (sym joined) ∙ ap (λ c. pages.whole (q.delivered ++ h.asked.rest) c) (sym (append_nothing q.captures)) ∙ lawful.stays_whole q.delivered h.asked.rest q.captures [] may.0 in
+      let joined : q.input ++ h.asked.rest ≡ a.request = ap (λ t. t ++ h.asked.rest) h.input ∙ h.asked.joined in
+      let same : pages.page a.request q.snapshots ≡ page q =
+      ap (λ t. pages.page t q.snapshots) (sym joined) ∙ ap (λ c. pages.page (q.input ++ h.asked.rest) c) (sym (append_nothing q.snapshots)) ∙ lawful.stays q.input h.asked.rest q.snapshots [] may.0 in
+      let all : pages.complete a.request q.snapshots ≡ true =
+      ap (λ t. pages.complete t q.snapshots) (sym joined) ∙ ap (λ c. pages.complete (q.input ++ h.asked.rest) c) (sym (append_nothing q.snapshots)) ∙ lawful.stays_complete q.input h.asked.rest q.snapshots [] may.0 in
       let size : q.acked ≡ length (page q) = may.1 in
       record {
-        captures = q.captures;
-        snapshots = snapshots;
+        snapshots = q.snapshots;
+        in_range = snapshots;
         whole = all;
         ends = record {
           place = 0;
@@ -177,7 +177,7 @@ module _ (m : AppSpec) (pages : Pages) (lawful : IsPaged m pages) (p : Sockets) 
           seq = (let z : wrap (wrap (iss + acked) + 0) ≡ wrap (iss + acked + 0) = wrap_wrap (iss + acked) 0 in
               let y : wrap (iss + acked) ≡ wrap (a.iss + acked) = k acked in
               let e : iss + acked + 0 ≡ iss + acked = omega arith in
-              let n : a.iss + acked ≡ a.iss + 1 + length (pages.text a.request q.captures) = (let i = h.is_acked in let l = ap length same in omega (arith, i, size, l)) in
+              let n : a.iss + acked ≡ a.iss + 1 + length (pages.page a.request q.snapshots) = (let i = h.is_acked in let l = ap length same in omega (arith, i, size, l)) in
               z ∙ ap wrap e ∙ y ∙ ap wrap n);
         };
         complete = has_on a.iss (met received (Some fin)) older ∙ nothing_more a.iss (has_of a.iss older) fin refl ∙ h.has ∙ take_all q.acked (page q) (omega (arith, size)) ∙ sym same;
@@ -193,7 +193,7 @@ module _ (m : AppSpec) (pages : Pages) (lawful : IsPaged m pages) (p : Sockets) 
       let own : length (has_of a.iss older) ≡ q.acked = ap length h.has ∙ length-take-le q.acked (page q) h.fits in
       let at : t.seq ≡ wrap (a.iss + 1 + length (has_of a.iss older)) = k acked ∙ ap wrap (let i = h.is_acked in omega (arith, i, own)) in
       record {
-        delivered = h.delivered;
+        input = h.input;
         is_taken = h.is_taken;
         asked = h.asked;
         is_acked = h.is_acked;
@@ -206,7 +206,7 @@ module _ (m : AppSpec) (pages : Pages) (lawful : IsPaged m pages) (p : Sockets) 
   says_none : (received : Option PlainSegment) (output : Option PlainSegment) (older : List Exchange) (q : AppState) (taken acked most : ℕ) → Ready received older q taken acked most →
       has_of a.iss (met received output ∷ older) ≡ has_of a.iss older → Interactive (met received output ∷ older) q taken acked 0
   says_none received output older q taken acked most h e = record {
-    delivered = h.delivered;
+    input = h.input;
     is_taken = h.is_taken;
     asked = h.asked;
     is_acked = h.is_acked;
@@ -215,7 +215,7 @@ module _ (m : AppSpec) (pages : Pages) (lawful : IsPaged m pages) (p : Sockets) 
   }
 
   by_want : (polls : ℕ) (received : Option PlainSegment) (older : List Exchange) (fresh : Bool) (numbers : List ℕ) (taken iss acked age most : ℕ) (q : AppState) (w : Want) → Counts iss → Ready received older q taken acked most →
-      All IsSnapshot q.captures → MayWant pages q w → GoesOnBy m a.request a.mss (fine polls) left q most w → not (is_some received) && awaits_ack older ≡ false →
+      All IsSnapshot q.snapshots → MayWant pages q w → GoesOnBy m a.request a.mss (fine polls) left q most w → not (is_some received) && awaits_ack older ≡ false →
       (let o : Outcome = does_as_wanted w fresh (conn_at Established taken iss acked 0 age q) numbers in Next polls (met received (segment_of m o.connection o.step) ∷ older) o.connection)
   unfolding idles
   by_want polls received older fresh numbers taken iss acked age most q Abort k h snapshots may g rested = absurd g
@@ -242,24 +242,24 @@ module _ (m : AppSpec) (pages : Pages) (lawful : IsPaged m pages) (p : Sockets) 
   at_most_more polls q few most Nothing h g = (g.0, omega (arith, h, g.1), g.2)
 
   -- what an application requests whose state is as it should be
-  wants_so : (polls : ℕ) → polls ≤ patience → (numbers : List ℕ) (now : Now) (part : AppState) (rest : List ℕ) (most : ℕ) → All IsU32 numbers → IsNow now → 0 < length now.rows → fine polls part ≡ true → left part ≤ most → part.delivered ++ rest ≡ a.request →
+  wants_so : (polls : ℕ) → polls ≤ patience → (numbers : List ℕ) (now : Now) (part : AppState) (rest : List ℕ) (most : ℕ) → All IsU32 numbers → IsNow now → 0 < length now.rows → fine polls part ≡ true → left part ≤ most → part.input ++ rest ≡ a.request →
       GoesOnBy m a.request a.mss (fine polls) left (m.prepare numbers part now) most (m.want numbers (m.prepare numbers part now))
   wants_so polls l numbers now part rest most words is rows good few joined =
       at_most_more polls (m.prepare numbers part now) (left part) most (m.want numbers (m.prepare numbers part now)) few ((answering.answers polls l).goes_on numbers part now rest good joined words is rows)
 
   asks : (polls : ℕ) → polls ≤ patience → (received : Option PlainSegment) (older : List Exchange) (fresh : Bool) (numbers : List ℕ) (now : Now) (taken iss acked age most : ℕ) (part : AppState) → All IsU32 numbers → IsNow now → 0 < length now.rows →
-      Counts iss → Ready received older part taken acked most → fine polls part ≡ true → left part ≤ most → All IsSnapshot part.captures → not (is_some received) && awaits_ack older ≡ false →
+      Counts iss → Ready received older part taken acked most → fine polls part ≡ true → left part ≤ most → All IsSnapshot part.snapshots → not (is_some received) && awaits_ack older ≡ false →
       (let o : Outcome = ask m now fresh (conn_at Established taken iss acked 0 age part) numbers in Next polls (met received (segment_of m o.connection o.step) ∷ older) o.connection)
   asks polls l received older fresh numbers now taken iss acked age most part words is rows k h good few snapshots rested =
       let q : AppState = m.prepare numbers part now in
-      by_want polls received older fresh numbers taken iss acked age most q (m.want numbers q) k (prepared_ready received older part taken acked most numbers now h) (prepared_captures m (steady_of m pages lawful) numbers part now words is snapshots) (lawful.wants numbers q)
-      (wants_so polls l numbers now part h.asked.rest most words is rows good few (ap (λ t. t ++ h.asked.rest) h.delivered ∙ h.asked.joined)) rested
+      by_want polls received older fresh numbers taken iss acked age most q (m.want numbers q) k (prepared_ready received older part taken acked most numbers now h) (prepared_snapshots m (steady_of m pages lawful) numbers part now words is snapshots) (lawful.wants numbers q)
+      (wants_so polls l numbers now part h.asked.rest most words is rows good few (ap (λ t. t ++ h.asked.rest) h.input ∙ h.asked.joined)) rested
 
   -- ---- a segment of the peer is received
 
   -- the state before the delivery, with what was acknowledged
   pub record Acked (older : List Exchange) (part : AppState) (taken acked : ℕ) : Type 0 where
-    pub delivered : part.delivered ≡ text_received older
+    pub input : part.input ≡ text_received older
     pub is_taken : taken ≡ length (text_received older)
     pub is_acked : acked ≡ 1 + part.acked
     pub fits : part.acked ≤ length (page part)
@@ -271,10 +271,10 @@ module _ (m : AppSpec) (pages : Pages) (lawful : IsPaged m pages) (p : Sockets) 
       let q : AppState = (hears m numbers part s.text).part in
       let is = hears_is m pages lawful numbers part s.text in
       let grows : IsPrefixOf (page part) (page q) =
-      subst (λ k. IsPrefixOf (page part) (pages.text q.delivered k)) (append_nothing part.captures ∙ sym is.captures)
-      (subst (λ t. IsPrefixOf (page part) (pages.text t (part.captures ++ []))) (sym is.delivered) (lawful.grows part.delivered s.text part.captures [])) in
+      subst (λ k. IsPrefixOf (page part) (pages.page q.input k)) (append_nothing part.snapshots ∙ sym is.snapshots)
+      (subst (λ t. IsPrefixOf (page part) (pages.page t (part.snapshots ++ []))) (sym is.input) (lawful.grows part.input s.text part.snapshots [])) in
       record {
-        delivered = is.delivered ∙ ap (λ t. t ++ s.text) h.delivered;
+        input = is.input ∙ ap (λ t. t ++ s.text) h.input;
         is_taken = ap (λ n. n + length s.text) h.is_taken ∙ sym (length-append (text_received older) s.text);
         asked = prefix;
         is_acked = h.is_acked ∙ ap (λ n. 1 + n) (sym is.acked);
@@ -283,7 +283,7 @@ module _ (m : AppSpec) (pages : Pages) (lawful : IsPaged m pages) (p : Sockets) 
         bound = bound;
       }
 
-  heard_fine : (polls : ℕ) → polls ≤ patience → (numbers : List ℕ) (part : AppState) (text rest : List ℕ) (most : ℕ) → fine polls part ≡ true → left part ≤ most → (part.delivered ++ text) ++ rest ≡ a.request →
+  heard_fine : (polls : ℕ) → polls ≤ patience → (numbers : List ℕ) (part : AppState) (text rest : List ℕ) (most : ℕ) → fine polls part ≡ true → left part ≤ most → (part.input ++ text) ++ rest ≡ a.request →
       (fine polls (hears m numbers part text).part ≡ true) × (left (hears m numbers part text).part ≤ most)
   heard_fine polls l numbers part [] rest most good few joined = (good, few)
   heard_fine polls l numbers part (y ∷ ys) rest most good few joined =
@@ -308,12 +308,12 @@ module _ (m : AppSpec) (pages : Pages) (lawful : IsPaged m pages) (p : Sockets) 
   asked_after polls l at s older o next taken iss acked age most part k prefix b bound good few e snapshots =
       let delivered : After = hears m next part s.text in
       let d : Connection = conn_at Established (taken + length s.text) iss acked 0 age delivered.part in
-      let f = heard_fine polls l next part s.text prefix.rest most good few (ap (λ t. (t ++ s.text) ++ prefix.rest) b.delivered ∙ prefix.joined) in
+      let f = heard_fine polls l next part s.text prefix.rest most good few (ap (λ t. (t ++ s.text) ++ prefix.rest) b.input ∙ prefix.joined) in
       let z : Outcome = leaves d delivered.numbers (Step.Ask (has_text s)) in
       let given : Snapshots at z = subst (λ (y : Outcome). Snapshots at y) e snapshots in
       subst (λ (y : Outcome). (let r : Outcome = asked m at y in Next polls (met (Some s) (segment_of m r.connection r.step) ∷ older) r.connection)) (sym e)
       (asks polls l (Some s) older (has_text s) delivered.numbers (at d) (taken + length s.text) iss acked age most delivered.part given.fit.numbers given.is (given.rows d refl) k
-      (heard_ready s older next part taken acked most prefix b bound) f.0 f.1 given.fit.conn.captures refl)
+      (heard_ready s older next part taken acked most prefix b bound) f.0 f.1 given.fit.conn.snapshots refl)
 
   -- ---- its next segment
 
@@ -398,7 +398,7 @@ module _ (m : AppSpec) (pages : Pages) (lawful : IsPaged m pages) (p : Sockets) 
         subst (λ (z : Connection). Answered polls at z numbers s older) (sym e)
         (asked_after polls l at s older (on_segment m d numbers s) start.numbers 0 iss (0 + 1) 0 texts start.part k prefix
         record {
-          delivered = lawful.connected_delivered numbers p.own_port.0 ∙ sym syn.received;
+          input = lawful.connected_input numbers p.own_port.0 ∙ sym syn.received;
           is_taken = ap length (sym syn.received);
           is_acked = ap (λ n. 1 + n) (sym (lawful.connected_acked numbers p.own_port.0));
           fits = (let z = lawful.connected_acked numbers p.own_port.0 in omega (arith, z));
@@ -409,12 +409,12 @@ module _ (m : AppSpec) (pages : Pages) (lawful : IsPaged m pages) (p : Sockets) 
         (let d : Connection = conn_at Established taken iss acked len age part in
         let told_it : After = m.acked numbers part len in
         let fewer : ℕ = left told_it.part in
-        let page_same : page told_it.part ≡ page part = ap (λ z. pages.text z told_it.part.captures) (lawful.acked_delivered numbers part len) ∙ ap (λ z. pages.text part.delivered z) (lawful.acked_captures numbers part len) in
+        let page_same : page told_it.part ≡ page part = ap (λ z. pages.page z told_it.part.snapshots) (lawful.acked_input numbers part len) ∙ ap (λ z. pages.page part.input z) (lawful.acked_snapshots numbers part len) in
         let moved : told_it.part.acked ≡ part.acked + len = lawful.acked_moves numbers part len in
         subst (λ (z : Connection). Answered polls at z numbers s older) (sym e)
         (asked_after polls l at s older (on_segment m d numbers s) told_it.numbers taken iss (acked + len) 0 fewer told_it.part k prefix
         record {
-          delivered = lawful.acked_delivered numbers part len ∙ t.delivered;
+          input = lawful.acked_input numbers part len ∙ t.input;
           is_taken = t.is_taken;
           is_acked = (let z = t.is_acked in omega (arith, z, moved));
           fits = (let z = t.fits in let y = ap length page_same in omega (arith, z, moved, y));
@@ -427,7 +427,7 @@ module _ (m : AppSpec) (pages : Pages) (lawful : IsPaged m pages) (p : Sockets) 
         subst (λ (z : Connection). Answered polls at z numbers s older) (sym e)
         (asked_after polls l at s older (on_segment m d numbers s) numbers taken iss acked age most part k prefix
         record {
-          delivered = t.delivered;
+          input = t.input;
           is_taken = t.is_taken;
           is_acked = t.is_acked;
           fits = (let z = t.fits in omega (arith, z));
@@ -454,13 +454,13 @@ module _ (m : AppSpec) (pages : Pages) (lawful : IsPaged m pages) (p : Sockets) 
   }
 
   -- text is sent again, and the receiver lets it go
-  text_again : (incarnation : List Exchange) (taken iss acked len age : ℕ) (part : AppState) → Counts iss → All IsSnapshot part.captures → 0 < len → Interactive incarnation part taken acked len →
+  text_again : (incarnation : List Exchange) (taken iss acked len age : ℕ) (part : AppState) → Counts iss → All IsSnapshot part.snapshots → 0 < len → Interactive incarnation part taken acked len →
       Interactive (met None (Some (text_segment m (conn_at Established taken iss acked len age part))) ∷ incarnation) part taken acked len
   text_again incarnation taken iss acked len age part k snapshots some h =
       let t : PlainSegment = text_segment m (conn_at Established taken iss acked len age part) in
       let got : List ℕ = has_of a.iss incarnation in
       let own : length got ≡ part.acked + len = has_length incarnation part taken acked len h in
-      let few : length (page part) < 1073741824 = lawful.short part.delivered part.captures snapshots in
+      let few : length (page part) < 1073741824 = lawful.short part.input part.snapshots snapshots in
       let passed : t.seq ≡ wrap (a.iss + 1 + length got) → ⊥ =
       λ e. (let f = h.fits in let i = h.is_acked in
       let same : acked ≡ 1 + length got = same_place a.iss acked (1 + length got) (omega (arith, f, i, few)) (omega (arith, f, own, few))
@@ -475,7 +475,7 @@ module _ (m : AppSpec) (pages : Pages) (lawful : IsPaged m pages) (p : Sockets) 
   syn_beat polls at Beat.Again iss age part numbers older k syn h = at_syn iss (age + 1) part k refl (syn_again older (conn_at SynRcvd 0 iss 0 1 (age + 1) part) syn)
   syn_beat polls at Beat.GiveUp iss age part numbers older k syn h = absurd (let c : Connection = conn_at SynRcvd 0 iss 0 1 age part in let z = h (reset_of (closes c)) refl in cc)
 
-  text_beat : (polls : ℕ) (at : Connection → Now) (b : Beat) (taken iss acked len age most : ℕ) (part : AppState) (numbers : List ℕ) (older : List Exchange) → Counts iss → All IsSnapshot part.captures → Interactive older part taken acked len → Awaits polls part len most → bare_acks older + most ≤ texts + 1 →
+  text_beat : (polls : ℕ) (at : Connection → Now) (b : Beat) (taken iss acked len age most : ℕ) (part : AppState) (numbers : List ℕ) (older : List Exchange) → Counts iss → All IsSnapshot part.snapshots → Interactive older part taken acked len → Awaits polls part len most → bare_acks older + most ≤ texts + 1 →
       let c : Connection = conn_at Established taken iss acked len age part in let r : Outcome = asked m at (by_beat m b c numbers) in
       ((u : PlainSegment) → segment_of m r.connection r.step ≡ Some u → has_rst u.flags ≡ false) → Stage polls (met None (segment_of m r.connection r.step) ∷ older) r.connection
   text_beat polls at Beat.Wait taken iss acked len age most part numbers older k snapshots t w b h = told taken iss acked len (age + 1) most part k refl (session_kept_quiet older part taken acked len t) w b
@@ -499,10 +499,10 @@ module _ (m : AppSpec) (pages : Pages) (lawful : IsPaged m pages) (p : Sockets) 
       let d : Connection = conn_at Established taken iss acked 0 age delivered.part in
       let alike = lawful.polled_same numbers part in
       let f = answering.waits polls numbers part l r.good in
-      let same : page delivered.part ≡ page part = ap (λ z. pages.text z delivered.part.captures) alike.delivered ∙ ap (λ z. pages.text part.delivered z) alike.captures in
+      let same : page delivered.part ≡ page part = ap (λ z. pages.page z delivered.part.snapshots) alike.input ∙ ap (λ z. pages.page part.input z) alike.snapshots in
       let none : text_received older ++ [] ≡ text_received older = append_nothing (text_received older) in
       let ready : Ready None older delivered.part taken acked most = record {
-        delivered = alike.delivered ∙ t.delivered ∙ sym none;
+        input = alike.input ∙ t.input ∙ sym none;
         is_taken = t.is_taken ∙ ap length (sym none);
         asked = subst (λ z. IsPrefixOf z a.request) (sym none) t.asked;
         is_acked = t.is_acked ∙ ap (λ j. 1 + j) (sym alike.acked);
@@ -514,10 +514,10 @@ module _ (m : AppSpec) (pages : Pages) (lawful : IsPaged m pages) (p : Sockets) 
         now = suc polls;
         least = omega arith;
         most = l;
-        next = asks (suc polls) l None older false delivered.numbers (at d) taken iss acked age most delivered.part snapshots.fit.numbers snapshots.is (snapshots.rows d refl) k ready f.0 (let z = r.few in let y = f.1 in omega (arith, z, y)) snapshots.fit.conn.captures n;
+        next = asks (suc polls) l None older false delivered.numbers (at d) taken iss acked age most delivered.part snapshots.fit.numbers snapshots.is (snapshots.rows d refl) k ready f.0 (let z = r.few in let y = f.1 in omega (arith, z, y)) snapshots.fit.conn.snapshots n;
       }
 
-  pub called : (polls : ℕ) → polls ≤ patience → (at : Connection → Now) (numbers : List ℕ) (older : List Exchange) (c : Connection) → ((text_received older ≡ a.request → ⊥) → polls < patience) → All IsSnapshot c.part.captures → Snapshots at (on_tick m c numbers) → Keeps at c numbers → Stage polls older c →
+  pub called : (polls : ℕ) → polls ≤ patience → (at : Connection → Now) (numbers : List ℕ) (older : List Exchange) (c : Connection) → ((text_received older ≡ a.request → ⊥) → polls < patience) → All IsSnapshot c.part.snapshots → Snapshots at (on_tick m c numbers) → Keeps at c numbers → Stage polls older c →
       (let r : Outcome = asked m at (on_tick m c numbers) in Polled polls (met None (segment_of m r.connection r.step) ∷ older) r.connection)
   unfolding ticks_established
   called polls l at numbers older c room_left captures snapshots keeps stage = elim stage [
@@ -534,9 +534,9 @@ module _ (m : AppSpec) (pages : Pages) (lawful : IsPaged m pages) (p : Sockets) 
         let still = subst (λ (y : Outcome). (let r : Outcome = asked m at y in (u : PlainSegment) → segment_of m r.connection r.step ≡ Some u → has_rst u.flags ≡ false)) ticks now in
         subst (λ (z : Connection). (let r : Outcome = asked m at (on_tick m z numbers) in Polled polls (met None (segment_of m r.connection r.step) ∷ older) r.connection)) (sym e)
         (subst (λ (y : Outcome). (let r : Outcome = asked m at y in Polled polls (met None (segment_of m r.connection r.step) ∷ older) r.connection)) (sym ticks)
-        record { now = polls; least = omega arith; most = l; next = goes_on_so (text_beat polls at beat taken iss acked len age most part numbers older k (subst (λ (z : Connection). All IsSnapshot z.part.captures) e captures) t w b still) }))
+        record { now = polls; least = omega arith; most = l; next = goes_on_so (text_beat polls at beat taken iss acked len age most part numbers older k (subst (λ (z : Connection). All IsSnapshot z.part.snapshots) e captures) t w b still) }))
     | waits taken iss acked age most part k e t n r b ↦
-        (let left_some : polls < patience = room_left (λ z. r.more (t.delivered ∙ z)) in
+        (let left_some : polls < patience = room_left (λ z. r.more (t.input ∙ z)) in
         subst (λ (z : Connection). (let r : Outcome = asked m at (on_tick m z numbers) in Polled polls (met None (segment_of m r.connection r.step) ∷ older) r.connection)) (sym e)
         (polled_waits polls at older numbers taken iss acked age most part (omega (arith, left_some)) k t n r b (subst (λ (z : Connection). Snapshots at (on_tick m z numbers)) e snapshots)))
   ]
@@ -564,14 +564,14 @@ module _ (m : AppSpec) (pages : Pages) (lawful : IsPaged m pages) (p : Sockets) 
   runs_out polls incarnation c whole l h = elim h [
     | at_syn iss age part k e t ↦ (let z = t.none in omega (arith, z, l))
     | told taken iss acked len age most part k e t w b ↦ (let z = (w.next []).1 in omega (arith, z, l, b))
-    | waits taken iss acked age most part k e t n r b ↦ r.more (t.delivered ∙ whole)
+    | waits taken iss acked age most part k e t n r b ↦ r.more (t.input ∙ whole)
   ]
 
   -- the page stays sent
   pub stays_told : (x : Exchange) (incarnation : List Exchange) → HasItsPage pages a incarnation → HasItsPage pages a (x ∷ incarnation)
   stays_told x incarnation h = record {
-    captures = h.captures;
     snapshots = h.snapshots;
+    in_range = h.in_range;
     whole = h.whole;
     ends = record { place = suc h.ends.place; segment = h.ends.segment; output = h.ends.output; fin = h.ends.fin; seq = h.ends.seq };
     complete = h.complete;

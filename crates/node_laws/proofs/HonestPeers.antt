@@ -84,7 +84,7 @@ module _ (m : AppSpec) (pages : Pages) (lawful : IsPaged m pages) (serves_port :
         let keeps : (u : PlainSegment) → segment_of m o.connection o.step ≡ Some u → has_rst u.flags ≡ false = λ u e. q.1 u (ap (λ z. z.output) g.exchanged ∙ e) in
         let calls : calls_of v.i (turn ∷ rest) ≡ calls_of v.i rest + 1 = calls_one v.i turn rest e in
         let may : (text_received incarnation ≡ a.request → ⊥) → v.polls < patience = λ z. elim v.can_wait [ inl w ↦ absurd (z w) | inr w ↦ omega (arith, w, calls) ] in
-        let h = called m pages lawful p a room fine left texts patience answering v.polls v.few at n.numbers incarnation v.c may (good.fit.conns v.i v.c v.there).captures
+        let h = called m pages lawful p a room fine left texts patience answering v.polls v.few at n.numbers incarnation v.c may (good.fit.conns v.i v.c v.there).snapshots
         (snapshots v.i v.c (on_tick m v.c n.numbers) v.there (on_tick_fits m (steady_of m pages lawful) v.c n.numbers (good.fit.conns v.i v.c v.there) good.fit.numbers)) keeps v.stage in
         subst After (sym g.exchanged) (elim h.next [
           | ends_so told ↦ over told

@@ -18,21 +18,21 @@ pub record Kept (model : OutputModel) (incarnation : List Exchange) : Type 0 whe
   pub account : Account
   pub ended : Bool
   pub begins : Begins incarnation account
-  pub taken : IsAcceptedText account.irs incarnation account.accepted ended
-  pub snapshots : All IsSnapshot account.captures
-  pub sent : IsReceived account.iss incarnation account.sent
-  pub says : (k : ℕ) (x : Exchange) (s : PlainSegment) → slice_get incarnation k ≡ Some x → x.output ≡ Some s → SendsSlice account.iss account.sent s
+  pub taken : IsAcceptedText account.irs incarnation account.input ended
+  pub in_range : All IsSnapshot account.snapshots
+  pub sent : IsReceived account.iss incarnation account.stream
+  pub says : (k : ℕ) (x : Exchange) (s : PlainSegment) → slice_get incarnation k ≡ Some x → x.output ≡ Some s → SendsSlice account.iss account.stream s
   pub short : (k : ℕ) (x : Exchange) (s : PlainSegment) → slice_get incarnation k ≡ Some x → x.output ≡ Some s → length s.text ≤ first_mss account.peer_mss
   pub acknowledges : (k : ℕ) (x : Exchange) (s : PlainSegment) → slice_get incarnation k ≡ Some x → x.output ≡ Some s → has_rst s.flags ≡ false
-      → Acknowledges account.irs (drop k incarnation) account.accepted s
-  pub same : length account.sent < 1073741824 → (i j : ℕ) (x y : Exchange) (s t : PlainSegment) → i < j → slice_get incarnation i ≡ Some x
+      → Acknowledges account.irs (drop k incarnation) account.input s
+  pub same : length account.stream < 1073741824 → (i j : ℕ) (x y : Exchange) (s t : PlainSegment) → i < j → slice_get incarnation i ≡ Some x
       → slice_get incarnation j ≡ Some y → x.output ≡ Some s → y.output ≡ Some t → occupies_sequence_space s ≡ true → occupies_sequence_space t ≡ true → s.seq ≡ t.seq → Alike t s
   pub one : (i j : ℕ) (x y : Exchange) (s t : PlainSegment) → i < j → slice_get incarnation i ≡ Some x → slice_get incarnation j ≡ Some y
       → x.output ≡ Some s → y.output ≡ Some t → occupies_sequence_space s ≡ true → occupies_sequence_space t ≡ true → (s.seq ≡ t.seq → ⊥) → IsAcknowledged incarnation i j t
-  pub of_page : IsTold model (HasEnded incarnation) account.accepted account.captures account.sent
+  pub of_page : IsTold model (HasEnded incarnation) account.input account.snapshots account.stream
 
 pub grows_refl : (a : Account) → IsExtendedBy a a
-grows_refl a = record { irs = refl; iss = refl; peer_mss = refl; accepted = prefix_refl a.accepted; captures = ([], append_nothing a.captures); sent = prefix_refl a.sent }
+grows_refl a = record { irs = refl; iss = refl; peer_mss = refl; input = prefix_refl a.input; snapshots = ([], append_nothing a.snapshots); stream = prefix_refl a.stream }
 
 -- the exchange in which something was sent
 pub record SaidIn (incarnation : List Exchange) (k : ℕ) (s : PlainSegment) : Type 0 where

@@ -10,7 +10,7 @@ use Rattle.node_laws.proofs.Replying.{answer_no_syn, said_ack, step_short}
 use Rattle.node_laws.proofs.Lines.{OfMedium, met, left_of}
 use Rattle.node_laws.proofs.Lines.OfMedium.{passes_by, evicted, unanswered, refused, born, hears, ticks}
 
-begins_on : (x : Exchange) (incarnation : List Exchange) (a : Account) (text : List ℕ) (captures : List Snapshot) (sent : List ℕ) → Begins incarnation a → Begins (x ∷ incarnation) (record a { accepted = text; captures = captures; sent = sent })
+begins_on : (x : Exchange) (incarnation : List Exchange) (a : Account) (text : List ℕ) (captures : List Snapshot) (sent : List ℕ) → Begins incarnation a → Begins (x ∷ incarnation) (record a { input = text; snapshots = captures; sent = sent })
 begins_on x [] a text captures sent h = absurd h
 begins_on x (y ∷ []) a text captures sent h = record { syn = h.syn; received = h.received; plain = h.plain; number = h.number; mss = h.mss; answer = h.answer; output = h.output; seq = h.seq; acks = h.acks }
 begins_on x (y ∷ z ∷ older) a text captures sent h = begins_on y (z ∷ older) a text captures sent h
@@ -62,7 +62,7 @@ module _ (m : AppSpec) (steady : IsSteady m) (port : ℕ) (model : OutputModel) 
   abbrev AnyLength : ℕ → Type 0
   AnyLength n = Unit {0}
 
-  abbrev any_length : (p : AppState) → All IsSnapshot p.captures → AnyLength (length (m.output p))
+  abbrev any_length : (p : AppState) → All IsSnapshot p.snapshots → AnyLength (length (m.output p))
   any_length p h = tt
 
   abbrev SafeIn : Connection → Type 0
@@ -81,8 +81,8 @@ module _ (m : AppSpec) (steady : IsSteady m) (port : ℕ) (model : OutputModel) 
   pub record Live (incarnation : List Exchange) (a : Account) (ended : Bool) (c : Connection) : Type 0 where
     pub first_is : c.iss ≡ a.iss
     pub peer_is : c.irs ≡ a.irs
-    pub captures_are : c.part.captures ≡ a.captures
-    pub page : PageIn incarnation c a.accepted ended a.sent
+    pub captures_are : c.part.snapshots ≡ a.snapshots
+    pub page : PageIn incarnation c a.input ended a.stream
     pub safe : SafeIn c
     pub fit : FitConn c
     pub within : LensWithin (first_mss a.peer_mss) c
@@ -115,7 +115,7 @@ module _ (m : AppSpec) (steady : IsSteady m) (port : ℕ) (model : OutputModel) 
   -- if still no FIN is sent, all else is unchanged
   unended_page : (incarnation incarnation' : List Exchange) (d : Connection) (st : State) (now : List ℕ) (over : Bool) (sent : List ℕ) → (speaks st ≡ true → Unended incarnation → Unended incarnation') → At incarnation st d now over sent → At incarnation' st d now over sent
   unended_page incarnation incarnation' d Closed now over sent u h = tt
-  unended_page incarnation incarnation' d SynRcvd now over sent u h = record { acked = h.acked; len = h.len; none = h.none; captures = h.captures; is = h.is; unsent = h.unsent; unended = u refl h.unended; here = h.here }
+  unended_page incarnation incarnation' d SynRcvd now over sent u h = record { acked = h.acked; len = h.len; none = h.none; snapshots = h.snapshots; is = h.is; unsent = h.unsent; unended = u refl h.unended; here = h.here }
   unended_page incarnation incarnation' d Established now over sent u h = record { count = h.count; opens = h.opens; is = h.is; fits = h.fits; sent_is = h.sent_is; unended = u refl h.unended }
   unended_page incarnation incarnation' d CloseWait now over sent u h = record { count = h.count; opens = h.opens; is = h.is; fits = h.fits; sent_is = h.sent_is; unended = u refl h.unended }
   unended_page incarnation incarnation' d FinWait1 now over sent u h = record { end = h.end; count = h.count; len = h.len; is = h.is }
@@ -129,7 +129,7 @@ module _ (m : AppSpec) (steady : IsSteady m) (port : ℕ) (model : OutputModel) 
     first_is = l.first_is;
     peer_is = l.peer_is;
     captures_are = l.captures_are;
-    page = record { at = unended_page incarnation incarnation' c c.state a.accepted ended a.sent (λ z. u) l.page.at; taken = l.page.taken };
+    page = record { at = unended_page incarnation incarnation' c c.state a.input ended a.stream (λ z. u) l.page.at; taken = l.page.taken };
     safe = l.safe;
     fit = l.fit;
     within = l.within;
@@ -140,8 +140,8 @@ module _ (m : AppSpec) (steady : IsSteady m) (port : ℕ) (model : OutputModel) 
   module _ (x : Exchange) (incarnation : List Exchange) (k : Kept model incarnation) (now : List ℕ) (over : Bool) (captures : List Snapshot) (sent : List ℕ)
       (taken : IsAcceptedText k.account.irs (x ∷ incarnation) now over)
       (snapshots : All IsSnapshot captures)
-      (prefix : IsPrefixOf k.account.accepted now)
-      (longer_sent : IsPrefixOf k.account.sent sent)
+      (prefix : IsPrefixOf k.account.input now)
+      (longer_sent : IsPrefixOf k.account.stream sent)
       (is_received : IsReceived k.account.iss (x ∷ incarnation) sent)
       (grows : (i : ℕ) (y : Exchange) (s : PlainSegment) → slice_get incarnation i ≡ Some y → y.output ≡ Some s → SendsSlice k.account.iss sent s)
       (says : (s : PlainSegment) → x.output ≡ Some s → SendsSlice k.account.iss sent s)
@@ -163,10 +163,10 @@ module _ (m : AppSpec) (steady : IsSteady m) (port : ℕ) (model : OutputModel) 
 
     acks_on : (i : ℕ) (y : Exchange) (s : PlainSegment) → slice_get (x ∷ incarnation) i ≡ Some y → y.output ≡ Some s → has_rst s.flags ≡ false → Acknowledges k.account.irs (drop i (x ∷ incarnation)) now s
     acks_on zero y s g h r = acks s (said_is y s g h) r
-    acks_on (suc i) y s g h r = (let a = k.acknowledges i y s g h r in record { selected = a.selected; ended = a.ended; is = a.is; prefix = prefix_trans a.selected k.account.accepted now a.prefix prefix; ack = a.ack })
+    acks_on (suc i) y s g h r = (let a = k.acknowledges i y s g h r in record { selected = a.selected; ended = a.ended; is = a.is; prefix = prefix_trans a.selected k.account.input now a.prefix prefix; ack = a.ack })
 
-    short_before : length sent < 1073741824 → length k.account.sent < 1073741824
-    short_before l = omega (arith, l, prefix_length k.account.sent sent longer_sent)
+    short_before : length sent < 1073741824 → length k.account.stream < 1073741824
+    short_before l = omega (arith, l, prefix_length k.account.stream sent longer_sent)
 
     same_on : length sent < 1073741824 → (i j : ℕ) (y z : Exchange) (s t : PlainSegment) → i < j → slice_get (x ∷ incarnation) i ≡ Some y → slice_get (x ∷ incarnation) j ≡ Some z → y.output ≡ Some s → z.output ≡ Some t → occupies_sequence_space s ≡ true → occupies_sequence_space t ≡ true → s.seq ≡ t.seq → Alike t s
     same_on few i zero y z s t l g h p q a b e = absurd (omega (arith, l))
@@ -180,11 +180,11 @@ module _ (m : AppSpec) (steady : IsSteady m) (port : ℕ) (model : OutputModel) 
 
     abbrev longer : Kept model (x ∷ incarnation)
     longer = record {
-      account = record k.account { accepted = now; captures = captures; sent = sent };
+      account = record k.account { input = now; snapshots = captures; stream = sent };
       ended = over;
       begins = begins_on x incarnation k.account now captures sent k.begins;
       taken = taken;
-      snapshots = snapshots;
+      in_range = snapshots;
       sent = is_received;
       says = says_on;
       short = short_on;
@@ -202,7 +202,7 @@ module _ (m : AppSpec) (steady : IsSteady m) (port : ℕ) (model : OutputModel) 
     unplaced : (s : PlainSegment) → x.output ≡ Some s → occupies_sequence_space s ≡ true → ⊥
     unplaced s e p = let z : occupies_sequence_space s ≡ false = (resets s e).1 in cc
 
-    no_acks : (s : PlainSegment) → x.output ≡ Some s → has_rst s.flags ≡ false → Acknowledges g.kept.account.irs (x ∷ incarnation) g.kept.account.accepted s
+    no_acks : (s : PlainSegment) → x.output ≡ Some s → has_rst s.flags ≡ false → Acknowledges g.kept.account.irs (x ∷ incarnation) g.kept.account.input s
     no_acks s e r = absurd (let z : has_rst s.flags ≡ true = (resets s e).2 in cc)
 
     no_fin : (s : PlainSegment) → x.output ≡ Some s → has_fin s.flags ≡ true → ⊥
@@ -214,14 +214,14 @@ module _ (m : AppSpec) (steady : IsSteady m) (port : ℕ) (model : OutputModel) 
     abbrev still_kept : Kept model (x ∷ incarnation)
     still_kept =
         let k : Kept model incarnation = g.kept in
-        longer x incarnation k k.account.accepted k.ended k.account.captures k.account.sent (inl k.taken) k.snapshots (prefix_refl k.account.accepted) (prefix_refl k.account.sent)
-        (received_on k.account.iss x incarnation k.account.sent k.sent) k.says
+        longer x incarnation k k.account.input k.ended k.account.snapshots k.account.stream (inl k.taken) k.in_range (prefix_refl k.account.input) (prefix_refl k.account.stream)
+        (received_on k.account.iss x incarnation k.account.stream k.sent) k.says
         (λ s e. bare_says k.account.iss _ s (bare s (resets s e).1))
         (λ s e. bare_short (first_mss k.account.peer_mss) s (bare s (resets s e).1))
         no_acks
         (λ few s j y t e h q a b u. absurd (unplaced s e a))
         (λ s j y t e h q a b u. absurd (unplaced s e a))
-        (told_where model (HasEnded incarnation) (HasEnded (x ∷ incarnation)) ended_before k.account.accepted k.account.captures k.account.sent k.of_page)
+        (told_where model (HasEnded incarnation) (HasEnded (x ∷ incarnation)) ended_before k.account.input k.account.snapshots k.account.stream k.of_page)
 
     still_placed : is_live c'.state ≡ true → (i : ℕ) (y : Exchange) (s : PlainSegment) → slice_get (x ∷ incarnation) i ≡ Some y → y.output ≡ Some s → occupies_sequence_space s ≡ true → Passed (x ∷ incarnation) i c' s ⊎ DueIn c' s
     still_placed l zero y s h e p = absurd (let w : x.output ≡ Some s = only_some (λ z. z.output ≡ Some s → x.output ≡ Some s) x y h (λ q. q) e in let z : occupies_sequence_space s ≡ false = (resets s w).1 in cc)
@@ -290,7 +290,7 @@ module _ (m : AppSpec) (steady : IsSteady m) (port : ℕ) (model : OutputModel) 
   no_fin_due d TimeWait s e a f = absurd (cc)
   no_fin_due d LastAck s e a f = absurd (cc)
 
-  end_due : (incarnation : List Exchange) (d : Connection) (st : State) (now : List ℕ) (over : Bool) (sent : List ℕ) (s : PlainSegment) → At incarnation st d now over sent → Alike s (due m st d) → has_fin s.flags ≡ true → IsEnd model now d.part.captures sent
+  end_due : (incarnation : List Exchange) (d : Connection) (st : State) (now : List ℕ) (over : Bool) (sent : List ℕ) (s : PlainSegment) → At incarnation st d now over sent → Alike s (due m st d) → has_fin s.flags ≡ true → IsEnd model now d.part.snapshots sent
   end_due incarnation d Closed now over sent s g a f = absurd (let z : has_fin s.flags ≡ false = ap has_fin a.flags in cc)
   end_due incarnation d SynRcvd now over sent s g a f = absurd (no_fin_due d SynRcvd s refl a f)
   end_due incarnation d Established now over sent s g a f = absurd (no_fin_due d Established s refl a f)
@@ -328,7 +328,7 @@ module _ (m : AppSpec) (steady : IsSteady m) (port : ℕ) (model : OutputModel) 
     pub exact : segment.ack ≡ wrap (snd_una c + c.len)
 
   module _ (c c' : Connection) (o : Outcome) (received : Option PlainSegment) (acked : Bool) (incarnation : List Exchange) (g : Good c incarnation) (alive : is_live c.state ≡ true) (fit : FitConn o.connection)
-      (sp : Spoke m port model laws (Unended incarnation) received c g.kept.account.accepted g.kept.ended g.kept.account.sent o)
+      (sp : Spoke m port model laws (Unended incarnation) received c g.kept.account.input g.kept.ended g.kept.account.stream o)
       (tells : StepTells m steady AnyLength any_length c o.connection (segment_of m o.connection o.step) (is_again o.step))
       (moves : Moves acked c o.connection)
       (hears_ack : acked ≡ true → Acks received c)
@@ -348,54 +348,54 @@ module _ (m : AppSpec) (steady : IsSteady m) (port : ℕ) (model : OutputModel) 
     abbrev a : Account
     a = g.kept.account
 
-    abbrev w : Moved m port model laws (Unended incarnation) received c a.accepted g.kept.ended sp.sent_now d
+    abbrev w : Moved m port model laws (Unended incarnation) received c a.input g.kept.ended sp.sent_now d
     w = sp.moved
 
     lv : Live incarnation a g.kept.ended c
     lv = g.live alive
 
-    read : Reading received a.irs a.accepted g.kept.ended w.now w.over
-    read = subst (λ n. Reading received n a.accepted g.kept.ended w.now w.over) lv.peer_is w.read
+    read : Reading received a.irs a.input g.kept.ended w.now w.over
+    read = subst (λ n. Reading received n a.input g.kept.ended w.now w.over) lv.peer_is w.read
 
     step_taken : IsAcceptedText a.irs (x ∷ incarnation) w.now w.over
     step_taken = elim read [
-      | inl q ↦ inl (subst (λ z. IsAcceptedText a.irs incarnation z w.over) (sym q.0) (subst (λ z. IsAcceptedText a.irs incarnation a.accepted z) (sym q.1) g.kept.taken))
-      | inr r ↦ inr record { segment = r.segment; received = r.is; earlier = a.accepted; before = subst (λ z. IsAcceptedText a.irs incarnation a.accepted z) r.unended g.kept.taken; seq = r.seq; joined = r.joined; fin = r.fin }
+      | inl q ↦ inl (subst (λ z. IsAcceptedText a.irs incarnation z w.over) (sym q.0) (subst (λ z. IsAcceptedText a.irs incarnation a.input z) (sym q.1) g.kept.taken))
+      | inr r ↦ inr record { segment = r.segment; received = r.is; earlier = a.input; before = subst (λ z. IsAcceptedText a.irs incarnation a.input z) r.unended g.kept.taken; seq = r.seq; joined = r.joined; fin = r.fin }
     ]
 
-    step_prefix : IsPrefixOf a.accepted w.now
+    step_prefix : IsPrefixOf a.input w.now
     step_prefix = elim read [
-      | inl q ↦ record { rest = []; joined = append_nothing a.accepted ∙ sym q.0 }
+      | inl q ↦ record { rest = []; joined = append_nothing a.input ∙ sym q.0 }
       | inr r ↦ record { rest = r.segment.text; joined = sym r.joined }
     ]
 
-    captures_on : a.captures ++ w.more ≡ d.part.captures
-    captures_on = ap (λ l. l ++ w.more) (sym lv.captures_are) ∙ sym w.captures
+    captures_on : a.snapshots ++ w.more ≡ d.part.snapshots
+    captures_on = ap (λ l. l ++ w.more) (sym lv.captures_are) ∙ sym w.snapshots
 
     first_on : is_live d.state ≡ true → d.iss ≡ a.iss
     first_on l = (tells.onto l).iss ∙ lv.first_is
 
     -- ---- the text that was sent
 
-    more_sent : IsPrefixOf a.sent sp.sent_now
+    more_sent : IsPrefixOf a.stream sp.sent_now
     more_sent = elim sp.adds [
-      | inl q ↦ record { rest = []; joined = append_nothing a.sent ∙ sym q }
+      | inl q ↦ record { rest = []; joined = append_nothing a.stream ∙ sym q }
       | inr n ↦ record { rest = (text_segment m d).text; joined = sym n.joined }
     ]
 
     step_received : IsReceived a.iss (x ∷ incarnation) sp.sent_now
     step_received =
-        let old : IsReceived a.iss (x ∷ incarnation) a.sent = received_on a.iss x incarnation a.sent g.kept.sent in
+        let old : IsReceived a.iss (x ∷ incarnation) a.stream = received_on a.iss x incarnation a.stream g.kept.sent in
         elim sp.adds [
           | inl q ↦ subst (λ z. IsReceived a.iss (x ∷ incarnation) z) (sym q) old
           | inr n ↦ subst (λ z. IsReceived a.iss (x ∷ incarnation) z) (sym n.joined)
-              (λ at byte e. elim (get_append a.sent (text_segment m d).text at byte e) [
+              (λ at byte e. elim (get_append a.stream (text_segment m d).text at byte e) [
                 | in_first y ↦ old at byte y
                 | in_second j i y ↦ record {
                   place = 0;
                   segment = text_segment m d;
                   output = n.is;
-                  from = length a.sent;
+                  from = length a.stream;
                   seq = ap (λ k. wrap (k + d.acked)) (first_on n.live) ∙ ap wrap (let z = n.acked in omega (arith, z));
                   within = j;
                   sum = i;
@@ -408,7 +408,7 @@ module _ (m : AppSpec) (steady : IsSteady m) (port : ℕ) (model : OutputModel) 
     older_says i y s h e = elim sp.adds [
       | inl q ↦ subst (λ z. SendsSlice a.iss z s) (sym q) (g.kept.says i y s h e)
       | inr n ↦ subst (λ z. SendsSlice a.iss z s) (sym n.joined)
-          (says_more a.iss a.sent (text_segment m d).text s (λ f. n.unended record { place = i; exchange = y; segment = s; there = h; output = e; fin = f }) (g.kept.says i y s h e))
+          (says_more a.iss a.stream (text_segment m d).text s (λ f. n.unended record { place = i; exchange = y; segment = s; there = h; output = e; fin = f }) (g.kept.says i y s h e))
     ]
 
     step_says : (s : PlainSegment) → sent ≡ Some s → SendsSlice a.iss sp.sent_now s
@@ -430,31 +430,31 @@ module _ (m : AppSpec) (steady : IsSteady m) (port : ℕ) (model : OutputModel) 
     -- ---- of its page
 
     -- as before, if this exchange has no FIN
-    told_before : ((s : PlainSegment) → sent ≡ Some s → has_fin s.flags ≡ true → ⊥) → IsTold model (HasEnded (x ∷ incarnation)) w.now d.part.captures sp.sent_now
+    told_before : ((s : PlainSegment) → sent ≡ Some s → has_fin s.flags ≡ true → ⊥) → IsTold model (HasEnded (x ∷ incarnation)) w.now d.part.snapshots sp.sent_now
     told_before none =
         let before : HasEnded (x ∷ incarnation) → HasEnded incarnation = λ h. elim (last_or_before x incarnation h) [ inl q ↦ absurd (none q.0 q.1 q.2) | inr old ↦ old ] in
         elim sp.adds [
-          | inl q ↦ subst (λ z. IsTold model (HasEnded (x ∷ incarnation)) w.now d.part.captures z) (sym q)
-              (subst (λ z. IsTold model (HasEnded (x ∷ incarnation)) w.now z a.sent) captures_on
-              (subst (λ z. IsTold model (HasEnded (x ∷ incarnation)) z (a.captures ++ w.more) a.sent) step_prefix.joined
-              (told_where model (HasEnded incarnation) (HasEnded (x ∷ incarnation)) before (a.accepted ++ step_prefix.rest) (a.captures ++ w.more) a.sent
-              (told_on m port model laws (HasEnded incarnation) a.accepted step_prefix.rest a.captures w.more a.sent g.kept.of_page))))
-          | inr n ↦ told_where model ⊥ (HasEnded (x ∷ incarnation)) (λ h. n.unended (before h)) w.now d.part.captures sp.sent_now n.of_page
+          | inl q ↦ subst (λ z. IsTold model (HasEnded (x ∷ incarnation)) w.now d.part.snapshots z) (sym q)
+              (subst (λ z. IsTold model (HasEnded (x ∷ incarnation)) w.now z a.stream) captures_on
+              (subst (λ z. IsTold model (HasEnded (x ∷ incarnation)) z (a.snapshots ++ w.more) a.stream) step_prefix.joined
+              (told_where model (HasEnded incarnation) (HasEnded (x ∷ incarnation)) before (a.input ++ step_prefix.rest) (a.snapshots ++ w.more) a.stream
+              (told_on m port model laws (HasEnded incarnation) a.input step_prefix.rest a.snapshots w.more a.stream g.kept.of_page))))
+          | inr n ↦ told_where model ⊥ (HasEnded (x ∷ incarnation)) (λ h. n.unended (before h)) w.now d.part.snapshots sp.sent_now n.of_page
         ]
 
     -- and with a FIN the text is that of the end
-    told_with : (s : PlainSegment) → sent ≡ Some s → has_fin s.flags ≡ true → IsTold model (HasEnded (x ∷ incarnation)) w.now d.part.captures sp.sent_now
+    told_with : (s : PlainSegment) → sent ≡ Some s → has_fin s.flags ≡ true → IsTold model (HasEnded (x ∷ incarnation)) w.now d.part.snapshots sp.sent_now
     told_with s e f =
         let t = tells.output s e (fin_placed s f) in
-        told_end model (HasEnded (x ∷ incarnation)) w.now d.part.captures sp.sent_now (end_due incarnation d d.state w.now w.over sp.sent_now s w.page.at t.due_now.alike f)
+        told_end model (HasEnded (x ∷ incarnation)) w.now d.part.snapshots sp.sent_now (end_due incarnation d d.state w.now w.over sp.sent_now s w.page.at t.due_now.alike f)
 
-    reported_by : (output : Option PlainSegment) → sent ≡ output → IsTold model (HasEnded (x ∷ incarnation)) w.now d.part.captures sp.sent_now
+    reported_by : (output : Option PlainSegment) → sent ≡ output → IsTold model (HasEnded (x ∷ incarnation)) w.now d.part.snapshots sp.sent_now
     reported_by None e = told_before (λ s q f. absurd (let z : None ≡ Some s = sym e ∙ q in cc))
     reported_by (Some s) e =
         both_ways (has_fin s.flags) (λ f. told_with s e f)
         (λ f. told_before (λ t q h. absurd (let z : has_fin t.flags ≡ false = only_some (λ y. has_fin y.flags ≡ false) s t (sym e ∙ q) f in cc)))
 
-    step_of_page : IsTold model (HasEnded (x ∷ incarnation)) w.now d.part.captures sp.sent_now
+    step_of_page : IsTold model (HasEnded (x ∷ incarnation)) w.now d.part.snapshots sp.sent_now
     step_of_page = reported_by sent refl
 
     still_unended : speaks d.state ≡ true → Unended incarnation → Unended (x ∷ incarnation)
@@ -506,8 +506,8 @@ module _ (m : AppSpec) (steady : IsSteady m) (port : ℕ) (model : OutputModel) 
 
     abbrev step_good : Good c' (x ∷ incarnation)
     step_good = record {
-      kept = longer x incarnation g.kept w.now w.over d.part.captures sp.sent_now step_taken fit.captures step_prefix more_sent step_received older_says step_says short step_acks step_same step_one step_of_page;
-      live = λ l. subst (λ z. Live (x ∷ incarnation) (record a { accepted = w.now; captures = d.part.captures; sent = sp.sent_now }) w.over z) (sym (left l).1)
+      kept = longer x incarnation g.kept w.now w.over d.part.snapshots sp.sent_now step_taken fit.snapshots step_prefix more_sent step_received older_says step_says short step_acks step_same step_one step_of_page;
+      live = λ l. subst (λ z. Live (x ∷ incarnation) (record a { input = w.now; snapshots = d.part.snapshots; stream = sp.sent_now }) w.over z) (sym (left l).1)
           (let e : is_live d.state ≡ true = (left l).0 in
           record {
             first_is = first_on e;
@@ -522,7 +522,7 @@ module _ (m : AppSpec) (steady : IsSteady m) (port : ℕ) (model : OutputModel) 
     }
 
     pub on_step : Onward c incarnation g c' x
-    on_step = record { good = step_good; grew = record { irs = refl; iss = refl; peer_mss = refl; accepted = step_prefix; captures = (w.more, captures_on); sent = more_sent } }
+    on_step = record { good = step_good; grew = record { irs = refl; iss = refl; peer_mss = refl; input = step_prefix; snapshots = (w.more, captures_on); stream = more_sent } }
 
   -- ---- it begins
 
@@ -566,11 +566,11 @@ module _ (m : AppSpec) (steady : IsSteady m) (port : ℕ) (model : OutputModel) 
       let only : (k : ℕ) (y : Exchange) (t : PlainSegment) → slice_get (x ∷ []) k ≡ Some y → y.output ≡ Some t → syn_ack c ≡ t = λ k y t h e. only_one k x y (syn_ack c) t h refl e in
       record {
         kept = record {
-          account = record { irs = s.seq; iss = iss; peer_mss = s.mss; accepted = []; captures = []; sent = [] };
+          account = record { irs = s.seq; iss = iss; peer_mss = s.mss; input = []; snapshots = []; stream = [] };
           ended = false;
           begins = record { syn = s; received = refl; plain = ap has_syn (let q : s.flags ≡ SYN = eqb-eq s.flags SYN plain in q); number = refl; mss = refl; answer = syn_ack c; output = refl; seq = ap wrap (omega arith); acks = ap wrap (omega arith) };
           taken = inl (refl, refl);
-          snapshots = all_nil IsSnapshot;
+          in_range = all_nil IsSnapshot;
           sent = λ at byte e. absurd (cc);
           says = λ k y t h e. subst (λ z. SendsSlice iss [] z) (only k y t h e) (says_due (x ∷ []) c SynRcvd [] false [] (syn_ack c) safe.state page.at due_now.len due_now.seq due_now.alike);
           short = λ k y t h e. subst (λ z. length z.text ≤ first_mss s.mss) (only k y t h e) (omega arith);
@@ -632,7 +632,7 @@ module _ (m : AppSpec) (steady : IsSteady m) (port : ℕ) (model : OutputModel) 
           subst (λ z. Onward c incarnation g d z) (sym h.0)
           (on_step c d oo (Some s) (not (has_rst s.flags) && is_acked c s) incarnation g alive
           (stepped_fits m steady AnyLength any_length at o is fo)
-          (segment_moved m port model laws (Unended incarnation) steady at c g.kept.account.accepted g.kept.ended g.kept.account.sent numbers s (g.live alive).page)
+          (segment_moved m port model laws (Unended incarnation) steady at c g.kept.account.input g.kept.ended g.kept.account.stream numbers s (g.live alive).page)
           (stepped_tells m steady AnyLength any_length at c o is fo (segment_tells m steady AnyLength any_length c numbers s safe))
           (asked_moves m (not (has_rst s.flags) && is_acked c s) c at o (segment_moves m c numbers s))
           (acks_of c s)
@@ -648,7 +648,7 @@ module _ (m : AppSpec) (steady : IsSteady m) (port : ℕ) (model : OutputModel) 
           subst (λ z. Onward c incarnation g d z) (sym h.0)
           (on_step c d oo None false incarnation g alive
           (stepped_fits m steady AnyLength any_length at o is fo)
-          (tick_moved m port model laws (Unended incarnation) steady at c g.kept.account.accepted g.kept.ended g.kept.account.sent numbers (g.live alive).page)
+          (tick_moved m port model laws (Unended incarnation) steady at c g.kept.account.input g.kept.ended g.kept.account.stream numbers (g.live alive).page)
           (stepped_tells m steady AnyLength any_length at c o is fo (tick_tells m steady AnyLength any_length c numbers safe))
           (asked_moves m false c at o (tick_moves m c numbers))
           (λ z. absurd (cc))

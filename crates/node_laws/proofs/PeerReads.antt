@@ -82,7 +82,7 @@ module _ (m : AppSpec) (served : ℕ → Bool) where
 record SoundConn (p : Sockets) (c : Connection) : Type 0 where
   fits : Fits p
   lens : Lens c
-  delivered : DeliveredBytes c
+  input : DeliveredBytes c
 
 record SoundSaid (p : Sockets) (s : PlainSegment) : Type 0 where
   fits : Fits p
@@ -104,9 +104,9 @@ module _ (m : AppSpec) (steady : IsSteady m) (bytes : SendsBytes m) where
     conn = λ l. record {
       fits = f;
       lens = subst (λ z. Lens z) (sym q) (choose (λ z. Lens z) (is_live o.connection.state) o.connection closed (λ y. lens) (λ y. closed_lens));
-      delivered = subst (λ z. DeliveredBytes z) (sym q) (choose (λ z. DeliveredBytes z) (is_live o.connection.state) o.connection closed (λ y. delivered) (λ y. all_nil IsByte));
+      input = subst (λ z. DeliveredBytes z) (sym q) (choose (λ z. DeliveredBytes z) (is_live o.connection.state) o.connection closed (λ y. delivered) (λ y. all_nil IsByte));
     };
-    output = λ s g. record { fits = f; segment = said_sound m o.connection o.step s lens (bytes.output o.connection.part delivered fit.captures) (sym e ∙ g) };
+    output = λ s g. record { fits = f; segment = said_sound m o.connection o.step s lens (bytes.output o.connection.part delivered fit.snapshots) (sym e ∙ g) };
   }
 
   does_sound : (served : ℕ → Bool) (p : Sockets) (event : Event) (sent : Option Reply) (c d : Connection) → IsWire event → OfMedium m served p c d (exchange p event sent) → (is_live c.state ≡ true → SoundConn p c) → SoundDoes p d (exchange p event sent)
@@ -124,17 +124,17 @@ module _ (m : AppSpec) (steady : IsSteady m) (bytes : SendsBytes m) where
         | born iss s plain port fit e f ↦ (let k : MediumInput p s = received s (ap (λ y. y.received) e) in
             let b : Connection = accepted iss p s in
             record {
-              conn = λ z. record { fits = k.fits; lens = subst (λ y. Lens y) (sym f) (accepted_lens iss p s); delivered = subst (λ y. DeliveredBytes y) (sym f) (all_nil IsByte) };
-              output = λ t g. record { fits = k.fits; segment = said_sound m b (Step.SynAck false) t (accepted_lens iss p s) (bytes.output b.part (all_nil IsByte) fit.captures) (sym (ap (λ y. y.output) e) ∙ g) };
+              conn = λ z. record { fits = k.fits; lens = subst (λ y. Lens y) (sym f) (accepted_lens iss p s); input = subst (λ y. DeliveredBytes y) (sym f) (all_nil IsByte) };
+              output = λ t g. record { fits = k.fits; segment = said_sound m b (Step.SynAck false) t (accepted_lens iss p s) (bytes.output b.part (all_nil IsByte) fit.snapshots) (sym (ap (λ y. y.output) e) ∙ g) };
             })
         | hears s numbers at alive fit words is q ↦
             (let o : Outcome = on_segment m c numbers s in
             let fo : FitOut o = on_segment_fits m steady c numbers s fit words in
-            step_does p d x (asked m at o) (h alive).fits (asked_fits m steady at is o fo).conn (asked_lens m at o (on_segment_lens m c numbers s (h alive).lens)) (asked_bytes m bytes at o (on_segment_bytes m bytes c numbers s (received s (ap (λ y. y.received) q.0)).text (h alive).delivered)) (ap (λ y. y.output) q.0) q.1)
+            step_does p d x (asked m at o) (h alive).fits (asked_fits m steady at is o fo).conn (asked_lens m at o (on_segment_lens m c numbers s (h alive).lens)) (asked_bytes m bytes at o (on_segment_bytes m bytes c numbers s (received s (ap (λ y. y.received) q.0)).text (h alive).input)) (ap (λ y. y.output) q.0) q.1)
         | ticks numbers at alive fit words is q ↦
             (let o : Outcome = on_tick m c numbers in
             let fo : FitOut o = on_tick_fits m steady c numbers fit words in
-            step_does p d x (asked m at o) (h alive).fits (asked_fits m steady at is o fo).conn (asked_lens m at o (on_tick_lens m c numbers (h alive).lens)) (asked_bytes m bytes at o (on_tick_bytes m bytes c numbers (h alive).delivered)) (ap (λ y. y.output) q.0) q.1)
+            step_does p d x (asked m at o) (h alive).fits (asked_fits m steady at is o fo).conn (asked_lens m at o (on_tick_lens m c numbers (h alive).lens)) (asked_bytes m bytes at o (on_tick_bytes m bytes c numbers (h alive).input)) (ap (λ y. y.output) q.0) q.1)
       ]
 
   record SoundAll (n : AbstractNode) : Type 0 where

@@ -45,7 +45,7 @@ pub use Rattle.uip_node.proofs.DatagramsBack.{IsPlace, datagram_back, datagram_s
 pub use Rattle.uip_node.proofs.DeliveredBytes.{DeliveredBytes, asked_bytes, on_segment_bytes, on_tick_bytes, page_bytes}
 pub use Rattle.uip_node.proofs.Finding.{found}
 pub use Rattle.uip_node.proofs.FitNodes.{FitNode, closed_fits, event_fits, node_snapshot, slot_inside}
-pub use Rattle.uip_node.proofs.Fits.{FitConn, FitOut, accepted_fits, all_cons, all_nil, asked_fits, on_segment_fits, on_tick_fits, prepared_captures}
+pub use Rattle.uip_node.proofs.Fits.{FitConn, FitOut, accepted_fits, all_cons, all_nil, asked_fits, on_segment_fits, on_tick_fits, prepared_snapshots}
 pub use Rattle.uip_node.proofs.Handed.{hears_is, prepare_is}
 pub use Rattle.uip_node.proofs.Moves.{Moves, asked_moves, segment_moves, tick_moves}
 pub use Rattle.uip_node.proofs.Peers.{asked_keeps, on_segment_keeps, on_tick_closed, on_tick_keeps}

@@ -36,9 +36,9 @@ without_fin irs (x ∷ older) selected ended h = elim h [
 ]
 
 module _ (model : OutputModel) (incarnation : List Exchange) (k : Kept model incarnation) where
-  module _ (short : length k.account.sent < 1073741824) where
+  module _ (short : length k.account.stream < 1073741824) where
     abbrev text : List ℕ
-    text = k.account.sent
+    text = k.account.stream
 
     byte_is : (at b : ℕ) → at ≤ 1073741824 → CarriesByte k.account.iss incarnation at b → (at < length text) × (slice_get text at ≡ Some b)
     byte_is at b low c =
@@ -83,8 +83,8 @@ module _ (model : OutputModel) (incarnation : List Exchange) (k : Kept model inc
   pub keeps_account : AccountHolds incarnation k.account
   keeps_account = record {
     begins = k.begins;
-    accepted = without_fin k.account.irs incarnation k.account.accepted k.ended k.taken;
-    snapshots = k.snapshots;
+    accepted = without_fin k.account.irs incarnation k.account.input k.ended k.taken;
+    in_range = k.in_range;
     carried = k.sent;
     slices = λ i s h. (let w = said_in incarnation i s h in k.says i w.exchange s w.there w.output);
     within_mss = λ i s h. (let w = said_in incarnation i s h in k.short i w.exchange s w.there w.output);
@@ -95,8 +95,8 @@ module _ (model : OutputModel) (incarnation : List Exchange) (k : Kept model inc
 ended_in : (incarnation : List Exchange) (k : ℕ) (s : PlainSegment) → sent_at incarnation k ≡ Some s → has_fin s.flags ≡ true → HasEnded incarnation
 ended_in incarnation k s h f = (let w = said_in incarnation k s h in record { place = k; exchange = w.exchange; segment = s; there = w.there; output = w.output; fin = f })
 
-of_page : (pages : Pages) (delivered : List ℕ) (incarnation : List Exchange) (a : Account) → IsPrefixOf a.sent (pages.text delivered a.captures)
-    → (HasEnded incarnation → (a.sent ≡ pages.text delivered a.captures) × (pages.whole delivered a.captures ≡ true)) → IsPrefixOfPage pages delivered incarnation a
+of_page : (pages : Pages) (delivered : List ℕ) (incarnation : List Exchange) (a : Account) → IsPrefixOf a.stream (pages.page delivered a.snapshots)
+    → (HasEnded incarnation → (a.stream ≡ pages.page delivered a.snapshots) × (pages.complete delivered a.snapshots ≡ true)) → IsPrefixOfPage pages delivered incarnation a
 of_page pages delivered incarnation a prefix ends = record { prefix = prefix; ends = λ i s h f. ends (ended_in incarnation i s h f) }
 
 -- and what any receiver has
@@ -109,6 +109,6 @@ keeps_text m port (Interactive sessions) laws incarnation k = (
 keeps_text m port (Paged pages) laws incarnation k =
     let l : IsPagedAt m port pages = laws in
     let a : Account = k.account in
-    let prefix : IsPrefixOf a.sent (pages.text a.accepted a.captures) = k.of_page.0 in
-    let short : length a.sent < 1073741824 = omega (arith, l.short a.accepted a.captures k.snapshots, prefix_length a.sent (pages.text a.accepted a.captures) prefix) in
-    (of_page pages a.accepted incarnation a prefix k.of_page.1, numbers_tell (Paged pages) incarnation k short)
+    let prefix : IsPrefixOf a.stream (pages.page a.input a.snapshots) = k.of_page.0 in
+    let short : length a.stream < 1073741824 = omega (arith, l.short a.input a.snapshots k.in_range, prefix_length a.stream (pages.page a.input a.snapshots) prefix) in
+    (of_page pages a.input incarnation a prefix k.of_page.1, numbers_tell (Paged pages) incarnation k short)

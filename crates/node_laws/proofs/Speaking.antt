@@ -33,11 +33,11 @@ slice_prefix at n xs h =
 
 -- the text is the page of what was delivered and captured, which is whole
 abbrev IsEndOf : Pages → List ℕ → List Snapshot → List ℕ → Type 0
-IsEndOf pages delivered k sent = (sent ≡ pages.text delivered k) × (pages.whole delivered k ≡ true)
+IsEndOf pages delivered k sent = (sent ≡ pages.page delivered k) × (pages.complete delivered k ≡ true)
 
 -- it is a prefix of it, and if E holds it is the page, which is whole
 abbrev IsTextOf : Pages → Type 0 → List ℕ → List Snapshot → List ℕ → Type 0
-IsTextOf pages E delivered k sent = IsPrefixOf sent (pages.text delivered k) × (E → IsEndOf pages delivered k sent)
+IsTextOf pages E delivered k sent = IsPrefixOf sent (pages.page delivered k) × (E → IsEndOf pages delivered k sent)
 
 abbrev pub IsEnd : OutputModel → List ℕ → List Snapshot → List ℕ → Type 0
 IsEnd (Paged pages) text k sent = IsEndOf pages text k sent
@@ -51,8 +51,8 @@ IsTold Free E text k sent = Unit {0}
 
 -- nothing was sent
 pub told_starts : (model : OutputModel) (E : Type 0) → (E → ⊥) → IsTold model E [] [] []
-told_starts (Paged pages) E none = (record { rest = pages.text [] []; joined = refl }, λ e. absurd (none e))
-told_starts (Interactive sessions) E none = ([], prefix_refl [], (record { rest = sessions.text [] []; joined = refl }, λ e. absurd (none e)))
+told_starts (Paged pages) E none = (record { rest = pages.page [] []; joined = refl }, λ e. absurd (none e))
+told_starts (Interactive sessions) E none = ([], prefix_refl [], (record { rest = sessions.page [] []; joined = refl }, λ e. absurd (none e)))
 told_starts Free E none = tt
 
 pub told_where : (model : OutputModel) (E F : Type 0) → (F → E) → (text : List ℕ) (k : List Snapshot) (sent : List ℕ) → IsTold model E text k sent → IsTold model F text k sent
@@ -65,28 +65,28 @@ all_prefix xs ys e = subst (λ z. IsPrefixOf xs z) e (prefix_refl xs)
 
 -- the end of the page gives both
 pub told_end : (model : OutputModel) (E : Type 0) (text : List ℕ) (k : List Snapshot) (sent : List ℕ) → IsEnd model text k sent → IsTold model E text k sent
-told_end (Paged pages) E text k sent h = (all_prefix sent (pages.text text k) h.0, λ e. h)
-told_end (Interactive sessions) E text k sent h = (h.0, h.1, (all_prefix sent (sessions.text h.0 k) h.2.0, λ e. h.2))
+told_end (Paged pages) E text k sent h = (all_prefix sent (pages.page text k) h.0, λ e. h)
+told_end (Interactive sessions) E text k sent h = (h.0, h.1, (all_prefix sent (sessions.page h.0 k) h.2.0, λ e. h.2))
 told_end Free E text k sent h = tt
 
 module _ (m : AppSpec) (port : ℕ) where
   -- of the pages of a port
   module _ (pages : Pages) (l : FollowsPagesAt m port pages) where
     end_of_on : (delivered more : List ℕ) (k later : List Snapshot) (sent : List ℕ) → IsEndOf pages delivered k sent → IsEndOf pages (delivered ++ more) (k ++ later) sent
-    end_of_on delivered more k later sent h = (h.0 ∙ sym (l.stays delivered more k later h.1), l.stays_whole delivered more k later h.1)
+    end_of_on delivered more k later sent h = (h.0 ∙ sym (l.stays delivered more k later h.1), l.stays_complete delivered more k later h.1)
 
     text_on : (E : Type 0) (delivered more : List ℕ) (k later : List Snapshot) (sent : List ℕ) → IsTextOf pages E delivered k sent → IsTextOf pages E (delivered ++ more) (k ++ later) sent
     text_on E delivered more k later sent h = (
-      prefix_trans sent (pages.text delivered k) (pages.text (delivered ++ more) (k ++ later)) h.0 (l.grows delivered more k later),
+      prefix_trans sent (pages.page delivered k) (pages.page (delivered ++ more) (k ++ later)) h.0 (l.grows delivered more k later),
       λ e. end_of_on delivered more k later sent (h.1 e),
     )
 
     -- what was delivered to a state of what was accepted: all, or a prefix if it is lost
     abbrev HeardOf : AppState → List ℕ → Type 0
-    HeardOf p text = (l.here p ≡ true) × ((p.delivered ≡ text) ⊎ ((l.lost p ≡ true) × IsPrefixOf p.delivered text))
+    HeardOf p text = (l.here p ≡ true) × ((p.input ≡ text) ⊎ ((l.lost p ≡ true) × IsPrefixOf p.input text))
 
-    heard_prefix : (p : AppState) (text : List ℕ) → HeardOf p text → IsPrefixOf p.delivered text
-    heard_prefix p text h = elim (h.1) [ inl e ↦ all_prefix p.delivered text e | inr q ↦ q.1 ]
+    heard_prefix : (p : AppState) (text : List ℕ) → HeardOf p text → IsPrefixOf p.input text
+    heard_prefix p text h = elim (h.1) [ inl e ↦ all_prefix p.input text e | inr q ↦ q.1 ]
 
     heard_new : (numbers : List ℕ) → HeardOf (m.connected numbers port).part []
     heard_new numbers = (let x = l.connected numbers in (x.0, inl x.1))
@@ -95,22 +95,22 @@ module _ (m : AppSpec) (port : ℕ) where
     heard_piece numbers p piece text h =
         let q : AppState = (m.newdata numbers p piece).part in
         let x : AcceptsPrefix l.here l.lost p q piece = l.newdata numbers p piece h.0 in (
-          x.delivered.0,
+          x.input.0,
           elim (h.1) [
             | inl e ↦ elim (x.all) [
               | inl none ↦ (let all : x.prefix ≡ piece = sym (append_nothing x.prefix) ∙ ap (λ z. x.prefix ++ z) (sym none) ∙ x.joined in
-                  inl (x.delivered.1 ∙ ap (λ z. z ++ x.prefix) e ∙ ap (λ z. text ++ z) all))
+                  inl (x.input.1 ∙ ap (λ z. z ++ x.prefix) e ∙ ap (λ z. text ++ z) all))
               | inr lost ↦ inr (
                 lost,
                 record {
                   rest = x.rest;
-                  joined = ap (λ z. z ++ x.rest) (x.delivered.1 ∙ ap (λ z. z ++ x.prefix) e) ∙ append_assoc text x.prefix x.rest ∙ ap (λ z. text ++ z) x.joined;
+                  joined = ap (λ z. z ++ x.rest) (x.input.1 ∙ ap (λ z. z ++ x.prefix) e) ∙ append_assoc text x.prefix x.rest ∙ ap (λ z. text ++ z) x.joined;
                 },
               )
             ]
             | inr g ↦ (let n = x.no_more g.0 in
-                let old : IsPrefixOf p.delivered text = g.1 in
-                inr (n.1, record { rest = old.rest ++ piece; joined = ap (λ z. z ++ (old.rest ++ piece)) n.0 ∙ sym (append_assoc p.delivered old.rest piece) ∙ ap (λ z. z ++ piece) old.joined }))
+                let old : IsPrefixOf p.input text = g.1 in
+                inr (n.1, record { rest = old.rest ++ piece; joined = ap (λ z. z ++ (old.rest ++ piece)) n.0 ∙ sym (append_assoc p.input old.rest piece) ∙ ap (λ z. z ++ piece) old.joined }))
           ],
         )
 
@@ -123,20 +123,20 @@ module _ (m : AppSpec) (port : ℕ) where
       ],
     )
 
-    text_said : (E : Type 0) → (E → ⊥) → (p : AppState) (n : ℕ) → l.here p ≡ true → IsTextOf pages E p.delivered p.captures (take n (m.output p))
+    text_said : (E : Type 0) → (E → ⊥) → (p : AppState) (n : ℕ) → l.here p ≡ true → IsTextOf pages E p.input p.snapshots (take n (m.output p))
     text_said E none p n h = (subst (λ z. IsPrefixOf (take n (m.output p)) z) (l.output p h) (prefix_of n (m.output p)), λ e. absurd (none e))
 
     -- it closes at the end of the page
-    end_of_said : (numbers : List ℕ) (p : AppState) → l.here p ≡ true → p.acked ≤ length (m.output p) → m.want numbers p ≡ Close → IsEndOf pages p.delivered p.captures (take p.acked (m.output p))
+    end_of_said : (numbers : List ℕ) (p : AppState) → l.here p ≡ true → p.acked ≤ length (m.output p) → m.want numbers p ≡ Close → IsEndOf pages p.input p.snapshots (take p.acked (m.output p))
     end_of_said numbers p h fits e =
         let w : MayWant pages p Close = l.closes numbers p h fits e in
-        let page : List ℕ = pages.text p.delivered p.captures in (
+        let page : List ℕ = pages.page p.input p.snapshots in (
           ap (λ z. take p.acked z) (l.output p h) ∙ ap (λ n. take n page) w.1 ∙ Rattle.std.proofs.Math.Seq.take-length page,
           w.0,
         )
 
   -- if every piece is delivered
-  heard_all : (pages : Pages) (l : IsPagedAt m port pages) (p : AppState) (text : List ℕ) → HeardOf pages l.follows p text → p.delivered ≡ text
+  heard_all : (pages : Pages) (l : IsPagedAt m port pages) (p : AppState) (text : List ℕ) → HeardOf pages l.follows p text → p.input ≡ text
   heard_all pages l p text h = elim (h.1) [ inl e ↦ e | inr g ↦ absurd (let z : l.follows.lost p ≡ false = l.accepts_all p in let y : l.follows.lost p ≡ true = g.0 in cc) ]
 
   -- this was delivered to a state of this port, or for a session a prefix of it
@@ -203,45 +203,45 @@ module _ (m : AppSpec) (port : ℕ) where
 
   -- ---- what it sends
 
-  pub told_said : (model : OutputModel) (laws : FollowsModelAt m port model) (E : Type 0) → (E → ⊥) → (p : AppState) (text : List ℕ) (n : ℕ) → IsOpen model laws p text → IsTold model E text p.captures (take n (m.output p))
+  pub told_said : (model : OutputModel) (laws : FollowsModelAt m port model) (E : Type 0) → (E → ⊥) → (p : AppState) (text : List ℕ) (n : ℕ) → IsOpen model laws p text → IsTold model E text p.snapshots (take n (m.output p))
   told_said (Paged pages) laws E none p text n h =
       (let l : IsPagedAt m port pages = laws in
-      subst (λ z. IsTextOf pages E z p.captures (take n (m.output p))) (heard_all pages l p text h) (text_said pages l.follows E none p n h.0))
-  told_said (Interactive sessions) laws E none p text n h = (p.delivered, heard_prefix sessions laws p text h, text_said sessions laws E none p n h.0)
+      subst (λ z. IsTextOf pages E z p.snapshots (take n (m.output p))) (heard_all pages l p text h) (text_said pages l.follows E none p n h.0))
+  told_said (Interactive sessions) laws E none p text n h = (p.input, heard_prefix sessions laws p text h, text_said sessions laws E none p n h.0)
   told_said Free laws E none p text n h = tt
 
   -- it closes at the end of the page
-  pub end_said : (model : OutputModel) (laws : FollowsModelAt m port model) (numbers : List ℕ) (p : AppState) (text : List ℕ) → IsOpen model laws p text → p.acked ≤ length (m.output p) → m.want numbers p ≡ Close → IsEnd model text p.captures (take p.acked (m.output p))
+  pub end_said : (model : OutputModel) (laws : FollowsModelAt m port model) (numbers : List ℕ) (p : AppState) (text : List ℕ) → IsOpen model laws p text → p.acked ≤ length (m.output p) → m.want numbers p ≡ Close → IsEnd model text p.snapshots (take p.acked (m.output p))
   end_said (Paged pages) laws numbers p text h fits e =
       (let l : IsPagedAt m port pages = laws in
-      subst (λ z. IsEndOf pages z p.captures (take p.acked (m.output p))) (heard_all pages l p text h) (end_of_said pages l.follows numbers p h.0 fits e))
-  end_said (Interactive sessions) laws numbers p text h fits e = (p.delivered, heard_prefix sessions laws p text h, end_of_said sessions laws numbers p h.0 fits e)
+      subst (λ z. IsEndOf pages z p.snapshots (take p.acked (m.output p))) (heard_all pages l p text h) (end_of_said pages l.follows numbers p h.0 fits e))
+  end_said (Interactive sessions) laws numbers p text h fits e = (p.input, heard_prefix sessions laws p text h, end_of_said sessions laws numbers p h.0 fits e)
   end_said Free laws numbers p text h fits e = tt
 
   -- ---- what deliveries and captures do
 
   module _ (steady : IsSteady m) where
     pub record Heard (p q : AppState) : Type 0 where
-      pub captures : q.captures ≡ p.captures
+      pub snapshots : q.snapshots ≡ p.snapshots
       pub acked : q.acked ≡ p.acked
       pub grows : IsPrefixOf (m.output p) (m.output q)
 
     pub heard_is : (numbers : List ℕ) (p : AppState) (piece : List ℕ) → Heard p (hears m numbers p piece).part
-    heard_is numbers p [] = record { captures = refl; acked = refl; grows = prefix_refl (m.output p) }
+    heard_is numbers p [] = record { snapshots = refl; acked = refl; grows = prefix_refl (m.output p) }
     heard_is numbers p (x ∷ xs) =
         (let g = steady.lawful.newdata_grows numbers p (x ∷ xs) tt in
-        record { captures = steady.newdata_captures numbers p (x ∷ xs); acked = g.offset; grows = g.text })
+        record { snapshots = steady.newdata_snapshots numbers p (x ∷ xs); acked = g.offset; grows = g.text })
 
     pub record Prepared (p q : AppState) : Type 0 where
       pub more : List Snapshot
-      pub captures : q.captures ≡ p.captures ++ more
+      pub snapshots : q.snapshots ≡ p.snapshots ++ more
       pub acked : q.acked ≡ p.acked
       pub grows : IsPrefixOf (m.output p) (m.output q)
 
     pub prepared_is : (numbers : List ℕ) (p : AppState) (now : Now) → Prepared p (m.prepare numbers p now)
     prepared_is numbers p now =
         let g = steady.lawful.prepare_grows numbers p now tt in
-        elim (steady.prepare_captures numbers p now) [
-          | inl e ↦ record { more = []; captures = e ∙ sym (append_nothing p.captures); acked = g.offset; grows = g.text }
-          | inr e ↦ record { more = record { numbers = numbers; now = now } ∷ []; captures = e; acked = g.offset; grows = g.text }
+        elim (steady.prepare_snapshots numbers p now) [
+          | inl e ↦ record { more = []; snapshots = e ∙ sym (append_nothing p.snapshots); acked = g.offset; grows = g.text }
+          | inr e ↦ record { more = record { numbers = numbers; now = now } ∷ []; snapshots = e; acked = g.offset; grows = g.text }
         ]

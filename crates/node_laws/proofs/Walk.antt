@@ -65,7 +65,7 @@ module _ (m : AppSpec) (port : ℕ) (model : OutputModel) (laws : FollowsModelAt
     pub acked : c.acked ≡ 0
     pub len : c.len ≡ 1
     pub none : text ≡ []
-    pub captures : c.part.captures ≡ []
+    pub snapshots : c.part.snapshots ≡ []
     pub is : e ≡ false
     pub unsent : sent ≡ []
     pub unended : F
@@ -82,7 +82,7 @@ module _ (m : AppSpec) (port : ℕ) (model : OutputModel) (laws : FollowsModelAt
 
   -- after the own FIN, which is outstanding (1) or acknowledged (2)
   pub record AtEnd (far : ℕ) (fin : Bool) (c : Connection) (text : List ℕ) (e : Bool) (sent : List ℕ) : Type 0 where
-    pub end : IsEnd model text c.part.captures sent
+    pub end : IsEnd model text c.part.snapshots sent
     pub count : c.acked ≡ far + length sent
     pub len : c.len + far ≡ 2
     pub is : e ≡ fin
@@ -108,7 +108,7 @@ module _ (m : AppSpec) (port : ℕ) (model : OutputModel) (laws : FollowsModelAt
     pub over : Bool
     pub read : Reading received c.irs text e now over
     pub more : List Snapshot
-    pub captures : d.part.captures ≡ c.part.captures ++ more
+    pub snapshots : d.part.snapshots ≡ c.part.snapshots ++ more
     pub irs : d.irs ≡ c.irs
     pub page : Page d now over sent
 
@@ -123,7 +123,7 @@ module _ (m : AppSpec) (port : ℕ) (model : OutputModel) (laws : FollowsModelAt
     pub joined : sent' ≡ sent ++ (text_segment m d).text
     pub acked : d.acked ≡ 1 + length sent
     pub unended : F
-    pub of_page : IsTold model ⊥ now d.part.captures sent'
+    pub of_page : IsTold model ⊥ now d.part.snapshots sent'
 
   -- what c becomes if its application was asked
   pub record Spoke (received : Option PlainSegment) (c : Connection) (text : List ℕ) (e : Bool) (sent : List ℕ) (o : Outcome) : Type 0 where
@@ -137,7 +137,7 @@ module _ (m : AppSpec) (port : ℕ) (model : OutputModel) (laws : FollowsModelAt
   -- a connection that grows older
   older_page : (c : Connection) (st : State) (text : List ℕ) (e : Bool) (sent : List ℕ) → AtPage st c text e sent → AtPage st (grows_older c) text e sent
   older_page c Closed text e sent h = tt
-  older_page c SynRcvd text e sent h = record { acked = h.acked; len = h.len; none = h.none; captures = h.captures; is = h.is; unsent = h.unsent; unended = h.unended; here = h.here }
+  older_page c SynRcvd text e sent h = record { acked = h.acked; len = h.len; none = h.none; snapshots = h.snapshots; is = h.is; unsent = h.unsent; unended = h.unended; here = h.here }
   older_page c Established text e sent h = record { count = h.count; opens = h.opens; is = h.is; fits = h.fits; sent_is = h.sent_is; unended = h.unended }
   older_page c CloseWait text e sent h = record { count = h.count; opens = h.opens; is = h.is; fits = h.fits; sent_is = h.sent_is; unended = h.unended }
   older_page c FinWait1 text e sent h = record { end = h.end; count = h.count; len = h.len; is = h.is }
@@ -173,9 +173,9 @@ module _ (m : AppSpec) (port : ℕ) (model : OutputModel) (laws : FollowsModelAt
       (λ g. open_like true d text true e sent (sym g.is) (open_on true true c d text text e sent count sum grows delivered g)) st o h
 
   -- more is accepted after the end
-  ends_on : (far far' : ℕ) (fin fin' : Bool) (c d : Connection) (text more : List ℕ) (e : Bool) (sent : List ℕ) → d.part.captures ≡ c.part.captures → d.acked + far ≡ c.acked + far' → d.len + far' ≡ 2 → AtEnd far fin c text e sent → AtEnd far' fin' d (text ++ more) fin' sent
+  ends_on : (far far' : ℕ) (fin fin' : Bool) (c d : Connection) (text more : List ℕ) (e : Bool) (sent : List ℕ) → d.part.snapshots ≡ c.part.snapshots → d.acked + far ≡ c.acked + far' → d.len + far' ≡ 2 → AtEnd far fin c text e sent → AtEnd far' fin' d (text ++ more) fin' sent
   ends_on far far' fin fin' c d text more e sent k a l h = record {
-    end = subst (λ z. IsEnd model (text ++ more) z sent) (sym k) (end_more m port model laws text more c.part.captures sent h.end);
+    end = subst (λ z. IsEnd model (text ++ more) z sent) (sym k) (end_more m port model laws text more c.part.snapshots sent h.end);
     count = omega (arith, a, h.count);
     len = l;
     is = refl;
@@ -184,8 +184,8 @@ module _ (m : AppSpec) (port : ℕ) (model : OutputModel) (laws : FollowsModelAt
   -- ---- asking
 
   -- b, which c became, becomes d
-  moved_to : (received : Option PlainSegment) (c : Connection) (text : List ℕ) (e : Bool) (sent sent' : List ℕ) (b d : Connection) (w : Moved received c text e sent b) → d.part.captures ≡ b.part.captures → d.irs ≡ b.irs → d.taken ≡ b.taken → AtPage d.state d w.now w.over sent' → Moved received c text e sent' d
-  moved_to received c text e sent sent' b d w k p t a = record { now = w.now; over = w.over; read = w.read; more = w.more; captures = k ∙ w.captures; irs = p ∙ w.irs; page = record { at = a; taken = t ∙ w.page.taken } }
+  moved_to : (received : Option PlainSegment) (c : Connection) (text : List ℕ) (e : Bool) (sent sent' : List ℕ) (b d : Connection) (w : Moved received c text e sent b) → d.part.snapshots ≡ b.part.snapshots → d.irs ≡ b.irs → d.taken ≡ b.taken → AtPage d.state d w.now w.over sent' → Moved received c text e sent' d
+  moved_to received c text e sent sent' b d w k p t a = record { now = w.now; over = w.over; read = w.read; more = w.more; snapshots = k ∙ w.snapshots; irs = p ∙ w.irs; page = record { at = a; taken = t ∙ w.page.taken } }
 
   -- the FIN is sent after what was sent
   ends_page : (b d : Connection) (numbers text : List ℕ) (e fin : Bool) (sent : List ℕ) → d.acked ≡ b.acked → d.len ≡ 1 → d.part ≡ b.part → b.len ≡ 0 → m.want numbers b.part ≡ Close → AtOpen fin b text e sent → AtEnd 1 fin d text e sent
@@ -194,7 +194,7 @@ module _ (m : AppSpec) (port : ℕ) (model : OutputModel) (laws : FollowsModelAt
       let all : sent ≡ take b.part.acked (m.output b.part) = g.sent_is ∙ ap (λ n. take n (m.output b.part)) (omega (arith, z)) in
       let size : length sent ≡ b.part.acked = ap length all ∙ prefix_size b.part.acked (m.output b.part) f in
       record {
-        end = subst (λ q. IsEnd model text q.captures sent) (sym p) (subst (λ q. IsEnd model text b.part.captures q) (sym all) (end_said m port model laws numbers b.part text g.opens f w));
+        end = subst (λ q. IsEnd model text q.snapshots sent) (sym p) (subst (λ q. IsEnd model text b.part.snapshots q) (sym all) (end_said m port model laws numbers b.part text g.opens f w));
         count = omega (arith, a, g.count, size);
         len = omega (arith, l);
         is = g.is;
@@ -239,7 +239,7 @@ module _ (m : AppSpec) (port : ℕ) (model : OutputModel) (laws : FollowsModelAt
           joined = refl;
           acked = omega (arith, acked, g.count, size);
           unended = g.unended;
-          of_page = subst (λ z. IsTold model ⊥ text d.part.captures z) (sym q.sent_is) (told_said m port model laws ⊥ (λ none. none) d.part text (d.part.acked + d.len) q.opens);
+          of_page = subst (λ z. IsTold model ⊥ text d.part.snapshots z) (sym q.sent_is) (told_said m port model laws ⊥ (λ none. none) d.part text (d.part.acked + d.len) q.opens);
         }
 
     sends_page : (st : State) → is_open st ≡ true → AtPage st b text e sent → AtPage st d text e text_sent
@@ -250,7 +250,7 @@ module _ (m : AppSpec) (port : ℕ) (model : OutputModel) (laws : FollowsModelAt
   keeps_sent received c text e sent o g = record { sent_now = sent; moved = g; adds = inl refl }
 
   pub accepted_page : (iss : ℕ) (sockets : Sockets) (s : PlainSegment) → sockets.own_port.0 ≡ port → F → Page (accepted iss sockets s) [] false []
-  accepted_page iss sockets s here unended = record { at = record { acked = refl; len = refl; none = refl; captures = refl; is = refl; unsent = refl; unended = unended; here = here }; taken = refl }
+  accepted_page iss sockets s here unended = record { at = record { acked = refl; len = refl; none = refl; snapshots = refl; is = refl; unsent = refl; unended = unended; here = here }; taken = refl }
 
   module _ (steady : IsSteady m) where
     wanted_spoke : (received : Option PlainSegment) (c : Connection) (text : List ℕ) (e : Bool) (sent : List ℕ) (w : Want) (fresh : Bool) (b : Connection) (numbers : List ℕ) → m.want numbers b.part ≡ w → is_open b.state ≡ true → b.len ≡ 0
@@ -286,7 +286,7 @@ module _ (m : AppSpec) (port : ℕ) (model : OutputModel) (laws : FollowsModelAt
           over = w.over;
           read = w.read;
           more = w.more ++ q.more;
-          captures = q.captures ∙ ap (λ l. l ++ q.more) w.captures ∙ append_assoc c.part.captures w.more q.more;
+          snapshots = q.snapshots ∙ ap (λ l. l ++ q.more) w.snapshots ∙ append_assoc c.part.snapshots w.more q.more;
           irs = w.irs;
           page = record {
             at = open_page o.connection b o.connection.state w.now w.over sent (h.open_there a) (λ g. omega (arith, g, q.acked)) sum q.grows
@@ -300,23 +300,23 @@ module _ (m : AppSpec) (port : ℕ) (model : OutputModel) (laws : FollowsModelAt
     -- ---- a segment
 
     -- nothing is taken
-    stays : (received : Option PlainSegment) (c : Connection) (text : List ℕ) (e : Bool) (sent : List ℕ) (d : Connection) → Page c text e sent → d.part.captures ≡ c.part.captures → d.irs ≡ c.irs → d.taken ≡ c.taken → AtPage d.state d text e sent → Moved received c text e sent d
-    stays received c text e sent d g k p t a = record { now = text; over = e; read = inl (refl, refl); more = []; captures = k ∙ sym (append_nothing c.part.captures); irs = p; page = record { at = a; taken = t ∙ g.taken } }
+    stays : (received : Option PlainSegment) (c : Connection) (text : List ℕ) (e : Bool) (sent : List ℕ) (d : Connection) → Page c text e sent → d.part.snapshots ≡ c.part.snapshots → d.irs ≡ c.irs → d.taken ≡ c.taken → AtPage d.state d text e sent → Moved received c text e sent d
+    stays received c text e sent d g k p t a = record { now = text; over = e; read = inl (refl, refl); more = []; snapshots = k ∙ sym (append_nothing c.part.snapshots); irs = p; page = record { at = a; taken = t ∙ g.taken } }
 
     -- text is accepted, and a FIN after it
     hears_on : (c : Connection) (text : List ℕ) (e : Bool) (sent : List ℕ) (s : PlainSegment) (fin : Bool) (d : Connection) → (occupies_sequence_space s ≡ true → s.seq ≡ rcv_nxt c) → e ≡ false → c.taken ≡ length text + numbers_for e → (fin ≡ true → has_fin s.flags ≡ true) →
-        d.part.captures ≡ c.part.captures → d.irs ≡ c.irs → d.taken ≡ c.taken + length s.text + numbers_for fin → AtPage d.state d (text ++ s.text) fin sent → Moved (Some s) c text e sent d
+        d.part.snapshots ≡ c.part.snapshots → d.irs ≡ c.irs → d.taken ≡ c.taken + length s.text + numbers_for fin → AtPage d.state d (text ++ s.text) fin sent → Moved (Some s) c text e sent d
     hears_on c text e sent s fin d order q t f k p n a = record {
       now = text ++ s.text;
       over = fin;
       read = in_turn c.irs c.taken text e s fin order q t f;
       more = [];
-      captures = k ∙ sym (append_nothing c.part.captures);
+      snapshots = k ∙ sym (append_nothing c.part.snapshots);
       irs = p;
       page = record { at = a; taken = (let z : numbers_for e ≡ 0 = ap numbers_for q in omega (arith, n, t, z, length-append text s.text)) };
     }
 
-    shut : (received : Option PlainSegment) (c b : Connection) (text : List ℕ) (e : Bool) (sent : List ℕ) → Page c text e sent → b.part.captures ≡ c.part.captures → b.irs ≡ c.irs → b.taken ≡ c.taken → Moved received c text e sent (closes b)
+    shut : (received : Option PlainSegment) (c b : Connection) (text : List ℕ) (e : Bool) (sent : List ℕ) → Page c text e sent → b.part.snapshots ≡ c.part.snapshots → b.irs ≡ c.irs → b.taken ≡ c.taken → Moved received c text e sent (closes b)
     shut received c b text e sent g k p t = stays received c text e sent (closes b) g k p t tt
 
     -- a piece is delivered to it
@@ -346,7 +346,7 @@ module _ (m : AppSpec) (port : ℕ) (model : OutputModel) (laws : FollowsModelAt
         let x = heard_is m port steady numbers c.part s.text in
         let d : Connection = in_state CloseWait (with_window s.window (with_part (hears m numbers c.part s.text).part (takes (length s.text + 1) c))) in
         let a : AtOpen true d (text ++ s.text) true sent = hears_open false true c d numbers s.text text e sent refl refl refl h in
-        let g : Moved (Some s) c text e sent d = hears_on c text e sent s true d order h.is t (λ z. f) x.captures refl (omega arith) a in
+        let g : Moved (Some s) c text e sent d = hears_on c text e sent s true d order h.is t (λ z. f) x.snapshots refl (omega arith) a in
         choose (λ (o : Outcome). OutMoved (Some s) c text e sent o) (ltb 0 c.len) _ _ (λ z. record { moved = g; open_there = λ y. refl }) (λ z. record { moved = g; open_there = λ y. refl })
 
     going_in : (acked : Bool) (c : Connection) (text : List ℕ) (e : Bool) (sent : List ℕ) (numbers : List ℕ) (s : PlainSegment) → (occupies_sequence_space s ≡ true → s.seq ≡ rcv_nxt c) → c.state ≡ Established → AtOpen false c text e sent → c.taken ≡ length text + numbers_for e → OutMoved (Some s) c text e sent (stays_established m acked c numbers s)
@@ -355,7 +355,7 @@ module _ (m : AppSpec) (port : ℕ) (model : OutputModel) (laws : FollowsModelAt
         let x = heard_is m port steady numbers c.part s.text in
         let d : Connection = with_window s.window (with_part (hears m numbers c.part s.text).part (takes (length s.text) c)) in
         let a : AtOpen false d (text ++ s.text) false sent = hears_open false false c d numbers s.text text e sent refl refl refl h in
-        let g : Moved (Some s) c text e sent d = hears_on c text e sent s false d order h.is t (λ z. absurd (cc)) x.captures refl (omega arith) (page_at d Established (text ++ s.text) false sent st a) in
+        let g : Moved (Some s) c text e sent d = hears_on c text e sent s false d order h.is t (λ z. absurd (cc)) x.snapshots refl (omega arith) (page_at d Established (text ++ s.text) false sent st a) in
         let o : is_open d.state ≡ true = ap is_open st in
         choose (λ (o : Outcome). OutMoved (Some s) c text e sent o) (not acked && not (has_text s)) _ _ (λ z. record { moved = g; open_there = λ y. o })
         (λ z. choose (λ (o : Outcome). OutMoved (Some s) c text e sent o) (ltb 0 c.len) _ _ (λ f. record { moved = g; open_there = λ y. o }) (λ f. record { moved = g; open_there = λ y. o }))
@@ -366,7 +366,7 @@ module _ (m : AppSpec) (port : ℕ) (model : OutputModel) (laws : FollowsModelAt
         choose (λ (o : Outcome). OutMoved (Some s) c text e sent o) (has_fin s.flags) _ _ (λ f. closing_in c text e sent numbers s order f h t) (λ f. going_in acked c text e sent numbers s order st h t)
 
     -- what b, which differs from c in what was acknowledged, becomes
-    out_of : (received : Option PlainSegment) (c b : Connection) (text : List ℕ) (e : Bool) (sent : List ℕ) (o : Outcome) → b.part.captures ≡ c.part.captures → b.irs ≡ c.irs → OutMoved received b text e sent o → OutMoved received c text e sent o
+    out_of : (received : Option PlainSegment) (c b : Connection) (text : List ℕ) (e : Bool) (sent : List ℕ) (o : Outcome) → b.part.snapshots ≡ c.part.snapshots → b.irs ≡ c.irs → OutMoved received b text e sent o → OutMoved received c text e sent o
     out_of received c b text e sent o k p h =
         let w : Moved received b text e sent o.connection = h.moved in
         record {
@@ -375,7 +375,7 @@ module _ (m : AppSpec) (port : ℕ) (model : OutputModel) (laws : FollowsModelAt
             over = w.over;
             read = subst (λ n. Reading received n text e w.now w.over) p w.read;
             more = w.more;
-            captures = w.captures ∙ ap (λ l. l ++ w.more) k;
+            snapshots = w.snapshots ∙ ap (λ l. l ++ w.more) k;
             irs = w.irs ∙ p;
             page = w.page;
           };
@@ -415,7 +415,7 @@ module _ (m : AppSpec) (port : ℕ) (model : OutputModel) (laws : FollowsModelAt
         let new : IsOpen m port model laws start.part [] = subst (λ n. IsOpen m port model laws (m.connected numbers n).part []) (sym h.here) (open_new m port model laws numbers) in
         let delivered : IsOpen m port model laws d.part s.text = open_heard m port model laws start.numbers start.part s.text [] new in
         record {
-          moved = hears_on c text e sent s false d order h.is g.taken (λ z. absurd (cc)) (x.captures ∙ steady.connected_captures numbers own ∙ sym h.captures) refl (omega arith)
+          moved = hears_on c text e sent s false d order h.is g.taken (λ z. absurd (cc)) (x.snapshots ∙ steady.connected_snapshots numbers own ∙ sym h.snapshots) refl (omega arith)
               record {
                 count = omega (arith, h.acked, h.len, zero);
                 opens = subst (λ l. IsOpen m port model laws d.part (l ++ s.text)) (sym h.none) delivered;
@@ -430,14 +430,14 @@ module _ (m : AppSpec) (port : ℕ) (model : OutputModel) (laws : FollowsModelAt
     by_state_in Established true c text e sent numbers s order q g h =
         let part : AppState = (m.acked numbers c.part c.len).part in
         let b : Connection = with_part part (rests c) in
-        out_of (Some s) c b text e sent (in_established m true b (m.acked numbers c.part c.len).numbers s) (steady.acked_captures numbers c.part c.len) refl
+        out_of (Some s) c b text e sent (in_established m true b (m.acked numbers c.part c.len).numbers s) (steady.acked_snapshots numbers c.part c.len) refl
         (established_in true b text e sent (m.acked numbers c.part c.len).numbers s order q (acked_open false c b numbers text e sent refl refl refl h) g.taken)
     by_state_in Established false c text e sent numbers s order q g h = established_in false c text e sent numbers s order q h g.taken
     by_state_in CloseWait true c text e sent numbers s order q g h =
         let part : AppState = (m.acked numbers c.part c.len).part in
         let d : Connection = with_window s.window (with_part part (rests c)) in
         record {
-          moved = stays (Some s) c text e sent d g (steady.acked_captures numbers c.part c.len) refl refl
+          moved = stays (Some s) c text e sent d g (steady.acked_snapshots numbers c.part c.len) refl refl
               (page_at d CloseWait text e sent q (acked_open true c d numbers text e sent refl refl refl h));
           open_there = λ z. ap is_open q;
         }
@@ -501,7 +501,7 @@ module _ (m : AppSpec) (port : ℕ) (model : OutputModel) (laws : FollowsModelAt
           let d : Connection = with_part (m.polled numbers c.part).part c in
           let sum : d.part.acked + d.len ≡ c.part.acked + c.len = omega (arith, x.1) in
           record {
-            moved = stays None c text e sent d g (steady.polled_captures numbers c.part) refl refl
+            moved = stays None c text e sent d g (steady.polled_snapshots numbers c.part) refl refl
                 (open_page c d c.state text e sent (ap is_open q) (λ y. omega (arith, y, x.1)) sum
                 (subst (λ z. IsPrefixOf (m.output c.part) z) (sym x.0) (prefix_refl (m.output c.part)))
                 (λ y. open_polled m port model laws numbers c.part text y) g.at);

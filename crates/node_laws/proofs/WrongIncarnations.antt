@@ -42,10 +42,10 @@ sent_short iss sent z h = elim (most_or_more (length sent) 1073741823) [
   | inr l ↦ absurd (let g = element sent 1073741823 l in none_there iss g.0 z (h 1073741823 g.0 g.1))
 ]
 
-few_sent : (model : OutputModel) (k : IncarnationConforms model cut_again) → length (k.account 0).sent < 1073741824
+few_sent : (model : OutputModel) (k : IncarnationConforms model cut_again) → length (k.account 0).stream < 1073741824
 few_sent model k =
     let g : AccountHolds cut_again (k.account 0) = k.holds 0 (omega arith) in
-    sent_short (k.account 0).iss (k.account 0).sent (numbers_of (k.account 0) g.begins).iss g.carried
+    sent_short (k.account 0).iss (k.account 0).stream (numbers_of (k.account 0) g.begins).iss g.carried
 
 numbers_tell : (model : OutputModel) (k : IncarnationConforms model cut_again) → NumbersGiveOffsets cut_again (k.account 0)
 numbers_tell Free k = k.conforms 0 (omega arith) (few_sent Free k)
@@ -60,8 +60,8 @@ cut_resend model k =
 
 -- what was sent is of a page of something that was taken
 of_some_page : (pages : Pages) (model : OutputModel) (incarnation : List Exchange) (a : Account) → SpeaksBy pages model → TextConforms model incarnation a
-    → (delivered : List ℕ) × IsPrefixOf delivered a.accepted × IsPrefixOfPage pages delivered incarnation a
-of_some_page pages model incarnation a (inl e) h = (let g : TextConforms (Paged pages) incarnation a = subst (λ z. TextConforms z incarnation a) e h in (a.accepted, prefix_refl a.accepted, g.0))
+    → (delivered : List ℕ) × IsPrefixOf delivered a.input × IsPrefixOfPage pages delivered incarnation a
+of_some_page pages model incarnation a (inl e) h = (let g : TextConforms (Paged pages) incarnation a = subst (λ z. TextConforms z incarnation a) e h in (a.input, prefix_refl a.input, g.0))
 of_some_page pages model incarnation a (inr e) h = (let g : TextConforms (Interactive pages) incarnation a = subst (λ z. TextConforms z incarnation a) e h in g.0)
 
 early_fin : (model : OutputModel) → SpeaksBy hello_pages model → IncarnationConforms model ends_early → ⊥
@@ -71,9 +71,9 @@ early_fin model by k =
     let f = (g.slices 0 _ refl).fin refl in
     let h = of_some_page hello_pages model ends_early (k.account 0) by (k.conforms 0 (omega arith)) in
     let e = h.2.ends 0 _ refl refl in
-    let l : length (k.account 0).sent ≡ 6 = ap length e.0 ∙ whole_length h.0 e.1 in
+    let l : length (k.account 0).stream ≡ 6 = ap length e.0 ∙ whole_length h.0 e.1 in
     let a : wrap (k.account 0).iss ≡ 0 = n.iss in
-    let q : 4 ≡ wrap ((k.account 0).iss + 1 + length (k.account 0).sent) = f.1 in
+    let q : 4 ≡ wrap ((k.account 0).iss + 1 + length (k.account 0).stream) = f.1 in
     omega (arith, a, l, q)
 
 repeated_byte : (model : OutputModel) → SpeaksBy hello_pages model → IncarnationConforms model repeats_byte → ⊥
@@ -81,9 +81,9 @@ repeated_byte model by k =
     let g : AccountHolds repeats_byte (k.account 0) = k.holds 0 (omega arith) in
     let t = (g.slices 0 _ refl).bytes (omega arith) in
     let h = of_some_page hello_pages model repeats_byte (k.account 0) by (k.conforms 0 (omega arith)) in
-    let n = prefix_length (k.account 0).sent (fixed_text h.0) h.2.prefix in
+    let n = prefix_length (k.account 0).stream (fixed_text h.0) h.2.prefix in
     let l = text_short h.0 in
-    let f : t.at + 7 ≤ length (k.account 0).sent = t.slice.fits in
+    let f : t.at + 7 ≤ length (k.account 0).stream = t.slice.fits in
     omega (arith, l, n, f)
 
 second_segment : (model : OutputModel) → IncarnationConforms model two_under_way → ⊥
@@ -138,10 +138,10 @@ other_page model by k =
     let n = numbers_of (k.account 0) g.begins in
     let t = (g.slices 0 _ refl).bytes (omega arith) in
     let h = of_some_page mirror_pages model tells_another (k.account 0) by (k.conforms 0 (omega arith)) in
-    let m = prefix_length (k.account 0).sent h.0 h.2.prefix in
-    let o = prefix_length h.0 (k.account 0).accepted h.1 in
-    let l : length (k.account 0).accepted ≡ 0 = ap length (nothing_taken (k.account 0).irs (k.account 0).accepted false n.irs g.accepted) in
-    let f : t.at + 1 ≤ length (k.account 0).sent = t.slice.fits in
+    let m = prefix_length (k.account 0).stream h.0 h.2.prefix in
+    let o = prefix_length h.0 (k.account 0).input h.1 in
+    let l : length (k.account 0).input ≡ 0 = ap length (nothing_taken (k.account 0).irs (k.account 0).input false n.irs g.accepted) in
+    let f : t.at + 1 ≤ length (k.account 0).stream = t.slice.fits in
     omega (arith, l, m, o, f)
 
 echo_before : IsEchoed echoes_before → ⊥

@@ -107,11 +107,11 @@ pub record AsksHonestly (a : Asker) (p : Sockets) (patience : ℕ) (trace incarn
 
 -- The peer has its whole page. A FIN follows the page, and the simplest receiver had the whole page when the FIN was sent.
 pub record HasItsPage (pages : Pages) (a : Asker) (incarnation : List Exchange) : Type 0 where
-  pub captures : List Snapshot
-  pub snapshots : All IsSnapshot captures
-  pub whole : pages.whole a.request captures ≡ true
-  pub ends : EndsAfter a.iss incarnation (length (pages.text a.request captures))
-  pub complete : receives_all a.iss (drop ends.place incarnation) ≡ pages.text a.request captures
+  pub snapshots : List Snapshot
+  pub in_range : All IsSnapshot snapshots
+  pub whole : pages.complete a.request snapshots ≡ true
+  pub ends : EndsAfter a.iss incarnation (length (pages.page a.request snapshots))
+  pub complete : receives_all a.iss (drop ends.place incarnation) ≡ pages.page a.request snapshots
 
 -- A cooperating peer has its whole page and a FIN under two conditions. Its whole request was received, however it was split. It sent more
 -- acknowledgements without text than the application needs segments. Other peers have no influence.

@@ -10,15 +10,15 @@ use Rattle.uip_node.specs.Prelude.{Alike, IsSlice}
 use Rattle.node_laws.specs.Traces.{Exchange, sent_at, received_at}
 use Rattle.node_laws.specs.Receivers.{IsReceived, EndsAfter}
 
--- The account of an incarnation. `peer_mss` is the MSS option of the peer's SYN. `accepted` is the text accepted from the peer. `captures`
--- are the snapshots of which the page is made. `sent` is the text sent.
+-- The account of an incarnation. `peer_mss` is the MSS option of the peer's SYN. `input` and `snapshots` are the arguments of the page, and
+-- `stream` is what was sent of it.
 pub record Account : Type 0 where
   pub irs : ℕ
   pub iss : ℕ
   pub peer_mss : Option ℕ
-  pub accepted : List ℕ
-  pub captures : List Snapshot
-  pub sent : List ℕ
+  pub input : List ℕ
+  pub snapshots : List Snapshot
+  pub stream : List ℕ
 
 -- ---- the handshake
 
@@ -42,7 +42,7 @@ Begins (x ∷ y ∷ older) a = Begins (y ∷ older) a
 
 -- ---- what is accepted from the peer
 
--- One more received segment is accepted: its number follows everything accepted before, and no FIN was counted before.
+-- One more received segment is selected: its number follows all data selected before, and no FIN was counted before.
 pub record Accepts (irs : ℕ) (x : Exchange) (Before : List ℕ → Bool → Type 0) (selected : List ℕ) (ended : Bool) : Type 0 where
   pub segment : PlainSegment
   pub received : x.received ≡ Some segment
@@ -52,8 +52,8 @@ pub record Accepts (irs : ℕ) (x : Exchange) (Before : List ℕ → Bool → Ty
   pub joined : selected ≡ earlier ++ segment.text
   pub fin : ended ≡ true → has_fin segment.flags ≡ true
 
--- Some selection of the segments received in these exchanges, each accepted in order, has `selected` as its data. If `ended` is true, the
--- last one has a FIN, which is counted.
+-- A selection of the segments received in these exchanges has `selected` as its data. If `ended` is true, the last one has a FIN, which is
+-- counted.
 abbrev pub IsAcceptedText : ℕ → List Exchange → List ℕ → Bool → Type 0
 IsAcceptedText irs [] selected ended = (selected ≡ []) × (ended ≡ false)
 IsAcceptedText irs (x ∷ older) selected ended =
@@ -61,26 +61,26 @@ IsAcceptedText irs (x ∷ older) selected ended =
 
 -- ---- what is sent
 
--- The data of the segment is a slice of the text sent, at the offset that its sequence number gives.
-pub record IsAtOffset (iss : ℕ) (sent : List ℕ) (s : PlainSegment) : Type 0 where
+-- The data of the segment is a slice of the stream, at the offset that its sequence number gives.
+pub record IsAtOffset (iss : ℕ) (stream : List ℕ) (s : PlainSegment) : Type 0 where
   pub at : ℕ
-  pub slice : IsSlice sent s.text at
+  pub slice : IsSlice stream s.text at
   pub seq : s.seq ≡ wrap (iss + 1 + at)
 
--- What a segment sends. A SYN has the ISS as its number, and no data. Data is a slice of the text sent, at the offset that the number
--- gives. A FIN has no data, and its number follows the whole text.
-pub record SendsSlice (iss : ℕ) (sent : List ℕ) (s : PlainSegment) : Type 0 where
+-- What a segment sends. A SYN has the ISS as its number, and no data. Data is a slice of the stream, at the offset that the number gives. A
+-- FIN has no data, and its number follows the whole stream.
+pub record SendsSlice (iss : ℕ) (stream : List ℕ) (s : PlainSegment) : Type 0 where
   pub syn : has_syn s.flags ≡ true → (s.seq ≡ wrap iss) × (s.text ≡ [])
-  pub bytes : 0 < length s.text → IsAtOffset iss sent s
-  pub fin : has_fin s.flags ≡ true → (s.text ≡ []) × (s.seq ≡ wrap (iss + 1 + length sent))
+  pub bytes : 0 < length s.text → IsAtOffset iss stream s
+  pub fin : has_fin s.flags ≡ true → (s.text ≡ []) × (s.seq ≡ wrap (iss + 1 + length stream))
 
--- The segment acknowledges some selection accepted up to this exchange, its own received segment included. The selection is a prefix of
--- the accepted text.
-pub record Acknowledges (irs : ℕ) (by_then : List Exchange) (accepted : List ℕ) (s : PlainSegment) : Type 0 where
+-- The segment acknowledges the data of some selection of the segments received up to this exchange, and its FIN if `ended` is true. This
+-- data is a prefix of the input.
+pub record Acknowledges (irs : ℕ) (by_then : List Exchange) (input : List ℕ) (s : PlainSegment) : Type 0 where
   pub selected : List ℕ
   pub ended : Bool
   pub is : IsAcceptedText irs by_then selected ended
-  pub prefix : IsPrefixOf selected accepted
+  pub prefix : IsPrefixOf selected input
   pub ack : s.ack ≡ wrap (irs + 1 + length selected + (if ended then 1 else 0))
 
 -- SEG.LEN (RFC 793, section 3.3): the sequence numbers that a segment occupies.
@@ -99,59 +99,59 @@ pub record IsAcknowledged (incarnation : List Exchange) (i j : ℕ) (t : PlainSe
 
 -- ---- the guarantee
 
--- This account holds for the incarnation. A segment carried each byte of `sent`. The data of each segment is a slice of `sent`, no longer
--- than the MSS of the peer allows. Each segment without RST acknowledges only what was accepted. Stop and wait: let t, and later s, be sent
--- with SEG.LEN above 0 and different SEG.SEQ (i < j: exchange i is newer). Then the end of t was acknowledged after t was sent, and before
--- s was sent or in the same exchange.
+-- This account holds for the incarnation. A segment carried each byte of the stream. The data of each segment is a slice of the stream, no
+-- longer than the MSS of the peer allows. Each segment without RST acknowledges only a prefix of the input. Stop and wait: let t, and later
+-- s, be sent with SEG.LEN above 0 and different SEG.SEQ (i < j: exchange i is newer). Then a segment that acknowledges the end of t was
+-- received after t was sent, and before s was sent or in the same exchange.
 pub record AccountHolds (incarnation : List Exchange) (a : Account) : Type 0 where
   pub begins : Begins incarnation a
-  pub accepted : IsAcceptedText a.irs incarnation a.accepted false
-  pub snapshots : All IsSnapshot a.captures
-  pub carried : IsReceived a.iss incarnation a.sent
-  pub slices : (k : ℕ) (s : PlainSegment) → sent_at incarnation k ≡ Some s → SendsSlice a.iss a.sent s
+  pub accepted : IsAcceptedText a.irs incarnation a.input false
+  pub in_range : All IsSnapshot a.snapshots
+  pub carried : IsReceived a.iss incarnation a.stream
+  pub slices : (k : ℕ) (s : PlainSegment) → sent_at incarnation k ≡ Some s → SendsSlice a.iss a.stream s
   pub within_mss : (k : ℕ) (s : PlainSegment) → sent_at incarnation k ≡ Some s → length s.text ≤ first_mss a.peer_mss
   pub acknowledges : (k : ℕ) (s : PlainSegment) → sent_at incarnation k ≡ Some s → has_rst s.flags ≡ false
-      → Acknowledges a.irs (drop k incarnation) a.accepted s
+      → Acknowledges a.irs (drop k incarnation) a.input s
   pub stop_and_wait : (i j : ℕ) (s t : PlainSegment) → i < j → sent_at incarnation i ≡ Some s → sent_at incarnation j ≡ Some t
       → occupies_sequence_space s ≡ true → occupies_sequence_space t ≡ true → (s.seq ≡ t.seq → ⊥) → IsAcknowledged incarnation i j t
 
 -- Sequence numbers determine offsets. Two segments with the same SEG.SEQ, and SEG.LEN above 0, have the same flags and text. Whatever a
--- receiver reassembled is a prefix of `sent`, and all of it if a FIN follows.
+-- receiver reassembled is a prefix of the stream, and all of it if a FIN follows.
 pub record NumbersGiveOffsets (incarnation : List Exchange) (a : Account) : Type 0 where
   pub same : (i j : ℕ) (s t : PlainSegment) → i < j → sent_at incarnation i ≡ Some s → sent_at incarnation j ≡ Some t
       → occupies_sequence_space s ≡ true → occupies_sequence_space t ≡ true → s.seq ≡ t.seq → Alike t s
-  pub prefix : (got : List ℕ) → IsReceived a.iss incarnation got → IsPrefixOf got a.sent
-  pub all : (got : List ℕ) → IsReceived a.iss incarnation got → EndsAfter a.iss incarnation (length got) → got ≡ a.sent
+  pub prefix : (got : List ℕ) → IsReceived a.iss incarnation got → IsPrefixOf got a.stream
+  pub all : (got : List ℕ) → IsReceived a.iss incarnation got → EndsAfter a.iss incarnation (length got) → got ≡ a.stream
 
--- The text sent is a prefix of the page. If a FIN was sent, the text is the page, and the page is complete.
-pub record IsPrefixOfPage (pages : Pages) (delivered : List ℕ) (incarnation : List Exchange) (a : Account) : Type 0 where
-  pub prefix : IsPrefixOf a.sent (pages.text delivered a.captures)
+-- The stream is a prefix of the page. If a FIN was sent, the stream is the page, and the page is complete.
+pub record IsPrefixOfPage (pages : Pages) (input : List ℕ) (incarnation : List Exchange) (a : Account) : Type 0 where
+  pub prefix : IsPrefixOf a.stream (pages.page input a.snapshots)
   pub ends : (k : ℕ) (s : PlainSegment) → sent_at incarnation k ≡ Some s → has_fin s.flags ≡ true
-      → (a.sent ≡ pages.text delivered a.captures) × (pages.whole delivered a.captures ≡ true)
+      → (a.stream ≡ pages.page input a.snapshots) × (pages.complete input a.snapshots ≡ true)
 
 -- What determines the output of an application at a port.
 pub data OutputModel : Type 0 where
-  Paged : (pages : Pages) → OutputModel  -- the page of the whole accepted text
-  Interactive : (sessions : Pages) → OutputModel  -- the session of a prefix of the accepted text, without a bound
+  Paged : (pages : Pages) → OutputModel  -- the page of the whole input
+  Interactive : (sessions : Pages) → OutputModel  -- the session of a prefix of the input, without a bound
   Free : OutputModel  -- anything
 
--- The text sent is a prefix of what the output model determines. Sequence numbers determine offsets: always in a page, otherwise while the
--- text is shorter than 2^30 bytes.
+-- The stream is a prefix of what the output model determines. Sequence numbers determine offsets: always in a page, otherwise while the
+-- stream is shorter than 2^30 bytes.
 abbrev pub TextConforms : OutputModel → List Exchange → Account → Type 0
-TextConforms (Paged pages) incarnation a = IsPrefixOfPage pages a.accepted incarnation a × NumbersGiveOffsets incarnation a
+TextConforms (Paged pages) incarnation a = IsPrefixOfPage pages a.input incarnation a × NumbersGiveOffsets incarnation a
 TextConforms (Interactive sessions) incarnation a =
-    ((delivered : List ℕ) × IsPrefixOf delivered a.accepted × IsPrefixOfPage sessions delivered incarnation a)
-    × (length a.sent < 1073741824 → NumbersGiveOffsets incarnation a)
-TextConforms Free incarnation a = length a.sent < 1073741824 → NumbersGiveOffsets incarnation a
+    ((input : List ℕ) × IsPrefixOf input a.input × IsPrefixOfPage sessions input incarnation a)
+    × (length a.stream < 1073741824 → NumbersGiveOffsets incarnation a)
+TextConforms Free incarnation a = length a.stream < 1073741824 → NumbersGiveOffsets incarnation a
 
 -- A newer account of the same incarnation extends an older one.
 pub record IsExtendedBy (older newer : Account) : Type 0 where
   pub irs : older.irs ≡ newer.irs
   pub iss : older.iss ≡ newer.iss
   pub peer_mss : older.peer_mss ≡ newer.peer_mss
-  pub accepted : IsPrefixOf older.accepted newer.accepted
-  pub captures : (more : List Snapshot) × (older.captures ++ more ≡ newer.captures)
-  pub sent : IsPrefixOf older.sent newer.sent
+  pub input : IsPrefixOf older.input newer.input
+  pub snapshots : (more : List Snapshot) × (older.snapshots ++ more ≡ newer.snapshots)
+  pub stream : IsPrefixOf older.stream newer.stream
 
 -- An incarnation conforms if an account holds at each of its exchanges, and newer accounts extend older ones. `account back` is that of
 -- the incarnation without its newest `back` exchanges.

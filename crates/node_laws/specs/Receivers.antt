@@ -6,7 +6,7 @@ use Rattle.uip_wire.specs.Prelude.{wrap}
 use Rattle.tcp_segment.specs.Prelude.{PlainSegment, has_fin}
 use Rattle.node_laws.specs.Traces.{Exchange, sent_at}
 
--- A segment of the incarnation carries this byte at offset `at` of the text; offset 0 has the sequence number after the SYN.
+-- A segment of the incarnation carries this byte at offset `at` ; offset 0 has the sequence number after the SYN.
 pub record CarriesByte (iss : ℕ) (incarnation : List Exchange) (at byte : ℕ) : Type 0 where
   pub place : ℕ
   pub segment : PlainSegment

@@ -7,33 +7,33 @@ use Rattle.app_events.specs.declared.want.Want.TheVariants.{Close}
 use Rattle.node_laws.specs.Promise.{OutputModel}
 use Rattle.node_laws.specs.Promise.OutputModel.{Paged, Interactive, Free}
 
--- q is a state of this kind, and its delivered input is this text.
+-- q is a state of this kind, and its input is this text.
 abbrev pub HasDelivered : (AppState → Bool) → AppState → List ℕ → Type 0
-HasDelivered here q text = (here q ≡ true) × (q.delivered ≡ text)
+HasDelivered here q text = (here q ≡ true) × (q.input ≡ text)
 
--- q is a state of this kind with the delivered input of p, and it ignores further input if p does.
+-- q is a state of this kind with the input of p, and it ignores further input if p does.
 abbrev pub LeavesDelivered : (AppState → Bool) → (AppState → Bool) → AppState → AppState → Type 0
-LeavesDelivered here lost p q = HasDelivered here q p.delivered × (lost q ≡ lost p)
+LeavesDelivered here lost p q = HasDelivered here q p.input × (lost q ≡ lost p)
 
 -- The application accepts the piece, or a prefix of it. After a proper prefix it ignores all further input (`lost`).
 pub record AcceptsPrefix (here lost : AppState → Bool) (p q : AppState) (piece : List ℕ) : Type 0 where
   pub prefix : List ℕ
   pub rest : List ℕ
   pub joined : prefix ++ rest ≡ piece
-  pub delivered : HasDelivered here q (p.delivered ++ prefix)
+  pub input : HasDelivered here q (p.input ++ prefix)
   pub all : (rest ≡ []) ⊎ (lost q ≡ true)
-  pub no_more : lost p ≡ true → (q.delivered ≡ p.delivered) × (lost q ≡ true)
+  pub no_more : lost p ≡ true → (q.input ≡ p.input) × (lost q ≡ true)
 
 -- The output at this port is that of `pages`. More input and more snapshots only extend it, and leave a complete output unchanged. `here`
 -- marks the states of connections opened at this port, and each call leads from such a state to such a state. `lost` marks those that
 -- ignore all further input.
 pub record FollowsPagesAt (m : AppSpec) (port : ℕ) (pages : Pages) : Type 0 where
-  pub grows : (q more : List ℕ) (k later : List Snapshot) → IsPrefixOf (pages.text q k) (pages.text (q ++ more) (k ++ later))
-  pub stays : (q more : List ℕ) (k later : List Snapshot) → pages.whole q k ≡ true → pages.text (q ++ more) (k ++ later) ≡ pages.text q k
-  pub stays_whole : (q more : List ℕ) (k later : List Snapshot) → pages.whole q k ≡ true → pages.whole (q ++ more) (k ++ later) ≡ true
+  pub grows : (q more : List ℕ) (k later : List Snapshot) → IsPrefixOf (pages.page q k) (pages.page (q ++ more) (k ++ later))
+  pub stays : (q more : List ℕ) (k later : List Snapshot) → pages.complete q k ≡ true → pages.page (q ++ more) (k ++ later) ≡ pages.page q k
+  pub stays_complete : (q more : List ℕ) (k later : List Snapshot) → pages.complete q k ≡ true → pages.complete (q ++ more) (k ++ later) ≡ true
   pub here : AppState → Bool
   pub lost : AppState → Bool
-  pub output : (p : AppState) → here p ≡ true → m.output p ≡ pages.text p.delivered p.captures
+  pub output : (p : AppState) → here p ≡ true → m.output p ≡ pages.page p.input p.snapshots
   pub connected : (numbers : List ℕ) → HasDelivered here (m.connected numbers port).part []
   pub newdata : (numbers : List ℕ) (p : AppState) (piece : List ℕ) → here p ≡ true
       → AcceptsPrefix here lost p (m.newdata numbers p piece).part piece
@@ -49,7 +49,7 @@ pub record FollowsPagesAt (m : AppSpec) (port : ℕ) (pages : Pages) : Type 0 wh
 pub record IsPagedAt (m : AppSpec) (port : ℕ) (pages : Pages) : Type 0 where
   pub follows : FollowsPagesAt m port pages
   pub accepts_all : (p : AppState) → follows.lost p ≡ false
-  pub short : (q : List ℕ) (k : List Snapshot) → All IsSnapshot k → length (pages.text q k) < 1073741824
+  pub short : (q : List ℕ) (k : List Snapshot) → All IsSnapshot k → length (pages.page q k) < 1073741824
 
 -- The output at one port follows its model.
 abbrev pub FollowsModelAt : AppSpec → ℕ → OutputModel → Type 0

@@ -19,13 +19,13 @@ pub data IsOfLine (own : Addr) (event : Event) : Type 0 where
 abbrev pub seen_from_peer : Addr → Sockets → Sockets
 seen_from_peer own p = record { peer = own; peer_port = p.own_port; own_port = p.peer_port }
 
--- The bytes of a segment pass every check at the address of the peer, which reads the segment that was meant. They are no longer than the
--- largest datagram.
+-- The node's own parser, at the address of the peer, gives back this segment from its bytes. These are no longer than the largest
+-- datagram.
 pub record IsReadThere (own : Addr) (p : Sockets) (id : ℕ) (again : Bool) (s : PlainSegment) : Type 0 where
   pub read : event_of p.peer (reply_bytes own (Tcp p id again s)) ≡ Arrived (seen_from_peer own p) s
   pub size : length (reply_bytes own (Tcp p id again s)) ≤ LARGEST_DATAGRAM
 
--- The peer reads the segment of this trace entry, if any, as it was meant.
+-- The node's own parser, at the address of the peer, gives back the segment of this trace entry, if any.
 abbrev pub IsReadByPeer : Addr → TraceEntry → Type 0
 IsReadByPeer own t =
     (p : Sockets) (id : ℕ) (again : Bool) (s : PlainSegment) → t.sent ≡ Some (Tcp p id again s) → IsReadThere own p id again s

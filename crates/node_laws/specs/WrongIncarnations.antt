@@ -11,11 +11,11 @@ use Rattle.node_laws.specs.Promise.OutputModel.{Paged, Interactive}
 use Rattle.node_laws.specs.Asked.{IsEchoed}
 
 abbrev pub hello_pages : Pages
-hello_pages = record { text = λ delivered captures. fixed_text delivered; whole = λ delivered captures. some_heard delivered }
+hello_pages = record { page = λ input snapshots. fixed_text input; complete = λ input snapshots. some_heard input }
 
 -- the page that repeats its input
 abbrev pub mirror_pages : Pages
-mirror_pages = record { text = λ delivered captures. delivered; whole = λ delivered captures. false }
+mirror_pages = record { page = λ input snapshots. input; complete = λ input snapshots. false }
 
 abbrev pub segment : ℕ → ℕ → ℕ → List ℕ → PlainSegment
 segment seq ack flags text = record { seq = seq; ack = ack; flags = flags; window = 1460; mss = None; text = text }

@@ -66,12 +66,12 @@ pub due_is : (a : OwnState) (p : AppState) (s : PlainMessage) → StateRepresent
 due_is a p s represents =
     ap (λ n. s.to == n && s.number == a.count && not a.overrun && not a.ended && a.at == length a.sending && nat_le s.taken (length a.received)) represents.ticket
     ∙ ap (λ n. s.to == p.own && s.number == n && not a.overrun && not a.ended && a.at == length a.sending && nat_le s.taken (length a.received)) represents.count
-    ∙ ap (λ b. s.to == p.own && s.number == length p.captures % 4294967296 && not a.overrun && not b && a.at == length a.sending && nat_le s.taken (length a.received)) represents.ended
-    ∙ ap (λ b. s.to == p.own && s.number == length p.captures % 4294967296 && not a.overrun && not (has_last p.captures) && b && nat_le s.taken (length a.received))
+    ∙ ap (λ b. s.to == p.own && s.number == length p.snapshots % 4294967296 && not a.overrun && not b && a.at == length a.sending && nat_le s.taken (length a.received)) represents.ended
+    ∙ ap (λ b. s.to == p.own && s.number == length p.snapshots % 4294967296 && not a.overrun && not (has_last p.snapshots) && b && nat_le s.taken (length a.received))
     (nothing_left a p represents)
-    ∙ by_overrun a.overrun (s.to == p.own && s.number == length p.captures % 4294967296) (not (has_last p.captures)) (len_left p == 0) (nat_le s.taken (length a.received)) (nat_le s.taken (length (pending p)))
+    ∙ by_overrun a.overrun (s.to == p.own && s.number == length p.snapshots % 4294967296) (not (has_last p.snapshots)) (len_left p == 0) (nat_le s.taken (length a.received)) (nat_le s.taken (length (pending p)))
     (λ e. ap (λ l. nat_le s.taken (length l)) (represents.received e))
-    ∙ ap (λ b. s.to == p.own && s.number == length p.captures % 4294967296 && not b && not (has_last p.captures) && len_left p == 0 && nat_le s.taken (length (pending p))) represents.overrun
+    ∙ ap (λ b. s.to == p.own && s.number == length p.snapshots % 4294967296 && not b && not (has_last p.snapshots) && len_left p == 0 && nat_le s.taken (length (pending p))) represents.overrun
 
 -- the same of the message in the numbers
 pub is_next_by_value : (a : OwnState) (p : AppState) (opened : ℕ) (s : PlainMessage) → All IsByte s.text → StateRepresents a p
@@ -105,23 +105,23 @@ capture_represents a p s numbers now is represents e =
     let due = due_parts a s e in
     let k : Snapshot = record { numbers = numbers; now = now } in
     let received = represents.received due.stored in
-    let taken : bytes_taken (p.captures ++ k ∷ []) ≡ bytes_taken p.captures + s.taken = taken_more p.captures k ∙ ap (λ (x : PlainMessage). bytes_taken p.captures + x.taken) (sym is) in
-    let rest : drop s.taken a.received ≡ drop (bytes_taken (p.captures ++ k ∷ [])) p.delivered =
-    ap (λ l. drop s.taken l) received ∙ drop-drop s.taken (bytes_taken p.captures) p.delivered ∙ ap (λ n. drop n p.delivered) (sym taken) in
-    let size : length a.received ≡ length p.delivered - bytes_taken p.captures = ap (λ l. length l) received ∙ length-drop (bytes_taken p.captures) p.delivered in
+    let taken : bytes_taken (p.snapshots ++ k ∷ []) ≡ bytes_taken p.snapshots + s.taken = taken_more p.snapshots k ∙ ap (λ (x : PlainMessage). bytes_taken p.snapshots + x.taken) (sym is) in
+    let rest : drop s.taken a.received ≡ drop (bytes_taken (p.snapshots ++ k ∷ [])) p.input =
+    ap (λ l. drop s.taken l) received ∙ drop-drop s.taken (bytes_taken p.snapshots) p.input ∙ ap (λ n. drop n p.input) (sym taken) in
+    let size : length a.received ≡ length p.input - bytes_taken p.snapshots = ap (λ l. length l) received ∙ length-drop (bytes_taken p.snapshots) p.input in
     let small : length a.received ≤ RECEIVED_ROOM =
     ap-le (length a.received) (length (pending p)) (ap (λ l. length l) received) (ltb-false RECEIVED_ROOM (length (pending p)) (sym represents.overrun ∙ due.stored)) in
     record {
       ticket = represents.ticket;
       taken = (let there = due.there in omega (arith, taken, size, there, represents.taken));
-      overrun = due.stored ∙ sym (le-ltb RECEIVED_ROOM (length (drop (bytes_taken (p.captures ++ k ∷ [])) p.delivered)) (omega (arith, ap (λ l. length l) rest, length-drop s.taken a.received, small)));
+      overrun = due.stored ∙ sym (le-ltb RECEIVED_ROOM (length (drop (bytes_taken (p.snapshots ++ k ∷ [])) p.input)) (omega (arith, ap (λ l. length l) rest, length-drop s.taken a.received, small)));
       received = λ f. rest;
-      before = messages_text p.captures;
-      sending = messages_text_more p.captures k (sym represents.ended ∙ due.more) ∙ ap (λ (x : PlainMessage). messages_text p.captures ++ x.text) (sym is);
+      before = messages_text p.snapshots;
+      sending = messages_text_more p.snapshots k (sym represents.ended ∙ due.more) ∙ ap (λ (x : PlainMessage). messages_text p.snapshots ++ x.text) (sym is);
       acked = omega (arith, represents.acked, due.all, ap (λ l. length l) represents.sending, length-append represents.before a.sending);
       within = omega arith;
-      count = (let size = length-append p.captures (k ∷ []) in omega (arith, represents.count, size));
-      ended = sym (done_more p.captures k (sym represents.ended ∙ due.more) ∙ ap (λ (x : PlainMessage). x.last) (sym is));
+      count = (let size = length-append p.snapshots (k ∷ []) in omega (arith, represents.count, size));
+      ended = sym (done_more p.snapshots k (sym represents.ended ∙ due.more) ∙ ap (λ (x : PlainMessage). x.last) (sym is));
       polls = represents.polls;
     }
   where
@@ -129,7 +129,7 @@ capture_represents a p s numbers now is represents e =
     ap-le x y e h = omega (arith, e, h)
 
 -- a piece
-pub input_represents : (a : OwnState) (p : AppState) (piece : List ℕ) → StateRepresents a p → StateRepresents (after_input a piece) (record p { delivered = p.delivered ++ piece; polls = 0 })
+pub input_represents : (a : OwnState) (p : AppState) (piece : List ℕ) → StateRepresents a p → StateRepresents (after_input a piece) (record p { input = p.input ++ piece; polls = 0 })
 input_represents a p piece represents =
     elim a.overrun as (λ b. a.overrun ≡ b → StateRepresents (if b then record a { polls = 0 } else if nat_le (length a.received + length piece) RECEIVED_ROOM then record a { received = a.received ++ piece; polls = 0 } else record a { overrun = true; polls = 0 }) q) [
       | true ↦ λ e. overrun_represents (record a { polls = 0 }) refl refl refl refl refl refl e
@@ -157,13 +157,13 @@ input_represents a p piece represents =
     ] refl
   where
     q : AppState
-    q = record p { delivered = p.delivered ++ piece; polls = 0 }
+    q = record p { input = p.input ++ piece; polls = 0 }
 
-    more : bytes_taken p.captures ≤ length (p.delivered ++ piece)
-    more = omega (arith, represents.taken, length-append p.delivered piece)
+    more : bytes_taken p.snapshots ≤ length (p.input ++ piece)
+    more = omega (arith, represents.taken, length-append p.input piece)
 
     rest : pending q ≡ pending p ++ piece
-    rest = drop-append-le (bytes_taken p.captures) p.delivered piece represents.taken
+    rest = drop-append-le (bytes_taken p.snapshots) p.input piece represents.taken
 
     size : length (pending q) ≡ length (pending p ++ piece)
     size = ap (λ l. length l) rest

@@ -51,16 +51,16 @@ messages_bytes (k ∷ ks) =
     by_last true xs h = All-nil IsByte
     by_last false xs h = h
 
-prepared_delivered : (numbers : List ℕ) (p : AppState) (now : Now) (next : Bool) → (if next then with_message numbers p now else p).delivered ≡ p.delivered
-prepared_delivered numbers p now true = refl
-prepared_delivered numbers p now false = refl
+prepared_input : (numbers : List ℕ) (p : AppState) (now : Now) (next : Bool) → (if next then with_message numbers p now else p).input ≡ p.input
+prepared_input numbers p now true = refl
+prepared_input numbers p now false = refl
 
 sends_bytes : SendsBytes own_spec
 sends_bytes = record {
-  output = λ p h k. messages_bytes p.captures;
+  output = λ p h k. messages_bytes p.snapshots;
   connected = λ numbers port. All-nil IsByte;
-  newdata = λ numbers p piece h k. All-append IsByte p.delivered piece h k;
-  prepare = λ numbers p now h. subst (λ (l : List ℕ). All IsByte l) (sym (prepared_delivered numbers p now (is_next_message (message_in numbers) p))) h;
+  newdata = λ numbers p piece h k. All-append IsByte p.input piece h k;
+  prepare = λ numbers p now h. subst (λ (l : List ℕ). All IsByte l) (sym (prepared_input numbers p now (is_next_message (message_in numbers) p))) h;
   acked = λ numbers p n h. h;
   polled = λ numbers p h. h;
 }
@@ -68,8 +68,8 @@ sends_bytes = record {
 -- ---- steady
 
 either_capture : (p : AppState) (k : Snapshot) (takes : Bool)
-    → ((if takes then record p { captures = p.captures ++ k ∷ [] } else p).captures ≡ p.captures)
-    ⊎ ((if takes then record p { captures = p.captures ++ k ∷ [] } else p).captures ≡ p.captures ++ k ∷ [])
+    → ((if takes then record p { snapshots = p.snapshots ++ k ∷ [] } else p).snapshots ≡ p.snapshots)
+    ⊎ ((if takes then record p { snapshots = p.snapshots ++ k ∷ [] } else p).snapshots ≡ p.snapshots ++ k ∷ [])
 either_capture p k true = inr refl
 either_capture p k false = inl refl
 
@@ -77,11 +77,11 @@ own_steady : IsSteady own_spec
 own_steady = record {
   lawful = own_lawful (λ p. Unit {0});
   connected_acked = λ numbers port. refl;
-  connected_captures = λ numbers port. refl;
-  newdata_captures = λ numbers p piece. refl;
-  prepare_captures = λ numbers p now. either_capture p (record { numbers = numbers; now = now }) (is_next_message (message_in numbers) p);
-  acked_captures = λ numbers p n. refl;
-  polled_captures = λ numbers p. refl;
+  connected_snapshots = λ numbers port. refl;
+  newdata_snapshots = λ numbers p piece. refl;
+  prepare_snapshots = λ numbers p now. either_capture p (record { numbers = numbers; now = now }) (is_next_message (message_in numbers) p);
+  acked_snapshots = λ numbers p n. refl;
+  polled_snapshots = λ numbers p. refl;
   connected_numbers = λ numbers port h. All-cons IsU32 (next_ticket numbers) (drop 1 numbers) (omega arith) (All-drop IsU32 1 numbers h);
   newdata_numbers = λ numbers p piece h. h;
   acked_numbers = λ numbers p n h. h;
@@ -97,16 +97,16 @@ closes_so false true ended left e = absurd (cc e)
 closes_so false false true left e = (refl, refl)
 closes_so false false false left e = absurd (cc e)
 
-closes : (p : AppState) → p.acked ≤ length (messages_text p.captures) → own_want p ≡ Close → MayWant own_sessions p Close
+closes : (p : AppState) → p.acked ≤ length (messages_text p.snapshots) → own_want p ≡ Close → MayWant own_sessions p Close
 closes p fits e =
-    let so = closes_so (is_overrun p || (p.polls == MOST_SILENT_POLLS)) (nat_lt 0 (len_left p)) (has_last p.captures) (len_left p) e in
+    let so = closes_so (is_overrun p || (p.polls == MOST_SILENT_POLLS)) (nat_lt 0 (len_left p)) (has_last p.snapshots) (len_left p) e in
     (so.1, (let none = ltb-false 0 (len_left p) so.0 in omega (arith, none, fits)))
 
 follows_sessions : (port : ℕ) → FollowsPagesAt own_spec port own_sessions
 follows_sessions port = record {
   grows = λ q more k later. grows k later;
   stays = λ q more k later e. stays k later e;
-  stays_whole = λ q more k later e. stays_ended k later e;
+  stays_complete = λ q more k later e. stays_ended k later e;
   here = λ p. true;
   lost = λ p. false;
   output = λ p h. refl;
@@ -115,11 +115,11 @@ follows_sessions port = record {
     prefix = piece;
     rest = [];
     joined = append-nil piece;
-    delivered = (refl, refl);
+    input = (refl, refl);
     all = inl refl;
     no_more = λ e. absurd (false≢true e);
   };
-  prepare = λ numbers p now h. ((refl, prepared_delivered numbers p now (is_next_message (message_in numbers) p)), refl);
+  prepare = λ numbers p now h. ((refl, prepared_input numbers p now (is_next_message (message_in numbers) p)), refl);
   acked = λ numbers p n h. ((refl, refl), refl);
   polled = λ numbers p h. ((refl, refl), refl);
   closes = λ numbers p h fits e. closes p fits e;

@@ -7,7 +7,7 @@ use Rattle.own_app.specs.OwnSpec.{has_last, messages_text, own_spec}
 
 -- The captures alone determine the text, which is complete after the last message.
 abbrev pub own_sessions : Pages
-own_sessions = record { text = λ delivered captures. messages_text captures; whole = λ delivered captures. has_last captures }
+own_sessions = record { page = λ input snapshots. messages_text snapshots; complete = λ input snapshots. has_last snapshots }
 
 abbrev pub own_output_model : ℕ → OutputModel
 own_output_model port = Interactive own_sessions

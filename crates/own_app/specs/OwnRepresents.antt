@@ -63,15 +63,15 @@ after_input a piece =
 -- before that.
 pub record StateRepresents (a : OwnState) (p : AppState) : Type 0 where
   pub ticket : a.ticket ≡ p.own
-  pub taken : bytes_taken p.captures ≤ length p.delivered
+  pub taken : bytes_taken p.snapshots ≤ length p.input
   pub overrun : a.overrun ≡ is_overrun p
   pub received : a.overrun ≡ false → a.received ≡ pending p
   pub before : List ℕ
-  pub sending : messages_text p.captures ≡ before ++ a.sending
+  pub sending : messages_text p.snapshots ≡ before ++ a.sending
   pub acked : p.acked ≡ length before + a.at
   pub within : a.at ≤ length a.sending
-  pub count : a.count ≡ length p.captures % 4294967296
-  pub ended : a.ended ≡ has_last p.captures
+  pub count : a.count ≡ length p.snapshots % 4294967296
+  pub ended : a.ended ≡ has_last p.snapshots
   pub polls : a.polls ≡ p.polls
 
 abbrev pub OwnRepresents : OwnApp → AppState → Type 0

@@ -61,7 +61,7 @@ has_last (k ∷ ks) = (message_in k.numbers).last || has_last ks
 
 -- what was received and no message has answered
 abbrev pub pending : AppState → List ℕ
-pending p = drop (bytes_taken p.captures) p.delivered
+pending p = drop (bytes_taken p.snapshots) p.input
 
 -- That is more than a connection stores: it is given up.
 abbrev pub is_overrun : AppState → Bool
@@ -69,24 +69,24 @@ is_overrun p = nat_lt RECEIVED_ROOM (length (pending p))
 
 -- how many bytes of the text are not acknowledged
 abbrev pub len_left : AppState → ℕ
-len_left p = length (messages_text p.captures) - p.acked
+len_left p = length (messages_text p.snapshots) - p.acked
 
 -- A connection captures a message that is its own and the next, if all before is acknowledged, the last was not captured, and the bytes
 -- that the message answers are there.
 abbrev pub is_next_message : PlainMessage → AppState → Bool
 is_next_message message p =
-    message.to == p.own && message.number == length p.captures % 4294967296 && not (is_overrun p) && not (has_last p.captures)
+    message.to == p.own && message.number == length p.snapshots % 4294967296 && not (is_overrun p) && not (has_last p.snapshots)
     && len_left p == 0 && nat_le message.taken (length (pending p))
 
 abbrev pub own_want : AppState → Want
 own_want p =
     if is_overrun p || (p.polls == MOST_SILENT_POLLS) then Abort
     else if nat_lt 0 (len_left p) then Send (len_left p)
-    else if has_last p.captures then Close
+    else if has_last p.snapshots then Close
     else Nothing
 
 abbrev pub with_message : List ℕ → AppState → Now → AppState
-with_message numbers p now = record p { captures = p.captures ++ record { numbers = numbers; now = now } ∷ [] }
+with_message numbers p now = record p { snapshots = p.snapshots ++ record { numbers = numbers; now = now } ∷ [] }
 
 -- the ticket of the connection that opens next
 abbrev pub next_ticket : List ℕ → ℕ
@@ -94,16 +94,16 @@ next_ticket numbers = (opened_in numbers + 1) % 4294967296
 
 -- a connection with this ticket that has just opened
 abbrev pub fresh_part : ℕ → ℕ → AppState
-fresh_part port ticket = record { port = port; delivered = []; captures = []; acked = 0; polls = 0; own = ticket }
+fresh_part port ticket = record { port = port; input = []; snapshots = []; acked = 0; polls = 0; own = ticket }
 
 abbrev pub own_spec : AppSpec
 own_spec = record {
-  output = λ p. messages_text p.captures;
+  output = λ p. messages_text p.snapshots;
   connected = λ numbers port. record {
     part = fresh_part port (next_ticket numbers);
     numbers = next_ticket numbers ∷ drop 1 numbers;
   };
-  newdata = λ numbers p piece. record { part = record p { delivered = p.delivered ++ piece; polls = 0 }; numbers = numbers };
+  newdata = λ numbers p piece. record { part = record p { input = p.input ++ piece; polls = 0 }; numbers = numbers };
   prepare = λ numbers p now. if is_next_message (message_in numbers) p then with_message numbers p now else p;
   want = λ numbers p. own_want p;
   acked = λ numbers p count. record { part = record p { acked = p.acked + count; polls = 0 }; numbers = numbers };

@@ -66,23 +66,23 @@ module _ (m : AppSpec) where
 
 -- ---- the capture
 
-captured : (message : PlainMessage) (opened : ℕ) (c new : Connection) (now : Now) → All IsByte message.text → has_last c.part.captures ≡ false
+captured : (message : PlainMessage) (opened : ℕ) (c new : Connection) (now : Now) → All IsByte message.text → has_last c.part.snapshots ≡ false
     → new.part ≡ with_message (numbers_of opened message) (own_spec.polled (numbers_of opened message) c.part).part now → HasCaptured message c new
 captured message opened c new now bytes goes_on is =
     let k : Snapshot = record { numbers = numbers_of opened message; now = now } in
     let back : message_in (numbers_of opened message) ≡ message = message_back opened message bytes in
-    let captures : new.part.captures ≡ c.part.captures ++ k ∷ [] = ap (λ (p : AppState). p.captures) is in
-    let taken : bytes_taken new.part.captures ≡ bytes_taken c.part.captures + message.taken =
-    ap (λ (l : List Snapshot). bytes_taken l) captures ∙ taken_more c.part.captures k ∙ ap (λ (x : PlainMessage). bytes_taken c.part.captures + x.taken) back in
+    let captures : new.part.snapshots ≡ c.part.snapshots ++ k ∷ [] = ap (λ (p : AppState). p.snapshots) is in
+    let taken : bytes_taken new.part.snapshots ≡ bytes_taken c.part.snapshots + message.taken =
+    ap (λ (l : List Snapshot). bytes_taken l) captures ∙ taken_more c.part.snapshots k ∙ ap (λ (x : PlainMessage). bytes_taken c.part.snapshots + x.taken) back in
     record {
       capture = k;
       numbers = back;
-      captures = captures;
-      text = ap (λ (l : List Snapshot). messages_text l) captures ∙ messages_text_more c.part.captures k goes_on ∙ ap (λ (x : PlainMessage). messages_text c.part.captures ++ x.text) back;
+      snapshots = captures;
+      text = ap (λ (l : List Snapshot). messages_text l) captures ∙ messages_text_more c.part.snapshots k goes_on ∙ ap (λ (x : PlainMessage). messages_text c.part.snapshots ++ x.text) back;
       pending =
-          ap (λ (p : AppState). drop (bytes_taken p.captures) p.delivered) is
-          ∙ ap (λ (t : ℕ). drop t c.part.delivered) (sym (ap (λ (l : List Snapshot). bytes_taken l) captures) ∙ taken)
-          ∙ sym (drop-drop message.taken (bytes_taken c.part.captures) c.part.delivered);
+          ap (λ (p : AppState). drop (bytes_taken p.snapshots) p.input) is
+          ∙ ap (λ (t : ℕ). drop t c.part.input) (sym (ap (λ (l : List Snapshot). bytes_taken l) captures) ∙ taken)
+          ∙ sym (drop-drop message.taken (bytes_taken c.part.snapshots) c.part.input);
     }
 
 -- a connection that is ready, after the application was polled and asked with the next message among its numbers
@@ -101,7 +101,7 @@ captures_next numbers taken text last c new now bytes can is =
     is_next : IsReady c → nat_le taken (length (pending_of c.part)) ≡ true → is_next_message (next_message_at taken text last c) c.part ≡ true
     is_next ready there =
         and_from _ _ (and_from _ _ (and_from _ _ (and_from _ _ (and_from _ _ (eq-eqb c.part.own c.part.own refl)
-        (eq-eqb (length c.part.captures % 4294967296) (length c.part.captures % 4294967296) refl))
+        (eq-eqb (length c.part.snapshots % 4294967296) (length c.part.snapshots % 4294967296) refl))
         (ap (λ (b : Bool). not b) ready.kept)) (ap (λ (b : Bool). not b) ready.goes_on)) ready.all) there
 
 pub captures_ready : ReadyMessagesAreCaptured

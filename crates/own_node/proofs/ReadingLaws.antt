@@ -108,13 +108,13 @@ pub ready_is : (state : State) (len port : ℕ) (app : OwnApp) (a : Connection) 
 ready_is state len port app a has =
     ap (λ v. is_established v && len == 0 && not app.overrun && not app.ended && app.at == length app.sending.items) has.its_state
     ∙ elim (is_established a.state) as (λ b. is_established a.state ≡ b → (b && len == 0 && not app.overrun && not app.ended && app.at == length app.sending.items)
-    ≡ (b && a.len == 0 && not (is_overrun a.part) && not (has_last a.part.captures) && len_left a.part == 0)) [
+    ≡ (b && a.len == 0 && not (is_overrun a.part) && not (has_last a.part.snapshots) && len_left a.part == 0)) [
       | true ↦ λ e.
           let part : OwnRepresents app a.part = has.part (established_open a.state e) in
           ap (λ n. true && n == 0 && not app.overrun && not app.ended && app.at == length app.sending.items) (has.its_len (open_live a.state (established_open a.state e)))
           ∙ ap (λ b. true && a.len == 0 && not b && not app.ended && app.at == length app.sending.items) part.overrun
           ∙ ap (λ b. true && a.len == 0 && not (is_overrun a.part) && not b && app.at == length app.sending.items) part.ended
-          ∙ ap (λ b. true && a.len == 0 && not (is_overrun a.part) && not (has_last a.part.captures) && b) (nothing_left (state_of app) a.part part)
+          ∙ ap (λ b. true && a.len == 0 && not (is_overrun a.part) && not (has_last a.part.snapshots) && b) (nothing_left (state_of app) a.part part)
       | false ↦ λ e. refl
     ] refl
 
@@ -124,7 +124,7 @@ pub record IsReady (a : Connection) : Type 0 where
   pub opened : is_open_state a.state ≡ true
   pub len : a.len ≡ 0
   pub kept : is_overrun a.part ≡ false
-  pub goes_on : has_last a.part.captures ≡ false
+  pub goes_on : has_last a.part.snapshots ≡ false
   pub all : (len_left a.part == 0) ≡ true
 
 pub ready_has : (a : Connection) → is_ready_at a ≡ true → IsReady a
@@ -138,7 +138,7 @@ ready_has a e =
       opened = established_open a.state len.0;
       len = eqb-true a.len 0 len.1;
       kept = not_true (is_overrun a.part) kept.1;
-      goes_on = not_true (has_last a.part.captures) more.1;
+      goes_on = not_true (has_last a.part.snapshots) more.1;
       all = all.1;
     }
 
@@ -182,7 +182,7 @@ not_established LastAck e = refl
 
 pub not_ready : (a : Connection) → is_open_state a.state ≡ false → false ≡ is_ready_at a
 not_ready a e =
-    ap (λ (b : Bool). b && a.len == 0 && not (is_overrun a.part) && not (has_last a.part.captures) && len_left a.part == 0) (not_established a.state e)
+    ap (λ (b : Bool). b && a.len == 0 && not (is_overrun a.part) && not (has_last a.part.snapshots) && len_left a.part == 0) (not_established a.state e)
 
 pub cannot_write : (a : Connection) (taken : ℕ) → is_open_state a.state ≡ false → false ≡ can_write_at taken a
 cannot_write a taken e = ap (λ (b : Bool). b && nat_le taken (length (pending_of a.part))) (not_ready a e)

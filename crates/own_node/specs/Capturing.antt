@@ -19,8 +19,8 @@ called_after slot taken text last n =
 pub record HasCaptured (message : PlainMessage) (old new : Connection) : Type 0 where
   pub capture : Snapshot
   pub numbers : message_in capture.numbers ≡ message
-  pub captures : new.part.captures ≡ old.part.captures ++ capture ∷ []
-  pub text : messages_text new.part.captures ≡ messages_text old.part.captures ++ message.text
+  pub snapshots : new.part.snapshots ≡ old.part.snapshots ++ capture ∷ []
+  pub text : messages_text new.part.snapshots ≡ messages_text old.part.snapshots ++ message.text
   pub pending : pending_of new.part ≡ drop message.taken (pending_of old.part)
 
 abbrev pub ReadyMessagesAreCaptured : Type 0

@@ -39,7 +39,7 @@ pending_at c = if is_open_state c.state && not (is_overrun c.part) then pending_
 -- The connection is ESTABLISHED with nothing outstanding, and captures the next message.
 abbrev pub is_ready_at : Connection → Bool
 is_ready_at c =
-    is_established c.state && c.len == 0 && not (is_overrun c.part) && not (has_last c.part.captures) && len_left c.part == 0
+    is_established c.state && c.len == 0 && not (is_overrun c.part) && not (has_last c.part.snapshots) && len_left c.part == 0
 
 -- the port at which an open connection opened
 abbrev pub port_at : Connection → ℕ
@@ -52,7 +52,7 @@ can_write_at taken c = is_ready_at c && nat_le taken (length (pending_of c.part)
 abbrev pub next_message_at : ℕ → List ℕ → Bool → Connection → PlainMessage
 next_message_at taken text last c = record {
   to = c.part.own;
-  number = length c.part.captures % 4294967296;
+  number = length c.part.snapshots % 4294967296;
   taken = taken;
   last = last;
   text = text;

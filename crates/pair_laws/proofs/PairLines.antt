@@ -21,16 +21,16 @@ use Rattle.app_pair.specs.Lemmas.PairLaws.{at_each_port, at_each_state, at_state
 
 captures_of : (m : AppSpec) → IsSteady m → KeepsCaptures m
 captures_of m steady = record {
-  connected = steady.connected_captures;
-  newdata = steady.newdata_captures;
-  prepare = steady.prepare_captures;
-  acked = steady.acked_captures;
-  polled = steady.polled_captures;
+  connected = steady.connected_snapshots;
+  newdata = steady.newdata_snapshots;
+  prepare = steady.prepare_snapshots;
+  acked = steady.acked_snapshots;
+  polled = steady.polled_snapshots;
 }
 
--- q is a state of this kind, and its delivered input is this text
+-- q is a state of this kind, and its input is this text
 abbrev HasText : (AppState → Bool) → AppState → List ℕ → Type 0
-HasText here q text = (here q ≡ true) × (q.delivered ≡ text)
+HasText here q text = (here q ≡ true) × (q.input ≡ text)
 
 -- ---- one of two
 
@@ -42,11 +42,11 @@ module _ (second : Bool) (m : AppSpec) where
       record {
         lawful = at_each_state (one_of_two second m) (λ p. Unit {0}) (λ p s. lawful p);
         connected_acked = λ numbers port. steady.connected_acked (own_numbers second numbers) port;
-        connected_captures = keeps.connected;
-        newdata_captures = keeps.newdata;
-        prepare_captures = keeps.prepare;
-        acked_captures = keeps.acked;
-        polled_captures = keeps.polled;
+        connected_snapshots = keeps.connected;
+        newdata_snapshots = keeps.newdata;
+        prepare_snapshots = keeps.prepare;
+        acked_snapshots = keeps.acked;
+        polled_snapshots = keeps.polled;
         connected_numbers = λ numbers port h. with_own_u32 second _ numbers (steady.connected_numbers (own_numbers second numbers) port (own_u32 second numbers h)) h;
         newdata_numbers = λ numbers p piece h. with_own_u32 second _ numbers (steady.newdata_numbers (own_numbers second numbers) (own_part second p) piece (own_u32 second numbers h)) h;
         acked_numbers = λ numbers p n h. with_own_u32 second _ numbers (steady.acked_numbers (own_numbers second numbers) (own_part second p) n (own_u32 second numbers h)) h;
@@ -63,7 +63,7 @@ module _ (second : Bool) (m : AppSpec) where
 
   one_bytes : SendsBytes m → SendsBytes (one_of_two second m)
   one_bytes bytes = record {
-    output = λ p h k. bytes.output (own_part second p) h (own_snapshots p.captures k);
+    output = λ p h k. bytes.output (own_part second p) h (own_snapshots p.snapshots k);
     connected = λ numbers port. bytes.connected (own_numbers second numbers) port;
     newdata = λ numbers p piece h k. bytes.newdata (own_numbers second numbers) (own_part second p) piece h k;
     prepare = λ numbers p now h. bytes.prepare (own_numbers second numbers) (own_part second p) now h;
@@ -78,11 +78,11 @@ module _ (second : Bool) (m : AppSpec) where
         let joined = λ (ks later : List Snapshot). sym (map-append (own_snapshot second) ks later) in
         record {
           grows = λ q more k later.
-              subst (λ (l : List Snapshot). IsPrefixOf (pages.text q (seen k)) (pages.text (q ++ more) l)) (joined k later) (h.grows q more (seen k) (seen later));
+              subst (λ (l : List Snapshot). IsPrefixOf (pages.page q (seen k)) (pages.page (q ++ more) l)) (joined k later) (h.grows q more (seen k) (seen later));
           stays = λ q more k later e.
-              subst (λ (l : List Snapshot). pages.text (q ++ more) l ≡ pages.text q (seen k)) (joined k later) (h.stays q more (seen k) (seen later) e);
-          stays_whole = λ q more k later e.
-              subst (λ (l : List Snapshot). pages.whole (q ++ more) l ≡ true) (joined k later) (h.stays_whole q more (seen k) (seen later) e);
+              subst (λ (l : List Snapshot). pages.page (q ++ more) l ≡ pages.page q (seen k)) (joined k later) (h.stays q more (seen k) (seen later) e);
+          stays_complete = λ q more k later e.
+              subst (λ (l : List Snapshot). pages.complete (q ++ more) l ≡ true) (joined k later) (h.stays_complete q more (seen k) (seen later) e);
           here = λ p. h.here (own_part second p);
           lost = λ p. h.lost (own_part second p);
           output = λ p e. h.output (own_part second p) e;
@@ -91,7 +91,7 @@ module _ (second : Bool) (m : AppSpec) where
           newdata = λ numbers p piece e.
               let a = subst (λ (x : AppState). AcceptsPrefix h.here h.lost (own_part second p) x piece) (sym (sees_newdata second m captures numbers p piece))
               (h.newdata (own_numbers second numbers) (own_part second p) piece e) in
-              record { prefix = a.prefix; rest = a.rest; joined = a.joined; delivered = a.delivered; all = a.all; no_more = a.no_more };
+              record { prefix = a.prefix; rest = a.rest; joined = a.joined; input = a.input; all = a.all; no_more = a.no_more };
           prepare = λ numbers p now e.
               subst (λ (x : AppState). LeavesDelivered h.here h.lost (own_part second p) x) (sym (sees_prepare second m captures numbers p now))
               (h.prepare (own_numbers second numbers) (own_part second p) now e);
@@ -129,11 +129,11 @@ module _ (at : ℕ → AppSpec) (keeps : (port : ℕ) → StaysAtPort (at port))
   by_port_steady steady = record {
     lawful = at_each_state (by_port at) (λ p. Unit {0}) (λ p s. by_port_lawful_at at keeps p (at_state (at p.port) (λ q. Unit {0}) (steady p.port).lawful p s));
     connected_acked = λ numbers port. (steady port).connected_acked numbers port;
-    connected_captures = λ numbers port. (steady port).connected_captures numbers port;
-    newdata_captures = λ numbers p piece. (steady p.port).newdata_captures numbers p piece;
-    prepare_captures = λ numbers p now. (steady p.port).prepare_captures numbers p now;
-    acked_captures = λ numbers p n. (steady p.port).acked_captures numbers p n;
-    polled_captures = λ numbers p. (steady p.port).polled_captures numbers p;
+    connected_snapshots = λ numbers port. (steady port).connected_snapshots numbers port;
+    newdata_snapshots = λ numbers p piece. (steady p.port).newdata_snapshots numbers p piece;
+    prepare_snapshots = λ numbers p now. (steady p.port).prepare_snapshots numbers p now;
+    acked_snapshots = λ numbers p n. (steady p.port).acked_snapshots numbers p n;
+    polled_snapshots = λ numbers p. (steady p.port).polled_snapshots numbers p;
     connected_numbers = λ numbers port h. (steady port).connected_numbers numbers port h;
     newdata_numbers = λ numbers p piece h. (steady p.port).newdata_numbers numbers p piece h;
     acked_numbers = λ numbers p n h. (steady p.port).acked_numbers numbers p n h;
@@ -169,16 +169,16 @@ module _ (at : ℕ → AppSpec) (keeps : (port : ℕ) → StaysAtPort (at port))
     stays_here here q text e h = (both (q.port == port) (here q) (eq-eqb q.port port e) h.0, h.1)
 
     leaves : (here lost : AppState → Bool) (p q : AppState) → q.port ≡ port → LeavesDelivered here lost p q → LeavesDelivered (here_at here) lost p q
-    leaves here lost p q e h = (stays_here here q p.delivered e h.0, h.1)
+    leaves here lost p q e h = (stays_here here q p.input e h.0, h.1)
 
     by_port_follows : (pages : Pages) → FollowsPagesAt (at port) port pages → FollowsPagesAt (by_port at) port pages
     by_port_follows pages h = record {
       grows = h.grows;
       stays = h.stays;
-      stays_whole = h.stays_whole;
+      stays_complete = h.stays_complete;
       here = here_at h.here;
       lost = h.lost;
-      output = λ p e. there (λ (m : AppSpec). m.output p ≡ pages.text p.delivered p.captures) p (port_of h.here p e) (h.output p (here_of h.here p e));
+      output = λ p e. there (λ (m : AppSpec). m.output p ≡ pages.page p.input p.snapshots) p (port_of h.here p e) (h.output p (here_of h.here p e));
       connected = λ numbers. stays_here h.here _ [] ((keeps port).connected numbers port) (h.connected numbers);
       newdata = λ numbers p piece e.
           let q : AppState = ((by_port at).newdata numbers p piece).part in
@@ -187,7 +187,7 @@ module _ (at : ℕ → AppSpec) (keeps : (port : ℕ) → StaysAtPort (at port))
             prefix = a.prefix;
             rest = a.rest;
             joined = a.joined;
-            delivered = stays_here h.here q (p.delivered ++ a.prefix) ((keeps p.port).newdata numbers p piece ∙ port_of h.here p e) a.delivered;
+            input = stays_here h.here q (p.input ++ a.prefix) ((keeps p.port).newdata numbers p piece ∙ port_of h.here p e) a.input;
             all = a.all;
             no_more = a.no_more;
           };

@@ -12,8 +12,8 @@ use Rattle.app_pair.specs.PairSpec.{StaysAtPort, own_snapshot, pair_spec}
 -- the pages of one of the two: those of the snapshots that it sees
 abbrev pub own_pages : Bool → Pages → Pages
 own_pages second pages = record {
-  text = λ delivered captures. pages.text delivered (map (own_snapshot second) captures);
-  whole = λ delivered captures. pages.whole delivered (map (own_snapshot second) captures);
+  page = λ input snapshots. pages.page input (map (own_snapshot second) snapshots);
+  complete = λ input snapshots. pages.complete input (map (own_snapshot second) snapshots);
 }
 
 abbrev pub own_model : Bool → OutputModel → OutputModel

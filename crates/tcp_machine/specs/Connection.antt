@@ -50,7 +50,7 @@ closed = record {
   initial_mss = 0;
   mss = 0;
   age = 0;
-  part = record { port = 0; delivered = []; captures = []; acked = 0; polls = 0; own = 0 };
+  part = record { port = 0; input = []; snapshots = []; acked = 0; polls = 0; own = 0 };
 }
 
 -- SND.UNA (RFC 793, section 3.2): the lowest sequence number not acknowledged. As in uIP, the field of the code is called `snd_nxt`.

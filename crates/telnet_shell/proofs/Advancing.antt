@@ -58,7 +58,7 @@ passed_on (c ∷ cs) new capture held at place p history w b =
       spoken = b.spoken ++ b.prefix;
       prefix = [];
       commands = b.commands ∙ sym (append_assoc b.before (c ∷ []) cs) ∙ ap (λ (ds : List Command). (b.before ++ c ∷ []) ++ ds) (sym w.0);
-      captures = b.captures ∙ sym (append-nil (b.spoken ++ b.prefix));
+      snapshots = b.snapshots ∙ sym (append-nil (b.spoken ++ b.prefix));
       took = length-append b.spoken b.prefix ∙ ap (λ (n : ℕ). n + length b.prefix) b.took ∙ ap (λ (n : ℕ). needed b.before + n) took ∙ sym (needed_joined b.before (c ∷ []));
       acked = (let e = b.acked in let f = w.2 in omega (arith, e, f, size));
       shows = w.1;
@@ -105,7 +105,7 @@ prefix_grown [] [] capture at i = i
 prefix_grown [] (c ∷ cs) capture at i = ((λ s. i), (λ g. omega (arith, i, said_some c capture)))
 prefix_grown (c ∷ cs) extra capture at i = i
 
-pub come : (q extra : List Command) (capture : Capture) (at : ℕ) (p : AppState) (byte : ℕ) → commands_in (p.delivered ++ byte ∷ []) ≡ commands_in p.delivered ++ extra
+pub come : (q extra : List Command) (capture : Capture) (at : ℕ) (p : AppState) (byte : ℕ) → commands_in (p.input ++ byte ∷ []) ≡ commands_in p.input ++ extra
     → IsTrailing q capture at p → IsLeading q capture at → IsTrailing (q ++ extra) capture at (with_byte p byte) × IsLeading (q ++ extra) capture at
 come q extra capture at p byte more b i = (
   record {
@@ -113,7 +113,7 @@ come q extra capture at p byte more b i = (
     spoken = b.spoken;
     prefix = b.prefix;
     commands = more ∙ ap (λ (cs : List Command). cs ++ extra) b.commands ∙ append_assoc b.before q extra;
-    captures = b.captures;
+    snapshots = b.snapshots;
     took = b.took;
     acked = b.acked;
     shows = shows_more q extra capture b.prefix b.shows;

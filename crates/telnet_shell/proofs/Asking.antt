@@ -76,7 +76,7 @@ taken (c ∷ cs) capture held at p numbers function now d e b i =
         spoken = b.spoken;
         prefix = record { numbers = numbers; now = now } ∷ [];
         commands = b.commands;
-        captures = ap (λ (ks : List Snapshot). ks ++ record { numbers = numbers; now = now } ∷ []) (b.captures ∙ ap (λ (ks : List Snapshot). b.spoken ++ ks) none ∙ append-nil b.spoken);
+        snapshots = ap (λ (ks : List Snapshot). ks ++ record { numbers = numbers; now = now } ∷ []) (b.snapshots ∙ ap (λ (ks : List Snapshot). b.spoken ++ ks) none ∙ append-nil b.spoken);
         took = b.took;
         acked = b.acked;
         shows = (refl, (and_parts (needs_capture c) (not (is_captured capture)) both.0).0, e ∙ ap (λ (f : Function). capture_of f 0 now) (sym both.1));

@@ -36,18 +36,18 @@ module _ (site : SiteContent) (loaded : IsLoaded site) (image : All IsByte site.
   web_told = record {
     grows = web_laws.grows;
     stays = web_laws.stays;
-    stays_whole = web_laws.stays_whole;
+    stays_complete = web_laws.stays_complete;
     here = is_page_part;
     lost = λ p. false;
     output = λ p h. (does_as_web p h).output ∙ web_laws.output p;
-    connected = λ numbers. (ap (λ (n : ℕ). n == 80) (keeps_port.connected numbers 80), web_laws.connected_delivered numbers 80);
+    connected = λ numbers. (ap (λ (n : ℕ). n == 80) (keeps_port.connected numbers 80), web_laws.connected_input numbers 80);
     newdata = λ numbers p piece h. record {
       prefix = piece;
       rest = [];
       joined = append-nil piece;
-      delivered = (
+      input = (
         stays_at 80 p ((desk_spec files).newdata numbers p piece).part (keeps_port.newdata numbers p piece) h,
-        ap (λ a. a.part.delivered) ((does_as_web p h).newdata numbers piece) ∙ web_laws.newdata_delivered numbers p piece,
+        ap (λ a. a.part.input) ((does_as_web p h).newdata numbers piece) ∙ web_laws.newdata_input numbers p piece,
       );
       all = inl refl;
       no_more = λ e. absurd (cc);
@@ -55,21 +55,21 @@ module _ (site : SiteContent) (loaded : IsLoaded site) (image : All IsByte site.
     prepare = λ numbers p now h. (
       (
         stays_at 80 p ((desk_spec files).prepare numbers p now) (keeps_port.prepare numbers p now) h,
-        ap (λ q. q.delivered) ((does_as_web p h).prepare numbers now) ∙ web_laws.prepare_delivered numbers p now,
+        ap (λ q. q.input) ((does_as_web p h).prepare numbers now) ∙ web_laws.prepare_input numbers p now,
       ),
       refl,
     );
     acked = λ numbers p n h. (
       (
         stays_at 80 p ((desk_spec files).acked numbers p n).part (keeps_port.acked numbers p n) h,
-        ap (λ a. a.part.delivered) ((does_as_web p h).acked numbers n) ∙ web_laws.acked_delivered numbers p n,
+        ap (λ a. a.part.input) ((does_as_web p h).acked numbers n) ∙ web_laws.acked_input numbers p n,
       ),
       refl,
     );
     polled = λ numbers p h. (
       (
         stays_at 80 p ((desk_spec files).polled numbers p).part (keeps_port.polled numbers p) h,
-        ap (λ a. a.part.delivered) ((does_as_web p h).polled numbers) ∙ (web_laws.polled_same numbers p).delivered,
+        ap (λ a. a.part.input) ((does_as_web p h).polled numbers) ∙ (web_laws.polled_same numbers p).input,
       ),
       refl,
     );
@@ -102,21 +102,21 @@ module _ (site : SiteContent) (loaded : IsLoaded site) (image : All IsByte site.
         prefix = f.prefix;
         rest = f.rest;
         joined = f.joined;
-        delivered = (stays_at 23 p q (keeps_port.newdata numbers p piece) h, ap (λ (x : AppState). x.delivered) same ∙ f.delivered);
+        input = (stays_at 23 p q (keeps_port.newdata numbers p piece) h, ap (λ (x : AppState). x.input) same ∙ f.input);
         all = elim (f.all) [ inl e ↦ inl e | inr e ↦ inr (ap (λ (x : AppState). is_lost x) same ∙ ap (λ (n : ℕ). n == 1) e) ];
         no_more = λ e. (let own : p.own ≡ 1 = eqb-true p.own 1 e in (
-          ap (λ (x : AppState). x.delivered) same ∙ keeps_session.hears_no_more numbers p piece own,
+          ap (λ (x : AppState). x.input) same ∙ keeps_session.hears_no_more numbers p piece own,
           ap (λ (x : AppState). is_lost x) same ∙ ap (λ (n : ℕ). n == 1) (keeps_session.stays_lost numbers p piece own),
         ));
       }
 
-  either_prepared : (p : AppState) (numbers : List ℕ) (now : Now) (stops : Bool) → (let q : AppState = if stops then take_capture numbers p now else p in (q.delivered ≡ p.delivered) × (is_lost q ≡ is_lost p))
+  either_prepared : (p : AppState) (numbers : List ℕ) (now : Now) (stops : Bool) → (let q : AppState = if stops then take_capture numbers p now else p in (q.input ≡ p.input) × (is_lost q ≡ is_lost p))
   either_prepared p numbers now true = (refl, refl)
   either_prepared p numbers now false = (refl, refl)
 
-  session_left : (p q r : AppState) → q ≡ r → q.port ≡ p.port → is_session_part p ≡ true → (r.delivered ≡ p.delivered) × (is_lost r ≡ is_lost p) → LeavesDelivered is_session_part is_lost p q
+  session_left : (p q r : AppState) → q ≡ r → q.port ≡ p.port → is_session_part p ≡ true → (r.input ≡ p.input) × (is_lost r ≡ is_lost p) → LeavesDelivered is_session_part is_lost p q
   session_left p q r same port h x = (
-    (stays_at 23 p q port h, ap (λ (y : AppState). y.delivered) same ∙ x.0),
+    (stays_at 23 p q port h, ap (λ (y : AppState). y.input) same ∙ x.0),
     ap (λ (y : AppState). is_lost y) same ∙ x.1,
   )
 
@@ -124,7 +124,7 @@ module _ (site : SiteContent) (loaded : IsLoaded site) (image : All IsByte site.
   session_told = record {
     grows = keeps_session.grows;
     stays = keeps_session.stays;
-    stays_whole = keeps_session.stays_whole;
+    stays_complete = keeps_session.stays_complete;
     here = is_session_part;
     lost = is_lost;
     output = λ p h. (does_as_shell p h).output ∙ keeps_session.output p;

@@ -3,8 +3,8 @@ use Rattle.telnet_shell.proofs.Prelude.{◌≡◌, ℕ, ◌==◌, Bool, true, fa
 use Rattle.telnet_shell.proofs.SessionLaws.{keeps_session}
 
 either_capture : (p : AppState) (k : Snapshot) (takes : Bool)
-    → ((if takes then record p { captures = p.captures ++ k ∷ [] } else p).captures ≡ p.captures)
-    ⊎ ((if takes then record p { captures = p.captures ++ k ∷ [] } else p).captures ≡ p.captures ++ k ∷ [])
+    → ((if takes then record p { snapshots = p.snapshots ++ k ∷ [] } else p).snapshots ≡ p.snapshots)
+    ⊎ ((if takes then record p { snapshots = p.snapshots ++ k ∷ [] } else p).snapshots ≡ p.snapshots ++ k ∷ [])
 either_capture p k true = inr refl
 either_capture p k false = inl refl
 
@@ -12,11 +12,11 @@ shell_steady : IsSteady shell_spec
 shell_steady = record {
   lawful = shell_lawful (λ p. Unit {0});
   connected_acked = λ numbers port. refl;
-  connected_captures = λ numbers port. refl;
-  newdata_captures = λ numbers p piece. (keeps_session.hears numbers p piece).captures;
-  prepare_captures = λ numbers p now. either_capture p (record { numbers = numbers; now = now }) (is_stopped p);
-  acked_captures = λ numbers p n. refl;
-  polled_captures = λ numbers p. refl;
+  connected_snapshots = λ numbers port. refl;
+  newdata_snapshots = λ numbers p piece. (keeps_session.hears numbers p piece).snapshots;
+  prepare_snapshots = λ numbers p now. either_capture p (record { numbers = numbers; now = now }) (is_stopped p);
+  acked_snapshots = λ numbers p n. refl;
+  polled_snapshots = λ numbers p. refl;
   connected_numbers = λ numbers port h. h;
   newdata_numbers = λ numbers p piece h. h;
   acked_numbers = λ numbers p n h. h;
@@ -37,11 +37,11 @@ module _ (site : SiteContent) (loaded : IsLoaded site) where
   desk_steady = record {
     lawful = desk_lawful (files_of site) (λ p. Unit {0});
     connected_acked = λ numbers port. (steady_at port).connected_acked numbers port;
-    connected_captures = λ numbers port. (steady_at port).connected_captures numbers port;
-    newdata_captures = λ numbers p piece. (steady_at p.port).newdata_captures numbers p piece;
-    prepare_captures = λ numbers p now. (steady_at p.port).prepare_captures numbers p now;
-    acked_captures = λ numbers p n. (steady_at p.port).acked_captures numbers p n;
-    polled_captures = λ numbers p. (steady_at p.port).polled_captures numbers p;
+    connected_snapshots = λ numbers port. (steady_at port).connected_snapshots numbers port;
+    newdata_snapshots = λ numbers p piece. (steady_at p.port).newdata_snapshots numbers p piece;
+    prepare_snapshots = λ numbers p now. (steady_at p.port).prepare_snapshots numbers p now;
+    acked_snapshots = λ numbers p n. (steady_at p.port).acked_snapshots numbers p n;
+    polled_snapshots = λ numbers p. (steady_at p.port).polled_snapshots numbers p;
     connected_numbers = λ numbers port h. (steady_at port).connected_numbers numbers port h;
     newdata_numbers = λ numbers p piece h. (steady_at p.port).newdata_numbers numbers p piece h;
     acked_numbers = λ numbers p n h. (steady_at p.port).acked_numbers numbers p n h;

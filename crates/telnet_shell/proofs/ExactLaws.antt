@@ -35,31 +35,31 @@ over (c ∷ cs) (k ∷ ks) at h =
 
 -- all output is sent
 abbrev has_said : AppState → Bool
-has_said p = nat_le (needed (commands_in p.delivered)) (length p.captures)
+has_said p = nat_le (needed (commands_in p.input)) (length p.snapshots)
 
 settles : (p : AppState) → p.acked ≡ length (session p) → has_said p ≡ true → is_settled p ≡ true
 settles p e h =
     ap (λ (cs : List Command). length cs == 0)
-    (ap (λ (n : ℕ). unfinished (commands_in p.delivered) p.captures n) (let z : p.acked ≡ length (session p) + 0 = omega (arith, e) in z)
-    ∙ over (commands_in p.delivered) p.captures 0 (leb-true (needed (commands_in p.delivered)) (length p.captures) h))
+    (ap (λ (n : ℕ). unfinished (commands_in p.input) p.snapshots n) (let z : p.acked ≡ length (session p) + 0 = omega (arith, e) in z)
+    ∙ over (commands_in p.input) p.snapshots 0 (leb-true (needed (commands_in p.input)) (length p.snapshots) h))
 
-said_of : (p : AppState) → is_settled p ≡ true → IsSaid (commands_in p.delivered) p.captures p.acked
-said_of p e = settled (commands_in p.delivered) p.captures p.acked (none_waits (waiting p) e)
+said_of : (p : AppState) → is_settled p ≡ true → IsSaid (commands_in p.input) p.snapshots p.acked
+said_of p e = settled (commands_in p.input) p.snapshots p.acked (none_waits (waiting p) e)
 
 has_said_of : (p : AppState) → is_settled p ≡ true → has_said p ≡ true
-has_said_of p e = le-leb (needed (commands_in p.delivered)) (length p.captures) (said_of p e).told
+has_said_of p e = le-leb (needed (commands_in p.input)) (length p.snapshots) (said_of p e).told
 
 -- ---- what the shell requests
 
-ends_exactly : (p : AppState) → p.acked ≤ length (session p) → session_has_ended p ≡ (sessions.whole p.delivered p.captures && all_acknowledged p)
-ends_exactly p h = same_tests (session_has_ended p) (sessions.whole p.delivered p.captures && all_acknowledged p)
-    (λ e. let both = and_parts (has_quit (all_commands p.delivered)) (is_settled p) e in
-    and_from (sessions.whole p.delivered p.captures) (all_acknowledged p)
-    (and_from (has_quit (all_commands p.delivered)) (has_said p) both.0 (has_said_of p both.1))
+ends_exactly : (p : AppState) → p.acked ≤ length (session p) → session_has_ended p ≡ (sessions.complete p.input p.snapshots && all_acknowledged p)
+ends_exactly p h = same_tests (session_has_ended p) (sessions.complete p.input p.snapshots && all_acknowledged p)
+    (λ e. let both = and_parts (has_quit (all_commands p.input)) (is_settled p) e in
+    and_from (sessions.complete p.input p.snapshots) (all_acknowledged p)
+    (and_from (has_quit (all_commands p.input)) (has_said p) both.0 (has_said_of p both.1))
     (let within = (said_of p both.1).within in eq-eqb p.acked (length (session p)) (omega (arith, h, within))))
-    (λ e. let both = and_parts (sessions.whole p.delivered p.captures) (all_acknowledged p) e in
-    let whole = and_parts (has_quit (all_commands p.delivered)) (has_said p) both.0 in
-    and_from (has_quit (all_commands p.delivered)) (is_settled p) whole.0 (settles p (eqb-true p.acked (length (session p)) both.1) whole.1))
+    (λ e. let both = and_parts (sessions.complete p.input p.snapshots) (all_acknowledged p) e in
+    let whole = and_parts (has_quit (all_commands p.input)) (has_said p) both.0 in
+    and_from (has_quit (all_commands p.input)) (is_settled p) whole.0 (settles p (eqb-true p.acked (length (session p)) both.1) whole.1))
 
 left_exactly : (acked size : ℕ) → nat_lt 0 (size - acked) ≡ nat_lt acked size
 left_exactly acked size = same_tests (nat_lt 0 (size - acked)) (nat_lt acked size)
@@ -70,7 +70,7 @@ wants_exactly : (numbers : List ℕ) (p : AppState) → p.acked ≤ length (sess
 wants_exactly numbers p h =
     ap (λ (b : Bool). if is_given_up p then Abort else if b then Close else if nat_lt 0 (left_of_session p) then Send (min 1460 (left_of_session p)) else Nothing)
     (ends_exactly p h)
-    ∙ ap (λ (b : Bool). if is_given_up p then Abort else if sessions.whole p.delivered p.captures && all_acknowledged p then Close
+    ∙ ap (λ (b : Bool). if is_given_up p then Abort else if sessions.complete p.input p.snapshots && all_acknowledged p then Close
     else if b then Send (min 1460 (left_of_session p)) else Nothing) (left_exactly p.acked (length (session p)))
 
 -- ---- when a capture is taken
@@ -78,9 +78,9 @@ wants_exactly numbers p h =
 stops_exactly : (p : AppState) → is_stopped p ≡ capture_comes_next p
 stops_exactly p = same_tests (is_stopped p) (capture_comes_next p)
     (λ e. let both = and_parts (all_acknowledged p) (not (is_settled p)) e in
-    and_from (all_acknowledged p) (nat_lt (length p.captures) (needed (commands_in p.delivered))) both.0
+    and_from (all_acknowledged p) (nat_lt (length p.snapshots) (needed (commands_in p.input))) both.0
     (missing p both.0 both.1))
-    (λ e. let both = and_parts (all_acknowledged p) (nat_lt (length p.captures) (needed (commands_in p.delivered))) e in
+    (λ e. let both = and_parts (all_acknowledged p) (nat_lt (length p.snapshots) (needed (commands_in p.input))) e in
     and_from (all_acknowledged p) (not (is_settled p)) both.0 (waits_yet p both.1))
   where
     by_less : (n m : ℕ) → (nat_le n m ≡ true → ⊥) → nat_lt m n ≡ true
@@ -93,18 +93,18 @@ stops_exactly p = same_tests (is_stopped p) (capture_comes_next p)
     not_true true e f = cc
     not_true false e f = cc
 
-    missing : (p : AppState) → all_acknowledged p ≡ true → not (is_settled p) ≡ true → nat_lt (length p.captures) (needed (commands_in p.delivered)) ≡ true
+    missing : (p : AppState) → all_acknowledged p ≡ true → not (is_settled p) ≡ true → nat_lt (length p.snapshots) (needed (commands_in p.input)) ≡ true
     missing p a s =
-        by_less (needed (commands_in p.delivered)) (length p.captures)
+        by_less (needed (commands_in p.input)) (length p.snapshots)
         (λ h. not_true (is_settled p) s (settles p (eqb-true p.acked (length (session p)) a) h))
 
     from_not : (b : Bool) → (b ≡ true → ⊥) → not b ≡ true
     from_not true f = absurd (f refl)
     from_not false f = refl
 
-    waits_yet : (p : AppState) → nat_lt (length p.captures) (needed (commands_in p.delivered)) ≡ true → not (is_settled p) ≡ true
+    waits_yet : (p : AppState) → nat_lt (length p.snapshots) (needed (commands_in p.input)) ≡ true → not (is_settled p) ≡ true
     waits_yet p l =
-        from_not (is_settled p) (λ s. let told = (said_of p s).told in let less = ltb-true (length p.captures) (needed (commands_in p.delivered)) l in omega (arith, told, less))
+        from_not (is_settled p) (λ s. let told = (said_of p s).told in let less = ltb-true (length p.snapshots) (needed (commands_in p.input)) l in omega (arith, told, less))
 
 prepares_exactly : (numbers : List ℕ) (p : AppState) (now : Now)
     → shell_spec.prepare numbers p now ≡ (if capture_comes_next p then take_capture numbers p now else p)
@@ -222,29 +222,29 @@ one_comes delivered byte =
 
 -- ---- when it is given up
 
-waits_more : (p : AppState) (byte : ℕ) → p.acked ≤ length (session p) → length (waiting (with_byte p byte)) ≡ length (waiting p) + length (further p.delivered (byte ∷ []))
+waits_more : (p : AppState) (byte : ℕ) → p.acked ≤ length (session p) → length (waiting (with_byte p byte)) ≡ length (waiting p) + length (further p.input (byte ∷ []))
 waits_more p byte h =
-    ap (λ (cs : List Command). length (unfinished cs p.captures p.acked)) (commands_grow p.delivered (byte ∷ []))
-    ∙ ap (λ (cs : List Command). length cs) (unfinished_joins (commands_in p.delivered) (further p.delivered (byte ∷ [])) p.captures p.acked h)
-    ∙ length-append (waiting p) (further p.delivered (byte ∷ []))
+    ap (λ (cs : List Command). length (unfinished cs p.snapshots p.acked)) (commands_grow p.input (byte ∷ []))
+    ∙ ap (λ (cs : List Command). length cs) (unfinished_joins (commands_in p.input) (further p.input (byte ∷ [])) p.snapshots p.acked h)
+    ∙ length-append (waiting p) (further p.input (byte ∷ []))
 
-counts_more : (p : AppState) (byte : ℕ) → length (commands_in (p.delivered ++ byte ∷ [])) ≡ length (commands_in p.delivered) + length (further p.delivered (byte ∷ []))
+counts_more : (p : AppState) (byte : ℕ) → length (commands_in (p.input ++ byte ∷ [])) ≡ length (commands_in p.input) + length (further p.input (byte ∷ []))
 counts_more p byte =
-    ap (λ (cs : List Command). length cs) (commands_grow p.delivered (byte ∷ [])) ∙ length-append (commands_in p.delivered) (further p.delivered (byte ∷ []))
+    ap (λ (cs : List Command). length cs) (commands_grow p.input (byte ∷ [])) ∙ length-append (commands_in p.input) (further p.input (byte ∷ []))
 
 too_many : (p : AppState) (byte : ℕ) → p.acked ≤ length (session p) → length (waiting p) ≤ 32
     → nat_lt 32 (length (waiting (with_byte p byte))) ≡ (completes p byte && (length (waiting p) == 32))
 too_many p byte h room =
     let more = waits_more p byte h in
     let count = counts_more p byte in
-    let one = one_comes p.delivered byte in
+    let one = one_comes p.input byte in
     same_tests (nat_lt 32 (length (waiting (with_byte p byte)))) (completes p byte && (length (waiting p) == 32))
     (λ e. let many = ltb-true 32 (length (waiting (with_byte p byte))) e in
     and_from (completes p byte) (length (waiting p) == 32)
-    (lt-ltb (length (commands_in p.delivered)) (length (commands_in (p.delivered ++ byte ∷ []))) (omega (arith, more, count, room, many)))
+    (lt-ltb (length (commands_in p.input)) (length (commands_in (p.input ++ byte ∷ []))) (omega (arith, more, count, room, many)))
     (eq-eqb (length (waiting p)) 32 (omega (arith, more, one, room, many))))
     (λ e. let both = and_parts (completes p byte) (length (waiting p) == 32) e in
-    let comes = ltb-true (length (commands_in p.delivered)) (length (commands_in (p.delivered ++ byte ∷ []))) both.0 in
+    let comes = ltb-true (length (commands_in p.input)) (length (commands_in (p.input ++ byte ∷ []))) both.0 in
     let full = eqb-true (length (waiting p)) 32 both.1 in
     lt-ltb 32 (length (waiting (with_byte p byte))) (omega (arith, more, count, comes, full)))
 

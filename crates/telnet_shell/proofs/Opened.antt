@@ -2,7 +2,7 @@
 use Rattle.telnet_shell.proofs.Prelude.{◌≡◌, ℕ, ◌+◌, ◌≤◌, ◌<◌, Bool, true, false, List, [], ◌∷◌, ◌++◌, length, refl, sym, ap, subst, ◌∙◌, arith, length-drop, length-append, if◌then◌else◌, ∥∥₁_elim, le_prop, AppState, text_left, CanSay, IsRepresented, Capture, Empty, Command, Shell, said_with, transcript, IsTrailing, IsLeading, left_said, prefix_size, stops_at, shell_spec, ShellRepresents, fresh_part, left_of_value}
 
 pub opened_after : (q : List Command) (port : ℕ) → q ≡ [] → IsTrailing q Empty 0 (fresh_part port)
-opened_after q port e = record { before = []; spoken = []; prefix = []; commands = sym e; captures = refl; took = refl; acked = refl; shows = refl }
+opened_after q port e = record { before = []; spoken = []; prefix = []; commands = sym e; snapshots = refl; took = refl; acked = refl; shows = refl }
 
 pub opened_place : (q : List Command) → q ≡ [] → IsLeading q Empty 0
 opened_place q e = subst (λ (r : List Command). IsLeading r Empty 0) (sym e) refl
@@ -42,7 +42,7 @@ acked_after q capture at n p b = record {
   spoken = b.spoken;
   prefix = b.prefix;
   commands = b.commands;
-  captures = b.captures;
+  snapshots = b.snapshots;
   took = b.took;
   acked = (let e = b.acked in omega (arith, e));
   shows = b.shows;

@@ -91,17 +91,17 @@ prefix_bytes [] rest h = All-nil IsByte
 prefix_bytes (x ∷ prefix) rest h =
     All-cons IsByte x prefix (All-head IsByte x (prefix ++ rest) h) (prefix_bytes prefix rest (All-tail IsByte x (prefix ++ rest) h))
 
-heard_bytes : (p q : AppState) (piece : List ℕ) → DeliversPrefix p q piece → All IsByte p.delivered → All IsByte piece → All IsByte q.delivered
+heard_bytes : (p q : AppState) (piece : List ℕ) → DeliversPrefix p q piece → All IsByte p.input → All IsByte piece → All IsByte q.input
 heard_bytes p q piece f h are =
-    subst (λ (l : List ℕ). All IsByte l) (sym f.delivered)
-    (All-append IsByte p.delivered f.prefix h (prefix_bytes f.prefix f.rest (subst (λ (l : List ℕ). All IsByte l) (sym f.joined) are)))
+    subst (λ (l : List ℕ). All IsByte l) (sym f.input)
+    (All-append IsByte p.input f.prefix h (prefix_bytes f.prefix f.rest (subst (λ (l : List ℕ). All IsByte l) (sym f.joined) are)))
 
 pub shell_bytes : SendsBytes shell_spec
 shell_bytes = record {
-  output = λ p h k. transcript_bytes (commands_in p.delivered) p.captures (until_bytes (all_commands p.delivered) (commands_bytes [] (tokens Text p.delivered) (tokens_bytes Text p.delivered h)));
+  output = λ p h k. transcript_bytes (commands_in p.input) p.snapshots (until_bytes (all_commands p.input) (commands_bytes [] (tokens Text p.input) (tokens_bytes Text p.input h)));
   connected = λ numbers port. All-nil IsByte;
   newdata = λ numbers p piece h are. heard_bytes p (shell_spec.newdata numbers p piece).part piece (keeps_session.hears numbers p piece) h are;
-  prepare = λ numbers p now h. choose (λ (q : AppState). All IsByte q.delivered) (is_stopped p) (take_capture numbers p now) p (λ e. h) (λ e. h);
+  prepare = λ numbers p now h. choose (λ (q : AppState). All IsByte q.input) (is_stopped p) (take_capture numbers p now) p (λ e. h) (λ e. h);
   acked = λ numbers p n h. h;
   polled = λ numbers p h. h;
 }

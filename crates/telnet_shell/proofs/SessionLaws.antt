@@ -2,9 +2,9 @@
 use Rattle.telnet_shell.proofs.Prelude.{◌≡◌, ℕ, ◌+◌, ◌-◌, ◌≤◌, ◌==◌, min, Bool, true, false, ◌&&◌, ◌||◌, ◌⊎◌, inl, inr, nat_le, nat_lt, List, [], ◌∷◌, ◌++◌, length, refl, sym, ap, subst, ◌∙◌, arith, append-nil, append_assoc, length-append, if◌then◌else◌, leb-true, le-leb, ltb-true, eqb-true, and_parts, AppState, Snapshot, IsPrefixOf, MayWant, Nothing, Send, Close, Abort, Command, MOST_COMMANDS, Token, tokens, awaits_after, commands, line_after, all_commands, commands_in, has_quit, Text, needs_capture, said_plainly, sent_at, transcript, unfinished, needed, tokens_joined, commands_joined, commands_grow, further, transcript_grows, session, waiting, with_byte, hear_all, session_has_ended, is_settled, left_of_session, sessions, DeliversPrefix, KeepsSession}
 use Rattle.telnet_shell.proofs.Standing.{quit_joins}
 
-pub session_grows : (q more : List ℕ) (k later : List Snapshot) → IsPrefixOf (sessions.text q k) (sessions.text (q ++ more) (k ++ later))
+pub session_grows : (q more : List ℕ) (k later : List Snapshot) → IsPrefixOf (sessions.page q k) (sessions.page (q ++ more) (k ++ later))
 session_grows q more k later =
-    subst (λ (cs : List Command). IsPrefixOf (sessions.text q k) (transcript cs (k ++ later))) (sym (commands_grow q more))
+    subst (λ (cs : List Command). IsPrefixOf (sessions.page q k) (transcript cs (k ++ later))) (sym (commands_grow q more))
     (transcript_grows (commands_in q) (further q more) k later)
 
 -- ---- a whole talk
@@ -34,7 +34,7 @@ enough (c ∷ cs) (k ∷ ks) later h =
     each_said (needs_capture c) (sent_at c k) (said_plainly c) (transcript cs (ks ++ later)) (transcript cs ks) (transcript cs (k ∷ (ks ++ later))) (transcript cs (k ∷ ks)) (needed cs) (length ks)
     (omega (arith, h)) (λ g. enough cs ks later g) (λ g. enough cs (k ∷ ks) later (omega (arith, g)))
 
-whole_stays : (q more : List ℕ) (k later : List Snapshot) → sessions.whole q k ≡ true → sessions.text (q ++ more) (k ++ later) ≡ sessions.text q k
+whole_stays : (q more : List ℕ) (k later : List Snapshot) → sessions.complete q k ≡ true → sessions.page (q ++ more) (k ++ later) ≡ sessions.page q k
 whole_stays q more k later e =
     let both = and_parts (has_quit (all_commands q)) (nat_le (needed (commands_in q)) (length k)) e in
     ap (λ (cs : List Command). transcript cs (k ++ later)) (none_further q more both.0)
@@ -48,8 +48,8 @@ both_true : (a b : Bool) → a ≡ true → b ≡ true → (a && b) ≡ true
 both_true true b e f = f
 both_true false b e f = e
 
-stays_whole : (q more : List ℕ) (k later : List Snapshot) → sessions.whole q k ≡ true → sessions.whole (q ++ more) (k ++ later) ≡ true
-stays_whole q more k later e =
+stays_complete : (q more : List ℕ) (k later : List Snapshot) → sessions.complete q k ≡ true → sessions.complete (q ++ more) (k ++ later) ≡ true
+stays_complete q more k later e =
     let both = and_parts (has_quit (all_commands q)) (nat_le (needed (commands_in q)) (length k)) e in
     let come : List Command = commands (line_after [] (tokens Text q)) (tokens (awaits_after Text q) more) in
     let quits : has_quit (all_commands (q ++ more)) ≡ true =
@@ -63,7 +63,7 @@ stays_whole q more k later e =
 -- ---- receiving
 
 equal_prefix : (p : AppState) → DeliversPrefix p p []
-equal_prefix p = record { prefix = []; rest = []; joined = refl; delivered = sym (append-nil p.delivered); captures = refl; acked = refl; all = inl refl }
+equal_prefix p = record { prefix = []; rest = []; joined = refl; input = sym (append-nil p.input); snapshots = refl; acked = refl; all = inl refl }
 
 lost_hears : (p : AppState) (piece : List ℕ) → p.own ≡ 1 → hear_all p piece ≡ p
 lost_hears p [] e = refl
@@ -76,8 +76,8 @@ lost_prefix p q piece e own = record {
   prefix = [];
   rest = piece;
   joined = refl;
-  delivered = ap (λ (r : AppState). r.delivered) e ∙ sym (append-nil p.delivered);
-  captures = ap (λ (r : AppState). r.captures) e;
+  input = ap (λ (r : AppState). r.input) e ∙ sym (append-nil p.input);
+  snapshots = ap (λ (r : AppState). r.snapshots) e;
   acked = ap (λ (r : AppState). r.acked) e;
   all = inr (ap (λ (r : AppState). r.own) e ∙ own);
 }
@@ -94,8 +94,8 @@ byte_prefix p byte more false true e rest =
       prefix = [];
       rest = byte ∷ more;
       joined = refl;
-      delivered = ap (λ (r : AppState). r.delivered) same ∙ sym (append-nil p.delivered);
-      captures = ap (λ (r : AppState). r.captures) same;
+      input = ap (λ (r : AppState). r.input) same ∙ sym (append-nil p.input);
+      snapshots = ap (λ (r : AppState). r.snapshots) same;
       acked = ap (λ (r : AppState). r.acked) same;
       all = inr (ap (λ (r : AppState). r.own) same);
     }
@@ -105,8 +105,8 @@ byte_prefix p byte more false false e rest =
       prefix = byte ∷ f.prefix;
       rest = f.rest;
       joined = ap (λ (xs : List ℕ). byte ∷ xs) f.joined;
-      delivered = f.delivered ∙ append_assoc p.delivered (byte ∷ []) f.prefix;
-      captures = f.captures;
+      input = f.input ∙ append_assoc p.input (byte ∷ []) f.prefix;
+      snapshots = f.snapshots;
       acked = f.acked;
       all = f.all;
     }
@@ -119,7 +119,7 @@ hears_prefix p (byte ∷ more) =
 unpolled : (p : AppState) (piece : List ℕ) → DeliversPrefix p (hear_all (record p { polls = 0 }) piece) piece
 unpolled p piece =
     let f : DeliversPrefix (record p { polls = 0 }) (hear_all (record p { polls = 0 }) piece) piece = hears_prefix (record p { polls = 0 }) piece in
-    record { prefix = f.prefix; rest = f.rest; joined = f.joined; delivered = f.delivered; captures = f.captures; acked = f.acked; all = f.all }
+    record { prefix = f.prefix; rest = f.rest; joined = f.joined; input = f.input; snapshots = f.snapshots; acked = f.acked; all = f.all }
 
 -- ---- what the shell requests
 
@@ -176,9 +176,9 @@ none_waits (c ∷ cs) e = absurd (let z = eqb-true (length (c ∷ cs)) 0 e in om
 
 may_close : (p : AppState) → p.acked ≤ length (session p) → session_has_ended p ≡ true → MayWant sessions p Close
 may_close p h e =
-    let both = and_parts (has_quit (all_commands p.delivered)) (is_settled p) e in
-    let output : IsSaid (commands_in p.delivered) p.captures p.acked = settled (commands_in p.delivered) p.captures p.acked (none_waits (waiting p) both.1) in (
-      both_true (has_quit (all_commands p.delivered)) (nat_le (needed (commands_in p.delivered)) (length p.captures)) both.0 (le-leb (needed (commands_in p.delivered)) (length p.captures) output.told),
+    let both = and_parts (has_quit (all_commands p.input)) (is_settled p) e in
+    let output : IsSaid (commands_in p.input) p.snapshots p.acked = settled (commands_in p.input) p.snapshots p.acked (none_waits (waiting p) both.1) in (
+      both_true (has_quit (all_commands p.input)) (nat_le (needed (commands_in p.input)) (length p.snapshots)) both.0 (le-leb (needed (commands_in p.input)) (length p.snapshots) output.told),
       omega (arith, h, output.within),
     )
 
@@ -196,11 +196,11 @@ pub keeps_session : KeepsSession
 keeps_session = record {
   grows = session_grows;
   stays = whole_stays;
-  stays_whole = stays_whole;
+  stays_complete = stays_complete;
   output = λ p. refl;
   hears = λ numbers p piece. unpolled p piece;
   wants = λ numbers p h. may_want p ((p.own == 1) || (p.polls == 1200)) (session_has_ended p) h refl;
   aborts = λ numbers p e. ap (λ (n : ℕ). if (n == 1) || (p.polls == 1200) then Abort else if session_has_ended p then Close else if nat_lt 0 (left_of_session p) then Send (min 1460 (left_of_session p)) else Nothing) e;
-  hears_no_more = λ numbers p piece e. ap (λ (r : AppState). r.delivered) (lost_hears (record p { polls = 0 }) piece e);
+  hears_no_more = λ numbers p piece e. ap (λ (r : AppState). r.input) (lost_hears (record p { polls = 0 }) piece e);
   stays_lost = λ numbers p piece e. ap (λ (r : AppState). r.own) (lost_hears (record p { polls = 0 }) piece e) ∙ e;
 }

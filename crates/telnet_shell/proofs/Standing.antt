@@ -51,18 +51,18 @@ quits delivered byte cs e =
 -- after `quit` nothing counts
 pub hear_done : (a : Shell) (p : AppState) (byte : ℕ) → a.lost ≡ false → a.done ≡ true → length a.queue ≤ 32 → ShellRepresents a p → ShellRepresents a (hear_byte p byte)
 hear_done a p byte lost done room s =
-    let over : has_quit (all_commands p.delivered) ≡ true = sym s.done ∙ done in
-    let cs : List Command = commands (line_after [] (tokens Text p.delivered)) (told (awaits_after Text p.delivered) byte) in
-    let none : commands_in (p.delivered ++ byte ∷ []) ≡ commands_in p.delivered ++ [] =
-    counted p.delivered byte (commands (line_after [] (tokens Text p.delivered)) (told (awaits_after Text p.delivered) byte)) refl
-    ∙ ap (λ (b : Bool). commands_in p.delivered ++ (if b then [] else until_quit (commands (line_after [] (tokens Text p.delivered)) (told (awaits_after Text p.delivered) byte)))) over in
+    let over : has_quit (all_commands p.input) ≡ true = sym s.done ∙ done in
+    let cs : List Command = commands (line_after [] (tokens Text p.input)) (told (awaits_after Text p.input) byte) in
+    let none : commands_in (p.input ++ byte ∷ []) ≡ commands_in p.input ++ [] =
+    counted p.input byte (commands (line_after [] (tokens Text p.input)) (told (awaits_after Text p.input) byte)) refl
+    ∙ ap (λ (b : Bool). commands_in p.input ++ (if b then [] else until_quit (commands (line_after [] (tokens Text p.input)) (told (awaits_after Text p.input) byte)))) over in
     let both = come a.queue [] a.capture a.at p byte none s.behind s.place in
     let behind : IsTrailing a.queue a.capture a.at (with_byte p byte) = subst (λ (q : List Command). IsTrailing q a.capture a.at (with_byte p byte)) (append-nil a.queue) both.0 in
     subst (λ (q : AppState). ShellRepresents a q) (sym (hears_it a p byte a.queue lost s (waiting_is a.queue a.capture a.at (with_byte p byte) behind s.place) room)) (record {
       polls = s.polls;
       lost = s.lost;
-      done = done ∙ sym (quits p.delivered byte (commands (line_after [] (tokens Text p.delivered)) (told (awaits_after Text p.delivered) byte)) refl
-          ∙ ap (λ (b : Bool). b || has_quit (commands (line_after [] (tokens Text p.delivered)) (told (awaits_after Text p.delivered) byte))) over);
+      done = done ∙ sym (quits p.input byte (commands (line_after [] (tokens Text p.input)) (told (awaits_after Text p.input) byte)) refl
+          ∙ ap (λ (b : Bool). b || has_quit (commands (line_after [] (tokens Text p.input)) (told (awaits_after Text p.input) byte))) over);
       hears = λ e. elim (true≢false (sym (either a.lost a.done done) ∙ e)) [ ];
       behind = behind;
       place = s.place;
@@ -82,16 +82,16 @@ pub hear_none : (a : Shell) (p : AppState) (byte : ℕ) (kept : List ℕ) (over 
     → ShellRepresents a p → ShellRepresents (record a { line = kept; over = over; iac = iac }) (hear_byte p byte)
 hear_none a p byte kept over iac lost done room goes decodes s =
     let delivered = s.hears (is_open a lost done) in
-    let going : has_quit (all_commands p.delivered) ≡ false = sym s.done ∙ done in
-    let none : commands_in (p.delivered ++ byte ∷ []) ≡ commands_in p.delivered ++ [] =
-    counted p.delivered byte [] (decodes p.delivered delivered) ∙ ap (λ (b : Bool). commands_in p.delivered ++ (if b then [] else [])) going in
+    let going : has_quit (all_commands p.input) ≡ false = sym s.done ∙ done in
+    let none : commands_in (p.input ++ byte ∷ []) ≡ commands_in p.input ++ [] =
+    counted p.input byte [] (decodes p.input delivered) ∙ ap (λ (b : Bool). commands_in p.input ++ (if b then [] else [])) going in
     let both = come a.queue [] a.capture a.at p byte none s.behind s.place in
     let behind : IsTrailing a.queue a.capture a.at (with_byte p byte) = subst (λ (q : List Command). IsTrailing q a.capture a.at (with_byte p byte)) (append-nil a.queue) both.0 in
     subst (λ (q : AppState). ShellRepresents (record a { line = kept; over = over; iac = iac }) q) (sym (hears_it a p byte a.queue lost s (waiting_is a.queue a.capture a.at (with_byte p byte) behind s.place) room)) (record {
       polls = s.polls;
       lost = s.lost;
-      done = done ∙ sym (quits p.delivered byte [] (decodes p.delivered delivered) ∙ ap (λ (b : Bool). b || false) going);
-      hears = λ e. goes p.delivered delivered;
+      done = done ∙ sym (quits p.input byte [] (decodes p.input delivered) ∙ ap (λ (b : Bool). b || false) going);
+      hears = λ e. goes p.input delivered;
       behind = behind;
       place = s.place;
     })
@@ -103,9 +103,9 @@ pub hear_full : (a : Shell) (p : AppState) (byte : ℕ) (c : Command) (kept : Li
     → ShellRepresents a p → ShellRepresents (record a { line = kept; over = over; iac = iac; lost = true }) (hear_byte p byte)
 hear_full a p byte c kept over iac lost done full is count decodes s =
     let delivered = s.hears (is_open a lost done) in
-    let going : has_quit (all_commands p.delivered) ≡ false = sym s.done ∙ done in
-    let one : commands_in (p.delivered ++ byte ∷ []) ≡ commands_in p.delivered ++ until_quit (c ∷ []) =
-    counted p.delivered byte (c ∷ []) (decodes p.delivered delivered) ∙ ap (λ (b : Bool). commands_in p.delivered ++ (if b then [] else until_quit (c ∷ []))) going in
+    let going : has_quit (all_commands p.input) ≡ false = sym s.done ∙ done in
+    let one : commands_in (p.input ++ byte ∷ []) ≡ commands_in p.input ++ until_quit (c ∷ []) =
+    counted p.input byte (c ∷ []) (decodes p.input delivered) ∙ ap (λ (b : Bool). commands_in p.input ++ (if b then [] else until_quit (c ∷ []))) going in
     let both = come a.queue (until_quit (c ∷ [])) a.capture a.at p byte one s.behind s.place in
     let size : length a.queue ≡ 32 = eqb-true (length a.queue) 32 (sym count ∙ is) in
     subst (λ (q : AppState). ShellRepresents (record a { line = kept; over = over; iac = iac; lost = true }) q)
@@ -115,7 +115,7 @@ hear_full a p byte c kept over iac lost done full is count decodes s =
       lost = refl;
       done = s.done;
       hears = λ e. elim (true≢false e) [ ];
-      behind = record { before = s.behind.before; spoken = s.behind.spoken; prefix = s.behind.prefix; commands = s.behind.commands; captures = s.behind.captures; took = s.behind.took; acked = s.behind.acked; shows = s.behind.shows };
+      behind = record { before = s.behind.before; spoken = s.behind.spoken; prefix = s.behind.prefix; commands = s.behind.commands; snapshots = s.behind.snapshots; took = s.behind.took; acked = s.behind.acked; shows = s.behind.shows };
       place = s.place;
     })
 
@@ -128,10 +128,10 @@ pub hear_command : (a : Shell) (p : AppState) (byte : ℕ) (c : Command) (kept :
     → ShellRepresents a p → ShellRepresents (record a { line = kept; over = over; iac = iac; queue = queue; done = quit }) (hear_byte p byte)
 hear_command a p byte c kept over iac queue quit lost done full is count room goes decodes pushed quits_is s =
     let delivered = s.hears (is_open a lost done) in
-    let going : has_quit (all_commands p.delivered) ≡ false = sym s.done ∙ done in
-    let one : commands_in (p.delivered ++ byte ∷ []) ≡ commands_in p.delivered ++ c ∷ [] =
-    counted p.delivered byte (c ∷ []) (decodes p.delivered delivered) ∙ ap (λ (b : Bool). commands_in p.delivered ++ (if b then [] else until_quit (c ∷ []))) going
-    ∙ ap (λ (cs : List Command). commands_in p.delivered ++ c ∷ cs) (nothing_more (is_quit c)) in
+    let going : has_quit (all_commands p.input) ≡ false = sym s.done ∙ done in
+    let one : commands_in (p.input ++ byte ∷ []) ≡ commands_in p.input ++ c ∷ [] =
+    counted p.input byte (c ∷ []) (decodes p.input delivered) ∙ ap (λ (b : Bool). commands_in p.input ++ (if b then [] else until_quit (c ∷ []))) going
+    ∙ ap (λ (cs : List Command). commands_in p.input ++ c ∷ cs) (nothing_more (is_quit c)) in
     let both = come a.queue (c ∷ []) a.capture a.at p byte one s.behind s.place in
     let behind : IsTrailing queue a.capture a.at (with_byte p byte) = subst (λ (q : List Command). IsTrailing q a.capture a.at (with_byte p byte)) (sym pushed) both.0 in
     let place : IsLeading queue a.capture a.at = subst (λ (q : List Command). IsLeading q a.capture a.at) (sym pushed) both.1 in
@@ -142,8 +142,8 @@ hear_command a p byte c kept over iac queue quit lost done full is count room go
     (sym (hears_it a p byte queue lost s (waiting_is queue a.capture a.at (with_byte p byte) behind place) size)) (record {
       polls = s.polls;
       lost = s.lost;
-      done = quits_is ∙ sym (quits p.delivered byte (c ∷ []) (decodes p.delivered delivered) ∙ ap (λ (b : Bool). b || has_quit (c ∷ [])) going ∙ only (is_quit c));
-      hears = λ e. goes p.delivered delivered;
+      done = quits_is ∙ sym (quits p.input byte (c ∷ []) (decodes p.input delivered) ∙ ap (λ (b : Bool). b || has_quit (c ∷ [])) going ∙ only (is_quit c));
+      hears = λ e. goes p.input delivered;
       behind = behind;
       place = place;
     })

@@ -24,17 +24,17 @@ is_given_up p = (p.own == 1) || (p.polls == 1200)
 abbrev pub exact_want : AppState → Want
 exact_want p =
     if is_given_up p then Abort
-    else if sessions.whole p.delivered p.captures && all_acknowledged p then Close
+    else if sessions.complete p.input p.snapshots && all_acknowledged p then Close
     else if nat_lt p.acked (length (session p)) then Send (min 1460 (length (session p) - p.acked))
     else Nothing
 
 -- The whole output is acknowledged, and more commands need a snapshot than were captured: the next command has none.
 abbrev pub capture_comes_next : AppState → Bool
-capture_comes_next p = all_acknowledged p && nat_lt (length p.captures) (needed (commands_in p.delivered))
+capture_comes_next p = all_acknowledged p && nat_lt (length p.snapshots) (needed (commands_in p.input))
 
 -- This byte completes a command.
 abbrev pub completes : AppState → ℕ → Bool
-completes p byte = nat_lt (length (commands_in p.delivered)) (length (commands_in (p.delivered ++ byte ∷ [])))
+completes p byte = nat_lt (length (commands_in p.input)) (length (commands_in (p.input ++ byte ∷ [])))
 
 -- For every state in which no more is acknowledged than was sent.
 pub record IsExact : Type 0 where

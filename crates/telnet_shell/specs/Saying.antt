@@ -58,8 +58,8 @@ pub record IsTrailing (queue : List Command) (capture : Capture) (at : ℕ) (par
   pub before : List Command
   pub spoken : List Snapshot
   pub prefix : List Snapshot
-  pub commands : commands_in part.delivered ≡ before ++ queue
-  pub captures : part.captures ≡ spoken ++ prefix
+  pub commands : commands_in part.input ≡ before ++ queue
+  pub snapshots : part.snapshots ≡ spoken ++ prefix
   pub took : length spoken ≡ needed before
   pub acked : part.acked ≡ length (transcript before spoken) + at
   pub shows : Shows queue capture prefix

@@ -13,14 +13,14 @@ use Rattle.telnet_shell.specs.Transcript.{transcript, unfinished}
 
 -- the output so far
 abbrev pub session : AppState → List ℕ
-session part = transcript (commands_in part.delivered) part.captures
+session part = transcript (commands_in part.input) part.snapshots
 
 -- the commands that are not wholly acknowledged
 abbrev pub waiting : AppState → List Command
-waiting part = unfinished (commands_in part.delivered) part.captures part.acked
+waiting part = unfinished (commands_in part.input) part.snapshots part.acked
 
 abbrev pub with_byte : AppState → ℕ → AppState
-with_byte part byte = record part { delivered = part.delivered ++ byte ∷ [] }
+with_byte part byte = record part { input = part.input ++ byte ∷ [] }
 
 -- A byte is delivered, except one that would complete a command too many: it is ignored, and so is every later byte.
 abbrev pub hear_byte : AppState → ℕ → AppState
@@ -43,7 +43,7 @@ is_stopped part = part.acked == length (session part) && not (is_settled part)
 
 -- The output includes that of `quit`, and all of it is acknowledged.
 abbrev pub session_has_ended : AppState → Bool
-session_has_ended part = has_quit (all_commands part.delivered) && is_settled part
+session_has_ended part = has_quit (all_commands part.input) && is_settled part
 
 abbrev pub left_of_session : AppState → ℕ
 left_of_session part = length (session part) - part.acked
@@ -56,13 +56,13 @@ shell_want part =
     else Nothing
 
 abbrev pub take_capture : List ℕ → AppState → Now → AppState
-take_capture numbers part now = record part { captures = part.captures ++ record { numbers = numbers; now = now } ∷ [] }
+take_capture numbers part now = record part { snapshots = part.snapshots ++ record { numbers = numbers; now = now } ∷ [] }
 
 abbrev pub shell_spec : AppSpec
 shell_spec = record {
   output = session;
   connected = λ numbers port. record {
-    part = record { port = port; delivered = []; captures = []; acked = 0; polls = 0; own = 0 };
+    part = record { port = port; input = []; snapshots = []; acked = 0; polls = 0; own = 0 };
     numbers = numbers;
   };
   newdata = λ numbers part piece. record { part = hear_all (record part { polls = 0 }) piece; numbers = numbers };

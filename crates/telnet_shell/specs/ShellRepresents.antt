@@ -7,12 +7,12 @@ use Rattle.telnet_shell.specs.Hearing.{IsOpen}
 use Rattle.telnet_shell.specs.Saying.{IsTrailing, IsLeading}
 
 abbrev pub fresh_part : ℕ → AppState
-fresh_part port = record { port = port; delivered = []; captures = []; acked = 0; polls = 0; own = 0 }
+fresh_part port = record { port = port; input = []; snapshots = []; acked = 0; polls = 0; own = 0 }
 
 pub record ShellRepresents (a : Shell) (p : AppState) : Type 0 where
   pub polls : a.polls ≡ p.polls
   pub lost : p.own ≡ (if a.lost then 1 else 0)
-  pub done : a.done ≡ has_quit (all_commands p.delivered)
-  pub hears : (a.lost || a.done) ≡ false → IsOpen a.line a.over a.iac p.delivered
+  pub done : a.done ≡ has_quit (all_commands p.input)
+  pub hears : (a.lost || a.done) ≡ false → IsOpen a.line a.over a.iac p.input
   pub behind : IsTrailing a.queue a.capture a.at p
   pub place : IsLeading a.queue a.capture a.at

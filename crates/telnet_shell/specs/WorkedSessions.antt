@@ -41,7 +41,7 @@ pub record AreWorkedSessions : Type 0 where
   pub ticks : session (after_preparing (codes "ticks\r\n")) ≡ codes "         0\r\n> "
   pub ticks_before : session (after_hearing (codes "ticks\r\n")) ≡ []
   pub ticks_length : length (session (after_preparing (codes "ticks\r\n"))) ≡ 14
-  pub ticks_once : (shell_spec.prepare [] (after_preparing (codes "ticks\r\n")) (at_tick 7).now).captures ≡ at_tick 0 ∷ []
+  pub ticks_once : (shell_spec.prepare [] (after_preparing (codes "ticks\r\n")) (at_tick 7).now).snapshots ≡ at_tick 0 ∷ []
   pub two_ticks : transcript (Ticks ∷ Ticks ∷ []) (at_tick 0 ∷ at_tick 7 ∷ []) ≡ codes "         0\r\n>          7\r\n> "
   -- an option is refused, and `quit` closes once its text is acknowledged
   pub quit : session (after_hearing offer_and_quit) ≡ IAC ∷ DONT ∷ 1 ∷ codes "bye\r\n"

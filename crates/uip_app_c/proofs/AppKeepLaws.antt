@@ -284,9 +284,9 @@ module _ (own : Addr) (mac : Mac) (network : Network) where
         has = subst (λ (x : AbstractNode). HasWrittenText (connection_in slot x) (if is_accepted (connection_in slot x).state then [] else before ++ text_in_call slot (Writes at taken text last))) same
             (both_ways (at == slot)
             (λ e. (let here : at ≡ slot = eqb-true at slot e in
-            let grows : messages_text (connection_in slot m).part.captures ≡ messages_text (connection_in slot n).part.captures ++ (if at == slot then text else []) =
-            subst (λ (k : ℕ). messages_text (connection_in k m).part.captures ≡ messages_text (connection_in k n).part.captures ++ text) here left.here
-            ∙ ap (λ (b : Bool). messages_text (connection_in slot n).part.captures ++ (if b then text else [])) (sym e) in
+            let grows : messages_text (connection_in slot m).part.snapshots ≡ messages_text (connection_in slot n).part.snapshots ++ (if at == slot then text else []) =
+            subst (λ (k : ℕ). messages_text (connection_in k m).part.snapshots ≡ messages_text (connection_in k n).part.snapshots ++ text) here left.here
+            ∙ ap (λ (b : Bool). messages_text (connection_in slot n).part.snapshots ++ (if b then text else [])) (sym e) in
             text_grows (connection_in slot n) (connection_in slot m) before (text_in_call slot (Writes at taken text last)) grows
             (subst (λ (k : ℕ). (connection_in k m).state ≡ SynRcvd → ⊥) here left.established) h))
             (λ e. (let there : slot ≡ at → ⊥ = λ f. false≢true (sym e ∙ eq-eqb at slot (sym f)) in

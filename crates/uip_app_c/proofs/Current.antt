@@ -199,15 +199,15 @@ in_slot (c ∷ cs) (suc slot) live = in_slot cs slot live
 sent_by : (served : ℕ → Bool) (c : Connection) (exchanges incarnation before : List Exchange) → exchanges ≡ incarnation ++ before → is_incarnation incarnation ≡ true → is_live c.state ≡ true
     → Current served c.sockets c incarnation → SendsMessages c exchanges
 sent_by served c exchanges incarnation before split is live v =
-    let captures : (v.conforms.account 0).captures ≡ c.part.captures = ap (λ (a : Account). a.captures) v.newest ∙ sym (v.good.live live).captures_are in
+    let captures : (v.conforms.account 0).snapshots ≡ c.part.snapshots = ap (λ (a : Account). a.snapshots) v.newest ∙ sym (v.good.live live).captures_are in
     record {
       incarnation = incarnation;
       before = before;
       split = split;
       is = is;
       conforms = v.conforms;
-      captures = captures;
-      prefix = subst (λ (ks : List Snapshot). IsPrefixOf (v.conforms.account 0).sent (messages_text ks)) captures (v.conforms.conforms 0 (some_text incarnation is)).0.2.prefix;
+      snapshots = captures;
+      prefix = subst (λ (ks : List Snapshot). IsPrefixOf (v.conforms.account 0).stream (messages_text ks)) captures (v.conforms.conforms 0 (some_text incarnation is)).0.2.prefix;
     }
 
 -- the connection in a slot after steps

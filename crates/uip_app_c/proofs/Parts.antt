@@ -18,9 +18,9 @@ use Rattle.own_app.specs.Prelude.{next_ticket, own_spec}
 
 -- The ticket and the captures stay; or the connection opens, with the next ticket.
 pub data OutParts (c : Connection) (numbers : List ℕ) (o : Outcome) : Type 0 where
-  same : o.connection.part.own ≡ c.part.own → o.connection.part.captures ≡ c.part.captures → o.numbers ≡ numbers → (is_open o.connection.state ≡ true → is_open c.state ≡ true)
+  same : o.connection.part.own ≡ c.part.own → o.connection.part.snapshots ≡ c.part.snapshots → o.numbers ≡ numbers → (is_open o.connection.state ≡ true → is_open c.state ≡ true)
       → (is_ask o.step ≡ true → is_open c.state ≡ true) → (o.connection.state ≡ SynRcvd → c.state ≡ SynRcvd) → OutParts c numbers o
-  opened : c.state ≡ SynRcvd → o.connection.state ≡ Established → o.connection.part.own ≡ next_ticket numbers → o.connection.part.captures ≡ [] → o.numbers ≡ next_ticket numbers ∷ drop 1 numbers
+  opened : c.state ≡ SynRcvd → o.connection.state ≡ Established → o.connection.part.own ≡ next_ticket numbers → o.connection.part.snapshots ≡ [] → o.numbers ≡ next_ticket numbers ∷ drop 1 numbers
       → OutParts c numbers o
 
 told_same : (how : Ending) (st : State) (p : AppState) (numbers : List ℕ) → told_end own_spec how st p numbers ≡ numbers
@@ -36,27 +36,27 @@ told_same how LastAck p numbers = refl
 
 record Heard (numbers : List ℕ) (p : AppState) (piece : List ℕ) : Type 0 where
   own : (hears own_spec numbers p piece).part.own ≡ p.own
-  captures : (hears own_spec numbers p piece).part.captures ≡ p.captures
+  snapshots : (hears own_spec numbers p piece).part.snapshots ≡ p.snapshots
   numbers_are : (hears own_spec numbers p piece).numbers ≡ numbers
 
 heard : (numbers : List ℕ) (p : AppState) (piece : List ℕ) → Heard numbers p piece
-heard numbers p [] = record { own = refl; captures = refl; numbers_are = refl }
-heard numbers p (x ∷ xs) = record { own = refl; captures = refl; numbers_are = refl }
+heard numbers p [] = record { own = refl; snapshots = refl; numbers_are = refl }
+heard numbers p (x ∷ xs) = record { own = refl; snapshots = refl; numbers_are = refl }
 
-established_parts : (acked : Bool) (c b : Connection) (numbers : List ℕ) (s : PlainSegment) → b.state ≡ c.state → b.part.own ≡ c.part.own → b.part.captures ≡ c.part.captures → is_open c.state ≡ true
+established_parts : (acked : Bool) (c b : Connection) (numbers : List ℕ) (s : PlainSegment) → b.state ≡ c.state → b.part.own ≡ c.part.own → b.part.snapshots ≡ c.part.snapshots → is_open c.state ≡ true
     → OutParts c numbers (in_established own_spec acked b numbers s)
 unfolding in_established peer_closes stays_established
 established_parts acked c b numbers s state own captures opens =
     let x = heard numbers b.part s.text in
     choose (λ (o : Outcome). OutParts c numbers o) (has_fin s.flags) _ _
     (λ e. choose (λ (o : Outcome). OutParts c numbers o) (nat_lt 0 b.len) _ _
-    (λ f. same (x.own ∙ own) (x.captures ∙ captures) x.numbers_are (λ z. opens) (λ z. opens) (λ z. absurd (cc)))
-    (λ f. same (x.own ∙ own) (x.captures ∙ captures) x.numbers_are (λ z. opens) (λ z. opens) (λ z. absurd (cc))))
+    (λ f. same (x.own ∙ own) (x.snapshots ∙ captures) x.numbers_are (λ z. opens) (λ z. opens) (λ z. absurd (cc)))
+    (λ f. same (x.own ∙ own) (x.snapshots ∙ captures) x.numbers_are (λ z. opens) (λ z. opens) (λ z. absurd (cc))))
     (λ e. choose (λ (o : Outcome). OutParts c numbers o) (not acked && not (has_text s)) _ _
-    (λ f. same (x.own ∙ own) (x.captures ∙ captures) x.numbers_are (λ z. opens) (λ z. opens) (λ z. sym state ∙ z))
+    (λ f. same (x.own ∙ own) (x.snapshots ∙ captures) x.numbers_are (λ z. opens) (λ z. opens) (λ z. sym state ∙ z))
     (λ f. choose (λ (o : Outcome). OutParts c numbers o) (nat_lt 0 b.len) _ _
-    (λ g. same (x.own ∙ own) (x.captures ∙ captures) x.numbers_are (λ z. opens) (λ z. opens) (λ z. sym state ∙ z))
-    (λ g. same (x.own ∙ own) (x.captures ∙ captures) x.numbers_are (λ z. opens) (λ z. opens) (λ z. sym state ∙ z))))
+    (λ g. same (x.own ∙ own) (x.snapshots ∙ captures) x.numbers_are (λ z. opens) (λ z. opens) (λ z. sym state ∙ z))
+    (λ g. same (x.own ∙ own) (x.snapshots ∙ captures) x.numbers_are (λ z. opens) (λ z. opens) (λ z. sym state ∙ z))))
 
 by_state_parts : (st : State) (acked : Bool) (c : Connection) (numbers : List ℕ) (s : PlainSegment) → c.state ≡ st → OutParts c numbers (by_state own_spec st acked c numbers s)
 unfolding fin_acked fin_waits
@@ -64,7 +64,7 @@ by_state_parts Closed acked c numbers s q = same refl refl refl (λ z. z) (λ z.
 by_state_parts SynRcvd true c numbers s q =
     let start = own_spec.connected numbers c.sockets.own_port.0 in
     let x = heard start.numbers start.part s.text in
-    opened q refl x.own x.captures x.numbers_are
+    opened q refl x.own x.snapshots x.numbers_are
 by_state_parts SynRcvd false c numbers s q = same refl refl refl (λ z. z) (λ z. absurd (cc)) (λ z. z)
 by_state_parts Established true c numbers s q =
     established_parts true c (with_part (own_spec.acked numbers c.part c.len).part (rests c)) numbers s refl refl refl (ap (λ (v : State). is_open v) q)

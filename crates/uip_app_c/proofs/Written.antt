@@ -29,7 +29,7 @@ use Rattle.uip_app_c.proofs.Tickets.{prepared_own}
 
 -- an open connection cannot capture the message
 abbrev IsSpent : PlainMessage → Connection → Type 0
-IsSpent message c = is_open c.state ≡ true → message.to ≡ c.part.own → message.number ≡ length c.part.captures % 4294967296 → ⊥
+IsSpent message c = is_open c.state ≡ true → message.to ≡ c.part.own → message.number ≡ length c.part.snapshots % 4294967296 → ⊥
 
 -- open connections have different tickets
 abbrev AreApart : List Connection → Type 0
@@ -87,22 +87,22 @@ same_message ticket (a ∷ b ∷ c ∷ d ∷ e ∷ text) = refl
 
 -- ---- an event captures nothing
 
-prepared_none : (numbers : List ℕ) (p : AppState) (now : Now) → ((message_in numbers).to ≡ p.own → (message_in numbers).number ≡ length p.captures % 4294967296 → ⊥)
-    → (own_spec.prepare numbers p now).captures ≡ p.captures
+prepared_none : (numbers : List ℕ) (p : AppState) (now : Now) → ((message_in numbers).to ≡ p.own → (message_in numbers).number ≡ length p.snapshots % 4294967296 → ⊥)
+    → (own_spec.prepare numbers p now).snapshots ≡ p.snapshots
 prepared_none numbers p now spent =
-    elim (is_next_message (message_in numbers) p) as (λ b. is_next_message (message_in numbers) p ≡ b → (if b then with_message numbers p now else p).captures ≡ p.captures) [
+    elim (is_next_message (message_in numbers) p) as (λ b. is_next_message (message_in numbers) p ≡ b → (if b then with_message numbers p now else p).snapshots ≡ p.snapshots) [
       | true ↦ λ e. (let first = and_parts _ _ (and_parts _ _ (and_parts _ _ (and_parts _ _ (and_parts _ _ e).0).0).0).0 in
-          absurd (spent (eqb-true (message_in numbers).to p.own first.0) (eqb-true (message_in numbers).number (length p.captures % 4294967296) first.1)))
+          absurd (spent (eqb-true (message_in numbers).to p.own first.0) (eqb-true (message_in numbers).number (length p.snapshots % 4294967296) first.1)))
       | false ↦ λ e. refl
     ] refl
 
 asked_none : (o result : Outcome) → AskedPart o result
-    → (is_ask o.step ≡ true → (message_in o.numbers).to ≡ o.connection.part.own → (message_in o.numbers).number ≡ length o.connection.part.captures % 4294967296 → ⊥)
-    → result.connection.part.captures ≡ o.connection.part.captures
+    → (is_ask o.step ≡ true → (message_in o.numbers).to ≡ o.connection.part.own → (message_in o.numbers).number ≡ length o.connection.part.snapshots % 4294967296 → ⊥)
+    → result.connection.part.snapshots ≡ o.connection.part.snapshots
 asked_none o result h spent =
     elim h.part [
-      | inl e ↦ ap (λ (p : AppState). p.captures) e
-      | inr e ↦ ap (λ (p : AppState). p.captures) e.1.1 ∙ prepared_none o.numbers o.connection.part e.1.0 (spent e.0)
+      | inl e ↦ ap (λ (p : AppState). p.snapshots) e
+      | inr e ↦ ap (λ (p : AppState). p.snapshots) e.1.1 ∙ prepared_none o.numbers o.connection.part e.1.0 (spent e.0)
     ]
 
 asked_own : (o result : Outcome) → AskedPart o result → result.connection.part.own ≡ o.connection.part.own
@@ -114,9 +114,9 @@ asked_own o result h =
 
 -- The connection in a slot after an event has the captures of before; or it begins, without captures.
 pub data SlotAfter (c d : Connection) : Type 0 where
-  goes_on : d.part.captures ≡ c.part.captures → (d.state ≡ SynRcvd → c.state ≡ SynRcvd) → SlotAfter c d
-  opens : c.state ≡ SynRcvd → (d.state ≡ SynRcvd → ⊥) → d.part.captures ≡ [] → SlotAfter c d
-  begins : d.state ≡ SynRcvd → d.part.captures ≡ [] → SlotAfter c d
+  goes_on : d.part.snapshots ≡ c.part.snapshots → (d.state ≡ SynRcvd → c.state ≡ SynRcvd) → SlotAfter c d
+  opens : c.state ≡ SynRcvd → (d.state ≡ SynRcvd → ⊥) → d.part.snapshots ≡ [] → SlotAfter c d
+  begins : d.state ≡ SynRcvd → d.part.snapshots ≡ [] → SlotAfter c d
 
 pub record EventLeaves (n m : AbstractNode) (count : ℕ) : Type 0 where
   pub settled : IsSettled m count
@@ -132,7 +132,7 @@ still_leaves n m count cs ns g = record {
     spent = subst (λ (l : List Connection). InEach (IsSpent (message_in m.numbers)) l) (sym cs) (subst (λ (l : List ℕ). InEach (IsSpent (message_in l)) n.connections) (sym ns) g.spent);
   };
   slots = λ slot. (let e : connection_in slot m ≡ connection_in slot n = ap (λ (l : List Connection). slice_index_or l slot closed) cs in
-      goes_on (ap (λ (c : Connection). c.part.captures) e) (λ z. ap (λ (c : Connection). c.state) (sym e) ∙ z));
+      goes_on (ap (λ (c : Connection). c.part.snapshots) e) (λ z. ap (λ (c : Connection). c.state) (sym e) ∙ z));
 }
 
 -- a slot gets a new connection, and the others stay
@@ -145,11 +145,11 @@ module _ (n m : AbstractNode) (count slot : ℕ) (d : Connection) (cs : m.connec
             subst (λ (x : Connection). SlotAfter (connection_in at n) x) (sym f) (subst (λ (k : ℕ). SlotAfter (connection_in k n) d) (sym e) here))
         | old_at h v ↦
             (let f : connection_in at m ≡ connection_in at n = ap (λ (l : List Connection). slice_index_or l at closed) cs ∙ v in
-            goes_on (ap (λ (c : Connection). c.part.captures) f) (λ z. ap (λ (c : Connection). c.state) (sym f) ∙ z))
+            goes_on (ap (λ (c : Connection). c.part.snapshots) f) (λ z. ap (λ (c : Connection). c.state) (sym f) ∙ z))
       ]
 
   -- with its ticket, and no capture more
-  settled_same : m.numbers ≡ n.numbers → d.part.own ≡ (connection_in slot n).part.own → d.part.captures ≡ (connection_in slot n).part.captures
+  settled_same : m.numbers ≡ n.numbers → d.part.own ≡ (connection_in slot n).part.own → d.part.snapshots ≡ (connection_in slot n).part.snapshots
       → (is_open d.state ≡ true → is_open (connection_in slot n).state ≡ true) → IsSettled m (count + 1)
   settled_same ns own captures opened_before = record {
     few = (let few = g.few in omega (arith, few, ap (λ (l : List ℕ). opened_in l) ns));
@@ -212,7 +212,7 @@ moves_leaves n m count slot low it g =
     elim it.parts [
       | same own captures numbers_are opens_before asks syn ↦
           (let numbers : m.numbers ≡ n.numbers = it.numbers ∙ it.asked.numbers ∙ numbers_are in
-          let none : d.part.captures ≡ it.o.connection.part.captures =
+          let none : d.part.snapshots ≡ it.o.connection.part.snapshots =
           asked_none it.o it.result it.asked (λ a to number.
           g.spent slot (asks a) (sym (ap (λ (l : List ℕ). (message_in l).to) numbers_are) ∙ to ∙ own)
           (sym (ap (λ (l : List ℕ). (message_in l).number) numbers_are) ∙ number ∙ ap (λ (l : List Snapshot). length l % 4294967296) captures)) in
@@ -225,7 +225,7 @@ moves_leaves n m count slot low it g =
           let newest = g.newest in
           let next : next_ticket n.numbers ≡ opened_in n.numbers + 1 = omega (arith, few, low) in
           let message : message_in it.o.numbers ≡ message_in n.numbers = ap (λ (l : List ℕ). message_in l) numbers_are ∙ same_message (next_ticket n.numbers) n.numbers in
-          let none : d.part.captures ≡ it.o.connection.part.captures =
+          let none : d.part.snapshots ≡ it.o.connection.part.snapshots =
           asked_none it.o it.result it.asked (λ a to number. omega (arith, newest, to, own, next, ap (λ (x : PlainMessage). x.to) message)) in
           record {
             settled = settled_opened n m count slot d it.connections g low (it.numbers ∙ it.asked.numbers ∙ numbers_are) (asked_own it.o it.result it.asked ∙ own);
@@ -248,7 +248,7 @@ event_leaves n m count low does g =
 
 pub record WriteLeaves (n m : AbstractNode) (count slot : ℕ) (text : List ℕ) : Type 0 where
   pub settled : IsSettled m count
-  pub here : messages_text (connection_in slot m).part.captures ≡ messages_text (connection_in slot n).part.captures ++ text
+  pub here : messages_text (connection_in slot m).part.snapshots ≡ messages_text (connection_in slot n).part.snapshots ++ text
   pub established : (connection_in slot m).state ≡ SynRcvd → ⊥
   pub others : (at : ℕ) → (at ≡ slot → ⊥) → connection_in at m ≡ connection_in at n
 
@@ -285,8 +285,8 @@ write_leaves n count slot taken text last bytes can has g =
             | new_at e v ↦ ap (λ (l : List Connection). slice_index_or l slot closed) it.connections ∙ v
             | old_at h v ↦ absurd (false≢true (subst (λ (x : Connection). is_open x.state ≡ true) (h refl) is_open_now))
           ]) in
-          let more : length d.part.captures ≡ length c.part.captures + 1 =
-          ap (λ (x : Connection). length x.part.captures) (sym placed) ∙ ap (λ (l : List Snapshot). length l) has.captures ∙ length-append c.part.captures (has.capture ∷ []) in
+          let more : length d.part.snapshots ≡ length c.part.snapshots + 1 =
+          ap (λ (x : Connection). length x.part.snapshots) (sym placed) ∙ ap (λ (l : List Snapshot). length l) has.snapshots ∙ length-append c.part.snapshots (has.capture ∷ []) in
           record {
             settled = record {
               few = omega (arith, few, count_is);
@@ -298,7 +298,7 @@ write_leaves n count slot taken text last bytes can has g =
               spent =
                   subst (λ (x : PlainMessage). InEach (IsSpent x) m.connections) (sym newest)
                   (subst (λ (l : List Connection). InEach (IsSpent message) l) (sym it.connections)
-                  (λ j. spent_at n.connections slot d message is_open_now (λ o to number. next_count (length c.part.captures) (number ∙ ap (λ (k : ℕ). k % 4294967296) more))
+                  (λ j. spent_at n.connections slot d message is_open_now (λ o to number. next_count (length c.part.snapshots) (number ∙ ap (λ (k : ℕ). k % 4294967296) more))
                   (λ i ne o to number. g.apart slot i ne is_open_now o to) j));
             };
             here = has.text;
@@ -323,8 +323,8 @@ write_leaves n count slot taken text last bytes can has g =
 
 -- It is what C wrote, and nothing before the connection opens.
 pub record HasWrittenText (c : Connection) (text : List ℕ) : Type 0 where
-  pub text_is : messages_text c.part.captures ≡ text
-  pub none : c.state ≡ SynRcvd → c.part.captures ≡ []
+  pub text_is : messages_text c.part.snapshots ≡ text
+  pub none : c.state ≡ SynRcvd → c.part.snapshots ≡ []
 
 accepted_is : (st : State) → is_accepted st ≡ true → st ≡ SynRcvd
 accepted_is SynRcvd e = refl
@@ -362,7 +362,7 @@ text_stays c d text after h =
     ]
 
 -- after a call that wrote to it
-pub text_grows : (c d : Connection) (text more : List ℕ) → messages_text d.part.captures ≡ messages_text c.part.captures ++ more → (d.state ≡ SynRcvd → ⊥) → HasWrittenText c text
+pub text_grows : (c d : Connection) (text more : List ℕ) → messages_text d.part.snapshots ≡ messages_text c.part.snapshots ++ more → (d.state ≡ SynRcvd → ⊥) → HasWrittenText c text
     → HasWrittenText d (if is_accepted d.state then [] else text ++ more)
 text_grows c d text more grows not_now h = record {
   text_is = grows ∙ ap (λ (l : List ℕ). l ++ more) h.text_is ∙ sym (ap (λ (b : Bool). if b then [] else text ++ more) (not_accepted d.state not_now));
@@ -370,4 +370,4 @@ text_grows c d text more grows not_now h = record {
 }
 
 pub same_slot : (c d : Connection) → d ≡ c → SlotAfter c d
-same_slot c d e = goes_on (ap (λ (x : Connection). x.part.captures) e) (λ z. ap (λ (x : Connection). x.state) (sym e) ∙ z)
+same_slot c d e = goes_on (ap (λ (x : Connection). x.part.snapshots) e) (λ z. ap (λ (x : Connection). x.state) (sym e) ∙ z)

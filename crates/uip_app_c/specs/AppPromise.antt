@@ -64,7 +64,7 @@ text_written own mac network slot (call ∷ calls) s before =
 
 -- ---- what is sent to its peer
 
--- The newest incarnation among these exchanges is that of the connection. It conforms, and the text sent in it is a prefix of the messages
+-- The newest incarnation among these exchanges is that of the connection. It conforms, and the stream of it is a prefix of the messages
 -- that the connection captured.
 pub record SendsMessages (c : Connection) (exchanges : List Exchange) : Type 0 where
   pub incarnation : List Exchange
@@ -72,8 +72,8 @@ pub record SendsMessages (c : Connection) (exchanges : List Exchange) : Type 0 w
   pub split : exchanges ≡ incarnation ++ before
   pub is : is_incarnation incarnation ≡ true
   pub conforms : IncarnationConforms (own_output_model c.sockets.own_port.0) incarnation
-  pub captures : (conforms.account 0).captures ≡ c.part.captures
-  pub prefix : IsPrefixOf (conforms.account 0).sent (messages_text c.part.captures)
+  pub snapshots : (conforms.account 0).snapshots ≡ c.part.snapshots
+  pub prefix : IsPrefixOf (conforms.account 0).stream (messages_text c.part.snapshots)
 
 -- ---- where its frames go
 
@@ -102,7 +102,7 @@ pub record AppTraceConforms (own : Addr) (mac : Mac) (network : Network) (all : 
       (exchanges_with (connection_after own mac network all slot).sockets (flat_map (λ it. it.turns) frames.moves))
   pub captured : CapturesAll own mac network (calls_of all) (first_station own)
   pub written : length all < 4294967296 → (slot : ℕ)
-      → messages_text (connection_after own mac network all slot).part.captures
+      → messages_text (connection_after own mac network all slot).part.snapshots
       ≡ text_written own mac network slot (calls_of all) (first_station own) []
   pub home : length mac.0 ≡ 6 → GoHome own mac network (calls_of all) (first_station own)
 

@@ -25,7 +25,7 @@ module _ {A S : Type 0} (g : Ghosts A S) where
   -- a call that does nothing
   pub answers_nothing : (d : Device A S) → Answers g DoesNothing d d []
   answers_nothing d = record {
-    delivered = λ before h. subst (λ (l : List ℕ). HasDelivered l d) (sym (append-nil before)) h;
+    input = λ before h. subst (λ (l : List ℕ). HasDelivered l d) (sym (append-nil before)) h;
     sends = λ before h. sends_none g (λ own. []) d.node (λ own replies. HandsOut false own (left_text_of d) [] (left_text_of d) replies) (λ own. refl) (λ own. append-nil (left_text_of d));
   }
 
@@ -33,7 +33,7 @@ module _ {A S : Type 0} (g : Ghosts A S) where
   pub answers_on : (d : Device A S) (left : Option ℕ) (handed : List ℕ) → left_text_of d ≡ handed ++ text_to_come (datagram_in d.node.packet) left
       → Answers g Drains d (record d { left = left }) handed
   answers_on d left handed e = record {
-    delivered = λ before h. subst (λ (l : List ℕ). WasFed l d.decoder) (sym (append-nil before)) h;
+    input = λ before h. subst (λ (l : List ℕ). WasFed l d.decoder) (sym (append-nil before)) h;
     sends = λ before h.
         sends_none g (λ own. []) d.node (λ own replies. HandsOut false own (left_text_of d) handed (text_to_come (datagram_in d.node.packet) left) replies)
         (λ own. refl) (λ own. append-nil (left_text_of d) ∙ e);
@@ -44,7 +44,7 @@ module _ {A S : Type 0} (g : Ghosts A S) where
       → ((before : List ℕ) → SendsOver g (events_by before call) old.node new (λ own replies. handed ≡ datagram_sent own replies))
       → Answers g call old (record old { node = new }) handed
   answers_whole call old new handed none whole nothing sends = record {
-    delivered = λ before h. subst (λ (l : List ℕ). WasFed l old.decoder) (sym (ap (λ (l : List ℕ). before ++ l) nothing ∙ append-nil before)) h;
+    input = λ before h. subst (λ (l : List ℕ). WasFed l old.decoder) (sym (ap (λ (l : List ℕ). before ++ l) nothing ∙ append-nil before)) h;
     sends = λ before h.
         subst (λ (b : Bool). SendsOver g (events_by before call) old.node new (λ own replies. HandsOut b own (left_text_of old) handed (left_text_of (record old { node = new })) replies)) (sym whole)
         (by_datagram g (events_by before call) old.node new (left_text_of old) handed (left_text_of (record old { node = new }))
@@ -55,7 +55,7 @@ module _ {A S : Type 0} (g : Ghosts A S) where
     -- one move: the device was fed its bytes, its node takes the steps, and this part of what is sent is written
     pub record MovesOn (before : List ℕ) (move : Move) (a b : Device A S) (handed : List ℕ) (n : AbstractNode) : Type 0 where
       pub kept : g.config b.node.shared ≡ g.config a.node.shared
-      pub delivered : HasDelivered (before ++ bytes_of_move move) b
+      pub input : HasDelivered (before ++ bytes_of_move move) b
       pub stands : IsNode g m own b.node (run_move m g.served gives own before move n).node
       pub hands : HandsOut (goes_by_datagram move) own (left_text_of a) handed (left_text_of b) (run_move m g.served gives own before move n).sent
 
@@ -64,10 +64,10 @@ module _ {A S : Type 0} (g : Ghosts A S) where
     moves_on before (Makes call) a b handed n stands delivered answers =
         let sends = answers.sends before delivered in
         let first = sends.each m own n stands in
-        record { kept = sends.kept; delivered = answers.delivered before delivered; stands = first.0; hands = first.1 }
+        record { kept = sends.kept; input = answers.input before delivered; stands = first.0; hands = first.1 }
     moves_on before (Gives number text) a b handed n stands delivered changes = record {
       kept = changes.0.kept;
-      delivered = subst (λ (l : List ℕ). HasDelivered l b) (sym (append-nil before)) (changes.0.delivered before delivered);
+      input = subst (λ (l : List ℕ). HasDelivered l b) (sym (append-nil before)) (changes.0.input before delivered);
       stands = changes.0.stands m own n stands;
       hands = append-nil (left_text_of a) ∙ sym changes.0.left ∙ ap (λ l. l ++ left_text_of b) (sym changes.1);
     }
@@ -92,7 +92,7 @@ module _ {A S : Type 0} (g : Ghosts A S) where
         let behind = before ++ bytes_of_move it.move in
         let here : AbstractNode = (run_move m g.served gives own before it.move n).node in
         let replies = (run_move m g.served gives own before it.move n).sent in
-        let rest = goes behind all b c here first.stands first.delivered more.2 in
+        let rest = goes behind all b c here first.stands first.input more.2 in
         record {
           line = line_step v own replies (left_text_of a) it.handed (left_text_of b) (line_sent m g.served gives own behind (moves_of all) here) (line_handed all) (left_text_of c) first.hands rest.line;
           datagrams = datagram_step v own replies (left_text_of a) it.handed (left_text_of b) (datagrams_handed all) (datagrams_sent m g.served gives own behind (moves_of all) here) first.hands rest.datagrams;
@@ -102,7 +102,7 @@ module _ {A S : Type 0} (g : Ghosts A S) where
 
   module _ (m : AppSpec) (gives : Writing) (numbers : List ℕ) (own : Addr) (all : List Answered) (old new : Device A S) (fresh : IsFreshDevice g m numbers own old) (answered : AnswersAll g gives all old new) where
     whole : Goes m own gives [] all old new (initial_node own numbers)
-    whole = goes m own gives [] all old new (initial_node own numbers) fresh.stands fresh.delivered answered
+    whole = goes m own gives [] all old new (initial_node own numbers) fresh.stands fresh.input answered
 
     pub line_view : line_handed all ++ left_text_of new ≡ line_sent m g.served gives own [] (moves_of all) (initial_node own numbers)
     line_view = sym whole.line ∙ ap (λ l. l ++ line_sent m g.served gives own [] (moves_of all) (initial_node own numbers)) (none_left old fresh.none)

@@ -40,7 +40,7 @@ CompleteOne bytes d = (before : List ℕ) → HasDelivered before d → length (
 -- this specification.
 pub record IsFreshDevice {A S : Type 0} (g : Ghosts A S) (m : AppSpec) (numbers : List ℕ) (own : Addr) (d : Device A S) : Type 0 where
   pub sound : IsSoundDevice g d
-  pub delivered : HasDelivered [] d
+  pub input : HasDelivered [] d
   pub none : d.left ≡ None
   pub stands : IsNode g m own d.node (initial_node own numbers)
 
@@ -59,7 +59,7 @@ connection_row slot n = row_in slot (rows_from 0 n.connections)
 -- A call returned these bytes. Whatever the device was fed before, it was then fed the bytes of the call too. Its node took the events of
 -- the call. The bytes are from the pending output and from what the node sent (`HandsOut`).
 pub record Answers {A S : Type 0} (g : Ghosts A S) (call : Call) (old new : Device A S) (handed : List ℕ) : Type 0 where
-  pub delivered : (before : List ℕ) → HasDelivered before old → HasDelivered (before ++ bytes_of_call call) new
+  pub input : (before : List ℕ) → HasDelivered before old → HasDelivered (before ++ bytes_of_call call) new
   pub sends : (before : List ℕ) → HasDelivered before old → SendsOver g (events_by before call) old.node new.node
       (λ own replies. HandsOut (is_by_datagram call) own (left_text_of old) handed (left_text_of new) replies)
 
@@ -74,7 +74,7 @@ pub record ChangesNode {A S : Type 0} (g : Ghosts A S) (change : List ℕ → Li
 -- the same node with these counters.
 pub record Changes {A S : Type 0} (g : Ghosts A S) (change : List ℕ → List ℕ) (old new : Device A S) : Type 0 where
   pub kept : g.config new.node.shared ≡ g.config old.node.shared
-  pub delivered : (before : List ℕ) → HasDelivered before old → HasDelivered before new
+  pub input : (before : List ℕ) → HasDelivered before old → HasDelivered before new
   pub left : left_text_of new ≡ left_text_of old
   pub stands : (m : AppSpec) (own : Addr) (n : AbstractNode) → IsNode g m own old.node n → IsNode g m own new.node (with_numbers change n)
 

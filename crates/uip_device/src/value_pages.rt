@@ -30,10 +30,10 @@ fn hear(pages: &mut CompactPages<ValueCapture>, web: &mut FlashWeb, piece: &[u8]
     ensures site { web.new.site ≡ web.old.site }
     ensures part { let stands = CompactRepresent words record_text in
         (p : AppState) → stands pages.old web.old.site p
-        → stands pages.new web.old.site (record p { delivered = p.delivered ++ piece.now; polls = 0 }) }
+        → stands pages.new web.old.site (record p { input = p.input ++ piece.now; polls = 0 }) }
     ensures hits { let stands = CompactRepresent words record_text in
         (p : AppState) → stands pages.old web.old.site p
-        → web.new.hits ≡ hits_by (files_of web.old.site) web.old.hits (wanted p.delivered) (wanted (p.delivered ++ piece.now)) }
+        → web.new.hits ≡ hits_by (files_of web.old.site) web.old.hits (wanted p.input) (wanted (p.input ++ piece.now)) }
 {
     pages.hear(&web.site, &mut web.hits, piece);
 }
@@ -41,9 +41,9 @@ fn hear(pages: &mut CompactPages<ValueCapture>, web: &mut FlashWeb, piece: &[u8]
 /// Returns whether nothing was delivered on the connection.
 fn is_first(pages: &CompactPages<ValueCapture>) -> bool
     ensures first { result ≡ true → (site : SiteContent) (p : AppState) → CompactRepresent words record_text pages.now site p
-        → p.delivered ≡ [] }
+        → p.input ≡ [] }
     ensures later { result ≡ false → (site : SiteContent) (p : AppState) → CompactRepresent words record_text pages.now site p
-        → p.delivered ≡ [] → ⊥ }
+        → p.input ≡ [] → ⊥ }
 {
     match pages {
         CompactPages::Receiving { target, line, .. } => {
@@ -91,7 +91,7 @@ fn keep_for(query: &mut Query, found: Option<FileId>, web: &FlashWeb, request: &
 
 /// Keeps the query of a request that came in one piece, if it brought one.
 fn keep(query: &mut Query, pages: &CompactPages<ValueCapture>, web: &FlashWeb, request: &[u8])
-    ensures { (p : AppState) → CompactRepresent words record_text pages.now web.now.site p → p.delivered ≡ request.now
+    ensures { (p : AppState) → CompactRepresent words record_text pages.now web.now.site p → p.input ≡ request.now
         → query.new ≡ kept_query web.now.hits query.old (place_wanted (files_of web.now.site) (wanted request.now))
         (query_in request.now) }
 {
@@ -109,13 +109,13 @@ fn receive(pages: &mut CompactPages<ValueCapture>, shared: &mut DeviceWeb, piece
     ensures values { shared.new.values.bytes ≡ shared.old.values.bytes }
     ensures part { let stands = CompactRepresent words record_text in
         (p : AppState) → stands pages.old shared.old.web.site p
-        → stands pages.new shared.old.web.site (record p { delivered = p.delivered ++ piece.now; polls = 0 }) }
+        → stands pages.new shared.old.web.site (record p { input = p.input ++ piece.now; polls = 0 }) }
     ensures hits { let stands = CompactRepresent words record_text in
         (p : AppState) → stands pages.old shared.old.web.site p → shared.new.web.hits
-        ≡ hits_by (files_of shared.old.web.site) shared.old.web.hits (wanted p.delivered) (wanted (p.delivered ++ piece.now)) }
+        ≡ hits_by (files_of shared.old.web.site) shared.old.web.hits (wanted p.input) (wanted (p.input ++ piece.now)) }
     ensures query { let stands = CompactRepresent words record_text in
         (p : AppState) → stands pages.old shared.old.web.site p → shared.new.query
-        ≡ query_after (files_of shared.old.web.site) shared.new.web.hits shared.old.query p.delivered piece.now }
+        ≡ query_after (files_of shared.old.web.site) shared.new.web.hits shared.old.query p.input piece.now }
 {
     let first = is_first(pages);
     hear(pages, &mut shared.web, piece);

@@ -6,13 +6,13 @@ use Rattle.uip_node.proofs.Cases.{Unmoved, asked_by, on_tick_by, wanted_unmoved}
 
 -- bytes were delivered to its state
 abbrev pub DeliveredBytes : Connection → Type 0
-DeliveredBytes c = All IsByte c.part.delivered
+DeliveredBytes c = All IsByte c.part.input
 
 module _ (m : AppSpec) (bytes : SendsBytes m) where
   abbrev Out : Outcome → Type 0
   Out o = DeliveredBytes o.connection
 
-  hears_bytes : (numbers : List ℕ) (p : AppState) (piece : List ℕ) → All IsByte p.delivered → All IsByte piece → All IsByte (hears m numbers p piece).part.delivered
+  hears_bytes : (numbers : List ℕ) (p : AppState) (piece : List ℕ) → All IsByte p.input → All IsByte piece → All IsByte (hears m numbers p piece).part.input
   hears_bytes numbers p [] h are = h
   hears_bytes numbers p (x ∷ xs) h are = bytes.newdata numbers p (x ∷ xs) h are
 
@@ -21,7 +21,7 @@ module _ (m : AppSpec) (bytes : SendsBytes m) where
       asked_by m Out at o
       (λ a fresh. (let b : Connection = prepared m (at o.connection) o.connection o.numbers in
       let u : Unmoved b (does_as_wanted (m.want o.numbers b.part) fresh b o.numbers).connection = wanted_unmoved m (m.want o.numbers b.part) fresh b o.numbers in
-      subst (λ (p : AppState). All IsByte p.delivered) (sym u.part) (bytes.prepare o.numbers o.connection.part (at o.connection) h)))
+      subst (λ (p : AppState). All IsByte p.input) (sym u.part) (bytes.prepare o.numbers o.connection.part (at o.connection) h)))
       h
 
   established_bytes : (acked : Bool) (c : Connection) (numbers : List ℕ) (s : PlainSegment) → All IsByte s.text → DeliveredBytes c → Out (in_established m acked c numbers s)
@@ -73,15 +73,15 @@ module _ (m : AppSpec) (bytes : SendsBytes m) where
 
 -- an application with pages of bytes sends bytes
 module _ (m : AppSpec) (pages : Pages) (lawful : IsPaged m pages) where
-  like_heard : (p q : AppState) → q.delivered ≡ p.delivered → All IsByte p.delivered → All IsByte q.delivered
+  like_heard : (p q : AppState) → q.input ≡ p.input → All IsByte p.input → All IsByte q.input
   like_heard p q e h = subst (λ (l : List ℕ). All IsByte l) (sym e) h
 
   pub page_bytes : HasBytes pages → SendsBytes m
   page_bytes bytes = record {
-    output = λ p h k. subst (λ (l : List ℕ). All IsByte l) (sym (lawful.output p)) (bytes p.delivered p.captures h k);
-    connected = λ numbers port. subst (λ (l : List ℕ). All IsByte l) (sym (lawful.connected_delivered numbers port)) (all_nil IsByte);
-    newdata = λ numbers p piece h are. subst (λ (l : List ℕ). All IsByte l) (sym (lawful.newdata_delivered numbers p piece)) (All-append IsByte p.delivered piece h are);
-    prepare = λ numbers p now h. like_heard p (m.prepare numbers p now) (lawful.prepare_delivered numbers p now) h;
-    acked = λ numbers p n h. like_heard p (m.acked numbers p n).part (lawful.acked_delivered numbers p n) h;
-    polled = λ numbers p h. like_heard p (m.polled numbers p).part (lawful.polled_same numbers p).delivered h;
+    output = λ p h k. subst (λ (l : List ℕ). All IsByte l) (sym (lawful.output p)) (bytes p.input p.snapshots h k);
+    connected = λ numbers port. subst (λ (l : List ℕ). All IsByte l) (sym (lawful.connected_input numbers port)) (all_nil IsByte);
+    newdata = λ numbers p piece h are. subst (λ (l : List ℕ). All IsByte l) (sym (lawful.newdata_input numbers p piece)) (All-append IsByte p.input piece h are);
+    prepare = λ numbers p now h. like_heard p (m.prepare numbers p now) (lawful.prepare_input numbers p now) h;
+    acked = λ numbers p n h. like_heard p (m.acked numbers p n).part (lawful.acked_input numbers p n) h;
+    polled = λ numbers p h. like_heard p (m.polled numbers p).part (lawful.polled_same numbers p).input h;
   }

@@ -21,7 +21,7 @@ pub record FitStep (r : NodeStep) : Type 0 where
 pub closed_fits : FitConn closed
 closed_fits = record {
   rest = λ r. absurd (cc);
-  captures = all_nil IsSnapshot;
+  snapshots = all_nil IsSnapshot;
   addr = record { four = refl; all_bytes = all_cons IsByte 0 (0 ∷ 0 ∷ 0 ∷ []) (omega arith) (all_cons IsByte 0 (0 ∷ 0 ∷ []) (omega arith) (all_cons IsByte 0 (0 ∷ []) (omega arith) (all_cons IsByte 0 [] (omega arith) (all_nil IsByte)))) };
   port = omega arith;
 }

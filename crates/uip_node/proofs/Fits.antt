@@ -16,7 +16,7 @@ all_cons P x xs a h (suc k) d l = h k d (omega arith)
 
 pub record FitConn (c : Connection) : Type 0 where
   pub rest : is_resting c.state ≡ true → c.age < 120
-  pub captures : All IsSnapshot c.part.captures
+  pub snapshots : All IsSnapshot c.part.snapshots
   pub addr : IsAddr c.sockets.peer
   pub port : c.sockets.peer_port.0 < 65536
 
@@ -79,17 +79,17 @@ snapshot_fits n event slot c l h f =
     }
 
 module _ (m : AppSpec) (steady : IsSteady m) where
-  fit_like : (c d : Connection) → d.sockets ≡ c.sockets → d.part.captures ≡ c.part.captures → (is_resting d.state ≡ true → d.age < 120) → FitConn c → FitConn d
+  fit_like : (c d : Connection) → d.sockets ≡ c.sockets → d.part.snapshots ≡ c.part.snapshots → (is_resting d.state ≡ true → d.age < 120) → FitConn c → FitConn d
   fit_like c d s k r f = record {
     rest = r;
-    captures = subst (λ l. All IsSnapshot l) (sym k) f.captures;
+    snapshots = subst (λ l. All IsSnapshot l) (sym k) f.snapshots;
     addr = subst (λ (x : Sockets). IsAddr x.peer) (sym s) f.addr;
     port = subst (λ (x : Sockets). x.peer_port.0 < 65536) (sym s) f.port;
   }
 
-  hears_captures : (numbers : List ℕ) (p : AppState) (text : List ℕ) → (hears m numbers p text).part.captures ≡ p.captures
+  hears_captures : (numbers : List ℕ) (p : AppState) (text : List ℕ) → (hears m numbers p text).part.snapshots ≡ p.snapshots
   hears_captures numbers p [] = refl
-  hears_captures numbers p (x ∷ xs) = steady.newdata_captures numbers p (x ∷ xs)
+  hears_captures numbers p (x ∷ xs) = steady.newdata_snapshots numbers p (x ∷ xs)
 
   hears_numbers : (numbers : List ℕ) (p : AppState) (text : List ℕ) → All IsU32 numbers → All IsU32 (hears m numbers p text).numbers
   hears_numbers numbers p [] h = h
@@ -116,29 +116,29 @@ module _ (m : AppSpec) (steady : IsSteady m) where
       choose (λ (x : Outcome). FitOut x) (peer_has_closed c.state) _ _ (λ e. record { conn = closes_fit c f; numbers = n })
       (λ e. choose (λ (x : Outcome). FitOut x) fresh _ _ (λ g. record { conn = f; numbers = n }) (λ g. record { conn = f; numbers = n }))
 
-  pub prepared_captures : (numbers : List ℕ) (p : AppState) (now : Now) → All IsU32 numbers → IsNow now → All IsSnapshot p.captures → All IsSnapshot (m.prepare numbers p now).captures
-  prepared_captures numbers p now n is f =
-      elim (steady.prepare_captures numbers p now) [
+  pub prepared_snapshots : (numbers : List ℕ) (p : AppState) (now : Now) → All IsU32 numbers → IsNow now → All IsSnapshot p.snapshots → All IsSnapshot (m.prepare numbers p now).snapshots
+  prepared_snapshots numbers p now n is f =
+      elim (steady.prepare_snapshots numbers p now) [
         | Rattle.std.proofs.Common.inl e ↦ subst (λ l. All IsSnapshot l) (sym e) f
-        | Rattle.std.proofs.Common.inr e ↦ subst (λ l. All IsSnapshot l) (sym e) (All-push IsSnapshot p.captures (record { numbers = numbers; now = now }) f record { numbers = n; now = is })
+        | Rattle.std.proofs.Common.inr e ↦ subst (λ l. All IsSnapshot l) (sym e) (All-push IsSnapshot p.snapshots (record { numbers = numbers; now = now }) f record { numbers = n; now = is })
       ]
 
   ask_fits : (now : Now) (fresh : Bool) (c : Connection) (numbers : List ℕ) → IsNow now → FitConn c → All IsU32 numbers → FitOut (ask m now fresh c numbers)
   ask_fits now fresh c numbers is f n =
       wanted_fits (m.want numbers (m.prepare numbers c.part now)) fresh (with_part (m.prepare numbers c.part now) c) numbers
-      record { rest = f.rest; captures = prepared_captures numbers c.part now n is f.captures; addr = f.addr; port = f.port } n
+      record { rest = f.rest; snapshots = prepared_snapshots numbers c.part now n is f.snapshots; addr = f.addr; port = f.port } n
 
   pub asked_fits : (at : Connection → Now) → ((c : Connection) → FitConn c → IsNow (at c)) → (o : Outcome) → FitOut o → FitOut (asked m at o)
   asked_fits at is o f = asked_by m FitOut at o (λ a fresh. ask_fits (at o.connection) fresh o.connection o.numbers (is o.connection f.conn) f.conn f.numbers) f
 
   -- a segment
   pub accepted_fits : (iss : ℕ) (sockets : Sockets) (s : PlainSegment) → IsAddr sockets.peer → sockets.peer_port.0 < 65536 → FitConn (accepted iss sockets s)
-  accepted_fits iss sockets s a p = record { rest = λ r. absurd (cc); captures = all_nil IsSnapshot; addr = a; port = p }
+  accepted_fits iss sockets s a p = record { rest = λ r. absurd (cc); snapshots = all_nil IsSnapshot; addr = a; port = p }
 
   closing_fits : (c : Connection) (numbers : List ℕ) (s : PlainSegment) → FitConn c → All IsU32 numbers → FitOut (peer_closes m c numbers s)
   unfolding peer_closes
   closing_fits c numbers s f n =
-      let x : (hears m numbers c.part s.text).part.captures ≡ c.part.captures = hears_captures numbers c.part s.text in
+      let x : (hears m numbers c.part s.text).part.snapshots ≡ c.part.snapshots = hears_captures numbers c.part s.text in
       let d : Connection = in_state CloseWait (with_window s.window (with_part (hears m numbers c.part s.text).part (takes (length s.text + 1) c))) in
       let g : FitConn d = fit_like c d refl x (λ r. absurd (cc)) f in
       let k : All IsU32 (hears m numbers c.part s.text).numbers = hears_numbers numbers c.part s.text n in
@@ -147,7 +147,7 @@ module _ (m : AppSpec) (steady : IsSteady m) where
   going_fits : (acked : Bool) (c : Connection) (numbers : List ℕ) (s : PlainSegment) → FitConn c → All IsU32 numbers → FitOut (stays_established m acked c numbers s)
   unfolding stays_established
   going_fits acked c numbers s f n =
-      let x : (hears m numbers c.part s.text).part.captures ≡ c.part.captures = hears_captures numbers c.part s.text in
+      let x : (hears m numbers c.part s.text).part.snapshots ≡ c.part.snapshots = hears_captures numbers c.part s.text in
       let d : Connection = with_window s.window (with_part (hears m numbers c.part s.text).part (takes (length s.text) c)) in
       let g : FitConn d = fit_like c d refl x f.rest f in
       let k : All IsU32 (hears m numbers c.part s.text).numbers = hears_numbers numbers c.part s.text n in
@@ -159,17 +159,17 @@ module _ (m : AppSpec) (steady : IsSteady m) where
   established_fits acked c numbers s f n = choose (λ (o : Outcome). FitOut o) (has_fin s.flags) _ _ (λ e. closing_fits c numbers s f n) (λ e. going_fits acked c numbers s f n)
 
   acked_fits : (c : Connection) (numbers : List ℕ) → FitConn c → FitConn (with_part (m.acked numbers c.part c.len).part (rests c))
-  acked_fits c numbers f = fit_like c _ refl (steady.acked_captures numbers c.part c.len) (λ r. omega arith) f
+  acked_fits c numbers f = fit_like c _ refl (steady.acked_snapshots numbers c.part c.len) (λ r. omega arith) f
 
   by_state_fits : (st : State) (acked : Bool) (c : Connection) (numbers : List ℕ) (s : PlainSegment) → FitConn c → All IsU32 numbers → FitOut (by_state m st acked c numbers s)
   unfolding fin_acked fin_waits
   by_state_fits Closed acked c numbers s f n = record { conn = f; numbers = n }
   by_state_fits SynRcvd true c numbers s f n =
       let port : ℕ = c.sockets.own_port.0 in
-      let x : (hears m (m.connected numbers port).numbers (m.connected numbers port).part s.text).part.captures ≡ (m.connected numbers port).part.captures = hears_captures (m.connected numbers port).numbers (m.connected numbers port).part s.text in
-      let none : (hears m (m.connected numbers port).numbers (m.connected numbers port).part s.text).part.captures ≡ [] = x ∙ steady.connected_captures numbers port in
+      let x : (hears m (m.connected numbers port).numbers (m.connected numbers port).part s.text).part.snapshots ≡ (m.connected numbers port).part.snapshots = hears_captures (m.connected numbers port).numbers (m.connected numbers port).part s.text in
+      let none : (hears m (m.connected numbers port).numbers (m.connected numbers port).part s.text).part.snapshots ≡ [] = x ∙ steady.connected_snapshots numbers port in
       record {
-        conn = record { rest = λ r. absurd (cc); captures = subst (λ l. All IsSnapshot l) (sym none) (all_nil IsSnapshot); addr = f.addr; port = f.port };
+        conn = record { rest = λ r. absurd (cc); snapshots = subst (λ l. All IsSnapshot l) (sym none) (all_nil IsSnapshot); addr = f.addr; port = f.port };
         numbers = hears_numbers (m.connected numbers port).numbers (m.connected numbers port).part s.text (steady.connected_numbers numbers port n);
       }
   by_state_fits SynRcvd false c numbers s f n = record { conn = f; numbers = n }
@@ -178,8 +178,8 @@ module _ (m : AppSpec) (steady : IsSteady m) where
   by_state_fits Established false c numbers s f n = established_fits false c numbers s f n
   by_state_fits CloseWait true c numbers s f n =
       let g = acked_fits c numbers f in
-      record { conn = record { rest = g.rest; captures = g.captures; addr = g.addr; port = g.port }; numbers = steady.acked_numbers numbers c.part c.len n }
-  by_state_fits CloseWait false c numbers s f n = record { conn = record { rest = f.rest; captures = f.captures; addr = f.addr; port = f.port }; numbers = n }
+      record { conn = record { rest = g.rest; snapshots = g.snapshots; addr = g.addr; port = g.port }; numbers = steady.acked_numbers numbers c.part c.len n }
+  by_state_fits CloseWait false c numbers s f n = record { conn = record { rest = f.rest; snapshots = f.snapshots; addr = f.addr; port = f.port }; numbers = n }
   by_state_fits FinWait1 true c numbers s f n =
       choose (λ (o : Outcome). FitOut o) (has_fin s.flags) _ _
       (λ e. record { conn = fit_like c _ refl refl (λ r. omega arith) f; numbers = n }) (λ e. record { conn = fit_like c _ refl refl (λ r. omega arith) f; numbers = n })
@@ -216,5 +216,5 @@ module _ (m : AppSpec) (steady : IsSteady m) where
     beats = λ r b. by_beat_fits b c numbers r f n;
     rested = λ e. record { conn = fit_like c (grows_older c) refl refl (λ r. not_last c.age (f.rest r) e) f; numbers = n };
     ends = record { conn = closes_fit c f; numbers = n };
-    polled = λ e l. record { conn = fit_like c (polls m c numbers).connection refl (steady.polled_captures numbers c.part) f.rest f; numbers = steady.polled_numbers numbers c.part n };
+    polled = λ e l. record { conn = fit_like c (polls m c numbers).connection refl (steady.polled_snapshots numbers c.part) f.rest f; numbers = steady.polled_numbers numbers c.part n };
   }

@@ -45,7 +45,7 @@ pub record IsNear (Low : ℕ → Type 0) (n far : ℕ) : Type 0 where
   pub low : Low at
   pub near : n ≤ at + far
 
-module _ (m : AppSpec) (steady : IsSteady m) (Low : ℕ → Type 0) (low_text : (p : AppState) → All IsSnapshot p.captures → Low (length (m.output p))) where
+module _ (m : AppSpec) (steady : IsSteady m) (Low : ℕ → Type 0) (low_text : (p : AppState) → All IsSnapshot p.snapshots → Low (length (m.output p))) where
   -- in ESTABLISHED and CLOSE-WAIT
   pub record TextSafe (c : Connection) : Type 0 where
     pub fits : c.part.acked + c.len ≤ length (m.output c.part)
@@ -222,7 +222,7 @@ module _ (m : AppSpec) (steady : IsSteady m) (Low : ℕ → Type 0) (low_text : 
       let e : length (take d.len (drop d.part.acked (m.output d.part))) ≡ d.len = cut_length (m.output d.part) d.part.acked d.len h.fits in
       placed_by_length (text_segment m d) (omega (arith, e, l))
 
-  wanted_tells : (w : Want) (fresh : Bool) (c : Connection) (numbers : List ℕ) → is_open c.state ≡ true → c.len ≡ 0 → 0 < c.mss → 0 < c.initial_mss → TextSafe c → All IsSnapshot c.part.captures → CanSend w (length (drop c.part.acked (m.output c.part))) →
+  wanted_tells : (w : Want) (fresh : Bool) (c : Connection) (numbers : List ℕ) → is_open c.state ≡ true → c.len ≡ 0 → 0 < c.mss → 0 < c.initial_mss → TextSafe c → All IsSnapshot c.part.snapshots → CanSend w (length (drop c.part.acked (m.output c.part))) →
       OutTold c (does_as_wanted w fresh c numbers)
   unfolding idles
   wanted_tells Abort fresh c numbers o z ms ini h fit w = reset_tells c c
@@ -250,7 +250,7 @@ module _ (m : AppSpec) (steady : IsSteady m) (Low : ℕ → Type 0) (low_text : 
   wanted_again (Send n) fresh c numbers = refl
   wanted_again Nothing fresh c numbers = choose (λ (x : Outcome). is_again x.step ≡ false) (peer_has_closed c.state) _ _ (λ e. refl) (λ e. choose (λ (x : Outcome). is_again x.step ≡ false) fresh _ _ (λ g. refl) (λ g. refl))
 
-  asking_tells : (c d : Connection) (now : Now) (fresh : Bool) (numbers : List ℕ) → AskTells c d → All IsSnapshot (m.prepare numbers d.part now).captures → OutTold c (ask m now fresh d numbers)
+  asking_tells : (c d : Connection) (now : Now) (fresh : Bool) (numbers : List ℕ) → AskTells c d → All IsSnapshot (m.prepare numbers d.part now).snapshots → OutTold c (ask m now fresh d numbers)
   asking_tells c d now fresh numbers a fit =
       let q : AppState = m.prepare numbers d.part now in
       let b : Connection = prepared m now d numbers in
@@ -265,11 +265,11 @@ module _ (m : AppSpec) (steady : IsSteady m) (Low : ℕ → Type 0) (low_text : 
       subst (λ x. StepTells c o.connection (segment_of m o.connection o.step) x) (sym n)
       (from_tells c b o.connection (segment_of m o.connection o.step) (onto_then c d b a.onto (onto_idle d b refl a.idle refl)) a.new a.idle w')
 
-  asked_for_tells : (snapshot : Connection → Now) (c d : Connection) (numbers : List ℕ) (s : Step) → ((now : Now) → now ≡ snapshot d → All IsSnapshot (m.prepare numbers d.part now).captures) → OutTells c d s → OutTold c (asked_for m snapshot (leaves d numbers s) s)
+  asked_for_tells : (snapshot : Connection → Now) (c d : Connection) (numbers : List ℕ) (s : Step) → ((now : Now) → now ≡ snapshot d → All IsSnapshot (m.prepare numbers d.part now).snapshots) → OutTells c d s → OutTold c (asked_for m snapshot (leaves d numbers s) s)
   asked_for_tells snapshot c d numbers (Step.Ask fresh) fit h = asking_tells c d (snapshot d) fresh numbers h (fit (snapshot d) refl)
   asked_for_tells snapshot c d numbers _ fit h = h
 
-  pub asked_tells : (snapshot : Connection → Now) (c : Connection) (o : Outcome) → ((now : Now) → now ≡ snapshot o.connection → All IsSnapshot (m.prepare o.numbers o.connection.part now).captures) → OutTells c o.connection o.step → OutTold c (asked m snapshot o)
+  pub asked_tells : (snapshot : Connection → Now) (c : Connection) (o : Outcome) → ((now : Now) → now ≡ snapshot o.connection → All IsSnapshot (m.prepare o.numbers o.connection.part now).snapshots) → OutTells c o.connection o.step → OutTold c (asked m snapshot o)
   asked_tells snapshot c o fit h = asked_for_tells snapshot c o.connection o.numbers o.step fit h
 
   -- text is delivered while something may be outstanding

@@ -12,7 +12,7 @@ abbrev pub GoesOnBy : AppSpec → List ℕ → ℕ → (AppState → Bool) → (
 GoesOnBy m request mss fine left q most (Send n) = (numbers : List ℕ) → (fine (m.acked numbers q (min n mss)).part ≡ true)
     × (left (m.acked numbers q (min n mss)).part < most)
 GoesOnBy m request mss fine left q most Close = Unit {0}
-GoesOnBy m request mss fine left q most Nothing = (fine q ≡ true) × (left q ≤ most) × (q.delivered ≡ request → ⊥)
+GoesOnBy m request mss fine left q most Nothing = (fine q ≡ true) × (left q ≤ most) × (q.input ≡ request → ⊥)
 GoesOnBy m request mss fine left q most Abort = ⊥
 
 -- The application replies to a request with at most `texts` segments of at most mss bytes, however the request is split. `fine` marks its
@@ -21,9 +21,9 @@ GoesOnBy m request mss fine left q most Abort = ⊥
 pub record AnswersIn (m : AppSpec) (request : List ℕ) (mss : ℕ) (fine : AppState → Bool) (left : AppState → ℕ) (texts : ℕ) : Type 0 where
   pub starts : (numbers : List ℕ) (port : ℕ) → (fine (m.connected numbers port).part ≡ true)
       × (left (m.connected numbers port).part ≤ texts)
-  pub hears : (numbers : List ℕ) (p : AppState) (piece rest : List ℕ) → fine p ≡ true → (p.delivered ++ piece) ++ rest ≡ request →
+  pub hears : (numbers : List ℕ) (p : AppState) (piece rest : List ℕ) → fine p ≡ true → (p.input ++ piece) ++ rest ≡ request →
       (fine (m.newdata numbers p piece).part ≡ true) × (left (m.newdata numbers p piece).part ≤ left p)
-  pub goes_on : (numbers : List ℕ) (p : AppState) (now : Now) (rest : List ℕ) → fine p ≡ true → p.delivered ++ rest ≡ request →
+  pub goes_on : (numbers : List ℕ) (p : AppState) (now : Now) (rest : List ℕ) → fine p ≡ true → p.input ++ rest ≡ request →
       All IsU32 numbers → IsNow now → 0 < length now.rows →
       GoesOnBy m request mss fine left (m.prepare numbers p now) (left p) (m.want numbers (m.prepare numbers p now))
 

@@ -18,20 +18,20 @@ abbrev pub serving : Sockets → List Connection → Connection
 serving sockets [] = closed
 serving sockets (c ∷ cs) = if serves sockets c then c else serving sockets cs
 
--- If the delivered text is bytes, and the snapshots are in their ranges, the page is bytes.
+-- If the input consists of bytes, and the snapshots are in range, the page consists of bytes.
 abbrev pub HasBytes : Pages → Type 0
-HasBytes pages = (delivered : List ℕ) (captures : List Snapshot)
-    → All IsByte delivered → All IsSnapshot captures → All IsByte (pages.text delivered captures)
+HasBytes pages = (input : List ℕ) (snapshots : List Snapshot)
+    → All IsByte input → All IsSnapshot snapshots → All IsByte (pages.page input snapshots)
 
--- `delivered` is bytes: each call keeps this, if the input is bytes. If it holds, and the snapshots are possible, the output is bytes.
+-- The input consists of bytes: each call keeps this, if the data is bytes. If it holds, and the snapshots are in range, the output is bytes.
 pub record SendsBytes (m : AppSpec) : Type 0 where
-  pub output : (p : AppState) → All IsByte p.delivered → All IsSnapshot p.captures → All IsByte (m.output p)
-  pub connected : (numbers : List ℕ) (port : ℕ) → All IsByte (m.connected numbers port).part.delivered
-  pub newdata : (numbers : List ℕ) (p : AppState) (piece : List ℕ) → All IsByte p.delivered → All IsByte piece
-      → All IsByte (m.newdata numbers p piece).part.delivered
-  pub prepare : (numbers : List ℕ) (p : AppState) (now : Now) → All IsByte p.delivered → All IsByte (m.prepare numbers p now).delivered
-  pub acked : (numbers : List ℕ) (p : AppState) (n : ℕ) → All IsByte p.delivered → All IsByte (m.acked numbers p n).part.delivered
-  pub polled : (numbers : List ℕ) (p : AppState) → All IsByte p.delivered → All IsByte (m.polled numbers p).part.delivered
+  pub output : (p : AppState) → All IsByte p.input → All IsSnapshot p.snapshots → All IsByte (m.output p)
+  pub connected : (numbers : List ℕ) (port : ℕ) → All IsByte (m.connected numbers port).part.input
+  pub newdata : (numbers : List ℕ) (p : AppState) (piece : List ℕ) → All IsByte p.input → All IsByte piece
+      → All IsByte (m.newdata numbers p piece).part.input
+  pub prepare : (numbers : List ℕ) (p : AppState) (now : Now) → All IsByte p.input → All IsByte (m.prepare numbers p now).input
+  pub acked : (numbers : List ℕ) (p : AppState) (n : ℕ) → All IsByte p.input → All IsByte (m.acked numbers p n).part.input
+  pub polled : (numbers : List ℕ) (p : AppState) → All IsByte p.input → All IsByte (m.polled numbers p).part.input
 
 -- The same flags and the same text.
 pub record Alike (s t : PlainSegment) : Type 0 where

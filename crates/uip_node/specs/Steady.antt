@@ -10,13 +10,13 @@ pub record IsSteady (m : AppSpec) : Type 0 where
   pub lawful : IsLawful m (λ p. Unit {0})
   pub connected_acked : (numbers : List ℕ) (port : ℕ) → (m.connected numbers port).part.acked ≡ 0
   -- Only `prepare` captures a snapshot. It is called before the application is asked for its next request.
-  pub connected_captures : (numbers : List ℕ) (port : ℕ) → (m.connected numbers port).part.captures ≡ []
-  pub newdata_captures : (numbers : List ℕ) (p : AppState) (piece : List ℕ) → (m.newdata numbers p piece).part.captures ≡ p.captures
-  pub prepare_captures : (numbers : List ℕ) (p : AppState) (now : Now)
-      → ((m.prepare numbers p now).captures ≡ p.captures)
-      ⊎ ((m.prepare numbers p now).captures ≡ p.captures ++ record { numbers = numbers; now = now } ∷ [])
-  pub acked_captures : (numbers : List ℕ) (p : AppState) (n : ℕ) → (m.acked numbers p n).part.captures ≡ p.captures
-  pub polled_captures : (numbers : List ℕ) (p : AppState) → (m.polled numbers p).part.captures ≡ p.captures
+  pub connected_snapshots : (numbers : List ℕ) (port : ℕ) → (m.connected numbers port).part.snapshots ≡ []
+  pub newdata_snapshots : (numbers : List ℕ) (p : AppState) (piece : List ℕ) → (m.newdata numbers p piece).part.snapshots ≡ p.snapshots
+  pub prepare_snapshots : (numbers : List ℕ) (p : AppState) (now : Now)
+      → ((m.prepare numbers p now).snapshots ≡ p.snapshots)
+      ⊎ ((m.prepare numbers p now).snapshots ≡ p.snapshots ++ record { numbers = numbers; now = now } ∷ [])
+  pub acked_snapshots : (numbers : List ℕ) (p : AppState) (n : ℕ) → (m.acked numbers p n).part.snapshots ≡ p.snapshots
+  pub polled_snapshots : (numbers : List ℕ) (p : AppState) → (m.polled numbers p).part.snapshots ≡ p.snapshots
   -- The counters stay below 2^32.
   pub connected_numbers : (numbers : List ℕ) (port : ℕ) → All IsU32 numbers → All IsU32 (m.connected numbers port).numbers
   pub newdata_numbers : (numbers : List ℕ) (p : AppState) (piece : List ℕ) → All IsU32 numbers

@@ -16,12 +16,12 @@ hits_words files hits (Name name) after all = all
 abbrev either : Bool → AppState → Snapshot → AppState
 either waits part capture = if waits then with_capture part capture else part
 
-either_heard : (waits : Bool) (part : AppState) (capture : Snapshot) → (either waits part capture).delivered ≡ part.delivered
+either_heard : (waits : Bool) (part : AppState) (capture : Snapshot) → (either waits part capture).input ≡ part.input
 either_heard true part capture = refl
 either_heard false part capture = refl
 
 either_captures : (waits : Bool) (part : AppState) (capture : Snapshot)
-    → ((either waits part capture).captures ≡ part.captures) ⊎ ((either waits part capture).captures ≡ part.captures ++ capture ∷ [])
+    → ((either waits part capture).snapshots ≡ part.snapshots) ⊎ ((either waits part capture).snapshots ≡ part.snapshots ++ capture ∷ [])
 either_captures true part capture = inr refl
 either_captures false part capture = inl refl
 
@@ -30,31 +30,31 @@ either_acked true part capture = refl
 either_acked false part capture = refl
 
 abbrev waits : {F : Type 0} → Giving F → List File → AppState → Bool
-waits g files part = is_acknowledged_by g files part && waits_for_capture_by g files (wanted part.delivered) part
+waits g files part = is_acknowledged_by g files part && waits_for_capture_by g files (wanted part.input) part
 
 pub keeps_page_laws_by : {F : Type 0} (g : Giving F) → AreShort g → KeepsPageLawsBy g
 keeps_page_laws_by g short site is sound = record {
   grows = λ q more k later. page_grows g (files_of site) q more k later;
   stays = λ q more k later whole. (page_stays g (files_of site) q more k later whole).0;
-  stays_whole = λ q more k later whole. (page_stays g (files_of site) q more k later whole).1;
+  stays_complete = λ q more k later whole. (page_stays g (files_of site) q more k later whole).1;
   short = λ q k all. page_short g short site is sound q k all;
   output = λ part. refl;
-  connected_delivered = λ hits port. refl;
-  connected_captures = λ hits port. refl;
+  connected_input = λ hits port. refl;
+  connected_snapshots = λ hits port. refl;
   connected_acked = λ hits port. refl;
-  newdata_delivered = λ hits part piece. refl;
-  newdata_captures = λ hits part piece. refl;
+  newdata_input = λ hits part piece. refl;
+  newdata_snapshots = λ hits part piece. refl;
   newdata_acked = λ hits part piece. refl;
-  prepare_delivered = λ hits part now. either_heard (waits g (files_of site) part) part (record { numbers = hits; now = now });
-  prepare_captures = λ hits part now. either_captures (waits g (files_of site) part) part (record { numbers = hits; now = now });
+  prepare_input = λ hits part now. either_heard (waits g (files_of site) part) part (record { numbers = hits; now = now });
+  prepare_snapshots = λ hits part now. either_captures (waits g (files_of site) part) part (record { numbers = hits; now = now });
   prepare_acked = λ hits part now. either_acked (waits g (files_of site) part) part (record { numbers = hits; now = now });
-  acked_delivered = λ hits part n. refl;
-  acked_captures = λ hits part n. refl;
+  acked_input = λ hits part n. refl;
+  acked_snapshots = λ hits part n. refl;
   acked_moves = λ hits part n. refl;
-  polled_same = λ hits part. record { delivered = refl; captures = refl; acked = refl };
+  polled_same = λ hits part. record { input = refl; snapshots = refl; acked = refl };
   wants = λ hits part. may_want g (files_of site) part;
   connected_numbers = λ hits port all. all;
-  newdata_numbers = λ hits part piece all. hits_words (files_of site) hits (wanted part.delivered) (wanted (part.delivered ++ piece)) all;
+  newdata_numbers = λ hits part piece all. hits_words (files_of site) hits (wanted part.input) (wanted (part.input ++ piece)) all;
   acked_numbers = λ hits part n all. all;
   polled_numbers = λ hits part all. all;
   ended_numbers = λ hits part how all. all;

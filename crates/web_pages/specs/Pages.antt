@@ -62,7 +62,7 @@ is_whole_by g files request captures = whole_for_by g files (wanted request) cap
 
 -- the pages of a site
 abbrev pub pages_by : {F : Type 0} → Giving F → List File → Pages
-pages_by g files = record { text = page_by g files; whole = is_whole_by g files }
+pages_by g files = record { page = page_by g files; complete = is_whole_by g files }
 
 -- With the functions of uIP.
 abbrev pub made_text : List File → Function → List ℕ → Snapshot → List ℕ

@@ -25,40 +25,40 @@ hits_by files hits _ _ = hits
 
 -- The whole page so far is acknowledged.
 abbrev pub is_acknowledged_by : {F : Type 0} → Giving F → List File → AppState → Bool
-is_acknowledged_by g files part = part.acked == length (page_by g files part.delivered part.captures)
+is_acknowledged_by g files part = part.acked == length (page_by g files part.input part.snapshots)
 
 -- A call without a snapshot stops the page of a decided request.
 abbrev pub waits_for_capture_by : {F : Type 0} → Giving F → List File → Wanted → AppState → Bool
-waits_for_capture_by g files (Name name) part = not (is_whole_by g files part.delivered part.captures)
+waits_for_capture_by g files (Name name) part = not (is_whole_by g files part.input part.snapshots)
 waits_for_capture_by g files _ part = false
 
 -- the number of bytes of the page so far that are not acknowledged
 abbrev pub left_of_by : {F : Type 0} → Giving F → List File → AppState → ℕ
-left_of_by g files part = length (page_by g files part.delivered part.captures) - part.acked
+left_of_by g files part = length (page_by g files part.input part.snapshots) - part.acked
 
 -- It aborts after `MOST_POLLS` ticks with nothing to send. It closes when the whole page is acknowledged. Otherwise it sends the rest of
 -- the page so far.
 abbrev pub web_want_by : {F : Type 0} → Giving F → List File → AppState → Want
 web_want_by g files part =
     if part.polls == MOST_POLLS then Abort
-    else if is_whole_by g files part.delivered part.captures && is_acknowledged_by g files part then Close
+    else if is_whole_by g files part.input part.snapshots && is_acknowledged_by g files part then Close
     else if nat_lt 0 (left_of_by g files part) then Send (min LARGEST_SEGMENT (left_of_by g files part))
     else Nothing
 
 abbrev pub web_spec_by : {F : Type 0} → Giving F → List File → AppSpec
 web_spec_by g files = record {
-  output = λ part. page_by g files part.delivered part.captures;
+  output = λ part. page_by g files part.input part.snapshots;
   connected = λ hits port. record {
-    part = record { port = port; delivered = []; captures = []; acked = 0; polls = 0; own = 0 };
+    part = record { port = port; input = []; snapshots = []; acked = 0; polls = 0; own = 0 };
     numbers = hits;
   };
   newdata = λ hits part piece. record {
-    part = record part { delivered = part.delivered ++ piece; polls = 0 };
-    numbers = hits_by files hits (wanted part.delivered) (wanted (part.delivered ++ piece));
+    part = record part { input = part.input ++ piece; polls = 0 };
+    numbers = hits_by files hits (wanted part.input) (wanted (part.input ++ piece));
   };
   prepare = λ hits part now.
-      if is_acknowledged_by g files part && waits_for_capture_by g files (wanted part.delivered) part
-      then record part { captures = part.captures ++ record { numbers = hits; now = now } ∷ [] }
+      if is_acknowledged_by g files part && waits_for_capture_by g files (wanted part.input) part
+      then record part { snapshots = part.snapshots ++ record { numbers = hits; now = now } ∷ [] }
       else part;
   want = λ hits part. web_want_by g files part;
   acked = λ hits part count. record { part = record part { acked = part.acked + count; polls = 0 }; numbers = hits };

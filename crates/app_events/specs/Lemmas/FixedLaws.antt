@@ -23,11 +23,11 @@ can_send (x ∷ xs) acked =
 
 pub fixed_lawful : (a : Fixed) → IsLawful fixed_spec (FixedRepresents a)
 fixed_lawful a = record {
-  newdata_grows = λ ns p piece s. record { text = more_heard p.delivered piece; offset = refl };
-  prepare_grows = λ ns p now s. record { text = record { rest = []; joined = append-nil (fixed_text p.delivered) }; offset = refl };
+  newdata_grows = λ ns p piece s. record { text = more_heard p.input piece; offset = refl };
+  prepare_grows = λ ns p now s. record { text = record { rest = []; joined = append-nil (fixed_text p.input) }; offset = refl };
   acked_moves = λ ns p n s h. (refl, refl);
   polled_keeps = λ ns p s. (refl, refl);
-  sends = λ ns p s. can_send p.delivered p.acked;
+  sends = λ ns p s. can_send p.input p.acked;
 }
 
 pub fixed_starts : StartsAnew fixed_spec
@@ -43,5 +43,5 @@ pub fixed_same_left : (a : Fixed) (p q : AppState) → FixedRepresents a p → F
     → text_left fixed_spec p ≡ text_left fixed_spec q
 fixed_same_left a p q s t =
     let e : p.acked ≡ q.acked = sym s.at ∙ t.at in
-    let f : fixed_text p.delivered ≡ fixed_text q.delivered = same_text p.delivered q.delivered (sym s.delivered ∙ t.delivered) in
+    let f : fixed_text p.input ≡ fixed_text q.input = same_text p.input q.input (sym s.input ∙ t.input) in
     cc

@@ -12,7 +12,7 @@ fixed_can_pair = record {
     acked = λ numbers p count. refl;
     polled = λ numbers p. refl;
   };
-  captures = record {
+  snapshots = record {
     connected = λ numbers port. refl;
     newdata = λ numbers p piece. refl;
     prepare = λ numbers p now. inl refl;

@@ -46,28 +46,28 @@ at_each_state m stands h = record {
 
 module _ (second : Bool) where
   -- the application sees the state that its call left
-  pub sees_after : (q : AppState) (captures : List Snapshot) → q.captures ≡ map (own_snapshot second) captures
-      → own_part second (record q { captures = captures }) ≡ q
-  sees_after q captures e = ap (λ (l : List Snapshot). record q { captures = l }) (sym e)
+  pub sees_after : (q : AppState) (captures : List Snapshot) → q.snapshots ≡ map (own_snapshot second) captures
+      → own_part second (record q { snapshots = captures }) ≡ q
+  sees_after q captures e = ap (λ (l : List Snapshot). record q { snapshots = l }) (sym e)
 
   seen_captures : (numbers : List ℕ) (p q : AppState) (now : Now)
-      → (q.captures ≡ (own_part second p).captures)
-      ⊎ (q.captures ≡ (own_part second p).captures ++ record { numbers = own_numbers second numbers; now = now } ∷ [])
-      → q.captures ≡ map (own_snapshot second) (after_prepare numbers p now q).captures
+      → (q.snapshots ≡ (own_part second p).snapshots)
+      ⊎ (q.snapshots ≡ (own_part second p).snapshots ++ record { numbers = own_numbers second numbers; now = now } ∷ [])
+      → q.snapshots ≡ map (own_snapshot second) (after_prepare numbers p now q).snapshots
   seen_captures numbers p q now (inl e) =
       let more : List Snapshot = record { numbers = numbers; now = now } ∷ [] in
-      let none : nat_lt (length p.captures) (length q.captures) ≡ false =
-      le-ltb (length p.captures) (length q.captures) (omega (arith, ap (λ l. length l) e, length-map p.captures (own_snapshot second))) in
-      e ∙ ap (λ (b : Bool). map (own_snapshot second) (if b then p.captures ++ more else p.captures)) (sym none)
+      let none : nat_lt (length p.snapshots) (length q.snapshots) ≡ false =
+      le-ltb (length p.snapshots) (length q.snapshots) (omega (arith, ap (λ l. length l) e, length-map p.snapshots (own_snapshot second))) in
+      e ∙ ap (λ (b : Bool). map (own_snapshot second) (if b then p.snapshots ++ more else p.snapshots)) (sym none)
   seen_captures numbers p q now (inr e) =
       let more : List Snapshot = record { numbers = numbers; now = now } ∷ [] in
       let own : List Snapshot = record { numbers = own_numbers second numbers; now = now } ∷ [] in
-      let some : nat_lt (length p.captures) (length q.captures) ≡ true =
-      lt-ltb (length p.captures) (length q.captures)
-      (let seen : List Snapshot = map (own_snapshot second) p.captures in
-      omega (arith, ap (λ l. length l) e, length-append seen own, length-map p.captures (own_snapshot second))) in
-      e ∙ sym (map-append (own_snapshot second) p.captures more)
-      ∙ ap (λ (b : Bool). map (own_snapshot second) (if b then p.captures ++ more else p.captures)) (sym some)
+      let some : nat_lt (length p.snapshots) (length q.snapshots) ≡ true =
+      lt-ltb (length p.snapshots) (length q.snapshots)
+      (let seen : List Snapshot = map (own_snapshot second) p.snapshots in
+      omega (arith, ap (λ l. length l) e, length-append seen own, length-map p.snapshots (own_snapshot second))) in
+      e ∙ sym (map-append (own_snapshot second) p.snapshots more)
+      ∙ ap (λ (b : Bool). map (own_snapshot second) (if b then p.snapshots ++ more else p.snapshots)) (sym some)
 
   module _ (m : AppSpec) (captures : KeepsCaptures m) where
     pub sees_connected : (numbers : List ℕ) (port : ℕ)
@@ -77,23 +77,23 @@ module _ (second : Bool) where
     pub sees_newdata : (numbers : List ℕ) (p : AppState) (piece : List ℕ)
         → own_part second ((one_of_two second m).newdata numbers p piece).part
         ≡ (m.newdata (own_numbers second numbers) (own_part second p) piece).part
-    sees_newdata numbers p piece = sees_after _ p.captures (captures.newdata (own_numbers second numbers) (own_part second p) piece)
+    sees_newdata numbers p piece = sees_after _ p.snapshots (captures.newdata (own_numbers second numbers) (own_part second p) piece)
 
     pub sees_prepare : (numbers : List ℕ) (p : AppState) (now : Now)
         → own_part second ((one_of_two second m).prepare numbers p now) ≡ m.prepare (own_numbers second numbers) (own_part second p) now
     sees_prepare numbers p now =
         let own : List ℕ = own_numbers second numbers in
         let q : AppState = m.prepare own (own_part second p) now in
-        sees_after q (after_prepare numbers p now q).captures (seen_captures numbers p q now (captures.prepare own (own_part second p) now))
+        sees_after q (after_prepare numbers p now q).snapshots (seen_captures numbers p q now (captures.prepare own (own_part second p) now))
 
     pub sees_acked : (numbers : List ℕ) (p : AppState) (count : ℕ)
         → own_part second ((one_of_two second m).acked numbers p count).part
         ≡ (m.acked (own_numbers second numbers) (own_part second p) count).part
-    sees_acked numbers p count = sees_after _ p.captures (captures.acked (own_numbers second numbers) (own_part second p) count)
+    sees_acked numbers p count = sees_after _ p.snapshots (captures.acked (own_numbers second numbers) (own_part second p) count)
 
     pub sees_polled : (numbers : List ℕ) (p : AppState)
         → own_part second ((one_of_two second m).polled numbers p).part ≡ (m.polled (own_numbers second numbers) (own_part second p)).part
-    sees_polled numbers p = sees_after _ p.captures (captures.polled (own_numbers second numbers) (own_part second p))
+    sees_polled numbers p = sees_after _ p.snapshots (captures.polled (own_numbers second numbers) (own_part second p))
 
     grows_so : (p q r : AppState) → own_part second q ≡ r → Grows m (own_part second p) r → Grows (one_of_two second m) p q
     grows_so p q r e g = record {
@@ -133,8 +133,8 @@ module _ (second : Bool) where
 -- ---- captures
 
 either_capture : (numbers : List ℕ) (p q : AppState) (now : Now) (takes : Bool)
-    → (let captures = if takes then p.captures ++ record { numbers = numbers; now = now } ∷ [] else p.captures in
-    (captures ≡ p.captures) ⊎ (captures ≡ p.captures ++ record { numbers = numbers; now = now } ∷ []))
+    → (let captures = if takes then p.snapshots ++ record { numbers = numbers; now = now } ∷ [] else p.snapshots in
+    (captures ≡ p.snapshots) ⊎ (captures ≡ p.snapshots ++ record { numbers = numbers; now = now } ∷ []))
 either_capture numbers p q now true = inr refl
 either_capture numbers p q now false = inl refl
 
@@ -144,7 +144,7 @@ one_captures second m = record {
   newdata = λ numbers p piece. refl;
   prepare = λ numbers p now.
       let q : AppState = m.prepare (own_numbers second numbers) (own_part second p) now in
-      either_capture numbers p q now (nat_lt (length p.captures) (length q.captures));
+      either_capture numbers p q now (nat_lt (length p.snapshots) (length q.snapshots));
   acked = λ numbers p count. refl;
   polled = λ numbers p. refl;
 }
@@ -223,7 +223,7 @@ module _ (second : ℕ → Bool) (m n : AppSpec) where
   pub pair_again : StaysAtPort m → StaysAtPort n → CanBePaired (pair_spec second m n)
   pair_again x y = record {
     port = by_port_keeps (spec_at second m n) (pair_port x y);
-    captures = by_port_captures (spec_at second m n) (at_each_port KeepsCaptures (one_captures false m) (one_captures true n));
+    snapshots = by_port_captures (spec_at second m n) (at_each_port KeepsCaptures (one_captures false m) (one_captures true n));
   }
 
   module _ (first : CanBePaired m) (other : CanBePaired n) where
@@ -233,17 +233,17 @@ module _ (second : ℕ → Bool) (m n : AppSpec) where
     pub pair_starts : StartsAnew m → StartsAnew n → StartsAnew (pair_spec second m n)
     pair_starts x y =
         by_port_starts (spec_at second m n) keeps
-        (at_each_port StartsAnew (one_starts false m first.captures x) (one_starts true n other.captures y))
+        (at_each_port StartsAnew (one_starts false m first.snapshots x) (one_starts true n other.snapshots y))
 
     pub pair_lawful_at_first : (p : AppState) → second p.port ≡ false → LawfulAt m (own_part false p) → LawfulAt (pair_spec second m n) p
     pair_lawful_at_first p e h =
         by_port_lawful_at (spec_at second m n) keeps p
-        (at_first (λ (x : AppSpec). LawfulAt x p) p.port e (one_lawful_at false m first.captures p h))
+        (at_first (λ (x : AppSpec). LawfulAt x p) p.port e (one_lawful_at false m first.snapshots p h))
 
     pub pair_lawful_at_second : (p : AppState) → second p.port ≡ true → LawfulAt n (own_part true p) → LawfulAt (pair_spec second m n) p
     pair_lawful_at_second p e h =
         by_port_lawful_at (spec_at second m n) keeps p
-        (at_second (λ (x : AppSpec). LawfulAt x p) p.port e (one_lawful_at true n other.captures p h))
+        (at_second (λ (x : AppSpec). LawfulAt x p) p.port e (one_lawful_at true n other.snapshots p h))
 
 -- ---- the values
 

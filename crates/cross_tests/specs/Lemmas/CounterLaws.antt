@@ -24,11 +24,11 @@ can_send n (x ∷ xs) acked =
 
 pub counter_lawful : (a : Counter) → IsLawful counter_spec (CounterRepresents a)
 counter_lawful a = record {
-  newdata_grows = λ ns p piece s. record { text = more_heard ns p.own p.delivered piece; offset = refl };
-  prepare_grows = λ ns p now s. record { text = record { rest = []; joined = append-nil (counter_text p.own p.delivered) }; offset = refl };
+  newdata_grows = λ ns p piece s. record { text = more_heard ns p.own p.input piece; offset = refl };
+  prepare_grows = λ ns p now s. record { text = record { rest = []; joined = append-nil (counter_text p.own p.input) }; offset = refl };
   acked_moves = λ ns p n s h. (refl, refl);
   polled_keeps = λ ns p s. (refl, refl);
-  sends = λ ns p s. can_send p.own p.delivered p.acked;
+  sends = λ ns p s. can_send p.own p.input p.acked;
 }
 
 pub counter_starts : StartsAnew counter_spec
@@ -45,6 +45,6 @@ pub counter_same_left : (a : Counter) (p q : AppState) → CounterRepresents a p
 counter_same_left a p q s t =
     let e : p.acked ≡ q.acked = sym s.at ∙ t.at in
     let n : p.own ≡ q.own = sym s.number ∙ t.number in
-    let f : counter_text p.own p.delivered ≡ counter_text q.own q.delivered =
-    ap (λ k. counter_text k p.delivered) n ∙ same_text q.own p.delivered q.delivered (sym s.delivered ∙ t.delivered) in
+    let f : counter_text p.own p.input ≡ counter_text q.own q.input =
+    ap (λ k. counter_text k p.input) n ∙ same_text q.own p.input q.input (sym s.input ∙ t.input) in
     cc

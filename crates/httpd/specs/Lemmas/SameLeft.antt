@@ -25,11 +25,11 @@ left_in g text a site (stage.Reply found) = text_by g (files_of site) (left_from
 drop_none : (n : ℕ) → drop {A = ℕ} n [] ≡ []
 drop_none n = drop-nil n
 
-nothing_left : {F : Type 0} (g : Giving F) (files : List File) (part : AppState) (w : Wanted) → wanted part.delivered ≡ w
-    → page_for_by g files w part.captures ≡ []
+nothing_left : {F : Type 0} (g : Giving F) (files : List File) (part : AppState) (w : Wanted) → wanted part.input ≡ w
+    → page_for_by g files w part.snapshots ≡ []
     → text_left (web_spec_by g files) part ≡ []
 nothing_left g files part w e none =
-    ap (λ v. drop part.acked (page_for_by g files v part.captures)) e
+    ap (λ v. drop part.acked (page_for_by g files v part.snapshots)) e
     ∙ ap (λ xs. drop part.acked xs) none
     ∙ drop_none part.acked
 
@@ -40,14 +40,14 @@ left_at g site part = text_left (web_spec_by g (files_of site)) part
 left_by : {F R : Type 0} (g : Giving F) (text : R → List ℕ) (a : Pages R) (site : SiteContent) (part : AppState) (s : Stage)
     → StandsIn g text a site part s → left_at g site part ≡ left_in g text a site s
 left_by g text a site part stage.Method (hears, nothing) =
-    nothing_left g (files_of site) part NotYet (method_open part.delivered hears.goes_on) refl
+    nothing_left g (files_of site) part NotYet (method_open part.input hears.goes_on) refl
 left_by g text a site part stage.Target (hears, nothing) =
-    nothing_left g (files_of site) part NotYet (target_open part.delivered hears.method_ended hears.method hears.goes_on) refl
+    nothing_left g (files_of site) part NotYet (target_open part.input hears.method_ended hears.method hears.goes_on) refl
 left_by g text a site part stage.Refused (refused, nothing) = nothing_left g (files_of site) part Refused refused refl
 left_by g text a site part (stage.Reply found) (name, is) =
-    ap (λ w. drop part.acked (page_for_by g (files_of site) w part.captures)) is.wanted
+    ap (λ w. drop part.acked (page_for_by g (files_of site) w part.snapshots)) is.wanted
     ∙ ap (λ ks. drop part.acked (text_by g (files_of site) (reply_pieces_by g.calling.named (files_of site) name) ks))
-    (sym (append-nil part.captures))
+    (sym (append-nil part.snapshots))
     ∙ sym (is.left.text [])
 
 -- the text that is left, by the value alone

@@ -34,18 +34,18 @@ not_true true e = absurd (false≢true e)
 not_true false e = refl
 
 -- if a message is next, the last was not captured
-next_goes_on : (s : PlainMessage) (p : AppState) → is_next_message s p ≡ true → has_last p.captures ≡ false
-next_goes_on s p e = not_true (has_last p.captures) (and_parts _ _ (and_parts _ _ (and_parts _ _ e).0).0).1
+next_goes_on : (s : PlainMessage) (p : AppState) → is_next_message s p ≡ true → has_last p.snapshots ≡ false
+next_goes_on s p e = not_true (has_last p.snapshots) (and_parts _ _ (and_parts _ _ (and_parts _ _ e).0).0).1
 
 same_grows : (p : AppState) → Grows own_spec p p
-same_grows p = record { text = record { rest = []; joined = append-nil (messages_text p.captures) }; offset = refl }
+same_grows p = record { text = record { rest = []; joined = append-nil (messages_text p.snapshots) }; offset = refl }
 
-capture_grows : (numbers : List ℕ) (p : AppState) (now : Now) → has_last p.captures ≡ false
+capture_grows : (numbers : List ℕ) (p : AppState) (now : Now) → has_last p.snapshots ≡ false
     → Grows own_spec p (with_message numbers p now)
 capture_grows numbers p now e = record {
   text = record {
     rest = (message_in numbers).text;
-    joined = sym (messages_text_more p.captures (record { numbers = numbers; now = now }) e);
+    joined = sym (messages_text_more p.snapshots (record { numbers = numbers; now = now }) e);
   };
   offset = refl;
 }
@@ -65,16 +65,16 @@ wants false false false left most s h = tt
 pub own_lawful : (represents : AppState → Type 0) → IsLawful own_spec represents
 own_lawful represents = record {
   newdata_grows = λ numbers p piece s. record {
-    text = record { rest = []; joined = append-nil (messages_text p.captures) };
+    text = record { rest = []; joined = append-nil (messages_text p.snapshots) };
     offset = refl;
   };
   prepare_grows = λ numbers p now s. prepare_grows numbers p now (is_next_message (message_in numbers) p) refl;
   acked_moves = λ numbers p n s h. (refl, refl);
   polled_keeps = λ numbers p s. (refl, refl);
   sends = λ numbers p s.
-      wants (is_overrun p || (p.polls == MOST_SILENT_POLLS)) (nat_lt 0 (len_left p)) (has_last p.captures) (len_left p)
+      wants (is_overrun p || (p.polls == MOST_SILENT_POLLS)) (nat_lt 0 (len_left p)) (has_last p.snapshots) (len_left p)
       (length (text_left own_spec p))
-      (λ e. let some = ltb-true 0 (len_left p) e in omega (arith, some)) (omega (arith, length-drop p.acked (messages_text p.captures)));
+      (λ e. let some = ltb-true 0 (len_left p) e in omega (arith, some)) (omega (arith, length-drop p.acked (messages_text p.snapshots)));
 }
 
 pub own_starts : StartsAnew own_spec
@@ -83,7 +83,7 @@ own_starts numbers port = (refl, refl)
 -- the value determines what is not acknowledged
 pub left_of_value : (a : OwnState) (p : AppState) → StateRepresents a p → text_left own_spec p ≡ drop a.at a.sending
 left_of_value a p s =
-    ap (λ n. drop n (messages_text p.captures)) s.acked ∙ ap (λ l. drop (length s.before + a.at) l) s.sending
+    ap (λ n. drop n (messages_text p.snapshots)) s.acked ∙ ap (λ l. drop (length s.before + a.at) l) s.sending
     ∙ drop-append-add s.before a.sending a.at
 
 pub own_same_left : (a : OwnApp) (p q : AppState) → OwnRepresents a p → OwnRepresents a q → text_left own_spec p ≡ text_left own_spec q

@@ -10,8 +10,8 @@ either_port numbers p now true = refl
 either_port numbers p now false = refl
 
 either_capture : (numbers : List ℕ) (p : AppState) (now : Now) (next : Bool)
-    → ((if next then with_message numbers p now else p).captures ≡ p.captures)
-    ⊎ ((if next then with_message numbers p now else p).captures ≡ p.captures ++ record { numbers = numbers; now = now } ∷ [])
+    → ((if next then with_message numbers p now else p).snapshots ≡ p.snapshots)
+    ⊎ ((if next then with_message numbers p now else p).snapshots ≡ p.snapshots ++ record { numbers = numbers; now = now } ∷ [])
 either_capture numbers p now true = inr refl
 either_capture numbers p now false = inl refl
 
@@ -24,7 +24,7 @@ own_can_pair = record {
     acked = λ numbers p count. refl;
     polled = λ numbers p. refl;
   };
-  captures = record {
+  snapshots = record {
     connected = λ numbers port. refl;
     newdata = λ numbers p piece. refl;
     prepare = λ numbers p now. either_capture numbers p now (is_next_message (message_in numbers) p);

@@ -39,8 +39,8 @@ web_port files = record {
   connected = λ numbers port. refl;
   newdata = λ numbers p piece. refl;
   prepare = λ numbers p now.
-      either_port (is_acknowledged files p && waits_for_capture files (wanted p.delivered) p) p
-      (record p { captures = p.captures ++ record { numbers = numbers; now = now } ∷ [] }) refl;
+      either_port (is_acknowledged files p && waits_for_capture files (wanted p.input) p) p
+      (record p { snapshots = p.snapshots ++ record { numbers = numbers; now = now } ∷ [] }) refl;
   acked = λ numbers p count. refl;
   polled = λ numbers p. refl;
 }

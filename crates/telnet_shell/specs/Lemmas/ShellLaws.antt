@@ -30,16 +30,16 @@ grows_on p q r g h = record { text = prefix_of_prefix (session p) (session q) (s
 
 byte_grows : (p : AppState) (byte : ℕ) → Grows shell_spec p (with_byte p byte)
 byte_grows p byte =
-    let t : IsPrefixOf (transcript (commands_in p.delivered) p.captures)
-    (transcript (commands_in p.delivered ++ further p.delivered (byte ∷ [])) (p.captures ++ [])) =
-    transcript_grows (commands_in p.delivered) (further p.delivered (byte ∷ [])) p.captures [] in
+    let t : IsPrefixOf (transcript (commands_in p.input) p.snapshots)
+    (transcript (commands_in p.input ++ further p.input (byte ∷ [])) (p.snapshots ++ [])) =
+    transcript_grows (commands_in p.input) (further p.input (byte ∷ [])) p.snapshots [] in
     record {
       text = record {
         rest = t.rest;
         joined = t.joined
-            ∙ ap (λ (ks : List Snapshot). transcript (commands_in p.delivered ++ further p.delivered (byte ∷ [])) ks)
-            (append-nil p.captures)
-            ∙ ap (λ (cs : List Command). transcript cs p.captures) (sym (commands_grow p.delivered (byte ∷ [])));
+            ∙ ap (λ (ks : List Snapshot). transcript (commands_in p.input ++ further p.input (byte ∷ [])) ks)
+            (append-nil p.snapshots)
+            ∙ ap (λ (cs : List Command). transcript cs p.snapshots) (sym (commands_grow p.input (byte ∷ [])));
       };
       offset = refl;
     }
@@ -63,21 +63,21 @@ unpolled_grows p piece =
     all_grows (record p { polls = 0 }) piece in
     record { text = g.text; offset = g.offset }
 
-capture_grows : (p : AppState) (k : Snapshot) → Grows shell_spec p (record p { captures = p.captures ++ k ∷ [] })
+capture_grows : (p : AppState) (k : Snapshot) → Grows shell_spec p (record p { snapshots = p.snapshots ++ k ∷ [] })
 capture_grows p k =
-    let t : IsPrefixOf (transcript (commands_in p.delivered) p.captures)
-    (transcript (commands_in p.delivered ++ []) (p.captures ++ k ∷ [])) =
-    transcript_grows (commands_in p.delivered) [] p.captures (k ∷ []) in
+    let t : IsPrefixOf (transcript (commands_in p.input) p.snapshots)
+    (transcript (commands_in p.input ++ []) (p.snapshots ++ k ∷ [])) =
+    transcript_grows (commands_in p.input) [] p.snapshots (k ∷ []) in
     record {
       text = record {
         rest = t.rest;
-        joined = t.joined ∙ ap (λ (cs : List Command). transcript cs (p.captures ++ k ∷ [])) (append-nil (commands_in p.delivered));
+        joined = t.joined ∙ ap (λ (cs : List Command). transcript cs (p.snapshots ++ k ∷ [])) (append-nil (commands_in p.input));
       };
       offset = refl;
     }
 
 either_grows : (p : AppState) (k : Snapshot) (takes : Bool)
-    → Grows shell_spec p (if takes then record p { captures = p.captures ++ k ∷ [] } else p)
+    → Grows shell_spec p (if takes then record p { snapshots = p.snapshots ++ k ∷ [] } else p)
 either_grows p k true = capture_grows p k
 either_grows p k false = same_grows p
 

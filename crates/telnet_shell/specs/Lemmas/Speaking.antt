@@ -170,16 +170,16 @@ stays (c ∷ cs) capture (k ∷ ks) at s i =
 pub session_is : (q : List Command) (capture : Capture) (at : ℕ) (p : AppState) (b : IsTrailing q capture at p)
     → session p ≡ transcript b.before b.spoken ++ left_said q capture
 session_is q capture at p b =
-    ap (λ (cs : List Command). transcript cs p.captures) b.commands
-    ∙ ap (λ (ks : List Snapshot). transcript (b.before ++ q) ks) b.captures
+    ap (λ (cs : List Command). transcript cs p.snapshots) b.commands
+    ∙ ap (λ (ks : List Snapshot). transcript (b.before ++ q) ks) b.snapshots
     ∙ split b.before q b.spoken b.prefix b.took
     ∙ ap (λ (xs : List ℕ). transcript b.before b.spoken ++ xs) (prefix_left q capture b.prefix b.shows)
 
 pub waiting_is : (q : List Command) (capture : Capture) (at : ℕ) (p : AppState) → IsTrailing q capture at p → IsLeading q capture at
     → waiting p ≡ q
 waiting_is q capture at p b i =
-    ap (λ (cs : List Command). unfinished cs p.captures p.acked) b.commands
-    ∙ ap (λ (ks : List Snapshot). unfinished (b.before ++ q) ks p.acked) b.captures
+    ap (λ (cs : List Command). unfinished cs p.snapshots p.acked) b.commands
+    ∙ ap (λ (ks : List Snapshot). unfinished (b.before ++ q) ks p.acked) b.snapshots
     ∙ ap (λ (n : ℕ). unfinished (b.before ++ q) (b.spoken ++ b.prefix) n) b.acked
     ∙ passed b.before q b.spoken b.prefix at b.took
     ∙ stays q capture b.prefix at b.shows i

@@ -7,18 +7,18 @@ use Rattle.site_image.specs.Prelude.{File}
 use Rattle.web_pages.specs.Prelude.{is_acknowledged_by, waits_for_capture_by, wanted, web_spec_by}
 
 either_port : (waits : Bool) (p : AppState) (k : Snapshot)
-    → (if waits then record p { captures = p.captures ++ k ∷ [] } else p).port ≡ p.port
+    → (if waits then record p { snapshots = p.snapshots ++ k ∷ [] } else p).port ≡ p.port
 either_port true p k = refl
 either_port false p k = refl
 
 either_capture : (waits : Bool) (p : AppState) (k : Snapshot)
-    → ((if waits then record p { captures = p.captures ++ k ∷ [] } else p).captures ≡ p.captures)
-    ⊎ ((if waits then record p { captures = p.captures ++ k ∷ [] } else p).captures ≡ p.captures ++ k ∷ [])
+    → ((if waits then record p { snapshots = p.snapshots ++ k ∷ [] } else p).snapshots ≡ p.snapshots)
+    ⊎ ((if waits then record p { snapshots = p.snapshots ++ k ∷ [] } else p).snapshots ≡ p.snapshots ++ k ∷ [])
 either_capture true p k = inr refl
 either_capture false p k = inl refl
 
 abbrev waits : {F : Type 0} → Giving F → List File → AppState → Bool
-waits g files p = is_acknowledged_by g files p && waits_for_capture_by g files (wanted p.delivered) p
+waits g files p = is_acknowledged_by g files p && waits_for_capture_by g files (wanted p.input) p
 
 pub pages_can_pair : {F : Type 0} (g : Giving F) (files : List File) → CanBePaired (web_spec_by g files)
 pages_can_pair g files = record {
@@ -29,7 +29,7 @@ pages_can_pair g files = record {
     acked = λ numbers p count. refl;
     polled = λ numbers p. refl;
   };
-  captures = record {
+  snapshots = record {
     connected = λ numbers port. refl;
     newdata = λ numbers p piece. refl;
     prepare = λ numbers p now. either_capture (waits g files p) p (record { numbers = numbers; now = now });

@@ -17,32 +17,32 @@ no_more : (xs : List ℕ) → xs ++ [] ≡ xs
 no_more xs = append-nil xs
 
 pub newdata_grows : {F : Type 0} (g : Giving F) (files : List File) (part : AppState) (piece : List ℕ)
-    → IsPrefixOf (page_by g files part.delivered part.captures) (page_by g files (part.delivered ++ piece) part.captures)
+    → IsPrefixOf (page_by g files part.input part.snapshots) (page_by g files (part.input ++ piece) part.snapshots)
 newdata_grows g files part piece =
-    let p = page_grows g files part.delivered piece part.captures [] in
+    let p = page_grows g files part.input piece part.snapshots [] in
     record {
       rest = p.rest;
-      joined = p.joined ∙ ap (λ captures. page_by g files (part.delivered ++ piece) captures) (append-nil part.captures);
+      joined = p.joined ∙ ap (λ captures. page_by g files (part.input ++ piece) captures) (append-nil part.snapshots);
     }
 
 capture_grows : {F : Type 0} (g : Giving F) (files : List File) (part : AppState) (capture : Snapshot)
-    → IsPrefixOf (page_by g files part.delivered part.captures) (page_by g files part.delivered (part.captures ++ capture ∷ []))
+    → IsPrefixOf (page_by g files part.input part.snapshots) (page_by g files part.input (part.snapshots ++ capture ∷ []))
 capture_grows g files part capture =
-    let p = page_grows g files part.delivered [] part.captures (capture ∷ []) in
+    let p = page_grows g files part.input [] part.snapshots (capture ∷ []) in
     record {
       rest = p.rest;
-      joined = p.joined ∙ ap (λ delivered. page_by g files delivered (part.captures ++ capture ∷ [])) (no_more part.delivered);
+      joined = p.joined ∙ ap (λ delivered. page_by g files delivered (part.snapshots ++ capture ∷ [])) (no_more part.input);
     }
 
 abbrev pub with_capture : AppState → Snapshot → AppState
-with_capture part capture = record part { captures = part.captures ++ capture ∷ [] }
+with_capture part capture = record part { snapshots = part.snapshots ++ capture ∷ [] }
 
 either_grows : {F : Type 0} (g : Giving F) (files : List File) (part : AppState) (capture : Snapshot) (waits : Bool)
     → Grows (web_spec_by g files) part (if waits then with_capture part capture else part)
 either_grows g files part capture true = record { text = capture_grows g files part capture; offset = refl }
 either_grows g files part capture false =
     record {
-      text = same_prefix (page_by g files part.delivered part.captures) (page_by g files part.delivered part.captures) refl;
+      text = same_prefix (page_by g files part.input part.snapshots) (page_by g files part.input part.snapshots) refl;
       offset = refl;
     }
 
@@ -55,12 +55,12 @@ some_left most left one e =
     (omega arith, omega arith)
 
 wants_by : {F : Type 0} (g : Giving F) (files : List File) (part : AppState) (P : Want → Type 0) → P Abort → P Nothing
-    → (is_whole_by g files part.delivered part.captures ≡ true
-    → part.acked ≡ length (page_by g files part.delivered part.captures) → P Close)
+    → (is_whole_by g files part.input part.snapshots ≡ true
+    → part.acked ≡ length (page_by g files part.input part.snapshots) → P Close)
     → ((n : ℕ) → 1 ≤ n → n ≤ left_of_by g files part → P (Send n)) → P (web_want_by g files part)
 wants_by g files part P abort nothing close send =
     by_polls (part.polls == MOST_POLLS) _
-    (by_end (is_whole_by g files part.delivered part.captures && is_acknowledged_by g files part) refl)
+    (by_end (is_whole_by g files part.input part.snapshots && is_acknowledged_by g files part) refl)
   where
     by_left : (b : Bool) → nat_lt 0 (left_of_by g files part) ≡ b
         → P (if b then Send (min LARGEST_SEGMENT (left_of_by g files part)) else Nothing)
@@ -69,12 +69,12 @@ wants_by g files part P abort nothing close send =
         send (min LARGEST_SEGMENT (left_of_by g files part)) some.0 some.1
     by_left false e = nothing
 
-    by_end : (b : Bool) → (is_whole_by g files part.delivered part.captures && is_acknowledged_by g files part) ≡ b
+    by_end : (b : Bool) → (is_whole_by g files part.input part.snapshots && is_acknowledged_by g files part) ≡ b
         → P (if b then Close
         else (if nat_lt 0 (left_of_by g files part) then Send (min LARGEST_SEGMENT (left_of_by g files part)) else Nothing))
     by_end true e =
-        let both = and_parts (is_whole_by g files part.delivered part.captures) (is_acknowledged_by g files part) e in
-        close both.0 (eqb-true part.acked (length (page_by g files part.delivered part.captures)) both.1)
+        let both = and_parts (is_whole_by g files part.input part.snapshots) (is_acknowledged_by g files part) e in
+        close both.0 (eqb-true part.acked (length (page_by g files part.input part.snapshots)) both.1)
     by_end false e = by_left (nat_lt 0 (left_of_by g files part)) refl
 
     by_polls : (b : Bool) (want : Want) → P want → P (if b then Abort else want)
@@ -87,10 +87,10 @@ may_want g files part =
     wants_by g files part (MayWant (pages_by g files) part) tt tt (λ whole all. (whole, all)) (λ n one most. (one, omega arith))
 
 can_send : {F : Type 0} (g : Giving F) (files : List File) (part : AppState)
-    → CanSend (web_want_by g files part) (length (drop part.acked (page_by g files part.delivered part.captures)))
+    → CanSend (web_want_by g files part) (length (drop part.acked (page_by g files part.input part.snapshots)))
 can_send g files part =
-    let left = length-drop part.acked (page_by g files part.delivered part.captures) in
-    wants_by g files part (λ want. CanSend want (length (drop part.acked (page_by g files part.delivered part.captures)))) tt tt
+    let left = length-drop part.acked (page_by g files part.input part.snapshots) in
+    wants_by g files part (λ want. CanSend want (length (drop part.acked (page_by g files part.input part.snapshots)))) tt tt
     (λ whole all. tt)
     (λ n one most. (one, omega arith))
 
@@ -101,7 +101,7 @@ web_lawful g files stands = record {
   newdata_grows = λ hits part piece s. record { text = newdata_grows g files part piece; offset = refl };
   prepare_grows = λ hits part now s.
       either_grows g files part (record { numbers = hits; now = now })
-      (is_acknowledged_by g files part && waits_for_capture_by g files (wanted part.delivered) part);
+      (is_acknowledged_by g files part && waits_for_capture_by g files (wanted part.input) part);
   acked_moves = λ hits part n s h. (refl, refl);
   polled_keeps = λ hits part s. (refl, refl);
   sends = λ hits part s. can_send g files part;

@@ -9,13 +9,13 @@ returns-then-first-clause-query c = λ p s.
     let hits = c.hear.new.web.hits in
     let old = c.args.shared.now.query in
     let first = c.is_first-first.ensures.first c.if-first.true c.args.shared.now.web.site p s in
-    c.keep.ensures (record p { delivered = p.delivered ++ piece; polls = 0 })
-    (subst (λ (site : SiteContent). CompactRepresent words record_text c.hear.new.pages site (record p { delivered = p.delivered ++ piece; polls = 0 }))
+    c.keep.ensures (record p { input = p.input ++ piece; polls = 0 })
+    (subst (λ (site : SiteContent). CompactRepresent words record_text c.hear.new.pages site (record p { input = p.input ++ piece; polls = 0 }))
     (sym c.hear.ensures.site) (c.hear.ensures.part p s)) (ap (λ d. d ++ piece) first)
     ∙ ap (λ (site : SiteContent). kept_query hits old (place_wanted (files_of site) (wanted piece)) (query_in piece)) c.hear.ensures.site
-    ∙ sym (after_first (files_of c.args.shared.now.web.site) hits old p.delivered piece first)
+    ∙ sym (after_first (files_of c.args.shared.now.web.site) hits old p.input piece first)
 
 pub returns-else-first-clause-query : goal.returns-else-first-clause-query
 returns-else-first-clause-query c = λ p s.
-    sym (after_later (files_of c.args.shared.now.web.site) c.hear.new.web.hits c.args.shared.now.query p.delivered c.args.piece.now
+    sym (after_later (files_of c.args.shared.now.web.site) c.hear.new.web.hits c.args.shared.now.query p.input c.args.piece.now
     (c.is_first-first.ensures.later c.if-first.false c.args.shared.now.web.site p s))

@@ -14,7 +14,7 @@ pub returns-in-First-clause-part : goal.returns-in-First-clause-part
 returns-in-First-clause-part g c =
     let can = g.met.A.CanPair.can_pair (g.A.App.config c.args.shared.now.first) in
     first_moves g.A.App g.B.App g.met.A.CanPair.can_pair g.met.B.CanPair.can_pair c.args.self.now c.args.shared.now c.in-First.app c.in-First.is c.newdata.new.self (λ m l p. m.newdata l p c.args.piece.now) (λ p. refl)
-    (λ l p. can.port.newdata l p c.args.piece.now) (λ l p. can.captures.newdata l p c.args.piece.now) c.newdata.ensures.part
+    (λ l p. can.port.newdata l p c.args.piece.now) (λ l p. can.snapshots.newdata l p c.args.piece.now) c.newdata.ensures.part
 
 pub returns-in-First-clause-numbers : goal.returns-in-First-clause-numbers
 returns-in-First-clause-numbers g c =
@@ -24,7 +24,7 @@ pub returns-in-Second-clause-part : goal.returns-in-Second-clause-part
 returns-in-Second-clause-part g c =
     let can = g.met.B.CanPair.can_pair (g.B.App.config c.args.shared.now.second) in
     second_moves g.A.App g.B.App g.met.A.CanPair.can_pair g.met.B.CanPair.can_pair c.args.self.now c.args.shared.now c.in-Second.app c.in-Second.is c.newdata-in-Second.new.self (λ m l p. m.newdata l p c.args.piece.now) (λ p. refl)
-    (λ l p. can.port.newdata l p c.args.piece.now) (λ l p. can.captures.newdata l p c.args.piece.now) c.newdata-in-Second.ensures.part
+    (λ l p. can.port.newdata l p c.args.piece.now) (λ l p. can.snapshots.newdata l p c.args.piece.now) c.newdata-in-Second.ensures.part
 
 pub returns-in-Second-clause-numbers : goal.returns-in-Second-clause-numbers
 returns-in-Second-clause-numbers g c =

@@ -6,13 +6,13 @@ pub returns-in-Method-clause-part : goal.returns-in-Method-clause-part
 returns-in-Method-clause-part g c = λ p s.
     let delivered = method_heard (gives g.R.Function.Calls.calling g.R.Record.output) g.R.Record.text c.args.self.now c.args.site.now p c.in-Method.is s in
     heard_stands (gives g.R.Function.Calls.calling g.R.Record.output) g.R.Record.text c.args.self.now _ c.args.site.now p c.args.piece.now delivered.1 refl refl
-    (c.decide-self.ensures.stage (p.delivered ++ c.args.piece.now) (c.hear_method-delivered.ensures p.delivered delivered.0))
+    (c.decide-self.ensures.stage (p.input ++ c.args.piece.now) (c.hear_method-delivered.ensures p.input delivered.0))
 
 pub returns-in-Target-clause-part : goal.returns-in-Target-clause-part
 returns-in-Target-clause-part g c = λ p s.
     let delivered = target_heard (gives g.R.Function.Calls.calling g.R.Record.output) g.R.Record.text c.args.self.now c.args.site.now p c.in-Target.is s in
     heard_stands (gives g.R.Function.Calls.calling g.R.Record.output) g.R.Record.text c.args.self.now _ c.args.site.now p c.args.piece.now delivered.1 refl refl
-    (c.decide-self-in-Target.ensures.stage (p.delivered ++ c.args.piece.now) (c.hear_target-delivered.ensures p.delivered delivered.0))
+    (c.decide-self-in-Target.ensures.stage (p.input ++ c.args.piece.now) (c.hear_target-delivered.ensures p.input delivered.0))
 
 pub returns-in-Reply-clause-part : goal.returns-in-Reply-clause-part
 returns-in-Reply-clause-part g c = λ p s. reply_stays (gives g.R.Function.Calls.calling g.R.Record.output) g.R.Record.text c.args.self.now c.args.site.now p c.args.piece.now c.in-Reply.found c.in-Reply.is s

@@ -9,7 +9,7 @@ returns-clause-answers g c =
     let taken = c.take-taken.result in
     let new = c.take-taken.new.node in
     record {
-      delivered = c.take-taken.ensures.fed;
+      input = c.take-taken.ensures.fed;
       sends = λ before fed.
           on_line g.A.App (λ own. events_after own 0 before (map Byte (take taken.count c.args.bytes.now))) old.node new (left_text_of old)
           (take taken.written.wrote c.take-taken.new.out) (text_to_come (datagram_in new.packet) taken.written.left) (none_left old c.requires.none)

@@ -10,7 +10,7 @@ returns-clause-answers g c =
     let handed = take c.write_text-written.result.wrote c.write_text-written.new.out in
     let left = text_to_come (datagram_in new.packet) c.write_text-written.result.left in
     record {
-      delivered = λ before fed. subst (λ (l : List ℕ). WasFed l old.decoder) (sym (append-nil before)) fed;
+      input = λ before fed. subst (λ (l : List ℕ). WasFed l old.decoder) (sym (append-nil before)) fed;
       sends = λ before fed.
           on_line g.A.App (λ own. Periodic c.args.slot ∷ []) old.node new (left_text_of old) handed left (none_left old c.requires.none)
           (sends_at g.A.App (Periodic c.args.slot) old.node new c.periodic-sent.result (λ own replies. text_of own replies ≡ handed ++ left)

@@ -7,4 +7,4 @@ returns-clause-numbers c = λ p s.
     let values = c.args.shared.now.values.bytes in
     ap (λ (bytes : List ℕ). c.receive.new.shared.web.hits ++ bytes) c.receive.ensures.values
     ∙ ap (λ hits. hits ++ values) (c.receive.ensures.hits p s)
-    ∙ sym (hits_by_prefix (files_of web.site) web.hits values (wanted p.delivered) (wanted (p.delivered ++ c.args.piece.now)) c.see_counted.ensures)
+    ∙ sym (hits_by_prefix (files_of web.site) web.hits values (wanted p.input) (wanted (p.input ++ c.args.piece.now)) c.see_counted.ensures)

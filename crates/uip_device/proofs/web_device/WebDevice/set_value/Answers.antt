@@ -6,7 +6,7 @@ returns-clause-gives c =
     let changes = c.set_node_value.ensures in
     record {
       kept = changes.kept;
-      delivered = λ before h. h;
+      input = λ before h. h;
       left = ap (λ p. text_to_come (datagram_in p) c.args.self.now.left) changes.packet;
       stands = changes.stands;
     }
