@@ -3,7 +3,7 @@ use Rattle.ethernet_arp.proofs.Prelude.{◌≡◌, ℕ, zero, suc, ◌+◌, ◌*
 use Rattle.std.proofs.Common.{bytes_eq}
 use Rattle.tcp_segment.specs.Segments.{Datagram as Segmented, PlainSegment, datagram_bytes, fixed_words, has_rst, option_words, segment_bytes, segment_sum}
 use Rattle.uip_node.specs.Events.Event.{Overlong}
-use Rattle.uip_node.specs.Events.Reply.{Echo as EchoSent, Tcp as TcpSent}
+use Rattle.uip_node.specs.Events.Reply.{Echo as EchoSent, TcpReply as TcpSent}
 use Rattle.line_medium.specs.Media.{MediumInput, Datagram, Overlong as OverlongFrame, Own}
 
 within : (d : List ℕ) → 20 ≤ length d → length d ≤ 1500 → is_sendable d ≡ true

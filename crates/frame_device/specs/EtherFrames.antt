@@ -4,9 +4,8 @@ use Rattle.app_events.specs.Prelude.{AppSpec}
 use Rattle.uip_wire.specs.Prelude.{word_at}
 use Rattle.uip_wire.specs.declared.addr.Addr.{Addr}
 use Rattle.serve_loop.specs.Prelude.{Station, output, initial_station}
-use Rattle.ethernet_arp.specs.Prelude.{ether_medium, is_taken, Host, arp_reply, frame_brings, framed, is_datagram}
-use Rattle.ethernet_arp.specs.Prelude.{is_sendable, mac_at, wrapped_via, Act, Asked, Ticked, host_of, known}
-use Rattle.ethernet_arp.specs.Prelude.{target_in}
+use Rattle.ethernet_arp.specs.Prelude.{ether_medium, is_taken, Host, arp_reply, frame_brings, framed, is_datagram, is_sendable, mac_at}
+use Rattle.ethernet_arp.specs.Prelude.{wrapped_via, Act, Asked, Ticked, host_of, known, target_in}
 use Rattle.frame_device.specs.FrameSpecs.{FrameSpec, as_medium}
 use Rattle.frame_device.specs.declared.ether.Ethernet.{Ethernet}
 use Rattle.frame_device.specs.NextHop.{Interface, IsOneLink, hop_of, next_hop}

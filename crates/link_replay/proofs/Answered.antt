@@ -1,5 +1,5 @@
 -- What a call of the node did updates the clients and the list of datagrams.
-use Rattle.link_replay.proofs.Prelude.{option_map_or, is_some, ◌≡◌, ◌≤◌, ℕ, zero, suc, Bool, true, false, List, [], length, refl, sym, ap, ◌∙◌, subst, arith, Option, Some, None, slice_get, Vec, with_items, with_items_is, Addr, Buffer, datagram_in, echo_reply, PlainSegment, datagram_bytes, Connection, Sockets, datagram_to, reply_bytes, Reply, Echo, Tcp, AbstractNode, IsSent, Client, FitsRequest, bytes_by, node_bytes, World, Side, Content, addressed, retires, numbered, posts, posts_reply, OfEcho, OfSegment, FromNode, addressed_is, OnlyEpoch, Matched, gone_pair, is_sent_again, pair_at, sockets_at, IsLink, LinkRepresents, SentRepresents, SideRepresents, AreTo, IsTo, Link, link_of, CodeSent, CodeSide, SocketPair}
+use Rattle.link_replay.proofs.Prelude.{option_map_or, is_some, ◌≡◌, ◌≤◌, ℕ, zero, suc, Bool, true, false, List, [], length, refl, sym, ap, ◌∙◌, subst, arith, Option, Some, None, slice_get, Vec, with_items, with_items_is, Addr, Buffer, datagram_in, echo_reply, PlainSegment, datagram_bytes, Connection, Sockets, datagram_to, reply_bytes, Reply, Echo, TcpReply, AbstractNode, IsSent, Client, FitsRequest, bytes_by, node_bytes, World, Side, Content, addressed, retires, numbered, posts, posts_reply, OfEcho, OfSegment, FromNode, addressed_is, OnlyEpoch, Matched, gone_pair, is_sent_again, pair_at, sockets_at, IsLink, LinkRepresents, SentRepresents, SideRepresents, AreTo, IsTo, Link, link_of, CodeSent, CodeSide, SocketPair}
 use Rattle.link_replay.proofs.Pairs.{Partner, partner}
 use Rattle.link_replay.proofs.Places.{sent_stays}
 use Rattle.link_replay.proofs.Staying.{buried_places}
@@ -109,7 +109,7 @@ pub answer_posted : (P : World → Type 0) (w : World) (reply : Reply) (xs : Lis
 answer_posted P w (Echo request) xs to number again datagram meant t a d m n e post =
     let bytes : meant ≡ echo_reply request = e ∙ ap (λ (o : Option SocketPair). meant_for number o datagram) t ∙ d in
     subst (λ (k : ℕ). P (posts w (FromNode k) false (OfEcho request))) (n.none t) (subst (λ (b : Bool). P (posts w (FromNode number) b (OfEcho request))) a (post (OfEcho request) bytes))
-answer_posted P w (Tcp sockets id again' s) xs to number again datagram meant t a d m n e post =
+answer_posted P w (TcpReply sockets id again' s) xs to number again datagram meant t a d m n e post =
     let to_whom : number ≡ addressed 1 sockets w.sides = n.some (pair_at sockets) t w.sides m in
     let bytes : meant ≡ option_map_or (node_bytes w.node.addr id s) (numbered w.sides number) []
     = e ∙ ap (λ (o : Option SocketPair). meant_for number o datagram) t ∙ ap (meant_for number (Some (pair_at sockets))) d ∙ node_said w.node.addr sockets id s w.sides (pair_at sockets) number to_whom in

@@ -1,6 +1,6 @@
 -- Each event is counted, and its answer counts as a retransmission exactly if it is one.
 -- [add: counter] An event with a further case.
-use Rattle.link_replay.proofs.Prelude.{◌≡◌, ℕ, ◌+◌, ◌==◌, Bool, true, false, not, if◌then◌else◌, ◌&&◌, List, ◌∷◌, refl, ap, ◌∙◌, Option, Some, None, position, eqb, arith, Tcp, option_map, option_map_or, list_any, common_steps, wrap, PlainSegment, has_rst, AppSpec, Sockets, Connection, serves, Outcome, asked, accept, on_segment, on_tick, is_plain_syn, is_again, segment_of, initial_number, raised_by_answer, raises, times, Answer, Event, HistoryEntry, IpRefused, IcmpRefused, TcpRefused, EchoAsked, Arrived, Overlong, Periodic, Silent, NoSlot, EchoReplied, Spoke, AbstractNode, NodeStep, arrives_at, connection_in, for_no_connection, happened, snapshot, opens, opens_in, passes, slot_for_syn, step, choose, is_sent_again, resent}
+use Rattle.link_replay.proofs.Prelude.{◌≡◌, ℕ, ◌+◌, ◌==◌, Bool, true, false, not, if◌then◌else◌, ◌&&◌, List, ◌∷◌, refl, ap, ◌∙◌, Option, Some, None, position, eqb, arith, TcpReply, option_map, option_map_or, list_any, common_steps, wrap, PlainSegment, has_rst, AppSpec, Sockets, Connection, serves, Outcome, asked, accept, on_segment, on_tick, is_plain_syn, is_again, segment_of, initial_number, raised_by_answer, raises, times, Answer, Event, HistoryEntry, IpRefused, IcmpRefused, TcpRefused, EchoAsked, Arrived, Overlong, Periodic, Silent, NoSlot, EchoReplied, Spoke, AbstractNode, NodeStep, arrives_at, connection_in, for_no_connection, happened, snapshot, opens, opens_in, passes, slot_for_syn, step, choose, is_sent_again, resent}
 use Rattle.uip_ipv4.specs.declared.fate.IpFate.TheVariants as Ip
 use Rattle.icmp_echo.specs.declared.fate.IcmpFate.TheVariants as Icmp
 use Rattle.tcp_segment.specs.declared.fate.TcpFate.TheVariants as Tcp
@@ -21,7 +21,7 @@ by_answer (IcmpRefused Icmp.Short) answer = refl
 by_answer (TcpRefused Tcp.Short) answer = refl
 by_answer event answer = refl
 
-answered : (output : Option PlainSegment) (again : Bool) (sockets : Sockets) (id : ℕ) → was_again (option_map_or (λ s. Spoke again) output Silent) ≡ is_sent_again (option_map (λ s. Tcp sockets id again s) output)
+answered : (output : Option PlainSegment) (again : Bool) (sockets : Sockets) (id : ℕ) → was_again (option_map_or (λ s. Spoke again) output Silent) ≡ is_sent_again (option_map (λ s. TcpReply sockets id again s) output)
 answered None again sockets id = refl
 answered (Some s) true sockets id = refl
 answered (Some s) false sockets id = refl

@@ -1,5 +1,5 @@
 -- The world after a step of its node.
-use Rattle.link_replay.proofs.Prelude.{◌≡◌, ℕ, zero, suc, ◌<◌, get_or, drop, ◌+◌, ◌++◌, ◌∷◌, [], Bool, false, List, length, refl, sym, ap, ◌∙◌, subst, arith, Option, Some, None, length-append, if◌then◌else◌, AppSpec, Ghosts, Addr, PlainSegment, Sockets, Event, Reply, tick, Arrived, Periodic, Echo, Tcp, AbstractNode, NodeStep, step, connection_in, Represents, AbstractClient, ClientStep, client_takes, client_acts, handed, hears_datagram, World, Side, at_side, retires, client_stepped, node_handles, node_stepped, numbered, posts, posts_reply, with_client, with_side, OfSegment, FromClient, where_there, owner, pair_at, WorldRepresents, LinkRepresents, IsLink, AreTo, IsTo, SocketPair, Link, CodeWorld}
+use Rattle.link_replay.proofs.Prelude.{◌≡◌, ℕ, zero, suc, ◌<◌, get_or, drop, ◌+◌, ◌++◌, ◌∷◌, [], Bool, false, List, length, refl, sym, ap, ◌∙◌, subst, arith, Option, Some, None, length-append, if◌then◌else◌, AppSpec, Ghosts, Addr, PlainSegment, Sockets, Event, Reply, tick, Arrived, Periodic, Echo, TcpReply, AbstractNode, NodeStep, step, connection_in, Represents, AbstractClient, ClientStep, client_takes, client_acts, handed, hears_datagram, World, Side, at_side, retires, client_stepped, node_handles, node_stepped, numbered, posts, posts_reply, with_client, with_side, OfSegment, FromClient, where_there, owner, pair_at, WorldRepresents, LinkRepresents, IsLink, AreTo, IsTo, SocketPair, Link, CodeWorld}
 use Rattle.link_replay.proofs.Pairs.{left_is}
 use Rattle.link_replay.proofs.Replies.{SaidTo, arrived_reply, periodic_reply}
 use Rattle.link_replay.proofs.Staying.{step_addr}
@@ -7,12 +7,12 @@ use Rattle.link_replay.proofs.Staying.{step_addr}
 reply_node : (w : World) (r : Option Reply) → (posts_reply w r).node ≡ w.node
 reply_node w None = refl
 reply_node w (Some (Echo request)) = refl
-reply_node w (Some (Tcp sockets id again s)) = refl
+reply_node w (Some (TcpReply sockets id again s)) = refl
 
 reply_mark : (w : World) (r : Option Reply) → (posts_reply w r).mark ≡ w.mark
 reply_mark w None = refl
 reply_mark w (Some (Echo request)) = refl
-reply_mark w (Some (Tcp sockets id again s)) = refl
+reply_mark w (Some (TcpReply sockets id again s)) = refl
 
 module _ {A S : Type 0} (g : Ghosts A S) where
   pub handled : (m : AppSpec) (served : ℕ → Bool) (event : Event) (world : CodeWorld A S) (w : World) → Represents g world.node (step m served w.node event).node (step m served w.node event).node.history →
@@ -60,7 +60,7 @@ silent w r h = go r.sent h
     go : (s : Option Reply) → (posts_reply (record w { node = r.node; sides = retires r.gone w.sides }) s).sent ≡ w.sent → s ≡ None
     go None e = refl
     go (Some (Echo request)) e = absurd (longer w.sent _ e)
-    go (Some (Tcp sockets id again s)) e = absurd (longer w.sent _ e)
+    go (Some (TcpReply sockets id again s)) e = absurd (longer w.sent _ e)
 
 -- a world with the node and the mark of another
 record StaysAt (w v : World) : Type 0 where

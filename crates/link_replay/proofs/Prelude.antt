@@ -117,7 +117,7 @@ pub use Rattle.uip_node.proofs.Peers.{asked_keeps, on_segment_keeps, on_tick_clo
 pub use Rattle.uip_node.proofs.SocketPairs.{flip, not_peer, same_is, serves_dead, serves_yes}
 pub use Rattle.uip_node.proofs.SoundSegments.{first_low}
 pub use Rattle.uip_node.proofs.Stepping.{slice_get-element}
-pub use Rattle.uip_node.specs.Prelude.{AbstractNode, Answer, AnswersIn, AnswersPolled, Arrived, Echo, EchoAsked, EchoReplied, Event, GoesOnBy, HasBytes, HistoryEntry, IcmpRefused, IpRefused, IsSent, NoSlot, NodeStep, Overlong, Periodic, Reply, Represents, Silent, SlotsRepresent, Spoke, Tcp, TcpRefused, arrives_at, connection_in, datagram_to, event_of, gone_by, initial_node, initial_number, opens, passes, raised_by_answer, raises, refuses, reply_bytes, run, serving, slot_for_syn, snapshot, step, tick, ticks_of, times}
+pub use Rattle.uip_node.specs.Prelude.{AbstractNode, Answer, AnswersIn, AnswersPolled, Arrived, Echo, EchoAsked, EchoReplied, Event, GoesOnBy, HasBytes, HistoryEntry, IcmpRefused, IpRefused, IsSent, NoSlot, NodeStep, Overlong, Periodic, Reply, Represents, Silent, SlotsRepresent, Spoke, TcpReply, TcpRefused, arrives_at, connection_in, datagram_to, event_of, gone_by, initial_node, initial_number, opens, passes, raised_by_answer, raises, refuses, reply_bytes, run, serving, slot_for_syn, snapshot, step, tick, ticks_of, times}
 unfoldable pub use Rattle.uip_node.specs.Prelude.{for_no_connection, happened, opens_in}
 pub use Rattle.uip_wire.specs.Prelude.{cut_at_dot, numeral, part_number, wrap}
 unfoldable pub use Rattle.uip_wire.specs.Prelude.{quad_of}

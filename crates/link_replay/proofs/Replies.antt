@@ -1,12 +1,12 @@
 -- To whom the node sends: to the sender of a segment, and at a periodic call to the peer of the connection, which is live.
-use Rattle.link_replay.proofs.Prelude.{◌≡◌, ℕ, Bool, true, false, ◌&&◌, ◌+◌, List, refl, sym, ap, ◌∙◌, subst, arith, Option, Some, None, position, slice_index_or, option_map, PlainSegment, has_rst, AppSpec, Now, Sockets, Connection, closed, is_live, same_sockets, serves, Outcome, asked, accept, on_segment, on_tick, is_plain_syn, is_again, reset_for_no_connection, segment_of, initial_number, Event, Reply, Arrived, Periodic, Tcp, AbstractNode, NodeStep, arrives_at, connection_in, for_no_connection, happened, snapshot, opens, opens_in, refuses, slot_for_syn, step, and_true, both_ways, choose, asked_keeps, on_segment_keeps, on_tick_closed, on_tick_keeps, same_is, find_is, finds, finds_none, index_of, serving}
+use Rattle.link_replay.proofs.Prelude.{◌≡◌, ℕ, Bool, true, false, ◌&&◌, ◌+◌, List, refl, sym, ap, ◌∙◌, subst, arith, Option, Some, None, position, slice_index_or, option_map, PlainSegment, has_rst, AppSpec, Now, Sockets, Connection, closed, is_live, same_sockets, serves, Outcome, asked, accept, on_segment, on_tick, is_plain_syn, is_again, reset_for_no_connection, segment_of, initial_number, Event, Reply, Arrived, Periodic, TcpReply, AbstractNode, NodeStep, arrives_at, connection_in, for_no_connection, happened, snapshot, opens, opens_in, refuses, slot_for_syn, step, and_true, both_ways, choose, asked_keeps, on_segment_keeps, on_tick_closed, on_tick_keeps, same_is, find_is, finds, finds_none, index_of, serving}
 
 -- a TCP datagram to these sockets
 pub record SaidTo (sockets : Sockets) (r : Reply) : Type 0 where
   pub id : ℕ
   pub again : Bool
   pub segment : PlainSegment
-  pub is : r ≡ Tcp sockets id again segment
+  pub is : r ≡ TcpReply sockets id again segment
 
 -- a TCP datagram of a connection that is not CLOSED
 pub record SaidBy (c : Connection) (r : Reply) : Type 0 where
@@ -16,9 +16,9 @@ pub record SaidBy (c : Connection) (r : Reply) : Type 0 where
 abbrev pub SaysTo : Sockets → Option Reply → Type 0
 SaysTo sockets sent = (r : Reply) → sent ≡ Some r → SaidTo sockets r
 
-says : (output : Option PlainSegment) (sockets : Sockets) (id : ℕ) (again : Bool) → SaysTo sockets (option_map (λ s. Tcp sockets id again s) output)
+says : (output : Option PlainSegment) (sockets : Sockets) (id : ℕ) (again : Bool) → SaysTo sockets (option_map (λ s. TcpReply sockets id again s) output)
 says None sockets id again r h = absurd (cc)
-says (Some s) sockets id again r h = record { id = id; again = again; segment = s; is = (let e : Tcp sockets id again s ≡ r = cc in sym e) }
+says (Some s) sockets id again r h = record { id = id; again = again; segment = s; is = (let e : TcpReply sockets id again s ≡ r = cc in sym e) }
 
 happened_says : (m : AppSpec) (n : AbstractNode) (event : Event) (slot : ℕ) (old : Connection) (o : Outcome) (sockets : Sockets) → o.connection.sockets ≡ sockets → SaysTo sockets (happened m n event slot old o).sent
 unfolding happened

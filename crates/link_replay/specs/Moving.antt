@@ -16,8 +16,7 @@ use Rattle.link_replay.specs.Reaching.{IsAt}
 use Rattle.link_replay.specs.Represents.{IsLink, LinkRepresents, SentRepresents, WorldRepresents}
 use Rattle.link_replay.specs.Telling.{AnswersTo, AreTo, IsTo, sees}
 use Rattle.link_replay.specs.declared.before.Before.{Before}
-use Rattle.link_replay.specs.Plain.{CodeSent}
-use Rattle.link_replay.specs.Plain.{CodeSide}
+use Rattle.link_replay.specs.Plain.{CodeSent, CodeSide}
 use Rattle.link_replay.specs.declared.socket_pair.SocketPair.{SocketPair}
 use Rattle.link_replay.specs.State.{CodeWorld, Link, link_of}
 

@@ -4,7 +4,7 @@ use Rattle.uip_wire.specs.Prelude.{wrap}
 use Rattle.tcp_table.specs.Prelude.{is_at}
 use Rattle.tcp_table.specs.declared.conn.Conn.{Conn}
 use Rattle.tcp_machine.specs.Prelude.{Connection, Sockets, is_live}
-use Rattle.uip_node.specs.Prelude.{raises, times, HistoryEntry, Reply, Echo, Tcp, AbstractNode}
+use Rattle.uip_node.specs.Prelude.{raises, times, HistoryEntry, Reply, Echo, TcpReply, AbstractNode}
 use Rattle.uip_node.specs.declared.counter.TheConstants.{TCP_AGAIN}
 use Rattle.link_replay.specs.declared.before.Before.{Before}
 use Rattle.link_replay.specs.declared.socket_pair.SocketPair.{SocketPair}
@@ -56,4 +56,4 @@ gone_pair (Some gone) = Some (pair_at gone.sockets)
 abbrev pub is_sent_again : Option Reply → Bool
 is_sent_again None = false
 is_sent_again (Some (Echo request)) = false
-is_sent_again (Some (Tcp sockets id again segment)) = again
+is_sent_again (Some (TcpReply sockets id again segment)) = again

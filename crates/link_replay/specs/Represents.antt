@@ -7,8 +7,7 @@ use Rattle.uip_node.specs.Prelude.{Represents}
 use Rattle.link_client.specs.Prelude.{standing, FitsRequest}
 use Rattle.link_world.specs.Prelude.{World, Side, Sent, epoch, sent_bytes}
 use Rattle.link_replay.specs.Matched.{Matched}
-use Rattle.link_replay.specs.Plain.{CodeSent}
-use Rattle.link_replay.specs.Plain.{CodeSide}
+use Rattle.link_replay.specs.Plain.{CodeSent, CodeSide}
 use Rattle.link_replay.specs.State.{CodeWorld, Link}
 
 -- a client of the code and one over plain data

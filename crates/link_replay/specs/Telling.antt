@@ -1,6 +1,6 @@
 -- The receiver of a reply of the node.
 use Rattle.std.specs.Prelude.{◌≡◌, ℕ, Option, Some, None, ⊤}
-use Rattle.uip_node.specs.Prelude.{Reply, Echo, Tcp}
+use Rattle.uip_node.specs.Prelude.{Reply, Echo, TcpReply}
 use Rattle.link_replay.specs.declared.socket_pair.SocketPair.{SocketPair}
 use Rattle.link_world.specs.Prelude.{World, Side, Sent, marked, numbered, client_sockets, with_side}
 use Rattle.link_world.specs.declared.who.Who.{Who}
@@ -10,7 +10,7 @@ use Rattle.link_replay.specs.Noting.{pair_at}
 -- A segment is for its sockets; an echo reply is for no client.
 abbrev pub IsTo : Option SocketPair → Reply → Type 0
 IsTo to (Echo request) = to ≡ None
-IsTo to (Tcp sockets id again segment) = to ≡ Some (pair_at sockets)
+IsTo to (TcpReply sockets id again segment) = to ≡ Some (pair_at sockets)
 
 abbrev pub AreTo : Option SocketPair → Option Reply → Type 0
 AreTo to None = ⊤

@@ -1,5 +1,5 @@
 -- The world's acts, for any fact G about one client: what the acts do to the sides, the table and the list is proved once.
-use Rattle.link_world.proofs.Prelude.{option_map_or, All, option_map, ◌≡◌, ℕ, zero, suc, Bool, true, false, not, ◌&&◌, List, [], ◌∷◌, ◌++◌, length, map, set, refl, sym, ap, ◌∙◌, subst, arith, Option, Some, None, slice_get, slice_index_or, if◌then◌else◌, PlainSegment, has_syn, has_fin, has_rst, AppSpec, IsSteady, IsSnapshot, IsNow, IsU32, Now, Sockets, Connection, closed, is_live, serves, same_sockets, segment_of, is_again, is_plain_syn, reset_for_no_connection, syn_ack, Outcome, leaves, asked, accepted, on_segment, on_tick, Step, Event, Reply, EchoAsked, Arrived, Periodic, Silent, NoSlot, Echo, Tcp, initial_number, ticks_of, AbstractNode, NodeStep, gone_by, snapshot, happened, slot_for_syn, opens_in, opens, refuses, for_no_connection, arrives_at, step, passes, Setup, AbstractClient, ClientStep, client_takes, client_opens, client_again, client_closes, client_aborts, advertises_window, World, Side, Sent, Content, numbered, client_sockets, retires, retires_in, addressed, epoch, epoch_of, posts, posts_reply, node_stepped, node_handles, with_client, with_side, posts_of_client, client_stepped, marked, delivers, is_clean, past_connection_of, OfSegment, OfPing, OfEcho, client_acts, handles_all, does, Act, Who, FromClient, FromNode, Pinger, era, serving, IsLoss, both_ways, choose, and_true, only_some, same_is, flip, apart, serves_not, serves_dead, serves_yes, not_peer, find_is, get_set_same, set_same, set_past, index_of, index_none, Single, Free, get_set, single_set, serving_is, serving_free, serving_new, serving_gone, serving_other, finds, finds_none, here, there, FitConn, accepted_fits, node_snapshot, serving_fits, slot_inside, on_segment_keeps, asked_keeps, on_tick_keeps, on_tick_closed}
+use Rattle.link_world.proofs.Prelude.{option_map_or, All, option_map, ◌≡◌, ℕ, zero, suc, Bool, true, false, not, ◌&&◌, List, [], ◌∷◌, ◌++◌, length, map, set, refl, sym, ap, ◌∙◌, subst, arith, Option, Some, None, slice_get, slice_index_or, if◌then◌else◌, PlainSegment, has_syn, has_fin, has_rst, AppSpec, IsSteady, IsSnapshot, IsNow, IsU32, Now, Sockets, Connection, closed, is_live, serves, same_sockets, segment_of, is_again, is_plain_syn, reset_for_no_connection, syn_ack, Outcome, leaves, asked, accepted, on_segment, on_tick, Step, Event, Reply, EchoAsked, Arrived, Periodic, Silent, NoSlot, Echo, TcpReply, initial_number, ticks_of, AbstractNode, NodeStep, gone_by, snapshot, happened, slot_for_syn, opens_in, opens, refuses, for_no_connection, arrives_at, step, passes, Setup, AbstractClient, ClientStep, client_takes, client_opens, client_again, client_closes, client_aborts, advertises_window, World, Side, Sent, Content, numbered, client_sockets, retires, retires_in, addressed, epoch, epoch_of, posts, posts_reply, node_stepped, node_handles, with_client, with_side, posts_of_client, client_stepped, marked, delivers, is_clean, past_connection_of, OfSegment, OfPing, OfEcho, client_acts, handles_all, does, Act, Who, FromClient, FromNode, Pinger, era, serving, IsLoss, both_ways, choose, and_true, only_some, same_is, flip, apart, serves_not, serves_dead, serves_yes, not_peer, find_is, get_set_same, set_same, set_past, index_of, index_none, Single, Free, get_set, single_set, serving_is, serving_free, serving_new, serving_gone, serving_other, finds, finds_none, here, there, FitConn, accepted_fits, node_snapshot, serving_fits, slot_inside, on_segment_keeps, asked_keeps, on_tick_keeps, on_tick_closed}
 use Rattle.link_world.proofs.Doing.{at_number, where_there}
 use Rattle.link_world.proofs.Good.{seg, segment_in, from, to}
 use Rattle.link_world.proofs.FitWorlds.{FitWorld, era_fits, put_fits, periodic_fits}
@@ -43,16 +43,16 @@ pub record Reacted : Type 0 where
 pub data Sends (peer : Sockets) (sent : Option Reply) (output : Option OutputModel) : Type 0 where
   sends_none : sent ≡ None → output ≡ None → Sends peer sent output
   sends_echo : (request : List ℕ) → sent ≡ Some (Echo request) → output ≡ None → Sends peer sent output
-  sends_tcp : (id : ℕ) (x : OutputModel) → sent ≡ Some (Tcp peer id x.again x.segment) → output ≡ Some x → Sends peer sent output
+  sends_tcp : (id : ℕ) (x : OutputModel) → sent ≡ Some (TcpReply peer id x.again x.segment) → output ≡ Some x → Sends peer sent output
 
 pub record Reaction (r : NodeStep) (peer : Sockets) (x : Reacted) : Type 0 where
   pub table : r.node.connections ≡ x.table
   pub gone : r.gone ≡ x.gone
   pub sends : Sends peer r.sent x.output
 
-reply_sends : (output : Option PlainSegment) (sockets peer : Sockets) (id : ℕ) (again : Bool) → sockets ≡ peer → Sends peer (option_map (λ s. Tcp sockets id again s) output) (output_model_of output again)
+reply_sends : (output : Option PlainSegment) (sockets peer : Sockets) (id : ℕ) (again : Bool) → sockets ≡ peer → Sends peer (option_map (λ s. TcpReply sockets id again s) output) (output_model_of output again)
 reply_sends None sockets peer id again e = sends_none refl refl
-reply_sends (Some s) sockets peer id again e = sends_tcp id (model again s) (ap (λ p. Some (Tcp p id again s)) e) refl
+reply_sends (Some s) sockets peer id again e = sends_tcp id (model again s) (ap (λ p. Some (TcpReply p id again s)) e) refl
 
 module _ (m : AppSpec) (G : ℕ → Side → Connection → List Sent → Type 0)
     (other : (k : ℕ) (side : Side) (c : Connection) (sent : List Sent) (e : Sent) → G k side c sent → (e.who ≡ to k → ⊥) → (e.who ≡ from k → ⊥) → G k side c (sent ++ e ∷ []))

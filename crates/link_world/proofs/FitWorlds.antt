@@ -1,5 +1,5 @@
 -- The whole world: every connection and every past connection has captures of snapshots alone, and clients have addresses.
-use Rattle.link_world.proofs.Prelude.{All, ◌≡◌, ℕ, zero, suc, ◌<◌, Bool, false, List, [], ◌∷◌, ◌++◌, length, get_or, refl, sym, ap, ◌∙◌, subst, Option, Some, None, slice_get, position, ltb, PlainSegment, AppSpec, IsSteady, IsSnapshot, IsAddr, Sockets, Connection, closed, serves, same_sockets, on_tick, Reply, Arrived, Periodic, Echo, Tcp, AbstractNode, NodeStep, snapshot, connection_in, step, ClientStep, World, Side, PastConnection, Content, client_sockets, retires, retires_in, addressed, posts, posts_reply, node_stepped, node_handles, with_client, with_side, posts_of_client, client_stepped, past_connection_of, Who, FromNode, era, choose, get_map, get_set, here, there, FitConn, all_nil, asked_fits, on_tick_fits, FitNode, FitStep, index_fits, node_snapshot, still_fits, happened_fits, arrives_fits}
+use Rattle.link_world.proofs.Prelude.{All, ◌≡◌, ℕ, zero, suc, ◌<◌, Bool, false, List, [], ◌∷◌, ◌++◌, length, get_or, refl, sym, ap, ◌∙◌, subst, Option, Some, None, slice_get, position, ltb, PlainSegment, AppSpec, IsSteady, IsSnapshot, IsAddr, Sockets, Connection, closed, serves, same_sockets, on_tick, Reply, Arrived, Periodic, Echo, TcpReply, AbstractNode, NodeStep, snapshot, connection_in, step, ClientStep, World, Side, PastConnection, Content, client_sockets, retires, retires_in, addressed, posts, posts_reply, node_stepped, node_handles, with_client, with_side, posts_of_client, client_stepped, past_connection_of, Who, FromNode, era, choose, get_map, get_set, here, there, FitConn, all_nil, asked_fits, on_tick_fits, FitNode, FitStep, index_fits, node_snapshot, still_fits, happened_fits, arrives_fits}
 
 abbrev pub FitPast : List PastConnection → Type 0
 FitPast history = (n : ℕ) → All IsSnapshot (get_or history n (past_connection_of closed)).snapshots
@@ -41,7 +41,7 @@ posts_fit w who again content f = record { node = f.node; sides = f.sides }
 reply_fit : (w : World) (r : Option Reply) → FitWorld w → FitWorld (posts_reply w r)
 reply_fit w None f = f
 reply_fit w (Some (Echo request)) f = posts_fit w (FromNode 0) false _ f
-reply_fit w (Some (Tcp sockets id again s)) f = posts_fit w (FromNode (addressed 1 sockets w.sides)) again _ f
+reply_fit w (Some (TcpReply sockets id again s)) f = posts_fit w (FromNode (addressed 1 sockets w.sides)) again _ f
 
 stepped_fit : (w : World) (r : NodeStep) → FitWorld w → FitStep r → FitWorld (node_stepped w r)
 stepped_fit w r f h = reply_fit (record w { node = r.node; sides = retires r.gone w.sides }) r.sent record { node = h.node; sides = buries_fit r.gone w.sides h.gone f.sides }

@@ -1,5 +1,5 @@
 -- Acts only add datagrams, a client that has sent is never idle again, and every client stays as planned.
-use Rattle.link_world.proofs.Prelude.{◌≡◌, ℕ, zero, suc, ◌≤◌, Bool, false, List, [], ◌∷◌, length, map, set, Option, Some, None, slice_get, refl, sym, ap, ◌∙◌, arith, slice_get-map, option_map, AppSpec, PlainSegment, Connection, same_sockets, ticks_of, Event, Reply, tick, event_of, Arrived, EchoAsked, Echo, Tcp, NodeStep, step, AbstractClient, ClientStep, client_takes, keeps, advertises_window, client_opens, client_again, client_closes, client_aborts, client_acts, does, handed, handles_all, hands_over, is_idle, state_at, changed, hears_datagram, ping_from, sent_bytes, Content, Sent, Side, World, retires, retires_in, client_sockets, client_stepped, delivers, epoch_of, marked, node_handles, node_stepped, posts, posts_of_client, posts_reply, with_client, with_side, OfSegment, OfPing, OfEcho, planned_of, Act, Who, FromClient, FromNode, Pinger, choose}
+use Rattle.link_world.proofs.Prelude.{◌≡◌, ℕ, zero, suc, ◌≤◌, Bool, false, List, [], ◌∷◌, length, map, set, Option, Some, None, slice_get, refl, sym, ap, ◌∙◌, arith, slice_get-map, option_map, AppSpec, PlainSegment, Connection, same_sockets, ticks_of, Event, Reply, tick, event_of, Arrived, EchoAsked, Echo, TcpReply, NodeStep, step, AbstractClient, ClientStep, client_takes, keeps, advertises_window, client_opens, client_again, client_closes, client_aborts, client_acts, does, handed, handles_all, hands_over, is_idle, state_at, changed, hears_datagram, ping_from, sent_bytes, Content, Sent, Side, World, retires, retires_in, client_sockets, client_stepped, delivers, epoch_of, marked, node_handles, node_stepped, posts, posts_of_client, posts_reply, with_client, with_side, OfSegment, OfPing, OfEcho, planned_of, Act, Who, FromClient, FromNode, Pinger, choose}
 use Rattle.link_world.proofs.Doing.{at_number, where_there}
 use Rattle.link_world.proofs.Rounds.{one_longer}
 use Rattle.link_world.proofs.Setups.{Keeps, again_keeps, aborts_keeps, closes_keeps, opens_keeps, planned_by, takes_keeps}
@@ -29,7 +29,7 @@ posts_grows w who again content =
 reply_grows : (w : World) (r : Option Reply) → Grows w (posts_reply w r)
 reply_grows w None = grows_not w
 reply_grows w (Some (Echo request)) = posts_grows w (FromNode 0) false (OfEcho request)
-reply_grows w (Some (Tcp sockets id again s)) = posts_grows w (FromNode (Rattle.link_world.specs.World.addressed 1 sockets w.sides)) again (OfSegment id s)
+reply_grows w (Some (TcpReply sockets id again s)) = posts_grows w (FromNode (Rattle.link_world.specs.World.addressed 1 sockets w.sides)) again (OfSegment id s)
 
 buried_state : (gone : Connection) (side : Option Side) → state_at (option_map (retires_in gone) side) ≡ state_at side
 buried_state gone None = refl

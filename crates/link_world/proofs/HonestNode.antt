@@ -1,6 +1,6 @@
 -- The node at the other end of a link that loses nothing: one connection, which sends at each segment of its client what the
 -- application has to send next.
-use Rattle.link_world.proofs.Prelude.{All, position_from, option_map, option_map_or, ◌≡◌, ℕ, zero, suc, ◌+◌, ◌<◌, ◌≤◌, min, Bool, true, false, if◌then◌else◌, cond, not, ◌&&◌, ◌⊎◌, inl, inr, List, [], ◌∷◌, ◌++◌, length, take, drop, replicate, refl, sym, ap, ◌∙◌, subst, arith, Option, Some, None, eqb, ltb, position, slice_get, eq-eqb, cases_lt, take-append-drop, take_all, take-add, position_from-zero, wrap, Addr, FIN, PSH, ACK, PlainSegment, has_fin, has_rst, has_ack, AppState, After, AppSpec, text_left, Pages, IsPaged, IsU32, IsNow, MayWant, Now, Reset, State, SynRcvd, Established, FinWait1, FinWait2, TimeWait, Want, Nothing, Send, Close, Abort, Sockets, Connection, closed, is_live, serves, same_sockets, snd_una, rcv_nxt, occupies_sequence_space, segment_of, is_again, Outcome, leaves, closes, idles, does_as_wanted, ask, asked, first_mss, told_end, peer_closes, is_out_of_order, is_acked, has_text, hears, with_window, stays_established, in_established, fin_acked, by_state, on_segment, Step, Event, HistoryEntry, Arrived, Silent, Spoke, Tcp, ident_of, initial_number, AbstractNode, NodeStep, initial_node, snapshot, slot_for_syn, opens, passes, refuses, gone_by, happened, opens_in, for_no_connection, arrives_at, arrives, offered, syn_of, FinAt, Setup, GoesOnBy, AnswersIn, steady_of, choose, both_ways, zero_or_more, ltb-yes, cut_length, wrap_wrap, same_self, FitConn, FitOut, snapshot_fits, asked_fits, on_segment_fits, closed_fits, all_closed}
+use Rattle.link_world.proofs.Prelude.{All, position_from, option_map, option_map_or, ◌≡◌, ℕ, zero, suc, ◌+◌, ◌<◌, ◌≤◌, min, Bool, true, false, if◌then◌else◌, cond, not, ◌&&◌, ◌⊎◌, inl, inr, List, [], ◌∷◌, ◌++◌, length, take, drop, replicate, refl, sym, ap, ◌∙◌, subst, arith, Option, Some, None, eqb, ltb, position, slice_get, eq-eqb, cases_lt, take-append-drop, take_all, take-add, position_from-zero, wrap, Addr, FIN, PSH, ACK, PlainSegment, has_fin, has_rst, has_ack, AppState, After, AppSpec, text_left, Pages, IsPaged, IsU32, IsNow, MayWant, Now, Reset, State, SynRcvd, Established, FinWait1, FinWait2, TimeWait, Want, Nothing, Send, Close, Abort, Sockets, Connection, closed, is_live, serves, same_sockets, snd_una, rcv_nxt, occupies_sequence_space, segment_of, is_again, Outcome, leaves, closes, idles, does_as_wanted, ask, asked, first_mss, told_end, peer_closes, is_out_of_order, is_acked, has_text, hears, with_window, stays_established, in_established, fin_acked, by_state, on_segment, Step, Event, HistoryEntry, Arrived, Silent, Spoke, TcpReply, ident_of, initial_number, AbstractNode, NodeStep, initial_node, snapshot, slot_for_syn, opens, passes, refuses, gone_by, happened, opens_in, for_no_connection, arrives_at, arrives, offered, syn_of, FinAt, Setup, GoesOnBy, AnswersIn, steady_of, choose, both_ways, zero_or_more, ltb-yes, cut_length, wrap_wrap, same_self, FitConn, FitOut, snapshot_fits, asked_fits, on_segment_fits, closed_fits, all_closed}
 use Rattle.link_client.specs.declared.client_state.ClientState.TheVariants as Is
 use Rattle.link_world.proofs.HonestClient.{client_at, node_says, node_syn_ack, Brings, next_out}
 
@@ -55,7 +55,7 @@ module _ (m : AppSpec) (pages : Pages) (lawful : IsPaged m pages) (served : ℕ 
 
   -- an answer of a connection that lives on
   abbrev pub answers_with : List ℕ → List HistoryEntry → Connection → ℕ → Bool → PlainSegment → NodeStep
-  answers_with numbers history k id again t = record { node = node_at numbers history k; sent = Some (Tcp sockets id again t); gone = None }
+  answers_with numbers history k id again t = record { node = node_at numbers history k; sent = Some (TcpReply sockets id again t); gone = None }
 
   abbrev remembered : Event → Step → List HistoryEntry → List HistoryEntry
   remembered event step history = record { event = event; answer = Spoke (is_again step) } ∷ history
@@ -68,7 +68,7 @@ module _ (m : AppSpec) (pages : Pages) (lawful : IsPaged m pages) (served : ℕ 
   answered old k before numbers history event step t own e l =
       let step_with : Option PlainSegment → Sockets → Option Connection → NodeStep = λ output sk gone.
       (let now : List HistoryEntry = record { event = event; answer = option_map_or (λ s. Spoke (is_again step)) output Silent } ∷ history in
-      record { node = node_at numbers now k; sent = option_map (λ s. Tcp sk (ident_of now) (is_again step) s) output; gone = gone }) in
+      record { node = node_at numbers now k; sent = option_map (λ s. TcpReply sk (ident_of now) (is_again step) s) output; gone = gone }) in
       ap (λ output. step_with output k.sockets (gone_by old k)) e
       ∙ ap (λ sk. step_with (Some t) sk (gone_by old k)) own
       ∙ ap (λ b. step_with (Some t) sockets (if is_live old.state && not b then Some k else None)) l
@@ -180,7 +180,7 @@ module _ (m : AppSpec) (pages : Pages) (lawful : IsPaged m pages) (served : ℕ 
     pub id : ℕ
     pub seq : ℕ
     pub ack : ℕ
-    pub is : r ≡ record { node = node; sent = Some (Tcp sockets id false (node_says setup request ACK seq ack [])); gone = None }
+    pub is : r ≡ record { node = node; sent = Some (TcpReply sockets id false (node_says setup request ACK seq ack [])); gone = None }
 
   pub takes_fin : (numbers : List ℕ) (history : List HistoryEntry) (taken iss acked : ℕ) (p : AppState) (s : PlainSegment) → s.flags ≡ FIN + ACK → s.text ≡ [] → s.seq ≡ wrap (setup.iss.0 + 1 + taken) → s.ack ≡ wrap (iss + (acked + 1)) →
       Finishes (arrives m served (node_at numbers history (conn_at FinWait1 taken iss acked 1 p)) sockets s)

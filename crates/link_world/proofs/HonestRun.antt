@@ -1,6 +1,6 @@
 -- The run over a link that loses nothing. One datagram is under way at a time. Each time a datagram of the client arrives at the
 -- node, the node accepts a part of the request or a text is acknowledged, so the run ends with the FINs of both.
-use Rattle.link_world.proofs.Prelude.{All, ◌≡◌, ℕ, zero, suc, ◌+◌, ◌-◌, ◌*◌, ◌<◌, ◌≤◌, Bool, false, if◌then◌else◌, ◌⊎◌, inl, inr, List, [], ◌∷◌, ◌++◌, length, replicate, refl, sym, ap, ◌∙◌, subst, arith, Option, Some, None, Result, Ok, suc-mul, wrap, Addr, FIN, PSH, ACK, PlainSegment, AppState, AppSpec, Pages, IsPaged, IsU32, Established, FinWait1, Connection, HistoryEntry, Tcp, ticks_of, AbstractNode, arrives, AbstractClient, own_fin, client_takes, Setup, World, Sent, client_sockets, becomes_opened, plays_line, plays_from, BadLine, Round, FromClient, FromNode, AnswersIn, wrap_wrap, FitConn}
+use Rattle.link_world.proofs.Prelude.{All, ◌≡◌, ℕ, zero, suc, ◌+◌, ◌-◌, ◌*◌, ◌<◌, ◌≤◌, Bool, false, if◌then◌else◌, ◌⊎◌, inl, inr, List, [], ◌∷◌, ◌++◌, length, replicate, refl, sym, ap, ◌∙◌, subst, arith, Option, Some, None, Result, Ok, suc-mul, wrap, Addr, FIN, PSH, ACK, PlainSegment, AppState, AppSpec, Pages, IsPaged, IsU32, Established, FinWait1, Connection, HistoryEntry, TcpReply, ticks_of, AbstractNode, arrives, AbstractClient, own_fin, client_takes, Setup, World, Sent, client_sockets, becomes_opened, plays_line, plays_from, BadLine, Round, FromClient, FromNode, AnswersIn, wrap_wrap, FitConn}
 use Rattle.link_client.specs.declared.client_state.ClientState.TheVariants as Is
 use Rattle.link_world.proofs.Doing.{goes_on_with}
 use Rattle.link_world.proofs.Rounds.{only_side, under_way, at_rest, sent_by, one_longer, round_of_none, node_answers, client_answers, client_is_silent}
@@ -38,7 +38,7 @@ module _ (m : AppSpec) (served : ℕ → Bool) where
 
   -- a round in which the node answers, in which the client answers, and in which it is silent
   pub node_round : (n place : ℕ) (node next : AbstractNode) (c : AbstractClient) (opened : Option ℕ) (before : List Sent) (tick id number : ℕ) (s t : PlainSegment) → suc (length before) + 1 ≤ 65535 →
-      arrives m served node (client_sockets (only_side c opened)) s ≡ record { node = next; sent = Some (Tcp (client_sockets (only_side c opened)) number false t); gone = None } →
+      arrives m served node (client_sockets (only_side c opened)) s ≡ record { node = next; sent = Some (TcpReply (client_sockets (only_side c opened)) number false t); gone = None } →
       Ended (plays_from m served (place + 1) (replicate n Round) (under_way next (only_side c opened) (before ++ by_client tick id s ∷ []) (by_node (ticks_of next.history) number t))) →
       Ended (plays_from m served place (replicate (suc n) Round) (under_way node (only_side c opened) before (by_client tick id s)))
   node_round n place node next c opened before tick id number s t room e h =

@@ -1,6 +1,6 @@
 -- No act reads the mark, so a list of acts reaches what the lines of a schedule reach.
 -- [add: schedule-line] The list of its acts.
-use Rattle.link_world.proofs.Prelude.{All, ◌≡◌, ℕ, zero, suc, ◌+◌, inl, inr, Bool, false, List, [], ◌∷◌, ◌++◌, length, map, flat_map, replicate, reverse, refl, sym, ap, ◌∙◌, arith, Option, Some, None, Result, Ok, Err, ltb, if◌then◌else◌, All-append, option_map_or, option_or, ◌>>=◌, AppSpec, EchoAsked, Arrived, Echo, Tcp, event_of, NodeStep, step, AbstractClient, ClientStep, client_takes, client_opens, client_again, client_closes, client_aborts, advertises_window, World, Side, Sent, Content, numbered, retires, posts, posts_reply, node_handles, with_client, with_side, client_stepped, marked, client_sockets, delivers, OfSegment, OfPing, OfEcho, bytes_by, sent_bytes, changed, hears_datagram, acts, client_acts, does, fault_of, handed, handles_all, hands_over, named_fault, needs, runs, past_mark, acts_of, mark_after, plays_from, Act, StepFault, Full, NoByte, NoDatagram, Who, FromClient, FromNode, Pinger, IsAct, IsPlainAct, OfLine, LinesAreActs, all_nil, all_cons}
+use Rattle.link_world.proofs.Prelude.{All, ◌≡◌, ℕ, zero, suc, ◌+◌, inl, inr, Bool, false, List, [], ◌∷◌, ◌++◌, length, map, flat_map, replicate, reverse, refl, sym, ap, ◌∙◌, arith, Option, Some, None, Result, Ok, Err, ltb, if◌then◌else◌, All-append, option_map_or, option_or, ◌>>=◌, AppSpec, EchoAsked, Arrived, Echo, TcpReply, event_of, NodeStep, step, AbstractClient, ClientStep, client_takes, client_opens, client_again, client_closes, client_aborts, advertises_window, World, Side, Sent, Content, numbered, retires, posts, posts_reply, node_handles, with_client, with_side, client_stepped, marked, client_sockets, delivers, OfSegment, OfPing, OfEcho, bytes_by, sent_bytes, changed, hears_datagram, acts, client_acts, does, fault_of, handed, handles_all, hands_over, named_fault, needs, runs, past_mark, acts_of, mark_after, plays_from, Act, StepFault, Full, NoByte, NoDatagram, Who, FromClient, FromNode, Pinger, IsAct, IsPlainAct, OfLine, LinesAreActs, all_nil, all_cons}
 use Rattle.uip_node.specs.Events.{Event as NodeEvent, Reply, tick}
 use Rattle.link_schedule.specs.declared.event.Event.{Event}
 use Rattle.link_world.proofs.Doing.{goes_on_with, with_mark}
@@ -12,7 +12,7 @@ module _ (m : AppSpec) (served : ℕ → Bool) (x : ℕ) where
   reply_mark : (w : World) (r : Option Reply) → posts_reply (at_mark x w) r ≡ at_mark x (posts_reply w r)
   reply_mark w None = refl
   reply_mark w (Some (Echo request)) = refl
-  reply_mark w (Some (Tcp sockets id again s)) = refl
+  reply_mark w (Some (TcpReply sockets id again s)) = refl
 
   handles_mark : (w : World) (e : NodeEvent) → node_handles m served (at_mark x w) e ≡ at_mark x (node_handles m served w e)
   handles_mark w e = let r : NodeStep = step m served w.node e in reply_mark (record w { node = r.node; sides = retires r.gone w.sides }) r.sent

@@ -1,5 +1,5 @@
 -- Acts are refused before there are more than 65,535 datagrams, so a world that is reached has at most that number.
-use Rattle.link_world.proofs.Prelude.{option_or, ◌≡◌, ℕ, suc, ◌+◌, ◌≤◌, Bool, true, false, List, [], ◌∷◌, length, refl, ap, arith, Option, Some, None, ltb, if◌then◌else◌, common_steps, AppSpec, ticks_of, Event, Reply, tick, Arrived, EchoAsked, Echo, Tcp, NodeStep, step, AbstractClient, ClientStep, client_takes, advertises_window, client_opens, client_again, client_closes, client_aborts, client_acts, does, fault_of, handles_all, named_fault, needs, ping_from, Content, Sent, Side, World, addressed, retires, client_sockets, client_stepped, delivers, epoch_of, marked, node_handles, node_stepped, posts, posts_reply, with_client, with_side, OfSegment, OfPing, OfEcho, Act, StepFault, Full, Who, FromClient, FromNode, Pinger}
+use Rattle.link_world.proofs.Prelude.{option_or, ◌≡◌, ℕ, suc, ◌+◌, ◌≤◌, Bool, true, false, List, [], ◌∷◌, length, refl, ap, arith, Option, Some, None, ltb, if◌then◌else◌, common_steps, AppSpec, ticks_of, Event, Reply, tick, Arrived, EchoAsked, Echo, TcpReply, NodeStep, step, AbstractClient, ClientStep, client_takes, advertises_window, client_opens, client_again, client_closes, client_aborts, client_acts, does, fault_of, handles_all, named_fault, needs, ping_from, Content, Sent, Side, World, addressed, retires, client_sockets, client_stepped, delivers, epoch_of, marked, node_handles, node_stepped, posts, posts_reply, with_client, with_side, OfSegment, OfPing, OfEcho, Act, StepFault, Full, Who, FromClient, FromNode, Pinger}
 use Rattle.link_world.proofs.Doing.{at_number, where_there}
 use Rattle.link_world.proofs.Harmless.{Harmless}
 use Rattle.link_world.proofs.Rounds.{one_longer}
@@ -20,7 +20,7 @@ posts_one w who again content =
 reply_one : (w : World) (r : Option Reply) → Adds 1 w (posts_reply w r)
 reply_one w None = omega arith
 reply_one w (Some (Echo request)) = posts_one w (FromNode 0) false (OfEcho request)
-reply_one w (Some (Tcp sockets id again s)) = posts_one w (FromNode (addressed 1 sockets w.sides)) again (OfSegment id s)
+reply_one w (Some (TcpReply sockets id again s)) = posts_one w (FromNode (addressed 1 sockets w.sides)) again (OfSegment id s)
 
 stepped_one : (w : World) (r : NodeStep) → Adds 1 w (node_stepped w r)
 stepped_one w r = reply_one (record w { node = r.node; sides = retires r.gone w.sides }) r.sent

@@ -1,5 +1,5 @@
 -- A round with one datagram under way, and what its delivery leaves.
-use Rattle.link_world.proofs.Prelude.{◌≡◌, ℕ, suc, ◌+◌, ◌-◌, ◌≤◌, max, Bool, true, false, if◌then◌else◌, List, [], ◌∷◌, ◌++◌, length, map, refl, ap, ◌∙◌, arith, Option, Some, None, Result, Ok, Err, slice_get, length-append, ltb, le-ltb, range_with_len, option_map_or, option_or, ◌>>=◌, AppSpec, PlainSegment, same_sockets, Tcp, ticks_of, AbstractNode, NodeStep, arrives, AbstractClient, ClientStep, client_takes, World, Side, Sent, numbered, client_sockets, becomes_opened, posts, delivers, client_stepped, node_stepped, OfSegment, does, fault_of, acts, runs, mark_after, plays_line, Act, Round, StepFault, Full, NoDatagram, Who, FromClient, FromNode, same_self}
+use Rattle.link_world.proofs.Prelude.{◌≡◌, ℕ, suc, ◌+◌, ◌-◌, ◌≤◌, max, Bool, true, false, if◌then◌else◌, List, [], ◌∷◌, ◌++◌, length, map, refl, ap, ◌∙◌, arith, Option, Some, None, Result, Ok, Err, slice_get, length-append, ltb, le-ltb, range_with_len, option_map_or, option_or, ◌>>=◌, AppSpec, PlainSegment, same_sockets, TcpReply, ticks_of, AbstractNode, NodeStep, arrives, AbstractClient, ClientStep, client_takes, World, Side, Sent, numbered, client_sockets, becomes_opened, posts, delivers, client_stepped, node_stepped, OfSegment, does, fault_of, acts, runs, mark_after, plays_line, Act, Round, StepFault, Full, NoDatagram, Who, FromClient, FromNode, same_self}
 use Rattle.link_world.proofs.Doing.{with_mark}
 
 -- the side of a client to which nothing stale came, and whose connection never became CLOSED
@@ -79,7 +79,7 @@ module _ (m : AppSpec) (served : ℕ → Bool) where
 
   -- What a delivery to the node leaves, where the connection answers and lives on.
   pub node_answers : (n d : AbstractNode) (c : AbstractClient) (opened : Option ℕ) (before : List Sent) (tick id number : ℕ) (again : Bool) (s t : PlainSegment) → suc (length before) + 1 ≤ 65535 →
-      arrives m served n (client_sockets (only_side c opened)) s ≡ record { node = d; sent = Some (Tcp (client_sockets (only_side c opened)) number again t); gone = None } →
+      arrives m served n (client_sockets (only_side c opened)) s ≡ record { node = d; sent = Some (TcpReply (client_sockets (only_side c opened)) number again t); gone = None } →
       plays_line m served (under_way n (only_side c opened) before (sent_by (FromClient 1) tick false id s)) Round
       ≡ Ok (under_way d (only_side c opened) (before ++ sent_by (FromClient 1) tick false id s ∷ []) (sent_by (FromNode 1) (ticks_of d.history) again number t))
   node_answers n d c opened before tick id number again s t room e =

@@ -1,5 +1,5 @@
 -- Each datagram is a client's, a pinger's or the node's, and the node sends to clients alone.
-use Rattle.link_world.proofs.Prelude.{◌≡◌, ℕ, zero, suc, Bool, true, false, ◌&&◌, List, [], ◌∷◌, ◌++◌, map, set, refl, sym, ap, ◌∙◌, subst, arith, Option, Some, None, slice_get, slice_index_or, option_map, option_map_or, slice_get-map, PlainSegment, has_rst, AppSpec, Pages, IsPaged, Sockets, Connection, closed, is_live, serves, same_sockets, is_plain_syn, segment_of, is_again, reset_for_no_connection, Outcome, leaves, asked, accept, on_segment, on_tick, Step, Event, Answer, HistoryEntry, Reply, Arrived, EchoAsked, Periodic, Silent, Spoke, NoSlot, Echo, Tcp, initial_number, ident_of, AbstractNode, NodeStep, snapshot, happened, connection_in, slot_for_syn, passes, refuses, opens_in, opens, for_no_connection, arrives_at, step, AbstractClient, ClientStep, client_takes, client_opens, client_again, client_closes, client_aborts, advertises_window, Setup, World, Side, Sent, Content, client_sockets, retires, retires_in, addressed, posts, posts_reply, node_stepped, node_handles, with_client, with_side, client_stepped, marked, delivers, OfSegment, OfPing, OfEcho, ping_from, client_acts, handles_all, does, serving, Planned, initial_world, Act, Who, FromClient, FromNode, Pinger, IsLoss, IsReached, IsNumberOf, IsSentBy, SentToClients, both_ways, choose, only_some, and_true, get_push, older, newest, get_set, get_set_same, find_is, index_of, all_closed, here, there, finds, finds_none, same_is, asked_keeps, on_segment_keeps, on_tick_keeps, on_tick_closed}
+use Rattle.link_world.proofs.Prelude.{◌≡◌, ℕ, zero, suc, Bool, true, false, ◌&&◌, List, [], ◌∷◌, ◌++◌, map, set, refl, sym, ap, ◌∙◌, subst, arith, Option, Some, None, slice_get, slice_index_or, option_map, option_map_or, slice_get-map, PlainSegment, has_rst, AppSpec, Pages, IsPaged, Sockets, Connection, closed, is_live, serves, same_sockets, is_plain_syn, segment_of, is_again, reset_for_no_connection, Outcome, leaves, asked, accept, on_segment, on_tick, Step, Event, Answer, HistoryEntry, Reply, Arrived, EchoAsked, Periodic, Silent, Spoke, NoSlot, Echo, TcpReply, initial_number, ident_of, AbstractNode, NodeStep, snapshot, happened, connection_in, slot_for_syn, passes, refuses, opens_in, opens, for_no_connection, arrives_at, step, AbstractClient, ClientStep, client_takes, client_opens, client_again, client_closes, client_aborts, advertises_window, Setup, World, Side, Sent, Content, client_sockets, retires, retires_in, addressed, posts, posts_reply, node_stepped, node_handles, with_client, with_side, client_stepped, marked, delivers, OfSegment, OfPing, OfEcho, ping_from, client_acts, handles_all, does, serving, Planned, initial_world, Act, Who, FromClient, FromNode, Pinger, IsLoss, IsReached, IsNumberOf, IsSentBy, SentToClients, both_ways, choose, only_some, and_true, get_push, older, newest, get_set, get_set_same, find_is, index_of, all_closed, here, there, finds, finds_none, same_is, asked_keeps, on_segment_keeps, on_tick_keeps, on_tick_closed}
 use Rattle.link_world.proofs.Doing.{at_number, where_there}
 use Rattle.link_world.proofs.Sides.{finds_one, buried_sockets}
 use Rattle.link_world.proofs.Setups.{SameSetup, takes_setup, opens_setup, again_setup, closes_setup, aborts_setup}
@@ -105,7 +105,7 @@ posts_from w who again content s h = record { conns = h.conns; sent = push_from 
 
 abbrev MaySay : List Side → List Sent → Reply → Type 0
 MaySay sides sent (Echo request) = IsAsked sent request
-MaySay sides sent (Tcp sockets id again s) = HasClient sides sockets
+MaySay sides sent (TcpReply sockets id again s) = HasClient sides sockets
 
 record StepFrom (sides : List Side) (sent : List Sent) (r : NodeStep) : Type 0 where
   conns : HaveClients sides r.node.connections
@@ -121,11 +121,11 @@ is_number sides p h =
 reply_from : (w : World) (r : Option Reply) → ((x : Reply) → r ≡ Some x → MaySay w.sides w.sent x) → HasSenders w → HasSenders (posts_reply w r)
 reply_from w None f h = h
 reply_from w (Some (Echo request)) f h = posts_from w (FromNode 0) false (OfEcho request) (refl, f (Echo request) refl) h
-reply_from w (Some (Tcp sockets id again s)) f h = posts_from w (FromNode (addressed 1 sockets w.sides)) again (OfSegment id s) (is_number w.sides sockets (f (Tcp sockets id again s) refl), tt) h
+reply_from w (Some (TcpReply sockets id again s)) f h = posts_from w (FromNode (addressed 1 sockets w.sides)) again (OfSegment id s) (is_number w.sides sockets (f (TcpReply sockets id again s) refl), tt) h
 
 say_stays : (a b : List Side) (sent : List Sent) (x : Reply) → AllStay a b → MaySay a sent x → MaySay b sent x
 say_stays a b sent (Echo request) f h = h
-say_stays a b sent (Tcp sockets id again s) f h = client_stays a b sockets f h
+say_stays a b sent (TcpReply sockets id again s) f h = client_stays a b sockets f h
 
 stepped_from : (w : World) (r : NodeStep) → StepFrom w.sides w.sent r → HasSenders w → HasSenders (node_stepped w r)
 stepped_from w r g h =
@@ -147,9 +147,9 @@ module _ (sides : List Side) (sent : List Sent) where
   index_client (c ∷ cs) zero h l = h zero c refl l
   index_client (c ∷ cs) (suc i) h l = index_client cs i (λ j x g. h (suc j) x g) l
 
-  replies_from : (output : Option PlainSegment) (sockets : Sockets) (id : ℕ) (again : Bool) → ((s : PlainSegment) → output ≡ Some s → HasClient sides sockets) → (x : Reply) → option_map (λ s. Tcp sockets id again s) output ≡ Some x → MaySay sides sent x
+  replies_from : (output : Option PlainSegment) (sockets : Sockets) (id : ℕ) (again : Bool) → ((s : PlainSegment) → output ≡ Some s → HasClient sides sockets) → (x : Reply) → option_map (λ s. TcpReply sockets id again s) output ≡ Some x → MaySay sides sent x
   replies_from None sockets id again f x e = absurd (cc)
-  replies_from (Some s) sockets id again f x e = only_some (λ r. MaySay sides sent r) (Tcp sockets id again s) x e (f s refl)
+  replies_from (Some s) sockets id again f x e = only_some (λ r. MaySay sides sent r) (TcpReply sockets id again s) x e (f s refl)
 
   module _ (m : AppSpec) where
     happened_from : (n : AbstractNode) (event : Event) (slot : ℕ) (old : Connection) (o : Outcome) → (is_live o.connection.state ≡ true → HasClient sides o.connection.sockets) →
@@ -176,7 +176,7 @@ module _ (sides : List Side) (sent : List Sent) where
     refuses_from n p s c h = record {
       conns = h;
       output = λ x e. (let history : List HistoryEntry = record { event = Arrived p s; answer = Spoke false } ∷ n.history in
-          only_some (λ r. MaySay sides sent r) (Tcp p (ident_of history) false (reset_for_no_connection s)) x e c);
+          only_some (λ r. MaySay sides sent r) (TcpReply p (ident_of history) false (reset_for_no_connection s)) x e c);
     }
 
     stranger_from : (served : ℕ → Bool) (n : AbstractNode) (p : Sockets) (s : PlainSegment) → HasClient sides p → HaveClients sides n.connections → StepFrom sides sent (for_no_connection m served n p s)

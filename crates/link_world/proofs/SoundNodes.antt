@@ -1,5 +1,5 @@
 -- What the node sends in a step is sound.
-use Rattle.link_world.proofs.Prelude.{◌≡◌, ℕ, zero, suc, ◌<◌, Bool, false, ◌&&◌, List, [], ◌∷◌, set, refl, subst, arith, Option, Some, None, slice_get, slice_index_or, position, option_map, option_map_or, PlainSegment, has_rst, AppSpec, IsAddr, Now, Sockets, Connection, closed, serves, is_plain_syn, segment_of, is_again, reset_for_no_connection, Outcome, asked, accept, on_segment, on_tick, Event, Answer, HistoryEntry, Reply, Arrived, Periodic, Silent, Spoke, NoSlot, Echo, Tcp, initial_number, ident_of, AbstractNode, NodeStep, snapshot, happened, connection_in, slot_for_syn, passes, refuses, opens_in, opens, for_no_connection, arrives_at, step, IsSteady, choose, only_some, get_set, here, there, FitConn, accepted_fits, asked_fits, on_segment_fits, on_tick_fits, FitNode, index_fits, node_snapshot, Lens, closed_lens, accepted_lens, asked_lens, on_segment_lens, on_tick_lens, IsSoundSegment, none_sound, said_sound}
+use Rattle.link_world.proofs.Prelude.{◌≡◌, ℕ, zero, suc, ◌<◌, Bool, false, ◌&&◌, List, [], ◌∷◌, set, refl, subst, arith, Option, Some, None, slice_get, slice_index_or, position, option_map, option_map_or, PlainSegment, has_rst, AppSpec, IsAddr, Now, Sockets, Connection, closed, serves, is_plain_syn, segment_of, is_again, reset_for_no_connection, Outcome, asked, accept, on_segment, on_tick, Event, Answer, HistoryEntry, Reply, Arrived, Periodic, Silent, Spoke, NoSlot, Echo, TcpReply, initial_number, ident_of, AbstractNode, NodeStep, snapshot, happened, connection_in, slot_for_syn, passes, refuses, opens_in, opens, for_no_connection, arrives_at, step, IsSteady, choose, only_some, get_set, here, there, FitConn, accepted_fits, asked_fits, on_segment_fits, on_tick_fits, FitNode, index_fits, node_snapshot, Lens, closed_lens, accepted_lens, asked_lens, on_segment_lens, on_tick_lens, IsSoundSegment, none_sound, said_sound}
 use Rattle.link_world.proofs.SaidBytes.{SaysBytesWhere}
 
 abbrev pub EachOf : (Connection → Type 0) → List Connection → Type 0
@@ -10,7 +10,7 @@ LensAll table = EachOf Lens table
 
 abbrev pub SoundReply : Reply → Type 0
 SoundReply (Echo request) = Unit {0}
-SoundReply (Tcp sockets id again s) = (id < 65536) × IsSoundSegment s
+SoundReply (TcpReply sockets id again s) = (id < 65536) × IsSoundSegment s
 
 pub record SoundNode (H : Connection → Type 0) (n : AbstractNode) (r : NodeStep) : Type 0 where
   pub addr : r.node.addr ≡ n.addr
@@ -26,9 +26,9 @@ index_each P (c ∷ cs) (suc i) z h = index_each P cs i z (λ j x g. h (suc j) x
 set_each : (P : Connection → Type 0) (table : List Connection) (i : ℕ) (new : Connection) → P new → EachOf P table → EachOf P (set table i new)
 set_each P table i new f h j c x = elim (get_set table i new j c x) [ here e q ↦ subst P q f | there n g ↦ h j c g ]
 
-replies : (output : Option PlainSegment) (sockets : Sockets) (id : ℕ) (again : Bool) → id < 65536 → ((s : PlainSegment) → output ≡ Some s → IsSoundSegment s) → (x : Reply) → option_map (λ s. Tcp sockets id again s) output ≡ Some x → SoundReply x
+replies : (output : Option PlainSegment) (sockets : Sockets) (id : ℕ) (again : Bool) → id < 65536 → ((s : PlainSegment) → output ≡ Some s → IsSoundSegment s) → (x : Reply) → option_map (λ s. TcpReply sockets id again s) output ≡ Some x → SoundReply x
 replies None sockets id again l f x e = absurd (cc)
-replies (Some s) sockets id again l f x e = only_some (λ r. SoundReply r) (Tcp sockets id again s) x e (l, f s refl)
+replies (Some s) sockets id again l f x e = only_some (λ r. SoundReply r) (TcpReply sockets id again s) x e (l, f s refl)
 
 ident_low : (history : List HistoryEntry) → ident_of history < 65536
 ident_low history = omega arith
@@ -67,7 +67,7 @@ module _ (m : AppSpec) (steady : IsSteady m) (H : Connection → Type 0) (bytes 
     conns = l.lens;
     known = l.known;
     output = λ x e. (let history : List HistoryEntry = record { event = Arrived sockets s; answer = Spoke false } ∷ n.history in
-        only_some (λ r. SoundReply r) (Tcp sockets (ident_of history) false (reset_for_no_connection s)) x e (ident_low history, none_sound s g));
+        only_some (λ r. SoundReply r) (TcpReply sockets (ident_of history) false (reset_for_no_connection s)) x e (ident_low history, none_sound s g));
   }
 
   stranger_sound : (served : ℕ → Bool) (n : AbstractNode) (sockets : Sockets) (s : PlainSegment) → IsAddr sockets.peer → sockets.peer_port.0 < 65536 → IsSoundSegment s → Rest n → SoundNode H n (for_no_connection m served n sockets s)

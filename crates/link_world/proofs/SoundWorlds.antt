@@ -1,5 +1,5 @@
 -- Every datagram that was ever sent is sound.
-use Rattle.link_world.proofs.Prelude.{◌≡◌, ℕ, suc, ◌<◌, Bool, false, List, [], ◌∷◌, map, refl, sym, ap, ◌∙◌, subst, arith, Option, Some, None, slice_get, Addr, PlainSegment, AppSpec, IsAddr, Connection, same_sockets, Reply, Arrived, EchoAsked, Periodic, Echo, Tcp, AbstractNode, NodeStep, step, AbstractClient, ClientStep, client_takes, client_opens, client_again, client_closes, client_aborts, advertises_window, World, Side, Sent, Content, client_sockets, retires, retires_in, addressed, posts, posts_reply, posts_of_client, node_stepped, node_handles, with_client, with_side, client_stepped, marked, delivers, OfSegment, OfPing, OfEcho, ping_from, client_acts, handles_all, does, Act, Who, FromClient, FromNode, Pinger, IsAct, IsLoss, IsSteady, choose, only_some, get_push, older, newest, get_map, get_set, here, there, IsSoundSegment}
+use Rattle.link_world.proofs.Prelude.{◌≡◌, ℕ, suc, ◌<◌, Bool, false, List, [], ◌∷◌, map, refl, sym, ap, ◌∙◌, subst, arith, Option, Some, None, slice_get, Addr, PlainSegment, AppSpec, IsAddr, Connection, same_sockets, Reply, Arrived, EchoAsked, Periodic, Echo, TcpReply, AbstractNode, NodeStep, step, AbstractClient, ClientStep, client_takes, client_opens, client_again, client_closes, client_aborts, advertises_window, World, Side, Sent, Content, client_sockets, retires, retires_in, addressed, posts, posts_reply, posts_of_client, node_stepped, node_handles, with_client, with_side, client_stepped, marked, delivers, OfSegment, OfPing, OfEcho, ping_from, client_acts, handles_all, does, Act, Who, FromClient, FromNode, Pinger, IsAct, IsLoss, IsSteady, choose, only_some, get_push, older, newest, get_map, get_set, here, there, IsSoundSegment}
 use Rattle.link_world.proofs.SaidBytes.{SaysBytesWhere}
 use Rattle.link_world.proofs.FitWorlds.{FitWorld, put_fits, periodic_fits}
 use Rattle.link_world.proofs.Sound.{IsSoundClient, SoundStep, takes_sound, opens_sound, again_sound, closes_sound, aborts_sound, window_sound}
@@ -36,8 +36,8 @@ posts_sound w who again content s h = record {
 reply_sound : (w : World) (r : Option Reply) → ((x : Reply) → r ≡ Some x → SoundReply x) → SoundWorld w → SoundWorld (posts_reply w r)
 reply_sound w None f h = h
 reply_sound w (Some (Echo request)) f h = posts_sound w (FromNode 0) false (OfEcho request) (of_echo request refl refl) h
-reply_sound w (Some (Tcp sockets id again s)) f h =
-    let g : (id < 65536) × IsSoundSegment s = f (Tcp sockets id again s) refl in
+reply_sound w (Some (TcpReply sockets id again s)) f h =
+    let g : (id < 65536) × IsSoundSegment s = f (TcpReply sockets id again s) refl in
     posts_sound w (FromNode (addressed 1 sockets w.sides)) again (OfSegment id s) (of_segment id s refl g.0 g.1) h
 
 buried_sound : (gone : Option Connection) (sides : List Side) → SoundSides sides → SoundSides (retires gone sides)
@@ -97,7 +97,7 @@ pub record KnownWorld (H : Connection → Type 0) (w : World) : Type 0 where
 reply_node : (w : World) (r : Option Reply) → (posts_reply w r).node ≡ w.node
 reply_node w None = refl
 reply_node w (Some (Echo request)) = refl
-reply_node w (Some (Tcp sockets id again s)) = refl
+reply_node w (Some (TcpReply sockets id again s)) = refl
 
 posted_node : (w : World) (number : ℕ) (sent : Option PlainSegment) → (posts_of_client w number sent).node ≡ w.node
 posted_node w number None = refl

@@ -1,5 +1,5 @@
 -- An expired timer sends in that tick.
-use Rattle.link_world.proofs.Prelude.{◌≡◌, ℕ, ◌+◌, ◌<◌, ◌≤◌, true, List, [], ◌∷◌, ◌++◌, length, cond, count_by, refl, sym, ap, ◌∙◌, subst, arith, Option, Some, nat_le, ltb, if◌then◌else◌, ◌⊎◌, inl, inr, option_map_or, option_map, ident_of, Spoke, Silent, Tcp, list_all, is_count_by, common_steps, ages, give_up_age, tries_at, count_at, beat_at, Timer, repeats, PlainSegment, AppSpec, Now, State, SynRcvd, Established, CloseWait, FinWait1, Closing, LastAck, Connection, closed, tries_of, is_resting, segment_of, is_again, syn_ack, text_segment, fin_of, leaves, asked, limit_of, outstanding, grows_older, by_beat, waits_for_ack, ticks_established, tick_by, on_tick, Step, Event, Periodic, AbstractNode, snapshot, happened, may_wait, IsExpired, SendsAgain, and_true, ltb-yes, index_of}
+use Rattle.link_world.proofs.Prelude.{◌≡◌, ℕ, ◌+◌, ◌<◌, ◌≤◌, true, List, [], ◌∷◌, ◌++◌, length, cond, count_by, refl, sym, ap, ◌∙◌, subst, arith, Option, Some, nat_le, ltb, if◌then◌else◌, ◌⊎◌, inl, inr, option_map_or, option_map, ident_of, Spoke, Silent, TcpReply, list_all, is_count_by, common_steps, ages, give_up_age, tries_at, count_at, beat_at, Timer, repeats, PlainSegment, AppSpec, Now, State, SynRcvd, Established, CloseWait, FinWait1, Closing, LastAck, Connection, closed, tries_of, is_resting, segment_of, is_again, syn_ack, text_segment, fin_of, leaves, asked, limit_of, outstanding, grows_older, by_beat, waits_for_ack, ticks_established, tick_by, on_tick, Step, Event, Periodic, AbstractNode, snapshot, happened, may_wait, IsExpired, SendsAgain, and_true, ltb-yes, index_of}
 use Rattle.rexmit_timer.specs.declared.timer.Beat.TheVariants.{Again}
 use Rattle.link_world.specs.Headline.{Tick}
 
@@ -101,8 +101,8 @@ module _ (m : AppSpec) where
   sends_it n event slot c s x e a o = record {
     id = _;
     segment = x;
-    sends = ap (λ (z : Option PlainSegment). option_map (λ t. Tcp c.sockets (ident_of (record { event = event; answer = option_map_or (λ t. Spoke (is_again s)) (segment_of m (grows_older c) s) Silent } ∷ n.history)) (is_again s) t) z) e
-        ∙ ap (λ b. Some (Tcp c.sockets (ident_of (record { event = event; answer = option_map_or (λ t. Spoke (is_again s)) (segment_of m (grows_older c) s) Silent } ∷ n.history)) b x)) a;
+    sends = ap (λ (z : Option PlainSegment). option_map (λ t. TcpReply c.sockets (ident_of (record { event = event; answer = option_map_or (λ t. Spoke (is_again s)) (segment_of m (grows_older c) s) Silent } ∷ n.history)) (is_again s) t) z) e
+        ∙ ap (λ b. Some (TcpReply c.sockets (ident_of (record { event = event; answer = option_map_or (λ t. Spoke (is_again s)) (segment_of m (grows_older c) s) Silent } ∷ n.history)) b x)) a;
     is = o;
   }
 

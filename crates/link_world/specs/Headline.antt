@@ -14,9 +14,8 @@ use Rattle.app_events.specs.declared.state.State.TheVariants.{Closed, FinWait2, 
 use Rattle.tcp_machine.specs.Prelude.{Connection, is_live, count_of, tries_of, occupies_sequence_space}
 use Rattle.tcp_machine.specs.Prelude.{segment_of, limit_of, outstanding, grows_older}
 use Rattle.uip_node.specs.Events.{Event as NodeEvent, Reply}
-use Rattle.uip_node.specs.Prelude.{IpRefused, IcmpRefused, TcpRefused, EchoAsked, Arrived, Overlong, Periodic, Silent, ticks_of}
+use Rattle.uip_node.specs.Prelude.{IpRefused, IcmpRefused, TcpRefused, EchoAsked, Arrived, Overlong, Periodic, Silent, ticks_of, TcpReply}
 use Rattle.uip_node.specs.Prelude.{initial_number, ident_of, counters, raised_by, AbstractNode, step, serving, HasBytes, Alike, IsSteady}
-use Rattle.uip_node.specs.Events.Reply.{Tcp as TcpReply}
 use Rattle.uip_ipv4.specs.Prelude.{IsHeadOf, payload_of}
 use Rattle.uip_ipv4.specs.declared.head.IpHead.{IpHead}
 use Rattle.uip_ipv4.specs.declared.proto.Proto.{Proto}

@@ -5,7 +5,7 @@ use Rattle.std.specs.Prelude.{map, Option, Some, None, if◌then◌else◌, is_n
 use Rattle.tcp_segment.specs.Prelude.{PlainSegment}
 use Rattle.app_events.specs.Prelude.{Snapshot, AppSpec}
 use Rattle.tcp_machine.specs.Prelude.{Sockets, Connection, same_sockets}
-use Rattle.uip_node.specs.Prelude.{Event, Reply, EchoAsked, Arrived, Echo, Tcp, ticks_of, AbstractNode, NodeStep, step}
+use Rattle.uip_node.specs.Prelude.{Event, Reply, EchoAsked, Arrived, Echo, TcpReply, ticks_of, AbstractNode, NodeStep, step}
 use Rattle.link_client.specs.Prelude.{AbstractClient, ClientStep, client_takes}
 use Rattle.link_client.specs.declared.client_state.ClientState.{ClientState}
 use Rattle.link_client.specs.declared.client_state.ClientState.TheVariants.{Opening, Opened}
@@ -97,7 +97,7 @@ posts w who again content = record w {
 abbrev pub posts_reply : World → Option Reply → World
 posts_reply w None = w
 posts_reply w (Some (Echo request)) = posts w (FromNode 0) false (OfEcho request)
-posts_reply w (Some (Tcp sockets id again s)) = posts w (FromNode (addressed 1 sockets w.sides)) again (OfSegment id s)
+posts_reply w (Some (TcpReply sockets id again s)) = posts w (FromNode (addressed 1 sockets w.sides)) again (OfSegment id s)
 
 -- The node took a step. First the CLOSED connection becomes a past connection, then the reply is posted with the new epoch.
 abbrev pub node_stepped : World → NodeStep → World

@@ -1,5 +1,5 @@
 -- Every trace of a node.
-use Rattle.node_laws.proofs.Prelude.{All, option_map, ◌≡◌, ℕ, Bool, ◌&&◌, List, [], ◌∷◌, map, position, true, false, inl, refl, ap, subst, Option, Some, None, PlainSegment, has_rst, IsAddr, IsPaged, IsU32, MayWant, Pages, AppSpec, AppState, Close, Addr, Sockets, Connection, serves, is_again, is_plain_syn, segment_of, Outcome, ident_of, Event, IpRefused, IcmpRefused, TcpRefused, EchoAsked, Arrived, Overlong, Periodic, Echo, Tcp, append_nothing, choose, all_nil, all_cons, HasBytes, SendsBytes, IsEchoed, IsSteady, steady_of, page_bytes, OutputModel, HasOutputModel, at_every_port, EveryTraceConforms, EveryTraceOfPagesConforms, TraceConforms, TraceEntry, IsReadByPeer}
+use Rattle.node_laws.proofs.Prelude.{All, option_map, ◌≡◌, ℕ, Bool, ◌&&◌, List, [], ◌∷◌, map, position, true, false, inl, refl, ap, subst, Option, Some, None, PlainSegment, has_rst, IsAddr, IsPaged, IsU32, MayWant, Pages, AppSpec, AppState, Close, Addr, Sockets, Connection, serves, is_again, is_plain_syn, segment_of, Outcome, ident_of, Event, IpRefused, IcmpRefused, TcpRefused, EchoAsked, Arrived, Overlong, Periodic, Echo, TcpReply, append_nothing, choose, all_nil, all_cons, HasBytes, SendsBytes, IsEchoed, IsSteady, steady_of, page_bytes, OutputModel, HasOutputModel, at_every_port, EveryTraceConforms, EveryTraceOfPagesConforms, TraceConforms, TraceEntry, IsReadByPeer}
 use Rattle.uip_node.specs.Node.{AbstractNode, NodeStep, arrives_at, for_no_connection, happened, initial_node, opens as opens_at, opens_in, slot_for_syn, step}
 use Rattle.node_laws.proofs.Whole.{session_ends}
 use Rattle.node_laws.proofs.PeerReads.{every_peer_reads}
@@ -9,7 +9,7 @@ use Rattle.node_laws.proofs.Steps.{LineStep, OfNode, Changes, IsStep, all_happen
 abbrev NoEcho : NodeStep → Type 0
 NoEcho r = (request : List ℕ) → r.sent ≡ Some (Echo request) → ⊥
 
-no_echo_said : (output : Option PlainSegment) (sockets : Sockets) (id : ℕ) (again : Bool) (request : List ℕ) → option_map (λ s. Tcp sockets id again s) output ≡ Some (Echo request) → ⊥
+no_echo_said : (output : Option PlainSegment) (sockets : Sockets) (id : ℕ) (again : Bool) (request : List ℕ) → option_map (λ s. TcpReply sockets id again s) output ≡ Some (Echo request) → ⊥
 no_echo_said None sockets id again request e = absurd (cc)
 no_echo_said (Some s) sockets id again request e = absurd (cc)
 

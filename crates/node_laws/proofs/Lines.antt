@@ -1,5 +1,5 @@
 -- What an event does to the connection with one peer, and what it adds to their exchanges.
-use Rattle.node_laws.proofs.Prelude.{All, option_map, ◌≡◌, ℕ, ◌<◌, Bool, true, false, ◌&&◌, List, set, position, refl, sym, ap, ◌∙◌, subst, arith, Option, Some, None, slice_get, if◌then◌else◌, PlainSegment, has_rst, AppSpec, IsNow, IsU32, IsAddr, Now, Sockets, Connection, closed, is_live, serves, same_sockets, segment_of, is_again, is_plain_syn, reset_for_no_connection, syn_ack, Outcome, leaves, asked, accepted, on_segment, on_tick, Step, initial_number, ident_of, Event, Reply, IpRefused, IcmpRefused, TcpRefused, EchoAsked, Arrived, Overlong, Periodic, Tcp, serving, IsEvent, IsSteady, both_ways, choose, and_true, same_is, is_same, serves_not, serves_dead, serves_yes, find_is, set_same, set_past, index_of, index_none, Single, single_set, serving_is, serving_free, serving_new, serving_gone, serving_other, finds, finds_none, FitConn, accepted_fits, FitNode, node_snapshot, slot_inside, on_segment_keeps, asked_keeps, on_tick_keeps, on_tick_closed, Exchange, received_from, sent_to, exchange}
+use Rattle.node_laws.proofs.Prelude.{All, option_map, ◌≡◌, ℕ, ◌<◌, Bool, true, false, ◌&&◌, List, set, position, refl, sym, ap, ◌∙◌, subst, arith, Option, Some, None, slice_get, if◌then◌else◌, PlainSegment, has_rst, AppSpec, IsNow, IsU32, IsAddr, Now, Sockets, Connection, closed, is_live, serves, same_sockets, segment_of, is_again, is_plain_syn, reset_for_no_connection, syn_ack, Outcome, leaves, asked, accepted, on_segment, on_tick, Step, initial_number, ident_of, Event, Reply, IpRefused, IcmpRefused, TcpRefused, EchoAsked, Arrived, Overlong, Periodic, TcpReply, serving, IsEvent, IsSteady, both_ways, choose, and_true, same_is, is_same, serves_not, serves_dead, serves_yes, find_is, set_same, set_past, index_of, index_none, Single, single_set, serving_is, serving_free, serving_new, serving_gone, serving_other, finds, finds_none, FitConn, accepted_fits, FitNode, node_snapshot, slot_inside, on_segment_keeps, asked_keeps, on_tick_keeps, on_tick_closed, Exchange, received_from, sent_to, exchange}
 use Rattle.uip_node.specs.Node.{AbstractNode, NodeStep, snapshot, happened, connection_in, slot_for_syn, opens_in, opens as opens_at, refuses, for_no_connection, arrives_at, periodic, step}
 use Rattle.uip_node.proofs.Connections.{Free}
 
@@ -36,11 +36,11 @@ came_here p q s e = ap (λ b. if b then Some s else None) (is_same q p e)
 pub came_elsewhere : (p q : Sockets) (s : PlainSegment) → same_sockets q p ≡ false → received_from p (Arrived q s) ≡ None
 came_elsewhere p q s e = ap (λ b. if b then Some s else None) e
 
-pub said_here : (p q : Sockets) (id : ℕ) (again : Bool) (output : Option PlainSegment) → q ≡ p → sent_to p (option_map (λ s. Tcp q id again s) output) ≡ output
+pub said_here : (p q : Sockets) (id : ℕ) (again : Bool) (output : Option PlainSegment) → q ≡ p → sent_to p (option_map (λ s. TcpReply q id again s) output) ≡ output
 said_here p q id again None e = refl
 said_here p q id again (Some s) e = ap (λ b. if b then Some s else None) (is_same q p e)
 
-pub said_elsewhere : (p q : Sockets) (id : ℕ) (again : Bool) (output : Option PlainSegment) → same_sockets q p ≡ false → sent_to p (option_map (λ s. Tcp q id again s) output) ≡ None
+pub said_elsewhere : (p q : Sockets) (id : ℕ) (again : Bool) (output : Option PlainSegment) → same_sockets q p ≡ false → sent_to p (option_map (λ s. TcpReply q id again s) output) ≡ None
 said_elsewhere p q id again None e = refl
 said_elsewhere p q id again (Some s) e = ap (λ b. if b then Some s else None) e
 
@@ -116,7 +116,7 @@ module _ (m : AppSpec) (served : ℕ → Bool) where
         (λ f. evicted x (serving_gone n.connections single i old at new owns_born p f (serves_not p new e)))
         (λ f. passes_by x (serving_other n.connections single i old at new owns_born p f (serves_not p new e)))
 
-    comes_born : (r : NodeStep) (id : ℕ) → r.node.connections ≡ set n.connections i new → r.sent ≡ Some (Tcp q id false (syn_ack new)) → Comes m served n (Arrived q s) r
+    comes_born : (r : NodeStep) (id : ℕ) → r.node.connections ≡ set n.connections i new → r.sent ≡ Some (TcpReply q id false (syn_ack new)) → Comes m served n (Arrived q s) r
     comes_born r id e t = record {
       single = subst (λ z. Single z) (sym e) (single_set n.connections single i old at new owns_born);
       each = λ p. subst (λ z. OfMedium m served p (serving p n.connections) (serving p z) (exchange p (Arrived q s) r.sent)) (sym e)

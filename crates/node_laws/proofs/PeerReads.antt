@@ -1,5 +1,5 @@
 -- What each peer reads.
-use Rattle.node_laws.proofs.Prelude.{All, option_map, ◌≡◌, ℕ, ◌<◌, Bool, true, false, ◌&&◌, inr, List, [], ◌∷◌, position, replicate, refl, sym, ap, ◌∙◌, subst, arith, Option, Some, None, if◌then◌else◌, All-head, All-tail, Addr, IsReadBack, head_of, PlainSegment, Datagram, datagram_bytes, has_rst, AppSpec, IsAddr, IsByte, IsU32, Sockets, Connection, closed, is_live, serves, same_sockets, is_again, is_plain_syn, reset_for_no_connection, segment_of, Outcome, asked, accepted, on_segment, on_tick, Step, by_head, by_segment, datagram_to, Event, Reply, HistoryEntry, IpRefused, IcmpRefused, TcpRefused, EchoAsked, Arrived, Overlong, Periodic, Tcp, ident_of, serving, IsSteady, SendsBytes, DeliveredBytes, asked_bytes, on_segment_bytes, on_tick_bytes, both_ways, choose, only_some, wrap_low, FitConn, FitOut, all_nil, all_cons, asked_fits, on_segment_fits, on_tick_fits, FitNode, closed_fits, event_fits, none_serves, all_closed, Single, serving_free, same_is, same_self, closed_lens, Lens, accepted_lens, asked_lens, on_segment_lens, on_tick_lens, IsSoundSegment, said_sound, IsPlace, datagram_back, datagram_short, Exchange, received_from, exchange, sent_to, IsOfLine, IsReadByPeer, IsReadThere, seen_from_peer}
+use Rattle.node_laws.proofs.Prelude.{All, option_map, ◌≡◌, ℕ, ◌<◌, Bool, true, false, ◌&&◌, inr, List, [], ◌∷◌, position, replicate, refl, sym, ap, ◌∙◌, subst, arith, Option, Some, None, if◌then◌else◌, All-head, All-tail, Addr, IsReadBack, head_of, PlainSegment, Datagram, datagram_bytes, has_rst, AppSpec, IsAddr, IsByte, IsU32, Sockets, Connection, closed, is_live, serves, same_sockets, is_again, is_plain_syn, reset_for_no_connection, segment_of, Outcome, asked, accepted, on_segment, on_tick, Step, by_head, by_segment, datagram_to, Event, Reply, HistoryEntry, IpRefused, IcmpRefused, TcpRefused, EchoAsked, Arrived, Overlong, Periodic, TcpReply, ident_of, serving, IsSteady, SendsBytes, DeliveredBytes, asked_bytes, on_segment_bytes, on_tick_bytes, both_ways, choose, only_some, wrap_low, FitConn, FitOut, all_nil, all_cons, asked_fits, on_segment_fits, on_tick_fits, FitNode, closed_fits, event_fits, none_serves, all_closed, Single, serving_free, same_is, same_self, closed_lens, Lens, accepted_lens, asked_lens, on_segment_lens, on_tick_lens, IsSoundSegment, said_sound, IsPlace, datagram_back, datagram_short, Exchange, received_from, exchange, sent_to, IsOfLine, IsReadByPeer, IsReadThere, seen_from_peer}
 use Rattle.uip_node.specs.Node.{AbstractNode, NodeStep, arrives_at, for_no_connection, happened, initial_node, opens as opens_at, opens_in, refuses, slot_for_syn, step}
 use Rattle.node_laws.proofs.Lines.{OfMedium, Comes, comes, left_of}
 use Rattle.node_laws.proofs.Lines.OfMedium.{passes_by, evicted, unanswered, refused, born, hears, ticks}
@@ -38,9 +38,9 @@ reset_sound s h = record { seq = h; ack = wrap_low _; flags = omega arith; windo
 -- ---- the identification of what is sent is below 2^16
 
 abbrev LowId : NodeStep → Type 0
-LowId r = (p : Sockets) (id : ℕ) (again : Bool) (s : PlainSegment) → r.sent ≡ Some (Tcp p id again s) → id < 65536
+LowId r = (p : Sockets) (id : ℕ) (again : Bool) (s : PlainSegment) → r.sent ≡ Some (TcpReply p id again s) → id < 65536
 
-said_low : (output : Option PlainSegment) (q : Sockets) (n : ℕ) (b : Bool) → n < 65536 → (p : Sockets) (id : ℕ) (again : Bool) (s : PlainSegment) → option_map (λ x. Tcp q n b x) output ≡ Some (Tcp p id again s) → id < 65536
+said_low : (output : Option PlainSegment) (q : Sockets) (n : ℕ) (b : Bool) → n < 65536 → (p : Sockets) (id : ℕ) (again : Bool) (s : PlainSegment) → option_map (λ x. TcpReply q n b x) output ≡ Some (TcpReply p id again s) → id < 65536
 said_low None q n b l p id again s e = absurd (cc)
 said_low (Some x) q n b l p id again s e = (let z : n ≡ id = cc in omega (arith, l, z))
 

@@ -54,7 +54,7 @@ pub use Rattle.uip_node.proofs.SoundSegments.{IsSoundSegment, Lens, LensWithin, 
 pub use Rattle.uip_node.proofs.Steadiness.{steady_of}
 pub use Rattle.uip_node.proofs.Stepped.{stepped_fits, stepped_tells}
 pub use Rattle.uip_node.proofs.Told.{IsDue, OutTells, Safe, SafeState, StepTells, alike_refl, alike_sym, alike_trans, due, segment_tells, tick_tells}
-pub use Rattle.uip_node.specs.Prelude.{AbstractNode, Alike, AnswersPolled, Arrived, Echo, EchoAsked, Event, GoesOnBy, HasBytes, HistoryEntry, IcmpRefused, IpRefused, IsEvent, IsSlice, IsSteady, NodeStep, Overlong, Periodic, Reply, SendsBytes, Tcp, TcpRefused, arrives_at, by_head, by_proto, by_segment, called_by, connection_in, datagram_to, event_of, ident_of, initial_node, initial_number, joined, opens, periodic, refuses, run, serving, slot_for_syn, snapshot, step}
+pub use Rattle.uip_node.specs.Prelude.{AbstractNode, Alike, AnswersPolled, Arrived, Echo, EchoAsked, Event, GoesOnBy, HasBytes, HistoryEntry, IcmpRefused, IpRefused, IsEvent, IsSlice, IsSteady, NodeStep, Overlong, Periodic, Reply, SendsBytes, TcpReply, TcpRefused, arrives_at, by_head, by_proto, by_segment, called_by, connection_in, datagram_to, event_of, ident_of, initial_node, initial_number, joined, opens, periodic, refuses, run, serving, slot_for_syn, snapshot, step}
 unfoldable pub use Rattle.uip_node.specs.Prelude.{for_no_connection, happened, opens_in}
 pub use Rattle.uip_wire.specs.Prelude.{address_at, checksum_of, long_at, word_at, wrap}
 pub use Rattle.uip_wire.specs.declared.addr.Addr.{Addr}

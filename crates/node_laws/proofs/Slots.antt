@@ -1,5 +1,5 @@
 -- What an event does to the connection in one slot, and what it adds to the exchanges with its peer.
-use Rattle.node_laws.proofs.Prelude.{option_or, option_map, ◌≡◌, ℕ, zero, suc, ◌+◌, Bool, true, false, not, ◌==◌, ◌&&◌, ◌⊎◌, inl, inr, List, [], ◌∷◌, set, position, refl, sym, ap, ◌∙◌, subst, arith, Option, Some, None, slice_get, slice_index_or, eqb, eq-eqb, PlainSegment, has_rst, AppSpec, is_time_wait, longest_wait, Sockets, Connection, closed, is_live, serves, same_sockets, segment_of, is_again, is_plain_syn, reset_for_no_connection, syn_ack, Outcome, leaves, asked, accepted, on_segment, on_tick, Step, initial_number, ident_of, Event, IpRefused, IcmpRefused, TcpRefused, EchoAsked, Arrived, Overlong, Periodic, Tcp, AbstractNode, NodeStep, snapshot, happened, connection_in, slot_for_syn, opens_in, opens, refuses, for_no_connection, arrives_at, periodic, step, serving, both_ways, choose, and_true, eqb-eq, not-true, same_is, is_same, serves_not, find_is, get_set, get_set_other, index_of, Single, here, there, finds, finds_none, found, on_segment_keeps, asked_keeps, on_tick_keeps, on_tick_closed, received_from, sent_to, exchange}
+use Rattle.node_laws.proofs.Prelude.{option_or, option_map, ◌≡◌, ℕ, zero, suc, ◌+◌, Bool, true, false, not, ◌==◌, ◌&&◌, ◌⊎◌, inl, inr, List, [], ◌∷◌, set, position, refl, sym, ap, ◌∙◌, subst, arith, Option, Some, None, slice_get, slice_index_or, eqb, eq-eqb, PlainSegment, has_rst, AppSpec, is_time_wait, longest_wait, Sockets, Connection, closed, is_live, serves, same_sockets, segment_of, is_again, is_plain_syn, reset_for_no_connection, syn_ack, Outcome, leaves, asked, accepted, on_segment, on_tick, Step, initial_number, ident_of, Event, IpRefused, IcmpRefused, TcpRefused, EchoAsked, Arrived, Overlong, Periodic, TcpReply, AbstractNode, NodeStep, snapshot, happened, connection_in, slot_for_syn, opens_in, opens, refuses, for_no_connection, arrives_at, periodic, step, serving, both_ways, choose, and_true, eqb-eq, not-true, same_is, is_same, serves_not, find_is, get_set, get_set_other, index_of, Single, here, there, finds, finds_none, found, on_segment_keeps, asked_keeps, on_tick_keeps, on_tick_closed, received_from, sent_to, exchange}
 use Rattle.uip_node.proofs.Connections.{Free}
 use Rattle.node_laws.proofs.Lines.{quiet, met, meets, came_here, came_elsewhere, said_here, said_elsewhere}
 
@@ -33,7 +33,7 @@ module _ (m : AppSpec) (served : ℕ → Bool) (n : AbstractNode) (p : Sockets) 
   pub record Acted (event : Event) (r : NodeStep) (received : Option PlainSegment) (o : Outcome) : Type 0 where
     pub exchanged : exchange p event r.sent ≡ met received (segment_of m o.connection o.step)
     pub id : ℕ
-    pub sent : r.sent ≡ option_map (λ s. Tcp p id (is_again o.step) s) (segment_of m o.connection o.step)
+    pub sent : r.sent ≡ option_map (λ s. TcpReply p id (is_again o.step) s) (segment_of m o.connection o.step)
     pub table : r.node.connections ≡ set n.connections i o.connection
     pub numbers : r.node.numbers ≡ o.numbers
 
@@ -61,7 +61,7 @@ module _ (m : AppSpec) (served : ℕ → Bool) (n : AbstractNode) (p : Sockets) 
         record {
           exchanged = meets (received_from p event) (sent_to p r.sent) received (segment_of m o.connection o.step) e (said_here p o.connection.sockets (ident_of r.node.history) (is_again o.step) (segment_of m o.connection o.step) q);
           id = ident_of r.node.history;
-          sent = ap (λ z. option_map (λ s. Tcp z (ident_of r.node.history) (is_again o.step) s) (segment_of m o.connection o.step)) q;
+          sent = ap (λ z. option_map (λ s. TcpReply z (ident_of r.node.history) (is_again o.step) s) (segment_of m o.connection o.step)) q;
           table = refl;
           numbers = refl;
         }

@@ -1,5 +1,5 @@
 -- What is outstanding in the exchanges is outstanding at the node, and its timer expires.
-use Rattle.node_laws.proofs.Prelude.{All, option_map_or, option_map, ◌≡◌, ℕ, zero, suc, ◌+◌, ◌<◌, ◌≤◌, ◌==◌, Bool, true, false, not, ◌&&◌, inl, inr, List, [], ◌∷◌, ◌++◌, length, set, take, refl, sym, ap, ◌∙◌, subst, arith, Option, Some, None, slice_get, ltb, if◌then◌else◌, cases_lt, All-head, All-tail, wrap, Addr, PlainSegment, has_rst, has_ack, AppSpec, IsNow, is_time_wait, beat_at, Beat, Now, State, Closed, SynRcvd, Established, CloseWait, FinWait1, FinWait2, Closing, TimeWait, LastAck, Sockets, Connection, closed, is_live, serves, same_sockets, snd_una, occupies_sequence_space, segment_of, is_again, reset_for_no_connection, reset_of, syn_ack, Outcome, leaves, closes, asked, accepted, is_acked, on_segment, by_beat, grows_older, limit_of, on_tick, outstanding, Step, Event, called_by, IpRefused, IcmpRefused, TcpRefused, EchoAsked, Arrived, Overlong, Periodic, Tcp, AbstractNode, NodeStep, snapshot, initial_node, step, serving, IsEvent, Alike, IsSteady, both_ways, and_true, eqb-eq, only_some, Single, get_set, get_set_same, is_served, serving_free, none_serves, here, there, served, free, FitConn, on_segment_fits, on_tick_fits, node_snapshot, Moves, asked_moves, segment_moves, tick_moves, on_segment_keeps, asked_keeps, on_tick_keeps, same_is, serves_dead, serves_yes, stepped_tells, IsDue, StepTells, OutTells, due, alike_trans, alike_sym, alike_refl, segment_tells, tick_tells, IsWithoutReset, sequence_length, Exchange, TraceEntry, sent_at, exchange, received_from, exchanges_onto, trace_of, calls_of, IsOutstanding, IsRetried, IsRetriedIn, RetransmitsOrResets, sent_again, given_up, IsOfLine}
+use Rattle.node_laws.proofs.Prelude.{All, option_map_or, option_map, ◌≡◌, ℕ, zero, suc, ◌+◌, ◌<◌, ◌≤◌, ◌==◌, Bool, true, false, not, ◌&&◌, inl, inr, List, [], ◌∷◌, ◌++◌, length, set, take, refl, sym, ap, ◌∙◌, subst, arith, Option, Some, None, slice_get, ltb, if◌then◌else◌, cases_lt, All-head, All-tail, wrap, Addr, PlainSegment, has_rst, has_ack, AppSpec, IsNow, is_time_wait, beat_at, Beat, Now, State, Closed, SynRcvd, Established, CloseWait, FinWait1, FinWait2, Closing, TimeWait, LastAck, Sockets, Connection, closed, is_live, serves, same_sockets, snd_una, occupies_sequence_space, segment_of, is_again, reset_for_no_connection, reset_of, syn_ack, Outcome, leaves, closes, asked, accepted, is_acked, on_segment, by_beat, grows_older, limit_of, on_tick, outstanding, Step, Event, called_by, IpRefused, IcmpRefused, TcpRefused, EchoAsked, Arrived, Overlong, Periodic, TcpReply, AbstractNode, NodeStep, snapshot, initial_node, step, serving, IsEvent, Alike, IsSteady, both_ways, and_true, eqb-eq, only_some, Single, get_set, get_set_same, is_served, serving_free, none_serves, here, there, served, free, FitConn, on_segment_fits, on_tick_fits, node_snapshot, Moves, asked_moves, segment_moves, tick_moves, on_segment_keeps, asked_keeps, on_tick_keeps, same_is, serves_dead, serves_yes, stepped_tells, IsDue, StepTells, OutTells, due, alike_trans, alike_sym, alike_refl, segment_tells, tick_tells, IsWithoutReset, sequence_length, Exchange, TraceEntry, sent_at, exchange, received_from, exchanges_onto, trace_of, calls_of, IsOutstanding, IsRetried, IsRetriedIn, RetransmitsOrResets, sent_again, given_up, IsOfLine}
 use Rattle.node_laws.proofs.HonestPeers.{calls_one}
 use Rattle.node_laws.proofs.Beating.{Young, asked_young, segment_young, tick_young, due_size, asked_lives, segment_lives, tick_lives, mss_some, no_wait, ticks_are, due_again, next_beat, SafeAt}
 use Rattle.node_laws.proofs.GoodNodes.{AnyLength, Good, SafeConn, first_is, good_on, good_start, low_text}
@@ -365,9 +365,9 @@ module _ (m : AppSpec) (steady : IsSteady m) (ports : ℕ → Bool) (p : Sockets
                       beats = w.beats;
                     } (omega (arith, few, one)) none'))
                 | again u output marked seq alike ↦ at_once s t rest
-                    (sent_again a.id u (a.stream ∙ ap (λ z. option_map (λ y. Tcp p a.id (is_again o.step) y) z) output ∙ ap (λ z. Some (Tcp p a.id z u)) marked) seq alike)
+                    (sent_again a.id u (a.stream ∙ ap (λ z. option_map (λ y. TcpReply p a.id (is_again o.step) y) z) output ∙ ap (λ z. Some (TcpReply p a.id z u)) marked) seq alike)
                 | ended u output marked reset ↦ at_once s t rest
-                    (given_up a.id u (a.stream ∙ ap (λ z. option_map (λ y. Tcp p a.id (is_again o.step) y) z) output ∙ ap (λ z. Some (Tcp p a.id z u)) marked) reset)
+                    (given_up a.id u (a.stream ∙ ap (λ z. option_map (λ y. TcpReply p a.id (is_again o.step) y) z) output ∙ ap (λ z. Some (TcpReply p a.id z u)) marked) reset)
               ])
           | is_met s' f a ↦ absurd (let z : None ≡ Some s' = sym quiet_here ∙ ap (λ y. y.received) a.exchanged in cc)
           | is_apart far x at_i ↦

@@ -28,9 +28,12 @@ pub record AcceptsPrefix (here lost : AppState → Bool) (p q : AppState) (piece
 -- marks the states of connections opened at this port, and each call leads from such a state to such a state. `lost` marks those that
 -- ignore all further input.
 pub record FollowsPagesAt (m : AppSpec) (port : ℕ) (pages : Pages) : Type 0 where
-  pub grows : (q more : List ℕ) (k later : List Snapshot) → IsPrefixOf (pages.page q k) (pages.page (q ++ more) (k ++ later))
-  pub stays : (q more : List ℕ) (k later : List Snapshot) → pages.complete q k ≡ true → pages.page (q ++ more) (k ++ later) ≡ pages.page q k
-  pub stays_complete : (q more : List ℕ) (k later : List Snapshot) → pages.complete q k ≡ true → pages.complete (q ++ more) (k ++ later) ≡ true
+  pub grows : (input more : List ℕ) (snapshots later : List Snapshot)
+      → IsPrefixOf (pages.page input snapshots) (pages.page (input ++ more) (snapshots ++ later))
+  pub stays : (input more : List ℕ) (snapshots later : List Snapshot) → pages.complete input snapshots ≡ true
+      → pages.page (input ++ more) (snapshots ++ later) ≡ pages.page input snapshots
+  pub stays_complete : (input more : List ℕ) (snapshots later : List Snapshot) → pages.complete input snapshots ≡ true
+      → pages.complete (input ++ more) (snapshots ++ later) ≡ true
   pub here : AppState → Bool
   pub lost : AppState → Bool
   pub output : (p : AppState) → here p ≡ true → m.output p ≡ pages.page p.input p.snapshots

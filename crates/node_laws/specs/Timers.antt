@@ -7,7 +7,7 @@ use Rattle.uip_wire.specs.declared.addr.Addr.{Addr}
 use Rattle.tcp_segment.specs.Prelude.{PlainSegment, has_rst, has_ack}
 use Rattle.app_events.specs.Prelude.{AppSpec, IsAddr, IsU32}
 use Rattle.tcp_machine.specs.Prelude.{Sockets, occupies_sequence_space}
-use Rattle.uip_node.specs.Prelude.{Event, Tcp, Alike, initial_node, IsSteady}
+use Rattle.uip_node.specs.Prelude.{Event, TcpReply, Alike, initial_node, IsSteady}
 use Rattle.node_laws.specs.Asked.{IsWithoutReset}
 use Rattle.node_laws.specs.HonestPeers.{calls_of}
 use Rattle.node_laws.specs.Promise.{sequence_length}
@@ -26,8 +26,8 @@ pub record IsOutstanding (session : List Exchange) (s : PlainSegment) : Type 0 w
 
 -- At this trace entry the node retransmits the segment with the same flags and text, marked as a retransmission, or it sends a RST.
 pub data IsRetried (p : Sockets) (s : PlainSegment) (t : TraceEntry) : Type 0 where
-  sent_again : (id : ℕ) (u : PlainSegment) → t.sent ≡ Some (Tcp p id true u) → u.seq ≡ s.seq → Alike u s → IsRetried p s t
-  given_up : (id : ℕ) (u : PlainSegment) → t.sent ≡ Some (Tcp p id false u) → has_rst u.flags ≡ true → IsRetried p s t
+  sent_again : (id : ℕ) (u : PlainSegment) → t.sent ≡ Some (TcpReply p id true u) → u.seq ≡ s.seq → Alike u s → IsRetried p s t
+  given_up : (id : ℕ) (u : PlainSegment) → t.sent ≡ Some (TcpReply p id false u) → has_rst u.flags ≡ true → IsRetried p s t
 
 -- Some entry of this trace retransmits or resets.
 pub record IsRetriedIn (p : Sockets) (s : PlainSegment) (trace : List TraceEntry) : Type 0 where

@@ -4,7 +4,7 @@ use Rattle.std.specs.Option.{option_map_or}
 use Rattle.std.specs.Prelude.{◌≡◌, ◌&&◌, ℕ, Bool, true, false, List, [], ◌∷◌, ◌++◌, Option, Some, None, is_some, if◌then◌else◌, slice_get}
 use Rattle.tcp_segment.specs.Prelude.{PlainSegment, has_syn}
 use Rattle.tcp_machine.specs.Prelude.{Sockets, same_sockets}
-use Rattle.uip_node.specs.Prelude.{Event, Reply, Arrived, Tcp}
+use Rattle.uip_node.specs.Prelude.{Event, Reply, Arrived, TcpReply}
 
 -- One event as it concerns one pair of sockets: the segment received on the pair and the segment sent on it.
 pub record Exchange : Type 0 where
@@ -18,7 +18,7 @@ received_from p _ = None
 
 -- the segment that a reply sends on this pair
 abbrev pub sent_to : Sockets → Option Reply → Option PlainSegment
-sent_to p (Some (Tcp sockets id again s)) = if same_sockets sockets p then Some s else None
+sent_to p (Some (TcpReply sockets id again s)) = if same_sockets sockets p then Some s else None
 sent_to p _ = None
 
 abbrev pub exchange : Sockets → Event → Option Reply → Exchange

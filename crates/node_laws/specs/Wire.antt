@@ -6,7 +6,7 @@ use Rattle.uip_wire.specs.declared.sizes.TheConstants.{LARGEST_DATAGRAM}
 use Rattle.tcp_segment.specs.Prelude.{PlainSegment}
 use Rattle.app_events.specs.Prelude.{IsByte}
 use Rattle.tcp_machine.specs.Prelude.{Sockets}
-use Rattle.uip_node.specs.Prelude.{event_of, reply_bytes, Event, Arrived, Overlong, Periodic, Tcp}
+use Rattle.uip_node.specs.Prelude.{event_of, reply_bytes, Event, Arrived, Overlong, Periodic, TcpReply}
 use Rattle.node_laws.specs.Traces.{TraceEntry}
 
 -- An event that a line can bring: a datagram of any bytes, a frame that is too long, or the call of a slot.
@@ -22,10 +22,10 @@ seen_from_peer own p = record { peer = own; peer_port = p.own_port; own_port = p
 -- The node's own parser, at the address of the peer, gives back this segment from its bytes. These are no longer than the largest
 -- datagram.
 pub record IsReadThere (own : Addr) (p : Sockets) (id : ℕ) (again : Bool) (s : PlainSegment) : Type 0 where
-  pub read : event_of p.peer (reply_bytes own (Tcp p id again s)) ≡ Arrived (seen_from_peer own p) s
-  pub size : length (reply_bytes own (Tcp p id again s)) ≤ LARGEST_DATAGRAM
+  pub read : event_of p.peer (reply_bytes own (TcpReply p id again s)) ≡ Arrived (seen_from_peer own p) s
+  pub size : length (reply_bytes own (TcpReply p id again s)) ≤ LARGEST_DATAGRAM
 
 -- The node's own parser, at the address of the peer, gives back the segment of this trace entry, if any.
 abbrev pub IsReadByPeer : Addr → TraceEntry → Type 0
 IsReadByPeer own t =
-    (p : Sockets) (id : ℕ) (again : Bool) (s : PlainSegment) → t.sent ≡ Some (Tcp p id again s) → IsReadThere own p id again s
+    (p : Sockets) (id : ℕ) (again : Bool) (s : PlainSegment) → t.sent ≡ Some (TcpReply p id again s) → IsReadThere own p id again s

@@ -1,5 +1,5 @@
 -- The constants of the code that definitions cite, with their values.
-use Rattle.std.specs.Prelude.{◌≡◌, ℕ}
+use Rattle.std.specs.Prelude.{◌≡◌}
 use Rattle.packet_buffer.specs.declared.packet.TheConstants.{LEAST_AREA}
 
 pub record ConstantValues : Type 0 where

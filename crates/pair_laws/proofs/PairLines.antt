@@ -9,8 +9,7 @@ use Rattle.app_events.specs.Prelude.{AppSpec, AppState, IsAddr, IsByte, IsLawful
 use Rattle.app_events.specs.declared.now.Now.{Now}
 use Rattle.app_events.specs.declared.want.Want.TheVariants.{Close}
 use Rattle.uip_node.specs.Prelude.{AbstractNode, IsSteady, SendsBytes, initial_node, step}
-use Rattle.node_laws.specs.Prelude.{AcceptsPrefix, FollowsModelAt, FollowsPagesAt, HasOutputModel, IsPagedAt, IsReadByPeer, LeavesDelivered, OutputModel, TraceConforms, TraceEntry}
-use Rattle.node_laws.specs.Prelude.{Free, Interactive, Paged}
+use Rattle.node_laws.specs.Prelude.{AcceptsPrefix, FollowsModelAt, FollowsPagesAt, HasOutputModel, IsPagedAt, IsReadByPeer, LeavesDelivered, OutputModel, TraceConforms, TraceEntry, Free, Interactive, Paged}
 use Rattle.node_laws.proofs.EveryTraceConforms.{every_step}
 use Rattle.node_laws.proofs.Steps.{Changes as ChangesAll, IsStep, LineStep, OfNode, trace_over}
 use Rattle.app_pair.specs.PairNumbers.{change_own, own_numbers, with_own}

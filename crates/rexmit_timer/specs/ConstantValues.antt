@@ -1,5 +1,5 @@
 -- The constants of the code that definitions cite, with their values.
-use Rattle.std.specs.Prelude.{◌≡◌, ℕ}
+use Rattle.std.specs.Prelude.{◌≡◌}
 use Rattle.rexmit_timer.specs.declared.timer.TheConstants.{FIRST_COUNT, TEXT_LIMIT, SYN_ACK_LIMIT}
 
 pub record ConstantValues : Type 0 where

@@ -1,8 +1,7 @@
 -- The names and the content types of files.
 -- [add: content-type] The ending of a name, and its type.
-use Rattle.std.specs.Prelude.{ℕ, ◌==◌, Bool, ◌&&◌, not, List, length, nat_le, codes, slice_index, if◌then◌else◌}
+use Rattle.std.specs.Prelude.{ℕ, ◌==◌, Bool, ◌&&◌, not, List, length, nat_le, codes, slice_index, if◌then◌else◌, nat_eq}
 use Rattle.std.specs.List.{list_all, ends_with}
-use Rattle.std.specs.Prelude.{nat_eq}
 use Rattle.site_image.specs.declared.TheConstants.{LONGEST_NAME, LONGEST_KIND}
 
 -- a byte of a name: visible, and not `?`

@@ -1,8 +1,7 @@
 -- The abstract connection (RFC 793, section 3.2). Sequence numbers are unbounded offsets, and outstanding segments have an age instead of
 -- a timer.
 -- [add: state] What an abstract connection has in it.
-use Rattle.std.specs.Prelude.{ℕ, ◌+◌, ◌==◌, ◌&&◌, Bool, true, false, List, [], ◌∷◌, if◌then◌else◌, nat_lt}
-use Rattle.std.specs.Prelude.{bytes_eq}
+use Rattle.std.specs.Prelude.{ℕ, ◌+◌, ◌==◌, ◌&&◌, Bool, true, false, List, [], ◌∷◌, if◌then◌else◌, nat_lt, bytes_eq}
 use Rattle.uip_wire.specs.Prelude.{wrap}
 use Rattle.uip_wire.specs.declared.addr.Addr.{Addr}
 use Rattle.uip_wire.specs.declared.port.Port.{Port}

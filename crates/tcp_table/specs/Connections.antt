@@ -1,6 +1,5 @@
 -- The table of connections as plain data: ten of them, identified by their sockets (RFC 793, section 1.5).
-use Rattle.std.specs.Prelude.{ℕ, ◌≡◌, ◌==◌, ◌&&◌, Bool, true, List, length, Some, slice_get}
-use Rattle.std.specs.Prelude.{bytes_eq}
+use Rattle.std.specs.Prelude.{ℕ, ◌≡◌, ◌==◌, ◌&&◌, Bool, true, List, length, Some, slice_get, bytes_eq}
 use Rattle.uip_wire.specs.declared.addr.Addr.{Addr}
 use Rattle.uip_wire.specs.declared.port.Port.{Port}
 use Rattle.app_events.specs.Prelude.{is_live}

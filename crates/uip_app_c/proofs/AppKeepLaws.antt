@@ -12,10 +12,8 @@ use Rattle.uip_wire.specs.declared.addr.Addr.{Addr}
 use Rattle.app_events.specs.declared.state.State.{State}
 use Rattle.app_events.specs.declared.state.State.TheVariants.{SynRcvd}
 use Rattle.tcp_machine.specs.Prelude.{Connection, closed, is_live}
-use Rattle.uip_node.specs.Prelude.{AbstractNode, Event, connection_in, event_of, run, step}
+use Rattle.uip_node.specs.Prelude.{AbstractNode, Event, connection_in, event_of, run, step, Periodic, periodic}
 use Rattle.uip_node.proofs.Basics.{both_ways, choose}
-use Rattle.uip_node.specs.Events.Event.{Periodic}
-use Rattle.uip_node.specs.Node.{periodic}
 use Rattle.node_laws.specs.Prelude.{IsOfLine, IsReadByPeer, TraceConforms, TraceEntry, exchanges_with, trace_of}
 use Rattle.line_medium.specs.Prelude.{MediumInput}
 use Rattle.line_promise.specs.Prelude.{events_among}

@@ -4,10 +4,8 @@ use Rattle.std.specs.Prelude.{position, replicate, slice_index_or, slice_set}
 use Rattle.tcp_segment.specs.Prelude.{PlainSegment, has_rst}
 use Rattle.app_events.specs.declared.now.Now.{Now}
 use Rattle.tcp_machine.specs.Prelude.{Connection, Outcome, Sockets, accepted, asked, closed, is_plain_syn, on_segment, on_tick, serves}
-use Rattle.uip_node.specs.Prelude.{AbstractNode, Event, NodeStep, connection_in, step}
+use Rattle.uip_node.specs.Prelude.{AbstractNode, Event, NodeStep, connection_in, step, initial_number, Arrived, EchoAsked, IcmpRefused, IpRefused, Overlong, Periodic, TcpRefused}
 use Rattle.uip_node.specs.Node.{arrives_at, for_no_connection, happened, opens, opens_in, periodic, slot_for_syn, snapshot}
-use Rattle.uip_node.specs.Counters.{initial_number}
-use Rattle.uip_node.specs.Events.Event.{Arrived, EchoAsked, IcmpRefused, IpRefused, Overlong, Periodic, TcpRefused}
 use Rattle.uip_node.proofs.Basics.{choose}
 use Rattle.own_app.specs.Prelude.{own_spec}
 use Rattle.uip_app_c.proofs.Parts.{AskedPart, OutParts, asked_part, segment_parts, tick_parts}

@@ -9,8 +9,7 @@ use Rattle.app_events.specs.declared.state.State.{State}
 use Rattle.app_events.specs.declared.state.State.TheVariants.{Closed, SynRcvd, Established, CloseWait, FinWait1, FinWait2, Closing, TimeWait, LastAck}
 use Rattle.uip_wire.specs.declared.addr.Addr.{Addr}
 use Rattle.tcp_machine.specs.Prelude.{Connection, Outcome, accepted, closed, is_open}
-use Rattle.uip_node.specs.Prelude.{AbstractNode, connection_in, initial_node}
-use Rattle.uip_node.specs.Node.{periodic}
+use Rattle.uip_node.specs.Prelude.{AbstractNode, connection_in, initial_node, periodic}
 use Rattle.uip_node.proofs.Basics.{both_ways}
 use Rattle.uip_node.proofs.Cases.{is_ask}
 use Rattle.own_app.specs.Prelude.{PlainMessage, is_next_message, message_in, messages_text, next_ticket, no_message, numbers_of, opened_in, own_spec, pending as pending_of, with_message, with_written}

@@ -1,5 +1,5 @@
 -- A text whose writing broke off.
-use Rattle.uip_edge.proofs.Prelude.{◌≡◌, ◌<◌, ℕ, List, [], ◌++◌, Option, length, refl, sym, ap, ◌∙◌, append_assoc, arith, length-append, subst, Appends, AppendsPrefix, BreaksOff}
+use Rattle.uip_edge.proofs.Prelude.{◌≡◌, ◌<◌, ℕ, List, [], ◌++◌, Option, length, sym, ap, ◌∙◌, append_assoc, arith, length-append, subst, Appends, AppendsPrefix, BreaksOff}
 use Rattle.uip_edge.proofs.Told.{Appends-then, appends_by}
 
 -- other names for what precedes a text and for the text

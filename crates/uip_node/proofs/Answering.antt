@@ -1,5 +1,5 @@
 -- A step that is answered, or not.
-use Rattle.uip_node.proofs.Prelude.{ℕ, ◌≡◌, ◌+◌, ◌%◌, length, List, ◌∷◌, Option, Some, None, sym, ap, ◌∙◌, subst, refl, Tcp, option_map_or, slice_set, option_map, AppSpec, Ghosts, PlainSegment, datagram_bytes, Outcome, Connection, is_again, segment_of, Step, CountsRepresent, seen, ident_of, initial_number, datagram_to, Event, Spoke, Silent, AbstractNode, NodeStep, gone_by, happened, MeetsAt, SlotsRepresent, IsSpoken, Steps, Counts, Node}
+use Rattle.uip_node.proofs.Prelude.{ℕ, ◌≡◌, ◌+◌, ◌%◌, length, List, ◌∷◌, Option, Some, None, sym, ap, ◌∙◌, subst, refl, TcpReply, option_map_or, slice_set, option_map, AppSpec, Ghosts, PlainSegment, datagram_bytes, Outcome, Connection, is_again, segment_of, Step, CountsRepresent, seen, ident_of, initial_number, datagram_to, Event, Spoke, Silent, AbstractNode, NodeStep, gone_by, happened, MeetsAt, SlotsRepresent, IsSpoken, Steps, Counts, Node}
 use Rattle.uip_node.proofs.Twice.{next_ident}
 
 -- the reply to an event, by what is sent
@@ -9,7 +9,7 @@ answered_node n event slot o output = record n { numbers = o.numbers; connection
 abbrev answered : AbstractNode → Event → ℕ → Outcome → Option Connection → Option PlainSegment → NodeStep
 answered n event slot o gone output = record {
   node = answered_node n event slot o output;
-  sent = option_map (λ s. Tcp o.connection.sockets (ident_of (answered_node n event slot o output).history) (is_again o.step) s) output;
+  sent = option_map (λ s. TcpReply o.connection.sockets (ident_of (answered_node n event slot o output).history) (is_again o.step) s) output;
   gone = gone;
 }
 

@@ -46,7 +46,7 @@ unfoldable pub use Rattle.uip_ipv4.specs.Prelude.{head_bytes}
 pub use Rattle.uip_ipv4.specs.declared.head.IpHead.{IpHead}
 pub use Rattle.uip_ipv4.specs.declared.proto.Proto.{Proto}
 pub use Rattle.uip_ipv4.specs.declared.proto.Proto.TheVariants.{Icmp}
-pub use Rattle.uip_node.specs.Prelude.{AbstractNode, Alike, AllSound, AllWellFormed, Answer, Arrived, Counts, CountsRepresent, Echo, EchoAsked, EchoReplied, Event, HasBytes, HistoryEntry, IcmpRefused, IpRefused, IsEvent, IsIn, IsNamed, IsSpoken, IsSteady, IsWellFormedConn, MeetsAt, NoSlot, Node, NodeStep, OthersRest, OthersStay, Overlong, Periodic, PreparesIn, Reply, Represents, SendsBytes, Silent, SlotsRepresent, Spoke, StaysPrepared, Steps, TakesIn, Tcp, TcpRefused, TookStep, again_place, arrives, arrives_at, called_by, connection_in, counter_places, counters, datagram_to, gone_by, icmp_place, ident_of, initial_node, initial_number, ip_place, live_rows, marks, opens, passes, periodic, raise, raised_by_answer, raises, refuses, remembers, row_in, run, seen, serving, slot_for_syn, snapshot, snapshot_at, sockets_of, step, tcp_place, tick, ticks_of, times}
+pub use Rattle.uip_node.specs.Prelude.{AbstractNode, Alike, AllSound, AllWellFormed, Answer, Arrived, Counts, CountsRepresent, Echo, EchoAsked, EchoReplied, Event, HasBytes, HistoryEntry, IcmpRefused, IpRefused, IsEvent, IsIn, IsNamed, IsSpoken, IsSteady, IsWellFormedConn, MeetsAt, NoSlot, Node, NodeStep, OthersRest, OthersStay, Overlong, Periodic, PreparesIn, Reply, Represents, SendsBytes, Silent, SlotsRepresent, Spoke, StaysPrepared, Steps, TakesIn, TcpReply, TcpRefused, TookStep, again_place, arrives, arrives_at, called_by, connection_in, counter_places, counters, datagram_to, gone_by, icmp_place, ident_of, initial_node, initial_number, ip_place, live_rows, marks, opens, passes, periodic, raise, raised_by_answer, raises, refuses, remembers, row_in, run, seen, serving, slot_for_syn, snapshot, snapshot_at, sockets_of, step, tcp_place, tick, ticks_of, times}
 unfoldable pub use Rattle.uip_node.specs.Prelude.{for_no_connection, happened, opens_in}
 pub use Rattle.uip_wire.proofs.Words.{length-bytes_of}
 pub use Rattle.uip_wire.specs.Prelude.{bytes_of, checksum_of, wrap}

@@ -1,5 +1,5 @@
 -- Whole conversations, computed from the definitions alone.
-use Rattle.uip_node.proofs.Prelude.{◌≡◌, ◌+◌, ℕ, zero, suc, Bool, true, false, List, [], ◌∷◌, ◌++◌, map, refl, Option, Some, None, ◌==◌, FIN, SYN, RST, PSH, ACK, fixed_spec, hello, Sockets, idles, peer_closes, stays_established, in_established, fin_acked, fin_waits, on_segment, rests_on, ticks_established, Event, Reply, tick, Arrived, Echo, Tcp, initial_node, run, happened, opens_in, for_no_connection}
+use Rattle.uip_node.proofs.Prelude.{◌≡◌, ◌+◌, ℕ, zero, suc, Bool, true, false, List, [], ◌∷◌, ◌++◌, map, refl, Option, Some, None, ◌==◌, FIN, SYN, RST, PSH, ACK, fixed_spec, hello, Sockets, idles, peer_closes, stays_established, in_established, fin_acked, fin_waits, on_segment, rests_on, ticks_established, Event, Reply, tick, Arrived, Echo, TcpReply, initial_node, run, happened, opens_in, for_no_connection}
 
 abbrev web : ℕ → Bool
 web port = port == 80
@@ -25,7 +25,7 @@ pub record Told : Type 0 where
 
 abbrev told : Reply → Told
 told (Echo request) = record { id = 0; again = false; seq = 0; ack = 0; flags = 0; text = [] }
-told (Tcp sockets id again s) = record { id = id; again = again; seq = s.seq; ack = s.ack; flags = s.flags; text = s.text }
+told (TcpReply sockets id again s) = record { id = id; again = again; seq = s.seq; ack = s.ack; flags = s.flags; text = s.text }
 
 abbrev ticks : ℕ → List Event
 ticks zero = []

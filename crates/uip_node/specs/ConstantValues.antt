@@ -1,11 +1,9 @@
 -- The constants of the code that definitions name, and their values.
 -- [add: counter] Its constant, by its value.
 use Rattle.std.specs.Prelude.{◌≡◌}
-use Rattle.uip_node.specs.declared.counter.TheConstants.{IP_IN, IP_OUT, OVERLONG_FRAMES, IP_SHORT, IP_VERSION}
-use Rattle.uip_node.specs.declared.counter.TheConstants.{IP_LENGTH, IP_FRAGMENT, IP_CHECKSUM, IP_NOT_OURS}
-use Rattle.uip_node.specs.declared.counter.TheConstants.{IP_PROTOCOL, ICMP_IN, ICMP_OUT, ICMP_REFUSED, ICMP_CHECKSUM}
-use Rattle.uip_node.specs.declared.counter.TheConstants.{TCP_IN, TCP_OUT, TCP_REFUSED, TCP_CHECKSUM}
-use Rattle.uip_node.specs.declared.counter.TheConstants.{TCP_AGAIN, NO_SLOT_LEFT}
+use Rattle.uip_node.specs.declared.counter.TheConstants.{IP_IN, IP_OUT, OVERLONG_FRAMES, IP_SHORT, IP_VERSION, IP_LENGTH, IP_FRAGMENT}
+use Rattle.uip_node.specs.declared.counter.TheConstants.{IP_CHECKSUM, IP_NOT_OURS, IP_PROTOCOL, ICMP_IN, ICMP_OUT, ICMP_REFUSED}
+use Rattle.uip_node.specs.declared.counter.TheConstants.{ICMP_CHECKSUM, TCP_IN, TCP_OUT, TCP_REFUSED, TCP_CHECKSUM, TCP_AGAIN, NO_SLOT_LEFT}
 
 pub record ConstantValues : Type 0 where
   pub ip_in : IP_IN ≡ 0

@@ -9,11 +9,9 @@ use Rattle.uip_ipv4.specs.declared.fate.IpFate.TheVariants as Ip
 use Rattle.icmp_echo.specs.declared.fate.IcmpFate.TheVariants as Icmp
 use Rattle.tcp_segment.specs.declared.fate.TcpFate.TheVariants as Tcp
 use Rattle.uip_node.specs.Events.{Event, Answer, HistoryEntry}
-use Rattle.uip_node.specs.declared.counter.TheConstants.{IP_IN, IP_OUT, OVERLONG_FRAMES, IP_SHORT, IP_VERSION}
-use Rattle.uip_node.specs.declared.counter.TheConstants.{IP_LENGTH, IP_FRAGMENT, IP_CHECKSUM, IP_NOT_OURS}
-use Rattle.uip_node.specs.declared.counter.TheConstants.{IP_PROTOCOL, ICMP_IN, ICMP_OUT, ICMP_REFUSED, ICMP_CHECKSUM}
-use Rattle.uip_node.specs.declared.counter.TheConstants.{TCP_IN, TCP_OUT, TCP_REFUSED, TCP_CHECKSUM}
-use Rattle.uip_node.specs.declared.counter.TheConstants.{TCP_AGAIN, NO_SLOT_LEFT}
+use Rattle.uip_node.specs.declared.counter.TheConstants.{IP_IN, IP_OUT, OVERLONG_FRAMES, IP_SHORT, IP_VERSION, IP_LENGTH, IP_FRAGMENT}
+use Rattle.uip_node.specs.declared.counter.TheConstants.{IP_CHECKSUM, IP_NOT_OURS, IP_PROTOCOL, ICMP_IN, ICMP_OUT, ICMP_REFUSED}
+use Rattle.uip_node.specs.declared.counter.TheConstants.{ICMP_CHECKSUM, TCP_IN, TCP_OUT, TCP_REFUSED, TCP_CHECKSUM, TCP_AGAIN, NO_SLOT_LEFT}
 use Rattle.uip_node.specs.Events.Event.{IpRefused, IcmpRefused, TcpRefused, EchoAsked, Arrived, Overlong, Periodic}
 use Rattle.uip_node.specs.Events.Answer.{Silent, NoSlot, EchoReplied, Spoke}
 

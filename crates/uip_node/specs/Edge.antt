@@ -14,7 +14,7 @@ use Rattle.tcp_segment.specs.declared.segment.Segment.{Segment}
 use Rattle.tcp_machine.specs.Prelude.{Sockets}
 use Rattle.uip_node.specs.Events.{Event, Reply}
 use Rattle.uip_node.specs.Events.Event.{IpRefused, IcmpRefused, TcpRefused, EchoAsked, Arrived}
-use Rattle.uip_node.specs.Events.Reply.{Echo, Tcp as TcpReply}
+use Rattle.uip_node.specs.Events.Reply.{Echo, TcpReply}
 
 -- the sockets that a segment from a peer addresses
 abbrev pub sockets_of : Addr → Segment → Sockets

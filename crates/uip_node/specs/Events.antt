@@ -32,7 +32,7 @@ pub record HistoryEntry : Type 0 where
 -- A datagram that the node sends: an echo reply, or a segment with its IP identification `id`; `again` marks a retransmission.
 pub data Reply : Type 0 where
   Echo : (request : List ℕ) → Reply
-  Tcp : (sockets : Sockets) (id : ℕ) (again : Bool) (segment : PlainSegment) → Reply
+  TcpReply : (sockets : Sockets) (id : ℕ) (again : Bool) (segment : PlainSegment) → Reply
 
 -- a tick is a periodic call of each slot, in order
 abbrev pub tick : List Event

@@ -12,7 +12,7 @@ use Rattle.tcp_machine.specs.Prelude.{reset_for_no_connection, segment_of, is_ag
 use Rattle.uip_node.specs.Events.{Event, Answer, HistoryEntry, Reply}
 use Rattle.uip_node.specs.Events.Event.{EchoAsked, Arrived, Periodic}
 use Rattle.uip_node.specs.Events.Answer.{Silent, NoSlot, EchoReplied, Spoke}
-use Rattle.uip_node.specs.Events.Reply.{Echo, Tcp}
+use Rattle.uip_node.specs.Events.Reply.{Echo, TcpReply}
 use Rattle.uip_node.specs.Counters.{counters, ticks_of, initial_number, ident_of}
 
 -- The state of a node.
@@ -57,7 +57,7 @@ happened m n event slot old o =
     let history : List HistoryEntry = record { event = event; answer = option_map_or (λ s. Spoke again) output Silent } ∷ n.history in
     record {
       node = record n { numbers = o.numbers; connections = slice_set n.connections slot o.connection; history = history };
-      sent = option_map (λ s. Tcp o.connection.sockets (ident_of history) again s) output;
+      sent = option_map (λ s. TcpReply o.connection.sockets (ident_of history) again s) output;
       gone = gone_by old o.connection;
     }
 
@@ -84,7 +84,7 @@ refuses n sockets s =
     let history : List HistoryEntry = record { event = Arrived sockets s; answer = Spoke false } ∷ n.history in
     record {
       node = record n { history = history };
-      sent = Some (Tcp sockets (ident_of history) false (reset_for_no_connection s));
+      sent = Some (TcpReply sockets (ident_of history) false (reset_for_no_connection s));
       gone = None;
     }
 

@@ -7,7 +7,7 @@ pub use Rattle.uip_node.specs.Edge.{by_head, by_proto, by_segment, datagram_to, 
 pub use Rattle.uip_node.specs.Events.{Answer, Event, HistoryEntry, Reply, tick}
 pub use Rattle.uip_node.specs.Events.Answer.{EchoReplied, NoSlot, Silent, Spoke}
 pub use Rattle.uip_node.specs.Events.Event.{Arrived, EchoAsked, IcmpRefused, IpRefused, Overlong, Periodic, TcpRefused}
-pub use Rattle.uip_node.specs.Events.Reply.{Echo, Tcp}
+pub use Rattle.uip_node.specs.Events.Reply.{Echo, TcpReply}
 pub use Rattle.uip_node.specs.Inner.{OpensIn, PreparesIn, SettlesIn, SpeaksIn, StaysPrepared, TakesIn}
 pub use Rattle.uip_node.specs.Laws.{Alike, HasBytes, IsEvent, IsSlice, SendsBytes, serving}
 pub use Rattle.uip_node.specs.Node.{AbstractNode, NodeStep, Ran, arrives, arrives_at, connection_in, gone_by, initial_node}

@@ -1,10 +1,9 @@
 -- How long generated text is.
 -- [add: function] Function: the greatest length of its text.
 -- [add: state] State: the length of its name.
-use Rattle.std.specs.List.{All}
+use Rattle.std.specs.List.{All, concat}
 use Rattle.std.proofs.Common.{◌≡◌, ℕ, ◌+◌, ◌-◌, ◌*◌, ◌%◌, ◌^◌, ◌<◌, ◌≤◌, Bool, true, false, List, [], ◌∷◌, length, decimal}
 use Rattle.std.proofs.Common.{replicate, flat_map, slice_index, refl, ap, ◌∙◌, arith, length-append, lit<, lit≤}
-use Rattle.std.specs.List.{concat}
 use Rattle.std.proofs.lemmas.Fmt.{decimal_by_steps, length-decimal-le}
 use Rattle.std.proofs.lemmas.List.{length-replicate}
 use Rattle.std.proofs.lemmas.List.Elements.{All-get_or, All-head, All-tail}
