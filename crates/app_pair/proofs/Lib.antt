@@ -1,3 +1,2 @@
 pub mod PairActs
 pub mod PairParts
-pub mod Rows

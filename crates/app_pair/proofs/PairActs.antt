@@ -1,10 +1,9 @@
 -- Each application of a pair acts as it would alone.
-use Rattle.std.proofs.Common.{◌≡◌, ◌⊎◌, inl, inr, ℕ, nat_lt, Bool, true, false, if◌then◌else◌, not, List, [], ◌∷◌, ◌++◌, length, refl}
-use Rattle.app_events.specs.Prelude.{After, AppSpec, AppState, Snapshot}
-use Rattle.app_events.specs.declared.now.Now.{Now}
-use Rattle.app_pair.specs.PairNumbers.{own_numbers, with_own}
-use Rattle.app_pair.specs.PairSpec.{CanBePaired, KeepsCaptures, after_prepare, by_port, one_of_two, own_part, pair_spec, spec_at}
-use Rattle.app_pair.specs.TwoApplications.{ActsAs, NumbersAfter, PairIsTwoApplications, SeesAfter}
+use Rattle.std.proofs.Common.{ℕ, Bool, true, false, List, refl}
+use Rattle.app_events.specs.Prelude.{AppSpec, AppState}
+use Rattle.app_pair.specs.PairNumbers.{with_own}
+use Rattle.app_pair.specs.PairSpec.{KeepsCaptures, by_port, one_of_two, spec_at}
+use Rattle.app_pair.specs.TwoApplications.{ActsAs, NumbersAfter, PairIsTwoApplications}
 use Rattle.app_pair.specs.Lemmas.NumberLaws.{others_stay, own_back}
 use Rattle.app_pair.specs.Lemmas.PairLaws.{at_first, at_second, pair_again, sees_acked, sees_connected, sees_newdata, sees_polled, sees_prepare}
 

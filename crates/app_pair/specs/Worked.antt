@@ -1,10 +1,10 @@
 -- Numbers and calls of pairs, worked by hand.
-use Rattle.std.specs.Prelude.{◌≡◌, ◌+◌, ◌==◌, ◌++◌, ℕ, Bool, true, false, List, [], ◌∷◌, map}
+use Rattle.std.specs.Prelude.{◌≡◌, ◌+◌, ◌==◌, ◌++◌, ℕ, true, [], ◌∷◌, map}
 use Rattle.std.specs.List.{flat_map}
 use Rattle.app_events.specs.Prelude.{AppSpec, AppState}
 use Rattle.app_events.specs.declared.now.Now.{Now}
 use Rattle.app_events.specs.declared.want.Want.TheVariants.{Nothing}
-use Rattle.app_pair.specs.PairNumbers.{numbers_of_first, own_numbers, pair_numbers, numbers_of_second, with_own}
+use Rattle.app_pair.specs.PairNumbers.{numbers_of_first, pair_numbers, numbers_of_second, with_own}
 use Rattle.app_pair.specs.PairSpec.{pair_spec}
 
 -- An application whose numbers count its connections. It sends the numbers of its captures.

@@ -10,7 +10,6 @@ pub fn pair_is_two_applications()
 {}
 
 /// The definitions give the rows that were worked by hand.
-#[tactic(auto, using(crate::proofs::Rows::worked))]
 pub fn worked_pairs()
     ensures { AreWorkedPairs }
 {}

@@ -8,7 +8,7 @@ use Rattle.app_events.specs.declared.now.Now.{Now}
 use Rattle.app_pair.specs.PairNumbers.{own_numbers}
 use Rattle.app_pair.specs.PairSpec.{CanBePaired, KeepsCaptures, StaysAtPort, after_prepare, by_port, one_of_two, own_part, own_snapshot}
 use Rattle.app_pair.specs.PairSpec.{pair_spec, spec_at}
-use Rattle.app_pair.specs.PairRepresents.{PairRepresents, RepresentsOwn}
+use Rattle.app_pair.specs.PairRepresents.{PairRepresents}
 use Rattle.app_pair.specs.declared.pair.AppPair.{AppPair}
 use Rattle.app_pair.specs.declared.pair.AppPair.TheVariants as pair
 
@@ -132,11 +132,10 @@ module _ (second : Bool) where
 
 -- ---- captures
 
-either_capture : (numbers : List ℕ) (p q : AppState) (now : Now) (takes : Bool)
-    → (let captures = if takes then p.snapshots ++ record { numbers = numbers; now = now } ∷ [] else p.snapshots in
-    (captures ≡ p.snapshots) ⊎ (captures ≡ p.snapshots ++ record { numbers = numbers; now = now } ∷ []))
-either_capture numbers p q now true = inr refl
-either_capture numbers p q now false = inl refl
+-- what is seen of one of two values is what is seen of the one or of the other
+pub either_branch : {A B : Type 0} (see : A → B) (x y : A) (b : Bool) → (see (if b then y else x) ≡ see x) ⊎ (see (if b then y else x) ≡ see y)
+either_branch see x y true = inr refl
+either_branch see x y false = inl refl
 
 pub one_captures : (second : Bool) (m : AppSpec) → KeepsCaptures (one_of_two second m)
 one_captures second m = record {
@@ -144,7 +143,7 @@ one_captures second m = record {
   newdata = λ numbers p piece. refl;
   prepare = λ numbers p now.
       let q : AppState = m.prepare (own_numbers second numbers) (own_part second p) now in
-      either_capture numbers p q now (nat_lt (length p.snapshots) (length q.snapshots));
+      either_branch (λ (l : List Snapshot). l) p.snapshots _ (nat_lt (length p.snapshots) (length q.snapshots));
   acked = λ numbers p count. refl;
   polled = λ numbers p. refl;
 }
