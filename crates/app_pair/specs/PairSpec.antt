@@ -23,7 +23,7 @@ after_call second numbers captures r = record {
 -- the state after `prepare`: if it captured a snapshot, that has the numbers of both
 abbrev pub after_prepare : List ℕ → AppState → Now → AppState → AppState
 after_prepare numbers p now q = record q {
-  captures =
+  snapshots =
       if nat_lt (length p.snapshots) (length q.snapshots) then p.snapshots ++ record { numbers = numbers; now = now } ∷ []
       else p.snapshots;
 }

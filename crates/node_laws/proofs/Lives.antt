@@ -10,7 +10,7 @@ use Rattle.node_laws.proofs.Replying.{answer_no_syn, said_ack, step_short}
 use Rattle.node_laws.proofs.Lines.{OfMedium, met, left_of}
 use Rattle.node_laws.proofs.Lines.OfMedium.{passes_by, evicted, unanswered, refused, born, hears, ticks}
 
-begins_on : (x : Exchange) (incarnation : List Exchange) (a : Account) (text : List ℕ) (captures : List Snapshot) (sent : List ℕ) → Begins incarnation a → Begins (x ∷ incarnation) (record a { input = text; snapshots = captures; sent = sent })
+begins_on : (x : Exchange) (incarnation : List Exchange) (a : Account) (text : List ℕ) (captures : List Snapshot) (sent : List ℕ) → Begins incarnation a → Begins (x ∷ incarnation) (record a { input = text; snapshots = captures; stream = sent })
 begins_on x [] a text captures sent h = absurd h
 begins_on x (y ∷ []) a text captures sent h = record { syn = h.syn; received = h.received; plain = h.plain; number = h.number; mss = h.mss; answer = h.answer; output = h.output; seq = h.seq; acks = h.acks }
 begins_on x (y ∷ z ∷ older) a text captures sent h = begins_on y (z ∷ older) a text captures sent h

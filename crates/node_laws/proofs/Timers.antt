@@ -365,9 +365,9 @@ module _ (m : AppSpec) (steady : IsSteady m) (ports : ℕ → Bool) (p : Sockets
                       beats = w.beats;
                     } (omega (arith, few, one)) none'))
                 | again u output marked seq alike ↦ at_once s t rest
-                    (sent_again a.id u (a.stream ∙ ap (λ z. option_map (λ y. TcpReply p a.id (is_again o.step) y) z) output ∙ ap (λ z. Some (TcpReply p a.id z u)) marked) seq alike)
+                    (sent_again a.id u (a.sent ∙ ap (λ z. option_map (λ y. TcpReply p a.id (is_again o.step) y) z) output ∙ ap (λ z. Some (TcpReply p a.id z u)) marked) seq alike)
                 | ended u output marked reset ↦ at_once s t rest
-                    (given_up a.id u (a.stream ∙ ap (λ z. option_map (λ y. TcpReply p a.id (is_again o.step) y) z) output ∙ ap (λ z. Some (TcpReply p a.id z u)) marked) reset)
+                    (given_up a.id u (a.sent ∙ ap (λ z. option_map (λ y. TcpReply p a.id (is_again o.step) y) z) output ∙ ap (λ z. Some (TcpReply p a.id z u)) marked) reset)
               ])
           | is_met s' f a ↦ absurd (let z : None ≡ Some s' = sym quiet_here ∙ ap (λ y. y.received) a.exchanged in cc)
           | is_apart far x at_i ↦
