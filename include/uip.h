@@ -11,18 +11,26 @@
  * THIS IS NOT THE uip.h OF uIP 1.0 or Contiki, whose file and many of whose names are the same. Keep their folders off
  * the include path of each file that includes this one: macros of uIP would replace these calls.
  *
- * FIRMWARE "Section" below is a section of docs/FIRMWARE.md, the manual: "What is proved, and what is not" is one. Read
- * docs/LIMITS.md before you connect a node: there is no authentication, no encryption, no DHCP and no POST, sequence
- * numbers are predictable, and ten SYNs that are never acknowledged occupy all ten connections for 51 s.
+ * The manual is docs/FIRMWARE.md: FIRMWARE "Sleep", for example, is its section of that name. Read docs/LIMITS.md before
+ * you connect a node: there is no authentication, no encryption, no DHCP and no POST, sequence numbers are predictable,
+ * and ten SYNs that are never acknowledged occupy all ten connections for 51 s.
+ *
+ * WORDS. A device is one node: its address, connections and values. A site is a folder of pages, and its image the array
+ * that tools/pack.py makes of it. A value is a short text that the program sets and pages show. A slot is one of the ten
+ * places for a connection. A tick is ten periodic calls, one for each slot; one tick is due each half second. A sink is
+ * your function that takes output. Output is pending if it did not fit into `out`: uip_drain writes it.
  *
  * LINKS. Choose a row, and link exactly one library (FIRMWARE "Link the library"). One device of uip_open can serve
- * the first two rows at once. libuip_c_ether.a has all calls. The libraries for Cortex-M link with -mfloat-abi=soft or
- * softfp; none is supplied for hard.
+ * the first two rows at once. The libraries for Cortex-M link with -mfloat-abi=soft or softfp; none is supplied for hard.
  *
  *     link        open            what arrives     each half second    library, in lib/TARGET of a release
  *     serial      uip_open        uip_feed_all     uip_tick_all        libuip_c.a
  *     datagrams   uip_open        uip_input        uip_tick_datagrams  libuip_c.a
- *     Ethernet    uip_open_ether  uip_input_frame  uip_tick_frames     libuip_c_ether.a (x86_64, aarch64: libuip_c.a)
+ *     Ethernet    uip_open_ether  uip_input_frame  uip_tick_frames     libuip_c_ether.a, which has the other calls too;
+ *                                                                      for x86_64 and aarch64 libuip_c.a has them all
+ *
+ * On every link: uip_set_value, uip_hits and uip_query for the pages; uip_ticks, uip_is_idle, uip_counter and
+ * uip_connection to look; uip_close. A loop that never waits takes uip_feed, uip_periodic and uip_drain.
  *
  * A PROGRAM for a serial line (FIRMWARE "A loop that waits"). It includes site.c and heap.c: do not also compile these.
  * site.c defines site_image, SITE_IMAGE_LEN and SITE_IMAGE_FILES. The programs for the other links are above uip_input
@@ -70,28 +78,27 @@
  *         return (int)status;                          // a bad image, or too small a heap
  *     }
  *
- * WORDS. A slot is one of the ten places for a connection. A tick is ten periodic calls, one for each slot; one tick
- * is due each half second. Output is pending if it did not fit into `out`: uip_drain writes it. A sink is your
- * function that takes output.
- *
  * RULES, explained in FIRMWARE "The ten rules". The library cannot check them. If one is broken, the behaviour is
  * undefined.
  *   1. Before the first call both members of a device must be 0: use UIP_INIT, or memset. If your startup code does not
  *      initialise RAM, set both to 0 at each reset, and empty the heap (heap.c: heap_used and heap_blocks to 0).
  *   2. While a device is open, only calls of this library may read or write it. Never copy it.
- *   3. Calls with one device must not overlap, also not those that read: they change it inside. No interrupt may make a
- *      call, not even with a device of its own. A call and a sink must run to their end: no longjmp, no exception, no
- *      deleted task. An inline function is one call; while it runs, only its sink may use the device, by the calls that
- *      uip_sink lists. Under an RTOS (not tried yet: FIRMWARE "RTOS") let one task make all calls, or hold a mutex of
- *      the device over each call; a sink then runs with the mutex held.
+ *   3. Calls with one device must not overlap, also not those that read: they change it inside.
+ *        - No interrupt may make a call, not even with a device of its own.
+ *        - A call and a sink must run to their end: no longjmp, no exception, no deleted task.
+ *        - An inline function is one call. While it runs, only its sink may use the device, by the calls that uip_sink
+ *          lists.
+ *        - Under an RTOS (not tried yet: FIRMWARE "RTOS") let one task make all calls. Or hold a mutex of the device over
+ *          each call; a sink then runs with the mutex held.
  *   4. No pointer may be null; for 0 bytes pass any valid address. Only `to` of the inline functions may be null. Each
  *      input must be readable over its whole length (`own`, `mask` and `router` have 4 bytes, `mac` 6). Areas of bytes
  *      may have any alignment. On 32 bits no object may have 2^31 bytes or more.
  *   5. `out`, and `frame` of the calls for frames, must be writable over the whole of `room`. It may share no byte
- *      with the device or another argument (but it may lie in what `to` points to). Until the call returns nothing
+ *      with the device or another argument, except that it may lie in what `to` points to. Until the call returns nothing
  *      else may read or write it, also no DMA. The sink of an inline function may read it, also by a DMA that ends
  *      before the sink returns.
- *   6. The image must stay at its address, unchanged, until uip_close: it is not copied.
+ *   6. The image must stay at its address, unchanged, until uip_close: it is read in place. To replace it, also in flash,
+ *      close the device, write the new image, and open again. Connections, values and hits are then lost.
  *   7. All other input must stay unchanged until the call returns. After the call the library does not use it.
  *   8. The program must link memcpy, memmove and memset (those of your C library will do), on 32 bits libgcc or
  *      compiler-rt, and the heap (at the end of this file). Live blocks of the heap must overlap neither each other
@@ -104,12 +111,14 @@
  *      CCR.UNALIGN_TRP is 0, and stack, heap, image and all areas that are passed lie in Normal memory.
  *
  * ERRORS. If a call fails, the device, `out`, `frame` and the counters are as before, and all other fields of the
- * result are 0 (but see uip_opened). The statuses of a call are listed in the order in which they are looked for. No
- * received contents cause an error. A wrong length does: do not pass on datagrams of 0 or of more than
- * UIP_MAX_DATAGRAM bytes, and frames longer than `room`; do not call uip_feed with 0 bytes. A loop that passes correct
- * arguments, and drains what is pending before it feeds or ticks, sees only UIP_OK. Not detected: null pointers and
- * wrong areas (rules 4 and 5). Not reported, and harmless to memory: a wrong rate of ticks, a slot left out or called
- * twice in a tick, and an unknown name (uip_hits and uip_query return 0).
+ * result are 0 (but see uip_opened). The statuses of a call are listed in the order in which they are looked for.
+ *   - Whatever bytes arrive, they cause no error. A loop that passes correct arguments, and drains what is pending before
+ *     it feeds or ticks, sees only UIP_OK.
+ *   - A wrong length is an error: discard a datagram of 0 or of more than UIP_MAX_DATAGRAM bytes, and a frame longer than
+ *     `room`, before the call. Do not call uip_feed with 0 bytes.
+ *   - Not detected: null pointers and wrong areas (rules 4 and 5).
+ *   - Not reported, and harmless to memory: a wrong rate of ticks, a slot left out or called twice in a tick, and an
+ *     unknown name (uip_hits and uip_query return 0).
  *
  * TIME. Functions that are not inline never wait, and after opening they take no memory. Opening reads the whole
  * image; any other handles at most one datagram, but no bound on its time is known. An inline function waits as long
@@ -129,22 +138,20 @@ extern "C" {
 #endif
 
 /*
- * The version of the library. From 1.1 on the names, the layouts of the structures and the values of the enumerations
- * stay the same within a major version; new calls and names may be added. Take header and library from one release:
- * nothing checks that they match.
+ * The version of the library. Names, layouts of structures and values of enumerations stay the same in all later releases
+ * 1.x; new calls and names may be added. Take header and library from one release: nothing checks that they match.
  */
 #define UIP_VERSION_MAJOR 1
 #define UIP_VERSION_MINOR 1
 #define UIP_VERSION_PATCH 0
 
-/* The number of the interface. It rises if a C program may have to change; releases 1.x have 3. */
+/* The number of the interface. It rises if a C program may have to change. All releases 1.x have 3. */
 #define UIP_INTERFACE 3
 
 /*
  * Refuses targets of 8 and 16 bits, and big-endian ones if the compiler names the byte order. size_t and pointers
  * have 32 bits, or both have 64, and unsigned has 32. Nothing else is checked. Do not compile with -fpcc-struct-return
- * or -freg-struct-return: they change the ABI. The header is C90 or later,
- * or C++.
+ * or -freg-struct-return: they change the ABI. The header is C90 or later, or C++.
  */
 #if defined(__BYTE_ORDER__) && defined(__ORDER_BIG_ENDIAN__) && __BYTE_ORDER__ == __ORDER_BIG_ENDIAN__
 #error "there is no library for big-endian targets"
@@ -230,7 +237,8 @@ typedef struct uip_opened { unsigned status; unsigned entry; char word[8]; } uip
 
 /*
  * The result of a call that may send.
- *   pending     1 if a part of the output did not fit into `out`, else 0
+ *   pending     if `status` is UIP_OK: 1 if a part of the output did not fit into `out`, else 0. With any other status
+ *               it is 0, ALSO WITH UIP_OUTPUT_PENDING: then call uip_drain until its `pending` is 0
  *   consumed    how many bytes of the input were consumed
  *   written     how many bytes of output were written to the start of `out`; 0 if nothing is sent
  */
@@ -239,7 +247,11 @@ typedef struct uip_result { unsigned status, pending; size_t consumed, written; 
 /* The result of a call that reads a number. */
 typedef struct uip_number { unsigned status; unsigned number; } uip_number;
 
-/* The result of uip_query: the count of hits after the request that brought it, and the length of the text in bytes. */
+/*
+ * The result of uip_query.
+ *   hit    what uip_hits returned right after the request that brought the text; 0 if no text is kept for the file
+ *   len    the length of the text in bytes
+ */
 typedef struct uip_query_text { unsigned status; unsigned hit; size_t len; } uip_query_text;
 
 /*
@@ -247,10 +259,11 @@ typedef struct uip_query_text { unsigned status; unsigned hit; size_t len; } uip
  *   state         an enum uip_state
  *   peer, port    the address, first byte first, and the TCP port of the peer (a number, not in network byte order)
  *   tries         how often the outstanding segment was sent again; 0 if none is outstanding
- *   count         if a segment is outstanding: how many ticks pass before the one that sends it again or resets the
- *                     connection (0: the next tick does)
- *                 in FIN_WAIT_2 and TIME_WAIT: the ticks spent there, of 120
- *                 else 0: the idle time of an ESTABLISHED connection is not shown
+ *   count         one of three:
+ *                 - if a segment is outstanding, the ticks that pass before the one that sends it again or resets the
+ *                   connection (0: the next tick does);
+ *                 - in FIN_WAIT_2 and TIME_WAIT, the ticks spent there, of 120;
+ *                 - else 0: the idle time of an ESTABLISHED connection is not shown
  *   waiting       1 if a segment is outstanding, else 0
  */
 typedef struct uip_row { unsigned status, state; unsigned char peer[4]; unsigned port, tries, count, waiting; } uip_row;
@@ -284,7 +297,8 @@ uip_opened uip_open(uip_device *device, const unsigned char *image, size_t len, 
  *
  * Status: UIP_BAD_ARGUMENT (nothing is cut, the old value stays), UIP_NO_DEVICE, UIP_OK.
  *
- * In a file whose name ends in .shtml, "%! value-html 3", up to the end of the line, shows value 3, escaped for HTML.
+ * In a file whose name ends in .shtml, "%! value-html 3" shows value 3, escaped for HTML. The directive ends with its
+ * line, and the line feed is not shown.
  * "%! value-json 3" escapes it for a string of JSON. "%! value 3" does not escape it: if others can influence the
  * value, do not use this one, or they can put a script into your page. /index.html, the file of /, shows no values:
  * its name ends otherwise. A value that was never set is empty. Each value on a page costs a round trip, and two
@@ -293,7 +307,8 @@ uip_opened uip_open(uip_device *device, const unsigned char *image, size_t len, 
  */
 unsigned uip_set_value(uip_device *device, size_t number, const void *text, size_t len);
 
-/* A literal as two arguments, without its 0: uip_hits(&device, UIP_TEXT("/lamp-on.html")). */
+/* A string literal as two arguments, without its 0: uip_hits(&device, UIP_TEXT("/lamp-on.html")). For anything else pass
+ * pointer and length. */
 #define UIP_TEXT(literal) ("" literal), sizeof("" literal) - 1
 
 /*
@@ -325,8 +340,8 @@ uip_number uip_hits(uip_device *device, const void *name, size_t len);
  * Anyone who reaches the device can send a text: check it before use. The device keeps one query: the last, of
  * whatever file. One uip_feed_all can bring several: to miss none, call this in its sink, at each piece, and otherwise
  * after each uip_feed, uip_input or uip_input_frame. A query is kept if it has at most 64 letters, digits and
- * -_.~%&=+, and if the target of the request comes in the first segment with data of its connection; else the one
- * before stays. Nothing is decoded. FIRMWARE "Settings from a browser" has the form and a program, and "Queries in
+ * -_.~%&=+. The whole target of the request must be in the first segment with data of its connection, as browsers send
+ * it. Any other query is dropped, and the one before stays. Nothing is decoded. FIRMWARE "Settings from a browser" has the form and a program, and "Queries in
  * detail" the rest.
  */
 uip_query_text uip_query(uip_device *device, const void *name, size_t len, void *out, size_t room);
@@ -356,8 +371,8 @@ uip_query_text uip_query(uip_device *device, const void *name, size_t len, void 
  * A function of yours that takes a piece of output: it writes it to the serial port, or gives it to the controller.
  *
  *   to            the pointer that the caller of the inline function gave; it may be null
- *   bytes, len    the piece, 1 byte or more, on the other links a whole datagram or frame; it lies in `out`
- *                 or `frame`, and is valid until the sink returns
+ *   bytes, len    on a serial line a piece of the output, 1 byte or more; on the other links a whole datagram or frame. It
+ *                 lies in `out` or `frame`, and is valid until the sink returns
  *
  * The inline functions call it with each piece, in order. It must return. It accepts the whole piece, waiting until
  * there is room, or discards bytes if the line is down: that frame is lost, as on the line, and TCP sends it again.
@@ -375,8 +390,8 @@ typedef void (*uip_sink)(void *to, const unsigned char *bytes, size_t len);
  *
  * If your write may wait, uip_feed_all and uip_tick_all, below, are all that you need. Feed a watchdog in the sink.
  * While the program writes, the receive ring can overflow; TCP then sends the lost data again. Begin with a ring of
- * 512 bytes. One pass of the program above writes at most twelve frames, 36,024 bytes (3.1 s at 115,200 bits a
- * second): a ring with that much free when the writing begins loses nothing.
+ * 512 bytes. One pass of the program above writes at most 36,024 bytes (3.1 s at 115,200 bits a second): a ring with
+ * that much free when the writing begins loses nothing.
  *
  * A product should not wait: take examples/common/step.c, which calls uip_feed, uip_periodic and uip_drain, with a
  * ring of 6,004 bytes (FIRMWARE "A loop that never waits" and "How much to buffer"). FIRMWARE "Connect it to a PC" has
@@ -391,7 +406,9 @@ typedef void (*uip_sink)(void *to, const unsigned char *bytes, size_t len);
  *
  * Result: `consumed` is 1 to `len`, and less than `len` only if a frame ended before the last byte. A part of a frame
  * is kept for the next call. The rest of `out` is unspecified, and nothing is written beyond `room`.
- * Status: UIP_BAD_ARGUMENT, UIP_NO_DEVICE, UIP_WRONG_LINK, UIP_OUTPUT_PENDING, UIP_OK.
+ * Status: UIP_BAD_ARGUMENT (`len` is 0, or `room` is less than UIP_MIN_OUT); UIP_NO_DEVICE; UIP_WRONG_LINK (it is on
+ * Ethernet); UIP_OUTPUT_PENDING (drain, and then feed the same bytes again); UIP_OK. If it is not UIP_OK, no byte was
+ * consumed.
  *
  * Drain while `pending` is 1. Then, if `consumed` is less than `len`, feed the rest. If bytes were lost on the way, the
  * node drops their frame, which fails a check, and the peer's TCP sends it again.
@@ -563,9 +580,14 @@ UIP_INLINE unsigned uip_tick_datagrams(uip_device *device, unsigned char *out, s
  * Ethernet (RFC 894) with ARP (RFC 826). A frame begins with the destination hardware address. It has neither preamble
  * nor frame check sequence, and a frame to send is not padded to 60 bytes: let the controller do these. Let its filter
  * pass `mac` and broadcast, and turn its insertion of checksums off: the library writes all checksums. If the length of
- * a received frame counts the check sequence, subtract 4. For a data cache see FIRMWARE "The Ethernet controller".
+ * a received frame counts the check sequence, subtract 4; a program that forgets it loses only the longest frames.
  *
- * The program on Ethernet:
+ * `frame` may have any alignment, and be cached or not. On a Cortex-M it must be Normal memory, not Device or Strongly
+ * ordered (rule 10). A call may write anywhere in `frame` up to `room`, also if `written` is 0. With a data cache give it
+ * whole lines. Clean and invalidate all of it before a DMA receives into it, invalidate it after that DMA, and clean the
+ * first `written` bytes before a DMA sends them. With several buffers, go on with another one while this one is sent.
+ *
+ * The program on Ethernet. Before main calls uip_open_ether, 5,280 bytes of stack must be free on a Cortex-M4 (rule 9).
  *
  *     #include "uip.h"
  *     #include "site.c"
@@ -698,10 +720,12 @@ uip_number uip_counter(uip_device *device, size_t number);
  *
  * Status: UIP_NO_DEVICE, UIP_OK.
  *
- * While it is 1, a tick sends nothing, and you may leave ticks out: the processor can sleep until the next byte,
- * datagram or frame. After a sleep make one tick, and not all that were missed. Ticks left out do not age the addresses
- * that ARP learned. It may be 1 while output is pending: drain first. After a page it stays 0 for 60 s (TIME_WAIT),
- * unless the peer closed first. See FIRMWARE "Sleep".
+ * To sleep: drain what is pending. If `number` is 1, a tick sends nothing: sleep until something arrives, however long.
+ * After it make one tick, whatever time has passed; half_a_second_passed above does so. If `number` is 0, a sleep harms no
+ * memory, but no connection is served or timed out meanwhile. It stays 0 for 60 s after a page (TIME_WAIT), unless the
+ * peer closed first, and for 20 ticks while an ESTABLISHED connection receives no data. In a sleep ARP addresses do not
+ * age: a host that changed its hardware address meanwhile is reached again when it sends an ARP packet to the node. See
+ * FIRMWARE "Sleep".
  */
 uip_number uip_is_idle(uip_device *device);
 
@@ -732,6 +756,8 @@ unsigned uip_close(uip_device *device);
  * The heap, which the program supplies. Take examples/common/heap.c of a release (an array of UIP_HEAP_SIZE bytes, for
  * one thread) or examples/linux/heap.c (malloc), or write your own. One heap serves all devices (rule 8).
  *
+ * (Rattle is the language of the library.)
+ *
  *   rattle_alloc      returns a block of `len` bytes, or of `align` bytes if `len` is 0, at a multiple of `align` (1,
  *                     2, 4 or 8), with `ok` 1. If there is no room: `ok` 0, and a `block` that is not null, for
  *                     example the address of a static byte. NEVER RETURN A NULL BLOCK: that is undefined.
@@ -747,7 +773,8 @@ void rattle_dealloc(void *block);
 
 /*
  * The heap of one device, in bytes, for an image of `files` files (1 or more), on every target. UIP_MEMORY_ETHER is for
- * a device on Ethernet. The length of the image does not count. For several devices add theirs. Add what your allocator
+ * a device on Ethernet: it is less, since the frame that is received lies in your buffer. The length of the image does
+ * not count. For several devices add theirs. Add what your allocator
  * adds to each of the six blocks of a device. Both have casts, and are not for #if.
  */
 #define UIP_ROUNDED(len) (((size_t)(len) + 15) / 16 * 16)

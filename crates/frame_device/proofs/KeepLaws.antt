@@ -1,5 +1,5 @@
 -- How the trace of a device on a link of frames conforms, move by move.
-use Rattle.frame_device.proofs.Prelude.{All, flat_map, ◌≡◌, ℕ, Bool, List, [], ◌∷◌, ◌++◌, map, refl, sym, ap, ◌∙◌, subst, append-nil, append_assoc, All-append, All-cons, All-head, All-nil, All-tail, IsAddr, IsPaged, IsU32, Pages, AppSpec, Ghosts, Addr, event_of, Event, HasBytes, AbstractNode, run, MediumInput, Datagram, Overlong, Own, MediumSpec, StationEvent, OfMedium, OfNode, Station, station_after, station_after_all, output, output_of_event, CarriesBytes, station_event_by, events_among, text_in, TraceConforms, at_every_port, TraceEntry, trace_of, IsOfLine, IsReadByPeer, of_bytes, of_overlong, of_call, every_step, paged_everywhere, steady_of, page_bytes, OutputModel, HasOutputModel, IsSteady, SendsBytes, turn_events, DecodesBytes, FrameSpec, acts_before, as_medium, AnsweredFrame, AnswersAllFrames, CallsSlot, DoesNothing, FrameCall, FrameMove, Gives, InputsFrame, IsFreshFrameDevice, Makes, RepresentsStation, Writing, station_after_move, station_events_by, station_events_of_move, frame_moves_of, with_value, initial_station, AllHandOut, HandsOutFrame, IsFrameOfBytes, FrameTrace, FramesConform, KeepsU32, acts_in, FrameDevice}
+use Rattle.frame_device.proofs.Prelude.{All, flat_map, ◌≡◌, ℕ, Bool, List, [], ◌∷◌, ◌++◌, map, refl, sym, ap, ◌∙◌, subst, append-nil, append_assoc, All-append, All-cons, All-head, All-nil, All-tail, IsAddr, IsPaged, IsU32, Pages, AppSpec, Ghosts, Addr, event_of, Event, HasBytes, AbstractNode, run, MediumInput, Datagram, Overlong, Own, MediumSpec, StationEvent, OfMedium, OfNode, Station, station_after, station_after_all, output, output_of_event, CarriesBytes, station_event_by, events_among, text_in, TraceConforms, at_every_port, TraceEntry, trace_of, IsOfLine, IsDecoded, of_bytes, of_overlong, of_call, every_step, paged_everywhere, steady_of, page_bytes, OutputModel, HasOutputModel, IsSteady, SendsBytes, turn_events, DecodesBytes, FrameSpec, acts_before, as_medium, AnsweredFrame, AnswersAllFrames, CallsSlot, DoesNothing, FrameCall, FrameMove, Gives, InputsFrame, IsFreshFrameDevice, Makes, RepresentsStation, Writing, station_after_move, station_events_by, station_events_of_move, frame_moves_of, with_value, initial_station, AllHandOut, HandsOutFrame, IsFrameOfBytes, FrameTrace, FramesConform, KeepsU32, acts_in, FrameDevice}
 use Rattle.uip_node.specs.Events.Event.{Overlong as OverlongFrame, Periodic}
 use Rattle.node_laws.proofs.Steps.{Changes, OfNode as HappensAt, IsStep, LineStep, all_happen, trace_over, turns_then}
 use Rattle.frame_device.specs.declared.frames.Frames.{Ghosts as FramesGhosts}
@@ -141,7 +141,7 @@ module _ {A S M : Type 0} (g : Ghosts A S) (h : FramesGhosts M) (k : h.Config) (
         answered = t.answered;
         each = t.each;
         keeps = subst (λ (l : List TraceEntry). TraceConforms model g.served l) (sym t.turns) kept.0;
-        read = subst (λ (l : List TraceEntry). All (IsReadByPeer own) l) (sym t.turns) kept.1;
+        read = subst (λ (l : List TraceEntry). All (IsDecoded own) l) (sym t.turns) kept.1;
       }
 
   -- of pages at every port

@@ -10,7 +10,7 @@ pub use Rattle.line_medium.specs.Prelude.{Datagram, MediumInput, MediumSpec, Ove
 pub use Rattle.line_promise.specs.Prelude.{events_among, text_in}
 pub use Rattle.node_laws.proofs.EveryTraceConforms.{every_step, paged_everywhere}
 pub use Rattle.node_laws.proofs.TurnRuns.{turn_events}
-pub use Rattle.node_laws.specs.Prelude.{HasOutputModel, IsOfLine, IsReadByPeer, OutputModel, TraceConforms, TraceEntry, at_every_port, of_bytes, of_call, of_overlong, trace_of}
+pub use Rattle.node_laws.specs.Prelude.{HasOutputModel, IsOfLine, IsDecoded, OutputModel, TraceConforms, TraceEntry, at_every_port, of_bytes, of_call, of_overlong, trace_of}
 pub use Rattle.packet_buffer.specs.Prelude.{Buffer, datagram_in}
 pub use Rattle.serve_loop.proofs.NodeLaws.{node_step}
 pub use Rattle.serve_loop.specs.Prelude.{CarriesBytes, IsHere, IsNode, OfMedium, OfNode, Station, StationEvent, initial_station, output, output_of_event, reply_text, station_after, station_after_all, station_event_by}

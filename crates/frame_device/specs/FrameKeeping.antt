@@ -3,7 +3,7 @@ use Rattle.std.specs.List.{All, flat_map}
 use Rattle.std.specs.Prelude.{◌≡◌, ◌≤◌, ℕ, Bool, length, List, [], ◌∷◌, ◌++◌, map, ⊤}
 use Rattle.app_events.specs.Prelude.{IsByte, IsU32}
 use Rattle.uip_wire.specs.declared.addr.Addr.{Addr}
-use Rattle.node_laws.specs.Prelude.{OutputModel, TraceConforms, TraceEntry, IsReadByPeer}
+use Rattle.node_laws.specs.Prelude.{OutputModel, TraceConforms, TraceEntry, IsDecoded}
 use Rattle.serve_loop.specs.Prelude.{StationEvent, OfMedium, OfNode}
 use Rattle.line_promise.specs.Prelude.{events_among, text_in}
 use Rattle.frame_device.specs.FrameCalls.{AnsweredFrame, FrameMove, Gives, InputsFrame, Makes, Writing, station_events_of_move}
@@ -50,4 +50,4 @@ pub record FramesConform {A : Type 0} (w : FrameSpec A) (model : ℕ → OutputM
   pub answered : map (λ it. it.answered) moves ≡ all
   pub each : AllHandOut w own [] moves
   pub keeps : TraceConforms model served (flat_map (λ it. it.turns) moves)
-  pub read : All (IsReadByPeer own) (flat_map (λ it. it.turns) moves)
+  pub read : All (IsDecoded own) (flat_map (λ it. it.turns) moves)

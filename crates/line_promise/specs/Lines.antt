@@ -5,7 +5,7 @@ use Rattle.uip_wire.specs.declared.addr.Addr.{Addr}
 use Rattle.app_events.specs.Prelude.{AppSpec, IsAddr, IsU32}
 use Rattle.uip_edge.specs.declared.item.Item.{Item}
 use Rattle.uip_node.specs.Prelude.{Event, IsSteady, SendsBytes}
-use Rattle.node_laws.specs.Prelude.{TraceEntry, TraceConforms, OutputModel, HasOutputModel, IsReadByPeer}
+use Rattle.node_laws.specs.Prelude.{TraceEntry, TraceConforms, OutputModel, HasOutputModel, IsDecoded}
 use Rattle.line_medium.specs.Prelude.{MediumSpec}
 use Rattle.serve_loop.specs.Prelude.{StationEvent, OfMedium, OfNode, reply_text, IsItem, station_events_of_line, output_by}
 
@@ -31,11 +31,11 @@ pub record LineConforms {A : Type 0} (w : MediumSpec A) (model : ℕ → OutputM
   pub written : text_in w own [] station_events turns ≡ output
   pub keeps : TraceConforms model served turns
 
--- In addition, each peer reads each segment of this trace as it was meant.
+-- In addition, the node's own parser, at the address of the peer, gives back each segment of this trace.
 pub record LineConformsRead {A : Type 0} (w : MediumSpec A) (model : ℕ → OutputModel) (served : ℕ → Bool) (own : Addr)
     (station_events : List (StationEvent A)) (output : List ℕ) : Type 0 where
   pub line : LineConforms w model served own station_events output
-  pub read : All (IsReadByPeer own) line.turns
+  pub read : All (IsDecoded own) line.turns
 
 -- Every line conforms over this medium, with every application that never retracts output and sends bytes, for any items.
 abbrev pub EveryLineConforms : {A : Type 0} → MediumSpec A → Type 0

@@ -1,5 +1,5 @@
 -- Every trace of a node.
-use Rattle.node_laws.proofs.Prelude.{All, option_map, ◌≡◌, ℕ, Bool, ◌&&◌, List, [], ◌∷◌, map, position, true, false, inl, refl, ap, subst, Option, Some, None, PlainSegment, has_rst, IsAddr, IsPaged, IsU32, MayWant, Pages, AppSpec, AppState, Close, Addr, Sockets, Connection, serves, is_again, is_plain_syn, segment_of, Outcome, ident_of, Event, IpRefused, IcmpRefused, TcpRefused, EchoAsked, Arrived, Overlong, Periodic, Echo, TcpReply, append_nothing, choose, all_nil, all_cons, HasBytes, SendsBytes, IsEchoed, IsSteady, steady_of, page_bytes, OutputModel, HasOutputModel, at_every_port, EveryTraceConforms, EveryTraceOfPagesConforms, TraceConforms, TraceEntry, IsReadByPeer}
+use Rattle.node_laws.proofs.Prelude.{All, option_map, ◌≡◌, ℕ, Bool, ◌&&◌, List, [], ◌∷◌, map, position, true, false, inl, refl, ap, subst, Option, Some, None, PlainSegment, has_rst, IsAddr, IsPaged, IsU32, MayWant, Pages, AppSpec, AppState, Close, Addr, Sockets, Connection, serves, is_again, is_plain_syn, segment_of, Outcome, ident_of, Event, IpRefused, IcmpRefused, TcpRefused, EchoAsked, Arrived, Overlong, Periodic, Echo, TcpReply, append_nothing, choose, all_nil, all_cons, HasBytes, SendsBytes, IsEchoed, IsSteady, steady_of, page_bytes, OutputModel, HasOutputModel, at_every_port, EveryTraceConforms, EveryTraceOfPagesConforms, TraceConforms, TraceEntry, IsDecoded}
 use Rattle.uip_node.specs.Node.{AbstractNode, NodeStep, arrives_at, for_no_connection, happened, initial_node, opens as opens_at, opens_in, slot_for_syn, step}
 use Rattle.node_laws.proofs.Whole.{session_ends}
 use Rattle.node_laws.proofs.PeerReads.{every_peer_reads}
@@ -49,7 +49,7 @@ module _ (m : AppSpec) (served : ℕ → Bool) where
 
 -- over any steps of a line
 abbrev pub KeepsAll : (ℕ → OutputModel) → (ℕ → Bool) → Addr → List TraceEntry → Type 0
-KeepsAll model served own turns = TraceConforms model served turns × All (IsReadByPeer own) turns
+KeepsAll model served own turns = TraceConforms model served turns × All (IsDecoded own) turns
 
 pub every_step : (m : AppSpec) (model : ℕ → OutputModel) → IsSteady m → SendsBytes m → HasOutputModel m model → (served : ℕ → Bool) (own : Addr) → IsAddr own → (numbers : List ℕ) → All IsU32 numbers
     → (steps : List LineStep) → All (IsStep own) steps → KeepsAll model served own (trace_over m served steps (initial_node own numbers))

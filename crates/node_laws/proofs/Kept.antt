@@ -1,5 +1,5 @@
 -- What is proved of an incarnation exchange by exchange, and the guarantee that follows.
-use Rattle.node_laws.proofs.Prelude.{All, ◌≡◌, ℕ, zero, suc, ◌<◌, ◌≤◌, Bool, true, false, List, [], ◌∷◌, length, drop, refl, Some, slice_get, PlainSegment, has_fin, has_rst, IsSnapshot, first_mss, occupies_sequence_space, Alike, append_nothing, prefix_refl, Exchange, sent_at, CarriesByte, IsReceived, Account, OutputModel, Begins, IsAcceptedText, SendsSlice, Acknowledges, IsAcknowledged, IsExtendedBy}
+use Rattle.node_laws.proofs.Prelude.{All, ◌≡◌, ℕ, zero, suc, ◌<◌, ◌≤◌, Bool, true, false, List, [], ◌∷◌, length, drop, refl, Some, slice_get, PlainSegment, has_fin, has_rst, IsSnapshot, first_mss, occupies_sequence_space, Alike, append_nothing, prefix_refl, Exchange, sent_at, CarriesByte, IsReceived, Account, OutputModel, Begins, IsSelection, SendsSlice, Acknowledges, IsAcknowledged, IsExtendedBy}
 use Rattle.node_laws.proofs.Speaking.{IsTold}
 
 -- a FIN was sent
@@ -18,7 +18,7 @@ pub record Kept (model : OutputModel) (incarnation : List Exchange) : Type 0 whe
   pub account : Account
   pub ended : Bool
   pub begins : Begins incarnation account
-  pub taken : IsAcceptedText account.irs incarnation account.input ended
+  pub taken : IsSelection account.irs incarnation account.input ended
   pub in_range : All IsSnapshot account.snapshots
   pub sent : IsReceived account.iss incarnation account.stream
   pub says : (k : ℕ) (x : Exchange) (s : PlainSegment) → slice_get incarnation k ≡ Some x → x.output ≡ Some s → SendsSlice account.iss account.stream s

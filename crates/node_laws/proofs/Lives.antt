@@ -1,5 +1,5 @@
 -- An incarnation of a connection, one exchange longer.
-use Rattle.node_laws.proofs.Prelude.{All, option_map_or, ◌≡◌, ℕ, zero, suc, ◌+◌, ◌<◌, ◌≤◌, min, Bool, true, false, not, ◌&&◌, ◌||◌, ◌⊎◌, inl, inr, List, [], ◌∷◌, ◌++◌, length, take, drop, refl, sym, ap, ◌∙◌, subst, arith, Option, Some, None, slice_get, eqb, ltb, if◌then◌else◌, common_steps, wrap, OWN_MSS, PlainSegment, has_syn, has_fin, has_rst, has_ack, SYN, AppState, Snapshot, AppSpec, IsPrefixOf, IsSnapshot, State, Closed, SynRcvd, Established, CloseWait, FinWait1, FinWait2, Closing, TimeWait, LastAck, Sockets, Connection, closed, is_live, snd_una, rcv_nxt, occupies_sequence_space, is_plain_syn, segment_of, is_again, syn_ack, text_segment, fin_of, reset_for_no_connection, Outcome, asked, first_mss, accepted, is_acked, on_segment, on_tick, Alike, IsSlice, choose, both_ways, only_some, same_place, append_nothing, IsPart, part_grows, prefix_refl, prefix_length, and_true, eqb-eq, FitConn, FitOut, all_nil, on_segment_fits, on_tick_fits, Moves, asked_moves, segment_moves, tick_moves, IsSteady, stepped_fits, stepped_tells, Safe, SafeState, IsDue, StepTells, due, alike_trans, alike_sym, alike_refl, segment_tells, tick_tells, Exchange, is_opening, Account, Begins, IsAcceptedText, SendsSlice, Acknowledges, sequence_length, IsAcknowledged, IsExtendedBy, IsReceived, OutputModel, FollowsModelAt, Now, LensWithin, asked_within, on_segment_within, on_tick_within}
+use Rattle.node_laws.proofs.Prelude.{All, option_map_or, ◌≡◌, ℕ, zero, suc, ◌+◌, ◌<◌, ◌≤◌, min, Bool, true, false, not, ◌&&◌, ◌||◌, ◌⊎◌, inl, inr, List, [], ◌∷◌, ◌++◌, length, take, drop, refl, sym, ap, ◌∙◌, subst, arith, Option, Some, None, slice_get, eqb, ltb, if◌then◌else◌, common_steps, wrap, OWN_MSS, PlainSegment, has_syn, has_fin, has_rst, has_ack, SYN, AppState, Snapshot, AppSpec, IsPrefixOf, IsSnapshot, State, Closed, SynRcvd, Established, CloseWait, FinWait1, FinWait2, Closing, TimeWait, LastAck, Sockets, Connection, closed, is_live, snd_una, rcv_nxt, occupies_sequence_space, is_plain_syn, segment_of, is_again, syn_ack, text_segment, fin_of, reset_for_no_connection, Outcome, asked, first_mss, accepted, is_acked, on_segment, on_tick, Alike, IsSlice, choose, both_ways, only_some, same_place, append_nothing, IsPart, part_grows, prefix_refl, prefix_length, and_true, eqb-eq, FitConn, FitOut, all_nil, on_segment_fits, on_tick_fits, Moves, asked_moves, segment_moves, tick_moves, IsSteady, stepped_fits, stepped_tells, Safe, SafeState, IsDue, StepTells, due, alike_trans, alike_sym, alike_refl, segment_tells, tick_tells, Exchange, is_opening, Account, Begins, IsSelection, SendsSlice, Acknowledges, sequence_length, IsAcknowledged, IsExtendedBy, IsReceived, OutputModel, FollowsModelAt, Now, LensWithin, asked_within, on_segment_within, on_tick_within}
 use Rattle.node_laws.proofs.Speaking.{IsEnd, IsTold, prefix_size, prefix_trans, slice_prefix, told_end, told_on, told_starts, told_where}
 use Rattle.node_laws.proofs.Texts.{get_append}
 use Rattle.node_laws.proofs.Texts.InBoth.{in_first, in_second}
@@ -12,7 +12,7 @@ use Rattle.node_laws.proofs.Lines.OfMedium.{passes_by, evicted, unanswered, refu
 
 begins_on : (x : Exchange) (incarnation : List Exchange) (a : Account) (text : List ℕ) (captures : List Snapshot) (sent : List ℕ) → Begins incarnation a → Begins (x ∷ incarnation) (record a { input = text; snapshots = captures; stream = sent })
 begins_on x [] a text captures sent h = absurd h
-begins_on x (y ∷ []) a text captures sent h = record { syn = h.syn; received = h.received; plain = h.plain; number = h.number; mss = h.mss; answer = h.answer; output = h.output; seq = h.seq; acks = h.acks }
+begins_on x (y ∷ []) a text captures sent h = record { syn = h.syn; received = h.received; is_syn = h.is_syn; number = h.number; mss = h.mss; answer = h.answer; output = h.output; seq = h.seq; acks = h.acks }
 begins_on x (y ∷ z ∷ older) a text captures sent h = begins_on y (z ∷ older) a text captures sent h
 
 -- an acknowledgement, with one exchange more
@@ -138,7 +138,7 @@ module _ (m : AppSpec) (steady : IsSteady m) (port : ℕ) (model : OutputModel) 
   -- ---- one exchange longer
 
   module _ (x : Exchange) (incarnation : List Exchange) (k : Kept model incarnation) (now : List ℕ) (over : Bool) (captures : List Snapshot) (sent : List ℕ)
-      (taken : IsAcceptedText k.account.irs (x ∷ incarnation) now over)
+      (taken : IsSelection k.account.irs (x ∷ incarnation) now over)
       (snapshots : All IsSnapshot captures)
       (prefix : IsPrefixOf k.account.input now)
       (longer_sent : IsPrefixOf k.account.stream sent)
@@ -163,7 +163,7 @@ module _ (m : AppSpec) (steady : IsSteady m) (port : ℕ) (model : OutputModel) 
 
     acks_on : (i : ℕ) (y : Exchange) (s : PlainSegment) → slice_get (x ∷ incarnation) i ≡ Some y → y.output ≡ Some s → has_rst s.flags ≡ false → Acknowledges k.account.irs (drop i (x ∷ incarnation)) now s
     acks_on zero y s g h r = acks s (said_is y s g h) r
-    acks_on (suc i) y s g h r = (let a = k.acknowledges i y s g h r in record { selected = a.selected; ended = a.ended; is = a.is; prefix = prefix_trans a.selected k.account.input now a.prefix prefix; ack = a.ack })
+    acks_on (suc i) y s g h r = (let a = k.acknowledges i y s g h r in record { selected = a.selected; counts_fin = a.counts_fin; is = a.is; prefix = prefix_trans a.selected k.account.input now a.prefix prefix; ack = a.ack })
 
     short_before : length sent < 1073741824 → length k.account.stream < 1073741824
     short_before l = omega (arith, l, prefix_length k.account.stream sent longer_sent)
@@ -357,10 +357,10 @@ module _ (m : AppSpec) (steady : IsSteady m) (port : ℕ) (model : OutputModel) 
     read : Reading received a.irs a.input g.kept.ended w.now w.over
     read = subst (λ n. Reading received n a.input g.kept.ended w.now w.over) lv.peer_is w.read
 
-    step_taken : IsAcceptedText a.irs (x ∷ incarnation) w.now w.over
+    step_taken : IsSelection a.irs (x ∷ incarnation) w.now w.over
     step_taken = elim read [
-      | inl q ↦ inl (subst (λ z. IsAcceptedText a.irs incarnation z w.over) (sym q.0) (subst (λ z. IsAcceptedText a.irs incarnation a.input z) (sym q.1) g.kept.taken))
-      | inr r ↦ inr record { segment = r.segment; received = r.is; earlier = a.input; before = subst (λ z. IsAcceptedText a.irs incarnation a.input z) r.unended g.kept.taken; seq = r.seq; joined = r.joined; fin = r.fin }
+      | inl q ↦ inl (subst (λ z. IsSelection a.irs incarnation z w.over) (sym q.0) (subst (λ z. IsSelection a.irs incarnation a.input z) (sym q.1) g.kept.taken))
+      | inr r ↦ inr record { segment = r.segment; received = r.is; earlier = a.input; before = subst (λ z. IsSelection a.irs incarnation a.input z) r.unended g.kept.taken; seq = r.seq; joined = r.joined; fin = r.fin }
     ]
 
     step_prefix : IsPrefixOf a.input w.now
@@ -421,7 +421,7 @@ module _ (m : AppSpec) (steady : IsSteady m) (port : ℕ) (model : OutputModel) 
     step_acks : (s : PlainSegment) → sent ≡ Some s → has_rst s.flags ≡ false → Acknowledges a.irs (x ∷ incarnation) w.now s
     step_acks s e r = record {
       selected = w.now;
-      ended = w.over;
+      counts_fin = w.over;
       is = step_taken;
       prefix = prefix_refl w.now;
       ack = number s e ∙ ap wrap (let a = w.irs ∙ lv.peer_is in let b = w.page.taken in omega (arith, a, b));
@@ -540,7 +540,7 @@ module _ (m : AppSpec) (steady : IsSteady m) (port : ℕ) (model : OutputModel) 
   only_one zero x y s t h e f = (let q : x.output ≡ Some t = only_some (λ z. z.output ≡ Some t → x.output ≡ Some t) x y h (λ q. q) f in let r : Some s ≡ Some t = sym e ∙ q in cc)
   only_one (suc k) x y s t h e f = absurd (cc)
 
-  first_taken : (n : ℕ) (x : Exchange) (k : ℕ) → IsAcceptedText n (drop k (x ∷ [])) [] false
+  first_taken : (n : ℕ) (x : Exchange) (k : ℕ) → IsSelection n (drop k (x ∷ [])) [] false
   first_taken n x zero = inl (refl, refl)
   first_taken n x (suc zero) = (refl, refl)
   first_taken n x (suc (suc k)) = (refl, refl)
@@ -568,14 +568,14 @@ module _ (m : AppSpec) (steady : IsSteady m) (port : ℕ) (model : OutputModel) 
         kept = record {
           account = record { irs = s.seq; iss = iss; peer_mss = s.mss; input = []; snapshots = []; stream = [] };
           ended = false;
-          begins = record { syn = s; received = refl; plain = ap has_syn (let q : s.flags ≡ SYN = eqb-eq s.flags SYN plain in q); number = refl; mss = refl; answer = syn_ack c; output = refl; seq = ap wrap (omega arith); acks = ap wrap (omega arith) };
+          begins = record { syn = s; received = refl; is_syn = ap has_syn (let q : s.flags ≡ SYN = eqb-eq s.flags SYN plain in q); number = refl; mss = refl; answer = syn_ack c; output = refl; seq = ap wrap (omega arith); acks = ap wrap (omega arith) };
           taken = inl (refl, refl);
           in_range = all_nil IsSnapshot;
           sent = λ at byte e. absurd (cc);
           says = λ k y t h e. subst (λ z. SendsSlice iss [] z) (only k y t h e) (says_due (x ∷ []) c SynRcvd [] false [] (syn_ack c) safe.state page.at due_now.len due_now.seq due_now.alike);
           short = λ k y t h e. subst (λ z. length z.text ≤ first_mss s.mss) (only k y t h e) (omega arith);
           acknowledges = λ k y t h e r. subst (λ z. Acknowledges s.seq (drop k (x ∷ [])) [] z) (only k y t h e)
-              (record { selected = []; ended = false; is = first_taken s.seq x k; prefix = prefix_refl []; ack = ap wrap (omega arith) });
+              (record { selected = []; counts_fin = false; is = first_taken s.seq x k; prefix = prefix_refl []; ack = ap wrap (omega arith) });
           same = λ few i j y z t u l h g. absurd (no_two x i j y z l h g);
           one = λ i j y z t u l h g. absurd (no_two x i j y z l h g);
           of_page = told_starts model (HasEnded (x ∷ [])) unended;

@@ -1,5 +1,5 @@
 -- What each peer reads.
-use Rattle.node_laws.proofs.Prelude.{All, option_map, ◌≡◌, ℕ, ◌<◌, Bool, true, false, ◌&&◌, inr, List, [], ◌∷◌, position, replicate, refl, sym, ap, ◌∙◌, subst, arith, Option, Some, None, if◌then◌else◌, All-head, All-tail, Addr, IsReadBack, head_of, PlainSegment, Datagram, datagram_bytes, has_rst, AppSpec, IsAddr, IsByte, IsU32, Sockets, Connection, closed, is_live, serves, same_sockets, is_again, is_plain_syn, reset_for_no_connection, segment_of, Outcome, asked, accepted, on_segment, on_tick, Step, by_head, by_segment, datagram_to, Event, Reply, HistoryEntry, IpRefused, IcmpRefused, TcpRefused, EchoAsked, Arrived, Overlong, Periodic, TcpReply, ident_of, serving, IsSteady, SendsBytes, DeliveredBytes, asked_bytes, on_segment_bytes, on_tick_bytes, both_ways, choose, only_some, wrap_low, FitConn, FitOut, all_nil, all_cons, asked_fits, on_segment_fits, on_tick_fits, FitNode, closed_fits, event_fits, none_serves, all_closed, Single, serving_free, same_is, same_self, closed_lens, Lens, accepted_lens, asked_lens, on_segment_lens, on_tick_lens, IsSoundSegment, said_sound, IsPlace, datagram_back, datagram_short, Exchange, received_from, exchange, sent_to, IsOfLine, IsReadByPeer, IsReadThere, seen_from_peer}
+use Rattle.node_laws.proofs.Prelude.{All, option_map, ◌≡◌, ℕ, ◌<◌, Bool, true, false, ◌&&◌, inr, List, [], ◌∷◌, position, replicate, refl, sym, ap, ◌∙◌, subst, arith, Option, Some, None, if◌then◌else◌, All-head, All-tail, Addr, IsReadBack, head_of, PlainSegment, Datagram, datagram_bytes, has_rst, AppSpec, IsAddr, IsByte, IsU32, Sockets, Connection, closed, is_live, serves, same_sockets, is_again, is_plain_syn, reset_for_no_connection, segment_of, Outcome, asked, accepted, on_segment, on_tick, Step, by_head, by_segment, datagram_to, Event, Reply, HistoryEntry, IpRefused, IcmpRefused, TcpRefused, EchoAsked, Arrived, Overlong, Periodic, TcpReply, ident_of, serving, IsSteady, SendsBytes, DeliveredBytes, asked_bytes, on_segment_bytes, on_tick_bytes, both_ways, choose, only_some, wrap_low, FitConn, FitOut, all_nil, all_cons, asked_fits, on_segment_fits, on_tick_fits, FitNode, closed_fits, event_fits, none_serves, all_closed, Single, serving_free, same_is, same_self, closed_lens, Lens, accepted_lens, asked_lens, on_segment_lens, on_tick_lens, IsSoundSegment, said_sound, IsPlace, datagram_back, datagram_short, Exchange, received_from, exchange, sent_to, IsOfLine, IsDecoded, IsDecodedAt, seen_from_peer}
 use Rattle.uip_node.specs.Node.{AbstractNode, NodeStep, arrives_at, for_no_connection, happened, initial_node, opens as opens_at, opens_in, refuses, slot_for_syn, step}
 use Rattle.node_laws.proofs.Lines.{OfMedium, Comes, comes, left_of}
 use Rattle.node_laws.proofs.Lines.OfMedium.{passes_by, evicted, unanswered, refused, born, hears, ticks}
@@ -144,7 +144,7 @@ module _ (m : AppSpec) (steady : IsSteady m) (bytes : SendsBytes m) where
 
   -- ---- its bytes
 
-  read_there : (own : Addr) (p : Sockets) (id : ℕ) (again : Bool) (s : PlainSegment) → IsAddr own → Fits p → id < 65536 → IsSoundSegment s → IsReadThere own p id again s
+  read_there : (own : Addr) (p : Sockets) (id : ℕ) (again : Bool) (s : PlainSegment) → IsAddr own → Fits p → id < 65536 → IsSoundSegment s → IsDecodedAt own p id again s
   read_there own p id again s a f l h =
       let d : Datagram = datagram_to own p id s in
       let place : IsPlace d = record { source = a.four; target = f.addr.four; source_bytes = a.all_bytes; target_bytes = f.addr.all_bytes; from = f.own_port; to = f.peer_port; id = l } in
@@ -155,7 +155,7 @@ module _ (m : AppSpec) (steady : IsSteady m) (bytes : SendsBytes m) where
       }
 
   module _ (served : ℕ → Bool) (own : Addr) (is_own : IsAddr own) where
-    step_all : (n : AbstractNode) (event : Event) → IsOfLine own event → SoundAll n → SoundAll (step m served n event).node × IsReadByPeer own (record { event = event; sent = (step m served n event).sent })
+    step_all : (n : AbstractNode) (event : Event) → IsOfLine own event → SoundAll n → SoundAll (step m served n event).node × IsDecoded own (record { event = event; sent = (step m served n event).sent })
     step_all n event of g =
         let w : IsWire event = line_wire own event of in
         let r : NodeStep = step m served n event in
@@ -167,18 +167,18 @@ module _ (m : AppSpec) (steady : IsSteady m) (bytes : SendsBytes m) where
               read_there own p id again t is_own k.fits (step_low m served n event p id again t e) k.segment),
         )
 
-    all_read : (steps : List LineStep) (n : AbstractNode) → All (IsStep own) steps → SoundAll n → All (IsReadByPeer own) (trace_over m served steps n)
-    all_read [] n a g = all_nil (IsReadByPeer own)
+    all_read : (steps : List LineStep) (n : AbstractNode) → All (IsStep own) steps → SoundAll n → All (IsDecoded own) (trace_over m served steps n)
+    all_read [] n a g = all_nil (IsDecoded own)
     all_read (OfNode e ∷ steps) n a g =
         let x = step_all n e (All-head (IsStep own) (OfNode e) steps a) g in
-        all_cons (IsReadByPeer own) _ _ x.1 (all_read steps (step m served n e).node (All-tail (IsStep own) (OfNode e) steps a) x.0)
+        all_cons (IsDecoded own) _ _ x.1 (all_read steps (step m served n e).node (All-tail (IsStep own) (OfNode e) steps a) x.0)
     all_read (Changes change ∷ steps) n a g =
         let words = All-head (IsStep own) (Changes change) steps a in
         let fit : FitNode (changed change n) = record { size = g.fit.size; conns = g.fit.conns; numbers = words n.numbers g.fit.numbers } in
         all_read steps (changed change n) (All-tail (IsStep own) (Changes change) steps a) (record { single = g.single; fit = fit; each = g.each })
 
 pub every_peer_reads : (m : AppSpec) → IsSteady m → SendsBytes m → (served : ℕ → Bool) (own : Addr) → IsAddr own → (numbers : List ℕ) → All IsU32 numbers
-    → (steps : List LineStep) → All (IsStep own) steps → All (IsReadByPeer own) (trace_over m served steps (initial_node own numbers))
+    → (steps : List LineStep) → All (IsStep own) steps → All (IsDecoded own) (trace_over m served steps (initial_node own numbers))
 every_peer_reads m steady bytes served own a numbers w steps of =
     all_read m steady bytes served own a steps (initial_node own numbers) of record {
       single = λ q i j x y a b u v. absurd (let z = none_serves 10 q i x a in cc);

@@ -1,5 +1,5 @@
 -- What any receiver of an incarnation has is a prefix of its page.
-use Rattle.node_laws.proofs.Prelude.{option_map_or, ◌≡◌, ℕ, ◌+◌, ◌<◌, ◌≤◌, Bool, true, false, inl, inr, List, [], ◌∷◌, length, refl, sym, ap, ◌∙◌, arith, Option, Some, None, slice_get, eqb, wrap, PlainSegment, has_fin, AppSpec, IsPrefixOf, Pages, choose, eqb-eq, same_place, wrap_wrap, prefix_length, Exchange, sent_at, Account, IsAtOffset, IsPrefixOfPage, AccountHolds, TextConforms, NumbersGiveOffsets, OutputModel, Paged, Interactive, Free, IsPagedAt, FollowsModelAt, CarriesByte, IsReceived, EndsAfter, IsAcceptedText, PlainestReceives, receives, takes_next}
+use Rattle.node_laws.proofs.Prelude.{option_map_or, ◌≡◌, ℕ, ◌+◌, ◌<◌, ◌≤◌, Bool, true, false, inl, inr, List, [], ◌∷◌, length, refl, sym, ap, ◌∙◌, arith, Option, Some, None, slice_get, eqb, wrap, PlainSegment, has_fin, AppSpec, IsPrefixOf, Pages, choose, eqb-eq, same_place, wrap_wrap, prefix_length, Exchange, sent_at, Account, IsAtOffset, IsPrefixOfPage, AccountHolds, TextConforms, NumbersGiveOffsets, OutputModel, Paged, Interactive, Free, IsPagedAt, FollowsModelAt, CarriesByte, IsReceived, EndsAfter, IsSelection, PlainestReceives, receives, takes_next}
 use Rattle.node_laws.proofs.Texts.{all_of_it, element, get_append, get_inside, get_slice, most_or_more, prefix_by}
 use Rattle.node_laws.proofs.Texts.InBoth.{in_first, in_second}
 use Rattle.node_laws.proofs.Kept.{HasEnded, Kept, said_in}
@@ -28,7 +28,7 @@ pub plainest_receives : PlainestReceives
 plainest_receives iss incarnation places = receives_received iss incarnation places [] (λ at b z. absurd (cc))
 
 -- the same data without the FIN counted
-without_fin : (irs : ℕ) (incarnation : List Exchange) (selected : List ℕ) (ended : Bool) → IsAcceptedText irs incarnation selected ended → IsAcceptedText irs incarnation selected false
+without_fin : (irs : ℕ) (incarnation : List Exchange) (selected : List ℕ) (ended : Bool) → IsSelection irs incarnation selected ended → IsSelection irs incarnation selected false
 without_fin irs [] selected ended h = (h.0, refl)
 without_fin irs (x ∷ older) selected ended h = elim h [
   | inl g ↦ inl (without_fin irs older selected ended g)
@@ -83,7 +83,7 @@ module _ (model : OutputModel) (incarnation : List Exchange) (k : Kept model inc
   pub keeps_account : AccountHolds incarnation k.account
   keeps_account = record {
     begins = k.begins;
-    accepted = without_fin k.account.irs incarnation k.account.input k.ended k.taken;
+    selection = without_fin k.account.irs incarnation k.account.input k.ended k.taken;
     in_range = k.in_range;
     carried = k.sent;
     slices = λ i s h. (let w = said_in incarnation i s h in k.says i w.exchange s w.there w.output);

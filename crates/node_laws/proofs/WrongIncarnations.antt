@@ -1,5 +1,5 @@
 -- The guarantee alone excludes wrong incarnations.
-use Rattle.node_laws.proofs.Prelude.{◌≡◌, ◌+◌, ◌<◌, ◌≤◌, ◌⊎◌, ℕ, zero, suc, Bool, true, false, List, [], ◌∷◌, ◌++◌, length, take, refl, sym, ap, ◌∙◌, subst, arith, inl, inr, Some, if◌then◌else◌, wrap, PlainSegment, hello, fixed_text, some_heard, EchoAsked, only_some, prefix_length, prefix_refl, IsPrefixOf, OutputModel, Paged, Interactive, Free, CarriesByte, IsReceived, received_at, sent_at, IsEchoed, Account, Opening, IsAcceptedText, AccountHolds, IncarnationConforms, NumbersGiveOffsets, IsAcknowledged, Pages, Exchange, IsPrefixOfPage, TextConforms, SpeaksBy, hello_pages, mirror_pages, opened, segment, cut_again, ends_early, repeats_byte, acknowledges_refused, two_under_way, tells_another, echoes_before, WrongIncarnationsFall}
+use Rattle.node_laws.proofs.Prelude.{◌≡◌, ◌+◌, ◌<◌, ◌≤◌, ◌⊎◌, ℕ, zero, suc, Bool, true, false, List, [], ◌∷◌, ◌++◌, length, take, refl, sym, ap, ◌∙◌, subst, arith, inl, inr, Some, if◌then◌else◌, wrap, PlainSegment, hello, fixed_text, some_heard, EchoAsked, only_some, prefix_length, prefix_refl, IsPrefixOf, OutputModel, Paged, Interactive, Free, CarriesByte, IsReceived, received_at, sent_at, IsEchoed, Account, Opening, IsSelection, AccountHolds, IncarnationConforms, NumbersGiveOffsets, IsAcknowledged, Pages, Exchange, IsPrefixOfPage, TextConforms, SpeaksBy, hello_pages, mirror_pages, opened, segment, cut_again, ends_early, repeats_byte, acknowledges_refused, two_under_way, tells_another, echoes_before, WrongIncarnationsFall}
 use Rattle.node_laws.proofs.Texts.{element, get_inside, most_or_more}
 
 -- where the life begins
@@ -99,7 +99,7 @@ second_segment model k =
     none_came a = none_at a.segment a.place (let l = a.to in omega (arith, l)) a.received
 
 -- of the opening nothing is taken
-opening_taken : (n : ℕ) (text : List ℕ) (ended : Bool) → n ≡ 1000 → IsAcceptedText n (opened ∷ []) text ended → (text ≡ []) × (ended ≡ false)
+opening_taken : (n : ℕ) (text : List ℕ) (ended : Bool) → n ≡ 1000 → IsSelection n (opened ∷ []) text ended → (text ≡ []) × (ended ≡ false)
 opening_taken n text ended e h = elim h [
   | inl g ↦ g
   | inr t ↦ absurd (let a : 1000 ≡ wrap (n + 1 + length t.earlier) = only_some (λ s. s.seq ≡ wrap (n + 1 + length t.earlier) → 1000 ≡ wrap (n + 1 + length t.earlier)) (segment 1000 0 2 []) t.segment t.received (λ q. q) t.seq in
@@ -107,7 +107,7 @@ opening_taken n text ended e h = elim h [
 ]
 
 -- nor of what came at another number
-refused_taken : (n : ℕ) (text : List ℕ) (ended : Bool) → n ≡ 1000 → IsAcceptedText n acknowledges_refused text ended → (text ≡ []) × (ended ≡ false)
+refused_taken : (n : ℕ) (text : List ℕ) (ended : Bool) → n ≡ 1000 → IsSelection n acknowledges_refused text ended → (text ≡ []) × (ended ≡ false)
 refused_taken n text ended e h = elim h [
   | inl g ↦ opening_taken n text ended e g
   | inr t ↦ absurd (let a : 1005 ≡ wrap (n + 1 + length t.earlier) = only_some (λ s. s.seq ≡ wrap (n + 1 + length t.earlier) → 1005 ≡ wrap (n + 1 + length t.earlier)) (segment 1005 1 16 (120 ∷ [])) t.segment t.received (λ q. q) t.seq in
@@ -120,13 +120,13 @@ refused model k =
     let n = numbers_of (k.account 0) g.begins in
     let p : (k.account 0).irs ≡ 1000 = n.irs in
     let a = g.acknowledges 0 _ refl refl in
-    let t = refused_taken (k.account 0).irs a.selected a.ended p a.is in
+    let t = refused_taken (k.account 0).irs a.selected a.counts_fin p a.is in
     let l : length a.selected ≡ 0 = ap length t.0 in
     let q : 1006 ≡ wrap ((k.account 0).irs + 1 + length a.selected + 0) = a.ack ∙ ap (λ b. wrap ((k.account 0).irs + 1 + length a.selected + (if b then 1 else 0))) t.1 in
     omega (arith, l, p, q)
 
 -- a segment without text adds none
-nothing_taken : (n : ℕ) (text : List ℕ) (ended : Bool) → n ≡ 1000 → IsAcceptedText n tells_another text ended → text ≡ []
+nothing_taken : (n : ℕ) (text : List ℕ) (ended : Bool) → n ≡ 1000 → IsSelection n tells_another text ended → text ≡ []
 nothing_taken n text ended e h = elim h [
   | inl g ↦ (opening_taken n text ended e g).0
   | inr t ↦ t.joined ∙ ap (λ l. l ++ t.segment.text) (opening_taken n t.earlier false e t.before).0 ∙ only_some (λ s. s.text ≡ []) (segment 1001 1 16 []) t.segment t.received refl
@@ -140,7 +140,7 @@ other_page model by k =
     let h = of_some_page mirror_pages model tells_another (k.account 0) by (k.conforms 0 (omega arith)) in
     let m = prefix_length (k.account 0).stream h.0 h.2.prefix in
     let o = prefix_length h.0 (k.account 0).input h.1 in
-    let l : length (k.account 0).input ≡ 0 = ap length (nothing_taken (k.account 0).irs (k.account 0).input false n.irs g.accepted) in
+    let l : length (k.account 0).input ≡ 0 = ap length (nothing_taken (k.account 0).irs (k.account 0).input false n.irs g.selection) in
     let f : t.at + 1 ≤ length (k.account 0).stream = t.slice.fits in
     omega (arith, l, m, o, f)
 

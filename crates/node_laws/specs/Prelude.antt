@@ -2,7 +2,7 @@
 pub use Rattle.node_laws.specs.Asked.{IsEchoed, IsSolicited, IsWithoutReset, ContinuesUnreset, NothingUnsolicited, OpensServed}
 pub use Rattle.node_laws.specs.HonestPeers.{Asker, AsksHonestly, HasItsPage, HonestPeer, IsHonest, IsWaitedFor, SendsNext, SendsSyn}
 pub use Rattle.node_laws.specs.HonestPeers.{awaits_ack, bare_acks, calls_of, in_turn, is_bare_ack, receives_all, text_received}
-pub use Rattle.node_laws.specs.Promise.{Account, AccountHolds, Acknowledges, Begins, IncarnationConforms, IsAcceptedText}
+pub use Rattle.node_laws.specs.Promise.{Account, AccountHolds, Acknowledges, Begins, IncarnationConforms, IsSelection}
 pub use Rattle.node_laws.specs.Promise.{IsAcknowledged, IsAtOffset, IsExtendedBy, IsPrefixOfPage, NumbersGiveOffsets}
 pub use Rattle.node_laws.specs.Promise.{Opening, OutputModel, SendsSlice, TextConforms, sequence_length}
 pub use Rattle.node_laws.specs.Promise.OutputModel.{Free, Interactive, Paged}
@@ -16,7 +16,7 @@ pub use Rattle.node_laws.specs.Traces.{Exchange, IsIncarnationIn, TraceEntry, ex
 pub use Rattle.node_laws.specs.Traces.{is_incarnation, is_opening, received_at, received_from, replies_of, sent_at, sent_to, with_first}
 pub use Rattle.node_laws.specs.Turns.{trace_of}
 pub use Rattle.node_laws.specs.Windows.{FitsNewest, FitsWindows, IsNewText, IsPassedOver, WindowsAreRespected}
-pub use Rattle.node_laws.specs.Wire.{IsOfLine, IsReadByPeer, IsReadThere, seen_from_peer}
+pub use Rattle.node_laws.specs.Wire.{IsOfLine, IsDecoded, IsDecodedAt, seen_from_peer}
 pub use Rattle.node_laws.specs.Wire.IsOfLine.{of_bytes, of_call, of_overlong}
 pub use Rattle.node_laws.specs.WrongIncarnations.{SpeaksBy, WrongIncarnationsFall, acknowledges_refused, cut_again}
 pub use Rattle.node_laws.specs.WrongIncarnations.{echoes_before, ends_early, exchanged}

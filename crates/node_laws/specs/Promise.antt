@@ -26,7 +26,7 @@ pub record Account : Type 0 where
 pub record Opening (x : Exchange) (a : Account) : Type 0 where
   pub syn : PlainSegment
   pub received : x.received ≡ Some syn
-  pub plain : has_syn syn.flags ≡ true
+  pub is_syn : has_syn syn.flags ≡ true
   pub number : syn.seq ≡ a.irs
   pub mss : syn.mss ≡ a.peer_mss
   pub answer : PlainSegment
@@ -40,24 +40,24 @@ Begins [] a = ⊥
 Begins (x ∷ []) a = Opening x a
 Begins (x ∷ y ∷ older) a = Begins (y ∷ older) a
 
--- ---- what is accepted from the peer
+-- ---- selections of what is received
 
 -- One more received segment is selected: its number follows all data selected before, and no FIN was counted before.
-pub record Accepts (irs : ℕ) (x : Exchange) (Before : List ℕ → Bool → Type 0) (selected : List ℕ) (ended : Bool) : Type 0 where
+pub record Selects (irs : ℕ) (x : Exchange) (Before : List ℕ → Bool → Type 0) (selected : List ℕ) (counts_fin : Bool) : Type 0 where
   pub segment : PlainSegment
   pub received : x.received ≡ Some segment
   pub earlier : List ℕ
   pub before : Before earlier false
   pub seq : segment.seq ≡ wrap (irs + 1 + length earlier)
   pub joined : selected ≡ earlier ++ segment.text
-  pub fin : ended ≡ true → has_fin segment.flags ≡ true
+  pub fin : counts_fin ≡ true → has_fin segment.flags ≡ true
 
--- A selection of the segments received in these exchanges has `selected` as its data. If `ended` is true, the last one has a FIN, which is
--- counted.
-abbrev pub IsAcceptedText : ℕ → List Exchange → List ℕ → Bool → Type 0
-IsAcceptedText irs [] selected ended = (selected ≡ []) × (ended ≡ false)
-IsAcceptedText irs (x ∷ older) selected ended =
-    IsAcceptedText irs older selected ended ⊎ Accepts irs x (IsAcceptedText irs older) selected ended
+-- A selection of the segments received in these exchanges has `selected` as its data. If `counts_fin` is true, its last segment has a FIN,
+-- which is counted.
+abbrev pub IsSelection : ℕ → List Exchange → List ℕ → Bool → Type 0
+IsSelection irs [] selected counts_fin = (selected ≡ []) × (counts_fin ≡ false)
+IsSelection irs (x ∷ older) selected counts_fin =
+    IsSelection irs older selected counts_fin ⊎ Selects irs x (IsSelection irs older) selected counts_fin
 
 -- ---- what is sent
 
@@ -74,14 +74,14 @@ pub record SendsSlice (iss : ℕ) (stream : List ℕ) (s : PlainSegment) : Type 
   pub bytes : 0 < length s.text → IsAtOffset iss stream s
   pub fin : has_fin s.flags ≡ true → (s.text ≡ []) × (s.seq ≡ wrap (iss + 1 + length stream))
 
--- The segment acknowledges the data of some selection of the segments received up to this exchange, and its FIN if `ended` is true. This
--- data is a prefix of the input.
+-- The segment acknowledges the data of some selection of the segments received up to this exchange, and its FIN if `counts_fin` is true.
+-- This data is a prefix of the input.
 pub record Acknowledges (irs : ℕ) (by_then : List Exchange) (input : List ℕ) (s : PlainSegment) : Type 0 where
   pub selected : List ℕ
-  pub ended : Bool
-  pub is : IsAcceptedText irs by_then selected ended
+  pub counts_fin : Bool
+  pub is : IsSelection irs by_then selected counts_fin
   pub prefix : IsPrefixOf selected input
-  pub ack : s.ack ≡ wrap (irs + 1 + length selected + (if ended then 1 else 0))
+  pub ack : s.ack ≡ wrap (irs + 1 + length selected + (if counts_fin then 1 else 0))
 
 -- SEG.LEN (RFC 793, section 3.3): the sequence numbers that a segment occupies.
 abbrev pub sequence_length : PlainSegment → ℕ
@@ -100,12 +100,12 @@ pub record IsAcknowledged (incarnation : List Exchange) (i j : ℕ) (t : PlainSe
 -- ---- the guarantee
 
 -- This account holds for the incarnation. A segment carried each byte of the stream. The data of each segment is a slice of the stream, no
--- longer than the MSS of the peer allows. Each segment without RST acknowledges only a prefix of the input. Stop and wait: let t, and later
--- s, be sent with SEG.LEN above 0 and different SEG.SEQ (i < j: exchange i is newer). Then a segment that acknowledges the end of t was
--- received after t was sent, and before s was sent or in the same exchange.
+-- longer than the MSS of the peer allows. Each segment without RST acknowledges a prefix of the input, and perhaps a FIN. Stop and wait: let
+-- t, and later s, be sent with SEG.LEN above 0 and different SEG.SEQ (i < j: exchange i is newer). Then a segment that acknowledges the end
+-- of t was received after t was sent, and before s was sent or in the same exchange.
 pub record AccountHolds (incarnation : List Exchange) (a : Account) : Type 0 where
   pub begins : Begins incarnation a
-  pub accepted : IsAcceptedText a.irs incarnation a.input false
+  pub selection : IsSelection a.irs incarnation a.input false
   pub in_range : All IsSnapshot a.snapshots
   pub carried : IsReceived a.iss incarnation a.stream
   pub slices : (k : ℕ) (s : PlainSegment) → sent_at incarnation k ≡ Some s → SendsSlice a.iss a.stream s

@@ -52,7 +52,7 @@ pub record FollowsPagesAt (m : AppSpec) (port : ℕ) (pages : Pages) : Type 0 wh
 pub record IsPagedAt (m : AppSpec) (port : ℕ) (pages : Pages) : Type 0 where
   pub follows : FollowsPagesAt m port pages
   pub accepts_all : (p : AppState) → follows.lost p ≡ false
-  pub short : (q : List ℕ) (k : List Snapshot) → All IsSnapshot k → length (pages.page q k) < 1073741824
+  pub short : (input : List ℕ) (snapshots : List Snapshot) → All IsSnapshot snapshots → length (pages.page input snapshots) < 1073741824
 
 -- The output at one port follows its model.
 abbrev pub FollowsModelAt : AppSpec → ℕ → OutputModel → Type 0

@@ -16,13 +16,13 @@ use Rattle.node_laws.specs.Turns.{trace_of}
 use Rattle.node_laws.specs.Wire.{IsOfLine}
 
 -- A SYN, text or FIN was sent. Since then no received segment acknowledges it, and no RST was received or sent.
-pub record IsOutstanding (session : List Exchange) (s : PlainSegment) : Type 0 where
+pub record IsOutstanding (exchanges : List Exchange) (s : PlainSegment) : Type 0 where
   pub place : ℕ
-  pub output : sent_at session place ≡ Some s
+  pub output : sent_at exchanges place ≡ Some s
   pub placed : occupies_sequence_space s ≡ true
-  pub unacked : (k : ℕ) (t : PlainSegment) → k < place → received_at session k ≡ Some t
+  pub unacked : (k : ℕ) (t : PlainSegment) → k < place → received_at exchanges k ≡ Some t
       → has_ack t.flags ≡ true → t.ack ≡ wrap (s.seq + sequence_length s) → ⊥
-  pub unreset : All IsWithoutReset (take place session)
+  pub unreset : All IsWithoutReset (take place exchanges)
 
 -- At this trace entry the node retransmits the segment with the same flags and text, marked as a retransmission, or it sends a RST.
 pub data IsRetried (p : Sockets) (s : PlainSegment) (t : TraceEntry) : Type 0 where

@@ -9,7 +9,7 @@ use Rattle.node_laws.specs.Traces.{Exchange, TraceEntry, exchanges_with, IsIncar
 use Rattle.node_laws.specs.Promise.{IncarnationConforms, OutputModel}
 use Rattle.node_laws.specs.Speakers.{HasOutputModel, at_every_port}
 use Rattle.node_laws.specs.Asked.{IsEchoed, NothingUnsolicited, OpensServed}
-use Rattle.node_laws.specs.Wire.{IsOfLine, IsReadByPeer}
+use Rattle.node_laws.specs.Wire.{IsOfLine, IsDecoded}
 use Rattle.node_laws.specs.Turns.{trace_of}
 
 -- Every incarnation of every connection conforms to the output model of its port. Nothing is sent unsolicited, and connections open only
@@ -29,7 +29,7 @@ EveryTraceConforms =
     → (served : ℕ → Bool) (own : Addr) → IsAddr own
     → (numbers : List ℕ) → All IsU32 numbers → (events : List Event) → All (IsOfLine own) events
     → TraceConforms model served (trace_of m served events (initial_node own numbers))
-    × All (IsReadByPeer own) (trace_of m served events (initial_node own numbers))
+    × All (IsDecoded own) (trace_of m served events (initial_node own numbers))
 
 -- Every trace conforms, for every application whose output is a page of bytes at every port.
 abbrev pub EveryTraceOfPagesConforms : Type 0
@@ -37,4 +37,4 @@ EveryTraceOfPagesConforms =
     (m : AppSpec) (pages : Pages) → IsPaged m pages → HasBytes pages → (served : ℕ → Bool) (own : Addr) → IsAddr own
     → (numbers : List ℕ) → All IsU32 numbers → (events : List Event) → All (IsOfLine own) events
     → TraceConforms (at_every_port pages) served (trace_of m served events (initial_node own numbers))
-    × All (IsReadByPeer own) (trace_of m served events (initial_node own numbers))
+    × All (IsDecoded own) (trace_of m served events (initial_node own numbers))

@@ -1,4 +1,4 @@
--- What is on the wire: where events come from, and that each peer reads segments as they were meant.
+-- What is on the wire: where events come from, and that the node's own parser gives back each segment that is sent.
 use Rattle.std.specs.List.{All}
 use Rattle.std.specs.Prelude.{◌≡◌, ℕ, ◌≤◌, Bool, List, length, Some}
 use Rattle.uip_wire.specs.declared.addr.Addr.{Addr}
@@ -21,11 +21,11 @@ seen_from_peer own p = record { peer = own; peer_port = p.own_port; own_port = p
 
 -- The node's own parser, at the address of the peer, gives back this segment from its bytes. These are no longer than the largest
 -- datagram.
-pub record IsReadThere (own : Addr) (p : Sockets) (id : ℕ) (again : Bool) (s : PlainSegment) : Type 0 where
+pub record IsDecodedAt (own : Addr) (p : Sockets) (id : ℕ) (again : Bool) (s : PlainSegment) : Type 0 where
   pub read : event_of p.peer (reply_bytes own (TcpReply p id again s)) ≡ Arrived (seen_from_peer own p) s
   pub size : length (reply_bytes own (TcpReply p id again s)) ≤ LARGEST_DATAGRAM
 
 -- The node's own parser, at the address of the peer, gives back the segment of this trace entry, if any.
-abbrev pub IsReadByPeer : Addr → TraceEntry → Type 0
-IsReadByPeer own t =
-    (p : Sockets) (id : ℕ) (again : Bool) (s : PlainSegment) → t.sent ≡ Some (TcpReply p id again s) → IsReadThere own p id again s
+abbrev pub IsDecoded : Addr → TraceEntry → Type 0
+IsDecoded own t =
+    (p : Sockets) (id : ℕ) (again : Bool) (s : PlainSegment) → t.sent ≡ Some (TcpReply p id again s) → IsDecodedAt own p id again s

@@ -1,5 +1,5 @@
 -- What the application owes the laws of a trace, and the trace of a node with it.
-use Rattle.own_app.proofs.Prelude.{All, All-append, All-cons, All-drop, All-head, All-nil, All-tail, AppState, Bool, FollowsPagesAt, IsByte, IsMessage, IsOwnStep, IsPrefixOf, IsSteady, IsU32, List, [], MayWant, Now, AbstractNode, OwnSpeaksOnLines, OwnStep, OwnTraceConforms, Happens, Writes, PlainMessage, SendsBytes, Snapshot, TraceConforms, TraceEntry, IsReadByPeer, Addr, Nothing, Send, Close, Abort, ap, append-nil, append_assoc, arith, drop, false, false≢true, has_last, if◌then◌else◌, initial_node, inl, inr, is_next_message, is_overrun, len_left, length, ltb-false, map, message_in, messages_text, nat_lt, next_ticket, opened_in, own_lawful, own_output_model, own_sessions, own_spec, own_trace, own_want, refl, step, subst, sym, true, with_message, with_written, write_message, ◌%◌, ◌++◌, ◌==◌, ◌||◌, ◌∙◌, ◌∷◌, ◌≡◌, ◌≤◌, ◌⊎◌, ℕ}
+use Rattle.own_app.proofs.Prelude.{All, All-append, All-cons, All-drop, All-head, All-nil, All-tail, AppState, Bool, FollowsPagesAt, IsByte, IsMessage, IsOwnStep, IsPrefixOf, IsSteady, IsU32, List, [], MayWant, Now, AbstractNode, OwnSpeaksOnLines, OwnStep, OwnTraceConforms, Happens, Writes, PlainMessage, SendsBytes, Snapshot, TraceConforms, TraceEntry, IsDecoded, Addr, Nothing, Send, Close, Abort, ap, append-nil, append_assoc, arith, drop, false, false≢true, has_last, if◌then◌else◌, initial_node, inl, inr, is_next_message, is_overrun, len_left, length, ltb-false, map, message_in, messages_text, nat_lt, next_ticket, opened_in, own_lawful, own_output_model, own_sessions, own_spec, own_trace, own_want, refl, step, subst, sym, true, with_message, with_written, write_message, ◌%◌, ◌++◌, ◌==◌, ◌||◌, ◌∙◌, ◌∷◌, ◌≡◌, ◌≤◌, ◌⊎◌, ℕ}
 use Rattle.own_app.specs.declared.TheConstants.{MOST_SILENT_POLLS}
 use Rattle.node_laws.proofs.EveryTraceConforms.{every_step}
 use Rattle.node_laws.proofs.Steps.{Changes, IsStep, LineStep, OfNode, trace_over}
@@ -174,5 +174,5 @@ all_steps own (Writes message ∷ steps) h =
 
 pub own_conforms : OwnTraceConforms
 own_conforms served own is numbers words steps are =
-    subst (λ (l : List TraceEntry). TraceConforms own_output_model served l × All (IsReadByPeer own) l) (same_trace served steps (initial_node own numbers))
+    subst (λ (l : List TraceEntry). TraceConforms own_output_model served l × All (IsDecoded own) l) (same_trace served steps (initial_node own numbers))
     (every_step own_spec own_output_model own_steady sends_bytes follows_sessions served own is numbers words (steps_of steps) (all_steps own steps are))

@@ -2,7 +2,7 @@
 pub use Rattle.app_events.specs.Prelude.{AppState, CanSay, IsByte, IsPrefixOf, IsRepresented, IsU32, MayWant, Snapshot}
 pub use Rattle.app_events.specs.declared.now.Now.{Now}
 pub use Rattle.app_events.specs.declared.want.Want.TheVariants.{Abort, Close, Nothing, Send}
-pub use Rattle.node_laws.specs.Prelude.{FollowsPagesAt, IsReadByPeer, TraceConforms, TraceEntry}
+pub use Rattle.node_laws.specs.Prelude.{FollowsPagesAt, IsDecoded, TraceConforms, TraceEntry}
 pub use Rattle.own_app.specs.Prelude.{Happens, IsMessage, IsOwnStep, OwnRepresents, OwnSpeaksOnLines, OwnState, OwnStep, OwnTraceConforms, PlainMessage, StateRepresents, Writes, after_capture, after_input, bytes_taken, has_last, is_due, is_next_message, is_overrun, left_of_value, len_left, message_in, message_of, messages_text, messages_text_more, next_ticket, not_true, numbers_of, opened_in, own_lawful, own_output_model, own_sessions, own_spec, own_trace, own_want, pending, state_of, with_message, with_written, write_message}
 pub use Rattle.own_app.specs.declared.app.OwnApp.{OwnApp}
 pub use Rattle.std.proofs.Common.{Bool, List, [], ap, append-nil, append_assoc, arith, drop, false, if◌then◌else◌, inl, inr, length, length-append, length-drop, map, nat_le, nat_lt, not, refl, subst, sym, take, true, ℕ, ◌%◌, ◌&&◌, ◌++◌, ◌+◌, ◌-◌, ◌<◌, ◌==◌, ◌||◌, ◌∙◌, ◌∷◌, ◌≡◌, ◌≤◌, ◌⊎◌}

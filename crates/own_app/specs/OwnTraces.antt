@@ -4,7 +4,7 @@ use Rattle.std.specs.Prelude.{ℕ, Bool, List, [], ◌∷◌}
 use Rattle.app_events.specs.Prelude.{IsAddr, IsByte, IsU32}
 use Rattle.uip_wire.specs.declared.addr.Addr.{Addr}
 use Rattle.uip_node.specs.Prelude.{AbstractNode, Event, initial_node, step}
-use Rattle.node_laws.specs.Prelude.{IsOfLine, IsReadByPeer, TraceConforms, TraceEntry}
+use Rattle.node_laws.specs.Prelude.{IsOfLine, IsDecoded, TraceConforms, TraceEntry}
 use Rattle.own_app.specs.OwnLines.{own_output_model}
 use Rattle.own_app.specs.OwnSpec.{PlainMessage, own_spec, write_message}
 
@@ -39,4 +39,4 @@ OwnTraceConforms =
     (served : ℕ → Bool) (own : Addr) → IsAddr own → (numbers : List ℕ) → All IsU32 numbers
     → (steps : List OwnStep) → All (IsOwnStep own) steps
     → TraceConforms own_output_model served (own_trace served steps (initial_node own numbers))
-    × All (IsReadByPeer own) (own_trace served steps (initial_node own numbers))
+    × All (IsDecoded own) (own_trace served steps (initial_node own numbers))

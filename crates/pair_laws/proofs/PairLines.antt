@@ -9,7 +9,7 @@ use Rattle.app_events.specs.Prelude.{AppSpec, AppState, IsAddr, IsByte, IsLawful
 use Rattle.app_events.specs.declared.now.Now.{Now}
 use Rattle.app_events.specs.declared.want.Want.TheVariants.{Close}
 use Rattle.uip_node.specs.Prelude.{AbstractNode, IsSteady, SendsBytes, initial_node, step}
-use Rattle.node_laws.specs.Prelude.{AcceptsPrefix, FollowsModelAt, FollowsPagesAt, HasOutputModel, IsPagedAt, IsReadByPeer, LeavesDelivered, OutputModel, TraceConforms, TraceEntry, Free, Interactive, Paged}
+use Rattle.node_laws.specs.Prelude.{AcceptsPrefix, FollowsModelAt, FollowsPagesAt, HasOutputModel, IsPagedAt, IsDecoded, LeavesDelivered, OutputModel, TraceConforms, TraceEntry, Free, Interactive, Paged}
 use Rattle.node_laws.proofs.EveryTraceConforms.{every_step}
 use Rattle.node_laws.proofs.Steps.{Changes as ChangesAll, IsStep, LineStep, OfNode, trace_over}
 use Rattle.app_pair.specs.PairNumbers.{change_own, own_numbers, with_own}
@@ -257,5 +257,5 @@ pub trace_conforms : PairTraceConforms
 trace_conforms second m n firsts seconds x y served own is numbers words steps are =
     let all = speaks_on_lines second m n firsts seconds x y in
     let model : ℕ → OutputModel = pair_model second firsts seconds in
-    subst (λ (l : List TraceEntry). TraceConforms model served l × All (IsReadByPeer own) l) (same_trace (pair_spec second m n) served steps (initial_node own numbers))
+    subst (λ (l : List TraceEntry). TraceConforms model served l × All (IsDecoded own) l) (same_trace (pair_spec second m n) served steps (initial_node own numbers))
     (every_step (pair_spec second m n) model all.steady all.bytes all.speaks served own is numbers words (steps_of steps) (all_steps own steps are))

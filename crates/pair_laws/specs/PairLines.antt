@@ -4,7 +4,7 @@ use Rattle.std.specs.Prelude.{ℕ, Bool, true, false, if◌then◌else◌, List,
 use Rattle.app_events.specs.Prelude.{AppSpec, IsAddr, IsU32, Pages}
 use Rattle.uip_wire.specs.declared.addr.Addr.{Addr}
 use Rattle.uip_node.specs.Prelude.{AbstractNode, Event, IsSteady, SendsBytes, initial_node, step}
-use Rattle.node_laws.specs.Prelude.{HasOutputModel, IsOfLine, IsReadByPeer, OutputModel, TraceConforms, TraceEntry}
+use Rattle.node_laws.specs.Prelude.{HasOutputModel, IsOfLine, IsDecoded, OutputModel, TraceConforms, TraceEntry}
 use Rattle.node_laws.specs.Prelude.{Free, Interactive, Paged}
 use Rattle.app_pair.specs.PairNumbers.{change_own}
 use Rattle.app_pair.specs.PairSpec.{StaysAtPort, own_snapshot, pair_spec}
@@ -66,4 +66,4 @@ PairTraceConforms =
     → (steps : List PairStep) → All (IsPairStep own) steps
     → TraceConforms (pair_model second firsts seconds) served
     (pair_trace (pair_spec second m n) served steps (initial_node own numbers))
-    × All (IsReadByPeer own) (pair_trace (pair_spec second m n) served steps (initial_node own numbers))
+    × All (IsDecoded own) (pair_trace (pair_spec second m n) served steps (initial_node own numbers))

@@ -10,7 +10,7 @@ use Rattle.app_events.specs.declared.want.Want.TheVariants.{Nothing, Send, Close
 use Rattle.tcp_machine.specs.Connection.{Connection}
 use Rattle.tcp_machine.specs.declared.step.Step.{Step}
 
--- The result of a step: the connection, the counters, and what the step requests.
+-- The result of a step: the connection, the shared numbers, and what the step requests.
 pub record Outcome : Type 0 where
   pub connection : Connection
   pub numbers : List ℕ

@@ -14,7 +14,7 @@ use Rattle.app_events.specs.declared.state.State.TheVariants.{SynRcvd}
 use Rattle.tcp_machine.specs.Prelude.{Connection, closed, is_live}
 use Rattle.uip_node.specs.Prelude.{AbstractNode, Event, connection_in, event_of, run, step, Periodic, periodic}
 use Rattle.uip_node.proofs.Basics.{both_ways, choose}
-use Rattle.node_laws.specs.Prelude.{IsOfLine, IsReadByPeer, TraceConforms, TraceEntry, exchanges_with, trace_of}
+use Rattle.node_laws.specs.Prelude.{IsOfLine, IsDecoded, TraceConforms, TraceEntry, exchanges_with, trace_of}
 use Rattle.line_medium.specs.Prelude.{MediumInput}
 use Rattle.line_promise.specs.Prelude.{events_among}
 use Rattle.serve_loop.specs.Prelude.{OfMedium, OfNode, Station, StationEvent, output, station_event_by}
@@ -341,7 +341,7 @@ calls_conform own is mac network all bytes closed old new opens did =
         answered = t.answered;
         each = t.each;
         keeps = subst (λ (l : List TraceEntry). TraceConforms own_output_model is_own_port l) (sym t.turns) kept.0;
-        read = subst (λ (l : List TraceEntry). All (IsReadByPeer own) l) (sym t.turns) kept.1;
+        read = subst (λ (l : List TraceEntry). All (IsDecoded own) l) (sym t.turns) kept.1;
       };
       sent = λ slot live.
           subst (λ (l : List TraceEntry). SendsMessages (connection_after own mac network all slot) (exchanges_with (connection_after own mac network all slot).sockets l)) (sym t.turns)

@@ -1,5 +1,5 @@
 -- A device satisfies the guarantee of its node, move by move.
-use Rattle.uip_device.proofs.Prelude.{All, flat_map, ◌≡◌, ℕ, List, [], ◌∷◌, ◌++◌, map, refl, sym, ap, ◌∙◌, subst, IsAddr, IsPaged, IsU32, Pages, AppSpec, Ghosts, Addr, Event, Reply, HasBytes, AbstractNode, initial_node, IsNode, TraceConforms, at_every_port, TraceEntry, trace_of, IsReadByPeer, every_step_of_pages, LineStep, trace_over, turns_then, sends, turn_events, events_by, Answered, AnswersAll, HasDelivered, IsFreshDevice, left_text_of, lefts_of, moves_of, AllHandOutSent, IsOfBytes, OutputIsSent, CallsConform, KeepsU32, MoveTrace, Gives, Makes, Move, Writing, bytes_of_move, events_of_move, goes_by_datagram, run_move, with_value, HandsOut, Device}
+use Rattle.uip_device.proofs.Prelude.{All, flat_map, ◌≡◌, ℕ, List, [], ◌∷◌, ◌++◌, map, refl, sym, ap, ◌∙◌, subst, IsAddr, IsPaged, IsU32, Pages, AppSpec, Ghosts, Addr, Event, Reply, HasBytes, AbstractNode, initial_node, IsNode, TraceConforms, at_every_port, TraceEntry, trace_of, IsDecoded, every_step_of_pages, LineStep, trace_over, turns_then, sends, turn_events, events_by, Answered, AnswersAll, HasDelivered, IsFreshDevice, left_text_of, lefts_of, moves_of, AllHandOutSent, IsOfBytes, OutputIsSent, CallsConform, KeepsU32, MoveTrace, Gives, Makes, Move, Writing, bytes_of_move, events_of_move, goes_by_datagram, run_move, with_value, HandsOut, Device}
 use Rattle.uip_device.proofs.AnswerLaws.{MovesOn, moves_on, none_left}
 use Rattle.uip_device.proofs.BringLaws.{steps_are, steps_of, steps_of_move}
 
@@ -63,5 +63,5 @@ module _ {A S : Type 0} (g : Ghosts A S) where
           left = t.left;
           each = subst (λ (l : List ℕ). AllHandOutSent own [] l t.moves) (none_left old fresh.none) t.each;
           keeps = subst (λ (l : List TraceEntry). TraceConforms (at_every_port pages) g.served l) (sym t.turns) kept.0;
-          read = subst (λ (l : List TraceEntry). All (IsReadByPeer own) l) (sym t.turns) kept.1;
+          read = subst (λ (l : List TraceEntry). All (IsDecoded own) l) (sym t.turns) kept.1;
         }

@@ -10,7 +10,7 @@ pub use Rattle.httpd.specs.Web.{WebContent}
 pub use Rattle.node_laws.proofs.EveryTraceConforms.{every_step_of_pages}
 pub use Rattle.node_laws.proofs.Steps.{LineStep, trace_over, turns_then}
 pub use Rattle.node_laws.proofs.TurnRuns.{sends, turn_events}
-pub use Rattle.node_laws.specs.Prelude.{IsOfLine, IsReadByPeer, TraceConforms, TraceEntry, at_every_port, of_bytes, of_call, of_overlong, trace_of}
+pub use Rattle.node_laws.specs.Prelude.{IsOfLine, IsDecoded, TraceConforms, TraceEntry, at_every_port, of_bytes, of_call, of_overlong, trace_of}
 pub use Rattle.packet_buffer.specs.Prelude.{Buffer, datagram_in}
 pub use Rattle.serve_loop.proofs.ByteLaws.{slip_brings_bytes}
 pub use Rattle.serve_loop.proofs.NodeLaws.{node_on, node_step}

@@ -15,7 +15,7 @@ pub data Event : Type 0 where
   EchoAsked : (datagram : List ℕ) → Event
   Arrived : (sockets : Sockets) (segment : PlainSegment) → Event
   Overlong : Event  -- a frame longer than the largest datagram
-  Periodic : (place : ℕ) → Event  -- the call of a slot
+  Periodic : (slot : ℕ) → Event  -- the call of a slot
 
 -- The kind of a reply, as far as it is counted.
 pub data Answer : Type 0 where

@@ -18,7 +18,7 @@ use Rattle.uip_node.specs.Counters.{counters, ticks_of, initial_number, ident_of
 -- The state of a node.
 pub record AbstractNode : Type 0 where
   pub addr : Addr
-  pub numbers : List ℕ  -- the counters of its application
+  pub numbers : List ℕ  -- the shared numbers of its application
   pub connections : List Connection  -- ten, by their slots
   pub history : List HistoryEntry  -- the newest entry first
 

@@ -5,7 +5,7 @@ use Rattle.app_events.specs.Prelude.{AppState, AppSpec, IsLawful, IsU32}
 use Rattle.app_events.specs.declared.ending.Ending.{Ending}
 use Rattle.app_events.specs.declared.now.Now.{Now}
 
--- The application never retracts output. Its calls change snapshots and counters only in these ways.
+-- The application never retracts output. Its calls change snapshots and shared numbers only in these ways.
 pub record IsSteady (m : AppSpec) : Type 0 where
   pub lawful : IsLawful m (λ p. Unit {0})
   pub connected_acked : (numbers : List ℕ) (port : ℕ) → (m.connected numbers port).part.acked ≡ 0
@@ -17,7 +17,7 @@ pub record IsSteady (m : AppSpec) : Type 0 where
       ⊎ ((m.prepare numbers p now).snapshots ≡ p.snapshots ++ record { numbers = numbers; now = now } ∷ [])
   pub acked_snapshots : (numbers : List ℕ) (p : AppState) (n : ℕ) → (m.acked numbers p n).part.snapshots ≡ p.snapshots
   pub polled_snapshots : (numbers : List ℕ) (p : AppState) → (m.polled numbers p).part.snapshots ≡ p.snapshots
-  -- The counters stay below 2^32.
+  -- The shared numbers stay below 2^32.
   pub connected_numbers : (numbers : List ℕ) (port : ℕ) → All IsU32 numbers → All IsU32 (m.connected numbers port).numbers
   pub newdata_numbers : (numbers : List ℕ) (p : AppState) (piece : List ℕ) → All IsU32 numbers
       → All IsU32 (m.newdata numbers p piece).numbers

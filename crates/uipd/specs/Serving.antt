@@ -21,7 +21,7 @@ use Rattle.uipd.specs.declared.words.LineKind.TheVariants.{Ethernet, Serial}
 use Rattle.uipd.specs.declared.words.ServedLine.{ServedLine}
 use Rattle.uipd.specs.Statuses.{RunsAs, status_of_serving}
 
--- The line is served by an application, at these ports, with these initial counters. A write fails only if there is output.
+-- The line is served by an application, at these ports, with these initial shared numbers. A write fails only if there is output.
 pub record ServesBy (m : AppSpec) (ports : ℕ → Bool) (numbers : List ℕ)
     (line : ServedLine) (old new : LineView) (end : ServeEnd) : Type 0 where
   pub taken : List Item
