@@ -1,5 +1,6 @@
 -- What the calls of a connection do to the states that its value represents.
-use Rattle.own_app.proofs.Prelude.{All, All-head, All-tail, AppState, Bool, CanSay, IsByte, IsRepresented, List, Now, OwnApp, OwnRepresents, OwnState, PlainMessage, Snapshot, StateRepresents, after_capture, after_input, and_parts, ap, arith, bytes_taken, drop, drop-append-le, drop-drop, eq-eqb, eqb-true, false, false≢true, has_last, if◌then◌else◌, is_due, is_next_message, is_overrun, le-ltb, le_prop, leb-false, leb-true, left_of_value, len_left, length, length-append, length-drop, lt-ltb, ltb-false, ltb-true, map, message_in, messages_text, messages_text_more, nat_le, ne_eqb, not, not_true, numbers_of, own_spec, pending, refl, state_of, sym, true, with_message, ∥∥₁_elim, ◌%◌, ◌&&◌, ◌++◌, ◌+◌, ◌-◌, ◌<◌, ◌==◌, ◌||◌, ◌∙◌, ◌∷◌, ◌≡◌, ◌≤◌, ℕ, []}
+use Rattle.own_app.proofs.Prelude.{All, All-head, All-tail, AppState, Bool, CanSay, IsByte, IsRepresented, List, Now, OwnApp, OwnRepresents, OwnState, PlainMessage, Snapshot, StateRepresents, after_capture, after_input, ap, arith, bytes_taken, drop, drop-append-le, drop-drop, eq-eqb, eqb-true, false, false≢true, has_last, if◌then◌else◌, is_due, is_next_message, is_overrun, le-ltb, le_prop, leb-false, leb-true, left_of_value, len_left, length, length-append, length-drop, lt-ltb, ltb-false, ltb-true, map, message_in, messages_text, messages_text_more, nat_le, ne_eqb, not, numbers_of, own_spec, pending, refl, state_of, sym, true, with_message, ∥∥₁_elim, ◌%◌, ◌&&◌, ◌++◌, ◌+◌, ◌-◌, ◌<◌, ◌==◌, ◌||◌, ◌∙◌, ◌∷◌, ◌≡◌, ◌≤◌, ℕ, []}
+use Rattle.std.proofs.lemmas.Bool.Decides.{nat_tests}
 use Rattle.own_app.specs.declared.TheConstants.{RECEIVED_ROOM}
 
 -- the numbers contain the message
@@ -86,17 +87,12 @@ record IsDue (a : OwnState) (s : PlainMessage) : Type 0 where
   there : s.taken ≤ length a.received
 
 due_parts : (a : OwnState) (s : PlainMessage) → is_due a s ≡ true → IsDue a s
-due_parts a s e =
-    let there = and_parts _ _ e in
-    let all = and_parts _ _ there.0 in
-    let more = and_parts _ _ all.0 in
-    let stored = and_parts _ _ more.0 in
-    record {
-      stored = not_true a.overrun stored.1;
-      more = not_true a.ended more.1;
-      all = eqb-true a.at (length a.sending) all.1;
-      there = leb-true s.taken (length a.received) there.1;
-    }
+due_parts a s e = record {
+  stored = grind (arith, nat_tests);
+  more = grind (arith, nat_tests);
+  all = grind (arith, nat_tests);
+  there = grind (arith, nat_tests);
+}
 
 -- a capture
 pub capture_represents : (a : OwnState) (p : AppState) (s : PlainMessage) (numbers : List ℕ) (now : Now) → s ≡ message_in numbers → StateRepresents a p → is_due a s ≡ true

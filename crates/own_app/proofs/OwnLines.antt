@@ -1,6 +1,7 @@
 -- What the application owes the laws of a trace, and the trace of a node with it.
-use Rattle.own_app.proofs.Prelude.{All, All-append, All-cons, All-drop, All-head, All-nil, All-tail, AppState, Bool, FollowsPagesAt, IsByte, IsMessage, IsOwnStep, IsPrefixOf, IsSteady, IsU32, List, [], MayWant, Now, AbstractNode, OwnSpeaksOnLines, OwnStep, OwnTraceConforms, Happens, Writes, PlainMessage, SendsBytes, Snapshot, TraceConforms, TraceEntry, IsDecoded, Addr, Nothing, Send, Close, Abort, ap, append-nil, append_assoc, arith, drop, false, false≢true, has_last, if◌then◌else◌, initial_node, inl, inr, is_next_message, is_overrun, len_left, length, ltb-false, map, message_in, messages_text, nat_lt, next_ticket, opened_in, own_lawful, own_output_model, own_sessions, own_spec, own_trace, own_want, refl, step, subst, sym, true, with_message, with_written, write_message, ◌%◌, ◌++◌, ◌==◌, ◌||◌, ◌∙◌, ◌∷◌, ◌≡◌, ◌≤◌, ◌⊎◌, ℕ}
+use Rattle.own_app.proofs.Prelude.{All, All-append, All-cons, All-drop, All-head, All-nil, All-tail, AppState, Bool, FollowsPagesAt, IsByte, IsMessage, IsOwnStep, IsPrefixOf, IsSteady, IsU32, List, [], MayWant, Now, AbstractNode, OwnSpeaksOnLines, OwnStep, OwnTraceConforms, Happens, Writes, PlainMessage, SendsBytes, Snapshot, TraceConforms, TraceEntry, IsDecoded, Addr, Nothing, Send, Close, Abort, ap, append-nil, append_assoc, arith, drop, false, false≢true, has_last, if◌then◌else◌, initial_node, inl, is_next_message, is_overrun, len_left, length, ltb-false, map, message_in, messages_text, nat_lt, next_ticket, opened_in, own_lawful, own_output_model, own_sessions, own_spec, own_trace, own_want, refl, step, subst, sym, true, with_message, with_written, write_message, ◌%◌, ◌++◌, ◌==◌, ◌||◌, ◌∙◌, ◌∷◌, ◌≡◌, ◌≤◌, ℕ}
 use Rattle.own_app.specs.declared.TheConstants.{MOST_SILENT_POLLS}
+use Rattle.app_pair.specs.Lemmas.PairLaws.{either_branch}
 use Rattle.node_laws.proofs.EveryTraceConforms.{every_step}
 use Rattle.node_laws.proofs.Steps.{Changes, IsStep, LineStep, OfNode, trace_over}
 
@@ -67,19 +68,13 @@ sends_bytes = record {
 
 -- ---- steady
 
-either_capture : (p : AppState) (k : Snapshot) (takes : Bool)
-    → ((if takes then record p { snapshots = p.snapshots ++ k ∷ [] } else p).snapshots ≡ p.snapshots)
-    ⊎ ((if takes then record p { snapshots = p.snapshots ++ k ∷ [] } else p).snapshots ≡ p.snapshots ++ k ∷ [])
-either_capture p k true = inr refl
-either_capture p k false = inl refl
-
 own_steady : IsSteady own_spec
 own_steady = record {
   lawful = own_lawful (λ p. Unit {0});
   connected_acked = λ numbers port. refl;
   connected_snapshots = λ numbers port. refl;
   newdata_snapshots = λ numbers p piece. refl;
-  prepare_snapshots = λ numbers p now. either_capture p (record { numbers = numbers; now = now }) (is_next_message (message_in numbers) p);
+  prepare_snapshots = λ numbers p now. either_branch (λ (q : AppState). q.snapshots) p (with_message numbers p now) (is_next_message (message_in numbers) p);
   acked_snapshots = λ numbers p n. refl;
   polled_snapshots = λ numbers p. refl;
   connected_numbers = λ numbers port h. All-cons IsU32 (next_ticket numbers) (drop 1 numbers) (omega arith) (All-drop IsU32 1 numbers h);
@@ -153,8 +148,8 @@ last_u32 : (last : Bool) → IsU32 (if last then 1 else 0)
 last_u32 true = omega arith
 last_u32 false = omega arith
 
-written_u32 : (message : PlainMessage) (numbers : List ℕ) → IsMessage message → All IsU32 numbers → All IsU32 (write_message message numbers)
-written_u32 message numbers is h =
+pub written_u32 : (message : PlainMessage) → IsMessage message → (numbers : List ℕ) → All IsU32 numbers → All IsU32 (write_message message numbers)
+written_u32 message is numbers h =
     let last : ℕ = if message.last then 1 else 0 in
     let text : List ℕ = message.text in
     All-cons IsU32 (opened_in numbers) (message.to ∷ message.number ∷ message.taken ∷ last ∷ text) (opened_u32 numbers h)
@@ -169,7 +164,7 @@ all_steps own (Happens event ∷ steps) h =
     (all_steps own steps (All-tail (IsOwnStep own) (Happens event) steps h))
 all_steps own (Writes message ∷ steps) h =
     All-cons (IsStep own) (Changes (write_message message)) (steps_of steps)
-    (λ numbers are. written_u32 message numbers (All-head (IsOwnStep own) (Writes message) steps h) are)
+    (written_u32 message (All-head (IsOwnStep own) (Writes message) steps h))
     (all_steps own steps (All-tail (IsOwnStep own) (Writes message) steps h))
 
 pub own_conforms : OwnTraceConforms

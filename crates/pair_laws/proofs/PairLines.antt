@@ -1,20 +1,19 @@
 -- What a pair owes the laws of a trace, and its trace.
 use Rattle.std.specs.List.{All}
-use Rattle.std.proofs.Common.{◌≡◌, ◌⊎◌, inl, inr, ℕ, ◌==◌, ◌&&◌, ◌<◌, ◌≤◌, Bool, true, false, if◌then◌else◌, List, [], ◌∷◌, ◌++◌, length, map, refl, sym, ap, ◌∙◌, subst}
+use Rattle.std.proofs.Common.{rules, ◌≡◌, ℕ, ◌==◌, ◌&&◌, ◌≤◌, Bool, true, false, if◌then◌else◌, List, [], ◌∷◌, ◌++◌, length, map, refl, sym, ap, ◌∙◌, subst}
 use Rattle.std.proofs.lemmas.List.{map-append}
 use Rattle.std.proofs.lemmas.Bool.{and_parts, eq-eqb, eqb-true}
 use Rattle.std.proofs.lemmas.List.Elements.{All-cons, All-head, All-nil, All-tail}
 use Rattle.uip_wire.specs.declared.addr.Addr.{Addr}
-use Rattle.app_events.specs.Prelude.{AppSpec, AppState, IsAddr, IsByte, IsLawful, IsPrefixOf, IsSnapshot, IsU32, MayWant, Pages, Snapshot}
-use Rattle.app_events.specs.declared.now.Now.{Now}
+use Rattle.app_events.specs.Prelude.{AppSpec, AppState, IsLawful, IsPrefixOf, IsSnapshot, MayWant, Pages, Snapshot}
 use Rattle.app_events.specs.declared.want.Want.TheVariants.{Close}
 use Rattle.uip_node.specs.Prelude.{AbstractNode, IsSteady, SendsBytes, initial_node, step}
-use Rattle.node_laws.specs.Prelude.{AcceptsPrefix, FollowsModelAt, FollowsPagesAt, HasOutputModel, IsPagedAt, IsDecoded, LeavesDelivered, OutputModel, TraceConforms, TraceEntry, Free, Interactive, Paged}
+use Rattle.node_laws.specs.Prelude.{AcceptsPrefix, FollowsModelAt, FollowsPagesAt, IsPagedAt, IsDecoded, LeavesDelivered, OutputModel, TraceConforms, TraceEntry, Free, Interactive, Paged}
 use Rattle.node_laws.proofs.EveryTraceConforms.{every_step}
 use Rattle.node_laws.proofs.Steps.{Changes as ChangesAll, IsStep, LineStep, OfNode, trace_over}
-use Rattle.app_pair.specs.PairNumbers.{change_own, own_numbers, with_own}
+use Rattle.app_pair.specs.PairNumbers.{change_own, own_numbers}
 use Rattle.app_pair.specs.PairSpec.{KeepsCaptures, StaysAtPort, by_port, one_of_two, own_part, own_snapshot, pair_spec, spec_at}
-use Rattle.pair_laws.specs.PairLines.{Changes, Happens, IsPairStep, PairSpeaksOnLines, PairStep, PairTraceConforms, SpeaksOnLines, own_model, own_pages, pair_model, pair_trace, with_changed}
+use Rattle.pair_laws.specs.PairLines.{Changes, Happens, IsPairStep, PairSpeaksOnLines, PairStep, PairTraceConforms, own_model, own_pages, pair_model, pair_trace, with_changed}
 use Rattle.app_pair.specs.Lemmas.NumberLaws.{own_u32, with_own_u32}
 use Rattle.app_pair.specs.Lemmas.PairLaws.{at_each_port, at_each_state, at_state, by_port_keeps, by_port_lawful_at, one_captures, one_lawful_at, pair_port, sees_acked, sees_connected, sees_newdata, sees_polled, sees_prepare}
 
@@ -125,30 +124,13 @@ both false b e f = e
 
 module _ (at : ℕ → AppSpec) (keeps : (port : ℕ) → StaysAtPort (at port)) where
   by_port_steady : ((port : ℕ) → IsSteady (at port)) → IsSteady (by_port at)
-  by_port_steady steady = record {
-    lawful = at_each_state (by_port at) (λ p. Unit {0}) (λ p s. by_port_lawful_at at keeps p (at_state (at p.port) (λ q. Unit {0}) (steady p.port).lawful p s));
-    connected_acked = λ numbers port. (steady port).connected_acked numbers port;
-    connected_snapshots = λ numbers port. (steady port).connected_snapshots numbers port;
-    newdata_snapshots = λ numbers p piece. (steady p.port).newdata_snapshots numbers p piece;
-    prepare_snapshots = λ numbers p now. (steady p.port).prepare_snapshots numbers p now;
-    acked_snapshots = λ numbers p n. (steady p.port).acked_snapshots numbers p n;
-    polled_snapshots = λ numbers p. (steady p.port).polled_snapshots numbers p;
-    connected_numbers = λ numbers port h. (steady port).connected_numbers numbers port h;
-    newdata_numbers = λ numbers p piece h. (steady p.port).newdata_numbers numbers p piece h;
-    acked_numbers = λ numbers p n h. (steady p.port).acked_numbers numbers p n h;
-    polled_numbers = λ numbers p h. (steady p.port).polled_numbers numbers p h;
-    ended_numbers = λ numbers p how h. (steady p.port).ended_numbers numbers p how h;
-  }
+  by_port_steady steady =
+      let lawful : IsLawful (by_port at) (λ p. Unit {0}) =
+      at_each_state (by_port at) (λ p. Unit {0}) (λ p s. by_port_lawful_at at keeps p (at_state (at p.port) (λ q. Unit {0}) (steady p.port).lawful p s)) in
+      search (rules, lawful, steady)
 
   by_port_bytes : ((port : ℕ) → SendsBytes (at port)) → SendsBytes (by_port at)
-  by_port_bytes bytes = record {
-    output = λ p h k. (bytes p.port).output p h k;
-    connected = λ numbers port. (bytes port).connected numbers port;
-    newdata = λ numbers p piece h k. (bytes p.port).newdata numbers p piece h k;
-    prepare = λ numbers p now h. (bytes p.port).prepare numbers p now h;
-    acked = λ numbers p n h. (bytes p.port).acked numbers p n h;
-    polled = λ numbers p h. (bytes p.port).polled numbers p h;
-  }
+  by_port_bytes bytes = search (rules, bytes)
 
   module _ (port : ℕ) where
     abbrev here_at : (AppState → Bool) → AppState → Bool

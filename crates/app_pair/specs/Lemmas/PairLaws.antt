@@ -133,7 +133,8 @@ module _ (second : Bool) where
 -- ---- captures
 
 -- what is seen of one of two values is what is seen of the one or of the other
-pub either_branch : {A B : Type 0} (see : A → B) (x y : A) (b : Bool) → (see (if b then y else x) ≡ see x) ⊎ (see (if b then y else x) ≡ see y)
+pub either_branch : {A B : Type 0} (see : A → B) (x y : A) (b : Bool)
+    → (see (if b then y else x) ≡ see x) ⊎ (see (if b then y else x) ≡ see y)
 either_branch see x y true = inr refl
 either_branch see x y false = inl refl
 
