@@ -11,17 +11,17 @@
  * THIS IS NOT THE uip.h OF uIP 1.0 or Contiki, whose file and many of whose names are the same. Keep their folders off
  * the include path of each file that includes this one: macros of uIP would replace these calls.
  *
- * The manual is docs/FIRMWARE.md: FIRMWARE "Sleep", for example, is its section of that name. Read docs/LIMITS.md before
- * you connect a node: there is no authentication, no encryption, no DHCP and no POST, sequence numbers are predictable,
- * and ten SYNs that are never acknowledged occupy all ten connections for 51 s.
+ * The manual is docs/FIRMWARE.md: FIRMWARE "Sleep", for example, is its section of that name. Read docs/LIMITS.md
+ * before you connect a node: there is no authentication, no encryption, no DHCP and no POST, sequence numbers are
+ * predictable, and ten SYNs that are never acknowledged occupy all ten connections for 51 s.
  *
- * WORDS. A device is one node: its address, connections and values. A site is a folder of pages, and its image the array
- * that tools/pack.py makes of it. A value is a short text that the program sets and pages show. A slot is one of the ten
- * places for a connection. A tick is ten periodic calls, one for each slot; one tick is due each half second. A sink is
- * your function that takes output. Output is pending if it did not fit into `out`: uip_drain writes it.
+ * WORDS. A device is one node: its address, connections and values. A site is a folder of pages, and its image the
+ * array that tools/pack.py makes of it. A value is a short text that the program sets and pages show. A slot is one of
+ * the ten places for a connection. A tick is ten periodic calls, one for each slot; one tick is due each half second. A
+ * sink is your function that takes output. Output is pending if it did not fit into `out`: uip_drain writes it.
  *
- * LINKS. Choose a row, and link exactly one library (FIRMWARE "Link the library"). One device of uip_open can serve
- * the first two rows at once. The libraries for Cortex-M link with -mfloat-abi=soft or softfp; none is supplied for hard.
+ * LINKS. Choose a row, and link exactly one library (FIRMWARE "Link the library"). One device of uip_open can serve the
+ * first two rows at once. The libraries for Cortex-M link with -mfloat-abi=soft or softfp; none is supplied for hard.
  *
  *     link        open            what arrives     each half second    library, in lib/TARGET of a release
  *     serial      uip_open        uip_feed_all     uip_tick_all        libuip_c.a
@@ -88,17 +88,17 @@
  *        - A call and a sink must run to their end: no longjmp, no exception, no deleted task.
  *        - An inline function is one call. While it runs, only its sink may use the device, by the calls that uip_sink
  *          lists.
- *        - Under an RTOS (not tried yet: FIRMWARE "RTOS") let one task make all calls. Or hold a mutex of the device over
- *          each call; a sink then runs with the mutex held.
+ *        - Under an RTOS (not tried yet: FIRMWARE "RTOS") let one task make all calls. Or hold a mutex of the device
+ *          over each call; a sink then runs with the mutex held.
  *   4. No pointer may be null; for 0 bytes pass any valid address. Only `to` of the inline functions may be null. Each
  *      input must be readable over its whole length (`own`, `mask` and `router` have 4 bytes, `mac` 6). Areas of bytes
  *      may have any alignment. On 32 bits no object may have 2^31 bytes or more.
  *   5. `out`, and `frame` of the calls for frames, must be writable over the whole of `room`. It may share no byte
- *      with the device or another argument, except that it may lie in what `to` points to. Until the call returns nothing
- *      else may read or write it, also no DMA. The sink of an inline function may read it, also by a DMA that ends
+ *      with the device or another argument, except that it may lie in what `to` points to. Until the call returns
+ *      nothing else may read or write it, also no DMA. The sink of an inline function may read it, also by a DMA that ends
  *      before the sink returns.
- *   6. The image must stay at its address, unchanged, until uip_close: it is read in place. To replace it, also in flash,
- *      close the device, write the new image, and open again. Connections, values and hits are then lost.
+ *   6. The image must stay at its address, unchanged, until uip_close: it is read in place. To replace it, also in
+ *      flash, close the device, write the new image, and open again. Connections, values and hits are then lost.
  *   7. All other input must stay unchanged until the call returns. After the call the library does not use it.
  *   8. The program must link memcpy, memmove and memset (those of your C library will do), on 32 bits libgcc or
  *      compiler-rt, and the heap (at the end of this file). Live blocks of the heap must overlap neither each other
@@ -112,10 +112,10 @@
  *
  * ERRORS. If a call fails, the device, `out`, `frame` and the counters are as before, and all other fields of the
  * result are 0 (but see uip_opened). The statuses of a call are listed in the order in which they are looked for.
- *   - Whatever bytes arrive, they cause no error. A loop that passes correct arguments, and drains what is pending before
- *     it feeds or ticks, sees only UIP_OK.
- *   - A wrong length is an error: discard a datagram of 0 or of more than UIP_MAX_DATAGRAM bytes, and a frame longer than
- *     `room`, before the call. Do not call uip_feed with 0 bytes.
+ *   - Whatever bytes arrive, they cause no error. A loop that passes correct arguments, and drains what is pending
+ *     before it feeds or ticks, sees only UIP_OK.
+ *   - A wrong length is an error: discard a datagram of 0 or of more than UIP_MAX_DATAGRAM bytes, and a frame longer
+ *     than `room`, before the call. Do not call uip_feed with 0 bytes.
  *   - Not detected: null pointers and wrong areas (rules 4 and 5).
  *   - Not reported, and harmless to memory: a wrong rate of ticks, a slot left out or called twice in a tick, and an
  *     unknown name (uip_hits and uip_query return 0).
@@ -138,8 +138,9 @@ extern "C" {
 #endif
 
 /*
- * The version of the library. Names, layouts of structures and values of enumerations stay the same in all later releases
- * 1.x; new calls and names may be added. Take header and library from one release: nothing checks that they match.
+ * The version of the library. Names, layouts of structures and values of enumerations stay the same in all later
+ * releases 1.x; new calls and names may be added. Take header and library from one release: nothing checks that they
+ * match.
  */
 #define UIP_VERSION_MAJOR 1
 #define UIP_VERSION_MINOR 1
@@ -307,8 +308,8 @@ uip_opened uip_open(uip_device *device, const unsigned char *image, size_t len, 
  */
 unsigned uip_set_value(uip_device *device, size_t number, const void *text, size_t len);
 
-/* A string literal as two arguments, without its 0: uip_hits(&device, UIP_TEXT("/lamp-on.html")). For anything else pass
- * pointer and length. */
+/* A string literal as two arguments, without its 0: uip_hits(&device, UIP_TEXT("/lamp-on.html")). For anything else
+ * pass pointer and length. */
 #define UIP_TEXT(literal) ("" literal), sizeof("" literal) - 1
 
 /*
@@ -337,12 +338,12 @@ uip_number uip_hits(uip_device *device, const void *name, size_t len);
  * or no file has that name.
  * Status: UIP_BAD_ARGUMENT, UIP_NO_DEVICE, UIP_OK.
  *
- * Anyone who reaches the device can send a text: check it before use. The device keeps one query: the last, of
- * whatever file. One uip_feed_all can bring several: to miss none, call this in its sink, at each piece, and otherwise
- * after each uip_feed, uip_input or uip_input_frame. A query is kept if it has at most 64 letters, digits and
- * -_.~%&=+. The whole target of the request must be in the first segment with data of its connection, as browsers send
- * it. Any other query is dropped, and the one before stays. Nothing is decoded. FIRMWARE "Settings from a browser" has the form and a program, and "Queries in
- * detail" the rest.
+ * Anyone who reaches the device can send a text: check it before use. The device keeps one query: the last, of whatever
+ * file. One uip_feed_all can bring several: to miss none, call this in its sink, at each piece, and otherwise after
+ * each uip_feed, uip_input or uip_input_frame. A query is kept if it has at most 64 letters, digits and -_.~%&=+. The
+ * whole target of the request must be in the first segment with data of its connection, as browsers send it. Any other
+ * query is dropped, and the one before stays. Nothing is decoded. FIRMWARE "Settings from a browser" has the form and a
+ * program, and "Queries in detail" the rest.
  */
 uip_query_text uip_query(uip_device *device, const void *name, size_t len, void *out, size_t room);
 
@@ -371,8 +372,8 @@ uip_query_text uip_query(uip_device *device, const void *name, size_t len, void 
  * A function of yours that takes a piece of output: it writes it to the serial port, or gives it to the controller.
  *
  *   to            the pointer that the caller of the inline function gave; it may be null
- *   bytes, len    on a serial line a piece of the output, 1 byte or more; on the other links a whole datagram or frame. It
- *                 lies in `out` or `frame`, and is valid until the sink returns
+ *   bytes, len    on a serial line a piece of the output, 1 byte or more; on the other links a whole datagram or frame.
+ *                 It lies in `out` or `frame`, and is valid until the sink returns
  *
  * The inline functions call it with each piece, in order. It must return. It accepts the whole piece, waiting until
  * there is room, or discards bytes if the line is down: that frame is lost, as on the line, and TCP sends it again.
@@ -583,9 +584,10 @@ UIP_INLINE unsigned uip_tick_datagrams(uip_device *device, unsigned char *out, s
  * a received frame counts the check sequence, subtract 4; a program that forgets it loses only the longest frames.
  *
  * `frame` may have any alignment, and be cached or not. On a Cortex-M it must be Normal memory, not Device or Strongly
- * ordered (rule 10). A call may write anywhere in `frame` up to `room`, also if `written` is 0. With a data cache give it
- * whole lines. Clean and invalidate all of it before a DMA receives into it, invalidate it after that DMA, and clean the
- * first `written` bytes before a DMA sends them. With several buffers, go on with another one while this one is sent.
+ * ordered (rule 10). A call may write anywhere in `frame` up to `room`, also if `written` is 0. With a data cache give
+ * it whole lines. Clean and invalidate all of it before a DMA receives into it, invalidate it after that DMA, and clean
+ * the first `written` bytes before a DMA sends them. With several buffers, go on with another one while this one is
+ * sent.
  *
  * The program on Ethernet. Before main calls uip_open_ether, 5,280 bytes of stack must be free on a Cortex-M4 (rule 9).
  *
@@ -721,11 +723,11 @@ uip_number uip_counter(uip_device *device, size_t number);
  * Status: UIP_NO_DEVICE, UIP_OK.
  *
  * To sleep: drain what is pending. If `number` is 1, a tick sends nothing: sleep until something arrives, however long.
- * After it make one tick, whatever time has passed; half_a_second_passed above does so. If `number` is 0, a sleep harms no
- * memory, but no connection is served or timed out meanwhile. It stays 0 for 60 s after a page (TIME_WAIT), unless the
- * peer closed first, and for 20 ticks while an ESTABLISHED connection receives no data. In a sleep ARP addresses do not
- * age: a host that changed its hardware address meanwhile is reached again when it sends an ARP packet to the node. See
- * FIRMWARE "Sleep".
+ * After it make one tick, whatever time has passed; half_a_second_passed above does so. If `number` is 0, a sleep harms
+ * no memory, but no connection is served or timed out meanwhile. It stays 0 for 60 s after a page (TIME_WAIT), unless
+ * the peer closed first, and for 20 ticks while an ESTABLISHED connection receives no data. In a sleep ARP addresses do
+ * not age: a host that changed its hardware address meanwhile is reached again when it sends an ARP packet to the node.
+ * See FIRMWARE "Sleep".
  */
 uip_number uip_is_idle(uip_device *device);
 
