@@ -30,7 +30,11 @@
  *                                                                      for x86_64 and aarch64 libuip_c.a has them all
  *
  * On every link: uip_set_value, uip_hits and uip_query for the pages; uip_ticks, uip_is_idle, uip_counter and
- * uip_connection to look; uip_close. A loop that never waits takes uip_feed, uip_periodic and uip_drain.
+ * uip_connection to look; uip_close. A loop that never waits makes the ten calls of a tick itself: on a serial line it
+ * takes uip_feed, uip_periodic and uip_drain, for datagrams uip_periodic_datagram, on Ethernet uip_periodic_frame.
+ *
+ * Most calls return a struct: read a field of it, as in uip_is_idle(&device).number. The inline functions,
+ * uip_set_value and uip_close return a bare status.
  *
  * A PROGRAM for a serial line (FIRMWARE "A loop that waits"). It includes site.c and heap.c: do not also compile these.
  * site.c defines site_image, SITE_IMAGE_LEN and SITE_IMAGE_FILES. The programs for the other links are above uip_input
@@ -65,7 +69,7 @@
  *     }
  *
  *     int main(void) {
- *         static unsigned char bytes[64], out[32];     // with more `bytes`, more output follows (SERIAL LINE)
+ *         static unsigned char bytes[64], out[32];     // larger `bytes` need a larger receive ring
  *         static const unsigned char own[4] = {10, 0, 0, 1};
  *         unsigned status = uip_open(&device, site_image, SITE_IMAGE_LEN, own).status;
  *         while (status == UIP_OK) {                   // nothing that arrives ends it
@@ -83,8 +87,10 @@
  *   1. Before the first call both members of a device must be 0: use UIP_INIT, or memset. If your startup code does not
  *      initialise RAM, set both to 0 at each reset, and empty the heap (heap.c: heap_used and heap_blocks to 0).
  *   2. While a device is open, only calls of this library may read or write it. Never copy it.
- *   3. Calls with one device must not overlap, also not those that read: they change it inside.
- *        - No interrupt may make a call, not even with a device of its own.
+ *   3. Make one call at a time with a device, also of those that read: they change it inside. Two threads may use two
+ *      devices at once (rule 8 for the heap).
+ *        - No interrupt may make a call, with any device: calls need much stack, and no bound on their time is known.
+ *          Let it store bytes or set a flag.
  *        - A call and a sink must run to their end: no longjmp, no exception, no deleted task.
  *        - An inline function is one call. While it runs, only its sink may use the device, by the calls that uip_sink
  *          lists.
@@ -93,9 +99,9 @@
  *   4. No pointer may be null; for 0 bytes pass any valid address. Only `to` of the inline functions may be null. Each
  *      input must be readable over its whole length (`own`, `mask` and `router` have 4 bytes, `mac` 6). Areas of bytes
  *      may have any alignment. On 32 bits no object may have 2^31 bytes or more.
- *   5. `out`, and `frame` of the calls for frames, must be writable over the whole of `room`. It may share no byte
- *      with the device or another argument, except that it may lie in what `to` points to. Until the call returns
- *      nothing else may read or write it, also no DMA. The sink of an inline function may read it, also by a DMA that ends
+ *   5. `out`, and `frame` of the calls for frames, must be writable over the whole of `room`. It may share no byte with
+ *      the device or another argument, except that it may lie in what `to` points to. Until the call returns nothing
+ *      else may read or write it, also no DMA. The sink of an inline function may read it, also by a DMA that ends
  *      before the sink returns.
  *   6. The image must stay at its address, unchanged, until uip_close: it is read in place. To replace it, also in
  *      flash, close the device, write the new image, and open again. Connections, values and hits are then lost.
@@ -112,11 +118,10 @@
  *
  * ERRORS. If a call fails, the device, `out`, `frame` and the counters are as before, and all other fields of the
  * result are 0 (but see uip_opened). The statuses of a call are listed in the order in which they are looked for.
- *   - Whatever bytes arrive, they cause no error. A loop that passes correct arguments, and drains what is pending
- *     before it feeds or ticks, sees only UIP_OK.
- *   - A wrong length is an error: discard a datagram of 0 or of more than UIP_MAX_DATAGRAM bytes, and a frame longer
- *     than `room`, before the call. Do not call uip_feed with 0 bytes.
- *   - Not detected: null pointers and wrong areas (rules 4 and 5).
+ *   - The contents of what arrives never cause an error, but a length can. Before the call discard a datagram of 0 or
+ *     of more than UIP_MAX_DATAGRAM bytes, and a frame longer than `room`. Do not call uip_feed with 0 bytes. A loop
+ *     that does so, and drains what is pending before it feeds or ticks, sees only UIP_OK.
+ *   - After opening, any other status is a fault of the program. A broken rule is not reported.
  *   - Not reported, and harmless to memory: a wrong rate of ticks, a slot left out or called twice in a tick, and an
  *     unknown name (uip_hits and uip_query return 0).
  *
@@ -298,13 +303,17 @@ uip_opened uip_open(uip_device *device, const unsigned char *image, size_t len, 
  *
  * Status: UIP_BAD_ARGUMENT (nothing is cut, the old value stays), UIP_NO_DEVICE, UIP_OK.
  *
- * In a file whose name ends in .shtml, "%! value-html 3" shows value 3, escaped for HTML. The directive ends with its
- * line, and the line feed is not shown.
- * "%! value-json 3" escapes it for a string of JSON. "%! value 3" does not escape it: if others can influence the
- * value, do not use this one, or they can put a script into your page. /index.html, the file of /, shows no values:
- * its name ends otherwise. A value that was never set is empty. Each value on a page costs a round trip, and two
- * values of one page may be of two moments. See FIRMWARE "Values and clicks", and "Values in detail" with a longer
- * `work`.
+ * Only files whose names end in .shtml show values, so NOT /index.html, which is what / shows: let that page link to
+ * one. In such a file a directive takes its line from "%!" on, with the end of the line. If value 3 is "21.5", these
+ * two lines give <p>Now 21.5&deg;C</p>:
+ *
+ *     <p>Now %! value-html 3
+ *     &deg;C</p>
+ *
+ * value-html escapes for HTML, and value-json for a string of JSON. `value` escapes nothing: if others can influence
+ * the text, do not use it, or they can put a script into your page. A value that was never set is empty. Each value on
+ * a page costs a round trip, and two values of one page may be of two moments. See FIRMWARE "Values and clicks", and
+ * "Values in detail" with a longer `work`.
  */
 unsigned uip_set_value(uip_device *device, size_t number, const void *text, size_t len);
 
@@ -321,8 +330,9 @@ unsigned uip_set_value(uip_device *device, size_t number, const void *text, size
  * Status: UIP_NO_DEVICE, UIP_OK.
  *
  * Each GET of the name counts, whatever follows a `?`; a retransmitted request counts once; a request of / counts for
- * /index.html. A browser may follow a link by itself, or twice: let a link set a state, and not toggle it. It may also
- * show a stored copy and ask nothing: FIRMWARE "Values and clicks" has the cure.
+ * /index.html. Which of two buttons was pressed last shows only if you look after each call that receives. A browser
+ * may follow a link by itself, or twice: let a link set a state, and not toggle it. It may also show a stored copy and
+ * ask nothing: FIRMWARE "Values and clicks" has the cure.
  */
 uip_number uip_hits(uip_device *device, const void *name, size_t len);
 
@@ -338,12 +348,14 @@ uip_number uip_hits(uip_device *device, const void *name, size_t len);
  * or no file has that name.
  * Status: UIP_BAD_ARGUMENT, UIP_NO_DEVICE, UIP_OK.
  *
- * Anyone who reaches the device can send a text: check it before use. The device keeps one query: the last, of whatever
- * file. One uip_feed_all can bring several: to miss none, call this in its sink, at each piece, and otherwise after
- * each uip_feed, uip_input or uip_input_frame. A query is kept if it has at most 64 letters, digits and -_.~%&=+. The
- * whole target of the request must be in the first segment with data of its connection, as browsers send it. Any other
- * query is dropped, and the one before stays. Nothing is decoded. FIRMWARE "Settings from a browser" has the form and a
- * program, and "Queries in detail" the rest.
+ * A form sends it: <form action="/set.html"><input name="level"><button>Set</button></form>. Then /set.html must be a
+ * file of the site. Anyone who reaches the device can send a text: check it before use.
+ *
+ * The device keeps one query: the last, of whatever file. One uip_feed_all can bring several: to miss none, call this
+ * in its sink, at each piece, and otherwise after each uip_feed, uip_input or uip_input_frame. A query is kept if it
+ * has at most 64 letters, digits and -_.~%&=+. The whole target of the request must be in the first segment with data
+ * of its connection, as browsers send it. Any other query is dropped, and the one before stays. Nothing is decoded.
+ * FIRMWARE "Settings from a browser" has the form and a program, and "Queries in detail" the rest.
  */
 uip_query_text uip_query(uip_device *device, const void *name, size_t len, void *out, size_t room);
 
@@ -352,9 +364,7 @@ uip_query_text uip_query(uip_device *device, const void *name, size_t len, void 
 
 /*
  * How the functions with a sink are inline. If a C90 compiler has no word for it, they are plain static functions. You
- * may define UIP_INLINE before this header, with `static`: #define UIP_INLINE static __inline. (If a compiler keeps
- * plain static functions that nobody calls, uip_tick_frames does not link with a libuip_c.a without the calls for
- * frames.)
+ * may define UIP_INLINE before this header, with `static`: #define UIP_INLINE static __inline.
  */
 #ifndef UIP_INLINE
 #if defined(__cplusplus)
@@ -723,11 +733,12 @@ uip_number uip_counter(uip_device *device, size_t number);
  * Status: UIP_NO_DEVICE, UIP_OK.
  *
  * To sleep: drain what is pending. If `number` is 1, a tick sends nothing: sleep until something arrives, however long.
- * After it make one tick, whatever time has passed; half_a_second_passed above does so. If `number` is 0, a sleep harms
- * no memory, but no connection is served or timed out meanwhile. It stays 0 for 60 s after a page (TIME_WAIT), unless
- * the peer closed first, and for 20 ticks while an ESTABLISHED connection receives no data. In a sleep ARP addresses do
- * not age: a host that changed its hardware address meanwhile is reached again when it sends an ARP packet to the node.
- * See FIRMWARE "Sleep".
+ * However long it was, make at most one tick after it, and only if half a second has passed: half_a_second_passed above
+ * does so. (If its clock is off in the sleep, the tick comes later, which does no harm.) If `number` is 0, a
+ * sleep harms no memory, but no connection is served or timed out meanwhile. It stays 0 for 60 s after a page
+ * (TIME_WAIT), unless the peer closed first, and for 20 ticks while an ESTABLISHED connection receives no data. In a
+ * sleep ARP addresses do not age: a host that changed its hardware address meanwhile is reached again when it sends an
+ * ARP packet to the node. See FIRMWARE "Sleep".
  */
 uip_number uip_is_idle(uip_device *device);
 
@@ -748,7 +759,8 @@ uip_row uip_connection(uip_device *device, size_t slot);
  * Status: UIP_NO_DEVICE, UIP_OK.
  *
  * Sends nothing: open connections and pending output are dropped (a frame on the line may be cut), and values and hits
- * are gone. The device can be opened again: then set to 0 what your program remembers of hits.
+ * are gone. The device can be opened again: then set to 0 what your program remembers of uip_hits and of the `hit` of
+ * uip_query.
  */
 unsigned uip_close(uip_device *device);
 
