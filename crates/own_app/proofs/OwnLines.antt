@@ -148,8 +148,8 @@ last_u32 : (last : Bool) → IsU32 (if last then 1 else 0)
 last_u32 true = omega arith
 last_u32 false = omega arith
 
-pub written_u32 : (message : PlainMessage) → IsMessage message → (numbers : List ℕ) → All IsU32 numbers → All IsU32 (write_message message numbers)
-written_u32 message is numbers h =
+pub written_u32 : (message : PlainMessage) (numbers : List ℕ) → IsMessage message → All IsU32 numbers → All IsU32 (write_message message numbers)
+written_u32 message numbers is h =
     let last : ℕ = if message.last then 1 else 0 in
     let text : List ℕ = message.text in
     All-cons IsU32 (opened_in numbers) (message.to ∷ message.number ∷ message.taken ∷ last ∷ text) (opened_u32 numbers h)
@@ -164,7 +164,7 @@ all_steps own (Happens event ∷ steps) h =
     (all_steps own steps (All-tail (IsOwnStep own) (Happens event) steps h))
 all_steps own (Writes message ∷ steps) h =
     All-cons (IsStep own) (Changes (write_message message)) (steps_of steps)
-    (written_u32 message (All-head (IsOwnStep own) (Writes message) steps h))
+    (λ numbers are. written_u32 message numbers (All-head (IsOwnStep own) (Writes message) steps h) are)
     (all_steps own steps (All-tail (IsOwnStep own) (Writes message) steps h))
 
 pub own_conforms : OwnTraceConforms

@@ -57,27 +57,28 @@ module _ {A S : Type 0} (g : Ghosts A S) (seen : Connection → Connection) wher
 
 -- ---- states
 
+-- what holds of each state holds of all
+by_state : (P : State → Type 0) → P Closed → P SynRcvd → P Established → P CloseWait → P FinWait1 → P FinWait2 → P Closing → P TimeWait → P LastAck → (s : State) → P s
+by_state P closed syn_rcvd established close_wait fin_wait_1 fin_wait_2 closing time_wait last_ack s = elim s as P [
+  | Closed ↦ closed
+  | SynRcvd ↦ syn_rcvd
+  | Established ↦ established
+  | CloseWait ↦ close_wait
+  | FinWait1 ↦ fin_wait_1
+  | FinWait2 ↦ fin_wait_2
+  | Closing ↦ closing
+  | TimeWait ↦ time_wait
+  | LastAck ↦ last_ack
+]
+
 open_live : (s : State) → is_open_state s ≡ true → is_live s ≡ true
-open_live Closed e = absurd (false≢true e)
-open_live SynRcvd e = refl
-open_live Established e = refl
-open_live CloseWait e = refl
-open_live FinWait1 e = refl
-open_live FinWait2 e = refl
-open_live Closing e = refl
-open_live TimeWait e = refl
-open_live LastAck e = refl
+open_live =
+    by_state (λ s. is_open_state s ≡ true → is_live s ≡ true) (λ e. absurd (false≢true e)) (λ e. refl) (λ e. refl) (λ e. refl) (λ e. refl) (λ e. refl) (λ e. refl) (λ e. refl) (λ e. refl)
 
 pub established_is : (s : State) → is_established s ≡ true → s ≡ Established
-established_is Closed e = absurd (false≢true e)
-established_is SynRcvd e = absurd (false≢true e)
-established_is Established e = refl
-established_is CloseWait e = absurd (false≢true e)
-established_is FinWait1 e = absurd (false≢true e)
-established_is FinWait2 e = absurd (false≢true e)
-established_is Closing e = absurd (false≢true e)
-established_is TimeWait e = absurd (false≢true e)
-established_is LastAck e = absurd (false≢true e)
+established_is =
+    by_state (λ s. is_established s ≡ true → s ≡ Established) (λ e. absurd (false≢true e)) (λ e. absurd (false≢true e)) (λ e. refl) (λ e. absurd (false≢true e))
+    (λ e. absurd (false≢true e)) (λ e. absurd (false≢true e)) (λ e. absurd (false≢true e)) (λ e. absurd (false≢true e)) (λ e. absurd (false≢true e))
 
 established_open : (s : State) → is_established s ≡ true → is_open_state s ≡ true
 established_open s e = ap (λ x. is_open_state x) (established_is s e)
@@ -170,15 +171,9 @@ pub no_port : (a : Connection) → is_open_state a.state ≡ false → 0 ≡ por
 no_port a e = ap (λ (b : Bool). if b then a.sockets.own_port.0 else 0) (sym e)
 
 not_established : (s : State) → is_open_state s ≡ false → false ≡ is_established s
-not_established Closed e = refl
-not_established SynRcvd e = refl
-not_established Established e = absurd (false≢true (sym e))
-not_established CloseWait e = refl
-not_established FinWait1 e = refl
-not_established FinWait2 e = refl
-not_established Closing e = refl
-not_established TimeWait e = refl
-not_established LastAck e = refl
+not_established =
+    by_state (λ s. is_open_state s ≡ false → false ≡ is_established s) (λ e. refl) (λ e. refl) (λ e. absurd (false≢true (sym e))) (λ e. refl) (λ e. refl) (λ e. refl)
+    (λ e. refl) (λ e. refl) (λ e. refl)
 
 pub not_ready : (a : Connection) → is_open_state a.state ≡ false → false ≡ is_ready_at a
 not_ready a e =
