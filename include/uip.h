@@ -1,9 +1,9 @@
 /*
  * Lowunbisa for C: one IPv4 node with ping and a web server, on a serial line (SLIP, RFC 1055), on any link that
- * carries datagrams, or on Ethernet with ARP. The program sets values that the pages show (uip_set_value), counts the
- * requests of a file, so that a link is a button (uip_hits), and reads the last query of a form (uip_query). The web
- * server at port 80 is the only application of this library: for one of your own on Ethernet see uip_app.h (without
- * web server) and uip_both.h (with it).
+ * carries datagrams, or on Ethernet with ARP. The program sets values that the pages show (uip_set_value). It reads how
+ * often a file was requested, so that a link is a button (uip_hits), and the last query of a form (uip_query). The web
+ * server at port 80 is the only application of this library: for one of your own on Ethernet see uip_app.h (without web
+ * server) and uip_both.h (with it).
  *
  * SPDX-License-Identifier: MIT OR Apache-2.0
  * Copyright 2026 The Lowunbisa authors. Each binary contains a run-time library without a stated licence: see LICENSE.
@@ -53,7 +53,7 @@
  *
  *     static uip_device device = UIP_INIT;
  *
- *     int half_a_second_passed(void) {                 // 1 for each tick that is due; after a stall of 1.5 s once
+ *     int half_a_second_passed(void) {                 // 1 if a tick is due. After 1.5 s or more: 1 once
  *         static unsigned last;
  *         unsigned now = milliseconds();
  *         if (now - last < 500) return 0;
@@ -61,17 +61,20 @@
  *         return 1;
  *     }
  *
- *     void work(void) {
- *         static unsigned seen;                        // a link to /lamp-on.html, a file of the site, is a button:
- *         unsigned hits = uip_hits(&device, UIP_TEXT("/lamp-on.html")).number;
- *         if (hits != seen) { seen = hits; lamp(1); }
+ *     void work(void) {                                // links to two files of the site are two buttons:
+ *         static unsigned on, off;
+ *         unsigned now_on = uip_hits(&device, UIP_TEXT("/lamp-on.html")).number;
+ *         unsigned now_off = uip_hits(&device, UIP_TEXT("/lamp-off.html")).number;
+ *         if (now_on != on) { on = now_on; lamp(1); }
+ *         if (now_off != off) { off = now_off; lamp(0); }
  *         uip_set_value(&device, 3, UIP_TEXT("21.5")); // "%! value-html 3" in a file .shtml becomes 21.5
  *     }
  *
  *     int main(void) {
  *         static unsigned char bytes[64], out[32];     // larger `bytes` need a larger receive ring
  *         static const unsigned char own[4] = {10, 0, 0, 1};
- *         unsigned status = uip_open(&device, site_image, SITE_IMAGE_LEN, own).status;
+ *         uip_opened opened = uip_open(&device, site_image, SITE_IMAGE_LEN, own);
+ *         unsigned status = opened.status;             // UIP_BAD_IMAGE: opened.word names the fault
  *         while (status == UIP_OK) {                   // nothing that arrives ends it
  *             size_t len = read_serial(bytes, sizeof bytes);
  *             status = uip_feed_all(&device, bytes, len, out, sizeof out, write_serial, 0);
@@ -87,7 +90,7 @@
  *   1. Before the first call both members of a device must be 0: use UIP_INIT, or memset. If your startup code does not
  *      initialise RAM, set both to 0 at each reset, and empty the heap (heap.c: heap_used and heap_blocks to 0).
  *   2. While a device is open, only calls of this library may read or write it. Never copy it.
- *   3. Make one call at a time with a device, also of those that read: they change it inside. Two threads may use two
+ *   3. Make one call at a time with a device. Calls that read count too: they change it inside. Two threads may use two
  *      devices at once (rule 8 for the heap).
  *        - No interrupt may make a call, with any device: calls need much stack, and no bound on their time is known.
  *          Let it store bytes or set a flag.
@@ -115,18 +118,20 @@
  *      on a Cortex-M4. FIRMWARE "Targets" has each, and "Stack" how to compute yours.
  *  10. The processor must be set up as FIRMWARE "Targets" states for yours. For example on a Cortex-M4, M7 or M33
  *      CCR.UNALIGN_TRP is 0, and stack, heap, image and all areas that are passed lie in Normal memory.
+ * Undefined too: a null `block` of rattle_alloc, a header and a library of two releases, a header of uIP in the same
+ * file, and the compiler's -fpcc-struct-return and -freg-struct-return.
  *
  * ERRORS. If a call fails, the device, `out`, `frame` and the counters are as before, and all other fields of the
  * result are 0 (but see uip_opened). The statuses of a call are listed in the order in which they are looked for.
- *   - The contents of what arrives never cause an error, but a length can. Before the call discard a datagram of 0 or
- *     of more than UIP_MAX_DATAGRAM bytes, and a frame longer than `room`. Do not call uip_feed with 0 bytes. A loop
- *     that does so, and drains what is pending before it feeds or ticks, sees only UIP_OK.
+ *   - What arrives never causes an error by its contents, only by its length. Before the call discard a datagram of 0
+ *     or of more than UIP_MAX_DATAGRAM bytes, and a frame longer than `room`. Call uip_feed with 1 byte or more. Drain
+ *     what is pending before you feed or tick. A loop that keeps to these three sees only UIP_OK after opening.
  *   - After opening, any other status is a fault of the program. A broken rule is not reported.
  *   - Not reported, and harmless to memory: a wrong rate of ticks, a slot left out or called twice in a tick, and an
  *     unknown name (uip_hits and uip_query return 0).
  *
- * TIME. Functions that are not inline never wait, and after opening they take no memory. Opening reads the whole
- * image; any other handles at most one datagram, but no bound on its time is known. An inline function waits as long
+ * TIME. Functions that are not inline never wait, and after opening they take no memory. Opening reads the whole image.
+ * Any other of them handles at most one datagram, but no bound on its time is known. An inline function waits as long
  * as its sink does.
  */
 #ifndef LOWUNBISA_UIP_H
@@ -143,9 +148,9 @@ extern "C" {
 #endif
 
 /*
- * The version of the library. Names, layouts of structures and values of enumerations stay the same in all later
- * releases 1.x; new calls and names may be added. Take header and library from one release: nothing checks that they
- * match.
+ * The version of the library. A program that compiles with this header compiles with that of any later release 1.x:
+ * names, layouts of structures and values of enumerations stay. Compile it anew with each release, since sizes such as
+ * UIP_MEMORY may change. Header and library must be of one release: nothing checks that they match.
  */
 #define UIP_VERSION_MAJOR 1
 #define UIP_VERSION_MINOR 1
@@ -266,8 +271,8 @@ typedef struct uip_query_text { unsigned status; unsigned hit; size_t len; } uip
  *   peer, port    the address, first byte first, and the TCP port of the peer (a number, not in network byte order)
  *   tries         how often the outstanding segment was sent again; 0 if none is outstanding
  *   count         one of three:
- *                 - if a segment is outstanding, the ticks that pass before the one that sends it again or resets the
- *                   connection (0: the next tick does);
+ *                 - if a segment is outstanding, the number of ticks that do nothing yet: the next one after them sends
+ *                   the segment again, or resets the connection;
  *                 - in FIN_WAIT_2 and TIME_WAIT, the ticks spent there, of 120;
  *                 - else 0: the idle time of an ESTABLISHED connection is not shown
  *   waiting       1 if a segment is outstanding, else 0
@@ -330,9 +335,13 @@ unsigned uip_set_value(uip_device *device, size_t number, const void *text, size
  * Status: UIP_NO_DEVICE, UIP_OK.
  *
  * Each GET of the name counts, whatever follows a `?`; a retransmitted request counts once; a request of / counts for
- * /index.html. Which of two buttons was pressed last shows only if you look after each call that receives. A browser
- * may follow a link by itself, or twice: let a link set a state, and not toggle it. It may also show a stored copy and
- * ask nothing: FIRMWARE "Values and clicks" has the cure.
+ * /index.html. Which of two buttons was pressed last shows only if you look after each request: after each uip_feed,
+ * uip_input or uip_input_frame, and with uip_feed_all in its sink, at each piece. A browser may follow a link by
+ * itself, or twice: let a link set a state, and not toggle it. It may also show a stored copy and ask nothing. Against
+ * that give the link a query that your program changes, in a file .shtml:
+ *
+ *     <a href="/lamp-on.html?%! value 5
+ *     ">on</a>
  */
 uip_number uip_hits(uip_device *device, const void *name, size_t len);
 
@@ -349,7 +358,8 @@ uip_number uip_hits(uip_device *device, const void *name, size_t len);
  * Status: UIP_BAD_ARGUMENT, UIP_NO_DEVICE, UIP_OK.
  *
  * A form sends it: <form action="/set.html"><input name="level"><button>Set</button></form>. Then /set.html must be a
- * file of the site. Anyone who reaches the device can send a text: check it before use.
+ * file of the site, or a .shtml. The reply may be made before your program reads the query: let that file link to the
+ * page that shows the setting. Anyone who reaches the device can send a text: check it before use.
  *
  * The device keeps one query: the last, of whatever file. One uip_feed_all can bring several: to miss none, call this
  * in its sink, at each piece, and otherwise after each uip_feed, uip_input or uip_input_frame. A query is kept if it
@@ -386,9 +396,10 @@ uip_query_text uip_query(uip_device *device, const void *name, size_t len, void 
  *                 It lies in `out` or `frame`, and is valid until the sink returns
  *
  * The inline functions call it with each piece, in order. It must return. It accepts the whole piece, waiting until
- * there is room, or discards bytes if the line is down: that frame is lost, as on the line, and TCP sends it again.
- * Of the calls with this device it may make uip_set_value and those that read: uip_ticks, uip_counter, uip_is_idle,
- * uip_connection, uip_hits and uip_query. It may make no other.
+ * there is room, or discards bytes if the line is down: that frame is lost, as on the line, and TCP sends it again. If
+ * your cache functions want a pointer without const, cast it. Of the calls with this device it may make uip_set_value
+ * and those that read: uip_ticks, uip_counter, uip_is_idle, uip_connection, uip_hits and uip_query. It may make no
+ * other.
  */
 typedef void (*uip_sink)(void *to, const unsigned char *bytes, size_t len);
 
@@ -401,8 +412,8 @@ typedef void (*uip_sink)(void *to, const unsigned char *bytes, size_t len);
  *
  * If your write may wait, uip_feed_all and uip_tick_all, below, are all that you need. Feed a watchdog in the sink.
  * While the program writes, the receive ring can overflow; TCP then sends the lost data again. Begin with a ring of
- * 512 bytes. One pass of the program above writes at most 36,024 bytes (3.1 s at 115,200 bits a second): a ring with
- * that much free when the writing begins loses nothing.
+ * 512 bytes. One pass of the program above writes at most 36,024 bytes, in 3.1 s at 115,200 bits a second. As many can
+ * arrive meanwhile, and TCP repeats what the ring cannot hold.
  *
  * A product should not wait: take examples/common/step.c, which calls uip_feed, uip_periodic and uip_drain, with a
  * ring of 6,004 bytes (FIRMWARE "A loop that never waits" and "How much to buffer"). FIRMWARE "Connect it to a PC" has
@@ -501,8 +512,8 @@ UIP_INLINE unsigned uip_tick_all(uip_device *device, unsigned char *out, size_t 
 }
 
 /*
- * Passes the output of a uip_feed or uip_periodic of your own to `sink`, and then all that is pending. For a serial
- * line.
+ * Passes the output of a uip_feed or uip_periodic that you have called to `sink`, and then all that is pending. For a
+ * serial line.
  *
  *   done         the result of that call; if done.consumed is less than the input, feed the rest afterwards
  *   out, room    the area of that call
@@ -593,11 +604,12 @@ UIP_INLINE unsigned uip_tick_datagrams(uip_device *device, unsigned char *out, s
  * pass `mac` and broadcast, and turn its insertion of checksums off: the library writes all checksums. If the length of
  * a received frame counts the check sequence, subtract 4; a program that forgets it loses only the longest frames.
  *
- * `frame` may have any alignment, and be cached or not. On a Cortex-M it must be Normal memory, not Device or Strongly
- * ordered (rule 10). A call may write anywhere in `frame` up to `room`, also if `written` is 0. With a data cache give
- * it whole lines. Clean and invalidate all of it before a DMA receives into it, invalidate it after that DMA, and clean
- * the first `written` bytes before a DMA sends them. With several buffers, go on with another one while this one is
- * sent.
+ * A call may write anywhere in `frame` up to `room`, also if `written` is 0. Without a data cache, and in memory that
+ * is not cached, `frame` may have any alignment. On a Cortex-M it must be Normal memory (not cached: TEX 1, C 0, B 0),
+ * and neither Device nor Strongly ordered memory (rule 10). If it is cached, its start and its size must be multiples
+ * of the cache line. Then clean and invalidate all of it before a DMA receives into it, invalidate it after that DMA,
+ * and clean the first `written` bytes before a DMA sends them. With several buffers, go on with another one while this
+ * one is sent.
  *
  * The program on Ethernet. Before main calls uip_open_ether, 5,280 bytes of stack must be free on a Cortex-M4 (rule 9).
  *
@@ -619,7 +631,8 @@ UIP_INLINE unsigned uip_tick_datagrams(uip_device *device, unsigned char *out, s
  *     int main(void) {
  *         static const unsigned char own[4] = {10, 0, 0, 1}, mac[6] = {2, 0, 0, 0, 0, 1};
  *         static const unsigned char mask[4] = {255, 255, 255, 0}, router[4] = {10, 0, 0, 254};
- *         unsigned status = uip_open_ether(&device, site_image, SITE_IMAGE_LEN, own, mac, mask, router).status;
+ *         uip_opened opened = uip_open_ether(&device, site_image, SITE_IMAGE_LEN, own, mac, mask, router);
+ *         unsigned status = opened.status;
  *         while (status == UIP_OK) {
  *             size_t len = mac_receive(frame, sizeof frame);
  *             if (len) {
@@ -732,9 +745,9 @@ uip_number uip_counter(uip_device *device, size_t number);
  *
  * Status: UIP_NO_DEVICE, UIP_OK.
  *
- * To sleep: drain what is pending. If `number` is 1, a tick sends nothing: sleep until something arrives, however long.
- * However long it was, make at most one tick after it, and only if half a second has passed: half_a_second_passed above
- * does so. (If its clock is off in the sleep, the tick comes later, which does no harm.) If `number` is 0, a
+ * To sleep: drain what is pending. If `number` is 1, a tick sends nothing, and you may sleep until something arrives.
+ * Afterwards make at most one tick, and only if half a second has passed: half_a_second_passed above does so. (If
+ * milliseconds() does not count in the sleep, the tick comes later, which does no harm.) If `number` is 0, a
  * sleep harms no memory, but no connection is served or timed out meanwhile. It stays 0 for 60 s after a page
  * (TIME_WAIT), unless the peer closed first, and for 20 ticks while an ESTABLISHED connection receives no data. In a
  * sleep ARP addresses do not age: a host that changed its hardware address meanwhile is reached again when it sends an
@@ -788,8 +801,8 @@ void rattle_dealloc(void *block);
 /*
  * The heap of one device, in bytes, for an image of `files` files (1 or more), on every target. UIP_MEMORY_ETHER is for
  * a device on Ethernet: it is less, since the frame that is received lies in your buffer. The length of the image does
- * not count. For several devices add theirs. Add what your allocator
- * adds to each of the six blocks of a device. Both have casts, and are not for #if.
+ * not count. For several devices add theirs. A device has six blocks: add what your allocator adds to each
+ * (examples/common/heap.c adds nothing). Both have casts, and are not for #if.
  */
 #define UIP_ROUNDED(len) (((size_t)(len) + 15) / 16 * 16)
 #define UIP_MEMORY(files) \
