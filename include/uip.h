@@ -397,7 +397,7 @@ uip_query_text uip_query(uip_device *device, const void *name, size_t len, void 
  *
  * The inline functions call it with each piece, in order. It must return. It accepts the whole piece, waiting until
  * there is room, or discards bytes if the line is down: that frame is lost, as on the line, and TCP sends it again. If
- * your cache functions want a pointer without const, cast it. Of the calls with this device it may make uip_set_value
+ * your cache functions take a pointer without const, cast it. Of the calls with this device it may make uip_set_value
  * and those that read: uip_ticks, uip_counter, uip_is_idle, uip_connection, uip_hits and uip_query. It may make no
  * other.
  */
