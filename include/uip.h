@@ -21,7 +21,8 @@
  * sink is your function that takes output. Output is pending if it did not fit into `out`: uip_drain writes it.
  *
  * LINKS. Choose a row, and link exactly one library (FIRMWARE "Link the library"). One device of uip_open can serve the
- * first two rows at once. The libraries for Cortex-M link with -mfloat-abi=soft or softfp; none is supplied for hard.
+ * first two rows at once, with one call for each slot in each tick (FIRMWARE "Two links of one device"). The libraries
+ * for Cortex-M link with -mfloat-abi=soft or softfp; none is supplied for hard.
  *
  *     link        open            what arrives     each half second    library, in lib/TARGET of a release
  *     serial      uip_open        uip_feed_all     uip_tick_all        libuip_c.a
@@ -66,7 +67,7 @@
  *         unsigned now_on = uip_hits(&device, UIP_TEXT("/lamp-on.html")).number;
  *         unsigned now_off = uip_hits(&device, UIP_TEXT("/lamp-off.html")).number;
  *         if (now_on != on) { on = now_on; lamp(1); }
- *         if (now_off != off) { off = now_off; lamp(0); }
+ *         if (now_off != off) { off = now_off; lamp(0); }    // both since the last pass: off wins (uip_hits)
  *         uip_set_value(&device, 3, UIP_TEXT("21.5")); // "%! value-html 3" in a file .shtml becomes 21.5
  *     }
  *
@@ -90,8 +91,8 @@
  *   1. Before the first call both members of a device must be 0: use UIP_INIT, or memset. If your startup code does not
  *      initialise RAM, set both to 0 at each reset, and empty the heap (heap.c: heap_used and heap_blocks to 0).
  *   2. While a device is open, only calls of this library may read or write it. Never copy it.
- *   3. Make one call at a time with a device. Calls that read count too: they change it inside. Two threads may use two
- *      devices at once (rule 8 for the heap).
+ *   3. Make one call at a time with a device. A call that only reads is a call too: it changes the device inside. Two
+ *      threads may use two devices at once (rule 8 for the heap).
  *        - No interrupt may make a call, with any device: calls need much stack, and no bound on their time is known.
  *          Let it store bytes or set a flag.
  *        - A call and a sink must run to their end: no longjmp, no exception, no deleted task.
@@ -126,13 +127,15 @@
  *   - What arrives never causes an error by its contents, only by its length. Before the call discard a datagram of 0
  *     or of more than UIP_MAX_DATAGRAM bytes, and a frame longer than `room`. Call uip_feed with 1 byte or more. Drain
  *     what is pending before you feed or tick. A loop that keeps to these three sees only UIP_OK after opening.
- *   - After opening, any other status is a fault of the program. A broken rule is not reported.
+ *   - After opening, any other status is a fault of the program: treat it as a failed assertion, record it and reset. A
+ *     reset does not help after UIP_BAD_IMAGE or UIP_NO_MEMORY: show `word`, or enlarge the heap. A broken rule is not
+ *     reported.
  *   - Not reported, and harmless to memory: a wrong rate of ticks, a slot left out or called twice in a tick, and an
  *     unknown name (uip_hits and uip_query return 0).
  *
  * TIME. Functions that are not inline never wait, and after opening they take no memory. Opening reads the whole image.
- * Any other of them handles at most one datagram, but no bound on its time is known. An inline function waits as long
- * as its sink does.
+ * Each other function that is not inline handles at most one datagram. No bound on its time is known. An inline
+ * function waits as long as its sink does.
  */
 #ifndef LOWUNBISA_UIP_H
 #define LOWUNBISA_UIP_H
@@ -232,7 +235,8 @@ enum uip_state {
     UIP_CLOSING = 6, UIP_TIME_WAIT = 7, UIP_LAST_ACK = 8
 };
 
-/* A device. There may be any number of them. The members are private. Begin with UIP_INIT (rule 1). */
+/* A device. There may be any number of them. The members are private: do not read them either. Begin with UIP_INIT
+ * (rule 1). */
 typedef struct uip_device { unsigned is_open; void *at; } uip_device;
 #define UIP_INIT {0, NULL}
 
@@ -255,7 +259,7 @@ typedef struct uip_opened { unsigned status; unsigned entry; char word[8]; } uip
  */
 typedef struct uip_result { unsigned status, pending; size_t consumed, written; } uip_result;
 
-/* The result of a call that reads a number. */
+/* The result of a call that reads a number. If `status` is not UIP_OK, `number` is 0. */
 typedef struct uip_number { unsigned status; unsigned number; } uip_number;
 
 /*
@@ -391,7 +395,7 @@ uip_query_text uip_query(uip_device *device, const void *name, size_t len, void 
 /*
  * A function of yours that takes a piece of output: it writes it to the serial port, or gives it to the controller.
  *
- *   to            the pointer that the caller of the inline function gave; it may be null
+ *   to            the context: the pointer that the caller of the inline function gave; it may be null
  *   bytes, len    on a serial line a piece of the output, 1 byte or more; on the other links a whole datagram or frame.
  *                 It lies in `out` or `frame`, and is valid until the sink returns
  *
@@ -604,12 +608,15 @@ UIP_INLINE unsigned uip_tick_datagrams(uip_device *device, unsigned char *out, s
  * pass `mac` and broadcast, and turn its insertion of checksums off: the library writes all checksums. If the length of
  * a received frame counts the check sequence, subtract 4; a program that forgets it loses only the longest frames.
  *
- * A call may write anywhere in `frame` up to `room`, also if `written` is 0. Without a data cache, and in memory that
- * is not cached, `frame` may have any alignment. On a Cortex-M it must be Normal memory (not cached: TEX 1, C 0, B 0),
- * and neither Device nor Strongly ordered memory (rule 10). If it is cached, its start and its size must be multiples
- * of the cache line. Then clean and invalidate all of it before a DMA receives into it, invalidate it after that DMA,
- * and clean the first `written` bytes before a DMA sends them. With several buffers, go on with another one while this
- * one is sent.
+ * THE BUFFER. A call may write anywhere in `frame` up to `room`, also if `written` is 0.
+ *   - Not cached: `frame` may have any alignment. On a Cortex-M its memory is of type Normal (ARMv7-M: TEX 1, C 0, B 0;
+ *     ARMv8-M: attribute 0x44), never Device or Strongly ordered (rule 10).
+ *   - Cached: its start and its size are multiples of the cache line. Clean and invalidate all of it before a DMA
+ *     receives into it, invalidate it after that DMA, and clean the first `written` bytes before a DMA sends them.
+ *   - Barriers are yours: a DSB after the call, before you start the DMA. The usual cache functions contain one.
+ *   - A controller with a ring of receive buffers: pass the buffer that is complete to uip_input_frame, send from it,
+ *     and give it back to the ring when it is sent. Give the ticks a frame of their own. In the program below, which
+ *     has one buffer, mac_receive copies from the ring, or stops the DMA before it returns.
  *
  * The program on Ethernet. Before main calls uip_open_ether, 5,280 bytes of stack must be free on a Cortex-M4 (rule 9).
  *
@@ -666,9 +673,9 @@ UIP_INLINE unsigned uip_tick_datagrams(uip_device *device, unsigned char *out, s
  *
  * Status: UIP_HAS_DEVICE, UIP_BAD_IMAGE or UIP_NO_MEMORY, UIP_OK, as of uip_open.
  *
- * This call alone needs 5,280 bytes of stack on a Cortex-M4, since it moves the new device several times; the other
- * calls for frames need at most 1,872. The heap is UIP_MEMORY_ETHER(files). No hardware address is known yet, and
- * nothing is sent.
+ * This call needs 5,280 bytes of stack on a Cortex-M4, the other calls for frames at most 1,872. The heap is
+ * UIP_MEMORY_ETHER(files). No hardware address is known yet, and nothing is sent. The node remembers eight: a ninth
+ * replaces the one that was learned longest ago, and each is forgotten 2,400 ticks after it was last learned.
  */
 uip_opened uip_open_ether(uip_device *device, const unsigned char *image, size_t len, const unsigned char own[4],
                           const unsigned char mac[6], const unsigned char mask[4], const unsigned char router[4]);
@@ -746,12 +753,12 @@ uip_number uip_counter(uip_device *device, size_t number);
  * Status: UIP_NO_DEVICE, UIP_OK.
  *
  * To sleep: drain what is pending. If `number` is 1, a tick sends nothing, and you may sleep until something arrives.
- * Afterwards make at most one tick, and only if half a second has passed: half_a_second_passed above does so. (If
- * milliseconds() does not count in the sleep, the tick comes later, which does no harm.) If `number` is 0, a
- * sleep harms no memory, but no connection is served or timed out meanwhile. It stays 0 for 60 s after a page
- * (TIME_WAIT), unless the peer closed first, and for 20 ticks while an ESTABLISHED connection receives no data. In a
- * sleep ARP addresses do not age: a host that changed its hardware address meanwhile is reached again when it sends an
- * ARP packet to the node. See FIRMWARE "Sleep".
+ * Afterwards tick as after any stall: if three or more ticks are due make one, else those that are due;
+ * half_a_second_passed above does so. (If milliseconds() does not count in the sleep, a tick comes later, which does no
+ * harm.) If `number` is 0, a sleep harms no memory, but no connection is served or timed out meanwhile. It stays 0 for
+ * 60 s after a page (TIME_WAIT), unless the peer closed first. An ESTABLISHED connection that receives no data keeps it
+ * 0 for 20 ticks, and is then reset. In a sleep ARP addresses do not age: a host that changed its hardware address
+ * meanwhile is reached again when it sends an ARP packet to the node. See FIRMWARE "Sleep".
  */
 uip_number uip_is_idle(uip_device *device);
 
@@ -791,7 +798,8 @@ unsigned uip_close(uip_device *device);
  *   rattle_realloc    is for the linker alone: nothing calls it. Return `ok` 0 and any address but null.
  *   rattle_dealloc    frees a block.
  *
- * Opening allocates, and uip_close frees; no other call does (measured: FIRMWARE "The heap").
+ * Opening allocates, and uip_close frees; no other call does (measured: FIRMWARE "The heap"). A block need not be
+ * zeroed. examples/common/heap.c reuses its array when all its devices are closed.
  */
 typedef struct uip_block { size_t ok; void *block; } uip_block;
 uip_block rattle_alloc(size_t len, size_t align);
