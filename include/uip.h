@@ -21,14 +21,17 @@
  * sink is your function that takes output. Output is pending if it did not fit into `out`: uip_drain writes it.
  *
  * LINKS. Choose a row, and link exactly one library (FIRMWARE "Link the library"). One device of uip_open can serve the
- * first two rows at once, with one call for each slot in each tick (FIRMWARE "Two links of one device"). The libraries
+ * first two rows at once. The libraries
  * for Cortex-M link with -mfloat-abi=soft or softfp; none is supplied for hard.
  *
  *     link        open            what arrives     each half second    library, in lib/TARGET of a release
  *     serial      uip_open        uip_feed_all     uip_tick_all        libuip_c.a
  *     datagrams   uip_open        uip_input        uip_tick_datagrams  libuip_c.a
- *     Ethernet    uip_open_ether  uip_input_frame  uip_tick_frames     libuip_c_ether.a, which has the other calls too;
- *                                                                      for x86_64 and aarch64 libuip_c.a has them all
+ *     Ethernet    uip_open_ether  uip_input_frame  uip_tick_frames     libuip_c_ether.a
+ *
+ * libuip_c_ether.a has all calls of this file: never link both. For x86_64 and aarch64 there is only libuip_c.a, which
+ * has all. If one device has a serial line and a link of datagrams, make the periodic call of each slot once in a tick,
+ * on one of the two (FIRMWARE "Two links of one device").
  *
  * On every link: uip_set_value, uip_hits and uip_query for the pages; uip_ticks, uip_is_idle, uip_counter and
  * uip_connection to look; uip_close. A loop that never waits makes the ten calls of a tick itself: on a serial line it
@@ -108,7 +111,8 @@
  *      else may read or write it, also no DMA. The sink of an inline function may read it, also by a DMA that ends
  *      before the sink returns.
  *   6. The image must stay at its address, unchanged, until uip_close: it is read in place. To replace it, also in
- *      flash, close the device, write the new image, and open again. Connections, values and hits are then lost.
+ *      flash, close the device, write the new image, and open again. Connections, values and hits are then lost. The
+ *      heap must suit the image with the most files.
  *   7. All other input must stay unchanged until the call returns. After the call the library does not use it.
  *   8. The program must link memcpy, memmove and memset (those of your C library will do), on 32 bits libgcc or
  *      compiler-rt, and the heap (at the end of this file). Live blocks of the heap must overlap neither each other
@@ -126,10 +130,12 @@
  * result are 0 (but see uip_opened). The statuses of a call are listed in the order in which they are looked for.
  *   - What arrives never causes an error by its contents, only by its length. Before the call discard a datagram of 0
  *     or of more than UIP_MAX_DATAGRAM bytes, and a frame longer than `room`. Call uip_feed with 1 byte or more. Drain
- *     what is pending before you feed or tick. A loop that keeps to these three sees only UIP_OK after opening.
- *   - After opening, any other status is a fault of the program: treat it as a failed assertion, record it and reset. A
- *     reset does not help after UIP_BAD_IMAGE or UIP_NO_MEMORY: show `word`, or enlarge the heap. A broken rule is not
- *     reported.
+ *     what is pending before you feed or tick. A loop that does all of this sees only UIP_OK after
+ *     opening.
+ *   - UIP_OUTPUT_PENDING means that nothing was done: call uip_drain until `pending` is 0, and repeat the call.
+ *   - Any other status after opening is a fault of the program: treat it as a failed assertion, record it and reset. If
+ *     you ignore `status`, take no `number` for news: it is 0 after an error.
+ *   - If opening fails, a reset does not help: show `word`, or enlarge the heap. A broken rule is not reported.
  *   - Not reported, and harmless to memory: a wrong rate of ticks, a slot left out or called twice in a tick, and an
  *     unknown name (uip_hits and uip_query return 0).
  *
@@ -264,7 +270,7 @@ typedef struct uip_number { unsigned status; unsigned number; } uip_number;
 
 /*
  * The result of uip_query.
- *   hit    what uip_hits returned right after the request that brought the text; 0 if no text is kept for the file
+ *   hit    the number of hits of the file, with the request that brought the text; 0 if no text is kept for the file
  *   len    the length of the text in bytes
  */
 typedef struct uip_query_text { unsigned status; unsigned hit; size_t len; } uip_query_text;
@@ -356,17 +362,18 @@ uip_number uip_hits(uip_device *device, const void *name, size_t len);
  *   out          where the text is copied to, without a 0 at its end; the bytes after it stay
  *   room         the size of `out`, UIP_MAX_QUERY or more
  *
- * Result: `len` is the length of the text, which may be 0. `hit` is what uip_hits returned right after the request that
- * brought it: if it is not 0 and differs from last time, the text is new. Both are 0 if no query is kept for that file,
- * or no file has that name.
- * Status: UIP_BAD_ARGUMENT, UIP_NO_DEVICE, UIP_OK.
+ * Result: `len` is the length of the text, which may be 0. `hit` is the number of hits of the file, with the request
+ * that brought the text: if it is not 0 and differs from last time, the text is new. Both are 0 if no query is kept for
+ * that file, or no file has that name. Status: UIP_BAD_ARGUMENT, UIP_NO_DEVICE, UIP_OK.
  *
- * A form sends it: <form action="/set.html"><input name="level"><button>Set</button></form>. Then /set.html must be a
- * file of the site, or a .shtml. The reply may be made before your program reads the query: let that file link to the
- * page that shows the setting. Anyone who reaches the device can send a text: check it before use.
+ * A form sends it: <form action="/set.html"><input name="level"><button>Set</button></form>. The action must name a
+ * file of the site, .html or .shtml, and `name` here is that same name. The reply may be made before your program reads
+ * the query: let that file link to the page that shows the setting. Anyone who reaches the device can send a text:
+ * check it before use.
  *
- * The device keeps one query: the last, of whatever file. One uip_feed_all can bring several: to miss none, call this
- * in its sink, at each piece, and otherwise after each uip_feed, uip_input or uip_input_frame. A query is kept if it
+ * The device keeps one query: the last, of whatever file. So a link with a changing query (uip_hits) REPLACES a setting
+ * that you have not read. One uip_feed_all can bring several: to miss none, call this in its sink, at each piece, and
+ * otherwise after each uip_feed, uip_input or uip_input_frame. A query is kept if it
  * has at most 64 letters, digits and -_.~%&=+. The whole target of the request must be in the first segment with data
  * of its connection, as browsers send it. Any other query is dropped, and the one before stays. Nothing is decoded.
  * FIRMWARE "Settings from a browser" has the form and a program, and "Queries in detail" the rest.
@@ -503,7 +510,7 @@ UIP_INLINE unsigned uip_feed_all(uip_device *device, const unsigned char *bytes,
  *
  *   out, room, sink, to    as for uip_feed_all
  *
- * Status: as of uip_feed_all. If it is not UIP_OK, no slot was called, and the sink was not called.
+ * Status: as of uip_feed_all. If it is not UIP_OK, nothing was sent, and the sink was not called.
  */
 UIP_INLINE unsigned uip_tick_all(uip_device *device, unsigned char *out, size_t room, uip_sink sink, void *to) {
     uip_result done = {UIP_OK, 0, 0, 0};
@@ -523,7 +530,8 @@ UIP_INLINE unsigned uip_tick_all(uip_device *device, unsigned char *out, size_t 
  *   out, room    the area of that call
  *   sink, to     called with each piece, and with `to`
  *
- * Status: done.status if that is not UIP_OK (the sink is then not called); else UIP_OK.
+ * Status: done.status if that is not UIP_OK (the sink is then not called); else UIP_OK, or UIP_BAD_ARGUMENT if `room`
+ * is less than UIP_MIN_OUT.
  */
 UIP_INLINE unsigned uip_drain_all(uip_device *device, uip_result done, unsigned char *out, size_t room, uip_sink sink,
                                   void *to) {
@@ -616,7 +624,10 @@ UIP_INLINE unsigned uip_tick_datagrams(uip_device *device, unsigned char *out, s
  *   - Barriers are yours: a DSB after the call, before you start the DMA. The usual cache functions contain one.
  *   - A controller with a ring of receive buffers: pass the buffer that is complete to uip_input_frame, send from it,
  *     and give it back to the ring when it is sent. Give the ticks a frame of their own. In the program below, which
- *     has one buffer, mac_receive copies from the ring, or stops the DMA before it returns.
+ *     has one buffer, mac_receive copies from the ring, or stops the DMA before it returns: frames that arrive
+ *     meanwhile are lost, and TCP sends them again.
+ *   - To send without waiting, do not use uip_tick_frames: its sink must not return before the DMA has read `frame`.
+ *     Call uip_periodic_frame with a free buffer for each slot, and give the buffer back when it is sent.
  *
  * The program on Ethernet. Before main calls uip_open_ether, 5,280 bytes of stack must be free on a Cortex-M4 (rule 9).
  *
