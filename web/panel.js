@@ -1,4 +1,4 @@
-// The panel of a device inside the page: its values as sliders, the hits of its files as lamps, and its ten slots.
+// The panel of a device inside the page: its values as sliders, the hits of its files as lamps, their last query, and its ten slots.
 const LIT = 600, MOST = 24;   // milliseconds that a lamp is lit; files that have a lamp
 
 const make = (tag, properties = {}, ...children) => {
@@ -16,7 +16,7 @@ export class DevicePanel {
   // `guard` runs what may fail and reports why.
   constructor(box, guard) {
     Object.assign(this, { box, guard });
-    for (const name of ["values", "hits", "slots", "facts"]) this[name] = box.querySelector(`[data-panel=${name}]`);
+    for (const name of ["values", "hits", "query", "slots", "facts"]) this[name] = box.querySelector(`[data-panel=${name}]`);
   }
 
   // Shows a device with the files of its site and the numbers of the values that its scripts display; `names` are those of the values.
@@ -66,6 +66,12 @@ export class DevicePanel {
     return make("div", { className: "value" }, make("span", { textContent: name }), slider, text);
   }
 
+  // The query that the device keeps, if it is one of a file that has a lamp.
+  #showQuery() {
+    const kept = this.#lamps.map(({ name }) => ({ name, ...this.#device.query(name) })).find(({ hit }) => hit !== 0);
+    this.query.textContent = kept ? `last query: ${kept.name}?${kept.text}` : "";
+  }
+
   #look() {
     const device = this.#device, now = performance.now();
     if (!device) return;
@@ -75,6 +81,7 @@ export class DevicePanel {
       it.number.textContent = count;
       it.item.classList.toggle("lit", now - it.since < LIT);
     }
+    this.#showQuery();
     device.connections.forEach(({ state, peer, port }, slot) => {
       const item = this.slots.children[slot];
       item.dataset.state = state;

@@ -1,6 +1,6 @@
 // The proved library as WebAssembly (node.wasm): the calls of include/uip.h for one device, which has a memory of its own.
 // It knows no document and no clock.
-const MAX_IN = 16384, MAX_OUT = 3002, SLOTS = 10, MAX_VALUE = 32, LONGEST_NAME = 64;
+const MAX_IN = 16384, MAX_OUT = 3002, SLOTS = 10, MAX_VALUE = 32, MAX_QUERY = 64, LONGEST_NAME = 64;
 const STATUSES = ["successful", "no device", "bad argument", "a device is open already", "bad image", "out of memory", "output is pending"];
 const STATES = ["CLOSED", "SYN-RCVD", "ESTABLISHED", "CLOSE-WAIT", "FIN-WAIT-1", "FIN-WAIT-2", "CLOSING", "TIME-WAIT", "LAST-ACK"];
 
@@ -60,10 +60,15 @@ export class Device {
   }
 
   // How often the file of a name was requested.
-  hits(name) {
-    const bytes = ascii(name.slice(0, LONGEST_NAME + 1));
-    this.#bytes().set(bytes, this.#at.in);
-    return this.#number("uip_hits", this.#at.in, bytes.length);
+  hits(name) { return this.#number("uip_hits", ...this.#named(name)); }
+
+  // The query that the device keeps for the file of a name: its text, as it was received, and the hits of the file after the request
+  // that brought it. If it keeps none for that file, the text is empty and the number is 0.
+  query(name) {
+    const { result, device, out } = this.#at;
+    this.#calls.uip_query(result, device, ...this.#named(name), out, MAX_QUERY);
+    this.#check();
+    return { text: String.fromCharCode(...this.#bytes().subarray(out, out + this.#word(2))), hit: this.#word(1) };
   }
 
   get ticks() { return this.#number("uip_ticks"); }
@@ -91,6 +96,13 @@ export class Device {
   #bytes() { return new Uint8Array(this.#calls.memory.buffer); }   // made anew each time, since the memory may grow
   #word(number) { return new Uint32Array(this.#calls.memory.buffer, this.#at.result, 8)[number]; }
   #check() { if (this.#word(0) !== 0) throw new Refused(this.#word(0)); }
+
+  // Puts a name into the input area. Returns its address and its length.
+  #named(name) {
+    const bytes = ascii(name.slice(0, LONGEST_NAME + 1));
+    this.#bytes().set(bytes, this.#at.in);
+    return [this.#at.in, bytes.length];
+  }
 
   #number(call, ...words) {
     this.#calls[call](this.#at.result, this.#at.device, ...words);

@@ -1,19 +1,12 @@
-// The pages of a site at port 80, a console at port 5025 and a Modbus/TCP server at port 502 on one device, over a TAP interface of Linux
-// in place of a network card. The level that the console sets is value 2 of the pages.
+// The pages of a site at port 80, a console at port 5025 and a Modbus/TCP server at port 502, on one device on Ethernet. The level that the
+// console sets is value 2 of the pages. The driver is in another file (driver.h): here a TAP interface of Linux.
 //
 //     uip_both IMAGE INTERFACE SECONDS      runs at 10.0.0.1 for that many seconds or until SIGTERM, and prints what passed.
 //                                           10.0.0.2 leads to all addresses but 10.0.0.0 to 10.0.0.255
-#include <fcntl.h>
-#include <linux/if.h>
-#include <linux/if_tun.h>
-#include <poll.h>
-#include <signal.h>
 #include <stdio.h>
 #include <stdlib.h>
 #include <string.h>
-#include <sys/ioctl.h>
-#include <time.h>
-#include <unistd.h>
+#include "driver.h"
 #include "uip_both.h"
 
 size_t answer_line(char *line, char *reply, unsigned *last);                  // ../linux-app/console.c
@@ -23,37 +16,7 @@ extern size_t heap_blocks;    // of the heap: how many blocks are not freed
 
 static unsigned char image[1 << 20], frame[UIP_MAX_FRAME];
 static uip_device device = UIP_INIT;
-static unsigned long received, sent, lines, frames;
-static int tap;
-static volatile sig_atomic_t is_stopped;    // SIGTERM came
-
-static void stop(int number) {
-    (void)number;
-    is_stopped = 1;
-}
-
-static void fail(const char *what) {
-    perror(what);
-    exit(1);
-}
-
-static double seconds(void) {
-    struct timespec now;
-    clock_gettime(CLOCK_MONOTONIC, &now);
-    return (double)now.tv_sec + (double)now.tv_nsec / 1e9;
-}
-
-// Attaches this program to the interface.
-static int open_tap(const char *name) {
-    struct ifreq request;
-    int descriptor = open("/dev/net/tun", O_RDWR);
-    if (descriptor < 0) fail("/dev/net/tun");
-    memset(&request, 0, sizeof request);
-    strncpy(request.ifr_name, name, IFNAMSIZ - 1);
-    request.ifr_flags = IFF_TAP | IFF_NO_PI;
-    if (ioctl(descriptor, TUNSETIFF, &request) < 0) fail(name);
-    return descriptor;
-}
+static unsigned long lines, frames;
 
 static void expect_ok(unsigned status) {
     if (status == UIP_OK) return;
@@ -61,16 +24,9 @@ static void expect_ok(unsigned status) {
     exit(1);
 }
 
-// Sends a frame that a call wrote: a uip_sink.
-static void send_frame(void *to, const unsigned char *bytes, size_t len) {
-    (void)to;
-    if (write(tap, bytes, len) != (ssize_t)len) fail("write");
-    sent++;
-}
-
 static void send_written(uip_result done) {
     expect_ok(done.status);
-    if (done.written) send_frame(0, frame, done.written);
+    if (done.written) mac_send(0, frame, done.written);
 }
 
 // ---- the application
@@ -110,41 +66,52 @@ static void serve(void) {
         while (answer(slot)) {}
 }
 
-// Waits for a frame until this time, and passes it to the device.
-static void receive_until(double time) {
-    struct pollfd ready = {tap, POLLIN, 0};
-    double left = time - seconds();
-    if (poll(&ready, 1, left > 0 ? (int)(left * 1000) + 1 : 0) <= 0) return;
-    ssize_t len = read(tap, frame, sizeof frame);
-    if (len < 0) fail("read");
-    received++;
-    send_written(uip_input_frame(&device, frame, sizeof frame, (size_t)len));
-    serve();
-}
+// ---- the device
 
-int main(int argc, char **argv) {
+// Opens the device with the image of this file, and sets the values that its pages show first.
+static void open_device(const char *name) {
     static const unsigned char own[4] = {10, 0, 0, 1}, mac[6] = {2, 0, 0, 0, 0, 1}, mask[4] = {255, 255, 255, 0}, router[4] = {10, 0, 0, 2};
-    FILE *file = argc == 4 ? fopen(argv[1], "rb") : 0;
-    if (!file) fail("uip_both IMAGE INTERFACE SECONDS");
+    FILE *file = fopen(name, "rb");
+    if (!file) {
+        perror(name);
+        exit(1);
+    }
     size_t len = fread(image, 1, sizeof image, file);
+    fclose(file);
     uip_opened opened = uip_open_ether(&device, image, len, own, mac, mask, router);
     if (opened.status != UIP_OK) {
         fprintf(stderr, "uip_open_ether returned status %u %s %u\n", opened.status, opened.word, opened.entry);
-        return 1;
+        exit(1);
     }
     expect_ok(uip_set_value(&device, 0, "both", 4));
     expect_ok(uip_set_value(&device, 1, "0", 1));
     expect_ok(uip_set_value(&device, 2, "0", 1));
-    size_t blocks = heap_blocks;
-    signal(SIGTERM, stop);
-    tap = open_tap(argv[2]);
-    double tick = seconds() + 0.5, end = seconds() + atof(argv[3]);
-    while (!is_stopped && seconds() < end) {
-        receive_until(tick);
-        if (seconds() < tick) continue;
-        tick += 0.5;
-        expect_ok(uip_tick_frames(&device, frame, sizeof frame, send_frame, 0));
+}
+
+// One round of the loop: a received frame, and a tick if it is due.
+static void work(void) {
+    size_t len = mac_receive(frame, sizeof frame);
+    if (len) {
+        send_written(uip_input_frame(&device, frame, sizeof frame, len));
         serve();
+    }
+    if (half_a_second_passed()) {
+        expect_ok(uip_tick_frames(&device, frame, sizeof frame, mac_send, 0));
+        serve();
+    }
+}
+
+int main(int argc, char **argv) {
+    if (argc != 4) {
+        fprintf(stderr, "uip_both IMAGE INTERFACE SECONDS\n");
+        return 2;
+    }
+    open_device(argv[1]);
+    size_t blocks = heap_blocks;
+    open_driver(argv[2], (unsigned)atoi(argv[3]));
+    while (is_running()) {
+        wait_for_work();
+        work();
     }
     if (heap_blocks != blocks) fprintf(stderr, "a call allocated memory\n");
     printf("frames received: %lu, sent: %lu; lines: %lu, Modbus frames: %lu, hits of /style.css: %u; blocks: %zu\n", received, sent, lines,

@@ -1,5 +1,5 @@
 // The device inside the page (node.wasm, web/uip.js, web/inside.js) under node, without a browser and without the program: every file of
-// the site, pings, values, hits, several devices, bad images; and what it sends for recorded lines, compared with the program's own bytes.
+// the site, pings, values, hits, queries, several devices, bad images; and what it sends for recorded lines, compared with the program's own bytes.
 import test from "node:test";
 import assert from "node:assert/strict";
 import { execFileSync } from "node:child_process";
@@ -54,6 +54,36 @@ test("values, hits, counters and connections", { skip }, () => withNode({ site: 
   const rows = Array.from({ length: 10 }, (_, slot) => device.connection(slot)).filter(it => it.state !== "CLOSED");
   assert.ok(rows.some(it => it.state === "ESTABLISHED" && it.port === open.port && it.peer.join(".") === "10.0.0.2"));
   assert.equal(device.isIdle, false);
+}));
+
+test("queries: the last one, of whatever file, with the hits of its request", { skip }, () => withNode({ site: STATE }, async (session, device) => {
+  const names = unpack(STATE).map(it => it.name), hits = {}, signs = "azAZ09-_.~%&=+";
+  let kept = null;
+  const expectKept = () => {
+    for (const name of [...names, "/nothing"])
+      assert.deepEqual(device.query(name), kept?.name === name ? { text: kept.text, hit: kept.hit } : { text: "", hit: 0 }, name);
+  };
+  async function request(name, text) {
+    await session.whole(text === undefined ? name : `${name}?${text}`);
+    hits[name] = (hits[name] ?? 0) + 1;
+    if (/^[-\w.~%&=+]{0,64}$/.test(text ?? " ")) kept = { name, text, hit: hits[name] };
+    expectKept();
+  }
+  expectKept();
+  await request("/lamp-on.html");
+  await request("/lamp-on.html", "a=0&z=%25");
+  assert.deepEqual(device.query("/lamp-on.html"), { text: "a=0&z=%25", hit: 2 });
+  for (const text of ["a".repeat(65), "a*9", "a\u00e4"]) await request("/lamp-on.html", text);   // these are not kept
+  assert.deepEqual(device.query("/lamp-on.html"), { text: "a=0&z=%25", hit: 2 });
+  await request("/lamp-off.html", "z".repeat(64));
+  await request("/lamp-off.html", "");
+  await session.whole("/nothing?a=9");
+  expectKept();
+  for (let n = 0; n < 200; n++)
+    await request(names[n * 5 % names.length], Array.from({ length: n * 11 % 68 }, (_, at) => signs[(n + at * 7) % signs.length]).join(""));
+  assert.deepEqual(device.query("/x".repeat(1e6)), { text: "", hit: 0 });
+  device.close();
+  assert.throws(() => device.query("/lamp-on.html"), { status: 1 });
 }));
 
 test("three nodes at once, each with its site and address", { skip }, async () => {

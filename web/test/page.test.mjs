@@ -202,7 +202,7 @@ inEach("the device's address", {}, async tab => {
   await tab.until(`self.isSilent`);   // the device is still at the other address
 });
 
-inEach("values are sliders and fields, hits are lamps, and the slots are shown", {}, async tab => {
+inEach("values are sliders and fields, hits are lamps, the last query and the slots are shown", {}, async tab => {
   await openState(tab);
   await tab.until(shows("The device"));
   assert.deepEqual(await tab.run(`return [...document.querySelectorAll(".value span")].map(it => it.innerText)`), [0, 1, 2, 3, 4].map(n => `value ${n}`));
@@ -216,6 +216,10 @@ inEach("values are sliders and fields, hits are lamps, and the slots are shown",
   assert.equal(await tab.run(`return ${lamp}.querySelector("b").innerText`), "0");
   await tab.run(`frames[0].document.querySelector('a[href="/lamp-on.html"]').click()`);
   await tab.until(`${lamp}.querySelector("b").innerText === "1"`);
+  const query = `document.querySelector("[data-panel=query]").innerText`;
+  assert.equal(await tab.run(`return ${query}`), "");
+  await tab.run(`await node.session.whole("/lamp-off.html?by=7")`);
+  await tab.until(`${query} === "last query: /lamp-off.html?by=7"`);
   await tab.run(`self.held = node.session.host.connect()`);
   await tab.until(`document.querySelector(".slot[data-state=ESTABLISHED]")?.title.includes("10.0.0.2:" + self.held.port)`);
   assert.equal(await tab.run(`return document.querySelectorAll(".slot").length`), 10);

@@ -153,6 +153,9 @@ const FAULTS = {
     [`throw new Refused(this.#bytes()[device] ? 3 : 5);`, `throw new Refused(5);`, "inside", "bad images"],
     [`this.#bytes().set(own, ownAt);`, "", "inside", "three nodes"],
     [`LONGEST_NAME + 1`, `LONGEST_NAME - 60`, "inside", "values, hits"],
+    [`out + this.#word(2))), hit`, `out + MAX_QUERY)), hit`, "inside", "queries"],
+    [`out, MAX_QUERY);`, `out, MAX_QUERY - 1);`, "inside", "queries"],
+    [`hit: this.#word(1) };`, `hit: this.hits(name) };`, "inside", "queries"],
   ],
   "inside.js": [
     [`    if (timer) timer = clock.later(period, beat);`, "", "parts", "sent twice"],
@@ -189,6 +192,8 @@ const FAULTS = {
   "panel.js": [
     [`      it.number.textContent = count;`, "", "page", "Chromium: values"],
     [`      item.dataset.state = state;`, "", "page", "Chromium: values"],
+    [`    this.#showQuery();`, "", "page", "Chromium: values"],
+    [`hit !== 0);`, `hit === 0);`, "page", "Chromium: values"],
     [`slider.addEventListener("input", () => { text.value = slider.value; set(slider.value); });`, "", "page", "Chromium: values"],
     [`    text.value = value;\n    set(value);`, `    text.value = value;`, "page", "Chromium: a device with a sensor"],
   ],
