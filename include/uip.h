@@ -15,30 +15,35 @@
  * before you connect a node: there is no authentication, no encryption, no DHCP and no POST, sequence numbers are
  * predictable, and ten SYNs that are never acknowledged occupy all ten connections for 51 s.
  *
+ * TO READ. All: the program, RULES, ERRORS, "VALUES AND HITS", "SLEEP AND DIAGNOSTICS", "CLOSE" and "THE HEAP". Then
+ * for a serial line "OPEN", "SINKS" and the two parts "SERIAL LINE"; for datagrams "OPEN", "SINKS" and "DATAGRAMS"; for
+ * Ethernet uip_sink and "ETHERNET", which has its own program.
+ *
  * WORDS. A device is one node: its address, connections and values. A site is a folder of pages, and its image the
  * array that tools/pack.py makes of it. A value is a short text that the program sets and pages show. A slot is one of
  * the ten places for a connection. A tick is ten periodic calls, one for each slot; one tick is due each half second. A
  * sink is your function that takes output. Output is pending if it did not fit into `out`: uip_drain writes it.
  *
- * LINKS. Choose a row, and link exactly one library (FIRMWARE "Link the library"). One device of uip_open can serve the
- * first two rows at once. The libraries
- * for Cortex-M link with -mfloat-abi=soft or softfp; none is supplied for hard.
+ * LINKS. Choose a row and link its library, and no second one (FIRMWARE "Link the library"). A device of uip_open may
+ * use the first two rows at once. Datagrams means a link that passes whole IPv4 datagrams, for example a tunnel. On a
+ * Cortex-M compile your whole program with -mfloat-abi=soft or softfp: there is no library for hard.
  *
  *     link        open            what arrives     each half second    library, in lib/TARGET of a release
  *     serial      uip_open        uip_feed_all     uip_tick_all        libuip_c.a
  *     datagrams   uip_open        uip_input        uip_tick_datagrams  libuip_c.a
  *     Ethernet    uip_open_ether  uip_input_frame  uip_tick_frames     libuip_c_ether.a
  *
- * libuip_c_ether.a has all calls of this file: never link both. For x86_64 and aarch64 there is only libuip_c.a, which
- * has all. If one device has a serial line and a link of datagrams, make the periodic call of each slot once in a tick,
- * on one of the two (FIRMWARE "Two links of one device").
+ * libuip_c_ether.a has all calls of this file. For x86_64 and aarch64 there is only libuip_c.a, which has all. If one
+ * device has a serial line and a link of datagrams, make the periodic call of each slot once in a tick, on one of the
+ * two (FIRMWARE "Two links of one device").
  *
  * On every link: uip_set_value, uip_hits and uip_query for the pages; uip_ticks, uip_is_idle, uip_counter and
  * uip_connection to look; uip_close. A loop that never waits makes the ten calls of a tick itself: on a serial line it
  * takes uip_feed, uip_periodic and uip_drain, for datagrams uip_periodic_datagram, on Ethernet uip_periodic_frame.
  *
- * Most calls return a struct: read a field of it, as in uip_is_idle(&device).number. The inline functions,
- * uip_set_value and uip_close return a bare status.
+ * uip_set_value, uip_close and the inline functions return a bare status. Every other call returns a struct by value:
+ * read a field, as in uip_is_idle(&device).number. Look at `status` before you compare `number` with an older one:
+ * after an error it is 0, which looks like a change. (In `work` below the device is open, so these calls cannot fail.)
  *
  * A PROGRAM for a serial line (FIRMWARE "A loop that waits"). It includes site.c and heap.c: do not also compile these.
  * site.c defines site_image, SITE_IMAGE_LEN and SITE_IMAGE_FILES. The programs for the other links are above uip_input
@@ -109,10 +114,11 @@
  *   5. `out`, and `frame` of the calls for frames, must be writable over the whole of `room`. It may share no byte with
  *      the device or another argument, except that it may lie in what `to` points to. Until the call returns nothing
  *      else may read or write it, also no DMA. The sink of an inline function may read it, also by a DMA that ends
- *      before the sink returns.
+ *      before the sink returns. After the call the library does not use it: you may send it by DMA, and pass another
+ *      area next time.
  *   6. The image must stay at its address, unchanged, until uip_close: it is read in place. To replace it, also in
  *      flash, close the device, write the new image, and open again. Connections, values and hits are then lost. The
- *      heap must suit the image with the most files.
+ *      heap must suit the largest of your images.
  *   7. All other input must stay unchanged until the call returns. After the call the library does not use it.
  *   8. The program must link memcpy, memmove and memset (those of your C library will do), on 32 bits libgcc or
  *      compiler-rt, and the heap (at the end of this file). Live blocks of the heap must overlap neither each other
@@ -133,13 +139,12 @@
  *     what is pending before you feed or tick. A loop that does all of this sees only UIP_OK after
  *     opening.
  *   - UIP_OUTPUT_PENDING means that nothing was done: call uip_drain until `pending` is 0, and repeat the call.
- *   - Any other status after opening is a fault of the program: treat it as a failed assertion, record it and reset. If
- *     you ignore `status`, take no `number` for news: it is 0 after an error.
+ *   - Any other status after opening is a fault of the program: treat it as a failed assertion, record it and reset.
  *   - If opening fails, a reset does not help: show `word`, or enlarge the heap. A broken rule is not reported.
  *   - Not reported, and harmless to memory: a wrong rate of ticks, a slot left out or called twice in a tick, and an
  *     unknown name (uip_hits and uip_query return 0).
  *
- * TIME. Functions that are not inline never wait, and after opening they take no memory. Opening reads the whole image.
+ * TIME. Functions that are not inline never wait, and only those that open take memory. Opening reads the whole image.
  * Each other function that is not inline handles at most one datagram. No bound on its time is known. An inline
  * function waits as long as its sink does.
  */
@@ -270,7 +275,7 @@ typedef struct uip_number { unsigned status; unsigned number; } uip_number;
 
 /*
  * The result of uip_query.
- *   hit    the number of hits of the file, with the request that brought the text; 0 if no text is kept for the file
+ *   hit    what uip_hits returned for the file right after the request that brought the text; 0 if none is kept
  *   len    the length of the text in bytes
  */
 typedef struct uip_query_text { unsigned status; unsigned hit; size_t len; } uip_query_text;
@@ -281,8 +286,8 @@ typedef struct uip_query_text { unsigned status; unsigned hit; size_t len; } uip
  *   peer, port    the address, first byte first, and the TCP port of the peer (a number, not in network byte order)
  *   tries         how often the outstanding segment was sent again; 0 if none is outstanding
  *   count         one of three:
- *                 - if a segment is outstanding, the number of ticks that do nothing yet: the next one after them sends
- *                   the segment again, or resets the connection;
+ *                 - if a segment is outstanding, how many ticks pass without effect before the one that sends it again,
+ *                   or resets the connection;
  *                 - in FIN_WAIT_2 and TIME_WAIT, the ticks spent there, of 120;
  *                 - else 0: the idle time of an ESTABLISHED connection is not shown
  *   waiting       1 if a segment is outstanding, else 0
@@ -362,21 +367,29 @@ uip_number uip_hits(uip_device *device, const void *name, size_t len);
  *   out          where the text is copied to, without a 0 at its end; the bytes after it stay
  *   room         the size of `out`, UIP_MAX_QUERY or more
  *
- * Result: `len` is the length of the text, which may be 0. `hit` is the number of hits of the file, with the request
- * that brought the text: if it is not 0 and differs from last time, the text is new. Both are 0 if no query is kept for
- * that file, or no file has that name. Status: UIP_BAD_ARGUMENT, UIP_NO_DEVICE, UIP_OK.
+ * Result: `len` is the length of the text, which may be 0. `hit` is what uip_hits returned for this file right after
+ * the request that brought the text. `hit` is 0 if no text of this file is kept, or no file has that name; `out` is
+ * then unchanged. Status: UIP_BAD_ARGUMENT, UIP_NO_DEVICE, UIP_OK.
  *
  * A form sends it: <form action="/set.html"><input name="level"><button>Set</button></form>. The action must name a
- * file of the site, .html or .shtml, and `name` here is that same name. The reply may be made before your program reads
- * the query: let that file link to the page that shows the setting. Anyone who reaches the device can send a text:
- * check it before use.
+ * file of the site, .html or .shtml, and `name` here is that same name.
+ *
+ *     static unsigned last;
+ *     unsigned char text[UIP_MAX_QUERY];
+ *     uip_query_text got = uip_query(&device, UIP_TEXT("/set.html"), text, sizeof text);
+ *     if (got.status == UIP_OK && got.hit != 0 && got.hit != last) {
+ *         last = got.hit;                          // new: look at text[0] to text[got.len - 1]; no 0 follows
+ *     }
+ *
+ * The reply may be made before your program reads the query: let that file link to the page that shows the setting.
+ * Anyone who reaches the device can send a text: check it before use.
  *
  * The device keeps one query: the last, of whatever file. So a link with a changing query (uip_hits) REPLACES a setting
  * that you have not read. One uip_feed_all can bring several: to miss none, call this in its sink, at each piece, and
- * otherwise after each uip_feed, uip_input or uip_input_frame. A query is kept if it
- * has at most 64 letters, digits and -_.~%&=+. The whole target of the request must be in the first segment with data
- * of its connection, as browsers send it. Any other query is dropped, and the one before stays. Nothing is decoded.
- * FIRMWARE "Settings from a browser" has the form and a program, and "Queries in detail" the rest.
+ * otherwise after each uip_feed, uip_input or uip_input_frame. Kept is a query of at most 64 bytes, each a letter, a
+ * digit or one of -_.~%&=+. The whole target of the request must be in the first segment with data of its connection,
+ * as browsers send it. A request without `?`, or with any other query, leaves the kept one as it is. Nothing is
+ * decoded. FIRMWARE "Settings from a browser" has the form and a program, and "Queries in detail" the rest.
  */
 uip_query_text uip_query(uip_device *device, const void *name, size_t len, void *out, size_t room);
 
@@ -622,14 +635,19 @@ UIP_INLINE unsigned uip_tick_datagrams(uip_device *device, unsigned char *out, s
  *   - Cached: its start and its size are multiples of the cache line. Clean and invalidate all of it before a DMA
  *     receives into it, invalidate it after that DMA, and clean the first `written` bytes before a DMA sends them.
  *   - Barriers are yours: a DSB after the call, before you start the DMA. The usual cache functions contain one.
- *   - A controller with a ring of receive buffers: pass the buffer that is complete to uip_input_frame, send from it,
- *     and give it back to the ring when it is sent. Give the ticks a frame of their own. In the program below, which
- *     has one buffer, mac_receive copies from the ring, or stops the DMA before it returns: frames that arrive
- *     meanwhile are lost, and TCP sends them again.
+ *   - Your DMA may demand more of alignment and size than the library. 1536 bytes suit most.
+ *   - One receive buffer: use two frames. The first belongs to the DMA until a frame is complete. Then call
+ *     uip_input_frame, send, and start the DMA again. The second is for uip_tick_frames, so that a tick may run while
+ *     the first waits. The program below has one frame: its mac_receive stops the DMA, or copies from a ring, before it
+ *     returns, also before it returns 0.
+ *   - A ring of receive buffers: pass the buffer that is complete to uip_input_frame, send from it, and give it back to
+ *     the ring when it is sent. The ticks have a frame of their own.
+ *   - Drop frames that the controller marks as damaged or cut: ARP has no checksum. If it cannot pad, set the bytes
+ *     from frame[written] to frame[59] to 0, and send 60.
  *   - To send without waiting, do not use uip_tick_frames: its sink must not return before the DMA has read `frame`.
  *     Call uip_periodic_frame with a free buffer for each slot, and give the buffer back when it is sent.
  *
- * The program on Ethernet. Before main calls uip_open_ether, 5,280 bytes of stack must be free on a Cortex-M4 (rule 9).
+ * The program on Ethernet. Its stack is in rule 9.
  *
  *     #include "uip.h"
  *     #include "site.c"
@@ -809,8 +827,8 @@ unsigned uip_close(uip_device *device);
  *   rattle_realloc    is for the linker alone: nothing calls it. Return `ok` 0 and any address but null.
  *   rattle_dealloc    frees a block.
  *
- * Opening allocates, and uip_close frees; no other call does (measured: FIRMWARE "The heap"). A block need not be
- * zeroed. examples/common/heap.c reuses its array when all its devices are closed.
+ * Opening allocates, and uip_close frees. No other call does, as the tests count (FIRMWARE "The heap"). A block need
+ * not be zeroed. examples/common/heap.c reuses its array when all its devices are closed.
  */
 typedef struct uip_block { size_t ok; void *block; } uip_block;
 uip_block rattle_alloc(size_t len, size_t align);
