@@ -65,8 +65,9 @@
  * ANSWERED" and "LIMITS" of uip_app.h hold for the connections at its ports, and uip.h for those at port 80. uip_read
  * and uip_write treat a connection at port 80 as one that is not open.
  *
- * PROVED, if the caller keeps the rules: each call writes exactly the frame that the definition of this node and ARP
- * sends (crates/uip_both_c).
+ * PROVED of these calls, if the caller keeps the rules: each call writes exactly the frame that the definition of this
+ * node and ARP sends. A peer at port 80 receives the page of its request. A peer at the other ports receives the
+ * messages that were written to its connection, for fewer than 2^32 calls and 2^30 bytes (crates/uip_both_c).
  *
  * The language is C90 or later, or C++.
  */

@@ -4,4 +4,7 @@ pub mod FrameKeeping
 pub mod NextHop
 pub mod EtherFrames
 pub mod EtherBytes
+pub mod Newest
+pub mod ProgramCalls
+pub mod ProgramKeeping
 pub mod Prelude

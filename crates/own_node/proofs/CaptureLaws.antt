@@ -54,7 +54,7 @@ module _ (m : AppSpec) where
             ∙ wanted_part (m.want o.numbers p) (prepared m now o.connection o.numbers) o.numbers,
       )
 
-  called_part : (n : AbstractNode) (slot : ℕ) → slot < length n.connections → (connection_in slot n).state ≡ Established → (connection_in slot n).len ≡ 0
+  pub called_part : (n : AbstractNode) (slot : ℕ) → slot < length n.connections → (connection_in slot n).state ≡ Established → (connection_in slot n).len ≡ 0
       → (let c : Connection = connection_in slot n in
       (now : Now) × ((connection_in slot (periodic m n slot).node).part ≡ m.prepare (m.polled n.numbers c.part).numbers (m.polled n.numbers c.part).part now))
   unfolding happened

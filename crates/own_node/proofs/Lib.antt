@@ -1,2 +1,9 @@
+pub mod Containing
+pub mod Parts
+pub mod Slots
+pub mod Tickets
+pub mod WrittenLaws
+pub mod Alone
+pub mod InPair
 pub mod ReadingLaws
 pub mod CaptureLaws

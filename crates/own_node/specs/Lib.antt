@@ -1,3 +1,4 @@
+pub mod Written
 pub mod Messages
 pub mod Capturing
 pub mod Prelude

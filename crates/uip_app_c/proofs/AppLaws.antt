@@ -1,5 +1,8 @@
 -- Calls on a handle, one after the other, are exact.
-use Rattle.uip_app_c.proofs.Prelude.{AbstractNode, Act, Addr, AnsweredCall, AppCall, Bool, Calls, CallsAreExact, CallsSlot, CouldWrite, CouldWriteAll, DidCall, DidCalls, DoesNothing, Ethernet, FrameCall, HasOwn, InputsFrame, Kept, List, Mac, Network, None, OwnAnswers, OwnEther, OwnWrites, PlainMessage, Represents, RepresentsStation, Some, Station, Writes, [], ap, as_medium, calls_of, first_station, frame_call_of, frames_of_calls, interface_at, is_own_port, link_of, map, output, own_spec, refl, station_after_call, station_after_calls, station_before, station_events_by, subst, sym, with_written, ℕ, ◌∙◌, ◌∷◌, ◌≡◌}
+use Rattle.uip_app_c.proofs.Prelude.{AbstractNode, Act, Addr, AppCall, Bool, Calls, CallsAreExact, CallsSlot, CouldWrite, DidCall, DoesNothing, Ethernet, FrameCall, HasOwn, InputsFrame, Kept, List, Mac, Network, None, OwnAnswers, OwnEther, OwnWrites, PlainMessage, Represents, RepresentsStation, Some, Station, Writes, ap, first_station, interface_at, is_own_port, link_of, own_spec, station_after_call, subst, sym, with_written, ℕ, ◌∙◌, ◌≡◌}
+use Rattle.frame_device.specs.ProgramCalls.{before_program_call, program_frame}
+use Rattle.frame_device.proofs.ProgramLaws.{all_exact}
+use Rattle.uip_app_c.specs.AppCalls.{app_program}
 use Rattle.frame_device.specs.contracts.ether.EthernetFrames.TheImpl.{ghosts as ether_link}
 use Rattle.own_app.specs.contracts.app.OwnAppApp.TheImpl.{ghosts}
 
@@ -15,7 +18,7 @@ module _ (own : Addr) (mac : Mac) (network : Network) where
   Here d s = RepresentsStation ghosts ether_link (interface_at own mac network) own_spec own d s
 
   abbrev sent_at : AppCall → Station Act → List ℕ
-  sent_at call s = output own_spec is_own_port (as_medium (link_of own mac network)) own (station_events_by (link_of own mac network) own (frame_call_of call)) (station_before call s)
+  sent_at call s = program_frame app_program own_spec is_own_port (link_of own mac network) own call s
 
   -- what one call does, at a station that the device represents
   record Step (call : AppCall) (s : Station Act) (b : Kept) (handed : List ℕ) : Type 0 where
@@ -45,7 +48,7 @@ module _ (own : Addr) (mac : Mac) (network : Network) where
       let at : Here it.before s = subst (λ (x : OwnEther). Here x s) (sym (same_own it.before d (sym it.was ∙ is))) here in
       let between = written_here it.before it.between it.writes.message s it.link it.writes.changes at in
       let named = subst (λ (m : PlainMessage). Here it.between (record { acts = s.acts; node = with_written m s.node })) (it.writes.next s.node at.stands.stands) between in
-      let from = it.answers.each (interface_at own mac network) own_spec own (station_before (Writes slot taken text last) s) named in
+      let from = it.answers.each (interface_at own mac network) own_spec own (before_program_call app_program own_spec is_own_port (link_of own mac network) own (Writes slot taken text last) s) named in
       record { after = it.after; is = it.is; here = from.0; wrote = from.1; could = it.could s.node at.stands.stands }
 
   one : (call : AppCall) (d : OwnEther) (s : Station Act) (a b : Kept) (handed : List ℕ) → a ≡ Some d → Here d s → DidCall call a b handed → Step call s b handed
@@ -54,26 +57,16 @@ module _ (own : Addr) (mac : Mac) (network : Network) where
   one (Calls DoesNothing) d s a b handed is here it = record { after = d; is = it.0 ∙ is; here = here; wrote = it.1; could = tt }
   one (Writes slot taken text last) d s a b handed is here it = by_write slot taken text last d s a b handed is here it
 
-  record Steps (all : List AnsweredCall) (s : Station Act) (c : Kept) : Type 0 where
-    frames : map (λ it. it.handed) all ≡ frames_of_calls own mac network (calls_of all) s
-    could : CouldWriteAll own mac network (calls_of all) s
-    represents : HasOwn (λ d. Here d (station_after_calls own mac network (calls_of all) s)) c
+  abbrev KeptHere : Kept → Station Act → Type 0
+  KeptHere kept s = HasOwn (λ d. Here d s) kept
 
-  all_of : (all : List AnsweredCall) (d : OwnEther) (s : Station Act) (a c : Kept) → a ≡ Some d → Here d s → DidCalls all a c → Steps all s c
-  all_of [] d s a c is here same = record { frames = refl; could = tt; represents = (d, sym same ∙ is, here) }
-  all_of (it ∷ all) d s a c is here more =
-      let first = one it.call d s a more.0 it.handed is here more.1 in
-      let later = all_of all first.after (station_after_call own mac network it.call s) more.0 c first.is first.here more.2 in
-      record {
-        frames =
-            ap (λ (l : List ℕ). l ∷ map (λ x. x.handed) all) first.wrote
-            ∙ ap (λ (ls : List (List ℕ)). sent_at it.call s ∷ ls) later.frames;
-        could = (first.could, later.could);
-        represents = later.represents;
-      }
+  one_call : (call : AppCall) (s : Station Act) (a b : Kept) (handed : List ℕ) → KeptHere a s → DidCall call a b handed
+      → KeptHere b (station_after_call own mac network call s) × (handed ≡ sent_at call s) × CouldWrite call s
+  one_call call s a b handed here did =
+      let step = one call here.0 s a b handed here.1 here.2 did in ((step.after, step.is, step.here), step.wrote, step.could)
 
 pub calls_exact : CallsAreExact
 calls_exact own mac network all closed old new opens did =
-    let d : OwnEther = opens.1.0 in
-    let steps = all_of own mac network all d (first_station own) old new opens.1.1 opens.1.2.stands did in
-    record { frames = steps.frames; could = steps.could; represents = steps.represents }
+    let exact = all_exact app_program own_spec is_own_port (link_of own mac network) own (KeptHere own mac network) CouldWrite DidCall (one_call own mac network) all (first_station own) old new
+    (opens.1.0, opens.1.1, opens.1.2.stands) did in
+    record { frames = exact.frames; could = exact.each; represents = exact.here }

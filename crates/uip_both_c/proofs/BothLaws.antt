@@ -1,5 +1,9 @@
 -- Calls on a handle, one after the other, are exact.
-use Rattle.uip_both_c.proofs.Prelude.{Act, Addr, AnsweredCall, AbstractNode, Bool, BothAnswers, BothAtStation, BothCall, BothEther, BothGives, BothWrites, Calls, CallsAreExact, CallsSlot, CouldWrite, CouldWriteAll, DidCall, DidCalls, DoesNothing, Ethernet, File, FrameCall, Gives, HasBoth, InputsFrame, Kept, List, Mac, Network, None, PlainMessage, Represents, Some, Station, Writes, [], ap, both, both_spec, calls_of, change_own, files_of, first_station, frame_of_call, frames_of_calls, interface_at, map, refl, site_of, station_after_call, station_after_calls, station_before, subst, sym, true, with_change, write_message, ℕ, ◌∙◌, ◌∷◌, ◌≡◌}
+use Rattle.uip_both_c.proofs.Prelude.{Act, Addr, AbstractNode, Bool, BothAnswers, BothAtStation, BothCall, BothEther, BothGives, BothWrites, Calls, CallsAreExact, CallsSlot, CouldWrite, DidCall, DoesNothing, Ethernet, File, FrameCall, Gives, HasBoth, InputsFrame, Kept, List, Mac, Network, None, PlainMessage, Represents, Some, Station, Writes, [], ap, both, both_spec, change_own, files_of, first_station, interface_at, site_of, station_after_call, subst, sym, true, with_change, write_message, ℕ, ◌∙◌, ◌≡◌}
+use Rattle.frame_device.specs.ProgramCalls.{before_program_call, program_frame}
+use Rattle.frame_device.proofs.ProgramLaws.{all_exact}
+use Rattle.uip_both_c.specs.BothCalls.{both_program, link_of}
+use Rattle.uip_both_c.specs.BothSpec.{is_both_port}
 use Rattle.frame_device.specs.contracts.ether.EthernetFrames.TheImpl.{ghosts as ether_link}
 
 abbrev both_or : BothEther → Kept → BothEther
@@ -13,12 +17,15 @@ module _ (files : List File) (own : Addr) (mac : Mac) (network : Network) where
   abbrev Here : BothEther → Station Act → Type 0
   Here d s = BothAtStation files own mac network d s
 
+  abbrev sent_at : BothCall → Station Act → List ℕ
+  sent_at call s = program_frame both_program (both_spec files) is_both_port (link_of own mac network) own call s
+
   -- what one call does, at a station that the device represents
   record Step (call : BothCall) (s : Station Act) (b : Kept) (handed : List ℕ) : Type 0 where
     after : BothEther
     is : b ≡ Some after
     here : Here after (station_after_call files own mac network call s)
-    wrote : handed ≡ frame_of_call files own mac network call s
+    wrote : handed ≡ sent_at call s
     could : CouldWrite call s
 
   -- the site stays
@@ -60,7 +67,7 @@ module _ (files : List File) (own : Addr) (mac : Mac) (network : Network) where
       let between = written_here it.before it.between it.writes.message s it.link it.writes.kept it.writes.changes at in
       let named = subst (λ (m : PlainMessage). Here it.between (record { acts = s.acts; node = with_change (change_own true (write_message m)) s.node }))
       (it.writes.next s.node at.station.stands.stands) between in
-      let from = it.answers.each (interface_at own mac network) (both_spec files) own (station_before (Writes slot taken text last) s) named.station in
+      let from = it.answers.each (interface_at own mac network) (both_spec files) own (before_program_call both_program (both_spec files) is_both_port (link_of own mac network) own (Writes slot taken text last) s) named.station in
       record {
         after = it.after;
         is = it.is;
@@ -91,27 +98,17 @@ module _ (files : List File) (own : Addr) (mac : Mac) (network : Network) where
   one (Writes slot taken text last) d s a b handed is here it = by_write slot taken text last d s a b handed is here it
   one (Gives number text) d s a b handed is here it = by_value number text d s a b handed is here it.0 it.1
 
-  record Steps (all : List AnsweredCall) (s : Station Act) (c : Kept) : Type 0 where
-    frames : map (λ it. it.handed) all ≡ frames_of_calls files own mac network (calls_of all) s
-    could : CouldWriteAll files own mac network (calls_of all) s
-    represents : HasBoth (λ d. Here d (station_after_calls files own mac network (calls_of all) s)) c
+  abbrev KeptHere : Kept → Station Act → Type 0
+  KeptHere kept s = HasBoth (λ d. Here d s) kept
 
-  all_of : (all : List AnsweredCall) (d : BothEther) (s : Station Act) (a c : Kept) → a ≡ Some d → Here d s → DidCalls all a c → Steps all s c
-  all_of [] d s a c is here same = record { frames = refl; could = tt; represents = (d, sym same ∙ is, here) }
-  all_of (it ∷ all) d s a c is here more =
-      let first = one it.call d s a more.0 it.handed is here more.1 in
-      let later = all_of all first.after (station_after_call files own mac network it.call s) more.0 c first.is first.here more.2 in
-      record {
-        frames =
-            ap (λ (l : List ℕ). l ∷ map (λ x. x.handed) all) first.wrote
-            ∙ ap (λ (ls : List (List ℕ)). frame_of_call files own mac network it.call s ∷ ls) later.frames;
-        could = (first.could, later.could);
-        represents = later.represents;
-      }
+  one_call : (call : BothCall) (s : Station Act) (a b : Kept) (handed : List ℕ) → KeptHere a s → DidCall call a b handed
+      → KeptHere b (station_after_call files own mac network call s) × (handed ≡ sent_at call s) × CouldWrite call s
+  one_call call s a b handed here did =
+      let step = one call here.0 s a b handed here.1 here.2 did in ((step.after, step.is, step.here), step.wrote, step.could)
 
 pub calls_exact : CallsAreExact
 calls_exact files own mac network all closed old new opens did =
-    let d : BothEther = opens.1.0 in
     let fresh = opens.1.2 in
-    let steps = all_of files own mac network all d (first_station files own) old new opens.1.1 record { files_are = fresh.files_are; station = fresh.fresh.stands } did in
-    record { frames = steps.frames; could = steps.could; represents = steps.represents }
+    let exact = all_exact both_program (both_spec files) is_both_port (link_of own mac network) own (KeptHere files own mac network) CouldWrite DidCall (one_call files own mac network) all (first_station files own) old new
+    (opens.1.0, opens.1.1, record { files_are = fresh.files_are; station = fresh.fresh.stands }) did in
+    record { frames = exact.frames; could = exact.each; represents = exact.here }

@@ -1,4 +1,5 @@
 pub mod BothLaws
+pub mod BothKeepLaws
 pub mod Opened
 pub mod PageNumbers
 pub mod Taking

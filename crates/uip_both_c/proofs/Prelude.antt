@@ -6,22 +6,22 @@ pub use Rattle.device_values.specs.Prelude.{value_given}
 pub use Rattle.ethernet_arp.specs.declared.mac.Mac.{Mac}
 pub use Rattle.file_tree.specs.Prelude.{AreApart, files_of}
 pub use Rattle.file_tree.specs.declared.file_id.FileId.{FileId}
-pub use Rattle.frame_device.specs.Prelude.{ChangesNumbers, IsFreshFrameDevice, interface_at, CallsSlot, DoesNothing, FrameCall, InputsFrame}
+pub use Rattle.frame_device.specs.Prelude.{ChangesNumbers, IsFreshFrameDevice, interface_at}
 pub use Rattle.frame_device.specs.declared.network.Network.{Network}
 pub use Rattle.httpd.proofs.Finding.{found_place}
 pub use Rattle.httpd.specs.Web.{WebContent}
-pub use Rattle.own_app.specs.Prelude.{PlainMessage, message_of, no_message, numbers_of, write_message}
+pub use Rattle.own_app.specs.Prelude.{PlainMessage, message_of, no_message, numbers_of}
 pub use Rattle.own_app.specs.declared.shared.OwnShared.{OwnShared}
 pub use Rattle.site_image.specs.Prelude.{File}
-pub use Rattle.std.proofs.Common.{Bool, List, None, Option, Some, ap, arith, false, get_or, length, option_map, refl, subst, sym, ℕ, ◌++◌, ◌<◌, ◌∙◌, ◌≡◌, [], map, ◌∷◌}
+pub use Rattle.std.proofs.Common.{Bool, List, None, Option, Some, ap, arith, false, get_or, length, option_map, refl, subst, sym, ℕ, ◌++◌, ◌<◌, ◌∙◌, ◌≡◌}
 pub use Rattle.std.proofs.lemmas.Bool.{false≢true}
 pub use Rattle.std.proofs.lemmas.Grind.{get_or_default_zero}
 pub use Rattle.std.proofs.lemmas.List.{get_or_append_left}
 pub use Rattle.std.specs.Option.{is_some}
 pub use Rattle.std.specs.Prelude.{if◌then◌else◌, true}
-pub use Rattle.uip_both_c.specs.BothSpec.{both, both_spec, first_both_numbers, site_of}
+pub use Rattle.uip_both_c.specs.BothSpec.{both, both_spec, first_both_numbers}
 pub use Rattle.uip_both_c.specs.Holding.{DeviceRow, holds}
-pub use Rattle.uip_both_c.specs.Kept.{BothEther, BothNode, BothShared, Kept, HasBoth}
+pub use Rattle.uip_both_c.specs.Kept.{BothEther, BothNode, BothShared, Kept}
 pub use Rattle.uip_both_c.specs.Opening.{IsOpenedBoth}
 pub use Rattle.uip_both_c.specs.Rows.{TellsRow}
 pub use Rattle.uip_both_c.specs.declared.held.Held.{Held}
@@ -32,9 +32,14 @@ pub use Rattle.uip_device.specs.declared.device_web.DeviceWeb.{DeviceWeb}
 pub use Rattle.uip_wire.specs.declared.addr.Addr.{Addr}
 pub use Rattle.web_pages.specs.Prelude.{hits_of, place_of}
 pub use Rattle.ethernet_arp.specs.Prelude.{Act}
+pub use Rattle.frame_device.specs.Prelude.{CallsSlot, DoesNothing, FrameCall, InputsFrame}
 pub use Rattle.frame_device.specs.declared.ether.Ethernet.{Ethernet}
+pub use Rattle.own_app.specs.Prelude.{write_message}
 pub use Rattle.own_node.specs.Prelude.{with_change}
 pub use Rattle.serve_loop.specs.Prelude.{Station}
-pub use Rattle.uip_both_c.specs.BothCalls.{AnsweredCall, BothAtStation, BothCall, Calls, CallsAreExact, CouldWrite, CouldWriteAll, DidCall, DidCalls, Gives, Writes, calls_of, first_station, frame_of_call, frames_of_calls, station_after_call, station_after_calls, station_before}
+pub use Rattle.std.proofs.Common.{[]}
+pub use Rattle.uip_both_c.specs.BothCalls.{BothAtStation, BothCall, Calls, CallsAreExact, CouldWrite, DidCall, Gives, Writes, first_station, station_after_call}
+pub use Rattle.uip_both_c.specs.BothSpec.{site_of}
 pub use Rattle.uip_both_c.specs.Handles.{BothAnswers, BothGives, BothWrites}
+pub use Rattle.uip_both_c.specs.Kept.{HasBoth}
 pub use Rattle.uip_node.specs.Prelude.{AbstractNode, Represents}

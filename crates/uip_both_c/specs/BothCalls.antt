@@ -1,16 +1,16 @@
 -- Calls on a handle, one after the other, and what the definition of the node and its link gives for them.
-use Rattle.std.specs.Prelude.{◌≡◌, ℕ, Bool, List, [], ◌∷◌, false, map, true, ⊤}
+use Rattle.std.specs.Prelude.{◌≡◌, ℕ, Bool, List, [], false, map, true, ⊤}
 use Rattle.app_pair.specs.PairNumbers.{change_own}
 use Rattle.ethernet_arp.specs.Prelude.{Act}
 use Rattle.ethernet_arp.specs.declared.mac.Mac.{Mac}
 use Rattle.file_tree.specs.Prelude.{files_of}
-use Rattle.frame_device.specs.Prelude.{CallsSlot, DoesNothing, FrameCall, FrameSpec, RepresentsStation, as_medium, ether_frames}
-use Rattle.frame_device.specs.Prelude.{interface_at, station_events_by}
+use Rattle.frame_device.specs.Prelude.{CallsSlot, DoesNothing, FrameCall, FrameSpec, RepresentsStation, ether_frames, interface_at}
+use Rattle.frame_device.specs.ProgramCalls.{AnsweredBy, DidInTurn, OfEach, Program, after_program_call, after_program_calls, program_calls, program_frames}
 use Rattle.frame_device.specs.contracts.ether.EthernetFrames.TheImpl.{ghosts as ether_link}
 use Rattle.frame_device.specs.declared.network.Network.{Network}
 use Rattle.own_app.specs.Prelude.{write_message}
-use Rattle.own_node.specs.Prelude.{can_write_at, next_message_at, with_change}
-use Rattle.serve_loop.specs.Prelude.{Station, initial_station, output, station_after_all}
+use Rattle.own_node.specs.Prelude.{can_write_at, next_message_at}
+use Rattle.serve_loop.specs.Prelude.{Station, initial_station}
 use Rattle.site_image.specs.Prelude.{File}
 use Rattle.uip_both_c.specs.BothSpec.{both, both_spec, first_both_numbers, is_both_port, own_in, site_of}
 use Rattle.uip_both_c.specs.Handles.{BothAnswers, BothGives, BothWrites, OpensBothAs}
@@ -24,10 +24,8 @@ pub data BothCall : Type 0 where
   Writes : (slot taken : ℕ) (text : List ℕ) (last : Bool) → BothCall
   Gives : (number : ℕ) (text : List ℕ) → BothCall
 
--- a call, and the frame that it wrote, or no bytes
-pub record AnsweredCall : Type 0 where
-  pub call : BothCall
-  pub handed : List ℕ
+abbrev pub AnsweredCall : Type 0
+AnsweredCall = AnsweredBy BothCall
 
 -- What a call did, by its clauses.
 abbrev pub DidCall : BothCall → Kept → Kept → List ℕ → Type 0
@@ -36,30 +34,29 @@ DidCall (Calls call) old new handed = BothAnswers call old new handed
 DidCall (Writes slot taken text last) old new handed = BothWrites slot taken text last old new handed
 DidCall (Gives number text) old new handed = BothGives number text old new × (handed ≡ [])
 
--- Calls one after the other, on a handle that nothing else touches.
 abbrev pub DidCalls : List AnsweredCall → Kept → Kept → Type 0
-DidCalls [] a c = a ≡ c
-DidCalls (it ∷ all) a c = (b : Kept) × DidCall it.call a b it.handed × DidCalls all b c
+DidCalls all a c = DidInTurn DidCall all a c
 
 -- ---- by definition
 
 abbrev pub link_of : Addr → Mac → Network → FrameSpec Act
 link_of own mac network = ether_frames (interface_at own mac network)
 
--- the station at which a call makes its frame call: the next message of the connection in the slot was written, or a value was set; and
--- that frame call
-abbrev pub station_before : BothCall → Station Act → Station Act
-station_before (Calls call) s = s
-station_before (Writes slot taken text last) s = record {
-  acts = s.acts;
-  node = with_change (change_own true (write_message (next_message_at taken text last (own_in slot s.node)))) s.node;
-}
-station_before (Gives number text) s = record { acts = s.acts; node = with_change (change_own false (write_value number text)) s.node }
+-- A call that writes a message first puts it in the place of the newest, and then makes the call of the slot. A call that sets a value
+-- makes no call of the device.
+abbrev pub change_by : BothCall → Station Act → List ℕ → List ℕ
+change_by (Calls call) s numbers = numbers
+change_by (Writes slot taken text last) s numbers =
+    change_own true (write_message (next_message_at taken text last (own_in slot s.node))) numbers
+change_by (Gives number text) s numbers = change_own false (write_value number text) numbers
 
 abbrev pub frame_call_of : BothCall → FrameCall
 frame_call_of (Calls call) = call
 frame_call_of (Writes slot taken text last) = CallsSlot slot
 frame_call_of (Gives number text) = DoesNothing
+
+abbrev pub both_program : Program BothCall Act
+both_program = record { change = change_by; makes = frame_call_of }
 
 -- A message was written to a connection that could capture it.
 abbrev pub CouldWrite : BothCall → Station Act → Type 0
@@ -67,39 +64,21 @@ CouldWrite (Calls call) s = ⊤
 CouldWrite (Writes slot taken text last) s = can_write_at taken (own_in slot s.node) ≡ true
 CouldWrite (Gives number text) s = ⊤
 
--- the station after a call, and after calls
 module _ (files : List File) (own : Addr) (mac : Mac) (network : Network) where
   abbrev pub station_after_call : BothCall → Station Act → Station Act
-  station_after_call call s =
-      station_after_all (both_spec files) is_both_port (station_events_by (link_of own mac network) own (frame_call_of call))
-      (station_before call s)
+  station_after_call call s = after_program_call both_program (both_spec files) is_both_port (link_of own mac network) own call s
 
   abbrev pub station_after_calls : List BothCall → Station Act → Station Act
-  station_after_calls [] s = s
-  station_after_calls (call ∷ calls) s = station_after_calls calls (station_after_call call s)
+  station_after_calls calls s = after_program_calls both_program (both_spec files) is_both_port (link_of own mac network) own calls s
 
-  -- the frame that is sent at a call, or no bytes, and at each of these
-  abbrev pub frame_of_call : BothCall → Station Act → List ℕ
-  frame_of_call call s =
-      output (both_spec files) is_both_port (as_medium (link_of own mac network)) own
-      (station_events_by (link_of own mac network) own (frame_call_of call)) (station_before call s)
-
-  abbrev pub frames_of_calls : List BothCall → Station Act → List (List ℕ)
-  frames_of_calls [] s = []
-  frames_of_calls (call ∷ calls) s = frame_of_call call s ∷ frames_of_calls calls (station_after_call call s)
-
-  -- each message was written so
-  abbrev pub CouldWriteAll : List BothCall → Station Act → Type 0
-  CouldWriteAll [] s = ⊤
-  CouldWriteAll (call ∷ calls) s = CouldWrite call s × CouldWriteAll calls (station_after_call call s)
+  -- P holds of each call, and of the station at which it is made.
+  abbrev pub OfEachCall : (BothCall → Station Act → Type 0) → List BothCall → Station Act → Type 0
+  OfEachCall P calls s = OfEach both_program (both_spec files) is_both_port (link_of own mac network) own P calls s
 
 -- ---- the law
 
 abbrev pub first_station : List File → Addr → Station Act
 first_station files own = initial_station own (first_both_numbers files)
-
-abbrev pub calls_of : List AnsweredCall → List BothCall
-calls_of all = map (λ it. it.call) all
 
 -- The device serves these files and represents this station: an abstract node, and the events of ARP so far.
 pub record BothAtStation (files : List File) (own : Addr) (mac : Mac) (network : Network) (d : BothEther) (s : Station Act) : Type 0 where
@@ -109,10 +88,11 @@ pub record BothAtStation (files : List File) (own : Addr) (mac : Mac) (network :
 -- Each call wrote exactly the frame of the definition, or none. Each message was written to a connection that could capture it. The device
 -- represents the station after all calls.
 pub record IsExact (files : List File) (own : Addr) (mac : Mac) (network : Network) (all : List AnsweredCall) (new : Kept) : Type 0 where
-  pub frames : map (λ it. it.handed) all ≡ frames_of_calls files own mac network (calls_of all) (first_station files own)
-  pub could : CouldWriteAll files own mac network (calls_of all) (first_station files own)
+  pub frames : map (λ it. it.handed) all
+      ≡ program_frames both_program (both_spec files) is_both_port (link_of own mac network) own (program_calls all) (first_station files own)
+  pub could : OfEachCall files own mac network CouldWrite (program_calls all) (first_station files own)
   pub represents : HasBoth (λ d. BothAtStation files own mac network d
-      (station_after_calls files own mac network (calls_of all) (first_station files own))) new
+      (station_after_calls files own mac network (program_calls all) (first_station files own))) new
 
 -- So is every sequence of calls on a handle that was just opened.
 abbrev pub CallsAreExact : Type 0

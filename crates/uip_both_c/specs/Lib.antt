@@ -5,4 +5,5 @@ pub mod Handles
 pub mod Opening
 pub mod Rows
 pub mod BothCalls
+pub mod BothPromise
 pub mod ConstantValues

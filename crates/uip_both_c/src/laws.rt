@@ -1,6 +1,7 @@
 //! What holds of calls from C, and the numbers of the header.
 
 ghost use Rattle.uip_both_c.specs.BothCalls.{CallsAreExact};
+ghost use Rattle.uip_both_c.specs.BothPromise.{BothCallsConform};
 ghost use Rattle.uip_both_c.specs.ConstantValues.{ConstantValues};
 
 /// Holds for any sequence of calls on a handle that was just opened, successful or refused, with any values set between. Each call writes
@@ -8,6 +9,15 @@ ghost use Rattle.uip_both_c.specs.ConstantValues.{ConstantValues};
 /// capture it. The device serves the same files, and represents the node and the events of ARP after these calls.
 pub fn both_calls_are_exact()
     ensures { CallsAreExact }
+{}
+
+/// Holds for any frames and texts of bytes, and any sequence of calls on a handle that was just opened, successful or refused, with any
+/// values set between. Each call writes the frame of what is sent in the trace entries of its input, or of ARP, and the trace satisfies the
+/// guarantee: at port 80 for the pages of the image, at the other ports for the messages of the program. What is sent to a peer there is a
+/// prefix of the messages that its connection captured, in order. For fewer than 2^32 calls, that is what the program wrote to the
+/// connection. Each frame with a datagram goes to the hardware address that its next hop taught last.
+pub fn both_calls_keep_the_promise()
+    ensures { BothCallsConform }
 {}
 
 /// The constants have the values that the header names.

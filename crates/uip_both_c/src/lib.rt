@@ -20,7 +20,7 @@ pub use calls::{UipReceived, uip_input_frame, uip_periodic_frame, uip_read, uip_
 pub use giving::uip_set_value;
 pub use handle::UipDevice;
 pub use held::{BothApps, BothEther, Held};
-pub use laws::{both_calls_are_exact, constant_values};
+pub use laws::{both_calls_are_exact, both_calls_keep_the_promise, constant_values};
 pub use opening::{UipOpened, uip_close, uip_open_ether};
 pub use query::{UipQuery, uip_query};
 pub use reading::{UipNumber, uip_counter, uip_hits, uip_is_idle, uip_ticks};

@@ -1,21 +1,19 @@
 -- The ticket of each connection is a number of 32 bits, and so are the numbers of a message that can be written.
 use Rattle.std.specs.List.{All}
-use Rattle.std.proofs.Common.{◌≡◌, ◌∙◌, ℕ, ◌≤◌, inl, inr, Bool, true, false, List, [], ◌∷◌, if◌then◌else◌, length, nat_le, refl, sym, ap, subst, arith}
+use Rattle.std.proofs.Common.{◌≡◌, ◌∙◌, ℕ, ◌≤◌, inl, inr, Bool, true, false, List, if◌then◌else◌, length, nat_le, refl, sym, ap, subst, arith}
 use Rattle.std.proofs.lemmas.Bool.{and_parts, leb-true, ltb-false}
-use Rattle.std.proofs.lemmas.List.Elements.{All-cons, All-head, All-nil, All-tail}
 use Rattle.app_events.specs.Prelude.{AppState, IsByte, IsU32}
 use Rattle.app_events.specs.declared.now.Now.{Now}
 use Rattle.tcp_machine.specs.Prelude.{Connection, Outcome}
-use Rattle.uip_wire.specs.declared.addr.Addr.{Addr}
-use Rattle.uip_node.specs.Prelude.{AbstractNode, connection_in, initial_node}
-use Rattle.own_app.specs.Prelude.{IsMessage, PlainMessage, is_next_message, message_in, opened_in, own_spec, pending as pending_of, with_message, write_message}
+use Rattle.uip_node.specs.Prelude.{AbstractNode, connection_in}
+use Rattle.own_app.specs.Prelude.{IsMessage, is_next_message, message_in, own_spec, pending as pending_of, with_message}
 use Rattle.own_app.specs.declared.TheConstants.{RECEIVED_ROOM}
 use Rattle.own_node.specs.Prelude.{can_write_in, is_ready_at, next_message}
 use Rattle.own_node.proofs.ReadingLaws.{IsReady, ready_has}
-use Rattle.uip_app_c.proofs.Parts.{AskedPart, OutParts}
-use Rattle.uip_app_c.proofs.Parts.OutParts.{opened, same}
-use Rattle.uip_app_c.proofs.Slots.{InEach, SlotsStep, each_closed, each_set}
-use Rattle.uip_app_c.proofs.Slots.SlotsStep.{accepts_slot, moves_slot, still}
+use Rattle.own_node.proofs.Parts.{AskedPart, OutParts}
+use Rattle.own_node.proofs.Parts.OutParts.{opened, same}
+use Rattle.own_node.proofs.Slots.{InEach, SlotsStep, each_set}
+use Rattle.own_node.proofs.Slots.SlotsStep.{accepts_slot, moves_slot, still}
 
 -- ---- tickets
 
@@ -29,7 +27,7 @@ prepared_own numbers p now = by_next (is_next_message (message_in numbers) p)
     by_next true = refl
     by_next false = refl
 
-asked_own : (o result : Outcome) → AskedPart o result → result.connection.part.own ≡ o.connection.part.own
+pub asked_own : (o result : Outcome) → AskedPart o result → result.connection.part.own ≡ o.connection.part.own
 asked_own o result h =
     elim h.part [
       | inl e ↦ ap (λ (p : AppState). p.own) e
@@ -47,15 +45,13 @@ pub ticketed_on : (n m : AbstractNode) → SlotsStep n m → InEach IsTicketed n
 ticketed_on n m does each =
     elim does [
       | still connections numbers ↦ subst (λ (cs : List Connection). InEach IsTicketed cs) (sym connections) each
-      | accepts_slot slot iss sockets s connections numbers ↦ subst (λ (cs : List Connection). InEach IsTicketed cs) (sym connections) (each_set IsTicketed n.connections slot _ (omega arith) each)
+      | accepts_slot slot d is connections numbers ↦
+          subst (λ (cs : List Connection). InEach IsTicketed cs) (sym connections) (each_set IsTicketed n.connections slot d (subst (λ (k : ℕ). IsU32 k) (sym is.ticket) (omega arith)) each)
       | moves_slot slot it ↦
           subst (λ (cs : List Connection). InEach IsTicketed cs) (sym it.connections)
           (each_set IsTicketed n.connections slot it.result.connection
           (subst (λ (k : ℕ). IsU32 k) (sym (asked_own it.o it.result it.asked)) (out_ticketed (connection_in slot n) n.numbers it.o it.parts (each slot))) each)
     ]
-
-pub first_ticketed : (own : Addr) (numbers : List ℕ) → InEach IsTicketed (initial_node own numbers).connections
-first_ticketed own numbers slot = subst IsTicketed (sym (each_closed 10 slot)) (omega arith)
 
 -- ---- messages
 
@@ -74,24 +70,3 @@ message_fits slot taken text last n each bytes can =
       taken = taken_low c taken (ready_has c parts.0) (leb-true taken (length (pending_of c.part)) parts.1);
       text = bytes;
     }
-
-text_u32 : (text : List ℕ) → All IsByte text → All IsU32 text
-text_u32 [] h = All-nil IsU32
-text_u32 (b ∷ text) h = All-cons IsU32 b text (let low = All-head IsByte b text h in omega (arith, low)) (text_u32 text (All-tail IsByte b text h))
-
-opened_u32 : (numbers : List ℕ) → All IsU32 numbers → IsU32 (opened_in numbers)
-opened_u32 [] h = omega arith
-opened_u32 (k ∷ numbers) h = All-head IsU32 k numbers h
-
-last_u32 : (last : Bool) → IsU32 (if last then 1 else 0)
-last_u32 true = omega arith
-last_u32 false = omega arith
-
-pub written_u32 : (message : PlainMessage) → IsMessage message → (numbers : List ℕ) → All IsU32 numbers → All IsU32 (write_message message numbers)
-written_u32 message is numbers h =
-    let last : ℕ = if message.last then 1 else 0 in
-    let text : List ℕ = message.text in
-    All-cons IsU32 (opened_in numbers) (message.to ∷ message.number ∷ message.taken ∷ last ∷ text) (opened_u32 numbers h)
-    (All-cons IsU32 message.to (message.number ∷ message.taken ∷ last ∷ text) is.to
-    (All-cons IsU32 message.number (message.taken ∷ last ∷ text) is.number
-    (All-cons IsU32 message.taken (last ∷ text) is.taken (All-cons IsU32 last text (last_u32 message.last) (text_u32 text is.text)))))

@@ -1,28 +1,30 @@
--- What a connection captured is what C wrote to it, for fewer than 2^32 calls.
+-- What a connection of `OwnApp` captured is what the program wrote to it, for fewer than 2^32 calls.
 use Rattle.std.specs.List.{All}
-use Rattle.std.proofs.Common.{◌≡◌, ◌∙◌, ℕ, ◌+◌, ◌<◌, ◌≤◌, ◌%◌, inl, inr, Bool, true, false, List, [], ◌∷◌, ◌++◌, append-nil, drop, if◌then◌else◌, length, length-append, nat_le, refl, sym, ap, subst, arith}
-use Rattle.std.proofs.lemmas.Bool.{and_parts, eqb-true, false≢true}
+use Rattle.std.proofs.Common.{◌≡◌, ◌∙◌, ℕ, ◌+◌, ◌<◌, ◌≤◌, ◌%◌, ◌==◌, ◌⊎◌, inl, inr, Bool, true, false, List, [], ◌∷◌, ◌++◌, append-nil, drop, if◌then◌else◌, length, length-append, nat_le, refl, sym, ap, subst, arith}
+use Rattle.std.proofs.lemmas.Bool.{and_parts, eq-eqb, eqb-true, false≢true}
 use Rattle.std.specs.Prelude.{slice_index_or, slice_set}
-use Rattle.app_events.specs.Prelude.{AppState, IsByte, Snapshot}
+use Rattle.app_events.specs.Prelude.{AppSpec, AppState, IsByte, Snapshot}
 use Rattle.app_events.specs.declared.now.Now.{Now}
 use Rattle.app_events.specs.declared.state.State.{State}
 use Rattle.app_events.specs.declared.state.State.TheVariants.{Closed, SynRcvd, Established, CloseWait, FinWait1, FinWait2, Closing, TimeWait, LastAck}
+use Rattle.tcp_machine.specs.Prelude.{Connection, Outcome, closed, is_open}
 use Rattle.uip_wire.specs.declared.addr.Addr.{Addr}
-use Rattle.tcp_machine.specs.Prelude.{Connection, Outcome, accepted, closed, is_open}
-use Rattle.uip_node.specs.Prelude.{AbstractNode, connection_in, initial_node, periodic}
+use Rattle.uip_node.specs.Prelude.{AbstractNode, Event, connection_in, initial_node, run, step}
+use Rattle.uip_node.specs.Node.{periodic}
 use Rattle.uip_node.proofs.Basics.{both_ways}
 use Rattle.uip_node.proofs.Cases.{is_ask}
-use Rattle.own_app.specs.Prelude.{PlainMessage, is_next_message, message_in, messages_text, next_ticket, no_message, numbers_of, opened_in, own_spec, pending as pending_of, with_message, with_written}
+use Rattle.own_app.specs.Prelude.{IsMessage, PlainMessage, is_next_message, message_in, messages_text, next_ticket, no_message, numbers_of, opened_in, own_spec, pending as pending_of, with_message, with_written, write_message}
 use Rattle.own_app.proofs.CaptureLaws.{message_back}
-use Rattle.own_node.specs.Prelude.{HasCaptured, can_write_in, is_ready_at, next_message}
+use Rattle.own_node.specs.Prelude.{HasCaptured, can_write_at, can_write_in, is_ready_at, next_message, next_message_at, with_change}
 use Rattle.own_node.proofs.ReadingLaws.{IsReady, ready_has}
-use Rattle.uip_app_c.specs.AppPromise.{is_accepted}
-use Rattle.uip_app_c.proofs.Parts.{AskedPart}
-use Rattle.uip_app_c.proofs.Parts.OutParts.{opened, same}
-use Rattle.uip_app_c.proofs.Slots.{InEach, MovesSlot, SlotsStep, each_closed, each_set, index_set, periodic_step}
-use Rattle.uip_app_c.proofs.Slots.IndexSet.{new_at, old_at}
-use Rattle.uip_app_c.proofs.Slots.SlotsStep.{accepts_slot, moves_slot, still}
-use Rattle.uip_app_c.proofs.Tickets.{prepared_own}
+use Rattle.own_node.specs.Written.{is_accepted}
+use Rattle.own_node.proofs.Parts.{AskedPart, IsAtPort}
+use Rattle.own_node.proofs.Parts.OutParts.{opened, same}
+use Rattle.own_node.proofs.Containing.{Contains, view, view_accepted, view_closed, view_in, view_node}
+use Rattle.own_node.proofs.Slots.{InEach, MovesSlot, SlotsStep, each_closed, each_set, first_at_port, index_set, periodic_step, slots_step}
+use Rattle.own_node.proofs.Slots.IndexSet.{new_at, old_at}
+use Rattle.own_node.proofs.Slots.SlotsStep.{accepts_slot, moves_slot, still}
+use Rattle.own_node.proofs.Tickets.{IsTicketed, asked_own, message_fits, ticketed_on}
 
 -- ---- the newest message and the tickets
 
@@ -44,14 +46,17 @@ pub record IsSettled (n : AbstractNode) (count : ℕ) : Type 0 where
   pub apart : AreApart n.connections
   pub spent : InEach (IsSpent (message_in n.numbers)) n.connections
 
-pub first_settled : (own : Addr) → IsSettled (initial_node own (numbers_of 0 no_message)) 0
-first_settled own = record {
-  few = omega arith;
-  tickets = λ slot. subst (λ (c : Connection). c.part.own ≤ 0) (sym (each_closed 10 slot)) (omega arith);
-  newest = omega arith;
-  apart = λ i j n o. absurd (false≢true (subst (λ (c : Connection). is_open c.state ≡ true) (each_closed 10 i) o));
-  spent = λ slot o. absurd (false≢true (subst (λ (c : Connection). is_open c.state ≡ true) (each_closed 10 slot) o));
-}
+pub first_settled : (n : AbstractNode) → ((slot : ℕ) → connection_in slot n ≡ closed) → n.numbers ≡ numbers_of 0 no_message → IsSettled n 0
+first_settled n none numbers =
+    let opened : opened_in n.numbers ≡ 0 = ap (λ (l : List ℕ). opened_in l) numbers in
+    let to : (message_in n.numbers).to ≡ 0 = ap (λ (l : List ℕ). (message_in l).to) numbers in
+    record {
+      few = omega (arith, opened);
+      tickets = λ slot. subst (λ (c : Connection). c.part.own ≤ opened_in n.numbers) (sym (none slot)) (omega arith);
+      newest = omega (arith, to);
+      apart = λ i j ne o. absurd (false≢true (subst (λ (c : Connection). is_open c.state ≡ true) (none i) o));
+      spent = λ slot o. absurd (false≢true (subst (λ (c : Connection). is_open c.state ≡ true) (none slot) o));
+    }
 
 apart_set : (cs : List Connection) (i : ℕ) (new : Connection)
     → ((j : ℕ) → (j ≡ i → ⊥) → is_open new.state ≡ true → is_open (slice_index_or cs j closed).state ≡ true → new.part.own ≡ (slice_index_or cs j closed).part.own → ⊥)
@@ -102,13 +107,6 @@ asked_none o result h spent =
     elim h.part [
       | inl e ↦ ap (λ (p : AppState). p.snapshots) e
       | inr e ↦ ap (λ (p : AppState). p.snapshots) e.1.1 ∙ prepared_none o.numbers o.connection.part e.1.0 (spent e.0)
-    ]
-
-asked_own : (o result : Outcome) → AskedPart o result → result.connection.part.own ≡ o.connection.part.own
-asked_own o result h =
-    elim h.part [
-      | inl e ↦ ap (λ (p : AppState). p.own) e
-      | inr e ↦ ap (λ (p : AppState). p.own) e.1.1 ∙ prepared_own o.numbers o.connection.part e.1.0
     ]
 
 -- The connection in a slot after an event has the captures of before; or it begins, without captures.
@@ -236,9 +234,9 @@ pub event_leaves : (n m : AbstractNode) (count : ℕ) → count + 1 < 4294967296
 event_leaves n m count low does g =
     elim does [
       | still cs ns ↦ still_leaves n m count cs ns g
-      | accepts_slot slot iss sockets s cs ns ↦ record {
-        settled = settled_shut n m count slot (accepted iss sockets s) cs g ns refl refl;
-        slots = others_stay n m count slot (accepted iss sockets s) cs g (begins refl refl);
+      | accepts_slot slot d is cs ns ↦ record {
+        settled = settled_shut n m count slot d cs g ns is.ticket (ap (λ (v : State). is_open v) is.state);
+        slots = others_stay n m count slot d cs g (begins is.state is.snapshots);
       }
       | moves_slot slot it ↦ moves_leaves n m count slot low it g
     ]
@@ -254,20 +252,14 @@ pub record WriteLeaves (n m : AbstractNode) (count slot : ℕ) (text : List ℕ)
 next_count : (k : ℕ) → k % 4294967296 ≡ (k + 1) % 4294967296 → ⊥
 next_count k e = omega (arith, e)
 
--- the node after a message was written to a slot and the slot was called
-abbrev pub node_wrote : ℕ → ℕ → List ℕ → Bool → AbstractNode → AbstractNode
-node_wrote slot taken text last n = (periodic own_spec (with_written (next_message slot taken text last n) n) slot).node
-
-pub write_leaves : (n : AbstractNode) (count slot taken : ℕ) (text : List ℕ) (last : Bool) → All IsByte text → can_write_in slot taken n ≡ true
-    → HasCaptured (next_message slot taken text last n) (connection_in slot n) (connection_in slot (node_wrote slot taken text last n)) → IsSettled n count
-    → WriteLeaves n (node_wrote slot taken text last n) (count + 1) slot text
-write_leaves n count slot taken text last bytes can has g =
+pub write_leaves : (n m : AbstractNode) (count slot taken : ℕ) (text : List ℕ) (last : Bool) → All IsByte text → can_write_in slot taken n ≡ true
+    → MovesSlot (with_written (next_message slot taken text last n) n) m slot → HasCaptured (next_message slot taken text last n) (connection_in slot n) (connection_in slot m) → IsSettled n count
+    → WriteLeaves n m (count + 1) slot text
+write_leaves n m count slot taken text last bytes can it has g =
     let message : PlainMessage = next_message slot taken text last n in
     let w : AbstractNode = with_written message n in
-    let m : AbstractNode = (periodic own_spec w slot).node in
     let c : Connection = connection_in slot n in
     let ready : IsReady c = ready_has c (and_parts (is_ready_at c) (nat_le taken (length (pending_of c.part))) can).0 in
-    let it : MovesSlot w m slot = periodic_step w slot in
     let d : Connection = it.result.connection in
     let back : message_in w.numbers ≡ message = message_back (opened_in n.numbers) message bytes in
     elim it.parts [
@@ -320,7 +312,7 @@ write_leaves n count slot taken text last bytes can has g =
 
 -- ---- the text of a slot
 
--- It is what C wrote, and nothing before the connection opens.
+-- It is what the program wrote, and nothing before the connection opens.
 pub record HasWrittenText (c : Connection) (text : List ℕ) : Type 0 where
   pub text_is : messages_text c.part.snapshots ≡ text
   pub none : c.state ≡ SynRcvd → c.part.snapshots ≡ []
@@ -370,3 +362,137 @@ text_grows c d text more grows not_now h = record {
 
 pub same_slot : (c d : Connection) → d ≡ c → SlotAfter c d
 same_slot c d e = goes_on (ap (λ (x : Connection). x.part.snapshots) e) (λ z. ap (λ (x : Connection). x.state) (sym e) ∙ z)
+
+-- ---- of a node with an application that contains `OwnApp`
+
+module _ (mine : ℕ → Bool) (seen : AppState → AppState) (own : List ℕ → List ℕ) (m : AppSpec) (contains : Contains mine seen own m) where
+  abbrev View : AbstractNode → AbstractNode
+  View n = view_node mine seen own n
+
+  abbrev view_at : ℕ → AbstractNode → Connection
+  view_at slot n = view mine seen own (connection_in slot n)
+
+  seen_in : (n : AbstractNode) (slot : ℕ) → connection_in slot (View n) ≡ view_at slot n
+  seen_in n slot = view_in mine seen own contains.fresh n slot
+
+  -- each part is of a connection at its port, and each ticket is of 32 bits
+  pub record Follows (n : AbstractNode) : Type 0 where
+    pub at_port : InEach IsAtPort n.connections
+    pub ticketed : InEach IsTicketed (View n).connections
+
+  pub step_follows : (served : ℕ → Bool) (event : Event) (n : AbstractNode) → Follows n → Follows (step m served n event).node
+  step_follows served event n f =
+      let it = slots_step mine seen own m contains n f.at_port served event in
+      record { at_port = it.1; ticketed = ticketed_on (View n) (View (step m served n event).node) it.0 f.ticketed }
+
+  pub run_follows : (served : ℕ → Bool) (events : List Event) (n : AbstractNode) → Follows n → Follows (run m served events n).node
+  run_follows served [] n f = f
+  run_follows served (e ∷ es) n f = run_follows served es (step m served n e).node (step_follows served e n f)
+
+  pub change_follows : (change : List ℕ → List ℕ) (n : AbstractNode) → Follows n → Follows (with_change change n)
+  change_follows change n f = record { at_port = f.at_port; ticketed = f.ticketed }
+
+  -- a node after `count` calls, and the text that was written to the connection in a slot
+  pub record Holds (n : AbstractNode) (count slot : ℕ) (text : List ℕ) : Type 0 where
+    pub settled : IsSettled (View n) count
+    pub has : HasWrittenText (view_at slot n) text
+
+  -- at first
+  first_seen : (addr : Addr) (numbers : List ℕ) (slot : ℕ) → view_at slot (initial_node addr numbers) ≡ closed
+  first_seen addr numbers slot = ap (λ (c : Connection). view mine seen own c) (each_closed 10 slot) ∙ view_closed mine seen own contains.fresh
+
+  pub first_follows : (addr : Addr) (numbers : List ℕ) → Follows (initial_node addr numbers)
+  first_follows addr numbers = record {
+    at_port = first_at_port addr numbers;
+    ticketed = λ slot. subst IsTicketed (sym (seen_in (initial_node addr numbers) slot ∙ first_seen addr numbers slot)) (omega arith);
+  }
+
+  pub first_holds : (addr : Addr) (numbers : List ℕ) → own numbers ≡ numbers_of 0 no_message → (slot : ℕ) → Holds (initial_node addr numbers) 0 slot []
+  first_holds addr numbers own_is slot = record {
+    settled = first_settled (View (initial_node addr numbers)) (λ at. seen_in (initial_node addr numbers) at ∙ first_seen addr numbers at) own_is;
+    has = subst (λ (c : Connection). HasWrittenText c []) (sym (first_seen addr numbers slot)) record { text_is = refl; none = λ z. refl };
+  }
+
+  -- one call more, which wrote this text
+  abbrev pub HoldsAfter : AbstractNode → ℕ → ℕ → List ℕ → Type 0
+  HoldsAfter n count slot text = Holds n (count + 1) slot (if is_accepted (connection_in slot n).state then [] else text)
+
+  -- the text by the connection that `OwnApp` sees
+  by_view : (n : AbstractNode) (slot : ℕ) (text : List ℕ) → HasWrittenText (view_at slot n) (if is_accepted (view_at slot n).state then [] else text)
+      → HasWrittenText (view_at slot n) (if is_accepted (connection_in slot n).state then [] else text)
+  by_view n slot text h =
+      subst (λ (b : Bool). HasWrittenText (view_at slot n) (if b then [] else text)) (view_accepted mine seen own (connection_in slot n)) h
+
+  -- nothing is written
+  stays_after : (n after : AbstractNode) (count slot : ℕ) (text : List ℕ) → IsSettled (View after) (count + 1) → SlotAfter (connection_in slot (View n)) (connection_in slot (View after)) → Holds n count slot text
+      → HoldsAfter after count slot (text ++ [])
+  stays_after n after count slot text settled slots h = record {
+    settled = settled;
+    has = by_view after slot (text ++ [])
+        (text_stays (view_at slot n) (view_at slot after) text (subst (λ (c : Connection). SlotAfter c (view_at slot after)) (seen_in n slot) (subst (λ (d : Connection). SlotAfter (connection_in slot (View n)) d) (seen_in after slot) slots))
+        h.has);
+  }
+
+  pub events_leave : (served : ℕ → Bool) (events : List Event) → (events ≡ []) ⊎ ((e : Event) × (events ≡ e ∷ [])) → (n : AbstractNode) → Follows n → (count slot : ℕ) (text : List ℕ) → count + 1 < 4294967296
+      → Holds n count slot text → HoldsAfter (run m served events n).node count slot (text ++ [])
+  events_leave served events (inl none) n f count slot text low h =
+      let left = still_leaves (View n) (View n) count refl refl h.settled in
+      subst (λ (l : List Event). HoldsAfter (run m served l n).node count slot (text ++ [])) (sym none) (stays_after n n count slot text left.settled (left.slots slot) h)
+  events_leave served events (inr one) n f count slot text low h =
+      let after : AbstractNode = (step m served n one.0).node in
+      let left = event_leaves (View n) (View after) count low (slots_step mine seen own m contains n f.at_port served one.0).0 h.settled in
+      subst (λ (l : List Event). HoldsAfter (run m served l n).node count slot (text ++ [])) (sym one.1) (stays_after n after count slot text left.settled (left.slots slot) h)
+
+  -- the numbers of another application change
+  pub change_leaves : (change : List ℕ → List ℕ) (n : AbstractNode) (count slot : ℕ) (text : List ℕ) → own (change n.numbers) ≡ own n.numbers → Holds n count slot text → Holds (with_change change n) count slot text
+  change_leaves change n count slot text others h = record {
+    settled = subst (λ (l : List ℕ). IsSettled (record (View n) { numbers = l }) count) (sym others) h.settled;
+    has = h.has;
+  }
+
+  -- a message is written to the connection in a slot, and the slot is called
+  module _ (n : AbstractNode) (at taken : ℕ) (text : List ℕ) (last : Bool) (change : List ℕ → List ℕ) where
+    abbrev message : PlainMessage
+    message = next_message at taken text last (View n)
+
+    abbrev wrote : AbstractNode
+    wrote = (periodic m (with_change change n) at).node
+
+    pub wrote_leaves : own (change n.numbers) ≡ (with_written message (View n)).numbers → Follows n → All IsByte text → can_write_in at taken (View n) ≡ true
+        → HasCaptured message (connection_in at (View n)) (connection_in at (View wrote)) → (count slot : ℕ) (before : List ℕ) → Holds n count slot before
+        → HoldsAfter wrote count slot (before ++ (if at == slot then text else []))
+    wrote_leaves numbers f bytes can captured count slot before h =
+        let moves : MovesSlot (with_written message (View n)) (View wrote) at =
+        subst (λ (l : List ℕ). MovesSlot (record (View n) { numbers = l }) (View wrote) at) numbers (periodic_step mine seen own m contains (with_change change n) f.at_port at).0 in
+        let left = write_leaves (View n) (View wrote) count at taken text last bytes can moves captured h.settled in
+        both_ways (at == slot)
+        (λ e. (let here : at ≡ slot = eqb-true at slot e in
+        let grows : messages_text (connection_in slot (View wrote)).part.snapshots ≡ messages_text (connection_in slot (View n)).part.snapshots ++ text =
+        subst (λ (k : ℕ). messages_text (connection_in k (View wrote)).part.snapshots ≡ messages_text (connection_in k (View n)).part.snapshots ++ text) here left.here in
+        let not_now : (connection_in slot (View wrote)).state ≡ SynRcvd → ⊥ = subst (λ (k : ℕ). (connection_in k (View wrote)).state ≡ SynRcvd → ⊥) here left.established in
+        record {
+          settled = left.settled;
+          has = by_view wrote slot (before ++ (if at == slot then text else []))
+              (text_grows (view_at slot n) (view_at slot wrote) before (if at == slot then text else [])
+              (ap (λ (c : Connection). messages_text c.part.snapshots) (sym (seen_in wrote slot)) ∙ grows ∙ ap (λ (c : Connection). messages_text c.part.snapshots ++ text) (seen_in n slot)
+              ∙ ap (λ (b : Bool). messages_text (view_at slot n).part.snapshots ++ (if b then text else [])) (sym e))
+              (λ z. not_now (ap (λ (c : Connection). c.state) (seen_in wrote slot) ∙ z)) h.has);
+        }))
+        (λ e. (let there : slot ≡ at → ⊥ = λ g. false≢true (sym e ∙ eq-eqb at slot (sym g)) in
+        subst (λ (l : List ℕ). HoldsAfter wrote count slot (before ++ l)) (ap (λ (b : Bool). if b then text else []) (sym e))
+        (stays_after n wrote count slot before left.settled (same_slot (connection_in slot (View n)) (connection_in slot (View wrote)) (left.others slot there)) h)))
+
+    -- by the connections that `OwnApp` sees before and after it
+    module _ (c d : Connection) (before : connection_in at (View n) ≡ c) (after : connection_in at (View wrote) ≡ d) (f : Follows n) (bytes : All IsByte text) (can : can_write_at taken c ≡ true) where
+      can_here : can_write_in at taken (View n) ≡ true
+      can_here = ap (λ (x : Connection). can_write_at taken x) before ∙ can
+
+      pub message_seen : IsMessage (next_message_at taken text last c)
+      message_seen = subst (λ (x : Connection). IsMessage (next_message_at taken text last x)) before (message_fits at taken text last (View n) f.ticketed bytes can_here)
+
+      pub wrote_seen : own (change n.numbers) ≡ write_message (next_message_at taken text last c) (own n.numbers) → HasCaptured (next_message_at taken text last c) c d → (count slot : ℕ) (text_before : List ℕ)
+          → Holds n count slot text_before → HoldsAfter wrote count slot (text_before ++ (if at == slot then text else []))
+      wrote_seen numbers captured =
+          wrote_leaves (numbers ∙ ap (λ (x : Connection). write_message (next_message_at taken text last x) (own n.numbers)) (sym before)) f bytes can_here
+          (subst (λ (x : Connection). HasCaptured (next_message_at taken text last x) x (connection_in at (View wrote))) (sym before)
+          (subst (λ (y : Connection). HasCaptured (next_message_at taken text last c) c y) (sym after) captured))

@@ -1,0 +1,199 @@
+-- Calls of a program on a device: what they write in turn conforms, and goes home.
+use Rattle.frame_device.proofs.Prelude.{All, flat_map, ◌≡◌, ◌⊎◌, inl, inr, ℕ, ◌==◌, ◌&&◌, ◌||◌, Bool, List, [], ◌∷◌, ◌++◌, drop, length, map, nat_lt, refl, sym, ap, ◌∙◌, subst, choose, bytes_eq, word_at, All-append, All-cons, All-head, All-nil, All-tail, IsAddr, IsU32, AppSpec, Addr, Event, AbstractNode, run, Periodic, MediumInput, OfMedium, OfNode, Station, station_event_by, event_of, events_among, TraceConforms, TraceEntry, IsDecoded, every_step, OutputModel, HasOutputModel, IsSteady, SendsBytes, Act, Pair, arp_brings, broadcast, frame_brings, is_arp, is_arp_for, is_datagram, is_taken, mac_at, payload_brings, sender_of, AllSound, DecodesBytes, FrameSpec, acts_before, AnsweredFrame, CallsSlot, DoesNothing, FrameCall, InputsFrame, Interface, Makes, ether_frames, station_events_by, initial_station, AllHandOut, IsFrameOfBytes, FrameTrace}
+use Rattle.frame_device.specs.ProgramCalls.{AnsweredBy, DidInTurn, GoHome, OfEach, Program, after_program_call, after_program_calls, before_program_call, program_calls, program_frame, frames_made, program_frames}
+use Rattle.frame_device.specs.ProgramKeeping.{ProgramConforms}
+use Rattle.frame_device.proofs.HomeLaws.{call_home}
+use Rattle.frame_device.proofs.KeepLaws.{acts_after, call_hands_out, call_of_line, node_after, turns_of_call}
+use Rattle.frame_device.specs.Newest.{NewestInEachSlot}
+use Rattle.frame_device.proofs.Newest.{newest_in_each_slot, node_over}
+use Rattle.node_laws.proofs.Steps.{Changes, OfNode as HappensAt, IsStep, LineStep, all_happen, trace_over, turns_then}
+
+module _ {Call C : Type 0} (program : Program Call C) (m : AppSpec) (served : ℕ → Bool) (w : FrameSpec C) (own : Addr) where
+  abbrev After : Call → Station C → Station C
+  After call s = after_program_call program m served w own call s
+
+  abbrev Each : (Call → Station C → Type 0) → List Call → Station C → Type 0
+  Each P calls s = OfEach program m served w own P calls s
+
+  -- ---- what holds of each call
+
+  -- also what holds of the call alone
+  pub each_with : (B : Call → Type 0) (P : Call → Station C → Type 0) (calls : List Call) (s : Station C) → All B calls → Each P calls s → Each (λ call at. B call × P call at) calls s
+  each_with B P [] s are each = tt
+  each_with B P (call ∷ calls) s are each = ((All-head B call calls are, each.0), each_with B P calls (After call s) (All-tail B call calls are) each.1)
+
+  -- along an invariant of the stations
+  module _ (I : Station C → Type 0) (stays : (call : Call) (s : Station C) → I s → I (After call s)) where
+    pub each_by : (P Q : Call → Station C → Type 0) → ((call : Call) (s : Station C) → I s → P call s → Q call s) → (calls : List Call) (s : Station C) → I s → Each P calls s → Each Q calls s
+    each_by P Q f [] s i each = tt
+    each_by P Q f (call ∷ calls) s i each = (f call s i each.0, each_by P Q f calls (After call s) (stays call s i) each.1)
+
+    pub at_end : (calls : List Call) (s : Station C) → I s → I (after_program_calls program m served w own calls s)
+    at_end [] s i = i
+    at_end (call ∷ calls) s i = at_end calls (After call s) (stays call s i)
+
+  -- ---- exactness, from what one call does
+
+  module _ {K : Type 0} (Here : K → Station C → Type 0) (P : Call → Station C → Type 0) (Did : Call → K → K → List ℕ → Type 0)
+      (one : (call : Call) (s : Station C) (a b : K) (handed : List ℕ) → Here a s → Did call a b handed → Here b (After call s) × (handed ≡ program_frame program m served w own call s) × P call s) where
+    pub record Exact (all : List (AnsweredBy Call)) (s : Station C) (c : K) : Type 0 where
+      pub frames : map (λ it. it.handed) all ≡ program_frames program m served w own (program_calls all) s
+      pub each : Each P (program_calls all) s
+      pub here : Here c (after_program_calls program m served w own (program_calls all) s)
+
+    pub all_exact : (all : List (AnsweredBy Call)) (s : Station C) (a c : K) → Here a s → DidInTurn Did all a c → Exact all s c
+    all_exact [] s a c here same = record { frames = refl; each = tt; here = subst (λ (k : K). Here k s) same here }
+    all_exact (it ∷ all) s a c here more =
+        let first = one it.call s a more.0 it.handed here more.1 in
+        let later = all_exact all (After it.call s) more.0 c first.0 more.2 in
+        record {
+          frames = ap (λ (l : List ℕ). l ∷ map (λ x. x.handed) all) first.1
+              ∙ ap (λ (ls : List (List ℕ)). program_frame program m served w own it.call s ∷ ls) later.frames;
+          each = (first.2, later.each);
+          here = later.here;
+        }
+
+  -- ---- the steps of the node
+
+  abbrev pub events_of_call : Call → List Event
+  events_of_call call = events_among (station_events_by w own (program.makes call))
+
+  abbrev program_steps : List Call → Station C → List LineStep
+  program_steps [] s = []
+  program_steps (call ∷ calls) s = Changes (program.change call s) ∷ (map HappensAt (events_of_call call) ++ program_steps calls (After call s))
+
+  abbrev Before : Call → Station C → Station C
+  Before call s = before_program_call program m served w own call s
+
+  abbrev turns_by : Call → Station C → List TraceEntry
+  turns_by call s = turns_of_call m served w own (program.makes call) (Before call s)
+
+  pub node_of_call : (call : Call) (s : Station C) → (After call s).node ≡ (run m served (events_of_call call) (Before call s).node).node
+  node_of_call call s = node_after m served (station_events_by w own (program.makes call)) (Before call s)
+
+  node_then : (events : List Event) (steps : List LineStep) (n : AbstractNode)
+      → node_over m served (map HappensAt events ++ steps) n ≡ node_over m served steps (run m served events n).node
+  node_then [] steps n = refl
+  node_then (e ∷ es) steps n = node_then es steps _
+
+  nodes_are : (calls : List Call) (s : Station C) → node_over m served (program_steps calls s) s.node ≡ (after_program_calls program m served w own calls s).node
+  nodes_are [] s = refl
+  nodes_are (call ∷ calls) s =
+      node_then (events_of_call call) (program_steps calls (After call s)) (Before call s).node
+      ∙ ap (λ (n : AbstractNode). node_over m served (program_steps calls (After call s)) n) (sym (node_of_call call s)) ∙ nodes_are calls (After call s)
+
+  -- the trace of a call, and of the steps after it
+  call_turns : (call : Call) (steps : List LineStep) (s : Station C)
+      → turns_by call s ++ trace_over m served steps (After call s).node ≡ trace_over m served (map HappensAt (events_of_call call) ++ steps) (Before call s).node
+  call_turns call steps s =
+      ap (λ (n : AbstractNode). turns_by call s ++ trace_over m served steps n) (node_of_call call s) ∙ sym (turns_then m served (events_of_call call) steps (Before call s).node)
+
+  record InTurns (all : List (AnsweredBy Call)) (s : Station C) : Type 0 where
+    moves : List FrameTrace
+    answered : map (λ it. it.answered) moves ≡ frames_made program all
+    each : AllHandOut w own s.acts moves
+    turns : flat_map (λ it. it.turns) moves ≡ trace_over m served (program_steps (program_calls all) s) s.node
+
+  first_same : (x y : List ℕ) (xs ys : List (List ℕ)) → x ∷ xs ≡ y ∷ ys → x ≡ y
+  first_same x y xs ys e = cc
+
+  others_same : (x y : List ℕ) (xs ys : List (List ℕ)) → x ∷ xs ≡ y ∷ ys → xs ≡ ys
+  others_same x y xs ys e = cc
+
+  in_turns : (all : List (AnsweredBy Call)) (s : Station C) → map (λ it. it.handed) all ≡ program_frames program m served w own (program_calls all) s → InTurns all s
+  in_turns [] s wrote = record { moves = []; answered = refl; each = tt; turns = refl }
+  in_turns (it ∷ all) s wrote =
+      let next : Station C = After it.call s in
+      let sent : List ℕ = program_frame program m served w own it.call s in
+      let others : List (List ℕ) = program_frames program m served w own (program_calls all) next in
+      let rest = in_turns all next (others_same it.handed sent (map (λ x. x.handed) all) others wrote) in
+      let one : AnsweredFrame = record { move = Makes (program.makes it.call); handed = it.handed } in
+      record {
+        moves = record { answered = one; turns = turns_by it.call s } ∷ rest.moves;
+        answered = ap (λ (l : List AnsweredFrame). one ∷ l) rest.answered;
+        each = (
+          call_hands_out m served w own (program.makes it.call) (Before it.call s) it.handed (first_same it.handed sent (map (λ x. x.handed) all) others wrote),
+          subst (λ (acts : List C). AllHandOut w own acts rest.moves) (acts_after m served (station_events_by w own (program.makes it.call)) (Before it.call s)) rest.each,
+        );
+        turns = ap (λ (l : List TraceEntry). turns_by it.call s ++ l) rest.turns ∙ call_turns it.call (program_steps (program_calls all) next) s;
+      }
+
+  -- ---- the law
+
+  -- a received frame is bytes, and numbers of 32 bits stay such
+  abbrev pub IsOfLine : Call → Station C → Type 0
+  IsOfLine call s = IsFrameOfBytes (Makes (program.makes call)) × ((numbers : List ℕ) → All IsU32 numbers → All IsU32 (program.change call s numbers))
+
+  module _ (decodes : DecodesBytes w) where
+    steps_are : (calls : List Call) (s : Station C) → Each IsOfLine calls s → All (IsStep own) (program_steps calls s)
+    steps_are [] s each = All-nil (IsStep own)
+    steps_are (call ∷ calls) s each =
+        All-cons (IsStep own) (Changes (program.change call s)) (map HappensAt (events_of_call call) ++ program_steps calls (After call s)) each.0.1
+        (All-append (IsStep own) (map HappensAt (events_of_call call)) (program_steps calls (After call s)) (all_happen own (events_of_call call) (call_of_line own w decodes (program.makes call) each.0.0))
+        (steps_are calls (After call s) each.1))
+
+    pub program_conforms : (model : ℕ → OutputModel) → IsSteady m → SendsBytes m → HasOutputModel m model → (numbers : List ℕ) → All IsU32 numbers → IsAddr own
+        → (all : List (AnsweredBy Call)) → Each IsOfLine (program_calls all) (initial_station own numbers)
+        → map (λ it. it.handed) all ≡ program_frames program m served w own (program_calls all) (initial_station own numbers) → ProgramConforms program m served w own model numbers all
+    program_conforms model steady bytes speaks numbers words is all each wrote =
+        let s : Station C = initial_station own numbers in
+        let calls : List Call = program_calls all in
+        let steps : List LineStep = program_steps calls s in
+        let are : All (IsStep own) steps = steps_are calls s each in
+        let t = in_turns all s wrote in
+        let kept = every_step m model steady bytes speaks served own is numbers words steps are in
+        record {
+          frames = record {
+            moves = t.moves;
+            answered = t.answered;
+            each = t.each;
+            keeps = subst (λ (l : List TraceEntry). TraceConforms model served l) (sym t.turns) kept.0;
+            read = subst (λ (l : List TraceEntry). All (IsDecoded own) l) (sym t.turns) kept.1;
+          };
+          newest = subst (λ (l : List TraceEntry). NewestInEachSlot model (after_program_calls program m served w own calls s).node l) (sym t.turns)
+              (subst (λ (n : AbstractNode). NewestInEachSlot model n (trace_over m served steps s.node)) (nodes_are calls s)
+              (newest_in_each_slot m steady model speaks served own numbers words steps are));
+        }
+
+-- ---- over Ethernet
+
+pub program_goes_home : {Call : Type 0} (program : Program Call Act) (m : AppSpec) (served : ℕ → Bool) (k : Interface) (own : Addr) → length k.host.mac ≡ 6 → (calls : List Call) (s : Station Act) → AllSound s.acts
+    → GoHome program m served k own calls s
+program_goes_home program m served k own six [] s sound = tt
+program_goes_home program m served k own six (call ∷ calls) s sound =
+    let this = call_home k six m served own (program.makes call) (before_program_call program m served (ether_frames k) own call s) sound in
+    (this.1, program_goes_home program m served k own six calls (after_program_call program m served (ether_frames k) own call s) this.0)
+
+-- ---- a call brings at most one event of the node
+
+abbrev pub AtMostOne : List Event → Type 0
+AtMostOne events = (events ≡ []) ⊎ ((e : Event) × (events ≡ e ∷ []))
+
+pub periodic_events : {C : Type 0} (acts : List C) (slot : ℕ) → events_among (map OfMedium acts ++ OfNode (Periodic slot) ∷ []) ≡ Periodic slot ∷ []
+periodic_events [] slot = refl
+periodic_events (a ∷ acts) slot = periodic_events acts slot
+
+module _ (k : Interface) (own : Addr) where
+  abbrev FewOf : List (MediumInput Act) → Type 0
+  FewOf cs = AtMostOne (events_among (map (station_event_by own) cs))
+
+  arp_few : (operation : ℕ) (sender : Pair) → FewOf (arp_brings operation sender)
+  arp_few operation sender =
+      choose (λ (l : List (MediumInput Act)). FewOf l) (operation == 1) _ _ (λ e. inl refl)
+      (λ e. choose (λ (l : List (MediumInput Act)). FewOf l) (operation == 2) _ _ (λ f. inl refl) (λ f. inl refl))
+
+  payload_few : (kind : ℕ) (payload : List ℕ) → FewOf (payload_brings k.host kind payload)
+  payload_few kind payload =
+      choose (λ (l : List (MediumInput Act)). FewOf l) (is_datagram kind && nat_lt 0 (length payload)) _ _ (λ e. inr (event_of own payload, refl))
+      (λ e. choose (λ (l : List (MediumInput Act)). FewOf l) (is_arp kind && is_arp_for k.host.addr payload) _ _ (λ f. arp_few (word_at payload 6) (sender_of payload)) (λ f. inl refl))
+
+  frame_few : (frame : List ℕ) → FewOf (frame_brings k.host frame)
+  frame_few frame =
+      choose (λ (l : List (MediumInput Act)). FewOf l) (bytes_eq (mac_at frame 0) k.host.mac || bytes_eq (mac_at frame 0) broadcast) _ _
+      (λ e. payload_few (word_at frame 12) (drop 14 frame)) (λ e. inl refl)
+
+  pub call_few : (call : FrameCall) → AtMostOne (events_among (station_events_by (ether_frames k) own call))
+  call_few (InputsFrame frame) =
+      choose (λ (l : List (MediumInput Act)). FewOf l) (is_taken frame) _ _ (λ e. frame_few frame) (λ e. inl refl)
+  call_few (CallsSlot slot) = inr (Periodic slot, periodic_events (acts_before (ether_frames k) slot) slot)
+  call_few DoesNothing = inl refl

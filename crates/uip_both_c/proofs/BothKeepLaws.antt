@@ -1,0 +1,198 @@
+-- Calls on a handle, one after the other, keep the promise.
+use Rattle.std.specs.List.{All}
+use Rattle.std.proofs.Common.{◌≡◌, ◌∙◌, ℕ, ◌+◌, ◌<◌, Bool, true, false, if◌then◌else◌, List, [], ◌∷◌, ◌++◌, length, map, sym, ap, subst, arith}
+use Rattle.std.proofs.lemmas.List.{length-map}
+use Rattle.app_events.specs.Prelude.{AppSpec, IsPrefixOf, IsU32, Snapshot}
+use Rattle.app_pair.specs.Lemmas.NumberLaws.{others_stay, own_u32, pair_u32, second_back, with_own_u32}
+use Rattle.app_pair.specs.PairNumbers.{change_own, own_numbers}
+use Rattle.app_pair.specs.PairSpec.{CanBePaired, own_snapshot}
+use Rattle.ethernet_arp.specs.Prelude.{Act}
+use Rattle.ethernet_arp.specs.declared.mac.Mac.{Mac}
+use Rattle.file_tree.specs.Prelude.{files_of}
+use Rattle.device_values.specs.Prelude.{words, words_bytes, words_short}
+use Rattle.frame_device.specs.Prelude.{CallsSlot, DoesNothing, FrameCall, FrameSpec, InputsFrame, IsFrameOfBytes, Makes, acts_before, ether_brings_bytes, interface_at, station_events_by}
+use Rattle.frame_device.specs.declared.network.Network.{Network}
+use Rattle.frame_device.specs.ProgramCalls.{program_calls}
+use Rattle.frame_device.proofs.ProgramLaws.{IsOfLine, at_end, call_few, each_by, each_with, events_of_call, program_goes_home, node_of_call, periodic_events, program_conforms}
+use Rattle.line_promise.specs.Prelude.{events_among}
+use Rattle.frame_device.specs.Newest.{NewestConforms}
+use Rattle.node_laws.specs.Prelude.{Exchange, OutputModel, TextConforms, at_every_port}
+use Rattle.node_laws.proofs.EveryTraceConforms.{paged_everywhere}
+use Rattle.frame_device.proofs.Newest.{newest_text}
+use Rattle.own_app.specs.Lemmas.OwnPairs.{own_can_pair}
+use Rattle.own_app.specs.Prelude.{PlainMessage, is_own_port, messages_text, no_message, numbers_of, own_output_model, own_spec, write_message}
+use Rattle.own_app.proofs.OwnLines.{own_speaks, written_u32}
+use Rattle.own_node.specs.Prelude.{HasCaptured, next_message_at, own_connection, with_change}
+use Rattle.own_node.specs.Written.{is_accepted, text_written}
+use Rattle.own_node.proofs.Alone.{own_words}
+use Rattle.own_node.proofs.Containing.{view, view_own}
+use Rattle.own_node.proofs.InPair.{in_pair, pair_captured, pair_message, pair_wrote, second_numbers, second_part}
+use Rattle.own_node.proofs.WrittenLaws.{Follows, HasWrittenText, Holds, HoldsAfter, change_follows, change_leaves, events_leave, first_follows, first_holds, run_follows}
+use Rattle.pair_laws.specs.PairLines.{own_model}
+use Rattle.pair_laws.proofs.PairLines.{speaks_on_lines}
+use Rattle.serve_loop.specs.Prelude.{Station}
+use Rattle.site_image.specs.Prelude.{File}
+use Rattle.tcp_machine.specs.Prelude.{Connection}
+use Rattle.uip_both_c.specs.BothCalls.{AnsweredCall, BothCall, Calls, CouldWrite, Gives, OfEachCall, Writes, both_program, change_by, first_station, link_of, station_after_call, station_after_calls}
+use Rattle.uip_both_c.specs.BothPromise.{BothCallsConform, Captures, IsCallOfBytes, both_model, connection_after, text_in_call}
+use Rattle.uip_both_c.specs.BothSpec.{both_spec, first_both_numbers, is_both_port, own_in}
+use Rattle.uip_both_c.proofs.BothLaws.{calls_exact}
+use Rattle.uip_device.specs.Lemmas.PagePairs.{pages_can_pair}
+use Rattle.uip_device.specs.Prelude.{first_numbers, value_pages, value_spec, write_value}
+use Rattle.uip_device.proofs.WebLaws.{first_words, written_words}
+use Rattle.uip_node.proofs.DeliveredBytes.{page_bytes}
+use Rattle.uip_node.proofs.Steadiness.{steady_of}
+use Rattle.uip_node.specs.Prelude.{AbstractNode, Event, Periodic, connection_in, run}
+use Rattle.uip_wire.specs.declared.addr.Addr.{Addr}
+use Rattle.web_pages.proofs.ByteLaws.{made_of_bytes_by}
+use Rattle.web_pages.proofs.PageLaws.{keeps_page_laws_by}
+
+module _ (files : List File) (own : Addr) (mac : Mac) (network : Network) where
+  abbrev link : FrameSpec Act
+  link = link_of own mac network
+
+  abbrev spec : AppSpec
+  spec = both_spec files
+
+  abbrev pages_pair : CanBePaired (value_spec files)
+  pages_pair = pages_can_pair words files
+
+  abbrev after : BothCall → Station Act → Station Act
+  after call s = station_after_call files own mac network call s
+
+  abbrev FollowsAt : Station Act → Type 0
+  FollowsAt s = Follows is_own_port second_part second_numbers spec (in_pair (value_spec files) pages_pair) s.node
+
+  follows_after : (call : BothCall) (s : Station Act) → FollowsAt s → FollowsAt (after call s)
+  follows_after call s f =
+      subst (λ (n : AbstractNode). Follows is_own_port second_part second_numbers spec (in_pair (value_spec files) pages_pair) n) (sym (node_of_call both_program spec is_both_port link own call s))
+      (run_follows is_own_port second_part second_numbers spec (in_pair (value_spec files) pages_pair) is_both_port (events_of_call both_program spec is_both_port link own call) (with_change (change_by call s) s.node)
+      (change_follows is_own_port second_part second_numbers spec (in_pair (value_spec files) pages_pair) (change_by call s) s.node f))
+
+  -- ---- of one call
+
+  -- it is of bytes, and a message could be written
+  abbrev IsGood : BothCall → Station Act → Type 0
+  IsGood call s = IsCallOfBytes call × CouldWrite call s
+
+  frame_of_bytes : (call : FrameCall) → IsCallOfBytes (Calls call) → IsFrameOfBytes (Makes call)
+  frame_of_bytes (InputsFrame frame) is = is
+  frame_of_bytes (CallsSlot slot) is = tt
+  frame_of_bytes DoesNothing is = tt
+
+  of_line : (call : BothCall) (s : Station Act) → FollowsAt s → IsGood call s → IsOfLine both_program spec is_both_port link own call s
+  of_line (Calls call) s f good = (frame_of_bytes call good.0, λ numbers h. h)
+  of_line (Writes slot taken text last) s f good = (
+    tt,
+    λ numbers h. (let message : PlainMessage = next_message_at taken text last (own_in slot s.node) in
+        with_own_u32 true (write_message message (own_numbers true numbers)) numbers
+        (written_u32 message (own_numbers true numbers) (pair_message (value_spec files) pages_pair s.node slot taken text last f good.0 good.1) (own_u32 true numbers h)) h),
+  )
+  of_line (Gives number text) s f good = (
+    tt,
+    λ numbers h. with_own_u32 false (write_value number text (own_numbers false numbers)) numbers (written_words number text (own_numbers false numbers) good.0 (own_u32 false numbers h)) h,
+  )
+
+  -- the periodic call after a message was written
+  called : (slot taken : ℕ) (text : List ℕ) (last : Bool) (s : Station Act)
+      → (after (Writes slot taken text last) s).node ≡ (run spec is_both_port (Periodic slot ∷ []) (with_change (change_by (Writes slot taken text last) s) s.node)).node
+  called slot taken text last s =
+      node_of_call both_program spec is_both_port link own (Writes slot taken text last) s
+      ∙ ap (λ (events : List Event). (run spec is_both_port events (with_change (change_by (Writes slot taken text last) s) s.node)).node) (periodic_events (acts_before link slot) slot)
+
+  captures_one : (call : BothCall) (s : Station Act) → FollowsAt s → IsGood call s → Captures files own mac network call s
+  captures_one (Calls call) s f good = tt
+  captures_one (Writes slot taken text last) s f good =
+      subst (λ (n : AbstractNode). HasCaptured (next_message_at taken text last (own_in slot s.node)) (own_connection (connection_in slot s.node)) (own_connection (connection_in slot n))) (sym (called slot taken text last s))
+      (pair_captured (value_spec files) pages_pair s.node slot taken text last f good.0 good.1)
+  captures_one (Gives number text) s f good = tt
+
+  -- ---- what the program wrote
+
+  abbrev HoldsAt : AbstractNode → ℕ → ℕ → List ℕ → Type 0
+  HoldsAt n count slot text = Holds is_own_port second_part second_numbers spec (in_pair (value_spec files) pages_pair) n count slot text
+
+  abbrev HoldsNext : AbstractNode → ℕ → ℕ → List ℕ → Type 0
+  HoldsNext n count slot text = HoldsAfter is_own_port second_part second_numbers spec (in_pair (value_spec files) pages_pair) n count slot text
+
+  call_leaves : (call : FrameCall) (n : AbstractNode) → Follows is_own_port second_part second_numbers spec (in_pair (value_spec files) pages_pair) n → (count slot : ℕ) (text : List ℕ) → count + 1 < 4294967296 → HoldsAt n count slot text
+      → HoldsNext (run spec is_both_port (events_among (station_events_by link own call)) n).node count slot (text ++ [])
+  call_leaves call n f count slot text low h =
+      events_leave is_own_port second_part second_numbers spec (in_pair (value_spec files) pages_pair) is_both_port (events_among (station_events_by link own call)) (call_few (interface_at own mac network) own call) n f count slot text low h
+
+  one_leaves : (call : BothCall) (s : Station Act) → FollowsAt s → IsGood call s → (count slot : ℕ) (text : List ℕ) → count + 1 < 4294967296 → HoldsAt s.node count slot text
+      → HoldsNext (after call s).node count slot (text ++ text_in_call slot call)
+  one_leaves (Calls call) s f good count slot before low h =
+      subst (λ (n : AbstractNode). HoldsNext n count slot (before ++ [])) (sym (node_of_call both_program spec is_both_port link own (Calls call) s)) (call_leaves call s.node f count slot before low h)
+  one_leaves (Writes at taken text last) s f good count slot before low h =
+      subst (λ (n : AbstractNode). HoldsNext n count slot (before ++ text_in_call slot (Writes at taken text last))) (sym (called at taken text last s))
+      (pair_wrote (value_spec files) pages_pair s.node at taken text last f good.0 good.1 count slot before h)
+  one_leaves (Gives number text) s f good count slot before low h =
+      let change : List ℕ → List ℕ = change_own false (write_value number text) in
+      subst (λ (n : AbstractNode). HoldsNext n count slot (before ++ [])) (sym (node_of_call both_program spec is_both_port link own (Gives number text) s))
+      (call_leaves DoesNothing (with_change change s.node) (change_follows is_own_port second_part second_numbers spec (in_pair (value_spec files) pages_pair) change s.node f) count slot before low
+      (change_leaves is_own_port second_part second_numbers spec (in_pair (value_spec files) pages_pair) change s.node count slot before
+      (others_stay false (write_value number text (own_numbers false s.node.numbers)) s.node.numbers) h))
+
+  all_leave : (calls : List BothCall) (s : Station Act) → FollowsAt s → OfEachCall files own mac network IsGood calls s → (count slot : ℕ) (text : List ℕ) → count + length calls < 4294967296 → HoldsAt s.node count slot text
+      → HasWrittenText (view is_own_port second_part second_numbers (connection_in slot (station_after_calls files own mac network calls s).node))
+      (text_written (station_after_call files own mac network) (λ (s : Station Act). s.node) text_in_call slot calls s text)
+  all_leave [] s f good count slot text low h = h.has
+  all_leave (call ∷ calls) s f good count slot text low h =
+      all_leave calls (after call s) (follows_after call s f) good.1 (count + 1) slot
+      (if is_accepted (connection_in slot (after call s).node).state then [] else text ++ text_in_call slot call) (omega (arith, low))
+      (one_leaves call s f good.0 count slot text (omega (arith, low)) h)
+
+-- ---- the applications on the wire
+
+-- what is sent at a port of the program's application
+messages_sent : (files : List File) (c : Connection) (exchanges : List Exchange) (it : NewestConforms (both_model files c.sockets.own_port.0) c exchanges) → is_own_port c.sockets.own_port.0 ≡ true
+    → IsPrefixOf (it.conforms.account 0).sent (messages_text (own_connection c).part.snapshots)
+messages_sent files c exchanges it mine =
+    let model_is : both_model files c.sockets.own_port.0 ≡ own_model true (own_output_model c.sockets.own_port.0) =
+    ap (λ (b : Bool). if b then own_model true (own_output_model c.sockets.own_port.0) else own_model false (at_every_port (value_pages files) c.sockets.own_port.0)) mine in
+    let text = subst (λ (model : OutputModel). TextConforms model it.incarnation (it.conforms.account 0)) model_is (newest_text (both_model files c.sockets.own_port.0) c exchanges it) in
+    subst (λ (ks : List Snapshot). IsPrefixOf (it.conforms.account 0).sent (messages_text (map (own_snapshot true) ks))) it.snapshots text.0.2.prefix
+
+both_words : (files : List File) → All IsU32 (first_both_numbers files)
+both_words files = pair_u32 (first_numbers files) (numbers_of 0 no_message) (first_words files) own_words
+
+-- ---- the law
+
+pub calls_conform : BothCallsConform
+calls_conform image own is mac network all bytes closed old new opens did =
+    let files : List File = files_of opens.site in
+    let s : Station Act = first_station files own in
+    let calls : List BothCall = program_calls all in
+    let exact = calls_exact files own mac network all closed old new opens.opened did in
+    let numbers : List ℕ = first_both_numbers files in
+    let spec : AppSpec = both_spec files in
+    let link : FrameSpec Act = link_of own mac network in
+    let of = opens.of_image in
+    let lawful = keeps_page_laws_by words words_short opens.site of.loaded of.sound in
+    let pages : CanBePaired (value_spec files) = pages_can_pair words files in
+    let speaks = speaks_on_lines is_own_port (value_spec files) own_spec (at_every_port (value_pages files)) own_output_model
+    record {
+      steady = steady_of (value_spec files) (value_pages files) lawful;
+      bytes = page_bytes (value_spec files) (value_pages files) lawful (λ delivered captures bytes are. made_of_bytes_by words words_bytes opens.site of.bytes delivered captures are);
+      speaks = paged_everywhere (value_spec files) (value_pages files) lawful;
+      port = pages.port;
+    }
+    record { steady = own_speaks.steady; bytes = own_speaks.bytes; speaks = own_speaks.speaks; port = own_can_pair.port } in
+    let contains = in_pair (value_spec files) pages in
+    let f = first_follows is_own_port second_part second_numbers spec contains own numbers in
+    let good = each_with both_program spec is_both_port link own IsCallOfBytes CouldWrite calls s bytes exact.could in
+    let ends = at_end both_program spec is_both_port link own (FollowsAt files own mac network) (follows_after files own mac network) calls s f in
+    let trace = program_conforms both_program spec is_both_port link own (ether_brings_bytes (interface_at own mac network)) (both_model files) speaks.steady speaks.bytes speaks.speaks numbers (both_words files) is all
+    (each_by both_program spec is_both_port link own (FollowsAt files own mac network) (follows_after files own mac network) (IsGood files own mac network) (IsOfLine both_program spec is_both_port link own) (of_line files own mac network) calls s f good) exact.frames in
+    record {
+      trace = trace;
+      sent = λ slot live mine. messages_sent files (connection_after files own mac network all slot) _ (trace.newest slot live) mine;
+      captured = each_by both_program spec is_both_port link own (FollowsAt files own mac network) (follows_after files own mac network) (IsGood files own mac network) (Captures files own mac network) (captures_one files own mac network) calls s f good;
+      written = λ few slot mine.
+          (let c : Connection = connection_after files own mac network all slot in
+          let has = all_leave files own mac network calls s f good 0 slot [] (let size = length-map all (λ (it : AnsweredCall). it.call) in omega (arith, few, size))
+          (first_holds is_own_port second_part second_numbers spec contains own numbers (second_back (first_numbers files) (numbers_of 0 no_message)) slot) in
+          ap (λ (x : Connection). messages_text x.part.snapshots) (sym (view_own is_own_port second_part second_numbers c (ap is_own_port (ends.at_port slot) ∙ mine))) ∙ has.text_is);
+      home = λ six. program_goes_home both_program spec is_both_port (interface_at own mac network) own six calls s tt;
+    }
