@@ -23,7 +23,7 @@ from fetch import fetch
 
 BETWEEN_SWITCHES = 50
 PATIENCE = 10
-LIMITS = [0, 42, 100, 7, 60, 1, 99, 10]    # alarm levels, one after another
+LIMITS = [42, 0, 100, 7, 60, 1, 99, 10]    # alarm levels, one after another
 SETS_NOTHING = ["", "?", *("?" + text for text in (
     "limit=", "limit=abc", "limit=5x", "limit=101", "limit=1000", "limit=0005", "limit=4294967301", "limit=-5", "limit=+5", "limit=5.0",
     "limit=%35", "limit=5&a=6", "a=6&limit=5", "Limit=5", "level=5", "limits=5", "limit5", "5",
