@@ -145,9 +145,9 @@ class Visit:
     def see_setting(self, query):
         """The page that answers a form shows the alarm level."""
         body = fetch(f"/alarm.shtml{query}")[1].decode()
-        level = re.search(r"<p>Now: (\d+) is ", body)
-        shows = level and f"<h1>The alarm level is {self.limit}</h1>" in body and f"<p>Now: {self.alarm(level[1])}.</p>" in body
-        self.see(shows, f"with the alarm level {self.limit} /alarm.shtml{query} is {body}")
+        shown = re.search(r"<h1>The alarm level is (.*)</h1>\n<p>Now: ((\d+) .*)\.</p>", body)
+        is_good = shown and shown[1] == self.limit and shown[2] == self.alarm(shown[3])
+        self.see(is_good, f"with the alarm level {self.limit} /alarm.shtml{query} shows {shown and shown.group(1, 2)}")
 
     def set_limit(self):
         """Sets the next alarm level by the form, and then requests what sets nothing."""
