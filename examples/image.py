@@ -11,8 +11,8 @@ import sys
 HERE = os.path.dirname(os.path.abspath(__file__))
 COPY = os.path.join(HERE, "..", "crates", "cross_tests", "src", "example_image.rt")
 NAMES = ["index.html", "stats.shtml", "footer.html", "style.css", "logo.png", "404.html"]
-STATE_NAMES = ["index.html", "state.shtml", "now.shtml", "lamp-on.html", "lamp-off.html", "style.css"]
-STATE_TYPES = ["text/html", "application/json", "text/html", "text/html", "text/html", "text/css"]
+STATE_NAMES = ["index.html", "state.shtml", "now.shtml", "lamp-on.html", "lamp-off.html", "alarm.shtml", "style.css"]
+STATE_TYPES = ["text/html", "application/json", "text/html", "text/html", "text/html", "text/html", "text/css"]
 
 
 def read(*path):

@@ -19,6 +19,6 @@ plain=$(mktemp) || exit 1
 trap 'rm -f "$plain"' EXIT
 cd "$here/state" || exit 1
 "$uipd" pack /index.html=index.html /state.shtml=state.shtml /now.shtml=now.shtml /lamp-on.html=lamp-on.html \
-    /lamp-off.html=lamp-off.html /style.css=style.css >"$plain" || exit $?
+    /lamp-off.html=lamp-off.html /alarm.shtml=alarm.shtml /style.css=style.css >"$plain" || exit $?
 "$uipd" upgrade "$plain" /state.shtml=application/json >"$here/state.img" || exit $?
 "$uipd" check "$here/state.img"

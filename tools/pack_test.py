@@ -23,8 +23,8 @@ UIPD = os.path.join(TOP, "crates/uipd/out/uipd")
 HELLO = bytes.fromhex("55495053495445310001" "0b2f696e6465782e68746d6c" "00000006" "68656c6c6f0a")
 HELLO_2 = bytes.fromhex("55495053495445320001" "0b2f696e6465782e68746d6c" "00" "00000006" "68656c6c6f0a")
 SITE = ["index.html", "stats.shtml", "footer.html", "style.css", "logo.png", "404.html"]
-STATE = ["index.html", "state.shtml", "now.shtml", "lamp-on.html", "lamp-off.html", "style.css"]
-STATE_TYPES = ["text/html", "application/json", "text/html", "text/html", "text/html", "text/css"]
+STATE = ["index.html", "state.shtml", "now.shtml", "lamp-on.html", "lamp-off.html", "alarm.shtml", "style.css"]
+STATE_TYPES = ["text/html", "application/json", "text/html", "text/html", "text/html", "text/html", "text/css"]
 BIG = 1 << 22
 
 

@@ -1,6 +1,6 @@
 // The device's site in a frame of no origin, without the service worker: where this page is a file, or where the device's
-// scripts are to be kept apart. A page is shown with the styles, pictures and scripts that it names put into it; its links
-// and its scripts' own requests (`fetch`) come here as messages. What its styles name is not there.
+// scripts are to be kept apart. A page is shown with the styles, pictures and scripts that it names put into it; its links,
+// its forms and its scripts' own requests (`fetch`) come here as messages. What its styles name is not there.
 import { all, headerOf } from "./http.js";
 
 // Runs in the frame, before the device's own scripts.
@@ -12,6 +12,11 @@ function inFrame() {
     if (!link) return;
     event.preventDefault();
     ask({ visit: link.getAttribute("href") });
+  });
+  addEventListener("submit", event => {
+    const form = event.target, [path] = (form.getAttribute("action") ?? "").split(/[?#]/);
+    event.preventDefault();
+    ask({ visit: `${path}?${new URLSearchParams(new FormData(form, event.submitter))}` });
   });
   window.fetch = what => new Promise((resolve, reject) => {
     waiting.set(++count, { resolve, reject });
@@ -77,7 +82,7 @@ export class PlainFrame {
     script.textContent = `(${inFrame})();`;
     page.head.prepend(script);
     this.#refreshLater(page, base);
-    this.element.setAttribute("sandbox", "allow-scripts");
+    this.element.setAttribute("sandbox", "allow-scripts allow-forms");
     this.element.srcdoc = `<!DOCTYPE html>${page.documentElement.outerHTML}`;
     this.shown(pathOf(base));
   }

@@ -17,6 +17,7 @@ export class Refused extends Error {
 export class Device {
   #calls;   // the exports of the module
   #at;      // the addresses of its areas
+  work = () => {};   // called after each `feed`: reads what a form sent and sets values, before the peer acknowledges the head of the page
 
   constructor(module) {
     this.#calls = new WebAssembly.Instance(module).exports;
@@ -43,6 +44,7 @@ export class Device {
       for (let consumed = 0; consumed < part.length; consumed += this.#word(2))
         this.#call("uip_feed", send, device, at + consumed, part.length - consumed, out, MAX_OUT);
     }
+    this.work();
   }
 
   // A tick, due twice a second: the periodic calls of all slots.

@@ -1,12 +1,13 @@
 // The firmware of a device with a state. It serves as main.c does. Before each tick it sets its state as values, which the pages of
 // examples/state show. A level is in the place of a sensor. A request of a page of the lamp turns the lamp on or off: a link that is
-// followed twice does no more than once.
+// followed twice does no more than once. A form sets the alarm level (alarm.h): the pages show whether the level is above it.
+#include "alarm.h"
 #include "board.h"
 #include "uip.h"
 
 extern const unsigned char site_image[], site_image_end[];
 
-enum { NAME, SECONDS, LEVEL, NOTE, LAMP };    // the numbers of the values
+enum { NAME, SECONDS, LEVEL, NOTE, LAMP, LIMIT, ALARM };    // the numbers of the values
 
 typedef struct { char bytes[UIP_MAX_VALUE]; size_t len; } text;
 
@@ -14,6 +15,7 @@ static uip_device device = UIP_INIT;
 static unsigned char out[32];
 static unsigned asked_on, asked_off;          // how often the pages of the lamp had been requested
 static unsigned lamp_is_on;
+static unsigned level, limit = 80, limit_shown;
 
 static void add(text *value, const char *words) {
     for (; *words && value->len < sizeof value->bytes; words++) value->bytes[value->len++] = *words;
@@ -37,7 +39,8 @@ static unsigned give_words(size_t number, const char *words) {
 
 // Sets the seconds since the start, and a level that rises from 0 to 100 and falls again in fifty ticks.
 static unsigned give_state(unsigned ticks) {
-    unsigned place = ticks % 50, is_rising = place < 25, level = is_rising ? 4 * place : 4 * (50 - place);
+    unsigned place = ticks % 50, is_rising = place < 25;
+    level = is_rising ? 4 * place : 4 * (50 - place);
     text seconds = {{0}, 0}, number = {{0}, 0};
     add_number(&seconds, ticks / 2);
     add(&seconds, ticks % 2 ? ".5" : ".0");
@@ -61,9 +64,28 @@ static unsigned give_lamp(void) {
     return give_words(LAMP, lamp_is_on ? "on" : "off");
 }
 
+// Sets the alarm level, and whether the level is above it.
+static unsigned give_alarm(void) {
+    text number = {{0}, 0}, alarm = {{0}, 0};
+    add_number(&number, limit);
+    add_number(&alarm, level);
+    add(&alarm, level > limit ? " is above " : " is not above ");
+    add_number(&alarm, limit);
+    limit_shown = limit;
+    unsigned status = give(LIMIT, &number);
+    return status == UIP_OK ? give(ALARM, &alarm) : status;
+}
+
 static unsigned give_all(unsigned ticks) {
     unsigned status = give_state(ticks);
-    return status == UIP_OK ? give_lamp() : status;
+    if (status == UIP_OK) status = give_lamp();
+    return status == UIP_OK ? give_alarm() : status;
+}
+
+// A uip_sink: reads the form of a request, whose reply begins with this piece, and sends the piece.
+static void send_piece(void *to, const unsigned char *bytes, size_t len) {
+    read_form(&device, &limit);
+    port_send(to, bytes, len);
 }
 
 int main(void) {
@@ -74,8 +96,9 @@ int main(void) {
     if (status == UIP_OK) status = give_all(0);
     for (unsigned ticks = 0; status == UIP_OK; board_sleep(ticks)) {
         port_bytes came = port_waiting();
-        status = uip_feed_all(&device, came.at, came.len, out, sizeof out, port_send, 0);
+        status = uip_feed_all(&device, came.at, came.len, out, sizeof out, send_piece, 0);
         port_taken(came.len);
+        if (status == UIP_OK && limit != limit_shown) status = give_alarm();
         if (status != UIP_OK || ticks == clock_ticks()) continue;
         status = give_all(++ticks);
         if (status == UIP_OK) status = uip_tick_all(&device, out, sizeof out, port_send, 0);

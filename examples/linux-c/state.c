@@ -1,5 +1,6 @@
 // Serves a serial line on standard input and output as a device with a state: the load of this machine, and a lamp. A request of a page
-// of the lamp turns it on or off. Before each tick the program sets both as values, which the pages of examples/state show.
+// of the lamp turns it on or off. Before each tick the program sets both as values, which the pages of examples/state show. A form sets
+// the alarm level (../board/alarm.h): the pages show whether the load is above it.
 //     uip_state serve SITE ADDRESS
 // Further words are ignored: a tick is half a second of this machine's clock.
 #include <fcntl.h>
@@ -9,12 +10,14 @@
 #include <string.h>
 #include <time.h>
 #include <unistd.h>
+#include "../board/alarm.h"
 #include "uip.h"
 
-enum { NAME, SECONDS, LEVEL, NOTE, LAMP };    // the numbers of the values
+enum { NAME, SECONDS, LEVEL, NOTE, LAMP, LIMIT, ALARM };    // the numbers of the values
 
 static uip_device device = UIP_INIT;
 static unsigned char out[256];
+static unsigned level, limit = 80, limit_shown;
 
 static void stop(int status, const char *why) {
     fprintf(stderr, "uip_state: %s\n", why);
@@ -33,6 +36,12 @@ static void write_line(void *to, const unsigned char *bytes, size_t len) {
         if (count <= 0) stop(4, "a write failed");
         at += (size_t)count;
     }
+}
+
+// A uip_sink for what arrives: reads the form of a request, whose reply begins with this piece, and writes the piece.
+static void write_piece(void *to, const unsigned char *bytes, size_t len) {
+    read_form(&device, &limit);
+    write_line(to, bytes, len);
 }
 
 // Milliseconds since the first call.
@@ -65,8 +74,9 @@ static void give_load(unsigned ticks) {
     getloadavg(load, 3);
     snprintf(value, sizeof value, "%u.%u", ticks / 2, ticks % 2 * 5);
     give(SECONDS, value);
-    double level = load[0] / processors * 100;
-    snprintf(value, sizeof value, "%d", level < 100 ? (int)level : 100);
+    double per_cent = load[0] / processors * 100;
+    level = per_cent < 100 ? (unsigned)per_cent : 100;
+    snprintf(value, sizeof value, "%u", level);
     give(LEVEL, value);
     snprintf(value, sizeof value, "load %.2f, %.2f, %.2f of %.0f", load[0], load[1], load[2], processors);
     give(NOTE, value);
@@ -90,9 +100,20 @@ static void give_lamp(void) {
     give(LAMP, is_on ? "on" : "off");
 }
 
+// Sets the alarm level, and whether the level is above it.
+static void give_alarm(void) {
+    char value[100];
+    snprintf(value, sizeof value, "%u", limit);
+    give(LIMIT, value);
+    snprintf(value, sizeof value, "%u is %sabove %u", level, level > limit ? "" : "not ", limit);
+    give(ALARM, value);
+    limit_shown = limit;
+}
+
 static void give_state(unsigned ticks) {
     give_load(ticks);
     give_lamp();
+    give_alarm();
 }
 
 // Opens the device with the site of a file at an address. `image` stays in place: the library reads it there.
@@ -118,7 +139,8 @@ int main(int argc, char **argv) {
         if (poll(&line, 1, left > 0 ? (int)left : 0) > 0) {
             ssize_t count = read(0, bytes, sizeof bytes);
             if (count <= 0) break;
-            need(uip_feed_all(&device, bytes, (size_t)count, out, sizeof out, write_line, 0));
+            need(uip_feed_all(&device, bytes, (size_t)count, out, sizeof out, write_piece, 0));
+            if (limit != limit_shown) give_alarm();
         }
         if (clock_now() < (ticks + 1) * 500ll) continue;
         give_state(++ticks);

@@ -292,7 +292,7 @@ inBrowser("the page is used by the keyboard, has labels, and fits 390 and 360 pi
 inBrowser("scripts are kept apart on request", () => withPort({}, async tab => {
   await tab.run(`document.getElementById("apart").click()`);
   await tab.until(`document.getElementById("frame").srcdoc.includes("data:image/png")`);
-  assert.equal(await tab.run(`return document.getElementById("frame").getAttribute("sandbox")`), "allow-scripts");
+  assert.equal(await tab.run(`return document.getElementById("frame").getAttribute("sandbox")`), "allow-scripts allow-forms");
   await tab.until(`(() => { try { return frames[0].document.title && false; } catch (error) { return error.name === "SecurityError"; } })()`);
   await tab.run(`document.getElementById("apart").click()`);
   await tab.until(shows("Lowunbisa"));

@@ -1,5 +1,5 @@
 // The device inside the page (node.wasm, web/uip.js, web/inside.js) under node, without a browser and without the program: every file of
-// the site, pings, values, hits, queries, several devices, bad images; and what it sends for recorded lines, compared with the program's own bytes.
+// the site, pings, values, hits, queries, a form, several devices, bad images; and what it sends for recorded lines, compared with the program's own bytes.
 import test from "node:test";
 import assert from "node:assert/strict";
 import { execFileSync } from "node:child_process";
@@ -7,6 +7,7 @@ import { existsSync, mkdtempSync, readFileSync, readdirSync, rmSync, writeFileSy
 import { tmpdir } from "node:os";
 import { join } from "node:path";
 import { Clock } from "../clock.js";
+import { runFirmware } from "../sensor.js";
 import { Session } from "../session.js";
 import { nodeInside } from "../inside.js";
 import { Device } from "../uip.js";
@@ -35,12 +36,13 @@ test("every file of the site, and pings", { skip }, () => withNode({}, async ses
 }));
 
 test("values, hits, counters and connections", { skip }, () => withNode({ site: STATE }, async (session, device) => {
-  assert.deepEqual(valuesOf(unpack(STATE)), [0, 1, 2, 3, 4]);
+  assert.deepEqual(valuesOf(unpack(STATE)), [0, 1, 2, 3, 4, 5, 6]);
   device.setValue(0, 'a "name"');
   device.setValue(1, "7");
   device.setValue(2, "50");
+  device.setValue(5, "49");
   const now = JSON.parse(text((await session.whole("/state.shtml")).bytes));
-  assert.deepEqual(now, { name: 'a "name"', seconds: 7, level: 50, note: "", lamp: "" });
+  assert.deepEqual(now, { name: 'a "name"', seconds: 7, level: 50, note: "", lamp: "", limit: 49, alarm: "" });
   assert.throws(() => device.setValue(16, ""), { status: 2 });
   assert.throws(() => device.setValue(0, "x".repeat(33)), { status: 2 });
   const before = device.hits("/lamp-on.html");
@@ -84,6 +86,31 @@ test("queries: the last one, of whatever file, with the hits of its request", { 
   assert.deepEqual(device.query("/x".repeat(1e6)), { text: "", hit: 0 });
   device.close();
   assert.throws(() => device.query("/lamp-on.html"), { status: 1 });
+}));
+
+test("a form sets the alarm level, and the page that answers shows it; other texts set nothing", { skip }, () => withNode({ site: STATE }, async (session, device) => {
+  const values = [], put = (number, value) => { values[number] = value; device.setValue(number, value); };
+  const stop = runFirmware(device, { put, value: number => values[number] });
+  const shown = async query => {
+    const page = text((await session.whole(`/alarm.shtml${query}`)).bytes);
+    return [...page.matchAll(/<h1>The alarm level is (.*)<\/h1>|<p>Now: (.*)\.<\/p>/g)].map(it => it[1] ?? it[2]);
+  };
+  try {
+    assert.deepEqual(await shown(""), ["80", "42 is not above 80"]);
+    for (const [limit, words] of [["41", "42 is above 41"], ["42", "42 is not above 42"], ["100", "42 is not above 100"], ["0", "42 is above 0"]]) {
+      assert.deepEqual(await shown(`?limit=${limit}`), [limit, words]);
+      for (const query of ["", "?", ...["limit=", "limit=abc", "limit=101", "limit=0005", "limit=-5", "limit=%35", "limit=5&a=6", "Limit=5", "5"].map(it => `?${it}`),
+        `?limit=${"5".repeat(58)}`, `?limit=${"5".repeat(59)}`])
+        assert.deepEqual(await shown(query), [limit, words], query);
+    }
+    await session.whole("/now.shtml?limit=5");
+    assert.deepEqual(await shown(""), ["0", "42 is above 0"]);
+    assert.deepEqual(await shown("?limit=0"), ["0", "42 is above 0"]);
+    put(2, "words of any length that are no number".slice(0, 32));   // the level is a field of the page
+    put(5, "1");
+    await shown("?limit=7");
+    assert.deepEqual(values.slice(5), ["7", "NaN is not above 7"]);
+  } finally { stop(); }
 }));
 
 test("three nodes at once, each with its site and address", { skip }, async () => {

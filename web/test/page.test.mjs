@@ -10,6 +10,7 @@ import { PATIENCE, noChromium, startChromium } from "./chromium.mjs";
 import { noFirefox, startFirefox } from "./firefox.mjs";
 import { serialAt, serve, startServe } from "./server.mjs";
 import { SITE, UIPD, here, startNode, top } from "./node_process.mjs";
+import { pack } from "../site.js";
 import { READY, click, ends, go, hasText, hasNotice, set, shows, text } from "./tabs.mjs";
 
 const folder = mkdtempSync(join(tmpdir(), "page-test-"));
@@ -140,7 +141,7 @@ inEach("a device with a sensor and a lamp, and a firmware that sets its values",
   await click(tab, "open-sensor");
   await tab.until(bodyHas("Water tank"));
   await tab.until(bodyHas("42 % full"));
-  assert.deepEqual(await tab.run(`return [...document.querySelectorAll(".value span")].map(it => it.innerText)`), ["name", "seconds", "level", "note", "lamp"]);
+  assert.deepEqual(await tab.run(`return [...document.querySelectorAll(".value span")].map(it => it.innerText)`), ["name", "seconds", "level", "note", "lamp", "limit", "alarm"]);
   await tab.run(`const it = document.querySelectorAll(".value")[2].querySelector("[type=range]"); it.value = 80; it.dispatchEvent(new Event("input"))`);
   await tab.until(bodyHas("80 % full"));
   const lamp = `frames[0].document.getElementById("lamp")?.className`;
@@ -149,6 +150,11 @@ inEach("a device with a sensor and a lamp, and a firmware that sets its values",
     await tab.run(`frames[0].document.querySelector('a[href="/lamp-${state}.html"]').click()`);
     await tab.until(`${lamp} === "${state}"`);
   }
+  await tab.until(bodyHas("80 is not above 80"));
+  await tab.run(`const document = frames[0].document; document.getElementById("limit").value = 79; document.querySelector("form button").click()`);
+  await tab.until(bodyHas("The alarm level is 79"));
+  await tab.until(bodyHas("80 is above 79"));
+  assert.equal(await tab.run(`return document.querySelectorAll(".value [type=text]")[5].value`), "79");
   const seconds = `+document.querySelectorAll(".value [type=text]")[1].value`;
   await tab.until(`${seconds} > 2`);
   await click(tab, "close");
@@ -205,13 +211,13 @@ inEach("the device's address", {}, async tab => {
 inEach("values are sliders and fields, hits are lamps, the last query and the slots are shown", {}, async tab => {
   await openState(tab);
   await tab.until(shows("The device"));
-  assert.deepEqual(await tab.run(`return [...document.querySelectorAll(".value span")].map(it => it.innerText)`), [0, 1, 2, 3, 4].map(n => `value ${n}`));
+  assert.deepEqual(await tab.run(`return [...document.querySelectorAll(".value span")].map(it => it.innerText)`), [0, 1, 2, 3, 4, 5, 6].map(n => `value ${n}`));
   await tab.run(`
     const set = (n, type, value) => { const it = document.querySelectorAll(".value")[n].querySelector("[type=" + type + "]"); it.value = value; it.dispatchEvent(new Event("input")); };
-    set(0, "text", "A pump"); set(1, "range", 61); set(2, "range", 73); set(3, "text", "73 of 100"); set(4, "text", "on")`);
+    set(0, "text", "A pump"); set(1, "range", 61); set(2, "range", 73); set(3, "text", "73 of 100"); set(4, "text", "on"); set(5, "range", 70); set(6, "text", "73 is above 70")`);
   await tab.until(bodyHas("A pump"));
   const seen = JSON.parse(await tab.run(`return new TextDecoder().decode((await node.session.whole("/state.shtml")).bytes)`));
-  assert.deepEqual(seen, { name: "A pump", seconds: 61, level: 73, note: "73 of 100", lamp: "on" });
+  assert.deepEqual(seen, { name: "A pump", seconds: 61, level: 73, note: "73 of 100", lamp: "on", limit: 70, alarm: "73 is above 70" });
   const lamp = `[...document.querySelectorAll(".lamp")].find(it => it.innerText.includes("/lamp-on.html"))`;
   assert.equal(await tab.run(`return ${lamp}.querySelector("b").innerText`), "0");
   await tab.run(`frames[0].document.querySelector('a[href="/lamp-on.html"]').click()`);
@@ -340,6 +346,21 @@ for (const browser of browsers)
       assert.deepEqual(await tab.run(`return performance.getEntriesByType("resource").map(it => it.name).filter(it => /^(http|ftp)/.test(it))`), []);
     });
   });
+
+// The page presses its own button, since no test reaches into a frame of no origin.
+const FORM = `<title>a form</title><form action="/set.html?c=9#d"><input name="a" value="1 &amp;"><button name="b" value="x">Set</button></form>
+<script>addEventListener("load", () => document.querySelector("button").click())</script>`;
+inEach("a form sends its query, also from the sandbox", {}, async tab => {
+  const files = [["/index.html", FORM], ["/set.html", "<title>it is set</title>"]].map(([name, bytes]) => ({ name, bytes: Buffer.from(bytes) }));
+  const image = Buffer.from(pack(files)).toString("base64");
+  for (const isApart of [false, true]) {
+    if (isApart) await click(tab, "apart");
+    await tab.run(`await node.openOwn([new File([Uint8Array.from(atob("${image}"), it => it.charCodeAt(0))], "form.img")])`);
+    await tab.until(`document.getElementById("target").value === "/set.html?a=1+%26&b=x"`);
+    assert.deepEqual(await tab.run(`return node.session.device.query("/set.html")`), { text: "a=1+%26&b=x", hit: 1 });
+    await tab.until(isApart ? `document.getElementById("frame").srcdoc.includes("it is set")` : shows("it is set"));
+  }
+});
 
 inChromium("a folder and an image are dropped onto the page", {}, async tab => {
   const site = join(folder, "dropped");

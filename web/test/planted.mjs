@@ -156,6 +156,7 @@ const FAULTS = {
     [`out + this.#word(2))), hit`, `out + MAX_QUERY)), hit`, "inside", "queries"],
     [`out, MAX_QUERY);`, `out, MAX_QUERY - 1);`, "inside", "queries"],
     [`hit: this.#word(1) };`, `hit: this.hits(name) };`, "inside", "queries"],
+    [`    this.work();`, "", "inside", "a form sets"],
   ],
   "inside.js": [
     [`    if (timer) timer = clock.later(period, beat);`, "", "parts", "sent twice"],
@@ -198,6 +199,11 @@ const FAULTS = {
     [`    text.value = value;\n    set(value);`, `    text.value = value;`, "page", "Chromium: a device with a sensor"],
   ],
   "sensor.js": [
+    [`limit <= 100`, `limit <= 101`, "inside", "a form sets"],
+    [`(\\d{1,3})`, `(\\d*)`, "inside", "a form sets"],
+    [`level > limit`, `level >= limit`, "inside", "a form sets"],
+    [`.slice(0, MOST_BYTES)`, `.padEnd(MOST_BYTES + 1)`, "inside", "a form sets"],
+    [`    showAlarm();\n  }\n  function beat`, `  }\n  function beat`, "inside", "a form sets"],
     [`if (nowOff !== off)`, `if (nowOff !== on)`, "page", "Chromium: a device with a sensor"],
     [`  return () => clearInterval(timer);`, `  return () => {};`, "page", "Chromium: a device with a sensor"],
   ],
@@ -251,12 +257,15 @@ const FAULTS = {
     [`port.postMessage({ why: error.message });`, "", "browser", "a page that never comes"],
   ],
   "plain.js": [
-    [`"allow-scripts"`, `"allow-scripts allow-same-origin"`, "browser", "scripts are kept apart"],
+    [`"allow-scripts allow-forms"`, `"allow-scripts allow-forms allow-same-origin"`, "browser", "scripts are kept apart"],
     [`source !== this.element.contentWindow || `, "", "browser", "the page as one file"],
     [`    await Promise.all([...page.querySelectorAll(NAMED)].map(it => this.#putIn(it, base)));\n`, "", "browser", "the page as one file"],
     [`window.fetch = what =>`, `window.fetched = what =>`, "browser", "the page as one file"],
     [`    ask({ visit: link.getAttribute("href") });`, "", "browser", "the page as one file"],
     [`    this.#refreshLater(page, base);`, "", "page", "Chromium: one file"],
+    [`new FormData(form, event.submitter)`, `new FormData(form)`, "page", "Chromium: a form sends"],
+    [`.split(/[?#]/)`, `.split(/#/)`, "page", "Chromium: a form sends"],
+    [` allow-forms"`, `"`, "page", "Chromium: a form sends"],
   ],
   "serve.py": [
     [`threading.Thread(target=webbrowser.open, args=(address,), daemon=True).start()`, `webbrowser.open(address)`, "parts", "while the browser runs"],
