@@ -1,7 +1,7 @@
 // Images of sites, good and bad, and the pages of their files, by docs/FORMATS.md.
 #include <stdio.h>
 #include <string.h>
-#include "fuzz.h"
+#include "pages.h"
 
 static int is_script(const byte *name, size_t len) { return len >= 6 && !memcmp(name + len - 6, ".shtml", 6); }
 
@@ -114,6 +114,16 @@ int value_has_changed(const page *p) {
     return len > left || memcmp(now, p->bytes + p->call_at, len);
 }
 
+// Whether the next piece of the script is a call that takes a record: its text is that of the moment at which it is due.
+int page_waits(const page *p) {
+    static const char *const functions[] = {"value", "value-json", "value-html", "ticks", "file-stats", "net-stats", "tcp-connections"};
+    if (p->is_whole || !p->script || p->at >= p->script->len) return 0;
+    piece is = piece_at(p->script->content, p->at, p->script->len);
+    int is_function = 0;
+    for (unsigned k = 0; k < 7; k++) is_function |= is_word(p->script->content + is.from, is.to - is.from, functions[k]);
+    return is.kind == CALL && is_function;
+}
+
 // One more piece of the script, as it is at this moment. Gives whether it is a call, whose text begins with a segment.
 int page_goes_on(page *p) {
     const file *f = p->script;
@@ -200,6 +210,28 @@ const char *site_fault(const byte *image, size_t len, unsigned *entry) {
         if (why) return why;
     }
     return 0;
+}
+
+// A name of a file that is mostly asked for; at times a byte longer or shorter, so of no file, or of another.
+size_t some_name(const site *s, byte *to) {
+    if (s->count == 0) return 0;
+    const file *f = &s->files[below(s->count < 12 ? s->count : 12)];
+    memcpy(to, f->name, f->name_len);
+    if (!chance(10)) return f->name_len;
+    to[f->name_len] = (byte)random_next();
+    return f->name_len - 1 + 2 * below(2);
+}
+
+// An image of which some bytes are others, or which is cut or longer; gives its length.
+size_t damage_image(byte *image, size_t len) {
+    if (chance(40)) return below((unsigned)len + 1);
+    for (unsigned k = between(1, 3); k; k--) {
+        size_t front = len < 80 || chance(30) ? len : 80;
+        image[below((unsigned)front)] = (byte)random_next();
+    }
+    if (chance(80)) return len;
+    random_bytes(image + len, 3);
+    return len + between(1, 3);
 }
 
 // A call of a value, mostly by a number that there is.
