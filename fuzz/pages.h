@@ -5,12 +5,13 @@
 
 #include "parts.h"
 
-enum { MOST_FILES = 1024, LONGEST_TEXT = 1 << 21, LONGEST_PAGE = 1 << 16, LONGEST_SPELLED = 6 * UIP_MAX_VALUE };
+enum { MOST_FILES = 1024, LONGEST_TEXT = 1 << 21, LONGEST_PAGE = 1 << 16, LONGEST_SPELLED = 6 * UIP_MAX_VALUE,
+       LONGEST_REPORT = 1100 };
 
 // sites.c: images, by docs/FORMATS.md.
 typedef struct { byte name[64], kind[64]; unsigned name_len, kind_len; const byte *content; size_t len; } file;
 typedef struct { byte *image; size_t len; unsigned count; file files[MOST_FILES]; int is_two; } site;
-typedef struct { int others, values; } calls_of;                           // what the scripts of a site may call
+typedef struct { int others, values, many; } calls_of;                     // what the scripts of a site may call, and whether much
 void make_site(site *s, const calls_of *has);
 const file *file_named(const site *s, const byte *name, size_t len);
 const byte *file_of_target(const byte *target, size_t *len);
@@ -26,6 +27,7 @@ typedef struct {
     piece call;                         // the last one that is fixed, whose text begins at `call_at`, which is 0 where none is
     size_t at, len, call_at;
     int is_known, is_whole;
+    size_t (*report)(int is_rows, byte *to);    // writes the text of `tcp-connections` or `net-stats`; 0 if that is not foretold
     byte bytes[LONGEST_PAGE];
 } page;
 void page_begin(page *p, const site *s, const byte *name, size_t name_len);

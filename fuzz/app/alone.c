@@ -3,6 +3,8 @@
 
 int serves_pages(void) { return 0; }
 
+void pages_count(const node *n) { (void)n; }
+
 void page_opens(connection *c) { (void)c; }
 
 void page_receives(connection *c, const byte *bytes, size_t len) { (void)c, (void)bytes, (void)len; }
@@ -20,6 +22,8 @@ void pages_begin(const byte *own) { (void)own; }
 void pages_act(void) {}
 
 void pages_tick(void) {}
+
+int pages_whole_tick(void) { return 0; }
 
 int pages_see(int is_lost) { return is_lost & 0; }
 

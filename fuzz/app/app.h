@@ -68,6 +68,7 @@ void receive_datagram(const byte *datagram, size_t len);    // in a frame, to th
 void receive_noise(const byte *bytes, size_t len);          // in a frame of some type
 void tick(unsigned slot);
 void silence(unsigned ticks);
+void pass_on(device *d, const sent_frame *sent, int is_reply);    // what a device sent goes to its peers
 
 // peers.c: clients and strangers at the other end of a link with faults.
 typedef struct client client;
@@ -82,6 +83,7 @@ void peer_was_written(client *c, size_t taken, const byte *text, size_t len, uns
 // The pages at port 80 and their clients: ../both/pages.c, or alone.c, which has none. Of the first device alone.
 enum { WEB_PORT = 80 };
 int serves_pages(void);
+void pages_count(const node *n);                             // what arrived, before anything else
 void page_opens(connection *c);                              // the connection is established
 void page_receives(connection *c, const byte *bytes, size_t len);
 void page_is_asked(connection *c);                           // fixes of its page what is due now
@@ -91,6 +93,7 @@ void pages_open_badly(device *d, const byte *own, const byte *mac, const byte *m
 void pages_begin(const byte *own);
 void pages_act(void);                                        // one step of their clients, or of the link
 void pages_tick(void);
+int pages_whole_tick(void);                                  // makes one of ten slots, by the inline call; 0 if there is none
 int pages_see(int is_lost);                                  // after a call that may send; 1 if what was sent is of a page
 void pages_refuse(device *d);                                // a wrong call
 void pages_show(void);

@@ -1,5 +1,5 @@
-// Single calls of include/uip_app.h, or of uip_both.h. What each returns is foretold: its status from its arguments and its handle, the frame that is sent
-// and what is read from the node (node.c). A refused call leaves the handle, the area and the heap unchanged.
+// Single calls of include/uip_app.h, or of uip_both.h. What each returns is foretold: its status from its arguments and its handle, the
+// frame that is sent and what is read from the node (node.c). A refused call leaves the handle, the area and the heap unchanged.
 #include <string.h>
 #include "app.h"
 

@@ -22,7 +22,8 @@ static void act(unsigned *slot) {
         else peers_act();
         return;
     }
-    tick(chance(97) ? *slot : below(UIP_SLOTS));
+    if (*slot == 0 && pages_whole_tick()) *slot = UIP_SLOTS - 1;
+    else tick(chance(97) ? *slot : below(UIP_SLOTS));
     if (++*slot < UIP_SLOTS) return;
     *slot = 0;
     peers_tick();

@@ -246,6 +246,7 @@ size_t node_receives(node *n, const byte *frame, size_t len, byte *sent) {
     if (type == 0x806) return on_arp(n, frame + ETHER_HEAD, len - ETHER_HEAD, sent);
     if (type != 0x800) return 0;
     n->arrived = frame + ETHER_HEAD, n->arrived_len = len - ETHER_HEAD;
+    pages_count(n);
     return sends(n, on_datagram(n, n->arrived, n->arrived_len, n->datagram), sent);
 }
 
@@ -306,7 +307,8 @@ uip_row node_row(const node *n, unsigned slot) {
 
 int node_can_write(const node *n, unsigned slot, size_t taken) {
     const connection *c = n->slots + slot;
-    return !is_page(c) && c->state == UIP_ESTABLISHED && !c->len && !c->is_overrun && !c->has_last && c->acked == c->text_len && taken <= c->received_len;
+    if (is_page(c) || c->state != UIP_ESTABLISHED) return 0;
+    return !c->len && !c->is_overrun && !c->has_last && c->acked == c->text_len && taken <= c->received_len;
 }
 
 size_t node_writes(node *n, unsigned slot, size_t taken, const byte *text, size_t len, unsigned last, byte *sent) {

@@ -13,7 +13,7 @@ static manner how;
 static size_t some_room(void) { return chance(90) ? UIP_MAX_FRAME : between(UIP_MAX_FRAME, 4000); }
 
 // A datagram that the first device sent goes to its peers.
-static void pass_on(device *d, const sent_frame *sent, int is_reply) {
+void pass_on(device *d, const sent_frame *sent, int is_reply) {
     if (d != devices || pages_see(sent->len && sent->bytes[13])) return;
     if (sent->len && sent->bytes[13] == 0) peers_get(sent->bytes + ETHER_HEAD, sent->len - ETHER_HEAD, is_reply);
 }

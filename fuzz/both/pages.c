@@ -9,11 +9,37 @@ model counted;
 static site served;
 static text image;
 static struct { request request; page page; int is_refused; } pages[UIP_SLOTS];
-static unsigned long read_rows, by_arp, full;
+static unsigned long read_rows, by_arp, full, reports, whole_ticks;
 
 int serves_pages(void) { return 1; }
 
 // ---- what a connection sends
+
+void pages_count(const node *n) { if (n == &devices->node) model_hears(&counted, n->arrived, n->arrived_len); }
+
+// [add: counter] a number that the model does not foretell
+static unsigned counter_of(const node *n, unsigned number) {
+    return number == UIP_RETRANSMISSIONS ? n->again : number == UIP_SYN_DROPPED ? n->no_slot : counted.numbers[number];
+}
+
+// The rows of the connections, or the counters, at this moment.
+static size_t report(int is_rows, byte *to) {
+    static const char *const states[] = {"", "SYN-RCVD", "ESTABLISHED", "CLOSE-WAIT", "FIN-WAIT-1", "FIN-WAIT-2", "CLOSING", "TIME-WAIT",
+        "LAST-ACK"};
+    char *text = (char *)to;
+    const node *n = &devices->node;
+    for (unsigned number = 1; !is_rows && number <= UIP_COUNTERS; number++) text += sprintf(text, "%10u\n", counter_of(n, number));
+    for (unsigned slot = 0; is_rows && slot < UIP_SLOTS; slot++) {
+        uip_row row = node_row(n, slot);
+        const byte *peer = row.peer;
+        if (row.state == UIP_CLOSED) continue;
+        text += sprintf(text, "<tr><td>%u</td><td>%u.%u.%u.%u:%u</td>", slot, peer[0], peer[1], peer[2], peer[3], row.port);
+        text += sprintf(text, "<td>%s</td><td>%u</td><td>%u</td><td>%c</td></tr>\r\n", states[row.state], row.tries, row.count,
+                        row.waiting ? '*' : ' ');
+    }
+    reports++;
+    return (size_t)(text - (char *)to);
+}
 
 void page_opens(connection *c) {
     size_t slot = (size_t)(c - devices->node.slots);
@@ -33,6 +59,7 @@ void page_receives(connection *c, const byte *bytes, size_t len) {
         if (pages[slot].is_refused) break;
         while (name_len < r->len && r->target[name_len] != '?') name_len++;
         page_begin(&pages[slot].page, &served, r->target, name_len);
+        pages[slot].page.report = report;
     }
 }
 
@@ -55,7 +82,7 @@ void page_is_asked(connection *c) {
 text pages_image(void) { return image; }
 
 void pages_choose(void) {
-    calls_of has = {.others = 0, .values = chance(80)};
+    calls_of has = {.others = chance(30), .many = chance(60), .values = chance(80)};
     make_site(&served, &has);
     image = (text){served.image, served.len};
 }
@@ -87,7 +114,6 @@ void pages_begin(const byte *own) {
 int pages_see(int is_lost) {
     const node *n = &devices->node;
     segment s;
-    if (n->arrived) model_hears(&counted, n->arrived, n->arrived_len);
     if (n->datagram_len == 0) return 0;
     by_arp += (unsigned)is_lost;
     model_sends(&counted, n->datagram, n->datagram_len);
@@ -107,9 +133,7 @@ void devices_hear_datagram(const byte *datagram, size_t len) { receive_datagram(
 static void read_counters(device *d) {
     const node *n = &d->node;
     unsigned number = below(UIP_COUNTERS + 1), read = numbers_of(&d->on, number);
-    // [add: counter] a number that the model does not foretell
-    unsigned wanted = number == 0 ? (unsigned)n->host.ticks : number == UIP_RETRANSMISSIONS ? n->again
-        : number == UIP_SYN_DROPPED ? n->no_slot : counted.numbers[number];
+    unsigned wanted = number == 0 ? (unsigned)n->host.ticks : counter_of(n, number);
     if (d == devices || number == 0 || number >= UIP_RETRANSMISSIONS)
         WANT(read == wanted, "counter %u is %u, and %u was foretold", number, read, wanted);
 }
@@ -168,6 +192,44 @@ void pages_tick(void) {
     if (chance(5)) read_some();
 }
 
+// ---- a whole tick by the inline call, with reads and values in its sink
+
+static unsigned next_slot;
+
+// The frame that is next, if there is one: those of the slots before it send none.
+static void next_frame(sent_frame *sent) {
+    sent->len = 0;
+    while (sent->len == 0 && next_slot < UIP_SLOTS) {
+        sent->len = node_ticks(&devices->node, next_slot++, sent->bytes);
+        pass_on(devices, sent, 0);
+    }
+}
+
+static void take_frame(void *to, const byte *frame, size_t len) {
+    sent_frame wanted;
+    byte bytes[UIP_MAX_RECEIVED];
+    next_frame(&wanted);
+    int is_same = to == devices && len && len == wanted.len && !memcmp(frame, wanted.bytes, len);
+    WANT(is_same, "a tick sent another frame, before slot %u", next_slot);
+    if (chance(20)) call_read(devices, below(UIP_SLOTS), sizeof bytes, bytes);
+    if (chance(5)) set_value();
+    if (chance(5)) read_some();
+}
+
+int pages_whole_tick(void) {
+    static byte frame[UIP_MAX_FRAME];
+    sent_frame rest;
+    if (!chance(20)) return 0;
+    next_slot = 0;
+    unsigned status = uip_tick_frames(&devices->on.handle, frame, sizeof frame, take_frame, devices);
+    next_frame(&rest);
+    WANT(status == UIP_OK && rest.len == 0, "a tick returned %u, or did not send a frame", status);
+    counts.calls += UIP_SLOTS, whole_ticks++;
+    return 1;
+}
+
+// ----
+
 void pages_refuse(device *d) {
     if (chance(30)) refused_counter(&d->on);
     else refused_words(&d->on);
@@ -177,6 +239,6 @@ void pages_show(void) {
     printf("%lu bad images; %lu pages closed, %lu of them compared whole; %lu values set, %lu texts of calls in pages, %lu segments sent "
            "again at a value that was another by then\n", counts.bad_images, counts.pages, counts.whole, counts.given, counts.shown,
            counts.changed);
-    printf("%lu hit counts, %lu queries and %lu rows of connections read, %lu times of ten; %lu datagrams lost to ARP requests\n",
-           counts.hits, counts.queries, read_rows, full, by_arp);
+    printf("%lu hit counts, %lu queries and %lu rows of connections read, %lu times of ten; %lu datagrams lost to ARP requests; %lu texts "
+           "of rows or counters; %lu whole ticks\n", counts.hits, counts.queries, read_rows, full, by_arp, reports, whole_ticks);
 }

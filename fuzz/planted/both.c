@@ -17,7 +17,9 @@ static unsigned writes_of_slot_0;
 static unsigned port_at(const byte *at) { return (unsigned)at[0] << 8 | at[1]; }
 
 // A frame with a text of a page.
-static int is_page(const byte *frame, size_t len) { return len > 80 && frame[13] == 0 && frame[23] == 6 && port_at(frame + 34) == WEB_PORT; }
+static int is_page(const byte *frame, size_t len) {
+    return len > 80 && frame[13] == 0 && frame[23] == 6 && port_at(frame + 34) == WEB_PORT;
+}
 
 static int is_in(uip_device *d, size_t slot, unsigned state) {
     return __real_uip_connection(d, slot).state == state && __real_uip_read(d, slot, room_of_own, 0).port == 0;

@@ -106,7 +106,8 @@ uip_result __wrap_uip_input_frame(uip_device *d, byte *frame, size_t room, size_
     byte head[6] = {0};
     if (is_whole) memcpy(head, frame, 6);
     if (PLANT == 18 && is_whole && !(head[0] & 1)) memcpy(frame, own_mac, 6);     // a frame for another host is received
-    if (PLANT == 19 && is_whole && len >= 42 && frame[12] == 8 && frame[13] == 6 && frame[21] == 2) memset(frame, 0, 6);    // teaches nothing
+    int is_arp = is_whole && len >= 42 && frame[12] == 8 && frame[13] == 6;
+    if (PLANT == 19 && is_arp && frame[21] == 2) memset(frame, 0, 6);             // a reply of ARP teaches nothing
     uip_result done = __real_uip_input_frame(d, frame, room, len);
     if (PLANT == 20 && done.written >= 34 && frame[13] == 0) {                    // to the address that was sent to before
         byte now[6];
