@@ -1,6 +1,10 @@
-// Linked into the fuzzer by --wrap: writes each call of the library and its result to descriptor 3, for replay.c.
+// Linked into the fuzzer by --wrap: writes each call of the library and its result to descriptor 3, for replay.c. With UIP_BOTH it is for
+// the calls of uip_both.h.
 #include "fuzz.h"
 #include "record.h"
+#ifdef UIP_BOTH
+#include "uip_both.h"
+#endif
 
 // ---- the sites: every third one begins with a file so long that the other files start beyond 64 kB
 
@@ -27,6 +31,7 @@ void __wrap_make_site(site *s, const calls_of *has) {
 
 // ---- the calls
 
+#ifndef UIP_BOTH
 uip_opened __real_uip_open(uip_device *d, const unsigned char *image, size_t len, const unsigned char own[4]);
 uip_opened __wrap_uip_open(uip_device *d, const unsigned char *image, size_t len, const unsigned char own[4]) {
     record r = begun(OPEN, d, 0, len, 0, 0);
@@ -38,6 +43,7 @@ uip_opened __wrap_uip_open(uip_device *d, const unsigned char *image, size_t len
     put(&r, own, 4, image, &opened);
     return opened;
 }
+#endif
 
 uip_opened __real_uip_open_ether(uip_device *d, const unsigned char *image, size_t len, const unsigned char own[4], const unsigned char mac[6],
                                  const unsigned char mask[4], const unsigned char router[4]);
@@ -61,6 +67,9 @@ uip_opened __wrap_uip_open_ether(uip_device *d, const unsigned char *image, size
         record r = begun(op, d, which, in_len, out, room); \
         return ended(&r, __real_##name arguments, in, out); \
     }
+#ifdef UIP_BOTH
+READ_AND_WRITE(uip_device, uip_read, uip_write)
+#else
 RESULTS(uip_feed, FEED, (uip_device *d, const unsigned char *bytes, size_t len, unsigned char *out, size_t room),
         (d, bytes, len, out, room), 0, bytes, len)
 RESULTS(uip_periodic, PERIODIC, (uip_device *d, size_t slot, unsigned char *out, size_t room), (d, slot, out, room), slot, 0, 0)
@@ -69,7 +78,7 @@ RESULTS(uip_input, INPUT, (uip_device *d, const unsigned char *datagram, size_t 
         (d, datagram, len, out, room), 0, datagram, len)
 RESULTS(uip_periodic_datagram, PERIODIC_DATAGRAM, (uip_device *d, size_t slot, unsigned char *out, size_t room),
         (d, slot, out, room), slot, 0, 0)
-
+#endif
 RESULTS(uip_periodic_frame, PERIODIC_FRAME, (uip_device *d, size_t slot, unsigned char *out, size_t room), (d, slot, out, room), slot, 0, 0)
 
 // The frame lies at the start of `out`, and what comes after it was filled.
