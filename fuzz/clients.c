@@ -3,7 +3,7 @@
 // close all of it. Dishonest ones send what they like from addresses of their own.
 #include <stdio.h>
 #include <string.h>
-#include "fuzz.h"
+#include "pages.h"
 
 enum { CLIENTS = 28, HTTP = 80 };
 typedef enum { IDLE, OPENING, OPEN, CLOSING, ENDED } state;
@@ -153,9 +153,9 @@ static void page_was_sent(client *c, const segment *s) {
 
 // A client is stale once a second connection answers it: what it has got is then not compared any more, but what is sent is. No segment
 // is longer than the client asked for.
-void heard_back(const byte *datagram, size_t len) {
+void heard_back(const byte *datagram, size_t len, int is_lost) {
     segment s;
-    enqueue(&from_node, datagram, len);
+    if (!is_lost) enqueue(&from_node, datagram, len);
     if (!read_segment(datagram, len, &s)) return;
     for (unsigned k = 0; k < 8; k++)
         if (strangers[k].port == s.to && !memcmp(strangers[k].address, s.target, 4)) strangers[k].seq = s.seq, strangers[k].ack = s.ack;

@@ -44,20 +44,10 @@ static void give_others(void) {
     is_given = 0;
 }
 
-// A name of a file that is mostly asked for; at times a byte longer or shorter, so of no file, or of another.
-static size_t some_name(byte *to) {
-    if (open_site->count == 0) return 0;
-    const file *f = &open_site->files[below(open_site->count < 12 ? open_site->count : 12)];
-    memcpy(to, f->name, f->name_len);
-    if (!chance(10)) return f->name_len;
-    to[f->name_len] = (byte)random_next();
-    return f->name_len - 1 + 2 * below(2);
-}
-
 // Reads a hit count while an event is being heard: of before or behind it.
 static void read_hits(void) {
     byte name[66];
-    size_t len = some_name(name);
+    size_t len = some_name(open_site, name);
     unsigned told = call_hits(&under_test, name, len), low = least_hits(name, len), high = hits_foretold(name, len);
     WANT(told - low <= high - low, "a file was asked for %u times, and %u to %u was foretold", told, low, high);
 }
@@ -96,10 +86,11 @@ static void take_sent(const byte *heard, size_t heard_len, const byte *datagram,
     if (len == 0) return;
     memcpy(kept, datagram, len);
     model_sends(&counted, kept, len);
-    peers_see(heard, heard_len, kept, len);
+    counts.datagrams++, counts.pings += kept[9] == 1;
+    requests_see(heard, heard_len, kept, len);
     said_by_datagrams.len += write_frame(said_by_datagrams.bytes + said_by_datagrams.len, kept, len);
     WANT(said_by_datagrams.len + 3100 < LONGEST_TEXT, "the harness has no room for a text");
-    heard_back(kept, len);
+    heard_back(kept, len, 0);
 }
 
 static void hear_one(const byte *datagram, size_t len) {
@@ -134,7 +125,7 @@ static void same_text(const text *other, const char *name) {
 // What is read of all three devices is the same, and as it was foretold.
 static void read_all(void) {
     byte name[66];
-    size_t len = some_name(name);
+    size_t len = some_name(open_site, name);
     unsigned told = call_hits(&under_test, name, len), rows = 0;
     WANT(told == hits_foretold(name, len), "a file was asked for %u times, and %u was foretold", told, hits_foretold(name, len));
     WANT(told == call_hits(&whole, name, len) && told == call_hits(&by_datagrams, name, len), "the hits differ");
@@ -251,35 +242,23 @@ void devices_tick(unsigned slot) {
     if (one.len && chance(30)) speaks(slot, sent_room, one.len);
 }
 
-// An image of which some bytes are others, or which is cut or longer; gives its length.
-static size_t damage(byte *image, size_t len) {
-    if (chance(40)) return below((unsigned)len + 1);
-    for (unsigned k = between(1, 3); k; k--) {
-        size_t front = len < 80 || chance(30) ? len : 80;
-        image[below((unsigned)front)] = (byte)random_next();
-    }
-    if (chance(80)) return len;
-    random_bytes(image + len, 3);
-    return len + between(1, 3);
-}
-
 // Bad images, a good one without memory, and a good one; then one more, which the handle refuses.
 static void open_under_test(const site *s, const byte *own) {
     static byte damaged[1 << 20];
     for (unsigned k = below(10); k; k--) {
         memcpy(damaged, s->image, s->len);
-        call_open(&under_test, damaged, damage(damaged, s->len), own);
-        if (under_test.is_open) call_close(&under_test);
+        call_open_site(&under_test, damaged, damage_image(damaged, s->len), own);
+        if (under_test.is_open) call_close_site(&under_test);
     }
     if (chance(50)) {
         heap_refuses = between(1, 9);
-        call_open(&under_test, s->image, s->len, own);
-        if (under_test.is_open) call_close(&under_test);
+        call_open_site(&under_test, s->image, s->len, own);
+        if (under_test.is_open) call_close_site(&under_test);
     }
     WANT(heap_blocks == 0, "%zu blocks are kept without a device", heap_blocks);
     if (chance(30)) refused_calls(&under_test);
-    call_open(&under_test, s->image, s->len, own);
-    if (chance(30)) call_open(&under_test, damaged, below(100), own);
+    call_open_site(&under_test, s->image, s->len, own);
+    if (chance(30)) call_open_site(&under_test, damaged, below(100), own);
 }
 
 void devices_open(const site *s, const byte *own, const way *asked) {
@@ -291,10 +270,10 @@ void devices_open(const site *s, const byte *own, const way *asked) {
     until_tick = how.pace;
     open_site = s, is_given = 0;
     values_begin();
-    peers_begin(s);
+    requests_begin(s);
     open_under_test(s, own);
-    call_open(&whole, s->image, s->len, own);
-    call_open(&by_datagrams, s->image, s->len, own);
+    call_open_site(&whole, s->image, s->len, own);
+    call_open_site(&by_datagrams, s->image, s->len, own);
     frames_open(s, own);
 }
 
@@ -305,11 +284,11 @@ void devices_close(void) {
         for (size_t at = 0; at < len && !under_test.has_left;) at += call_hear(&under_test, frame + at, len - at, 2, &said).consumed;
         said.len = 0;
     }
-    call_close(&under_test);
-    if (chance(20)) call_close(&under_test);
+    call_close_site(&under_test);
+    if (chance(20)) call_close_site(&under_test);
     for (unsigned k = below(5); k; k--) refused_calls(&under_test);
-    call_close(&whole);
-    call_close(&by_datagrams);
+    call_close_site(&whole);
+    call_close_site(&by_datagrams);
     frames_close();
     WANT(heap_blocks == 0, "%zu blocks are kept behind uip_close", heap_blocks);
 }

@@ -124,12 +124,12 @@ void frames_open(const site *s, const byte *own) {
     host_begin(&here, own, device.mac, device.mask, device.router);
     random_bytes(recent[0], sizeof recent);
     if (chance(20)) heap_refuses = between(1, 9);
-    call_open(&device, s->image, s->len, own);
-    if (!device.is_open) call_open(&device, s->image, s->len, own);
-    if (chance(30)) call_open(&device, s->image, s->len, own);
+    call_open_site(&device, s->image, s->len, own);
+    if (!device.is_open) call_open_site(&device, s->image, s->len, own);
+    if (chance(30)) call_open_site(&device, s->image, s->len, own);
 }
 
 void frames_close(void) {
-    call_close(&device);
+    call_close_site(&device);
     for (unsigned k = below(3); k; k--) refused_calls(&device);
 }

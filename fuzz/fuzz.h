@@ -2,74 +2,17 @@
 #ifndef FUZZ_H
 #define FUZZ_H
 
-#include "parts.h"
-
-enum { MOST_FILES = 1024, LONGEST_TEXT = 1 << 21, LONGEST_PAGE = 1 << 16, LONGEST_SPELLED = 6 * UIP_MAX_VALUE };
-
-// sites.c: images, by docs/FORMATS.md.
-typedef struct { byte name[64], kind[64]; unsigned name_len, kind_len; const byte *content; size_t len; } file;
-typedef struct { byte *image; size_t len; unsigned count; file files[MOST_FILES]; int is_two; } site;
-typedef struct { int others, values; } calls_of;                           // what the scripts of a site may call
-void make_site(site *s, const calls_of *has);
-const file *file_named(const site *s, const byte *name, size_t len);
-const byte *file_of_target(const byte *target, size_t *len);
-const char *site_fault(const byte *image, size_t len, unsigned *entry);    // the word of the first fault, or 0
-// A piece of a script: its kind, the bytes that it names, where its words end, and where the next begins.
-typedef struct { enum { TEXT, INCLUDE, CALL } kind; size_t from, to, end, next; } piece;
-// A page as it is sent, as far as it is fixed: not beyond a call whose moment has not come.
-typedef struct {
-    const site *asked;
-    const file *script;
-    piece call;                         // the last one that is fixed, whose text begins at `call_at`, which is 0 where none is
-    size_t at, len, call_at;
-    int is_known, is_whole;
-    byte bytes[LONGEST_PAGE];
-} page;
-void page_begin(page *p, const site *s, const byte *name, size_t name_len);
-int value_has_changed(const page *p);
-int page_goes_on(page *p);                                                 // 1: by a call
-
-// values.c: the values that were given to all devices.
-typedef struct { byte bytes[UIP_MAX_VALUE]; size_t len; } value;
-void values_begin(void);
-void values_given(unsigned number, const value *given);
-value random_value(void);
-size_t spell_value(const byte *argument, size_t argument_len, int spelling, byte *to);    // 0 as it is, 1 for JSON, 2 for HTML
-
-// What uip_query returns, without padding, and whether a query may have a byte (calls.c).
-typedef struct { size_t hit, len; byte bytes[UIP_MAX_QUERY]; } query;
-int is_kept(byte b);
-
-// peers.c: what is known of the connections from what the node hears (0 for a tick) and sends.
-void peers_begin(const site *s);
-void peers_see(const byte *heard, size_t heard_len, const byte *sent, size_t sent_len);
-void hits_settled(void);                                                   // all devices have heard the same
-unsigned hits_foretold(const byte *name, size_t len);
-unsigned least_hits(const byte *name, size_t len);                         // before what is being heard
-query query_foretold(const byte *name, size_t len);
-void row_is_foretold(unsigned slot, const uip_row *row);
-
-// model.c: what a node counts of datagrams that come and go.
-/* [add: counter] the length of the array */
-typedef struct { unsigned numbers[21], ticks; byte own[4]; } model;
-void model_hears(model *m, const byte *datagram, size_t len);
-void model_sends(model *m, const byte *datagram, size_t len);
+#include "pages.h"
 
 // devices.c: three devices in step, and a fourth. Each gives what was sent to `heard_back`, a datagram at a time.
 typedef struct { int is_mixed, may_be_overlong; unsigned pace; } way;
-extern model counted;
 void devices_open(const site *s, const byte *own, const way *how);
-void devices_hear(const byte *line, size_t len);         // bytes of the line
-void devices_hear_datagram(const byte *datagram, size_t len);
 void devices_tick(unsigned slot);
 void devices_close(void);
-void heard_back(const byte *datagram, size_t len);       // of clients.c
 void record_begin(const char *folder, const site *s, const byte *own, unsigned pace);
 void record_end(void);
 
-// calls.c: single calls of the device under test, fine and refused, each as it was foretold. The image stays while the device is open.
-typedef struct { uip_device handle; int is_open, has_left, is_ether; byte mac[6], mask[4], router[4]; area image; } tested;
-typedef struct { byte *bytes; size_t len; } text;
+// calls.c: single calls of the device under test that send, fine and refused, each as it was foretold.
 uip_result call_hear(tested *t, const byte *bytes, size_t len, size_t room, text *to);
 uip_result call_slot(tested *t, unsigned slot, size_t room, text *to);
 uip_result call_more(tested *t, size_t room, text *to);
@@ -77,17 +20,16 @@ uip_result call_datagram(tested *t, const byte *datagram, size_t len, text *to);
 uip_result call_slot_datagram(tested *t, unsigned slot, text *to);
 uip_result call_frame(tested *t, const byte *frame, size_t len, text *to);
 uip_result call_slot_frame(tested *t, unsigned slot, text *to);
-void call_open(tested *t, const byte *image, size_t len, const byte *own);
-void call_close(tested *t);
 void refused_calls(tested *t);
-void reads(tested *t, const model *least, const model *most);
 void calls_begin(void);
-unsigned numbers_of(tested *t, unsigned number);
-void call_value(tested *t, unsigned long number, const byte *bytes, size_t len);
-unsigned call_hits(tested *t, const byte *name, size_t len);
-query call_query(tested *t, const byte *name, size_t len, size_t room);
-int call_idle(tested *t);
-uip_row call_row(tested *t, unsigned long slot);
+
+// reads.c: how a call begins and ends.
+typedef enum { ANY, A_LINE, AN_IDLE_LINE, ETHER } link_of;
+byte *begin_call(const tested *t, size_t room);                            // an area for output, which is filled
+void begins_with(byte *out, const byte *bytes, size_t len, size_t room);   // the area begins with these
+unsigned foretold(const tested *t, int is_bad, link_of link);              // the status
+void heap_was_not_called(const char *what);
+void is_untouched(const tested *t, const byte *out, size_t room, const char *what);
 
 // frames.c: the fourth device, which gets the same datagrams in Ethernet frames. `reply` is what the device by datagrams sent.
 void frames_open(const site *s, const byte *own);
@@ -96,11 +38,5 @@ void frames_tick(unsigned slot, const byte *datagram, size_t len);
 void frames_give(unsigned number, const value *given);
 void frames_read(tested *other, const byte *name, size_t len);
 void frames_close(void);
-
-// clients.c: clients, honest and dishonest, behind a link that loses, repeats, reorders and damages.
-void clients_begin(const site *s, const byte *own, int may_be_overlong);
-void clients_act(void);                                  // one step of one of them, or of the link
-void clients_tick(void);
-void clients_end(void);
 
 #endif

@@ -48,5 +48,6 @@ void report_end(void) {
     printf("%lu values given, %lu texts of calls in pages, %lu segments sent again at a value that was another by then, "
            "%lu hit counts, %lu queries and %lu rows of connections read\n",
            counts.given, counts.shown, counts.changed, counts.hits, counts.queries, counts.rows);
-    printf("%lu datagrams sent in frames, %lu of them by the router; %lu addresses taught by ARP\n", counts.framed, counts.routed, counts.taught);
+    printf("%lu datagrams sent in frames, %lu of them by the router; %lu addresses taught by ARP\n", counts.framed, counts.routed,
+           counts.taught);
 }

@@ -6,14 +6,15 @@
 #     sh fuzz/run.sh asan CALLS SEED [mixed]     the same, with the harness under the address and undefined-behaviour sanitizers
 #     sh fuzz/run.sh planted              puts faults between the harness and the library, and sees that each is found
 #     sh fuzz/run.sh app CALLS SEED       CALLS calls of include/uip_app.h; app-asan and app-planted as above
+#     sh fuzz/run.sh both CALLS SEED      CALLS calls of include/uip_both.h; both-asan and both-planted as above
 #
-# It needs a C compiler on Linux, the library as `rt lib` in crates/uip_c builds it (for app: in crates/uip_app_c), and the program as
-# `rt run` in crates/uipd does: what is not built there is not built here. CC names another compiler, LIBRARY and UIPD another library and
-# another program.
-case "$1" in -h|--help) sed -n '2,12s/^# \{0,1\}//p' "$0"; exit 0;; esac
+# It needs a C compiler on Linux, the library as `rt lib` in crates/uip_c builds it (for app: in crates/uip_app_c, for both: in
+# crates/uip_both_c), and the program as `rt run` in crates/uipd does: what is not built there is not built here. CC names another
+# compiler, LIBRARY and UIPD another library and another program, and FAULTS single numbers of planted faults.
+case "$1" in -h|--help) sed -n '2,14s/^# \{0,1\}//p' "$0"; exit 0;; esac
 here=$(cd "$(dirname "$0")" && pwd)
 top=$(cd "$here/.." && pwd)
-case "$1" in app*) name=uip_app_c;; *) name=uip_c;; esac
+case "$1" in app*) name=uip_app_c;; both*) name=uip_both_c;; *) name=uip_c;; esac
 library=${LIBRARY:-$top/crates/$name/out/lib$name.a}
 uipd=${UIPD:-$top/crates/uipd/out/uipd}
 cc=${CC:-cc}
@@ -28,24 +29,30 @@ words="-std=gnu11 -g -Wall -Wextra -I$top/include"
 build() { built=$1; shift; "$cc" $words "$@" "$library" -o "$out/$built" || fail "no $built was built"; }
 # The sources of the harness for uip_app.h.
 app="$here/app/*.c"
-for part in random report areas heap wire link arp model; do app="$app $here/$part.c"; done
+shared="random report areas heap wire link arp model"
+for part in $shared; do app="$app $here/$part.c"; done
+# And for uip_both.h: those with the pages, and the clients that request them.
+both="-DBOTH $here/both/pages.c"
+for part in calls main node peers program; do both="$both $here/app/$part.c"; done
+for part in $shared sites values requests clients reads; do both="$both $here/$part.c"; done
 # planted COUNT SOURCES FILE CALLS WORDS: the faults 1 to COUNT of a file, in the place of these calls; the words follow the seconds.
 planted() {
     faults=$1 sources=$2 file=$3 calls=$4 missed=0
     shift 4
     wraps=$(for call in $calls; do printf ' -Wl,--wrap=%s' "$call"; done)
+    kind=${sources%%[ /]*}    # -DBOTH, or nothing
     rm -rf "$out/parts"
     mkdir "$out/parts"
     # shellcheck disable=SC2086
     (cd "$out/parts" && "$cc" $words -O1 -c $sources) || fail "the harness was not compiled"
-    for plant in $(seq "$faults"); do
+    for plant in ${FAULTS:-$(seq "$faults")}; do
         # shellcheck disable=SC2086
-        build planted -O1 -DPLANT="$plant" $wraps "$out"/parts/*.o "$here/planted/$file"
+        build planted -O1 $kind -DPLANT="$plant" $wraps "$out"/parts/*.o "$here/planted/$file"
         if "$out/planted" 20 "$@" >"$out/planted.txt"; then
             echo "MISSED $plant"
             missed=1
         else
-            echo "$plant $(grep FINDING "$out/planted.txt")"
+            echo "$plant $(grep -a FINDING "$out/planted.txt")"
         fi
     done
     exit $missed
@@ -60,7 +67,7 @@ asan)
 planted)
     calls="open open_ether feed periodic drain input periodic_datagram input_frame periodic_frame counter"
     calls="$calls set_value hits query is_idle connection close"
-    planted 42 "$here/*.c" planted.c "$(printf 'uip_%s ' $calls)" 3000000 1 mixed;;
+    planted 44 "$here/*.c" planted.c "$(printf 'uip_%s ' $calls)" 3000000 1 mixed;;
 app)
     # shellcheck disable=SC2086
     build fuzz_app -O2 $app
@@ -72,6 +79,17 @@ app-asan)
 app-planted)
     calls="open input_frame periodic_frame read write close"
     planted 48 "$app" app.c "node_writes $(printf 'uip_app_%s ' $calls)" 3000000 1;;
+both)
+    # shellcheck disable=SC2086
+    build fuzz_both -O2 $both
+    exec "$out/fuzz_both" 1000000 "${2:-1000000}" "${3:-1}";;
+both-asan)
+    # shellcheck disable=SC2086
+    build fuzz_both_asan -O1 -fsanitize=address,undefined -fno-sanitize-recover=all $both
+    exec "$out/fuzz_both_asan" 1000000 "${2:-1000000}" "${3:-1}";;
+both-planted)
+    calls="open_ether input_frame periodic_frame read write close set_value hits query is_idle connection ticks counter"
+    planted 80 "$both" both.c "node_writes node_receives $(printf 'uip_%s ' $calls)" 3000000 1;;
 esac
 
 seconds=${1:-60}

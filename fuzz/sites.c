@@ -1,7 +1,7 @@
 // Images of sites, good and bad, and the pages of their files, by docs/FORMATS.md.
 #include <stdio.h>
 #include <string.h>
-#include "fuzz.h"
+#include "pages.h"
 
 static int is_script(const byte *name, size_t len) { return len >= 6 && !memcmp(name + len - 6, ".shtml", 6); }
 
@@ -71,7 +71,8 @@ static void add_kind(writer *w, const file *f) {
 
 // [add: function] the text that is foretold for a call
 // The text of a call as it is at this moment, by the values and the hits; 0 where it is not foretold.
-static int add_call(writer *w, const byte *script, const piece *is) {
+static int add_call(writer *w, const page *p, const piece *is) {
+    const byte *script = p->script->content;
     size_t len = is->to - is->from, at = is->to, from = word(script, &at, is->end), argument_len = at - from;
     const byte *name = script + is->from, *argument = script + from;
     static const char *const spellings[] = {"value", "value-json", "value-html"};
@@ -83,7 +84,11 @@ static int add_call(writer *w, const byte *script, const piece *is) {
     if (is_word(name, len, "ticks")) snprintf(number, sizeof number, "%10u", counted.ticks);
     if (is_word(name, len, "file-stats")) snprintf(number, sizeof number, "%10u", hits_foretold(argument, argument_len));
     add_text(w, number);
-    return !is_word(name, len, "tcp-connections") && !is_word(name, len, "net-stats");
+    int is_rows = is_word(name, len, "tcp-connections");
+    if (!is_rows && !is_word(name, len, "net-stats")) return 1;
+    byte report[LONGEST_REPORT];
+    if (p->report) add(w, report, p->report(is_rows, report));
+    return p->report != 0;
 }
 
 // What is fixed of a page at once: all but the body of a script.
@@ -95,7 +100,7 @@ void page_begin(page *p, const site *s, const byte *name, size_t name_len) {
     add_text(&w, "Server: uIP/1.0\r\nConnection: close\r\nContent-type: ");
     add_kind(&w, f);
     add_text(&w, "\r\n\r\n");
-    p->asked = s, p->at = p->call_at = 0, p->is_known = 1;
+    p->asked = s, p->at = p->call_at = 0, p->is_known = 1, p->report = 0;
     p->script = shown && is_script(shown->name, shown->name_len) ? shown : 0;
     if (!shown) add_text(&w, "not found\n");
     else if (!p->script) add(&w, shown->content, shown->len);
@@ -109,9 +114,19 @@ int value_has_changed(const page *p) {
     writer w = {now, 0, sizeof now};
     const byte *script = p->script->content;
     if (p->call.to - p->call.from < 5 || memcmp(script + p->call.from, "value", 5)) return 0;
-    (void)add_call(&w, script, &p->call);
+    (void)add_call(&w, p, &p->call);
     size_t len = w.len, left = p->len - p->call_at;
     return len > left || memcmp(now, p->bytes + p->call_at, len);
+}
+
+// Whether the next piece of the script is a call that takes a record: its text is that of the moment at which it is due.
+int page_waits(const page *p) {
+    static const char *const functions[] = {"value", "value-json", "value-html", "ticks", "file-stats", "net-stats", "tcp-connections"};
+    if (p->is_whole || !p->script || p->at >= p->script->len) return 0;
+    piece is = piece_at(p->script->content, p->at, p->script->len);
+    int is_function = 0;
+    for (unsigned k = 0; k < 7; k++) is_function |= is_word(p->script->content + is.from, is.to - is.from, functions[k]);
+    return is.kind == CALL && is_function;
 }
 
 // One more piece of the script, as it is at this moment. Gives whether it is a call, whose text begins with a segment.
@@ -122,7 +137,7 @@ int page_goes_on(page *p) {
     piece is = piece_at(f->content, p->at, f->len);
     p->at = is.next;
     if (is.kind == TEXT) add(&w, f->content + is.from, is.to - is.from);
-    if (is.kind == CALL) p->call = is, p->call_at = p->len, p->is_known = add_call(&w, f->content, &is);
+    if (is.kind == CALL) p->call = is, p->call_at = p->len, p->is_known = add_call(&w, p, &is);
     const file *included = is.kind == INCLUDE ? file_named(p->asked, f->content + is.from, is.to - is.from) : 0;
     if (included) add(&w, included->content, included->len);
     p->len = w.len;
@@ -202,6 +217,28 @@ const char *site_fault(const byte *image, size_t len, unsigned *entry) {
     return 0;
 }
 
+// A name of a file that is mostly asked for; at times a byte longer or shorter, so of no file, or of another.
+size_t some_name(const site *s, byte *to) {
+    if (s->count == 0) return 0;
+    const file *f = &s->files[below(s->count < 12 ? s->count : 12)];
+    memcpy(to, f->name, f->name_len);
+    if (!chance(10)) return f->name_len;
+    to[f->name_len] = (byte)random_next();
+    return f->name_len - 1 + 2 * below(2);
+}
+
+// An image of which some bytes are others, or which is cut or longer; gives its length.
+size_t damage_image(byte *image, size_t len) {
+    if (chance(40)) return below((unsigned)len + 1);
+    for (unsigned k = between(1, 3); k; k--) {
+        size_t front = len < 80 || chance(30) ? len : 80;
+        image[below((unsigned)front)] = (byte)random_next();
+    }
+    if (chance(80)) return len;
+    random_bytes(image + len, 3);
+    return len + between(1, 3);
+}
+
 // A call of a value, mostly by a number that there is.
 static void add_value_call(writer *w) {
     static const char *const spellings[] = {"value", "value-json", "value-html"};
@@ -218,7 +255,7 @@ static void add_script(writer *w, const site *s, const calls_of *has) {
     static const char *const calls[] = {"%! tcp-connections\n", "%! net-stats\r\n", "%! ticks \n", "%! file-stats /f0.html\n",
         "%! ticks\n", "%! file-stats /index.html\n"};
     int was_value = 0;
-    for (unsigned parts = below(8); parts; parts--) {
+    for (unsigned parts = has->many ? between(2, 9) : below(8); parts; parts--) {
         byte run[600];
         unsigned kind = below(has->values ? 8 : has->others ? 5 : 4);
         size_t len = below(chance(20) ? 600 : 60);
@@ -242,7 +279,8 @@ static void add_file(writer *w, site *s, const calls_of *has, int is_small) {
     file *f = &s->files[s->count];
     unsigned k = s->count, own = s->is_two && chance(50) ? below(65) : 0;
     f->name_len = (unsigned)snprintf((char *)f->name, sizeof f->name, k == 3 ? "/404.html" : "/f%u%s", k, k ? ends[below(10)] : ".html");
-    if (k && has->values && chance(30)) f->name_len = (unsigned)snprintf((char *)f->name, sizeof f->name, "/f%u.shtml", k);
+    int may_be_script = k && (has->values || has->many);
+    if (may_be_script && chance(has->many ? 70 : 30)) f->name_len = (unsigned)snprintf((char *)f->name, sizeof f->name, "/f%u.shtml", k);
     if (k == 1) f->name_len = (unsigned)snprintf((char *)f->name, sizeof f->name, "/index.html");
     f->kind_len = own;
     for (unsigned at = 0; at < own; at++) f->kind[at] = (byte)between(' ', '~');

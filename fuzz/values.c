@@ -1,7 +1,7 @@
 // The values that C gives the devices, and how a page spells one, by docs/FORMATS.md.
 #include <stdio.h>
 #include <string.h>
-#include "fuzz.h"
+#include "pages.h"
 
 static value values[UIP_VALUES];
 

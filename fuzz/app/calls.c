@@ -1,5 +1,5 @@
-// Single calls of include/uip_app.h. What each returns is foretold: its status from its arguments and its handle, the frame that is sent
-// and what is read from the node (node.c). A refused call leaves the handle, the area and the heap unchanged.
+// Single calls of include/uip_app.h, or of uip_both.h. What each returns is foretold: its status from its arguments and its handle, the
+// frame that is sent and what is read from the node (node.c). A refused call leaves the handle, the area and the heap unchanged.
 #include <string.h>
 #include "app.h"
 
@@ -8,13 +8,16 @@ enum { MOST_ROOM = 8192, GUARD = 64 };
 static area own_in, mac_in, mask_in, router_in, text_in, outputs;
 static byte before[MOST_ROOM], *out;
 static size_t heap_before, out_room;
-static uip_app handle_before;
+static node_handle handle_before;
 static byte guard;
 
 void calls_begin(void) {
     own_in = area_new(4, 1), mac_in = area_new(6, 1), mask_in = area_new(4, 1), router_in = area_new(4, 1);
     text_in = area_new(1 << 16, 1);
     outputs = area_new(MOST_ROOM + GUARD, 0);
+#ifdef BOTH
+    reads_begin();
+#endif
 }
 
 // Begins a call: an area of `room` bytes, which begins with these, between bytes that are looked at and a page that cannot be touched.
@@ -26,12 +29,12 @@ static void begin(const device *d, size_t room, const byte *bytes, size_t len) {
     memcpy(out, bytes, len < room ? len : room);
     memcpy(before, out, room);
     heap_before = heap_calls;
-    handle_before = d->handle;
+    handle_before = d->on.handle;
 }
 
 static void is_untouched(const device *d, size_t from, const char *what) {
     WANT(!memcmp(out + from, before + from, out_room - from), "%s wrote to the area", what);
-    WANT(!memcmp(&d->handle, &handle_before, sizeof d->handle), "%s wrote to the handle", what);
+    WANT(!memcmp(&d->on.handle, &handle_before, sizeof d->on.handle), "%s wrote to the handle", what);
 }
 
 // Ends a call: its status, and what no call changes.
@@ -40,14 +43,14 @@ static int end(const device *d, unsigned status, unsigned wanted, const char *wh
     WANT(status == wanted, "%s returned %u, and %u was foretold", what, status, wanted);
     WANT(heap_calls == heap_before, "%s called the heap", what);
     for (unsigned k = 0; k < GUARD; k++) WANT(out[-1 - (int)k] == guard, "%s wrote before the area", what);
-    WANT(d->handle.is_open == (unsigned)d->is_open, "%s left the handle with %u", what, d->handle.is_open);
+    WANT(d->on.handle.is_open == (d->on.is_open ? IS_OPEN : 0), "%s left the handle with %u", what, d->on.handle.is_open);
     if (wanted == UIP_OK) return 1;
     counts.refused++;
     is_untouched(d, 0, what);
     return 0;
 }
 
-static unsigned foretold(const device *d, int is_bad) { return is_bad ? UIP_BAD_ARGUMENT : d->is_open ? UIP_OK : UIP_NO_DEVICE; }
+static unsigned foretold(const device *d, int is_bad) { return is_bad ? UIP_BAD_ARGUMENT : d->on.is_open ? UIP_OK : UIP_NO_DEVICE; }
 
 // Ends a call that may send: the frame that it sent is the one that was foretold.
 static void end_sent(device *d, uip_result done, unsigned wanted, size_t consumed, sent_frame *sent, const char *what) {
@@ -59,65 +62,76 @@ static void end_sent(device *d, uip_result done, unsigned wanted, size_t consume
          "%s sent a frame of %zu bytes, and one of %zu was foretold; they differ from byte %zu on", what, done.written, sent->len, at);
 }
 
-void call_open(device *d, const byte *own, const byte *mac, const byte *mask, const byte *router) {
-    size_t blocks = heap_blocks;
+// Opens a device, and returns the status.
+static unsigned open_one(device *d, const byte *own, const byte *mac, const byte *mask, const byte *router) {
+#ifdef BOTH
+    text image = pages_image();
+    memcpy(d->on.mac, mac, 6), memcpy(d->on.mask, mask, 4), memcpy(d->on.router, router, 4), d->on.is_ether = 1;
+    return call_open_site(&d->on, image.bytes, image.len, own);
+#else
     begin(d, 0, own, 0);
     heap_refused = 0;
-    unsigned status = uip_app_open(&d->handle, put_input(&own_in, own, 4), put_input(&mac_in, mac, 6), put_input(&mask_in, mask, 4),
+    unsigned status = uip_app_open(&d->on.handle, put_input(&own_in, own, 4), put_input(&mac_in, mac, 6), put_input(&mask_in, mask, 4),
                                    put_input(&router_in, router, 4));
-    unsigned wanted = d->is_open ? UIP_HAS_DEVICE : heap_refused ? UIP_NO_MEMORY : UIP_OK;
+    unsigned wanted = d->on.is_open ? UIP_HAS_DEVICE : heap_refused ? UIP_NO_MEMORY : UIP_OK;
     heap_refuses = 0;
     counts.opens++, counts.refusals += wanted == UIP_NO_MEMORY;
-    WANT(!d->is_open || heap_calls == heap_before, "uip_app_open called the heap of a handle with a device");
-    WANT(heap_blocks == blocks + (wanted == UIP_OK ? 3 : 0), "uip_app_open left %zu blocks", heap_blocks - blocks);
+    WANT(!d->on.is_open || heap_calls == heap_before, "uip_app_open called the heap of a handle with a device");
     heap_before = heap_calls;
-    if (wanted == UIP_OK) {
-        d->is_open = 1;
-        memset(&d->node, 0, sizeof d->node);
-        host_begin(&d->node.host, own, mac, mask, router);
-    }
+    d->on.is_open |= wanted == UIP_OK;
     end(d, status, wanted, "uip_app_open");
+    return status;
+#endif
+}
+
+void call_open(device *d, const byte *own, const byte *mac, const byte *mask, const byte *router) {
+    size_t blocks = heap_blocks;
+    unsigned status = open_one(d, own, mac, mask, router);
+    WANT(heap_blocks == blocks + (status == UIP_OK ? DEVICE_BLOCKS : 0), "opening took %zu blocks", heap_blocks - blocks);
+    if (status != UIP_OK) return;
+    memset(&d->node, 0, sizeof d->node);
+    host_begin(&d->node.host, own, mac, mask, router);
 }
 
 void call_close(device *d) {
     size_t blocks = heap_blocks;
     begin(d, 0, &guard, 0);
-    unsigned wanted = foretold(d, 0), status = uip_app_close(&d->handle);
-    WANT(heap_blocks == blocks - (wanted == UIP_OK ? 3 : 0), "uip_app_close left a block");
+    unsigned wanted = foretold(d, 0), status = CALL(close)(&d->on.handle);
+    WANT(heap_blocks == blocks - (wanted == UIP_OK ? DEVICE_BLOCKS : 0), NAMED(close) " left a block");
     if (wanted == UIP_OK) heap_before = heap_calls;
-    d->is_open = 0;
-    end(d, status, wanted, "uip_app_close");
+    d->on.is_open = 0;
+    end(d, status, wanted, NAMED(close));
 }
 
 void call_frame(device *d, const byte *frame, size_t len, size_t room, sent_frame *sent) {
     begin(d, room, frame, len);
-    uip_result done = uip_app_input_frame(&d->handle, out, room, len);
+    uip_result done = CALL(input_frame)(&d->on.handle, out, room, len);
     unsigned wanted = foretold(d, room < UIP_MAX_FRAME || len > room);
     if (wanted == UIP_OK) sent->len = node_receives(&d->node, frame, len, sent->bytes);
-    end_sent(d, done, wanted, len, sent, "uip_app_input_frame");
+    end_sent(d, done, wanted, len, sent, NAMED(input_frame));
 }
 
 void call_tick(device *d, size_t slot, size_t room, sent_frame *sent) {
     begin(d, room, &guard, 0);
-    uip_result done = uip_app_periodic_frame(&d->handle, slot, out, room);
+    uip_result done = CALL(periodic_frame)(&d->on.handle, slot, out, room);
     unsigned wanted = foretold(d, slot >= UIP_SLOTS || room < UIP_MAX_FRAME);
     if (wanted == UIP_OK) sent->len = node_ticks(&d->node, (unsigned)slot, sent->bytes);
-    end_sent(d, done, wanted, 0, sent, "uip_app_periodic_frame");
+    end_sent(d, done, wanted, 0, sent, NAMED(periodic_frame));
 }
 
 // Reads a connection into an area, and returns the result with at most UIP_MAX_RECEIVED of its bytes.
 uip_received call_read(device *d, size_t slot, size_t room, byte *bytes) {
     begin(d, room, &guard, 0);
-    uip_received it = uip_app_read(&d->handle, slot, out, room), wanted = {0};
+    uip_received it = CALL(read)(&d->on.handle, slot, out, room), wanted = {0};
     app_counts.reads++;
     unsigned status = foretold(d, slot >= UIP_SLOTS);
-    if (end(d, it.status, status, "uip_app_read")) wanted = node_reads(&d->node, (unsigned)slot);
+    if (end(d, it.status, status, NAMED(read))) wanted = node_reads(&d->node, (unsigned)slot);
     WANT(it.ready == wanted.ready && it.port == wanted.port && it.len == wanted.len,
-         "uip_app_read reads %u, %u and %zu, and %u, %u and %zu was foretold",
+         NAMED(read) " reads %u, %u and %zu, and %u, %u and %zu was foretold",
          it.ready, it.port, it.len, wanted.ready, wanted.port, wanted.len);
     size_t len = it.len < room ? it.len : room;
-    if (len) WANT(!memcmp(out, d->node.slots[slot].received, len), "uip_app_read copied other bytes than were received");
-    is_untouched(d, len, "uip_app_read");
+    if (len) WANT(!memcmp(out, d->node.slots[slot].received, len), NAMED(read) " copied other bytes than were received");
+    is_untouched(d, len, NAMED(read));
     memcpy(bytes, out, len);
     return it;
 }
@@ -125,12 +139,12 @@ uip_received call_read(device *d, size_t slot, size_t room, byte *bytes) {
 // Returns whether the message was written.
 int call_write(device *d, size_t slot, size_t taken, const byte *text, size_t len, unsigned last, size_t room, sent_frame *sent) {
     begin(d, room, &guard, 0);
-    uip_result done = uip_app_write(&d->handle, slot, taken, put_input(&text_in, text, len), len, last, out, room);
+    uip_result done = CALL(write)(&d->on.handle, slot, taken, put_input(&text_in, text, len), len, last, out, room);
     unsigned wanted = foretold(d, slot >= UIP_SLOTS || len > UIP_MAX_MESSAGE || room < UIP_MAX_FRAME);
     if (wanted == UIP_OK && !node_can_write(&d->node, (unsigned)slot, taken)) wanted = UIP_NOT_READY;
     app_counts.not_ready += wanted == UIP_NOT_READY, app_counts.written += wanted == UIP_OK;
     if (wanted == UIP_OK) sent->len = node_writes(&d->node, (unsigned)slot, taken, text, len, last, sent->bytes);
-    end_sent(d, done, wanted, 0, sent, "uip_app_write");
+    end_sent(d, done, wanted, 0, sent, NAMED(write));
     return wanted == UIP_OK;
 }
 
@@ -143,6 +157,7 @@ void wrong_call(device *d) {
     size_t small = chance(50) ? UIP_MAX_FRAME - 1 : below(UIP_MAX_FRAME);
     size_t too_long = chance(70) ? UIP_MAX_MESSAGE + 1 : between(UIP_MAX_MESSAGE + 1, sizeof bytes);
     random_bytes(bytes, 300);
+    if (serves_pages() && chance(30)) { pages_refuse(d); return; }
     switch (below(9)) {
     case 0: call_frame(d, bytes, below((unsigned)small + 1), small, &sent); break;
     case 1: call_frame(d, bytes, room + 1 + below(5000), room, &sent); break;
@@ -153,7 +168,7 @@ void wrong_call(device *d) {
     case 6: call_write(d, slot, 0, bytes, too_long, below(2), room, &sent); break;
     case 7: call_write(d, slot, 0, bytes, below(UIP_MAX_MESSAGE + 1), below(2), small, &sent); break;
     default:
-        if (d->is_open) { call_open(d, bytes, bytes, bytes, bytes); break; }
+        if (d->on.is_open) { call_open(d, bytes, bytes, bytes, bytes); break; }
         call_frame(d, bytes, below(300), room, &sent);
         call_tick(d, below(UIP_SLOTS), room, &sent);
         call_read(d, below(UIP_SLOTS), below(300), bytes);

@@ -1,4 +1,4 @@
-// Makes the calls of include/uip_app.h in random ways, and looks whether each one does what the header states.
+// Makes the calls of include/uip_app.h, or of uip_both.h, in random ways, and looks whether each one does what the header states.
 //
 //     fuzz_app SECONDS CALLS SEED
 //
@@ -17,11 +17,17 @@ static int is_done(void) { return counts.calls >= most_calls || seconds_gone() >
 
 // Ticks come slot by slot, mostly in their order.
 static void act(unsigned *slot) {
-    if (!chance(12)) { peers_act(); return; }
-    tick(chance(97) ? *slot : below(UIP_SLOTS));
+    if (!chance(12)) {
+        if (serves_pages() && chance(50)) pages_act();
+        else peers_act();
+        return;
+    }
+    if (*slot == 0 && pages_whole_tick()) *slot = UIP_SLOTS - 1;
+    else tick(chance(97) ? *slot : below(UIP_SLOTS));
     if (++*slot < UIP_SLOTS) return;
     *slot = 0;
     peers_tick();
+    pages_tick();
     if (chance(1)) silence(chance(80) ? between(1, 300) : between(300, 2600));
     if (chance(2)) heap_check();
 }
@@ -45,6 +51,7 @@ static void show(unsigned long seed) {
            app_counts.opened, app_counts.reads, app_counts.written, app_counts.taken, app_counts.compared);
     printf("%lu segments sent again by ticks, %lu connections with too many bytes, %lu resets, %lu plain closes, %lu silences\n",
            app_counts.again, app_counts.overruns, app_counts.resets, app_counts.ends, app_counts.silences);
+    pages_show();
 }
 
 int main(int argc, char **argv) {

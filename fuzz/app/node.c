@@ -1,9 +1,10 @@
-// The node as include/uip_app.h, RFC 793, RFC 826 and docs/LIMITS.md describe it, with an application that the program answers for. It
-// foretells each frame and each result that is read. It was written apart from the library, over the definitions of its specification.
+// The node as include/uip_app.h, RFC 793, RFC 826 and docs/LIMITS.md describe it, with an application that the program answers for, and
+// with pages if there are any. It foretells each frame and each result that is read. It was written apart from the library, over the
+// definitions of its specification.
 #include <string.h>
 #include "app.h"
 
-enum { OWN_MSS = 1460, DEFAULT_MSS = 536, REST = 120, MOST_POLLS = 1200, SYN_TRIES = 5, TEXT_TRIES = 8 };
+enum { OWN_MSS = 1460, DEFAULT_MSS = 536, REST = 120, MOST_POLLS = 1200, MOST_WEB_POLLS = 20, SYN_TRIES = 5, TEXT_TRIES = 8 };
 typedef enum { NOTHING, AN_ACK, A_SYN, A_TEXT, A_FIN, A_RESET, ASKS, ASKS_FRESH } step;
 typedef struct { segment s; byte text[LARGEST]; } heard;
 
@@ -40,9 +41,16 @@ static size_t refuse(node *n, const segment *in, byte *to) {
 
 // ---- the application
 
+static int is_page(const connection *c) { return serves_pages() && c->own_port == WEB_PORT; }
+
+static int is_served(unsigned port) { return port == UIP_APP_PORT || port == UIP_MODBUS_PORT || (serves_pages() && port == WEB_PORT); }
+
+static unsigned most_polls(const connection *c) { return is_page(c) ? MOST_WEB_POLLS : MOST_POLLS; }
+
 static void store(connection *c, const heard *h) {
     if (h->s.len == 0) return;
     c->polls = 0;
+    if (is_page(c)) { page_receives(c, h->text, h->s.len); return; }
     if (c->is_overrun) return;
     if (c->received_len + h->s.len > UIP_MAX_RECEIVED) { c->is_overrun = 1; app_counts.overruns++; return; }
     memcpy(c->received + c->received_len, h->text, h->s.len);
@@ -57,8 +65,9 @@ static step closed(connection *c, step how) {
 
 // The application is asked what it sends, with nothing outstanding.
 static step asked(connection *c, int is_fresh) {
+    if (is_page(c)) page_is_asked(c);
     size_t left = c->text_len - c->acked;
-    if (c->is_overrun || c->polls == MOST_POLLS) return closed(c, A_RESET);
+    if (c->is_overrun || c->polls == most_polls(c)) return closed(c, A_RESET);
     if (left) {
         c->len = left < c->mss ? (unsigned)left : c->mss, c->age = 0;
         return A_TEXT;
@@ -99,6 +108,8 @@ static step established(connection *c, const heard *h, int is_acked) {
 static step connected(connection *c, const heard *h) {
     rest(c);
     c->state = UIP_ESTABLISHED, c->polls = 0, c->is_overrun = c->has_last = 0, c->received_len = c->text_len = c->acked = 0;
+    c->text = c->message;
+    if (is_page(c)) page_opens(c);
     store(c, h);
     c->rcv += (unsigned)h->s.len;
     app_counts.opened++;
@@ -150,7 +161,7 @@ static connection *slot_for_syn(node *n) {
 
 static size_t opens(node *n, const segment *s, byte *to) {
     connection *c = slot_for_syn(n);
-    if (!c) return 0;
+    if (!c) { n->no_slot++; return 0; }
     unsigned mss = s->mss == 0 ? DEFAULT_MSS : s->mss < OWN_MSS ? s->mss : OWN_MSS;
     memset(c, 0, sizeof *c);
     c->state = UIP_SYN_RCVD, c->port = s->from, c->own_port = s->to, c->rcv = s->seq + 1, c->una = n->calls, c->len = 1;
@@ -167,7 +178,7 @@ static size_t on_segment(node *n, const heard *h, byte *to) {
         if (what >= ASKS) what = asked(c, what == ASKS_FRESH);
         return send_step(n, c, what, to);
     }
-    if ((s->flags & 63) == SYN && (s->to == UIP_APP_PORT || s->to == UIP_MODBUS_PORT)) return opens(n, s, to);
+    if ((s->flags & 63) == SYN && is_served(s->to)) return opens(n, s, to);
     return s->flags & RST ? 0 : refuse(n, s, to);
 }
 
@@ -221,65 +232,89 @@ static size_t on_arp(node *n, const byte *p, size_t len, byte *sent) {
     return operation == 1 ? write_arp(sent, mac, 2, n->host.mac, n->host.own, mac, address) : 0;
 }
 
+// Sends the datagram of this length, if there is one.
+static size_t sends(node *n, size_t len, byte *sent) {
+    n->datagram_len = len;
+    return frame_for(&n->host, sent, n->datagram, len);
+}
+
 size_t node_receives(node *n, const byte *frame, size_t len, byte *sent) {
-    byte reply[LARGEST];
+    n->datagram_len = 0, n->arrived = 0;
     if (len <= ETHER_HEAD || len > LONGEST_FRAME) return 0;
     if (memcmp(frame, n->host.mac, 6) && memcmp(frame, everyone, 6)) return 0;
     unsigned type = get2(frame + 12);
     if (type == 0x806) return on_arp(n, frame + ETHER_HEAD, len - ETHER_HEAD, sent);
-    return type == 0x800 ? frame_for(&n->host, sent, reply, on_datagram(n, frame + ETHER_HEAD, len - ETHER_HEAD, reply)) : 0;
+    if (type != 0x800) return 0;
+    n->arrived = frame + ETHER_HEAD, n->arrived_len = len - ETHER_HEAD;
+    pages_count(n);
+    return sends(n, on_datagram(n, n->arrived, n->arrived_len, n->datagram), sent);
 }
 
 // ---- ticks
 
 // What a tick does with what is outstanding: it waits, sends it again at some ages, or resets at the last.
-static step waits(connection *c) {
-    static const unsigned ages[] = {4, 8, 15, 28, 53, 102, 151, 200, 249};
+static const unsigned ages[] = {4, 8, 15, 28, 53, 102, 151, 200, 249};
+
+static step waits(node *n, connection *c) {
     unsigned most = c->state == UIP_SYN_RCVD ? SYN_TRIES : TEXT_TRIES, is_due = 0;
     if (++c->age == ages[most]) return closed(c, A_RESET);
     for (unsigned k = 0; k < most; k++) is_due |= c->age == ages[k];
     if (!is_due) return NOTHING;
-    app_counts.again++;
+    app_counts.again++, n->again++;
     return c->state == UIP_SYN_RCVD ? A_SYN : c->state <= UIP_CLOSE_WAIT ? A_TEXT : A_FIN;
 }
 
-static step ticked(connection *c) {
+static step ticked(node *n, connection *c) {
     switch (c->state) {
     case UIP_CLOSED: return NOTHING;
     case UIP_FIN_WAIT_2:
     case UIP_TIME_WAIT: return ++c->age == REST ? closed(c, NOTHING) : NOTHING;
     case UIP_ESTABLISHED:
-        if (c->len) return waits(c);
-        c->polls += c->polls < MOST_POLLS;
+        if (c->len) return waits(n, c);
+        c->polls += c->polls < most_polls(c);
         return asked(c, 0);
-    default: return waits(c);
+    default: return waits(n, c);
     }
 }
 
 size_t node_ticks(node *n, unsigned slot, byte *sent) {
-    byte reply[LARGEST];
-    n->calls++, n->host.ticks += slot == 0;
-    return frame_for(&n->host, sent, reply, send_step(n, n->slots + slot, ticked(n->slots + slot), reply));
+    connection *c = n->slots + slot;
+    n->calls++, n->host.ticks += slot == 0, n->arrived = 0;
+    return sends(n, send_step(n, c, ticked(n, c), n->datagram), sent);
 }
 
 // ---- what the program reads and writes
 
 uip_received node_reads(const node *n, unsigned slot) {
     const connection *c = n->slots + slot;
-    int is_up = c->state == UIP_ESTABLISHED || c->state == UIP_CLOSE_WAIT;
+    int is_up = !is_page(c) && (c->state == UIP_ESTABLISHED || c->state == UIP_CLOSE_WAIT);
     return (uip_received){.ready = (unsigned)node_can_write(n, slot, 0), .port = is_up ? c->own_port : 0,
                           .len = is_up && !c->is_overrun ? c->received_len : 0};
 }
 
+// A row, by RFC 793 and the ages at which something is sent again.
+uip_row node_row(const node *n, unsigned slot) {
+    const connection *c = n->slots + slot;
+    uip_row row = {.state = c->state, .port = c->port, .waiting = c->len > 0};
+    if (c->state == UIP_CLOSED) return (uip_row){0};
+    memcpy(row.peer, c->peer, 4);
+    if (c->state == UIP_FIN_WAIT_2 || c->state == UIP_TIME_WAIT) row.count = c->age;
+    if (!c->len) return row;
+    while (ages[row.tries] <= c->age) row.tries++;
+    row.count = ages[row.tries] - c->age - 1;
+    return row;
+}
+
 int node_can_write(const node *n, unsigned slot, size_t taken) {
     const connection *c = n->slots + slot;
-    return c->state == UIP_ESTABLISHED && !c->len && !c->is_overrun && !c->has_last && c->acked == c->text_len && taken <= c->received_len;
+    if (is_page(c) || c->state != UIP_ESTABLISHED) return 0;
+    return !c->len && !c->is_overrun && !c->has_last && c->acked == c->text_len && taken <= c->received_len;
 }
 
 size_t node_writes(node *n, unsigned slot, size_t taken, const byte *text, size_t len, unsigned last, byte *sent) {
     connection *c = n->slots + slot;
     memmove(c->received, c->received + taken, c->received_len -= taken);
-    memcpy(c->text, text, len);
+    memcpy(c->message, text, len);
     c->text_len = len, c->acked = 0, c->has_last = last == 1;
     return node_ticks(n, slot, sent);
 }

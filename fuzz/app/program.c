@@ -13,9 +13,9 @@ static manner how;
 static size_t some_room(void) { return chance(90) ? UIP_MAX_FRAME : between(UIP_MAX_FRAME, 4000); }
 
 // A datagram that the first device sent goes to its peers.
-static void pass_on(device *d, const sent_frame *sent, int is_reply) {
-    if (d != devices || sent->len == 0) return;
-    if (sent->bytes[13] == 0) peers_get(sent->bytes + ETHER_HEAD, sent->len - ETHER_HEAD, is_reply);
+void pass_on(device *d, const sent_frame *sent, int is_reply) {
+    if (d != devices || pages_see(sent->len && sent->bytes[13])) return;
+    if (sent->len && sent->bytes[13] == 0) peers_get(sent->bytes + ETHER_HEAD, sent->len - ETHER_HEAD, is_reply);
 }
 
 static void receive(device *d, const byte *frame, size_t len) {
@@ -91,7 +91,10 @@ static void answer(device *d, unsigned slot) {
 
 static void serve(device *d) {
     if (!chance(how == LATE ? 5 : 60)) return;
-    for (unsigned slot = 0; slot < UIP_SLOTS; slot++) if (chance(d->node.slots[slot].state ? 40 : 2)) answer(d, slot);
+    for (unsigned slot = 0; slot < UIP_SLOTS; slot++) {
+        const connection *c = d->node.slots + slot;
+        if (chance(c->state && c->own_port != WEB_PORT ? 40 : 2)) answer(d, slot);
+    }
     if (chance(2)) wrong_call(d);
 }
 
@@ -113,10 +116,20 @@ void receive_datagram(const byte *datagram, size_t len) {
     while (is_sound && frame_len < LONGEST_FRAME && (frame_len < 60 || chance(40))) frame[frame_len++] = (byte)random_next();    // padding
     receive(d, frame, frame_len);
     serve(d);
-    if (!chance(20)) return;
+    if (!chance(20) || (serves_pages() && datagram[22] == 0 && datagram[23] == WEB_PORT)) return;
     if (chance(50)) teach(devices + 1, hop_to(&devices[1].node.host, datagram + 12));
     receive(devices + 1, frame, frame_len);
     serve(devices + 1);
+}
+
+// Noise in a frame to the first device, of IP, of ARP or of another type.
+void receive_noise(const byte *bytes, size_t len) {
+    static byte frame[AREA];
+    const host *h = &devices->node.host;
+    if (len > LARGEST + 40) len = LARGEST + 40;
+    write_ether(frame, chance(50) ? h->mac : everyone, bytes, chance(60) ? 0x800 : chance(60) ? 0x806 : below(65536));
+    memcpy(frame + ETHER_HEAD, bytes, len);
+    receive(devices, frame, ETHER_HEAD + len);
 }
 
 void tick(unsigned slot) {
@@ -125,7 +138,8 @@ void tick(unsigned slot) {
         if (d != devices && chance(50)) continue;
         call_tick(d, slot, some_room(), &sent);
         pass_on(d, &sent, 0);
-        if (d->node.slots[slot].state) answer(d, slot);
+        const connection *c = d->node.slots + slot;
+        if (c->state && (c->own_port != WEB_PORT || chance(5))) answer(d, slot);
     }
 }
 
@@ -145,9 +159,10 @@ static void open_device(device *d, const byte *own, const byte *mac) {
     byte mask[4], router[4];
     choose_network(own, mask, router);
     for (unsigned k = below(3); k; k--) wrong_call(d);
-    if (chance(50)) heap_refuses = between(1, 4);
+    pages_open_badly(d, own, mac, mask, router);
+    if (chance(50)) heap_refuses = between(1, DEVICE_BLOCKS + 1);
     call_open(d, own, mac, mask, router);
-    if (!d->is_open) call_open(d, own, mac, mask, router);
+    if (!d->on.is_open) call_open(d, own, mac, mask, router);
     if (chance(30)) call_open(d, own, mac, mask, router);    // UIP_HAS_DEVICE
 }
 
@@ -159,9 +174,11 @@ void program_begin(void) {
     how = (manner)below(3);
     random_bytes(recent[0], sizeof recent);
     WANT(heap_blocks == 0, "%zu blocks are taken without a device", heap_blocks);
+    pages_choose();
     open_device(devices, own, mac);
     open_device(devices + 1, own, mac);
     peers_begin(own);
+    pages_begin(own);
 }
 
 void program_end(void) {
@@ -170,5 +187,5 @@ void program_end(void) {
         call_close(devices + (first ^ k));
         for (unsigned n = below(4); n; n--) wrong_call(devices + (first ^ k));
     }
-    WANT(heap_blocks == 0, "%zu blocks are left after uip_app_close", heap_blocks);
+    WANT(heap_blocks == 0, "%zu blocks are left after " NAMED(close), heap_blocks);
 }

@@ -17,11 +17,6 @@ uip_result __real_uip_input_frame(uip_device *d, byte *frame, size_t room, size_
 uip_result __real_uip_periodic_frame(uip_device *d, size_t slot, byte *frame, size_t room);
 unsigned __real_uip_close(uip_device *d);
 uip_result __real_uip_periodic_datagram(uip_device *d, size_t slot, byte *out, size_t room);
-unsigned __real_uip_set_value(uip_device *d, size_t number, const void *text, size_t len);
-uip_number __real_uip_hits(uip_device *d, const void *name, size_t len);
-uip_number __real_uip_is_idle(uip_device *d);
-uip_row __real_uip_connection(uip_device *d, size_t slot);
-uip_query_text __real_uip_query(uip_device *d, const void *name, size_t len, byte *out, size_t room);
 
 static unsigned calls;
 
@@ -93,61 +88,16 @@ uip_result __wrap_uip_periodic_datagram(uip_device *d, size_t slot, byte *out, s
     return done;
 }
 
-unsigned __wrap_uip_set_value(uip_device *d, size_t number, const void *text, size_t len) {
-    if (PLANT == 17 && number < UIP_VALUES) number ^= 1;                          // under its neighbour
-    if (PLANT == 18 && len == UIP_MAX_VALUE) len--;                           // the last byte is cut off
-    if (PLANT == 19 && number < UIP_VALUES && len > UIP_MAX_VALUE) __real_uip_set_value(d, number, text, UIP_MAX_VALUE);
-    if (PLANT == 20 && len == 0 && d->is_open) return UIP_OK;                   // an empty text is not given
-    unsigned status = __real_uip_set_value(d, number, text, len);
-    if (PLANT == 21 && len == UIP_MAX_VALUE + 1) status = UIP_OK;
-    return status;
-}
-
-uip_number __wrap_uip_hits(uip_device *d, const void *name, size_t len) {
-    uip_number read = __real_uip_hits(d, name, len);
-    if (PLANT == 22 && read.number > 9) read.number--;                            // a hit is not counted
-    if (PLANT == 23 && len == 65) read.number = 1;                                // a name that is too long has hits
-    return read;
-}
-
-uip_number __wrap_uip_is_idle(uip_device *d) {
-    uip_number read = __real_uip_is_idle(d);
-    if (PLANT == 24 && read.status == UIP_OK && __real_uip_connection(d, 0).state == UIP_CLOSED) read.number = 1;    // by slot 0 alone
-    return read;
-}
-
-uip_row __wrap_uip_connection(uip_device *d, size_t slot) {
-    uip_row row = __real_uip_connection(d, PLANT == 25 && slot < UIP_SLOTS ? slot ^ 1 : slot);    // the row beside it
-    if (PLANT == 26 && row.tries) row.tries--;
-    if (PLANT == 27 && row.state == UIP_TIME_WAIT) row.state = UIP_FIN_WAIT_1;
-    return row;
-}
-
-uip_query_text __wrap_uip_query(uip_device *d, const void *name, size_t len, byte *out, size_t room) {
-    static byte first[UIP_MAX_QUERY];
-    static size_t first_len;
-    uip_query_text read = __real_uip_query(d, name, len, out, room);
-    if (PLANT == 38 && read.len == UIP_MAX_QUERY) read.len--;                     // the last byte is missing
-    if (PLANT == 39 && read.hit > 1) read.hit--;                                  // of the request before
-    if (PLANT == 40 && read.len) {                                                // the first query stays
-        if (!first_len) memcpy(first, out, first_len = read.len);
-        memcpy(out, first, read.len = first_len);
-    }
-    if (PLANT == 41 && read.status == UIP_OK && !read.len) read.hit = 1;          // a query of a file that has none
-    if (PLANT == 42 && read.status == UIP_OK) out[read.len] = 0;                  // a 0 at its end
-    return read;
-}
-
 static byte own_mac[6], last_mac[6];
 static const byte no_address[4], all_bits[4] = {255, 255, 255, 255};
 
 uip_opened __wrap_uip_open_ether(uip_device *d, const byte *image, size_t len, const byte *own, const byte *mac, const byte *mask,
                                  const byte *router) {
-    if (PLANT == 36) router = no_address;                                         // the router is ignored
-    if (PLANT == 37) mask = all_bits;                                             // the mask is ignored
+    if (PLANT == 25) router = no_address;                                         // the router is ignored
+    if (PLANT == 26) mask = all_bits;                                             // the mask is ignored
     uip_opened opened = __real_uip_open_ether(d, image, len, own, mac, mask, router);
     if (opened.status == UIP_OK) memcpy(own_mac, mac, 6);
-    if (PLANT == 28 && opened.status == UIP_OK) rattle_alloc(1, 1);               // a block more
+    if (PLANT == 17 && opened.status == UIP_OK) rattle_alloc(1, 1);               // a block more
     return opened;
 }
 
@@ -155,21 +105,25 @@ uip_result __wrap_uip_input_frame(uip_device *d, byte *frame, size_t room, size_
     int is_whole = d->is_open == 2 && room >= UIP_MAX_FRAME && len <= room && len >= 14;
     byte head[6] = {0};
     if (is_whole) memcpy(head, frame, 6);
-    if (PLANT == 29 && is_whole && !(head[0] & 1)) memcpy(frame, own_mac, 6);     // a frame for another host is received
-    if (PLANT == 30 && is_whole && len >= 42 && frame[12] == 8 && frame[13] == 6 && frame[21] == 2) memset(frame, 0, 6);    // teaches nothing
+    if (PLANT == 18 && is_whole && !(head[0] & 1)) memcpy(frame, own_mac, 6);     // a frame for another host is received
+    int is_arp = is_whole && len >= 42 && frame[12] == 8 && frame[13] == 6;
+    if (PLANT == 19 && is_arp && frame[21] == 2) memset(frame, 0, 6);             // a reply of ARP teaches nothing
     uip_result done = __real_uip_input_frame(d, frame, room, len);
-    if (PLANT == 31 && done.written >= 34 && frame[13] == 0) {                    // to the address that was sent to before
+    if (PLANT == 20 && done.written >= 34 && frame[13] == 0) {                    // to the address that was sent to before
         byte now[6];
         memcpy(now, frame, 6), memcpy(frame, last_mac, 6), memcpy(last_mac, now, 6);
     }
-    if (PLANT == 32 && done.status == UIP_OK && len < 14) done.written = 42;      // a reply to a runt
-    if (PLANT == 33 && done.status == UIP_WRONG_LINK) done.status = UIP_BAD_ARGUMENT;
+    if (PLANT == 21 && done.status == UIP_OK && len < 14) done.written = 42;      // a reply to a runt
+    if (PLANT == 22 && done.status == UIP_WRONG_LINK) done.status = UIP_BAD_ARGUMENT;
     return done;
 }
 
 uip_result __wrap_uip_periodic_frame(uip_device *d, size_t slot, byte *frame, size_t room) {
-    if (PLANT == 34 && slot == 0 && ++calls % 2 == 0) slot = 1;                   // ticks are lost
+    if (PLANT == 23 && slot == 0 && ++calls % 2 == 0) slot = 1;                   // ticks are lost
     uip_result done = __real_uip_periodic_frame(d, slot, frame, room);
-    if (PLANT == 35 && done.written > 60) frame[done.written - 1] ^= 1;           // a byte of a segment is another
+    if (PLANT == 24 && done.written > 60) frame[done.written - 1] ^= 1;           // a byte of a segment is another
     return done;
 }
+
+#define BEFORE 26
+#include "reads.c"

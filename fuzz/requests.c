@@ -1,18 +1,17 @@
 // What is known of each connection from the datagrams that the node hears and sends: which file its peer asked for, so how often each
 // file was, and which states its row may have.
 #include <string.h>
-#include "fuzz.h"
+#include "pages.h"
 
-enum { MOST_PEERS = 4096, HTTP = 80, LONGEST_TARGET = 200 };
-enum { WORD, TARGET, DECIDED };
+enum { MOST_PEERS = 4096, HTTP = 80 };
 
 // A peer since its last SYN-ACK. `next` is the number that the node expects, `sent` the one of the last SYN, text or FIN that it sent,
 // and `again` how often a tick sent that once more.
 typedef struct {
-    byte address[4], target[LONGEST_TARGET];
-    unsigned port, next, sent, again, stage;
+    byte address[4];
+    unsigned port, next, sent, again;
     int has_sent, has_text, has_fin, has_received;    // `has_received`: text, in an earlier piece
-    size_t len;
+    request request;
 } peer;
 
 static peer peers[MOST_PEERS];
@@ -22,7 +21,7 @@ static unsigned hits[MOST_FILES], hits_before[MOST_FILES];
 static query kept;                 // the last query, and the file that it was for
 static const file *kept_for;
 
-void peers_begin(const site *s) {
+void requests_begin(const site *s) {
     asked = s, count = 0, kept_for = 0;
     memset(hits, 0, sizeof hits), memset(hits_before, 0, sizeof hits_before);
 }
@@ -50,33 +49,40 @@ query query_foretold(const byte *name, size_t len) {
 
 // The text after the `?` of a target is kept if the first piece of the connection decides the request.
 static void keep_query(const peer *p, const file *f, size_t mark) {
-    query new = {.hit = hits[f - asked->files], .len = p->len - mark - 1};
-    if (p->has_received || mark >= p->len || new.len > UIP_MAX_QUERY) return;
-    for (size_t k = 0; k < new.len; k++) if (!is_kept(new.bytes[k] = p->target[mark + 1 + k])) return;
+    const request *r = &p->request;
+    query new = {.hit = hits[f - asked->files], .len = r->len - mark - 1};
+    if (p->has_received || mark >= r->len || new.len > UIP_MAX_QUERY) return;
+    for (size_t k = 0; k < new.len; k++) if (!is_kept(new.bytes[k] = r->target[mark + 1 + k])) return;
     kept = new, kept_for = f;
 }
 
-// The target ended: its name is what is before a `?`.
-static void decide(peer *p) {
+// The name of the file that a whole target means is what is before a `?`, at `mark`.
+const file *file_requested(const site *s, const request *r, size_t *mark) {
     size_t len = 0;
-    while (len < p->len && p->target[len] != '?') len++;
-    size_t mark = len;
-    const byte *name = file_of_target(p->target, &len);
-    const file *f = file_named(asked, name, len);
-    if (f && p->target[0] == '/') hits[f - asked->files]++, keep_query(p, f, mark);
+    while (len < r->len && r->target[len] != '?') len++;
+    *mark = len;
+    const byte *name = file_of_target(r->target, &len);
+    return r->len && r->target[0] == '/' ? file_named(s, name, len) : 0;
+}
+
+int request_takes(request *r, byte b) {
+    int ends = b == ' ' || (r->stage == TARGET && (b == '\r' || b == '\n'));
+    if (r->stage == DECIDED) return 0;
+    if (!ends) {
+        if (r->len < LONGEST_TARGET) r->target[r->len++] = b;
+        return 0;
+    }
+    int is_get = r->stage == WORD && r->len == 3 && !memcmp(r->target, "GET", 3), is_target = r->stage == TARGET;
+    r->stage = is_get ? TARGET : DECIDED;
+    if (!is_target) r->len = 0;
+    return is_target;
 }
 
 static void hear_byte(peer *p, byte b) {
-    int ends = b == ' ' || (p->stage == TARGET && (b == '\r' || b == '\n'));
-    if (p->stage == DECIDED) return;
-    if (!ends) {
-        if (p->len < LONGEST_TARGET) p->target[p->len++] = b;
-        return;
-    }
-    int is_get = p->len == 3 && !memcmp(p->target, "GET", 3);
-    if (p->stage == TARGET) decide(p);
-    p->stage = p->stage == WORD && is_get ? TARGET : DECIDED;
-    p->len = 0;
+    size_t mark;
+    if (!request_takes(&p->request, b)) return;
+    const file *f = file_requested(asked, &p->request, &mark);
+    if (f) hits[f - asked->files]++, keep_query(p, f, mark);
 }
 
 // The text of a datagram was taken where it begins with what is expected and the answer acknowledges it.
@@ -103,7 +109,7 @@ static int is_from(const peer *p, const byte *heard, size_t len, segment *in) {
         && !memcmp(in->source, p->address, 4);
 }
 
-void peers_see(const byte *heard, size_t heard_len, const byte *sent, size_t sent_len) {
+void requests_see(const byte *heard, size_t heard_len, const byte *sent, size_t sent_len) {
     segment in, out;
     if (!read_segment(sent, sent_len, &out) || out.from != HTTP || out.flags & RST) return;
     peer *p = heard && out.flags & SYN ? new_peer(&out) : peer_at(out.target, out.to);
