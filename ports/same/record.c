@@ -1,8 +1,8 @@
-// Linked into the fuzzer by --wrap: writes each call of the library and its result to descriptor 3, for replay.c. With UIP_BOTH it is for
+// Linked into the fuzzer by --wrap: writes each call of the library and its result to descriptor 3, for replay.c. With BOTH it is for
 // the calls of uip_both.h.
 #include "fuzz.h"
 #include "record.h"
-#ifdef UIP_BOTH
+#ifdef BOTH
 #include "uip_both.h"
 #endif
 
@@ -31,7 +31,7 @@ void __wrap_make_site(site *s, const calls_of *has) {
 
 // ---- the calls
 
-#ifndef UIP_BOTH
+#ifndef BOTH
 uip_opened __real_uip_open(uip_device *d, const unsigned char *image, size_t len, const unsigned char own[4]);
 uip_opened __wrap_uip_open(uip_device *d, const unsigned char *image, size_t len, const unsigned char own[4]) {
     record r = begun(OPEN, d, 0, len, 0, 0);
@@ -67,7 +67,7 @@ uip_opened __wrap_uip_open_ether(uip_device *d, const unsigned char *image, size
         record r = begun(op, d, which, in_len, out, room); \
         return ended(&r, __real_##name arguments, in, out); \
     }
-#ifdef UIP_BOTH
+#ifdef BOTH
 READ_AND_WRITE(uip_device, uip_read, uip_write)
 #else
 RESULTS(uip_feed, FEED, (uip_device *d, const unsigned char *bytes, size_t len, unsigned char *out, size_t room),

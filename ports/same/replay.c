@@ -1,6 +1,6 @@
-// Makes the recorded calls of uip.h again (replay.h); with UIP_BOTH those of uip_both.h.
+// Makes the recorded calls of uip.h again (replay.h); with BOTH those of uip_both.h.
 #include "replay.h"
-#ifdef UIP_BOTH
+#ifdef BOTH
 #include "uip_both.h"
 #endif
 
@@ -21,7 +21,7 @@ static uip_result call(const record *r, const unsigned char *input, const unsign
     uip_device *d = &devices[r->device];
     size_t len = (size_t)r->in_len, room = (size_t)r->room, number = (size_t)r->number;
     switch (r->op) {
-#ifdef UIP_BOTH
+#ifdef BOTH
     READ_OR_WRITE(uip_read, uip_write)
 #else
     case OPEN: opened = uip_open(d, input + 4, len - 4, input); *left = (unsigned char *)&opened; return of_status(opened.status);

@@ -1,7 +1,7 @@
 # shellcheck shell=sh disable=SC2154,SC2086
 # The same calls, for run.sh: the fuzzer runs on this machine with the library of the proof run, record.c writes each of its calls and
 # results to a pipe, and replay.c makes them again on the target. record_app.c and replay_app.c are those of uip_app.h. For uip_both.h the
-# first two are compiled with UIP_BOTH.
+# first two are compiled with BOTH.
 RECORDED_BOTH="open_ether input_frame periodic_frame ticks counter is_idle connection set_value hits query close"
 RECORDED="open feed periodic drain input periodic_datagram $RECORDED_BOTH"
 RECORDED_APP="open input_frame periodic_frame read write close"
@@ -24,13 +24,16 @@ recorder() {
         set -- "$top"/fuzz/*.c "$ports/same/record.c";;
     uip_app_c)
         wraps=$(wrapped uip_app $RECORDED_APP)
-        set -- "$top"/fuzz/app/*.c "$ports/same/record_app.c"
-        for part in random report areas heap wire link arp model; do set -- "$@" "$top/fuzz/$part.c"; done;;
+        set -- "$top"/fuzz/app/*.c "$ports/same/record_app.c";;
     uip_both_c)
         wraps="$(wrapped uip $RECORDED_BOTH read write) -Wl,--wrap=make_site"
-        set -- -DUIP_BOTH "$ports/same/both.c" "$ports/same/record.c"
-        for part in random report areas heap wire link arp sites values; do set -- "$@" "$top/fuzz/$part.c"; done;;
+        set -- -DBOTH "$top/fuzz/both/pages.c" "$ports/same/record.c"
+        for part in calls main node peers program; do set -- "$@" "$top/fuzz/app/$part.c"; done
+        for part in sites values requests clients reads; do set -- "$@" "$top/fuzz/$part.c"; done;;
     esac
+    if [ "$crate" != uip_c ]; then
+        for part in random report areas heap wire link arp model; do set -- "$@" "$top/fuzz/$part.c"; done
+    fi
     "${CC:-cc}" -std=gnu11 -O2 -I"$top/include" -I"$ports/same" -I"$top/fuzz" $wraps -Wl,--wrap=rattle_alloc -Wl,--wrap=rattle_dealloc \
         "$@" "$out/$crate.a" -o "$record" || fail "the recorder was not built"
 }
@@ -42,7 +45,7 @@ replayer() {
     uip_both_c) source=replay_both module=both_module;;
     esac
     case "$source" in
-    replay_both) c_code -O2 -DUIP_BOTH "$ports/same/replay.c" -o "$to/$source.o";;
+    replay_both) c_code -O2 -DBOTH "$ports/same/replay.c" -o "$to/$source.o";;
     *) c_code -O2 "$ports/same/$source.c" -o "$to/$source.o";;
     esac
     c_code -O2 "$example/runtime.c" -o "$to/replay_runtime.o"
