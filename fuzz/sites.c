@@ -269,7 +269,7 @@ static void add_script(writer *w, const site *s, const calls_of *has) {
             add_text(w, "%!: "), add(w, f->name, f->name_len), add_text(w, chance(50) ? " more\n" : "\r\n");
         }
         if (kind == 2) add_text(w, "%! unknown /a\n");
-        if (kind == 4) add_text(w, calls[has->others && chance(50) ? below(6) : between(2, 5)]);
+        if (kind == 4) add_text(w, calls[has->others && chance(50) ? below(has->many ? 2 : 6) : between(2, 5)]);
         if (kind > 4) add_value_call(w);
     }
 }

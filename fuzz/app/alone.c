@@ -13,6 +13,8 @@ void page_is_asked(connection *c) { (void)c; }
 
 void pages_choose(void) {}
 
+text pages_image(void) { return (text){0}; }
+
 void pages_open_badly(device *d, const byte *own, const byte *mac, const byte *mask, const byte *router) {
     (void)d, (void)own, (void)mac, (void)mask, (void)router;
 }

@@ -9,13 +9,13 @@
 #define CALL(name) uip_##name
 typedef uip_device node_handle;
 typedef tested opened;
-enum { DEVICE_BLOCKS = 6, IS_OPEN = 2 };
+enum { DEVICE_BLOCKS = 6 };
 #else
 #include "uip_app.h"
 #define CALL(name) uip_app_##name
 typedef uip_app node_handle;
 typedef struct { node_handle handle; int is_open; } opened;
-enum { DEVICE_BLOCKS = 3, IS_OPEN = 1 };
+enum { DEVICE_BLOCKS = 3 };
 #endif
 #define NAMED_BY(call) #call
 #define NAME_OF(call) NAMED_BY(call)
@@ -49,7 +49,7 @@ uip_received node_reads(const node *n, unsigned slot);    // the bytes are those
 uip_row node_row(const node *n, unsigned slot);
 
 // calls.c: single calls of a device, each as the node foretells it.
-typedef struct { opened on; node node; } device;
+typedef struct { opened on; node node; size_t blocks; } device;    // it has so many blocks of the heap
 typedef struct { byte bytes[UIP_MAX_FRAME]; size_t len; } sent_frame;    // what a call sent; no bytes if nothing
 void calls_begin(void);
 void call_open(device *d, const byte *own, const byte *mac, const byte *mask, const byte *router);

@@ -43,7 +43,7 @@ static int end(const device *d, unsigned status, unsigned wanted, const char *wh
     WANT(status == wanted, "%s returned %u, and %u was foretold", what, status, wanted);
     WANT(heap_calls == heap_before, "%s called the heap", what);
     for (unsigned k = 0; k < GUARD; k++) WANT(out[-1 - (int)k] == guard, "%s wrote before the area", what);
-    WANT(d->on.handle.is_open == (d->on.is_open ? IS_OPEN : 0), "%s left the handle with %u", what, d->on.handle.is_open);
+    WANT(d->on.handle.is_open == (unsigned)d->on.is_open, "%s left the handle with %u", what, d->on.handle.is_open);
     if (wanted == UIP_OK) return 1;
     counts.refused++;
     is_untouched(d, 0, what);
@@ -84,10 +84,17 @@ static unsigned open_one(device *d, const byte *own, const byte *mac, const byte
 #endif
 }
 
+// Whether the site that is opened has a file: without one a device takes three blocks.
+static int has_files(void) {
+    const byte *image = pages_image().bytes;
+    return image && (image[8] || image[9]);
+}
+
 void call_open(device *d, const byte *own, const byte *mac, const byte *mask, const byte *router) {
     size_t blocks = heap_blocks;
     unsigned status = open_one(d, own, mac, mask, router);
-    WANT(heap_blocks == blocks + (status == UIP_OK ? DEVICE_BLOCKS : 0), "opening took %zu blocks", heap_blocks - blocks);
+    if (status == UIP_OK) d->blocks = has_files() ? DEVICE_BLOCKS : 3;
+    WANT(heap_blocks == blocks + (status == UIP_OK ? d->blocks : 0), "opening took %zu blocks", heap_blocks - blocks);
     if (status != UIP_OK) return;
     memset(&d->node, 0, sizeof d->node);
     host_begin(&d->node.host, own, mac, mask, router);
@@ -97,7 +104,7 @@ void call_close(device *d) {
     size_t blocks = heap_blocks;
     begin(d, 0, &guard, 0);
     unsigned wanted = foretold(d, 0), status = CALL(close)(&d->on.handle);
-    WANT(heap_blocks == blocks - (wanted == UIP_OK ? DEVICE_BLOCKS : 0), NAMED(close) " left a block");
+    WANT(heap_blocks == blocks - (wanted == UIP_OK ? d->blocks : 0), NAMED(close) " left a block");
     if (wanted == UIP_OK) heap_before = heap_calls;
     d->on.is_open = 0;
     end(d, status, wanted, NAMED(close));

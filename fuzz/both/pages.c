@@ -82,7 +82,7 @@ void page_is_asked(connection *c) {
 text pages_image(void) { return image; }
 
 void pages_choose(void) {
-    calls_of has = {.others = chance(30), .many = chance(60), .values = chance(80)};
+    calls_of has = {.others = chance(50), .many = chance(60), .values = chance(80)};
     make_site(&served, &has);
     image = (text){served.image, served.len};
 }
@@ -217,13 +217,16 @@ static void take_frame(void *to, const byte *frame, size_t len) {
 }
 
 int pages_whole_tick(void) {
-    static byte frame[UIP_MAX_FRAME];
+    static area frames;
     sent_frame rest;
+    size_t room = chance(50) ? UIP_MAX_FRAME : between(UIP_MAX_FRAME, 4000), heap_before = heap_calls;
     if (!chance(20)) return 0;
+    if (!frames.len) frames = area_new(4096, 0);
     next_slot = 0;
-    unsigned status = uip_tick_frames(&devices->on.handle, frame, sizeof frame, take_frame, devices);
+    unsigned status = uip_tick_frames(&devices->on.handle, take_room(&frames, room), room, take_frame, devices);
     next_frame(&rest);
     WANT(status == UIP_OK && rest.len == 0, "a tick returned %u, or did not send a frame", status);
+    WANT(heap_calls == heap_before, "a tick called the heap");
     counts.calls += UIP_SLOTS, whole_ticks++;
     return 1;
 }

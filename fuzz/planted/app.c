@@ -68,7 +68,7 @@ static void swap_words(byte *frame, size_t len) {
 }
 
 uip_result WRAP(input_frame)(node_handle *d, byte *frame, size_t room, size_t len) {
-    int is_whole = d->is_open == IS_OPEN && room >= UIP_MAX_FRAME && len <= room && len >= 14;
+    int is_whole = d->is_open == 1 && room >= UIP_MAX_FRAME && len <= room && len >= 14;
     if (PLANT == 10 && is_whole && memcmp(frame, own_mac, 6) && !(frame[0] & 1)) memcpy(frame, own_mac, 6);    // for another host
     if (PLANT == 11 && is_whole && len >= 42 && frame[13] == 6 && frame[21] == 2) memset(frame, 0, 6);    // a reply of ARP teaches nothing
     if (PLANT == 12 && is_whole && len > 60 && frame[13] == 0 && is_due(1000)) memset(frame, 0, 6);       // a frame is lost
