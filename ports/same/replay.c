@@ -36,7 +36,7 @@ static uip_result call(const record *r, const unsigned char *input, const unsign
         *left = (unsigned char *)&opened;
         return of_status(opened.status);
     case INPUT_FRAME: __builtin_memcpy(out, input, len); return uip_input_frame(d, out, room, number);
-    case PERIODIC_FRAME: return uip_periodic_frame(d, number, out, room);
+    case PERIODIC_FRAME: __builtin_memcpy(out, input, len); return uip_periodic_frame(d, number, out, room);
     case TICKS: return of_number(uip_ticks(d));
     case COUNTER: return of_number(uip_counter(d, number));
     case IS_IDLE: return of_number(uip_is_idle(d));
