@@ -12,7 +12,7 @@ unsigned __wrap_uip_set_value(uip_device *d, size_t number, const void *text, si
     if (FAULT == 1 && number < UIP_VALUES) number ^= 1;                          // under its neighbour
     if (FAULT == 2 && len == UIP_MAX_VALUE) len--;                           // the last byte is cut off
     if (FAULT == 3 && number < UIP_VALUES && len > UIP_MAX_VALUE) __real_uip_set_value(d, number, text, UIP_MAX_VALUE);
-    if (FAULT == 4 && len == 0 && d->is_open) return UIP_OK;                   // an empty text is not given
+    if (FAULT == 4 && number < UIP_VALUES && len == 0 && d->is_open) return UIP_OK;    // an empty text is not given
     unsigned status = __real_uip_set_value(d, number, text, len);
     if (FAULT == 5 && len == UIP_MAX_VALUE + 1) status = UIP_OK;
     return status;
@@ -51,7 +51,7 @@ uip_query_text __wrap_uip_query(uip_device *d, const void *name, size_t len, byt
     if (FAULT == 15 && read.status == UIP_OK && !read.len) read.hit = 1;          // a query of a file that has none
     if (FAULT == 16 && read.status == UIP_OK) out[read.len] = 0;                  // a 0 at its end
     if (FAULT == 17 && read.status == UIP_OK && read.len) out[room] = out[0];     // a byte more than there is room for
-    if (FAULT == 18 && read.status == UIP_OK) {                                   // a query of another file
+    if (FAULT == 18 && read.status == UIP_OK && len && *(const byte *)name == '/') {    // a query of another file
         static byte last_name[100];
         static size_t last_len;
         uip_query_text other = __real_uip_query(d, last_name, last_len, out, room);
