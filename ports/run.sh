@@ -16,7 +16,7 @@
 #     sh ports/run.sh m4 app                       builds a firmware with an application of its own (uip_app.h), and runs it: four clients of
 #                                                  its console compare each reply (root)
 #     sh ports/run.sh m4 both                      builds a firmware with pages and such an application (uip_both.h), and tries it as `ether`
-#                                                  and as `app` (root)
+#                                                  and as `app`, with the pages fetched beside the console (root)
 #     sh ports/run.sh TARGET library               builds the library alone: ports/out/TARGET/libuip_c.a, and with the calls for
 #                                                  Ethernet libuip_c_ether.a
 #     sh ports/run.sh TARGET app-library           builds the library of uip_app.h alone: ports/out/TARGET/libuip_app_c.a
@@ -193,7 +193,8 @@ state) browse "$top/examples/state.py" 200;;
 ether|app|both)
     usage
     BOARD=$(echo "$machine" | sed "s|{}|$run|")
-    export BOARD
+    [ "$work" != both ] || BESIDE="python3 $top/examples/fetch.py"
+    export BOARD BESIDE
     if [ "$work" != app ]; then sh "$top/examples/linux-ether/run.sh" || exit 1; fi
     if [ "$work" != ether ]; then sh "$top/examples/linux-app/run.sh" || exit 1; fi
     exit;;

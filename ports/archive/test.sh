@@ -91,7 +91,7 @@ fetches() {
 }
 # on_ethernet WHAT FIRMWARE TEST: runs the test of a folder of examples with this firmware.
 on_ethernet() {
-    try "$1" env BOARD="qemu-system-arm -M mps2-an386 -kernel $PWD/examples/m4/$2.elf" SECONDS_UP=10 LINES=50 sh "$top/examples/$3/run.sh"
+    try "$1" env BOARD="qemu-system-arm -M mps2-an386 -kernel $PWD/examples/m4/$2.elf" SECONDS_UP="${SECONDS_UP:-10}" LINES=50 sh "$top/examples/$3/run.sh"
 }
 has arm-none-eabi-gcc "m4 by gcc" && fetches m4 arm-none-eabi-gcc
 has riscv64-unknown-elf-gcc "rv32 by gcc" && fetches rv32 riscv64-unknown-elf-gcc
@@ -137,7 +137,7 @@ message(FATAL_ERROR "for m4 ${is}.")' >>by_cmake/CMakeLists.txt
 }
 both_tap() {
     make -C examples/linux clean uip_tap LIBRARY=../../lib/x86_64/libuip_both_c.a &&
-        PROGRAM="$PWD/examples/linux/uip_tap" SECONDS_UP=8 sh "$top/examples/linux-ether/run.sh"
+        PROGRAM="$PWD/examples/linux/uip_tap" SECONDS_UP="${SECONDS_UP:-8}" sh "$top/examples/linux-ether/run.sh"
 }
 installs() {
     make -C "$top" install DESTDIR="$room/root" PREFIX=/usr "$@" || return 1
@@ -145,7 +145,7 @@ installs() {
 }
 if has cc "programs for Linux"; then
     try "the programs for Linux: built" make -C examples/linux && try "uip_serve: every file" serves examples/linux/uip_serve
-    try "uip_tap: every file, by ARP" env PROGRAM="$PWD/examples/linux/uip_tap" SECONDS_UP=8 sh "$top/examples/linux-ether/run.sh"
+    try "uip_tap: every file, by ARP" env PROGRAM="$PWD/examples/linux/uip_tap" SECONDS_UP="${SECONDS_UP:-8}" sh "$top/examples/linux-ether/run.sh"
     try "uip_tap with libuip_both_c.a: every file, by ARP" both_tap
     has pkg-config "pkg-config" && try "pkg-config: two programs, and the library for m4" with_pkg_config "$PWD/lib"
     has cmake "cmake" && try "cmake: three programs, and the library for m4" with_cmake "$PWD" "$PWD/lib/m4/libuip_c_ether.a"
