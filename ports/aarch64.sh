@@ -10,9 +10,10 @@ built=$top/crates/$1/out/lib$1.a
 fail() { echo "aarch64: $1" >&2; exit 1; }
 [ ! -f "$2" ] || [ -n "$(find "$top/crates" -name '*.rt' -newer "$2" | head -1)" ] || exit 0
 command -v rt >/dev/null || fail "no library of these sources at $2, and no command rt to build it"
-put_back() { if [ -f "$2.host" ]; then mv "$2.host" "$built"; fi; }    # the library for this machine
-trap 'put_back "$@"' EXIT
+host=$2.host.$$    # the library for this machine
+put_back() { if [ -f "$host" ]; then mv "$host" "$built"; fi; }
+trap put_back EXIT
 trap 'exit 1' INT TERM
-if [ -f "$built" ]; then mv "$built" "$2.host"; fi
+if [ -f "$built" ]; then mv "$built" "$host"; fi
 (cd "$top/crates/$1" && rt lib --target aarch64-unknown-linux-gnu) >"$2.log" 2>&1 || { tail -5 "$2.log" >&2; fail "rt lib failed in crates/$1"; }
 mv "$built" "$2"
