@@ -17,7 +17,7 @@ $(PROGRAM):
 	cd crates/uipd && rt run -- --version
 
 $(LIBRARIES):
-	cd $(@D)/.. && rt lib
+	cd $(patsubst %/out/,%,$(dir $@)) && rt lib
 
 install: all
 	install -d $(TO)/bin $(TO)/include $(TO)/lib/pkgconfig $(TO)/lib/cmake/uip_c $(TO)/share/man/man1
