@@ -246,6 +246,12 @@ void clients_act(void) {
     else if (c->state == OPEN && chance(3)) say(c, RST, 1 + c->acked, 0), c->state = ENDED;
 }
 
+int client_peer(byte *address, unsigned *port) {
+    const client *c = &clients[below(CLIENTS)];
+    memcpy(address, c->address, 4), *port = c->port;
+    return c->state == OPEN;
+}
+
 void clients_tick(void) {
     for (unsigned k = 0; k < CLIENTS; k++) {
         client *c = &clients[k];

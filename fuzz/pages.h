@@ -87,6 +87,7 @@ void refused_counter(tested *t);
 void clients_begin(const site *s, const byte *own, int may_be_overlong);
 void clients_act(void);                                  // one step of one of them, or of the link
 void clients_tick(void);
+int client_peer(byte *address, unsigned *port);          // of one that has a connection; 0 if there is none
 void clients_end(void);
 void heard_back(const byte *datagram, size_t len, int is_lost);            // what was sent, at times in no frame
 void devices_hear(const byte *line, size_t len);         // bytes of the line

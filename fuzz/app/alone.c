@@ -25,6 +25,8 @@ void pages_act(void) {}
 
 void pages_tick(void) {}
 
+int pages_peer(byte *address, unsigned *port) { return (void)address, (void)port, 0; }
+
 int pages_whole_tick(void) { return 0; }
 
 int pages_see(int is_lost) { return is_lost & 0; }

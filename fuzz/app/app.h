@@ -76,6 +76,7 @@ void peers_begin(const byte *own);
 void peers_act(void);
 void peers_tick(void);
 void peers_get(const byte *datagram, size_t len, int is_reply);                      // what the first device sent
+void strangers_get(const byte *datagram, size_t len);
 client *peer_of(const connection *c);                                                // 0 if it is no client, or was answered twice
 void peer_was_read(client *c, const byte *bytes, size_t len);
 void peer_was_written(client *c, size_t taken, const byte *text, size_t len, unsigned last);
@@ -93,6 +94,7 @@ void pages_open_badly(device *d, const byte *own, const byte *mac, const byte *m
 void pages_begin(const byte *own);
 void pages_act(void);                                        // one step of their clients, or of the link
 void pages_tick(void);
+int pages_peer(byte *address, unsigned *port);               // of a client that requests a page; 0 if there is none
 int pages_whole_tick(void);                                  // makes one of ten slots, by the inline call; 0 if there is none
 int pages_see(int is_lost);                                  // after a call that may send; 1 if what was sent is of a page
 void pages_refuse(device *d);                                // a wrong call

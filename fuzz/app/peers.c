@@ -56,12 +56,22 @@ static void say_due(client *c, int asks_ack) {
     c->wait = between(2, 9);
 }
 
+// The address and the port of a client that requests a page, if no client had both at these ports.
+static void share_peer(client *c) {
+    byte address[4];
+    unsigned port;
+    if (!pages_peer(address, &port)) return;
+    for (client *k = clients; k < clients + CLIENTS; k++) if (k->port == port && !memcmp(k->address, address, 4)) return;
+    memcpy(c->address, address, 4), c->port = port;
+}
+
 static void open_client(client *c) {
     memset(c, 0, offsetof(client, messages));
     c->state = OPENING;
     memcpy(c->address, (byte[]){10, 1, (byte)random_next(), (byte)random_next()}, 4);
     if (chance(50)) memcpy(c->address, node_address, 3);
     c->port = next_port++, c->own_port = some_port();
+    if (serves_pages() && chance(40)) share_peer(c);
     c->first = (unsigned)random_next(), c->seed = (unsigned)random_next();
     c->mss = chance(20) ? 0 : chance(10) ? between(1, 20) : between(40, 2000);
     c->window = chance(80) ? 65535 : between(1, 65535);
@@ -146,6 +156,14 @@ static client *client_of(const segment *s) {
     return 0;
 }
 
+// A stranger goes on with the connection that a segment came from.
+void strangers_get(const byte *datagram, size_t len) {
+    segment s;
+    if (!read_segment(datagram, len, &s)) return;
+    for (stranger *k = strangers; k < strangers + STRANGERS; k++)
+        if (k->port == s.to && !memcmp(k->address, s.target, 4)) k->seq = s.seq + (unsigned)s.len, k->ack = s.ack, k->own_port = s.from;
+}
+
 // A SYN that is answered opens a connection; one that a tick sends is sent again. No segment is longer than the client asked for.
 void peers_get(const byte *datagram, size_t len, int is_reply) {
     segment s;
@@ -156,8 +174,7 @@ void peers_get(const byte *datagram, size_t len, int is_reply) {
         return;
     }
     enqueue(&from_node, datagram, len);
-    for (stranger *k = strangers; k < strangers + STRANGERS; k++)
-        if (k->port == s.to && !memcmp(k->address, s.target, 4)) k->seq = s.seq + (unsigned)s.len, k->ack = s.ack, k->own_port = s.from;
+    strangers_get(datagram, len);
     client *c = client_of(&s);
     if (!c) return;
     WANT(s.len <= (c->mss ? c->mss : 536) && s.len <= 1460, "a segment of %zu bytes went to a client that takes %u", s.len, c->mss);
@@ -197,10 +214,12 @@ static void stranger_acts(void) {
                  .window = chance(50) ? below(65536) : below(50), .flags = chance(70) ? usual[below(10)] : below(64),
                  .mss = chance(20) ? below(65536) : 0, .text = words};
     if (chance(40)) s.flags = chance(50) ? ACK : ACK | PSH;
+    if (serves_pages() && chance(10)) s.to = chance(50) ? WEB_PORT : some_port(), s.flags = SYN;    // a second connection of the same port
     if (chance(20)) s.seq += below(40) - 20;
     if (chance(20)) s.ack += below(600) - 300;
     if (chance(40)) random_bytes(words, s.len = below(130));
     else if (chance(10)) random_bytes(words, s.len = below(1400));
+    else if (k->own_port == WEB_PORT && chance(30)) s.len = (size_t)snprintf((char *)words, sizeof words, "GET /?%u\r\n", below(30));
     memcpy(s.source, chance(95) ? k->address : node_address, 4), memcpy(s.target, chance(97) ? node_address : k->address, 4);
     if (chance(3)) k->own_port = some_port();
     size_t len = write_segment(datagram, &s);

@@ -14,8 +14,12 @@ static size_t some_room(void) { return chance(90) ? UIP_MAX_FRAME : between(UIP_
 
 // A datagram that the first device sent goes to its peers.
 void pass_on(device *d, const sent_frame *sent, int is_reply) {
-    if (d != devices || pages_see(sent->len && sent->bytes[13])) return;
-    if (sent->len && sent->bytes[13] == 0) peers_get(sent->bytes + ETHER_HEAD, sent->len - ETHER_HEAD, is_reply);
+    const byte *datagram = sent->bytes + ETHER_HEAD;
+    int is_datagram = sent->len && sent->bytes[13] == 0;
+    if (d != devices) return;
+    int is_page = pages_see(sent->len && !is_datagram);
+    if (is_datagram && is_page) strangers_get(datagram, sent->len - ETHER_HEAD);
+    else if (is_datagram) peers_get(datagram, sent->len - ETHER_HEAD, is_reply);
 }
 
 static void receive(device *d, const byte *frame, size_t len) {

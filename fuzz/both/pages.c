@@ -9,7 +9,7 @@ model counted;
 static site served;
 static text image;
 static struct { request request; page page; int is_refused; } pages[UIP_SLOTS];
-static unsigned long read_rows, by_arp, full, reports, whole_ticks;
+static unsigned long read_rows, by_arp, full, twins, reports, whole_ticks;
 
 int serves_pages(void) { return 1; }
 
@@ -159,6 +159,9 @@ static void read_table(device *d) {
         if (d == devices && row.state != UIP_CLOSED && d->node.slots[slot].own_port == WEB_PORT) row_is_foretold(slot, &row);
         open += row.state != UIP_CLOSED;
     }
+    for (const connection *c = d->node.slots; c < d->node.slots + UIP_SLOTS; c++)
+        for (const connection *other = d->node.slots; other < c; other++)
+            twins += c->state && other->state && c->port == other->port && !memcmp(c->peer, other->peer, 4);
     WANT(call_idle(&d->on) == (open == 0), "a device with %u connections is %sidle", open, open ? "" : "not ");
     read_rows += open, full += open == UIP_SLOTS;
 }
@@ -169,6 +172,8 @@ static void read_some(void) {
     else if (chance(50)) read_counters(d);
     else read_table(d);
 }
+
+int pages_peer(byte *address, unsigned *port) { return client_peer(address, port); }
 
 // ---- steps
 
@@ -242,6 +247,7 @@ void pages_show(void) {
     printf("%lu bad images; %lu pages closed, %lu of them compared whole; %lu values set, %lu texts of calls in pages, %lu segments sent "
            "again at a value that was another by then\n", counts.bad_images, counts.pages, counts.whole, counts.given, counts.shown,
            counts.changed);
-    printf("%lu hit counts, %lu queries and %lu rows of connections read, %lu times of ten; %lu datagrams lost to ARP requests; %lu texts "
-           "of rows or counters; %lu whole ticks\n", counts.hits, counts.queries, read_rows, full, by_arp, reports, whole_ticks);
+    printf("%lu hit counts, %lu queries and %lu rows of connections read, %lu times of ten, %lu rows of the peer and port of another row; "
+           "%lu datagrams lost to ARP requests; %lu texts of rows or counters; %lu whole ticks\n", counts.hits, counts.queries, read_rows,
+           full, twins, by_arp, reports, whole_ticks);
 }
