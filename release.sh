@@ -3,7 +3,7 @@
 #
 #     sh release.sh [FOLDER]      FOLDER is where they go; out/ if none is given
 #
-# The archive has the header, the libraries for all targets, the program (if rt run in crates/uipd has built it), the page with a node
+# The archive has the headers, the libraries for all targets, the program (if rt run in crates/uipd has built it), the page with a node
 # inside, tools/pack.py, examples that build against the archive alone, files for pkg-config and CMake, documents and checksums. Two runs
 # for one commit give the same bytes: the files have the time of the commit (SOURCE_DATE_EPOCH names another). Needs what
 # `sh ports/run.sh` needs to build, GNU tar and git.
@@ -34,17 +34,19 @@ libraries() {
         sh ports/run.sh "$target" library || fail "no library for $target"
         put "lib/$target" "ports/out/$target/libuip_c.a"
         put "lib/$target" "ports/out/$target/libuip_c_ether.a"
-        [ "$target" != wasm ] || continue
-        sh ports/run.sh "$target" app-library || fail "no library with an application of its own for $target"
-        put "lib/$target" "ports/out/$target/libuip_app_c.a"
+        for kind in app both; do
+            sh ports/run.sh "$target" $kind-library || fail "no libuip_${kind}_c.a for $target"
+            put "lib/$target" "ports/out/$target/libuip_${kind}_c.a"
+        done
     done
-    sh examples/board/run.sh build >/dev/null || fail "no library for aarch64"
-    put lib/aarch64 examples/board/out/libuip_c.a
-    for library in uip_c uip_app_c; do
+    mkdir -p ports/out/aarch64
+    for library in uip_c uip_app_c uip_both_c; do
+        sh ports/aarch64.sh $library "ports/out/aarch64/lib$library.a" || fail "no lib$library.a for aarch64"
+        put lib/aarch64 "ports/out/aarch64/lib$library.a"
         put lib/x86_64 "ports/out/$library.a"
         mv "$made/lib/x86_64/$library.a" "$made/lib/x86_64/lib$library.a"
     done
-    put include include/uip.h include/uip_app.h
+    put include include/uip.h include/uip_app.h include/uip_both.h
     put lib/cmake/uip_c uip_c-config.cmake
     mkdir -p "$made/lib/pkgconfig"
     # shellcheck disable=SC2016
@@ -70,10 +72,10 @@ examples() {
     put examples examples/browse.py
     put tools tools/pack.py
     put examples/site examples/site/*
-    put examples/common examples/board/main.c examples/board/state.c examples/board/ether.c examples/board/app.c examples/board/board.h \
-        examples/board/alarm.h examples/board/ring.h examples/board/ring.c examples/board/runtime.c examples/board/site.S \
-        examples/board/link.ld examples/heap.c examples/step.c examples/linux-app/console.c examples/linux-app/modbus.c \
-        ports/boards/start.h
+    put examples/common examples/board/main.c examples/board/state.c examples/board/ether.c examples/board/app.c examples/board/both.c \
+        examples/board/answer.c examples/board/answer.h examples/board/alarm.h examples/board/board.h examples/board/ring.h \
+        examples/board/ring.c examples/board/runtime.c examples/board/site.S examples/board/link.ld examples/heap.c \
+        examples/step.c examples/linux-app/console.c examples/linux-app/modbus.c ports/boards/start.h
     put examples/common/fallback examples/board/fallback/string.h
     put examples/m4 ports/archive/m4/Makefile ports/boards/mps2.c ports/boards/lan9118.c ports/boards/cortex_m.h
     put examples/rv32 ports/archive/rv32/Makefile ports/boards/riscv.c

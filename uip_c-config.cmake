@@ -1,6 +1,7 @@
 # find_package(uip_c CONFIG) defines the targets uip_c::uip_c and uip_c::uip_c_ether. The second is the library with the calls for Ethernet. In
 # the archive of a release set UIP_C_TARGET (x86_64 if it is not set) to the folder of lib/ with the library: x86_64, aarch64, aarch64-small,
 # m0, m4, m7, m33, rv32, rv64, wasm. After `make install`, and for x86_64 and aarch64, there is one library with all calls: both are that one.
+# uip_c::uip_app_c and uip_c::uip_both_c are the libraries of uip_app.h and uip_both.h. A program links one of the four.
 if(TARGET uip_c::uip_c)
     return()
 endif()
@@ -22,6 +23,14 @@ if(EXISTS "${uip_c_library}")
     set_target_properties(uip_c::uip_c uip_c::uip_c_ether PROPERTIES INTERFACE_INCLUDE_DIRECTORIES "${uip_c_prefix}/include")
     set_target_properties(uip_c::uip_c PROPERTIES IMPORTED_LOCATION "${uip_c_library}")
     set_target_properties(uip_c::uip_c_ether PROPERTIES IMPORTED_LOCATION "${uip_c_ether_library}")
+    get_filename_component(uip_c_folder "${uip_c_library}" DIRECTORY)
+    foreach(uip_c_other uip_app_c uip_both_c)
+        if(EXISTS "${uip_c_folder}/lib${uip_c_other}.a")
+            add_library(uip_c::${uip_c_other} STATIC IMPORTED)
+            set_target_properties(uip_c::${uip_c_other} PROPERTIES INTERFACE_INCLUDE_DIRECTORIES "${uip_c_prefix}/include"
+                IMPORTED_LOCATION "${uip_c_folder}/lib${uip_c_other}.a")
+        endif()
+    endforeach()
 else()
     set(uip_c_FOUND FALSE)
     set(uip_c_NOT_FOUND_MESSAGE "no library for UIP_C_TARGET ${UIP_C_TARGET} in ${uip_c_prefix}/lib")

@@ -1,7 +1,7 @@
 #!/bin/sh
 # Proves a library for C and keeps the LLVM module from which it is compiled.
 #
-#     sh ports/module.sh [CRATE]     CRATE is uip_c, or uip_app_c; writes ports/out/CRATE.ll, the module as text, and ports/out/CRATE.a,
+#     sh ports/module.sh [CRATE]     CRATE is uip_c, uip_app_c or uip_both_c; writes ports/out/CRATE.ll, the module as text, and ports/out/CRATE.a,
 #                                    the library for this machine
 #
 # `rattle build --toolchain DIR` compiles the module with the clang of the directory DIR, as its help states. Here DIR is a directory of links
@@ -15,7 +15,7 @@
 #     3. The library consists of what clang made from that file.
 case "$1" in
 -h|--help) sed -n '2,16s/^# \{0,1\}//p' "$0"; exit 0;;
-""|uip_c|uip_app_c) crate=${1:-uip_c};;
+""|uip_c|uip_app_c|uip_both_c) crate=${1:-uip_c};;
 *) echo "module.sh: unknown word $1" >&2; exit 2;;
 esac
 here=$(cd "$(dirname "$0")" && pwd)

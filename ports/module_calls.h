@@ -3,14 +3,42 @@
 #ifndef MODULE_CALLS_H
 #define MODULE_CALLS_H
 
-#include "uip.h"
+#include "uip_app.h"
 
 typedef struct { uint32_t is_open, padding; uint64_t at; } module_device;
 typedef struct { uint32_t status, pending; uint64_t consumed, written; } module_result;
+typedef struct { uint32_t status, ready, port, padding; uint64_t len; } module_received;
 typedef struct { uint64_t ok, block; } module_block;
 
 _Static_assert(sizeof(module_device) == 16 && sizeof(module_result) == 24 && sizeof(module_block) == 16, "the structs of the module");
+_Static_assert(sizeof(module_received) == 24, "the structs of the module");
 _Static_assert(sizeof(void *) == sizeof(size_t), "the numbers of uip.h");
+
+// C's handle of a device: uip_device or uip_app.
+#define HANDLE(type) \
+    static module_device of_device(const type *device) { return (module_device){device->is_open, 0, (uintptr_t)device->at}; } \
+    static void put_device(type *device, const module_device *from) { \
+        device->is_open = from->is_open; \
+        device->at = (void *)(uintptr_t)from->at; \
+    }
+
+// The two calls for an application of the program's own, by their names.
+#define READ_AND_WRITE(type, read_name, write_name) \
+    uip_received read_name(type *device, size_t slot, void *bytes, size_t room) { \
+        module_device d = of_device(device); \
+        module_received read; \
+        port_##read_name(&read, &d, slot, bytes, room); \
+        put_device(device, &d); \
+        return (uip_received){read.status, read.ready, read.port, (size_t)read.len}; \
+    } \
+    uip_result write_name(type *device, size_t slot, size_t taken, const void *text, size_t len, unsigned last, unsigned char *frame, \
+                          size_t room) { \
+        module_device d = of_device(device); \
+        module_result result; \
+        port_##write_name(&result, &d, slot, taken, (void *)text, len, last, frame, room); \
+        put_device(device, &d); \
+        return of_result(&result); \
+    }
 
 static uip_result of_result(const module_result *from) {
     return (uip_result){from->status, from->pending, (size_t)from->consumed, (size_t)from->written};

@@ -2,7 +2,7 @@
 """Tests the tests of a port: changes the module in ways that retarget.py must refuse, and plants faults in retarget.py that the same calls
 must find, one at a time.
 
-    python3 ports/planted.py TARGET [CALLS]      CALLS for each fault (1,000,000)
+    python3 ports/planted.py TARGET [CALLS [SAME]]      CALLS for each fault (1,000,000); SAME is same (uip.h), same-app or same-both
 
 If the plain build misses a fault, the build with run-time checks (CHECKED=1) is tried. The status is 0 if every change was refused and every
 fault was found.
@@ -14,6 +14,7 @@ import sys
 
 HERE = os.path.dirname(os.path.abspath(__file__))
 OUT = os.path.join(HERE, "out", "planted")
+CRATES = {"same": "uip_c", "same-app": "uip_app_c", "same-both": "uip_both_c"}
 FAULTS = [    # the fault, the text of retarget.py, and the text that replaces it
     ("the upper half of a stored pointer is not written",
      'lines += [*more, f"store i32 0, ptr {upper}, align {alignment_at(align, 4)}"]', "pass"),
@@ -71,9 +72,9 @@ def is_refused(text, layout):
     return run.returncode != 0 and run.stderr.startswith("retarget.py: ")
 
 
-def changes_missed(layout):
+def changes_missed(layout, crate):
     """How many of the changes of the module retarget.py accepts."""
-    text, missed = read(f"{HERE}/out/uip_c.ll"), 0
+    text, missed = read(f"{HERE}/out/{crate}.ll"), 0
     if is_refused(text, layout):
         sys.exit("planted.py: retarget.py refuses the module as it is")
     for old, new in CHANGES:
@@ -85,11 +86,11 @@ def changes_missed(layout):
     return missed
 
 
-def found_by(target, calls):
+def found_by(target, calls, same):
     """How the fault in out/planted/retarget.py was found, or None."""
     for checked in ("", "1"):
         words = {**os.environ, "RETARGET": f"{OUT}/retarget.py", "TO": f"{OUT}/{target}", "CHECKED": checked}
-        run = subprocess.run(["sh", f"{HERE}/run.sh", target, "same", calls], env=words, capture_output=True, text=True)
+        run = subprocess.run(["sh", f"{HERE}/run.sh", target, same, calls], env=words, capture_output=True, text=True)
         if run.returncode:
             lines = [line for line in (run.stdout + run.stderr).splitlines() if line]
             reports = [line for line in lines if re.search("DIFFERS|ended with|[Ee]rror", line)] or lines[-1:]
@@ -97,24 +98,25 @@ def found_by(target, calls):
     return None
 
 
-def faults_missed(target, calls):
+def faults_missed(target, calls, same):
     source, missed = read(f"{HERE}/retarget.py"), 0
     for fault, old, new in FAULTS:
         if source.count(old) != 1:
             sys.exit(f"planted.py: retarget.py does not contain this text once: {old}")
         write(f"{OUT}/retarget.py", source.replace(old, new))
-        how = found_by(target, calls)
+        how = found_by(target, calls, same)
         missed += how is None
         print(f"{fault}: {'MISSED' if how is None else f'found {how}'}", flush=True)
     return missed
 
 
 def main():
-    if len(sys.argv) not in (2, 3):
+    words = sys.argv[1:]
+    if len(words) not in (1, 2, 3) or (words[2:] and words[2] not in CRATES):
         sys.exit(__doc__)
-    target, calls = sys.argv[1], sys.argv[2] if len(sys.argv) > 2 else "1000000"
+    target, calls, same = [*words, *[None, "1000000", "same"][len(words):]]
     os.makedirs(OUT, exist_ok=True)
-    missed = changes_missed(f"{HERE}/out/{target}/layout.ll") + faults_missed(target, calls)
+    missed = changes_missed(f"{HERE}/out/{target}/layout.ll", CRATES[same]) + faults_missed(target, calls, same)
     print(f"{len(CHANGES)} changes of the module and {len(FAULTS)} faults; missed: {missed}")
     sys.exit(1 if missed else 0)
 

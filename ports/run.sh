@@ -9,13 +9,18 @@
 #     sh ports/run.sh TARGET same [CALLS [SEED]]   makes CALLS random calls of the library for this machine and of this one: every
 #                                                  status, number, byte and call of the heap must be the same
 #     sh ports/run.sh TARGET same-app [CALLS [SEED]]    the same for the library of uip_app.h
+#     sh ports/run.sh TARGET same-both [CALLS [SEED]]   the same for the library of uip_both.h
 #     sh ports/run.sh TARGET speed                 counts the instructions of a ping and of a small file (not for wasm)
-#     sh ports/run.sh TARGET planted [CALLS]       plants faults in the conversion of the module: each must be found
+#     sh ports/run.sh TARGET planted [CALLS [SAME]]     plants faults in the conversion of the module: each must be found, by `same` or by
+#                                                  SAME, which is same-app or same-both
 #     sh ports/run.sh m4 app                       builds a firmware with an application of its own (uip_app.h), and runs it: four clients of
 #                                                  its console compare each reply (root)
+#     sh ports/run.sh m4 both                      builds a firmware with pages and such an application (uip_both.h), and tries it as `ether`
+#                                                  and as `app`, with the pages fetched beside the console (root)
 #     sh ports/run.sh TARGET library               builds the library alone: ports/out/TARGET/libuip_c.a, and with the calls for
 #                                                  Ethernet libuip_c_ether.a
 #     sh ports/run.sh TARGET app-library           builds the library of uip_app.h alone: ports/out/TARGET/libuip_app_c.a
+#     sh ports/run.sh TARGET both-library          builds that of uip_both.h alone: ports/out/TARGET/libuip_both_c.a
 #     sh ports/run.sh targets                      lists the targets
 #
 # TARGET is m0 (Cortex-M0+), m4, m7, m33, rv32 (rv32imac), rv64 (rv64imac), aarch64-small (compiled for size, beside the library of `rt lib`)
@@ -28,7 +33,7 @@
 #
 # The first run proves the library (module.sh). Needs python3 and the kit of `rt`; for fetch, usage and state qemu-system-arm or
 # qemu-system-misc, `ip` and /dev/net/tun; for same and planted qemu-user and a C compiler for this machine; for wasm node.
-case "$1" in -h|--help|"") sed -n '2,35s/^# \{0,1\}//p' "$0"; exit 0;; esac
+case "$1" in -h|--help|"") sed -n '2,40s/^# \{0,1\}//p' "$0"; exit 0;; esac
 ports=$(cd "$(dirname "$0")" && pwd)
 top=$(cd "$ports/.." && pwd)
 example=$top/examples/board
@@ -45,11 +50,18 @@ fi
 target=$1
 choose_target "$target"
 work=${2:-build}
-case "$work" in build|library|app-library|fetch|usage|state|ether|app|same|same-app|speed|planted) ;; *) fail "no work $work; --help lists what there is";; esac
+case "$work" in
+build|library|app-library|both-library|fetch|usage|state|ether|app|both|same|same-app|same-both|speed|planted) ;;
+*) fail "no work $work; --help lists what there is";;
+esac
 
 # ---- the module and the tools
 
-case "$work" in app|app-library|same-app) crate=uip_app_c;; *) crate=uip_c;; esac
+case "$work-$4" in
+app-*|same-app-*|planted-same-app) crate=uip_app_c;;
+both-*|same-both-*|planted-same-both) crate=uip_both_c;;
+*) crate=uip_c;;
+esac
 if [ ! -f "$out/$crate.ll" ] || [ -n "$(find "$top/crates" -name '*.rt' -newer "$out/$crate.ll" | head -1)" ]; then
     sh "$ports/module.sh" "$crate" || exit 1
 fi
@@ -78,12 +90,15 @@ convert() {
     clang $words -S -emit-llvm -x c /dev/null -o "$to/layout.ll" || fail "clang failed"
     python3 "${RETARGET:-$ports/retarget.py}" "$1" "$to/layout.ll" "$to/$2.ll" "$to/$3" ${CHECKED:+--checked} || fail "the module was not converted"
 }
+# without_vectors NAME: sets `module` to that of the crate, in which no function with vectors is called, except with VECTORS.
+without_vectors() {
+    module=$out/$crate.ll
+    [ -z "$VECTORS" ] || return
+    python3 "$ports/scalar.py" "$module" "$top/crates" "$to/$1.ll" || exit 1
+    module=$to/$1.ll
+}
 library() {
-    module=$out/uip_c.ll
-    if [ -z "$VECTORS" ]; then
-        python3 "$ports/scalar.py" "$module" "$top/crates" "$to/scalar.ll" || exit 1
-        module=$to/scalar.ll
-    fi
+    without_vectors scalar
     convert "$module" module calls.h
     # The calls for Ethernet share functions with uip_open. A firmware without Ethernet has them built in only if its module has no such call.
     sed -E 's/^define ([a-z0-9]+) @port_uip_(open_ether|input_frame|periodic_frame)\(/define internal \1 @port_uip_\2(/' \
@@ -99,14 +114,20 @@ app_library() {
     c_code -Os "$ports/uip_app_calls.c" -o "$to/app_module_calls.o"
     archive app_module libuip_app_c.a
 }
+both_library() {
+    without_vectors both_scalar
+    convert "$module" both_module both_calls.h
+    c_code -Os -DUIP_BOTH "$ports/uip_calls.c" -o "$to/both_module_calls.o"
+    archive both_module libuip_both_c.a
+}
 # shellcheck disable=SC2086
 archive() {
     clang $words $opt -ffreestanding -fno-builtin $sections -c -x ir "$to/$1.ll" -o "$to/$1.o" || fail "clang failed"
     rm -f "$to/$2"
     llvm-ar rcsD "$to/$2" "$to/$1.o" "$to/$1_calls.o" || fail "llvm-ar failed"
 }
-case "$crate" in uip_c) library;; *) app_library;; esac
-[ "$work" != app-library ] || exit 0
+case "$crate" in uip_c) library;; uip_app_c) app_library;; *) both_library;; esac
+case "$work" in app-library|both-library) exit 0;; esac
 [ "$work" != library ] || [ "$target" = wasm ] || exit 0
 
 # ---- the firmware, or the node of the page
@@ -114,17 +135,20 @@ case "$crate" in uip_c) library;; *) app_library;; esac
 main=main site=$top/examples/site.img link=serial
 case "$work" in
 state) main=state site=$top/examples/state.img;;
-ether|app) [ "$target" = m4 ] || fail "the one board with a driver for its Ethernet controller is that of m4"
+ether|app|both) [ "$target" = m4 ] || fail "the one board with a driver for its Ethernet controller is that of m4"
     main=$work board=lan9118 link=$work;;
 esac
 site=${SITE:-$site}
 firmware() {
+    set --
     files=$(od -An -j8 -N2 -tu1 "$site" | awk '{ print $1 * 256 + $2 }')
     case "$link" in
     serial) set -- "$example/ring.c"; linked=libuip_c.a heap="UIP_MEMORY($files)";;
-    ether) set --; linked=libuip_c_ether.a heap="UIP_MEMORY_ETHER($files)";;
-    app) set -- "$top/examples/linux-app/console.c" "$top/examples/linux-app/modbus.c"; linked=libuip_app_c.a heap="UIP_APP_MEMORY";;
+    ether) linked=libuip_c_ether.a heap="UIP_MEMORY_ETHER($files)";;
+    app) linked=libuip_app_c.a heap="UIP_APP_MEMORY";;
+    both) linked=libuip_both_c.a heap="UIP_BOTH_MEMORY($files)";;
     esac
+    case "$link" in app|both) set -- "$example/answer.c" "$top/examples/linux-app/console.c" "$top/examples/linux-app/modbus.c";; esac
     set -- "$@" "$example/runtime.c" "$ports/boards/$board.c" "$example/$main.c"
     for source; do
         object=$to/$(basename "$source" .c).o
@@ -132,7 +156,7 @@ firmware() {
         shift
         set -- "$@" "$object"
     done
-    c_code -Os -include uip_app.h "-DUIP_HEAP_SIZE=$heap" "$top/examples/heap.c" -o "$to/heap.o"
+    c_code -Os -include uip_both.h "-DUIP_HEAP_SIZE=$heap" "$top/examples/heap.c" -o "$to/heap.o"
     c_code -DSITE="\"$site\"" "$example/site.S" -o "$to/site.o"
     set -- -T "$example/link.ld" --defsym "flash_at=$flash" --defsym "ram_at=$ram" --discard-locals --gc-sections \
         "$@" "$to/heap.o" "$to/site.o" "$to/$linked"
@@ -150,9 +174,9 @@ browse() {
 }
 
 case "$work" in
-same|same-app) same "${3:-1000000}" "${4:-1}"; exit;;
+same|same-app|same-both) same "${3:-1000000}" "${4:-1}"; exit;;
 speed) speed; exit;;
-planted) exec python3 "$ports/planted.py" "$target" "${3:-1000000}";;
+planted) exec python3 "$ports/planted.py" "$target" "${3:-1000000}" "${4:-same}";;
 esac
 case "$target" in
 wasm) wasm "$work"; exit;;
@@ -166,11 +190,13 @@ case "$work" in
 build) usage; exit;;
 fetch|usage) browse "$top/examples/fetch.py";;
 state) browse "$top/examples/state.py" 200;;
-ether)
+ether|app|both)
     usage
-    BOARD=$(echo "$machine" | sed "s|{}|$run|") exec sh "$top/examples/linux-ether/run.sh";;
-app)
-    usage
-    BOARD=$(echo "$machine" | sed "s|{}|$run|") exec sh "$top/examples/linux-app/run.sh";;
+    BOARD=$(echo "$machine" | sed "s|{}|$run|")
+    [ "$work" != both ] || BESIDE="python3 $top/examples/fetch.py"
+    export BOARD BESIDE
+    if [ "$work" != app ]; then sh "$top/examples/linux-ether/run.sh" || exit 1; fi
+    if [ "$work" != ether ]; then sh "$top/examples/linux-app/run.sh" || exit 1; fi
+    exit;;
 esac
 [ "$work" = fetch ] || usage "$to/memory"

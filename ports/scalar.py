@@ -4,7 +4,8 @@
     python3 ports/scalar.py MODULE.ll CRATES OUT.ll
 
 Each pair below has the same contract, which determines the result. So one proved function may replace the other. The program compares the
-two contracts in the sources below CRATES. If their text differs, or if one of the two is not in the module, the run ends with status 1.
+two contracts in the sources below CRATES. If their text differs, or if one of the two is not in the module, the run ends with status 1. A
+pair of which the module has neither is passed over: a library without a serial line has no function of SLIP.
 """
 import re
 import sys
@@ -29,6 +30,9 @@ def contract(source, name, path):
 
 
 def redirected(module, crates, path, prefix, old, new):
+    if not any(f'@"{prefix}::{name}"(' in module for name in (old, new)):
+        print(f"scalar.py: the module has neither {prefix}::{old} nor {prefix}::{new}", file=sys.stderr)
+        return module
     source = read(f"{crates}/{path}")
     if contract(source, old, path) != contract(source, new, path):
         sys.exit(f"scalar.py: the contracts of {old} and {new} in {path} are not the same text")

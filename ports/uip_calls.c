@@ -1,5 +1,11 @@
-// The calls of uip.h over those of the module (calls.h, which retarget.py writes). Each call copies C's handle in and out.
+// The calls of uip.h over those of the module (calls.h, which retarget.py writes). Each call copies C's handle in and out. With UIP_BOTH
+// they are those of uip_both.h.
+#ifdef UIP_BOTH
+#include "both_calls.h"
+#include "uip_both.h"
+#else
 #include "calls.h"
+#endif
 #include "module_calls.h"
 
 typedef struct { uint32_t status, hit; uint64_t len; } module_text;
@@ -7,17 +13,13 @@ typedef struct { uint32_t status, hit; uint64_t len; } module_text;
 _Static_assert(sizeof(module_text) == 16, "the structs of the module");
 _Static_assert(sizeof(uip_opened) == 16 && sizeof(uip_number) == 8 && sizeof(uip_row) == 28, "the structs of uip.h");
 
-static module_device of_device(const uip_device *device) {
-    return (module_device){device->is_open, 0, (uintptr_t)device->at};
-}
-
-static void put_device(uip_device *device, const module_device *from) {
-    device->is_open = from->is_open;
-    device->at = (void *)(uintptr_t)from->at;
-}
+HANDLE(uip_device)
 
 static uip_number of_number(uint64_t both) { return (uip_number){(uint32_t)both, (uint32_t)(both >> 32)}; }
 
+#ifdef UIP_BOTH
+READ_AND_WRITE(uip_device, uip_read, uip_write)
+#else
 uip_opened uip_open(uip_device *device, const unsigned char *image, size_t len, const unsigned char own[4]) {
     module_device d = of_device(device);
     _Alignas(8) uip_opened opened;
@@ -65,6 +67,7 @@ uip_result uip_periodic_datagram(uip_device *device, size_t slot, unsigned char 
     put_device(device, &d);
     return of_result(&result);
 }
+#endif
 
 #ifndef UIP_NO_ETHERNET
 uip_opened uip_open_ether(uip_device *device, const unsigned char *image, size_t len, const unsigned char own[4], const unsigned char mac[6],

@@ -1,10 +1,7 @@
-// The firmware of a device on Ethernet with an application of its own: a console at port 5025 and Modbus/TCP at port 502, those of
-// examples/linux-app. It ends with the first status that is not UIP_OK.
+// The firmware of a device on Ethernet with an application of its own: a console and Modbus/TCP (answer.c). It ends
+// with the first status that is not UIP_OK.
+#include "answer.h"
 #include "board.h"
-#include "uip_app.h"
-
-size_t answer_line(char *line, char *reply, unsigned *last);                  // console.c
-size_t answer_frame(const unsigned char *bytes, size_t len, unsigned char *reply, size_t *taken, unsigned *last);    // modbus.c
 
 static uip_app device = UIP_APP_INIT;
 static unsigned char frame[UIP_MAX_FRAME], bytes[UIP_MAX_RECEIVED], reply[UIP_MAX_MESSAGE];
@@ -14,31 +11,18 @@ static unsigned sent(uip_result done) {
     return done.status;
 }
 
-// The length of the first line with its line feed, in whose place a 0 is put. 0 if no line is whole.
-static size_t whole_line(size_t len) {
-    for (size_t at = 0; at < len; at++) {
-        if (bytes[at] != '\n') continue;
-        bytes[at] = 0;
-        return at + 1;
-    }
-    return 0;
-}
-
-// Answers the first line or Modbus frame that a connection received, if it is whole.
-static unsigned answer(size_t slot) {
+static unsigned serve_slot(size_t slot) {
     unsigned last = 0;
-    size_t taken = 0, len = 0;
+    size_t len = 0;
     uip_received it = uip_app_read(&device, slot, bytes, sizeof bytes);
-    if (it.status != UIP_OK || !it.ready || !it.len) return it.status;
-    if (it.port == UIP_MODBUS_PORT) len = answer_frame(bytes, it.len, reply, &taken, &last);
-    else if ((taken = whole_line(it.len)) != 0) len = answer_line((char *)bytes, (char *)reply, &last);
-    if (!taken) return UIP_OK;
+    size_t taken = answer(&it, bytes, reply, &len, &last);
+    if (!taken) return it.status;
     return sent(uip_app_write(&device, slot, taken, reply, len, last, frame, sizeof frame));
 }
 
 static unsigned serve(void) {
     unsigned status = UIP_OK;
-    for (size_t slot = 0; status == UIP_OK && slot < UIP_SLOTS; slot++) status = answer(slot);
+    for (size_t slot = 0; status == UIP_OK && slot < UIP_SLOTS; slot++) status = serve_slot(slot);
     return status;
 }
 

@@ -28,17 +28,7 @@ tool() { for name; do command -v "$name" && return; done; }
 clang=$(tool "${CLANG:-clang}" "$kit/clang") || fail "no clang here: it is in the kit of rt, and in the package clang"
 lld=$(tool "${LLD:-ld.lld}" "$kit/ld.lld") || fail "no ld.lld here: it is in the kit of rt, and in the package lld"
 mkdir -p "$out"
-if [ -z "$LIBRARY" ] && { [ ! -f "$library" ] || [ -n "$(find "$top/crates" -name '*.rt' -newer "$library" | head -1)" ]; }; then
-    command -v rt >/dev/null || fail "no library of these sources at $library, and no command rt to build it"
-    built=$top/crates/uip_c/out/libuip_c.a
-    put_back() { if [ -f "$out/host.a" ]; then mv "$out/host.a" "$built"; fi; }    # the library for this machine
-    trap put_back EXIT
-    trap 'exit 1' INT TERM
-    if [ -f "$built" ]; then mv "$built" "$out/host.a"; fi
-    (cd "$top/crates/uip_c" && rt lib --target aarch64-unknown-linux-gnu) >"$out/lib.log" 2>&1 \
-        || { tail -5 "$out/lib.log" >&2; fail "rt lib failed in crates/uip_c"; }
-    mv "$built" "$library" && put_back
-fi
+[ -n "$LIBRARY" ] || sh "$top/ports/aarch64.sh" uip_c "$library" || exit 1
 
 # The heap is an array of just the memory that a device with so many files needs; the image stays in flash.
 heap="-DUIP_HEAP_SIZE=UIP_MEMORY($(od -An -j8 -N2 -tu1 "$site" | awk '{ print $1 * 256 + $2 }'))"

@@ -109,6 +109,8 @@ def print_depth(elf):
     handlers = [depth(name, frames, calls) for name in frames if INTERRUPTS.match(name)]
     interrupt = max(handlers) + (CORTEX_M_FRAME if "littlearm" in processor else 0)
     print(f"stack: {depth('_start', frames, calls)} bytes at most, by the frames of the code, and {interrupt} of an interrupt")
+    deepest = sorted(((depth(name, frames, calls), name) for name in frames if re.fullmatch(r"uip_\w+", name)), reverse=True)[:2]
+    print("the deepest calls of the library:", ", ".join(f"{name} {needed}" for needed, name in deepest))
 
 
 def print_run(at, path, static):

@@ -8,8 +8,9 @@
 # It runs in a network namespace of its own. It needs root, /dev/net/tun, `ip` and `unshare`, python3, a C compiler, and the library that
 # `rt lib` builds in crates/uip_app_c. The Modbus part needs python3-pymodbus and python3-serial-asyncio of Debian. What the machine does
 # not have is skipped, with a line. CC names another compiler, LIBRARY another library, LINES the lines of each client (250). BOARD holds
-# the words that start qemu with a firmware, which runs in the program's place, without faults.
-case "$1" in -h|--help) sed -n '2,11s/^# \{0,1\}//p' "$0"; exit 0;; esac
+# the words that start qemu with a firmware, which runs in the program's place, without faults. BESIDE holds the words of a command that
+# runs beside the four clients, again and again until they have ended; its status must be 0.
+case "$1" in -h|--help) sed -n '2,12s/^# \{0,1\}//p' "$0"; exit 0;; esac
 here=$(cd "$(dirname "$0")" && pwd)
 top=$(cd "$here/../.." && pwd)
 library=${LIBRARY:-$top/crates/uip_app_c/out/libuip_app_c.a}
@@ -33,6 +34,20 @@ start() {
 
 stop() { kill $node; wait $node || fail "the C program failed"; cat "$out/told"; }
 
+# These begin and end the command beside the clients.
+begin_beside() {
+    [ -n "$BESIDE" ] || return 0
+    rm -f "$out/over"
+    (while [ ! -f "$out/over" ]; do $BESIDE || exit 1; echo "a run"; done) >"$out/beside" & beside=$!
+}
+
+end_beside() {
+    [ -n "$BESIDE" ] || return 0
+    : >"$out/over"
+    wait "$beside" || fail "failed beside the console: $BESIDE: $(tail -3 "$out/beside")"
+    echo "beside the console $(grep -c '^a run$' "$out/beside") times, each right: $BESIDE"
+}
+
 modbus_python() { for p in python3 /usr/bin/python3; do "$p" -c 'from pymodbus.client import ModbusTcpClient' 2>/dev/null && { echo "$p"; return; }; done; }
 
 if [ "$1" = inside ]; then
@@ -42,7 +57,9 @@ if [ "$1" = inside ]; then
     python=$(modbus_python)
     [ -n "$python" ] || echo "skipped: Modbus, since there is no pymodbus"
     start 600
+    begin_beside
     python3 "$here/lines.py" 4 "$lines" || fail "a reply of the console was wrong"
+    end_beside
     [ -z "$python" ] || "$python" "$here/modbus.py" 200 || fail "Modbus failed"
     if [ -n "$BOARD" ]; then
         kill -0 $node || fail "the board ended early"

@@ -48,17 +48,23 @@ frame_calls() {
         [ "$(calls "$folder/libuip_c.a")" = "$plain" ] && [ "$(calls "$ether")" = 3 ] || return 1
     done
 }
-# libuip_app_c.a has the calls of uip_app.h, and none of uip.h.
-app_calls() {
-    for library in lib/*/libuip_app_c.a; do
-        echo "$library"
-        [ "$("${NM:-nm}" "$library" 2>/dev/null | grep -cE ' T uip_app_(open|input_frame|periodic_frame|read|write|close)$')" = 6 ] || return 1
-        [ "$("${NM:-nm}" "$library" 2>/dev/null | grep -cE ' T uip_')" = 6 ] || return 1
+# only NAME COUNT CALLS: in each folder but that for WebAssembly the library of this name has these calls, this number of them, and no others.
+only() {
+    for folder in lib/*; do
+        case "$folder" in lib/cmake|lib/pkgconfig) continue;; esac
+        echo "$folder/$1"
+        [ -f "$folder/$1" ] || return 1
+        [ "$folder" != lib/wasm ] || continue
+        [ "$("${NM:-nm}" "$folder/$1" 2>/dev/null | grep -cE " T uip_($3)$")" = "$2" ] || return 1
+        [ "$("${NM:-nm}" "$folder/$1" 2>/dev/null | grep -cE ' T uip_')" = "$2" ] || return 1
     done
 }
+both_calls='open_ether|input_frame|periodic_frame|set_value|hits|query|ticks|counter|is_idle|connection|close|read|write'
 try "each file has its SHA-256" sha256sum --quiet -c SHA256SUMS
 try "README.md names libuip_c_ether.a" grep -q 'libuip_c_ether\.a' README.md
-has "${NM:-nm}" "the calls for frames" && try "the calls for frames" frame_calls && try "the calls of uip_app.h" app_calls
+has "${NM:-nm}" "the calls for frames" && try "the calls for frames" frame_calls &&
+    try "the calls of uip_app.h" only libuip_app_c.a 6 'app_(open|input_frame|periodic_frame|read|write|close)' &&
+    try "the calls of uip_both.h" only libuip_both_c.a 13 "$both_calls"
 has cc "pack.py" && try "pack.py packs the site as an array of C" sh -c 'python3 tools/pack.py examples/site site.c && cc -Wall -Werror -Wno-unused-const-variable -c site.c'
 
 # ---- the firmware
@@ -78,10 +84,14 @@ fetches() {
     try "$what: every file" python3 "$top/examples/browse.py" --board "examples/$example/$image" --machine "$machine" -- \
         python3 "$top/examples/fetch.py" examples/site
     [ "$example" = m4 ] || return
-    try "$what: every file on Ethernet, by ARP" \
-        env BOARD="qemu-system-arm -M mps2-an386 -kernel $PWD/examples/m4/ether.elf" SECONDS_UP=10 sh "$top/examples/linux-ether/run.sh"
-    try "$what: the console and Modbus of an application of its own" \
-        env BOARD="qemu-system-arm -M mps2-an386 -kernel $PWD/examples/m4/app.elf" LINES=50 sh "$top/examples/linux-app/run.sh"
+    on_ethernet "$what: every file on Ethernet, by ARP" ether linux-ether
+    on_ethernet "$what: the console and Modbus of an application of its own" app linux-app
+    on_ethernet "$what: every file of a device with pages and such an application" both linux-ether
+    on_ethernet "$what: its console and Modbus" both linux-app
+}
+# on_ethernet WHAT FIRMWARE TEST: runs the test of a folder of examples with this firmware.
+on_ethernet() {
+    try "$1" env BOARD="qemu-system-arm -M mps2-an386 -kernel $PWD/examples/m4/$2.elf" SECONDS_UP="${SECONDS_UP:-10}" LINES=50 sh "$top/examples/$3/run.sh"
 }
 has arm-none-eabi-gcc "m4 by gcc" && fetches m4 arm-none-eabi-gcc
 has riscv64-unknown-elf-gcc "rv32 by gcc" && fetches rv32 riscv64-unknown-elf-gcc
@@ -99,6 +109,9 @@ with_pkg_config() {
     cc -O2 examples/linux/serve.c examples/linux/heap.c $words -o by_pkg_config && serves "$PWD/by_pkg_config" || return 1
     words=$(PKG_CONFIG_PATH=$1/pkgconfig pkg-config --define-variable=libdir="$PWD/lib/m4" --define-variable=library=uip_c_ether --libs uip_c)
     case "$words " in "-L$PWD/lib/m4 -luip_c_ether "*) ;; *) echo "$words"; return 1;; esac
+    words=$(PKG_CONFIG_PATH=$1/pkgconfig pkg-config --define-variable=library=uip_both_c --cflags --libs uip_c) || return 1
+    # shellcheck disable=SC2086
+    cc -O2 -include uip_both.h examples/linux/tap.c examples/linux/heap.c $words -o both_by_pkg_config
 }
 # The folder of the package, and the library that cmake should find there for m4.
 with_cmake() {
@@ -111,11 +124,20 @@ add_executable(serve ../examples/linux/serve.c ../examples/linux/heap.c)
 target_link_libraries(serve uip_c::uip_c)
 add_executable(tap ../examples/linux/tap.c ../examples/linux/heap.c)
 target_link_libraries(tap uip_c::uip_c_ether)
+add_executable(both ../examples/linux/tap.c ../examples/linux/heap.c)
+target_link_libraries(both uip_c::uip_both_c)
+if(NOT TARGET uip_c::uip_app_c)
+    message(FATAL_ERROR "no uip_c::uip_app_c")
+endif()
 END
     cmake -S by_cmake -B by_cmake/out -DCMAKE_PREFIX_PATH="$1" && cmake --build by_cmake/out && serves "$PWD/by_cmake/out/serve" || return 1
     echo 'get_target_property(is uip_c::uip_c_ether IMPORTED_LOCATION)
 message(FATAL_ERROR "for m4 ${is}.")' >>by_cmake/CMakeLists.txt
     cmake -S by_cmake -B by_cmake/m4 -DCMAKE_PREFIX_PATH="$1" -DUIP_C_TARGET=m4 2>&1 | grep "for m4 $2\."
+}
+both_tap() {
+    make -C examples/linux clean uip_tap LIBRARY=../../lib/x86_64/libuip_both_c.a &&
+        PROGRAM="$PWD/examples/linux/uip_tap" SECONDS_UP="${SECONDS_UP:-8}" sh "$top/examples/linux-ether/run.sh"
 }
 installs() {
     make -C "$top" install DESTDIR="$room/root" PREFIX=/usr "$@" || return 1
@@ -123,14 +145,17 @@ installs() {
 }
 if has cc "programs for Linux"; then
     try "the programs for Linux: built" make -C examples/linux && try "uip_serve: every file" serves examples/linux/uip_serve
-    try "uip_tap: every file, by ARP" env PROGRAM="$PWD/examples/linux/uip_tap" SECONDS_UP=8 sh "$top/examples/linux-ether/run.sh"
-    has pkg-config "pkg-config" && try "pkg-config: a program, and the library for m4" with_pkg_config "$PWD/lib"
-    has cmake "cmake" && try "cmake: two programs, and the library for m4" with_cmake "$PWD" "$PWD/lib/m4/libuip_c_ether.a"
+    try "uip_tap: every file, by ARP" env PROGRAM="$PWD/examples/linux/uip_tap" SECONDS_UP="${SECONDS_UP:-8}" sh "$top/examples/linux-ether/run.sh"
+    try "uip_tap with libuip_both_c.a: every file, by ARP" both_tap
+    has pkg-config "pkg-config" && try "pkg-config: two programs, and the library for m4" with_pkg_config "$PWD/lib"
+    has cmake "cmake" && try "cmake: three programs, and the library for m4" with_cmake "$PWD" "$PWD/lib/m4/libuip_c_ether.a"
     what="make install DESTDIR="
-    if [ -x "$top/crates/uipd/out/uipd" ] && [ -f "$top/crates/uip_c/out/libuip_c.a" ]; then
+    built=1
+    for library in uip_c uip_app_c uip_both_c; do [ -f "$top/crates/$library/out/lib$library.a" ] || built=0; done
+    if [ -x "$top/crates/uipd/out/uipd" ] && [ $built = 1 ]; then
         has pkg-config "$what" && has cmake "$what" && try "$what: a program by pkg-config, and by cmake" installs
     else
-        echo "skipped: $what: \`make\` has not built the program and the library"
+        echo "skipped: $what: \`make\` has not built the program and the libraries"
     fi
 fi
 exit $wrong

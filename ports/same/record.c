@@ -1,14 +1,24 @@
-// Linked into the fuzzer by --wrap: writes each call of the library and its result to descriptor 3, for replay.c.
+// Linked into the fuzzer by --wrap: writes each call of the library and its result to descriptor 3, for replay.c. With BOTH it is for
+// the calls of uip_both.h.
 #include "fuzz.h"
 #include "record.h"
+#ifdef BOTH
+#include "uip_both.h"
+#endif
 
-// ---- the sites: every third one begins with a file so long that the other files start beyond 64 kB
+// ---- the sites: every third one begins with a file so long that the other files start beyond 64 kB. The harness for uip_both.h, which
+// foretells each byte of a page, does not know this file, so nobody requests it
 
 void __real_make_site(site *s, const calls_of *has);
 void __wrap_make_site(site *s, const calls_of *has) {
     static byte room[1 << 20];
     __real_make_site(s, has);
     size_t len = between(66000, 300000), head = (size_t)(s->is_two ? 11 : 10), more = head + len;
+    int is_known = 1;
+#ifdef BOTH
+    if (s->count == 0) return;
+    is_known = 0;
+#endif
     if (!chance(33) || s->count == MOST_FILES || s->len + more > sizeof room) return;
     memcpy(room, s->image, 10);
     memcpy(room + 10 + more, s->image + 10, s->len - 10);
@@ -17,16 +27,18 @@ void __wrap_make_site(site *s, const calls_of *has) {
     memcpy(room + 10, "\005/long\0", head - 4);
     for (unsigned at = 0; at < 4; at++) room[6 + head + at] = (byte)(len >> (24 - 8 * at));
     random_bytes(room + 10 + head, len);
-    memmove(s->files + 1, s->files, s->count * sizeof *s->files);
-    for (unsigned k = 1; k <= s->count; k++) s->files[k].content = room + more + (s->files[k].content - s->image);
-    s->files[0] = (file){.name = "/long", .name_len = 5, .content = room + 10 + head, .len = len};
+    for (unsigned k = 0; k < s->count; k++) s->files[k].content = room + more + (s->files[k].content - s->image);
     s->image = room;
     s->len += more;
+    if (!is_known) return;
+    memmove(s->files + 1, s->files, s->count * sizeof *s->files);
+    s->files[0] = (file){.name = "/long", .name_len = 5, .content = room + 10 + head, .len = len};
     s->count++;
 }
 
 // ---- the calls
 
+#ifndef BOTH
 uip_opened __real_uip_open(uip_device *d, const unsigned char *image, size_t len, const unsigned char own[4]);
 uip_opened __wrap_uip_open(uip_device *d, const unsigned char *image, size_t len, const unsigned char own[4]) {
     record r = begun(OPEN, d, 0, len, 0, 0);
@@ -38,6 +50,7 @@ uip_opened __wrap_uip_open(uip_device *d, const unsigned char *image, size_t len
     put(&r, own, 4, image, &opened);
     return opened;
 }
+#endif
 
 uip_opened __real_uip_open_ether(uip_device *d, const unsigned char *image, size_t len, const unsigned char own[4], const unsigned char mac[6],
                                  const unsigned char mask[4], const unsigned char router[4]);
@@ -61,6 +74,9 @@ uip_opened __wrap_uip_open_ether(uip_device *d, const unsigned char *image, size
         record r = begun(op, d, which, in_len, out, room); \
         return ended(&r, __real_##name arguments, in, out); \
     }
+#ifdef BOTH
+READ_AND_WRITE(uip_device, uip_read, uip_write)
+#else
 RESULTS(uip_feed, FEED, (uip_device *d, const unsigned char *bytes, size_t len, unsigned char *out, size_t room),
         (d, bytes, len, out, room), 0, bytes, len)
 RESULTS(uip_periodic, PERIODIC, (uip_device *d, size_t slot, unsigned char *out, size_t room), (d, slot, out, room), slot, 0, 0)
@@ -69,8 +85,18 @@ RESULTS(uip_input, INPUT, (uip_device *d, const unsigned char *datagram, size_t 
         (d, datagram, len, out, room), 0, datagram, len)
 RESULTS(uip_periodic_datagram, PERIODIC_DATAGRAM, (uip_device *d, size_t slot, unsigned char *out, size_t room),
         (d, slot, out, room), slot, 0, 0)
+#endif
 
-RESULTS(uip_periodic_frame, PERIODIC_FRAME, (uip_device *d, size_t slot, unsigned char *out, size_t room), (d, slot, out, room), slot, 0, 0)
+// In a tick by the inline call the area has what the last slot left. Then what it has is the input.
+uip_result __real_uip_periodic_frame(uip_device *d, size_t slot, unsigned char *out, size_t room);
+uip_result __wrap_uip_periodic_frame(uip_device *d, size_t slot, unsigned char *out, size_t room) {
+    static unsigned char left[COMPARED];
+    size_t least = room < COMPARED ? room : COMPARED, part = 0;
+    for (size_t at = 1; at < least; at++) if (out[at] != out[0]) part = least;
+    memcpy(left, out, part);
+    record r = begun(PERIODIC_FRAME, d, slot, part, out, room);
+    return ended(&r, __real_uip_periodic_frame(d, slot, out, room), left, out);
+}
 
 // The frame lies at the start of `out`, and what comes after it was filled.
 uip_result __real_uip_input_frame(uip_device *d, unsigned char *out, size_t room, size_t len);

@@ -7,6 +7,7 @@
 #include <stdlib.h>
 #include <string.h>
 #include "stream.h"
+#include "uip_app.h"
 
 enum { BLOCKS = 64 };
 static const void *known_devices[DEVICES];
@@ -99,5 +100,30 @@ static void returned(record *r, unsigned status, uint64_t number, const void *in
     r->out_len = out_len;
     put(r, 0, 0, in, out);
 }
+
+// ---- the two calls for an application of the program's own, by their names
+
+// The result of reading is recorded as that of a call that writes: `ready`, `port` and `len` in the place of `pending`, `consumed` and
+// `written`. Two numbers precede the text of a message.
+#define READ_AND_WRITE(type, read, write) \
+    uip_received __real_##read(type *d, size_t slot, void *bytes, size_t room); \
+    uip_received __wrap_##read(type *d, size_t slot, void *bytes, size_t room) { \
+        record r = begun(APP_READ, d, slot, 0, bytes, room); \
+        uip_received it = __real_##read(d, slot, bytes, room); \
+        r.consumed = it.port; \
+        r.written = it.len; \
+        returned(&r, it.status, it.ready, 0, bytes, room < COMPARED ? room : COMPARED); \
+        return it; \
+    } \
+    uip_result __real_##write(type *d, size_t slot, size_t taken, const void *text, size_t len, unsigned last, unsigned char *frame, \
+                              size_t room); \
+    uip_result __wrap_##write(type *d, size_t slot, size_t taken, const void *text, size_t len, unsigned last, unsigned char *frame, \
+                              size_t room) { \
+        uint64_t numbers[2] = {fitted(taken), last}; \
+        record r = begun(APP_WRITE, d, slot, len, frame, room); \
+        uip_result result = __real_##write(d, slot, taken, text, len, last, frame, room); \
+        r.in_len = len + sizeof numbers; \
+        return ended_after(&r, numbers, sizeof numbers, result, text, frame); \
+    }
 
 #endif

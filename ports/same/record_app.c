@@ -30,28 +30,7 @@ uip_result __wrap_uip_app_periodic_frame(uip_app *d, size_t slot, unsigned char 
     return ended(&r, __real_uip_app_periodic_frame(d, slot, frame, room), 0, frame);
 }
 
-// The result is recorded as that of a call that writes: `ready`, `port` and `len` in the place of `pending`, `consumed` and `written`.
-uip_received __real_uip_app_read(uip_app *d, size_t slot, void *bytes, size_t room);
-uip_received __wrap_uip_app_read(uip_app *d, size_t slot, void *bytes, size_t room) {
-    record r = begun(APP_READ, d, slot, 0, bytes, room);
-    uip_received it = __real_uip_app_read(d, slot, bytes, room);
-    r.consumed = it.port;
-    r.written = it.len;
-    returned(&r, it.status, it.ready, 0, bytes, room < COMPARED ? room : COMPARED);
-    return it;
-}
-
-// Two numbers precede the text.
-uip_result __real_uip_app_write(uip_app *d, size_t slot, size_t taken, const void *text, size_t len, unsigned last, unsigned char *frame,
-                                size_t room);
-uip_result __wrap_uip_app_write(uip_app *d, size_t slot, size_t taken, const void *text, size_t len, unsigned last, unsigned char *frame,
-                                size_t room) {
-    uint64_t numbers[2] = {fitted(taken), last};
-    record r = begun(APP_WRITE, d, slot, len, frame, room);
-    uip_result result = __real_uip_app_write(d, slot, taken, text, len, last, frame, room);
-    r.in_len = len + sizeof numbers;
-    return ended_after(&r, numbers, sizeof numbers, result, text, frame);
-}
+READ_AND_WRITE(uip_app, uip_app_read, uip_app_write)
 
 unsigned __real_uip_app_close(uip_app *d);
 unsigned __wrap_uip_app_close(uip_app *d) {

@@ -1,5 +1,8 @@
-// Makes the recorded calls of uip.h again (replay.h).
+// Makes the recorded calls of uip.h again (replay.h); with BOTH those of uip_both.h.
 #include "replay.h"
+#ifdef BOTH
+#include "uip_both.h"
+#endif
 
 static uip_device devices[DEVICES];
 static unsigned char images[DEVICES + 1][MOST_INPUT];
@@ -18,18 +21,22 @@ static uip_result call(const record *r, const unsigned char *input, const unsign
     uip_device *d = &devices[r->device];
     size_t len = (size_t)r->in_len, room = (size_t)r->room, number = (size_t)r->number;
     switch (r->op) {
+#ifdef BOTH
+    READ_OR_WRITE(uip_read, uip_write)
+#else
     case OPEN: opened = uip_open(d, input + 4, len - 4, input); *left = (unsigned char *)&opened; return of_status(opened.status);
-    case OPEN_ETHER:
-        opened = uip_open_ether(d, input + 18, len - 18, input, input + 4, input + 10, input + 14);
-        *left = (unsigned char *)&opened;
-        return of_status(opened.status);
-    case INPUT_FRAME: __builtin_memcpy(out, input, len); return uip_input_frame(d, out, room, number);
-    case PERIODIC_FRAME: return uip_periodic_frame(d, number, out, room);
     case FEED: return uip_feed(d, input, len, out, room);
     case PERIODIC: return uip_periodic(d, number, out, room);
     case DRAIN: return uip_drain(d, out, room);
     case INPUT: return uip_input(d, input, len, out, room);
     case PERIODIC_DATAGRAM: return uip_periodic_datagram(d, number, out, room);
+#endif
+    case OPEN_ETHER:
+        opened = uip_open_ether(d, input + 18, len - 18, input, input + 4, input + 10, input + 14);
+        *left = (unsigned char *)&opened;
+        return of_status(opened.status);
+    case INPUT_FRAME: __builtin_memcpy(out, input, len); return uip_input_frame(d, out, room, number);
+    case PERIODIC_FRAME: __builtin_memcpy(out, input, len); return uip_periodic_frame(d, number, out, room);
     case TICKS: return of_number(uip_ticks(d));
     case COUNTER: return of_number(uip_counter(d, number));
     case IS_IDLE: return of_number(uip_is_idle(d));

@@ -5,7 +5,7 @@
 
 #include "stream.h"
 #include "system.h"
-#include "uip.h"
+#include "uip_app.h"
 
 // ---- the report
 
@@ -108,6 +108,19 @@ static unsigned char in[MOST_INPUT];
 static _Alignas(4) unsigned char out[MOST_ROOM + COMPARED], was[MOST_ROOM], marks[COMPARED + 4];
 
 static uip_result of_status(unsigned status) { return (uip_result){status, 0, 0, 0}; }
+
+// The two calls for an application of the program's own, by their names, as cases of `call`.
+static inline uip_result of_read(uip_received it) { return (uip_result){it.status, it.ready, it.port, it.len}; }
+
+static inline uint64_t number_at(const unsigned char *at) {
+    uint64_t number;
+    __builtin_memcpy(&number, at, sizeof number);
+    return number;
+}
+
+#define READ_OR_WRITE(read, write) \
+    case APP_READ: return of_read(read(d, number, out, room)); \
+    case APP_WRITE: return write(d, number, (size_t)number_at(input), input + 16, len - 16, (unsigned)number_at(input + 8), out, room);
 
 // These two are of the including file. The input of a call goes to `input_of`. `call` makes a call, and sets `left` to the bytes that it left.
 static unsigned char *input_of(const record *r);

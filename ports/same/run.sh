@@ -1,8 +1,17 @@
 # shellcheck shell=sh disable=SC2154,SC2086
 # The same calls, for run.sh: the fuzzer runs on this machine with the library of the proof run, record.c writes each of its calls and
-# results to a pipe, and replay.c makes them again on the target. record_app.c and replay_app.c are those of uip_app.h.
-RECORDED="open open_ether feed periodic drain input periodic_datagram input_frame periodic_frame ticks counter is_idle connection set_value hits query close"
+# results to a pipe, and replay.c makes them again on the target. record_app.c and replay_app.c are those of uip_app.h. For uip_both.h the
+# first two are compiled with BOTH.
+RECORDED_BOTH="open_ether input_frame periodic_frame ticks counter is_idle connection set_value hits query close"
+RECORDED="open feed periodic drain input periodic_datagram $RECORDED_BOTH"
 RECORDED_APP="open input_frame periodic_frame read write close"
+
+# The words for the linker that put the recorder between the fuzzer and these calls: wrapped PREFIX CALL ..
+wrapped() {
+    prefix=$1
+    shift
+    for call; do printf ' -Wl,--wrap=%s_%s' "$prefix" "$call"; done
+}
 
 recorder() {
     record=$out/record-$crate
@@ -11,13 +20,20 @@ recorder() {
     fi
     case "$crate" in
     uip_c)
-        wraps="$(for call in $RECORDED; do printf ' -Wl,--wrap=uip_%s' "$call"; done) -Wl,--wrap=make_site"
+        wraps="$(wrapped uip $RECORDED) -Wl,--wrap=make_site"
         set -- "$top"/fuzz/*.c "$ports/same/record.c";;
     uip_app_c)
-        wraps=$(for call in $RECORDED_APP; do printf ' -Wl,--wrap=uip_app_%s' "$call"; done)
-        set -- "$top"/fuzz/app/*.c "$ports/same/record_app.c"
-        for part in random report areas heap wire link arp model; do set -- "$@" "$top/fuzz/$part.c"; done;;
+        wraps=$(wrapped uip_app $RECORDED_APP)
+        set -- "$top"/fuzz/app/*.c "$ports/same/record_app.c";;
+    uip_both_c)
+        wraps="$(wrapped uip $RECORDED_BOTH read write) -Wl,--wrap=make_site"
+        set -- -DBOTH "$top/fuzz/both/pages.c" "$ports/same/record.c"
+        for part in calls main node peers program; do set -- "$@" "$top/fuzz/app/$part.c"; done
+        for part in sites values requests clients reads; do set -- "$@" "$top/fuzz/$part.c"; done;;
     esac
+    if [ "$crate" != uip_c ]; then
+        for part in random report areas heap wire link arp model; do set -- "$@" "$top/fuzz/$part.c"; done
+    fi
     "${CC:-cc}" -std=gnu11 -O2 -I"$top/include" -I"$ports/same" -I"$top/fuzz" $wraps -Wl,--wrap=rattle_alloc -Wl,--wrap=rattle_dealloc \
         "$@" "$out/$crate.a" -o "$record" || fail "the recorder was not built"
 }
@@ -26,8 +42,12 @@ replayer() {
     case "$crate" in
     uip_c) source=replay module=module;;
     uip_app_c) source=replay_app module=app_module;;
+    uip_both_c) source=replay_both module=both_module;;
     esac
-    c_code -O2 "$ports/same/$source.c" -o "$to/$source.o"
+    case "$source" in
+    replay_both) c_code -O2 -DBOTH "$ports/same/replay.c" -o "$to/$source.o";;
+    *) c_code -O2 "$ports/same/$source.c" -o "$to/$source.o";;
+    esac
     c_code -O2 "$example/runtime.c" -o "$to/replay_runtime.o"
     set -- "$to/$source.o" "$to/replay_runtime.o" "$to/$module.o" "$to/${module}_calls.o"
     case "$target" in
@@ -48,7 +68,7 @@ speed() {
     python3 "$ports/speed.py" "$user" "$to/speed"
 }
 
-# same CALLS SEED: once with both kinds of link on devices of their own, once mixed on one device; of uip_app.h, which has one kind, once.
+# same CALLS SEED: once with both kinds of link on devices of their own, once mixed on one device; of the libraries with one kind, once.
 same() {
     command -v "${user%% *}" >/dev/null || fail "no ${user%% *} here: it is in the package $package"
     recorder

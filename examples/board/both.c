@@ -1,0 +1,53 @@
+// The firmware of a device on Ethernet with pages at port 80, and a console and Modbus/TCP beside them (answer.c). It ends with the first
+// status that is not UIP_OK.
+#include "answer.h"
+#include "board.h"
+#include "uip_both.h"
+
+extern const unsigned char site_image[], site_image_end[];
+
+static uip_device device = UIP_INIT;
+static unsigned char frame[UIP_MAX_FRAME], bytes[UIP_MAX_RECEIVED], reply[UIP_MAX_MESSAGE];
+
+static unsigned sent(uip_result done) {
+    if (done.written) mac_send(frame, done.written);
+    return done.status;
+}
+
+static unsigned serve_slot(size_t slot) {
+    unsigned last = 0;
+    size_t len = 0;
+    uip_received it = uip_read(&device, slot, bytes, sizeof bytes);
+    size_t taken = answer(&it, bytes, reply, &len, &last);
+    if (!taken) return it.status;
+    return sent(uip_write(&device, slot, taken, reply, len, last, frame, sizeof frame));
+}
+
+static unsigned serve(void) {
+    unsigned status = UIP_OK;
+    for (size_t slot = 0; status == UIP_OK && slot < UIP_SLOTS; slot++) status = serve_slot(slot);
+    return status;
+}
+
+static unsigned tick(void) {
+    unsigned status = UIP_OK;
+    for (size_t slot = 0; status == UIP_OK && slot < UIP_SLOTS; slot++)
+        status = sent(uip_periodic_frame(&device, slot, frame, sizeof frame));
+    return status;
+}
+
+int main(void) {
+    static const unsigned char own[4] = {10, 0, 0, 1}, mac[6] = {2, 0, 0, 0, 0, 1};
+    static const unsigned char mask[4] = {255, 255, 255, 0}, router[4] = {10, 0, 0, 2};
+    uip_opened opened = uip_open_ether(&device, site_image, (size_t)(site_image_end - site_image), own, mac, mask, router);
+    unsigned status = opened.status;
+    board_start();
+    mac_start(mac);
+    for (unsigned ticks = 0; status == UIP_OK; board_sleep(ticks)) {
+        size_t len = mac_receive(frame, sizeof frame);
+        if (len) status = sent(uip_input_frame(&device, frame, sizeof frame, len));
+        if (status == UIP_OK && ticks != clock_ticks()) ticks++, status = tick();
+        if (status == UIP_OK) status = serve();
+    }
+    return (int)status;
+}
