@@ -15,14 +15,17 @@
  * before you connect a node: there is no authentication, no encryption, no DHCP and no POST, sequence numbers are
  * predictable, and ten SYNs that are never acknowledged occupy all ten connections for 51 s.
  *
- * TO READ. All: the program, RULES, ERRORS, "VALUES AND HITS", "SLEEP AND DIAGNOSTICS", "CLOSE" and "THE HEAP". Then
- * for a serial line "OPEN", "SINKS" and the two parts "SERIAL LINE"; for datagrams "OPEN", "SINKS" and "DATAGRAMS"; for
- * Ethernet uip_sink and "ETHERNET", which has its own program.
+ * TO READ. All: the program, RULES, ERRORS, "RESULTS", "VALUES AND HITS", "SLEEP AND DIAGNOSTICS", "CLOSE" and "THE
+ * HEAP". Then for a serial line "OPEN", "SINKS" and the two parts "SERIAL LINE"; for datagrams "OPEN", "SINKS",
+ * "DATAGRAMS" and uip_periodic; for Ethernet "ETHERNET", with its own program, uip_sink, and what uip_open and
+ * uip_periodic state below their parameters.
  *
  * WORDS. A device is one node: its address, connections and values. A site is a folder of pages, and its image the
  * array that tools/pack.py makes of it. A value is a short text that the program sets and pages show. A slot is one of
- * the ten places for a connection. A tick is ten periodic calls, one for each slot; one tick is due each half second. A
- * sink is your function that takes output. Output is pending if it did not fit into `out`: uip_drain writes it.
+ * the ten places for a connection. The periodic calls are uip_periodic, uip_periodic_datagram and uip_periodic_frame. A
+ * tick is ten of them, one for each slot; one tick is due each half second. A sink is your function that takes output,
+ * and the inline functions are the five that call one: uip_feed_all, uip_tick_all, uip_drain_all, uip_tick_datagrams
+ * and uip_tick_frames. Output is pending if it did not fit into `out`: uip_drain writes it.
  *
  * LINKS. Choose a row and link its library, and no second one (FIRMWARE "Link the library"). A device of uip_open may
  * use the first two rows at once. Datagrams means a link that passes whole IPv4 datagrams, for example a tunnel. On a
@@ -141,8 +144,9 @@
  *   - UIP_OUTPUT_PENDING means that nothing was done: call uip_drain until `pending` is 0, and repeat the call.
  *   - Any other status after opening is a fault of the program: treat it as a failed assertion, record it and reset.
  *   - If opening fails, a reset does not help: show `word`, or enlarge the heap. A broken rule is not reported.
- *   - Not reported, and harmless to memory: a wrong rate of ticks, a slot left out or called twice in a tick, and an
- *     unknown name (uip_hits and uip_query return 0).
+ *   - Not reported, and harmless to memory: a wrong rate of ticks, a slot left out or called twice in a tick, an
+ *     unknown name (uip_hits and uip_query return 0), and a call for a serial line on a link of datagrams, or the
+ *     reverse (what it sends is of no use there).
  *
  * TIME. Functions that are not inline never wait, and only those that open take memory. Opening reads the whole image.
  * Each other function that is not inline handles at most one datagram. No bound on its time is known. An inline
@@ -275,7 +279,8 @@ typedef struct uip_number { unsigned status; unsigned number; } uip_number;
 
 /*
  * The result of uip_query.
- *   hit    what uip_hits returned for the file right after the request that brought the text; 0 if none is kept
+ *   hit    a serial number of the text: the count of requests of the file (uip_hits) with the one that brought it.
+ *          Another `hit` is another request, also if the text is the same. It is 0 if no text of the file is kept
  *   len    the length of the text in bytes
  */
 typedef struct uip_query_text { unsigned status; unsigned hit; size_t len; } uip_query_text;
@@ -286,8 +291,8 @@ typedef struct uip_query_text { unsigned status; unsigned hit; size_t len; } uip
  *   peer, port    the address, first byte first, and the TCP port of the peer (a number, not in network byte order)
  *   tries         how often the outstanding segment was sent again; 0 if none is outstanding
  *   count         one of three:
- *                 - if a segment is outstanding, how many ticks pass without effect before the one that sends it again,
- *                   or resets the connection;
+ *                 - if a segment is outstanding, the ticks before the one that acts: 0 means that the next tick sends
+ *                   the segment again, or resets the connection;
  *                 - in FIN_WAIT_2 and TIME_WAIT, the ticks spent there, of 120;
  *                 - else 0: the idle time of an ESTABLISHED connection is not shown
  *   waiting       1 if a segment is outstanding, else 0
@@ -420,10 +425,10 @@ uip_query_text uip_query(uip_device *device, const void *name, size_t len, void 
  *                 It lies in `out` or `frame`, and is valid until the sink returns
  *
  * The inline functions call it with each piece, in order. It must return. It accepts the whole piece, waiting until
- * there is room, or discards bytes if the line is down: that frame is lost, as on the line, and TCP sends it again. If
- * your cache functions take a pointer without const, cast it. Of the calls with this device it may make uip_set_value
- * and those that read: uip_ticks, uip_counter, uip_is_idle, uip_connection, uip_hits and uip_query. It may make no
- * other.
+ * there is room, or discards bytes if the line is down or no buffer is free: that frame is lost, as on the line, and
+ * TCP sends it again. If your cache functions take a pointer without const, cast it. Of the calls with this device it
+ * may make uip_set_value and those that read: uip_ticks, uip_counter, uip_is_idle, uip_connection, uip_hits and
+ * uip_query. It may make no other.
  */
 typedef void (*uip_sink)(void *to, const unsigned char *bytes, size_t len);
 
@@ -629,12 +634,13 @@ UIP_INLINE unsigned uip_tick_datagrams(uip_device *device, unsigned char *out, s
  * pass `mac` and broadcast, and turn its insertion of checksums off: the library writes all checksums. If the length of
  * a received frame counts the check sequence, subtract 4; a program that forgets it loses only the longest frames.
  *
- * THE BUFFER. A call may write anywhere in `frame` up to `room`, also if `written` is 0.
+ * THE BUFFER. A call that returns UIP_OK may write anywhere in `frame` up to `room`, also if `written` is 0.
  *   - Not cached: `frame` may have any alignment. On a Cortex-M its memory is of type Normal (ARMv7-M: TEX 1, C 0, B 0;
  *     ARMv8-M: attribute 0x44), never Device or Strongly ordered (rule 10).
  *   - Cached: its start and its size are multiples of the cache line. Clean and invalidate all of it before a DMA
  *     receives into it, invalidate it after that DMA, and clean the first `written` bytes before a DMA sends them.
- *   - Barriers are yours: a DSB after the call, before you start the DMA. The usual cache functions contain one.
+ *   - Barriers are yours: a DMB between the read that shows that the DMA has finished (a descriptor, a flag) and the
+ *     call, and a DSB after the call, before you start a DMA. The usual cache functions contain both.
  *   - Your DMA may demand more of alignment and size than the library. 1536 bytes suit most.
  *   - One receive buffer: use two frames. The first belongs to the DMA until a frame is complete. Then call
  *     uip_input_frame, send, and start the DMA again. The second is for uip_tick_frames, so that a tick may run while
