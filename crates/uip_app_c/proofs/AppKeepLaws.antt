@@ -103,9 +103,9 @@ module _ (own : Addr) (mac : Mac) (network : Network) where
 
 -- ---- the law
 
-messages_sent : (c : Connection) (exchanges : List Exchange) (it : NewestConforms (own_output_model c.sockets.own_port.0) c exchanges) → IsPrefixOf (it.conforms.account 0).sent (messages_text c.part.snapshots)
+messages_sent : (c : Connection) (exchanges : List Exchange) (it : NewestConforms (own_output_model c.sockets.own_port.0) c exchanges) → IsPrefixOf (it.conforms.account 0).stream (messages_text c.part.snapshots)
 messages_sent c exchanges it =
-    subst (λ (ks : List Snapshot). IsPrefixOf (it.conforms.account 0).sent (messages_text ks)) it.snapshots (newest_text (own_output_model c.sockets.own_port.0) c exchanges it).0.2.prefix
+    subst (λ (ks : List Snapshot). IsPrefixOf (it.conforms.account 0).stream (messages_text ks)) it.snapshots (newest_text (own_output_model c.sockets.own_port.0) c exchanges it).0.2.prefix
 
 pub calls_conform : AppCallsConform
 calls_conform own is mac network all bytes closed old new opens did =

@@ -59,7 +59,7 @@ pub record AppTraceConforms (own : Addr) (mac : Mac) (network : Network) (all : 
   pub trace : ProgramConforms app_program own_spec is_own_port (link_of own mac network) own own_output_model
       (numbers_of 0 no_message) all
   pub sent : (slot : ℕ) (live : is_live (connection_after own mac network all slot).state ≡ true)
-      → IsPrefixOf ((trace.newest slot live).conforms.account 0).sent
+      → IsPrefixOf ((trace.newest slot live).conforms.account 0).stream
       (messages_text (connection_after own mac network all slot).part.snapshots)
   pub captured : OfEachCall own mac network (Captures own mac network) (program_calls all) (first_station own)
   pub written : length all < 4294967296 → (slot : ℕ)

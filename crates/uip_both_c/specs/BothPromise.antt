@@ -76,7 +76,7 @@ pub record BothTraceConforms (files : List File) (own : Addr) (mac : Mac) (netwo
       (first_both_numbers files) all
   pub sent : (slot : ℕ) (live : is_live (connection_after files own mac network all slot).state ≡ true)
       → is_own_port (connection_after files own mac network all slot).sockets.own_port.0 ≡ true
-      → IsPrefixOf ((trace.newest slot live).conforms.account 0).sent
+      → IsPrefixOf ((trace.newest slot live).conforms.account 0).stream
       (messages_text (own_connection (connection_after files own mac network all slot)).part.snapshots)
   pub captured : OfEachCall files own mac network (Captures files own mac network) (program_calls all) (first_station files own)
   pub written : length all < 4294967296 → (slot : ℕ)
