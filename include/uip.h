@@ -116,9 +116,9 @@
  *      may have any alignment. On 32 bits no object may have 2^31 bytes or more.
  *   5. `out`, and `frame` of the calls for frames, must be writable over the whole of `room`. It may share no byte with
  *      the device or another argument, except that it may lie in what `to` points to. Until the call returns nothing
- *      else may read or write it, also no DMA. The sink of an inline function may read it, also by a DMA that ends
- *      before the sink returns. After the call the library does not use it: you may send it by DMA, and pass another
- *      area next time.
+ *      else may read or write it, also no DMA. While the sink of an inline function runs, the sink may read and write
+ *      it, also by a DMA that ends before the sink returns. After the call the library does not use it: you may send it
+ *      by DMA, and pass another area next time.
  *   6. The image must stay at its address, unchanged, until uip_close: it is read in place. To replace it, also in
  *      flash, close the device, write the new image, and open again. Connections, values and hits are then lost. The
  *      heap must suit the largest of your images.
@@ -133,7 +133,8 @@
  *  10. The processor must be set up as FIRMWARE "Targets" states for yours. For example on a Cortex-M4, M7 or M33
  *      CCR.UNALIGN_TRP is 0, and stack, heap, image and all areas that are passed lie in Normal memory.
  * Undefined too: a null `block` of rattle_alloc, a header and a library of two releases, a header of uIP in the same
- * file, and the compiler's -fpcc-struct-return and -freg-struct-return.
+ * file, a `done` or `out` of uip_drain_all that are not of the last call with the device, and the compiler's
+ * -fpcc-struct-return and -freg-struct-return.
  *
  * ERRORS. If a call fails, the device, `out`, `frame` and the counters are as before, and all other fields of the
  * result are 0 (but see uip_opened). The statuses of a call are listed in the order in which they are looked for.
@@ -428,7 +429,8 @@ uip_query_text uip_query(uip_device *device, const void *name, size_t len, void 
  * there is room, or discards bytes if the line is down or no buffer is free: that frame is lost, as on the line, and
  * TCP sends it again. If your cache functions take a pointer without const, cast it. Of the calls with this device it
  * may make uip_set_value and those that read: uip_ticks, uip_counter, uip_is_idle, uip_connection, uip_hits and
- * uip_query. It may make no other.
+ * uip_query. It may make no
+ * other with this device; with another device it may make any.
  */
 typedef void (*uip_sink)(void *to, const unsigned char *bytes, size_t len);
 
@@ -642,14 +644,15 @@ UIP_INLINE unsigned uip_tick_datagrams(uip_device *device, unsigned char *out, s
  *   - Barriers are yours: a DMB between the read that shows that the DMA has finished (a descriptor, a flag) and the
  *     call, and a DSB after the call, before you start a DMA. The usual cache functions contain both.
  *   - Your DMA may demand more of alignment and size than the library. 1536 bytes suit most.
- *   - One receive buffer: use two frames. The first belongs to the DMA until a frame is complete. Then call
- *     uip_input_frame, send, and start the DMA again. The second is for uip_tick_frames, so that a tick may run while
- *     the first waits. The program below has one frame: its mac_receive stops the DMA, or copies from a ring, before it
- *     returns, also before it returns 0.
+ *   - One receive buffer: it belongs to the DMA until a frame is complete. Then call uip_input_frame, send, wait until
+ *     the controller has read the buffer, since the reply lies in it, and start the receive DMA again. Use a second
+ *     frame for uip_tick_frames. With one frame for both, as in the program below, mac_receive stops the receive DMA,
+ *     or copies from a ring, before it returns, also before it returns 0.
  *   - A ring of receive buffers: pass the buffer that is complete to uip_input_frame, send from it, and give it back to
  *     the ring when it is sent. The ticks have a frame of their own.
- *   - Drop frames that the controller marks as damaged or cut: ARP has no checksum. If it cannot pad, set the bytes
- *     from frame[written] to frame[59] to 0, and send 60.
+ *   - Drop frames that the controller marks as damaged or cut: ARP has no checksum. If it cannot pad and
+ *     `written` is less than 60, set the bytes from frame[written] to frame[59] to 0 before you clean, and send 60. In
+ *     the sink of uip_tick_frames cast the const away for this.
  *   - To send without waiting, do not use uip_tick_frames: its sink must not return before the DMA has read `frame`.
  *     Call uip_periodic_frame with a free buffer for each slot, and give the buffer back when it is sent.
  *
@@ -834,7 +837,8 @@ unsigned uip_close(uip_device *device);
  *   rattle_dealloc    frees a block.
  *
  * Opening allocates, and uip_close frees. No other call does, as the tests count (FIRMWARE "The heap"). A block need
- * not be zeroed. examples/common/heap.c reuses its array when all its devices are closed.
+ * not be zeroed. examples/common/heap.c reuses its array
+ * when all its devices are closed: with two of them, one that is closed and opened again may get UIP_NO_MEMORY.
  */
 typedef struct uip_block { size_t ok; void *block; } uip_block;
 uip_block rattle_alloc(size_t len, size_t align);
