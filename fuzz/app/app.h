@@ -49,7 +49,7 @@ uip_received node_reads(const node *n, unsigned slot);    // the bytes are those
 uip_row node_row(const node *n, unsigned slot);
 
 // calls.c: single calls of a device, each as the node foretells it.
-typedef struct { opened on; node node; size_t blocks; } device;    // it has so many blocks of the heap
+typedef struct { opened on; node node; size_t blocks; } device;    // `blocks` of the heap
 typedef struct { byte bytes[UIP_MAX_FRAME]; size_t len; } sent_frame;    // what a call sent; no bytes if nothing
 void calls_begin(void);
 void call_open(device *d, const byte *own, const byte *mac, const byte *mask, const byte *router);

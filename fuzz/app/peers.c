@@ -156,7 +156,7 @@ static client *client_of(const segment *s) {
     return 0;
 }
 
-// A stranger goes on with the connection that a segment came from.
+// A stranger continues the connection that a segment came from.
 void strangers_get(const byte *datagram, size_t len) {
     segment s;
     if (!read_segment(datagram, len, &s)) return;
