@@ -15,7 +15,7 @@ static uip_device device = UIP_INIT;
 static unsigned char out[32];
 static unsigned asked_on, asked_off;          // how often the pages of the lamp had been requested
 static unsigned lamp_is_on;
-static unsigned level, limit = 80, limit_shown;
+static unsigned level, limit, limit_shown;   // `limit` is 80 at first (main)
 
 static void add(text *value, const char *words) {
     for (; *words && value->len < sizeof value->bytes; words++) value->bytes[value->len++] = *words;
@@ -91,6 +91,7 @@ static void send_piece(void *to, const unsigned char *bytes, size_t len) {
 int main(void) {
     static const unsigned char own[4] = {10, 0, 0, 1};
     board_start();
+    limit = 80;
     unsigned status = uip_open(&device, site_image, (size_t)(site_image_end - site_image), own).status;
     if (status == UIP_OK) status = give_words(NAME, "Lamp & level of the \"virt\" board");
     if (status == UIP_OK) status = give_all(0);
