@@ -74,8 +74,8 @@ pub record SendsSlice (iss : ℕ) (stream : List ℕ) (s : PlainSegment) : Type 
   pub bytes : 0 < length s.text → IsAtOffset iss stream s
   pub fin : has_fin s.flags ≡ true → (s.text ≡ []) × (s.seq ≡ wrap (iss + 1 + length stream))
 
--- The segment acknowledges the data of some selection of the segments received up to this exchange, and its FIN if `counts_fin` is true.
--- This data is a prefix of the input.
+-- The segment acknowledges the data of some selection of the segments received up to this exchange. If `counts_fin` is true, it also
+-- acknowledges the FIN of the last segment selected. This data is a prefix of the input.
 pub record Acknowledges (irs : ℕ) (by_then : List Exchange) (input : List ℕ) (s : PlainSegment) : Type 0 where
   pub selected : List ℕ
   pub counts_fin : Bool
@@ -100,9 +100,9 @@ pub record IsAcknowledged (incarnation : List Exchange) (i j : ℕ) (t : PlainSe
 -- ---- the guarantee
 
 -- This account holds for the incarnation. A segment carried each byte of the stream. The data of each segment is a slice of the stream, no
--- longer than the MSS of the peer allows. Each segment without RST acknowledges a prefix of the input, and perhaps a FIN. Stop and wait: let
--- t, and later s, be sent with SEG.LEN above 0 and different SEG.SEQ (i < j: exchange i is newer). Then a segment that acknowledges the end
--- of t was received after t was sent, and before s was sent or in the same exchange.
+-- longer than the MSS of the peer allows. Each segment without RST acknowledges a prefix of the input, and perhaps a FIN.
+-- Stop and wait: let t, and later s, be sent with SEG.LEN above 0 and different SEG.SEQ (i < j: exchange i is newer). Then a segment that
+-- acknowledges the end of t was received after t was sent, and before s was sent or in the exchange of s.
 pub record AccountHolds (incarnation : List Exchange) (a : Account) : Type 0 where
   pub begins : Begins incarnation a
   pub selection : IsSelection a.irs incarnation a.input false

@@ -31,7 +31,8 @@ pub record KeepsSession : Type 0 where
   pub grows : (q more : List ℕ) (k later : List Snapshot) → IsPrefixOf (sessions.page q k) (sessions.page (q ++ more) (k ++ later))
   pub stays : (q more : List ℕ) (k later : List Snapshot) → sessions.complete q k ≡ true
       → sessions.page (q ++ more) (k ++ later) ≡ sessions.page q k
-  pub stays_complete : (q more : List ℕ) (k later : List Snapshot) → sessions.complete q k ≡ true → sessions.complete (q ++ more) (k ++ later) ≡ true
+  pub stays_complete : (q more : List ℕ) (k later : List Snapshot) → sessions.complete q k ≡ true
+      → sessions.complete (q ++ more) (k ++ later) ≡ true
   -- the output is the session of the delivered bytes and the captured snapshots
   pub output : (p : AppState) → shell_spec.output p ≡ sessions.page p.input p.snapshots
   pub hears : (numbers : List ℕ) (p : AppState) (piece : List ℕ) → DeliversPrefix p (shell_spec.newdata numbers p piece).part piece

@@ -6,7 +6,8 @@ use Rattle.ethernet_arp.specs.declared.mac.Mac.{Mac}
 use Rattle.serve_loop.specs.Prelude.{Station, initial_station}
 use Rattle.frame_device.specs.declared.network.Network.{Network}
 use Rattle.frame_device.specs.Prelude.{CallsSlot, DoesNothing, FrameCall, FrameSpec, RepresentsStation, ether_frames, interface_at}
-use Rattle.frame_device.specs.ProgramCalls.{AnsweredBy, DidInTurn, OfEach, Program, after_program_call, after_program_calls, program_calls, program_frames}
+use Rattle.frame_device.specs.ProgramCalls.{AnsweredBy, DidInTurn, OfEach, Program, after_program_call, after_program_calls}
+use Rattle.frame_device.specs.ProgramCalls.{program_calls, program_frames}
 use Rattle.frame_device.specs.contracts.ether.EthernetFrames.TheImpl.{ghosts as ether_link}
 use Rattle.own_app.specs.Prelude.{is_own_port, no_message, numbers_of, own_spec, write_message}
 use Rattle.own_app.specs.contracts.app.OwnAppApp.TheImpl.{ghosts}

@@ -5,7 +5,8 @@ use Rattle.ethernet_arp.specs.Prelude.{Act}
 use Rattle.ethernet_arp.specs.declared.mac.Mac.{Mac}
 use Rattle.file_tree.specs.Prelude.{files_of}
 use Rattle.frame_device.specs.Prelude.{CallsSlot, DoesNothing, FrameCall, FrameSpec, RepresentsStation, ether_frames, interface_at}
-use Rattle.frame_device.specs.ProgramCalls.{AnsweredBy, DidInTurn, OfEach, Program, after_program_call, after_program_calls, program_calls, program_frames}
+use Rattle.frame_device.specs.ProgramCalls.{AnsweredBy, DidInTurn, OfEach, Program, after_program_call, after_program_calls}
+use Rattle.frame_device.specs.ProgramCalls.{program_calls, program_frames}
 use Rattle.frame_device.specs.contracts.ether.EthernetFrames.TheImpl.{ghosts as ether_link}
 use Rattle.frame_device.specs.declared.network.Network.{Network}
 use Rattle.own_app.specs.Prelude.{write_message}
@@ -89,7 +90,8 @@ pub record BothAtStation (files : List File) (own : Addr) (mac : Mac) (network :
 -- represents the station after all calls.
 pub record IsExact (files : List File) (own : Addr) (mac : Mac) (network : Network) (all : List AnsweredCall) (new : Kept) : Type 0 where
   pub frames : map (λ it. it.handed) all
-      ≡ program_frames both_program (both_spec files) is_both_port (link_of own mac network) own (program_calls all) (first_station files own)
+      ≡ program_frames both_program (both_spec files) is_both_port (link_of own mac network) own (program_calls all)
+      (first_station files own)
   pub could : OfEachCall files own mac network CouldWrite (program_calls all) (first_station files own)
   pub represents : HasBoth (λ d. BothAtStation files own mac network d
       (station_after_calls files own mac network (program_calls all) (first_station files own))) new

@@ -23,7 +23,8 @@ abbrev pub HasBytes : Pages → Type 0
 HasBytes pages = (input : List ℕ) (snapshots : List Snapshot)
     → All IsByte input → All IsSnapshot snapshots → All IsByte (pages.page input snapshots)
 
--- The input consists of bytes: each call keeps this, if the data is bytes. If it holds, and the snapshots are in range, the output is bytes.
+-- The input consists of bytes: each call keeps this, if the data is bytes. If it holds, and the snapshots are in range, the output is
+-- bytes.
 pub record SendsBytes (m : AppSpec) : Type 0 where
   pub output : (p : AppState) → All IsByte p.input → All IsSnapshot p.snapshots → All IsByte (m.output p)
   pub connected : (numbers : List ℕ) (port : ℕ) → All IsByte (m.connected numbers port).part.input

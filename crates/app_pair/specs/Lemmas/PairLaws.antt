@@ -57,7 +57,8 @@ module _ (second : Bool) where
   seen_captures numbers p q now (inl e) =
       let more : List Snapshot = record { numbers = numbers; now = now } ∷ [] in
       let none : nat_lt (length p.snapshots) (length q.snapshots) ≡ false =
-      le-ltb (length p.snapshots) (length q.snapshots) (omega (arith, ap (λ l. length l) e, length-map p.snapshots (own_snapshot second))) in
+      le-ltb (length p.snapshots) (length q.snapshots)
+      (omega (arith, ap (λ l. length l) e, length-map p.snapshots (own_snapshot second))) in
       e ∙ ap (λ (b : Bool). map (own_snapshot second) (if b then p.snapshots ++ more else p.snapshots)) (sym none)
   seen_captures numbers p q now (inr e) =
       let more : List Snapshot = record { numbers = numbers; now = now } ∷ [] in
@@ -84,7 +85,8 @@ module _ (second : Bool) where
     sees_prepare numbers p now =
         let own : List ℕ = own_numbers second numbers in
         let q : AppState = m.prepare own (own_part second p) now in
-        sees_after q (after_prepare numbers p now q).snapshots (seen_captures numbers p q now (captures.prepare own (own_part second p) now))
+        sees_after q (after_prepare numbers p now q).snapshots
+        (seen_captures numbers p q now (captures.prepare own (own_part second p) now))
 
     pub sees_acked : (numbers : List ℕ) (p : AppState) (count : ℕ)
         → own_part second ((one_of_two second m).acked numbers p count).part
