@@ -1,7 +1,7 @@
 // Clients and strangers at the other end of a link that loses, repeats, reorders and damages. A client is a small TCP: it opens a
-// connection at one of the two ports, sends bytes, and compares what it receives with what the program wrote: it is always a prefix of the
-// messages, and after a plain close all of them. The bytes that the program reads are a prefix of those that the client sent. Strangers
-// send what they like.
+// connection at one of the ports of the session, mostly one that is open, sends bytes, and compares what it receives with what the program
+// wrote: it is always a prefix of the messages, and after a plain close all of them. The bytes that the program reads are a prefix of those
+// that the client sent. Strangers send what they like.
 #include <stdio.h>
 #include <string.h>
 #include "app.h"
@@ -25,8 +25,6 @@ static stranger strangers[STRANGERS];
 static queue to_node, from_node;
 static byte node_address[4];
 static unsigned next_port;
-
-static unsigned some_port(void) { return chance(60) ? UIP_APP_PORT : UIP_MODBUS_PORT; }
 
 // A byte that a client sends: one in sixteen is a line feed.
 static byte byte_of(const client *c, size_t at) {
@@ -259,7 +257,7 @@ void peers_act(void) {
 void peers_tick(void) {
     for (client *c = clients; c < clients + CLIENTS; c++) {
         if (c->state == IDLE || c->state == ENDED || (c->wait && --c->wait)) continue;
-        if (++c->retries > 60) c->state = ENDED;
+        if (++c->retries > (is_open_port(devices, c->own_port) ? 60 : 12)) c->state = ENDED;
         else say_due(c, c->state == OPEN && chance(20));
     }
 }
