@@ -108,7 +108,7 @@ void pages_show(void);
 
 // What was counted beside `counts`.
 extern struct app_counts {
-    unsigned long written, not_ready, reads, taken, compared, again, overruns, resets, ends, silences, opened, listens, dropped;
+    unsigned long written, not_ready, reads, taken, compared, again, overruns, resets, ends, silences, opened, listens, dropped, early;
 } app_counts;
 
 #endif

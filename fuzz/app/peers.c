@@ -14,7 +14,7 @@ struct client {
     state state;
     byte address[4];
     unsigned port, own_port, mss, window, piece, first, theirs, next, wait, retries, answers, seed;
-    int is_greedy, has_last, got_fin;
+    int is_greedy, has_last, got_fin, is_early;    // `is_early`: its port was not open when it began
     size_t total, sent, got, taken, written;
     byte messages[MOST_WRITTEN];
 };
@@ -69,6 +69,7 @@ static void open_client(client *c) {
     memcpy(c->address, (byte[]){10, 1, (byte)random_next(), (byte)random_next()}, 4);
     if (chance(50)) memcpy(c->address, node_address, 3);
     c->port = next_port++, c->own_port = some_port();
+    c->is_early = !is_open_port(devices, c->own_port);
     if (serves_pages() && chance(40)) share_peer(c);
     c->first = (unsigned)random_next(), c->seed = (unsigned)random_next();
     c->mss = chance(20) ? 0 : chance(10) ? between(1, 20) : between(40, 2000);
@@ -176,7 +177,7 @@ void peers_get(const byte *datagram, size_t len, int is_reply) {
     client *c = client_of(&s);
     if (!c) return;
     WANT(s.len <= (c->mss ? c->mss : 536) && s.len <= 1460, "a segment of %zu bytes went to a client that takes %u", s.len, c->mss);
-    if (s.flags & SYN && is_reply) c->answers++, c->theirs = s.seq;
+    if (s.flags & SYN && is_reply) c->answers++, c->theirs = s.seq, app_counts.early += c->is_early;
 }
 
 static void deliver_back(void) {
