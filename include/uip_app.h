@@ -48,6 +48,7 @@
  *         static const unsigned char mask[4] = {255, 255, 255, 0}, router[4] = {10, 0, 0, 254};
  *         size_t len, slot;
  *         if (uip_app_open(&device, own, mac, mask, router) != UIP_OK) return 1;
+ *         if (uip_app_listen(&device, 5025) != UIP_OK) return 1;    // the port of SCPI
  *         for (;;) {
  *             if ((len = mac_receive(frame, sizeof frame)) != 0) {
  *                 send(uip_app_input_frame(&device, frame, sizeof frame, len));
@@ -70,14 +71,18 @@
  * again has the same bytes. If a connection ends before its last message, the peer sees a reset or nothing more.
  *
  * PROVED of these calls, if the caller keeps the rules: what these two paragraphs state of the bytes, for fewer than
- * 2^32 calls and 2^30 bytes to a connection; and that each call writes exactly the frame that the definition of this
- * node and ARP sends (crates/uip_app_c).
+ * 2^32 calls and 2^30 bytes to a connection; that each call writes exactly the frame that the definition of this
+ * node and ARP sends; and that a segment to a port that is not open changes nothing (crates/uip_app_c).
+ *
+ * PORTS. uip_app_listen opens a port; after uip_app_open none is open. A TCP segment to a port that is not open is
+ * dropped, and no reset is sent: a client's connect() ends there by its time limit, and not with "connection refused".
+ * `port` of uip_received is the port of a connection: a program with two ports answers each by it.
  *
  * LIMITS. A peer that sends more than UIP_MAX_RECEIVED bytes before the program takes some is reset: the window stays
  * 1460. A peer that closes before it has its reply is reset too, so `echo get | nc -N` has no reply, while telnet and a
  * socket that stays open have one. One message for each round trip. A connection that neither receives nor sends for
- * 1,200 ticks (ten minutes) is reset. There are two ports, 5025 and 502 (Modbus/TCP), and `port` of uip_received names
- * the one of a connection. docs/LIMITS.md has what holds for every node.
+ * 1,200 ticks (ten minutes) is reset. At most UIP_MAX_PORTS ports are open, and none closes before the device.
+ * docs/LIMITS.md has what holds for every node.
  *
  * The language is C90 or later, or C++.
  */
@@ -97,8 +102,7 @@ enum { UIP_NOT_READY = 8 };
 enum {
     UIP_MAX_RECEIVED = 128,    /* the received bytes that a connection stores */
     UIP_MAX_MESSAGE = 260,     /* bytes of the longest message: the longest frame of Modbus/TCP */
-    UIP_APP_PORT = 5025,       /* the port of a console, as instruments have it for SCPI */
-    UIP_MODBUS_PORT = 502
+    UIP_MAX_PORTS = 4          /* the ports that can be open */
 };
 
 /* A device. `is_open` is 1 while it is open, else 0. */
@@ -106,22 +110,23 @@ typedef struct uip_app { unsigned is_open; void *at; } uip_app;
 #define UIP_APP_INIT {0, NULL}
 
 /*
- * The heap of one device, in bytes: three blocks, of 1500, 4720 and 576 bytes (ten connections have 4720), each rounded
+ * The heap of one device, in bytes: three blocks, of 1500, 4720 and 592 bytes (ten connections have 4720), each rounded
  * up to a multiple of 16. Measured on x86-64, m4, rv32 and wasm: the same blocks. See "The heap" of uip.h.
  */
-#define UIP_APP_MEMORY 6800
+#define UIP_APP_MEMORY 6816
 
 /*
  * The result of uip_app_read.
  *   ready    1 if uip_app_write can send a message on this connection now, else 0
- *   port     the port of the node at which the connection opened; 0 if it is not open
+ *   port     the port of the node at which the connection opened, one that uip_app_listen opened; 0 if the connection
+ *            is not open
  *   len      how many received bytes wait; the area has as many of them as it has room for
  */
 typedef struct uip_received { unsigned status, ready, port; size_t len; } uip_received;
 
 /*
  * Opens a device, at an address and a hardware address. Allocates all the memory of the device, in three blocks. If it
- * fails, it has freed them; otherwise uip_app_close frees them. No address is learned yet.
+ * fails, it has freed them; otherwise uip_app_close frees them. No address is learned yet, and no port is open.
  *
  *   device    a closed device (at first UIP_APP_INIT)
  *   own       the IPv4 address, first byte first: {10, 0, 0, 1}; it is copied and not checked
@@ -138,8 +143,20 @@ unsigned uip_app_open(uip_app *device, const unsigned char own[4], const unsigne
                       const unsigned char mask[4], const unsigned char router[4]);
 
 /*
+ * Opens a port: connections to it are accepted from now on. As uip_listen of uIP, but at most UIP_MAX_PORTS ports are
+ * open. A port stays open until uip_app_close. If it is open already, nothing changes. It may be called at any time,
+ * also while there are connections.
+ *
+ *   port    1 to 65535 but 80, which is the port of the pages in uip_both.h
+ *
+ * Status: UIP_OK, UIP_NO_DEVICE, UIP_BAD_ARGUMENT (no such port, or it is not open and UIP_MAX_PORTS others are).
+ */
+unsigned uip_app_listen(uip_app *device, unsigned port);
+
+/*
  * Receives one frame, and writes the frame that is sent, if there is one, to the same place. As uip_input_frame of
- * uip.h. Call serve (above) after it: the frame may have brought bytes, or an acknowledgement.
+ * uip.h. Call serve (above) after it: the frame may have brought bytes, or an acknowledgement. A frame with a TCP
+ * segment to a port that is not open is consumed, and nothing is sent or changed.
  *
  * Status: UIP_OK, UIP_NO_DEVICE, UIP_BAD_ARGUMENT.
  */

@@ -8,12 +8,12 @@
  * The library is libuip_both_c.a: `rt lib` in crates/uip_both_c. A program links it in the place of libuip_c.a. It has
  * the calls of uip.h for Ethernet and for any link: uip_open_ether, uip_input_frame, uip_periodic_frame, uip_set_value,
  * uip_hits, uip_query, uip_ticks, uip_counter, uip_is_idle, uip_connection, uip_close, and the inline uip_tick_frames.
- * It has none for a serial line and for datagrams, and none of uip_app.h. Added are the two calls below. From uip_app.h
- * this header takes uip_received, UIP_NOT_READY, the sizes and the ports.
+ * It has none for a serial line and for datagrams, and none of uip_app.h. Added are the three calls below. From
+ * uip_app.h this header takes uip_received, UIP_NOT_READY, the sizes and UIP_MAX_PORTS.
  *
  * RULES FOR THE CALLER: those of uip.h. Rule 5 holds for `bytes` of uip_read as for `out`. On a Cortex-M4
  * uip_open_ether needs 7,288 bytes of stack, and the other calls need at most 2,328 (rule 9; computed for our test
- * firmware). A sink may call uip_read. It may not call uip_write.
+ * firmware). A sink may call uip_read and uip_listen. It may not call uip_write.
  *
  * ERRORS, as in uip.h and uip_app.h.
  *
@@ -50,6 +50,7 @@
  *         static const unsigned char mask[4] = {255, 255, 255, 0}, router[4] = {10, 0, 0, 254};
  *         size_t len;
  *         if (uip_open_ether(&device, site_image, SITE_IMAGE_LEN, own, mac, mask, router).status != UIP_OK) return 1;
+ *         if (uip_listen(&device, 5025) != UIP_OK) return 1;
  *         for (;;) {
  *             if ((len = mac_receive(frame, sizeof frame)) != 0) {
  *                 send(uip_input_frame(&device, frame, sizeof frame, len));
@@ -63,12 +64,15 @@
  *     }
  *
  * The two applications share the ten connections and the packet buffer, and nothing else. "HOW A CONNECTION IS
- * ANSWERED" and "LIMITS" of uip_app.h hold for the connections at its ports, and uip.h for those at port 80. uip_read
- * and uip_write treat a connection at port 80 as one that is not open.
+ * ANSWERED", "PORTS" and "LIMITS" of uip_app.h hold for the connections at the ports that uip_listen opened, and uip.h
+ * for those at port 80, which is open from the start. uip_read and uip_write treat a connection at port 80 as one that
+ * is not open. A TCP segment to a port that is neither 80 nor open is dropped: no reset is sent, and no counter counts
+ * the segment.
  *
  * PROVED of these calls, if the caller keeps the rules: each call writes exactly the frame that the definition of this
  * node and ARP sends. A peer at port 80 receives the page of its request. A peer at the other ports receives the
- * messages that were written to its connection, for fewer than 2^32 calls and 2^30 bytes (crates/uip_both_c).
+ * messages that were written to its connection, for fewer than 2^32 calls and 2^30 bytes. A segment to a port that is
+ * neither 80 nor open changes nothing (crates/uip_both_c).
  *
  * The language is C90 or later, or C++.
  */
@@ -88,6 +92,16 @@ extern "C" {
  * x86-64, and the same blocks on every target of ports. See "The heap" of uip.h. UIP_BOTH_MEMORY(6) is 7,808.
  */
 #define UIP_BOTH_MEMORY(files) (UIP_MEMORY_ETHER(files) + 3504)
+
+/*
+ * Opens a port for the program's own application: connections to it are accepted from now on. As uip_app_listen of
+ * uip_app.h. A port stays open until uip_close. If it is open already, nothing changes.
+ *
+ *   port    1 to 65535 but 80, which is the port of the pages
+ *
+ * Status: UIP_OK, UIP_NO_DEVICE, UIP_BAD_ARGUMENT (no such port, or it is not open and UIP_MAX_PORTS others are).
+ */
+unsigned uip_listen(uip_device *device, unsigned port);
 
 /*
  * Reads the connection in a slot, and copies the received bytes that no message has answered to `bytes`, as many as

@@ -22,8 +22,14 @@ _Static_assert(sizeof(void *) == sizeof(size_t), "the numbers of uip.h");
         device->at = (void *)(uintptr_t)from->at; \
     }
 
-// The two calls for an application of the program's own, by their names.
-#define READ_AND_WRITE(type, read_name, write_name) \
+// The three calls for an application of the program's own, by their names.
+#define OWN_CALLS(type, listen_name, read_name, write_name) \
+    unsigned listen_name(type *device, unsigned port) { \
+        module_device d = of_device(device); \
+        unsigned status = (unsigned)port_##listen_name(&d, port); \
+        put_device(device, &d); \
+        return status; \
+    } \
     uip_received read_name(type *device, size_t slot, void *bytes, size_t room) { \
         module_device d = of_device(device); \
         module_received read; \

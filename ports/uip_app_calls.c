@@ -28,7 +28,7 @@ uip_result uip_app_periodic_frame(uip_app *device, size_t slot, unsigned char *f
     return of_result(&result);
 }
 
-READ_AND_WRITE(uip_app, uip_app_read, uip_app_write)
+OWN_CALLS(uip_app, uip_app_listen, uip_app_read, uip_app_write)
 
 unsigned uip_app_close(uip_app *device) {
     module_device d = of_device(device);

@@ -18,7 +18,7 @@ HANDLE(uip_device)
 static uip_number of_number(uint64_t both) { return (uip_number){(uint32_t)both, (uint32_t)(both >> 32)}; }
 
 #ifdef UIP_BOTH
-READ_AND_WRITE(uip_device, uip_read, uip_write)
+OWN_CALLS(uip_device, uip_listen, uip_read, uip_write)
 #else
 uip_opened uip_open(uip_device *device, const unsigned char *image, size_t len, const unsigned char own[4]) {
     module_device d = of_device(device);

@@ -16,7 +16,7 @@ static size_t whole_line(unsigned char *bytes, size_t len) {
 size_t answer(const uip_received *it, unsigned char *bytes, unsigned char *reply, size_t *len, unsigned *last) {
     size_t taken = 0;
     if (it->status != UIP_OK || !it->ready || !it->len) return 0;
-    if (it->port == UIP_MODBUS_PORT) *len = answer_frame(bytes, it->len, reply, &taken, last);
+    if (it->port == MODBUS_PORT) *len = answer_frame(bytes, it->len, reply, &taken, last);
     else if ((taken = whole_line(bytes, it->len)) != 0) *len = answer_line((char *)bytes, (char *)reply, last);
     return taken;
 }

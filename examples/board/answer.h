@@ -4,6 +4,8 @@
 
 #include "uip_app.h"
 
+enum { CONSOLE_PORT = 5025, MODBUS_PORT = 502 };
+
 // Answers the first line or Modbus frame of the bytes that a connection received, if it is whole and a message can be sent: writes the
 // reply, at most UIP_MAX_MESSAGE bytes, and its length, and sets `last` if the connection closes after it. Returns how many bytes this
 // answers, else 0. The bytes are changed.

@@ -37,6 +37,8 @@ int main(void) {
     static const unsigned char own[4] = {10, 0, 0, 1}, mac[6] = {2, 0, 0, 0, 0, 1};
     static const unsigned char mask[4] = {255, 255, 255, 0}, router[4] = {10, 0, 0, 2};
     unsigned status = uip_app_open(&device, own, mac, mask, router);
+    if (status == UIP_OK) status = uip_app_listen(&device, CONSOLE_PORT);
+    if (status == UIP_OK) status = uip_app_listen(&device, MODBUS_PORT);
     board_start();
     mac_start(mac);
     for (unsigned ticks = 0; status == UIP_OK; board_sleep(ticks)) {

@@ -41,6 +41,8 @@ int main(void) {
     static const unsigned char mask[4] = {255, 255, 255, 0}, router[4] = {10, 0, 0, 2};
     uip_opened opened = uip_open_ether(&device, site_image, (size_t)(site_image_end - site_image), own, mac, mask, router);
     unsigned status = opened.status;
+    if (status == UIP_OK) status = uip_listen(&device, CONSOLE_PORT);
+    if (status == UIP_OK) status = uip_listen(&device, MODBUS_PORT);
     board_start();
     mac_start(mac);
     for (unsigned ticks = 0; status == UIP_OK; board_sleep(ticks)) {

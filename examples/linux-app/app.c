@@ -21,6 +21,8 @@
 size_t answer_line(char *line, char *reply, unsigned *last);                  // console.c
 size_t answer_frame(const unsigned char *bytes, size_t len, unsigned char *reply, size_t *taken, unsigned *last);    // modbus.c
 
+enum { CONSOLE_PORT = 5025, MODBUS_PORT = 502 };
+
 extern size_t heap_blocks;    // of the heap: how many blocks are not freed
 
 typedef struct { unsigned char bytes[UIP_MAX_FRAME]; size_t len; } held_frame;
@@ -113,7 +115,7 @@ static int answer(size_t slot) {
     uip_received it = uip_app_read(&device, slot, bytes, sizeof bytes);
     if (it.status != UIP_OK) fail("uip_app_read");
     if (!it.ready || !it.len) return 0;
-    if (it.port == UIP_MODBUS_PORT) {
+    if (it.port == MODBUS_PORT) {
         len = answer_frame(bytes, it.len, reply, &taken, &last);
         if (!taken) return 0;
         frames++;
@@ -158,6 +160,7 @@ int main(int argc, char **argv) {
     if (argc != 3 && argc != 5) fail("uip_app INTERFACE SECONDS [PERCENT SEED]");
     if (argc == 5) percent = (unsigned)atoi(argv[3]), generator = (unsigned)atoi(argv[4]);
     if (uip_app_open(&device, own, mac, mask, router) != UIP_OK) fail("uip_app_open");
+    if (uip_app_listen(&device, CONSOLE_PORT) != UIP_OK || uip_app_listen(&device, MODBUS_PORT) != UIP_OK) fail("uip_app_listen");
     size_t blocks = heap_blocks;
     signal(SIGTERM, stop);
     tap = open_tap(argv[1]);

@@ -1,13 +1,14 @@
 #!/usr/bin/env python3
 """Speaks with the console of app.c: lines.py CLIENTS LINES. Each client sends its lines, and compares each reply with the one that must come.
 Half of the clients send one line at a time, and the other half up to three lines together. It prints how many were right. A reply that does
-not come within PATIENCE seconds (120) is a fault."""
+not come within PATIENCE seconds (120) is a fault. A connection to port 5026, which app.c does not open, must have no reply for three seconds:
+neither a SYN-ACK nor a reset."""
 import os
 import socket
 import sys
 import threading
 
-HOST, PORT = "10.0.0.1", 5025
+HOST, PORT, CLOSED_PORT = "10.0.0.1", 5025, 5026
 PATIENCE = float(os.environ.get("PATIENCE", "120"))
 clients, count = int(sys.argv[1]), int(sys.argv[2])
 wrong, right = [], [0] * clients
@@ -52,10 +53,20 @@ def guarded(client):
         wrong.append((client, right[client], repr(fault)))
 
 
-threads = [threading.Thread(target=guarded, args=(client,)) for client in range(clients)]
+def try_closed_port():
+    try:
+        socket.create_connection((HOST, CLOSED_PORT), 3).close()
+        wrong.append("a port that is not open accepted a connection")
+    except ConnectionRefusedError:
+        wrong.append("a port that is not open sent a reset")
+    except OSError:
+        pass
+
+
+threads = [threading.Thread(target=guarded, args=(client,)) for client in range(clients)] + [threading.Thread(target=try_closed_port)]
 for thread in threads:
     thread.start()
 for thread in threads:
     thread.join()
-print(f"console: {sum(right)} of {clients * count} lines right, {len(wrong)} clients with a fault", *wrong[:5], sep="\n")
+print(f"console: {sum(right)} of {clients * count} lines right, {len(wrong)} connections with a fault", *wrong[:5], sep="\n")
 sys.exit(len(wrong) != 0 or sum(right) != clients * count)

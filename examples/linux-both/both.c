@@ -12,6 +12,8 @@
 size_t answer_line(char *line, char *reply, unsigned *last);                  // ../linux-app/console.c
 size_t answer_frame(const unsigned char *bytes, size_t len, unsigned char *reply, size_t *taken, unsigned *last);    // ../linux-app/modbus.c
 
+enum { CONSOLE_PORT = 5025, MODBUS_PORT = 502 };
+
 extern size_t heap_blocks;    // of the heap: how many blocks are not freed
 
 static unsigned char image[1 << 20], frame[UIP_MAX_FRAME];
@@ -44,7 +46,7 @@ static int answer(size_t slot) {
     uip_received it = uip_read(&device, slot, bytes, sizeof bytes);
     expect_ok(it.status);
     if (!it.ready || !it.len) return 0;
-    if (it.port == UIP_MODBUS_PORT) {
+    if (it.port == MODBUS_PORT) {
         len = answer_frame(bytes, it.len, reply, &taken, &last);
         if (!taken) return 0;
         frames++;
@@ -68,7 +70,7 @@ static void serve(void) {
 
 // ---- the device
 
-// Opens the device with the image of this file, and sets the values that its pages show first.
+// Opens the device with the image of this file, opens its ports, and sets the values that its pages show first.
 static void open_device(const char *name) {
     static const unsigned char own[4] = {10, 0, 0, 1}, mac[6] = {2, 0, 0, 0, 0, 1}, mask[4] = {255, 255, 255, 0}, router[4] = {10, 0, 0, 2};
     FILE *file = fopen(name, "rb");
@@ -83,6 +85,8 @@ static void open_device(const char *name) {
         fprintf(stderr, "uip_open_ether returned status %u %s %u\n", opened.status, opened.word, opened.entry);
         exit(1);
     }
+    expect_ok(uip_listen(&device, CONSOLE_PORT));
+    expect_ok(uip_listen(&device, MODBUS_PORT));
     expect_ok(uip_set_value(&device, 0, "both", 4));
     expect_ok(uip_set_value(&device, 1, "0", 1));
     expect_ok(uip_set_value(&device, 2, "0", 1));

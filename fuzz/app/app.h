@@ -31,16 +31,18 @@ typedef struct {
     size_t received_len, text_len, acked;
     int is_overrun, has_last;
 } connection;
-// `datagram` is what the last call sent, in a frame or lost to an ARP request, and `arrived` the datagram that it received, or 0.
+// `ports` are those that listening opened, in their order. `datagram` is what the last call sent, in a frame or lost to an ARP request, and
+// `arrived` the datagram that it received, or 0.
 typedef struct {
     host host;
     connection slots[UIP_SLOTS];
-    unsigned calls, ident, again, no_slot;
+    unsigned ports[UIP_MAX_PORTS], open_ports, calls, ident, again, no_slot;
     byte datagram[LARGEST];
     size_t datagram_len, arrived_len;
     const byte *arrived;
 } node;
-// Each writes the frame that is sent and returns its length, or 0.
+// Those with `sent` write the frame that is sent and return its length, or 0.
+int node_listens(node *n, unsigned port);    // 1 if the port is open then
 size_t node_receives(node *n, const byte *frame, size_t len, byte *sent);
 size_t node_ticks(node *n, unsigned slot, byte *sent);
 int node_can_write(const node *n, unsigned slot, size_t taken);
@@ -54,6 +56,7 @@ typedef struct { byte bytes[UIP_MAX_FRAME]; size_t len; } sent_frame;    // what
 void calls_begin(void);
 void call_open(device *d, const byte *own, const byte *mac, const byte *mask, const byte *router);
 void call_close(device *d);
+int call_listen(device *d, unsigned port);    // 1 if the port was opened, or was open
 void call_frame(device *d, const byte *frame, size_t len, size_t room, sent_frame *sent);
 void call_tick(device *d, size_t slot, size_t room, sent_frame *sent);
 uip_received call_read(device *d, size_t slot, size_t room, byte *bytes);
@@ -62,6 +65,9 @@ void wrong_call(device *d);
 
 // program.c: the program, which answers the connections of a device, and the devices that it has.
 extern device devices[2];    // only the first has clients
+unsigned some_port(void);    // of the ports of this session, mostly one that is open at the first device
+int is_open_port(const device *d, unsigned port);    // by the calls that the program made
+void listen_somewhere(device *d);                    // opens a port, or one that is open, or one more than can be open
 void program_begin(void);
 void program_end(void);
 void receive_datagram(const byte *datagram, size_t len);    // in a frame, to the first device
@@ -102,7 +108,7 @@ void pages_show(void);
 
 // What was counted beside `counts`.
 extern struct app_counts {
-    unsigned long written, not_ready, reads, taken, compared, again, overruns, resets, ends, silences, opened;
+    unsigned long written, not_ready, reads, taken, compared, again, overruns, resets, ends, silences, opened, listens, dropped, early;
 } app_counts;
 
 #endif

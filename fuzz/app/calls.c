@@ -110,6 +110,16 @@ void call_close(device *d) {
     end(d, status, wanted, NAMED(close));
 }
 
+// A port that is out of range is looked for before the device, and whether there is room for one more after it.
+int call_listen(device *d, unsigned port) {
+    begin(d, 0, &guard, 0);
+    unsigned status = CALL(listen)(&d->on.handle, port);
+    unsigned wanted = foretold(d, port == 0 || port == WEB_PORT || port > 65535);
+    if (wanted == UIP_OK && !node_listens(&d->node, port)) wanted = UIP_BAD_ARGUMENT;
+    app_counts.listens += wanted == UIP_OK;
+    return end(d, status, wanted, NAMED(listen));
+}
+
 void call_frame(device *d, const byte *frame, size_t len, size_t room, sent_frame *sent) {
     begin(d, room, frame, len);
     uip_result done = CALL(input_frame)(&d->on.handle, out, room, len);
@@ -155,6 +165,13 @@ int call_write(device *d, size_t slot, size_t taken, const byte *text, size_t le
     return wanted == UIP_OK;
 }
 
+// A port that cannot be opened: 0, that of the pages, or one above 65535, at times one that is in range modulo 65536.
+static unsigned bad_port(void) {
+    if (chance(30)) return 0;
+    if (chance(30)) return WEB_PORT;
+    return chance(60) ? 65536 + (chance(50) ? some_port() : below(3)) : 65536 + (unsigned)random_next() % 0xffff0000u;
+}
+
 // A call with an argument that is out of its range, or on a handle without a device.
 void wrong_call(device *d) {
     static byte bytes[1 << 15];
@@ -165,7 +182,7 @@ void wrong_call(device *d) {
     size_t too_long = chance(70) ? UIP_MAX_MESSAGE + 1 : between(UIP_MAX_MESSAGE + 1, sizeof bytes);
     random_bytes(bytes, 300);
     if (serves_pages() && chance(30)) { pages_refuse(d); return; }
-    switch (below(9)) {
+    switch (below(11)) {
     case 0: call_frame(d, bytes, below((unsigned)small + 1), small, &sent); break;
     case 1: call_frame(d, bytes, room + 1 + below(5000), room, &sent); break;
     case 2: call_tick(d, no_slot, room, &sent); break;
@@ -174,8 +191,10 @@ void wrong_call(device *d) {
     case 5: call_write(d, no_slot, below(200), bytes, below(UIP_MAX_MESSAGE + 1), below(2), room, &sent); break;
     case 6: call_write(d, slot, 0, bytes, too_long, below(2), room, &sent); break;
     case 7: call_write(d, slot, 0, bytes, below(UIP_MAX_MESSAGE + 1), below(2), small, &sent); break;
+    case 8: call_listen(d, bad_port()); break;
     default:
         if (d->on.is_open) { call_open(d, bytes, bytes, bytes, bytes); break; }
+        call_listen(d, chance(50) ? some_port() : bad_port());
         call_frame(d, bytes, below(300), room, &sent);
         call_tick(d, below(UIP_SLOTS), room, &sent);
         call_read(d, below(UIP_SLOTS), below(300), bytes);

@@ -47,6 +47,8 @@ static void show(unsigned long seed) {
     printf("%lu sessions, %lu opens (%lu without memory), %lu datagrams sent, %lu of them echo replies; %lu in frames, %lu of these by the "
            "router; %lu ARP packets\n", counts.sessions, counts.opens, counts.refusals, counts.datagrams, counts.pings, counts.framed,
            counts.routed, counts.taught);
+    printf("%lu times a port was opened, or was open; %lu segments to ports that were not open, %lu clients answered at a port that opened "
+           "later\n", app_counts.listens, app_counts.dropped, app_counts.early);
     printf("%lu connections opened, %lu reads, %lu messages written, %lu bytes taken from clients, %lu bytes compared at clients\n",
            app_counts.opened, app_counts.reads, app_counts.written, app_counts.taken, app_counts.compared);
     printf("%lu segments sent again by ticks, %lu connections with too many bytes, %lu resets, %lu plain closes, %lu silences\n",

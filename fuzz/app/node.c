@@ -43,7 +43,18 @@ static size_t refuse(node *n, const segment *in, byte *to) {
 
 static int is_page(const connection *c) { return serves_pages() && c->own_port == WEB_PORT; }
 
-static int is_served(unsigned port) { return port == UIP_APP_PORT || port == UIP_MODBUS_PORT || (serves_pages() && port == WEB_PORT); }
+// Port 80 is that of the pages alone, and no call opens it.
+static int is_open(const node *n, unsigned port) {
+    for (unsigned k = 0; k < n->open_ports; k++) if (n->ports[k] == port) return 1;
+    return serves_pages() && port == WEB_PORT;
+}
+
+int node_listens(node *n, unsigned port) {
+    if (is_open(n, port)) return 1;
+    if (n->open_ports == UIP_MAX_PORTS) return 0;
+    n->ports[n->open_ports++] = port;
+    return 1;
+}
 
 static unsigned most_polls(const connection *c) { return is_page(c) ? MOST_WEB_POLLS : MOST_POLLS; }
 
@@ -178,7 +189,7 @@ static size_t on_segment(node *n, const heard *h, byte *to) {
         if (what >= ASKS) what = asked(c, what == ASKS_FRESH);
         return send_step(n, c, what, to);
     }
-    if ((s->flags & 63) == SYN && is_served(s->to)) return opens(n, s, to);
+    if ((s->flags & 63) == SYN) return opens(n, s, to);
     return s->flags & RST ? 0 : refuse(n, s, to);
 }
 
@@ -238,6 +249,11 @@ static size_t sends(node *n, size_t len, byte *sent) {
     return frame_for(&n->host, sent, n->datagram, len);
 }
 
+// A segment to a port that is not open, by the bytes of its frame: it is dropped before any check, and nothing counts it.
+static int is_for_closed_port(const node *n, const byte *frame, size_t len) {
+    return len >= 38 && frame[14] == 0x45 && frame[23] == 6 && !is_open(n, get2(frame + 36));
+}
+
 size_t node_receives(node *n, const byte *frame, size_t len, byte *sent) {
     n->datagram_len = 0, n->arrived = 0;
     if (len <= ETHER_HEAD || len > LONGEST_FRAME) return 0;
@@ -245,6 +261,7 @@ size_t node_receives(node *n, const byte *frame, size_t len, byte *sent) {
     unsigned type = get2(frame + 12);
     if (type == 0x806) return on_arp(n, frame + ETHER_HEAD, len - ETHER_HEAD, sent);
     if (type != 0x800) return 0;
+    if (is_for_closed_port(n, frame, len)) { app_counts.dropped++; return 0; }
     n->arrived = frame + ETHER_HEAD, n->arrived_len = len - ETHER_HEAD;
     pages_count(n);
     return sends(n, on_datagram(n, n->arrived, n->arrived_len, n->datagram), sent);

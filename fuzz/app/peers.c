@@ -1,7 +1,7 @@
 // Clients and strangers at the other end of a link that loses, repeats, reorders and damages. A client is a small TCP: it opens a
-// connection at one of the two ports, sends bytes, and compares what it receives with what the program wrote: it is always a prefix of the
-// messages, and after a plain close all of them. The bytes that the program reads are a prefix of those that the client sent. Strangers
-// send what they like.
+// connection at one of the ports of the session, mostly one that is open, sends bytes, and compares what it receives with what the program
+// wrote: it is always a prefix of the messages, and after a plain close all of them. The bytes that the program reads are a prefix of those
+// that the client sent. Strangers send what they like.
 #include <stdio.h>
 #include <string.h>
 #include "app.h"
@@ -14,7 +14,7 @@ struct client {
     state state;
     byte address[4];
     unsigned port, own_port, mss, window, piece, first, theirs, next, wait, retries, answers, seed;
-    int is_greedy, has_last, got_fin;
+    int is_greedy, has_last, got_fin, is_early;    // `is_early`: its port was not open when it began
     size_t total, sent, got, taken, written;
     byte messages[MOST_WRITTEN];
 };
@@ -25,8 +25,6 @@ static stranger strangers[STRANGERS];
 static queue to_node, from_node;
 static byte node_address[4];
 static unsigned next_port;
-
-static unsigned some_port(void) { return chance(60) ? UIP_APP_PORT : UIP_MODBUS_PORT; }
 
 // A byte that a client sends: one in sixteen is a line feed.
 static byte byte_of(const client *c, size_t at) {
@@ -71,6 +69,7 @@ static void open_client(client *c) {
     memcpy(c->address, (byte[]){10, 1, (byte)random_next(), (byte)random_next()}, 4);
     if (chance(50)) memcpy(c->address, node_address, 3);
     c->port = next_port++, c->own_port = some_port();
+    c->is_early = !is_open_port(devices, c->own_port);
     if (serves_pages() && chance(40)) share_peer(c);
     c->first = (unsigned)random_next(), c->seed = (unsigned)random_next();
     c->mss = chance(20) ? 0 : chance(10) ? between(1, 20) : between(40, 2000);
@@ -178,7 +177,7 @@ void peers_get(const byte *datagram, size_t len, int is_reply) {
     client *c = client_of(&s);
     if (!c) return;
     WANT(s.len <= (c->mss ? c->mss : 536) && s.len <= 1460, "a segment of %zu bytes went to a client that takes %u", s.len, c->mss);
-    if (s.flags & SYN && is_reply) c->answers++, c->theirs = s.seq;
+    if (s.flags & SYN && is_reply) c->answers++, c->theirs = s.seq, app_counts.early += c->is_early;
 }
 
 static void deliver_back(void) {
@@ -259,7 +258,7 @@ void peers_act(void) {
 void peers_tick(void) {
     for (client *c = clients; c < clients + CLIENTS; c++) {
         if (c->state == IDLE || c->state == ENDED || (c->wait && --c->wait)) continue;
-        if (++c->retries > 60) c->state = ENDED;
+        if (++c->retries > (is_open_port(devices, c->own_port) ? 60 : 12)) c->state = ENDED;
         else say_due(c, c->state == OPEN && chance(20));
     }
 }

@@ -1,21 +1,61 @@
-// The program, which answers the connections of a device: by lines, by any number of bytes, late, or without being asked. A second device
-// is open at the same time, and gets some of the same frames: the two share nothing. Between its calls come wrong ones.
+// The program, which opens ports of a device and answers its connections: by lines, by any number of bytes, late, or without being asked. A
+// second device is open at the same time, and gets some of the same frames: the two share nothing. Between its calls come wrong ones.
 #include <string.h>
 #include "app.h"
 
-enum { AREA = 2048, RECENT = 16 };
+enum { AREA = 2048, RECENT = 16, PORTS = 7 };
 typedef enum { BY_LINES, BY_BYTES, LATE } manner;
 
 device devices[2];
 static byte recent[RECENT][4];    // addresses that sent a datagram
 static manner how;
+// The ports that this session tries to open: more than can be. Those that the program opened, a bit for each, by device.
+static unsigned ports[PORTS], listened[2];
 
 static size_t some_room(void) { return chance(90) ? UIP_MAX_FRAME : between(UIP_MAX_FRAME, 4000); }
+
+// ---- ports
+
+static void choose_ports(void) {
+    for (unsigned k = 0; k < PORTS; k++) {
+        unsigned port = chance(50) ? between(1, 65535) : (unsigned[]){5025, 502, 1, 79, 81, 65535, 0x5000}[k];
+        if (k && chance(30)) port = ports[k - 1] ^ (chance(50) ? 1 : 0x100);    // it differs from another one in one byte
+        ports[k] = port == 0 || port == WEB_PORT ? 23 : port;
+    }
+    listened[0] = listened[1] = 0;
+}
+
+int is_open_port(const device *d, unsigned port) {
+    for (unsigned k = 0; k < PORTS; k++) if (ports[k] == port && listened[d - devices] >> k & 1) return 1;
+    return 0;
+}
+
+unsigned some_port(void) {
+    unsigned first = below(PORTS);
+    for (unsigned k = 0; k < PORTS && chance(96); k++)
+        if (listened[0] >> (first + k) % PORTS & 1) return ports[(first + k) % PORTS];
+    return ports[first];
+}
+
+void listen_somewhere(device *d) {
+    unsigned k = below(PORTS);
+    if (call_listen(d, ports[k])) listened[d - devices] |= 1u << k;
+}
+
+// Nothing comes from a port that the program did not open, but from port 80 if there are pages.
+static void is_from_open_port(const device *d, const byte *datagram) {
+    unsigned port = (unsigned)datagram[20] << 8 | datagram[21];
+    if (datagram[9] != 6 || (serves_pages() && port == WEB_PORT)) return;
+    WANT(is_open_port(d, port), "a segment was sent from port %u, which the program did not open", port);
+}
+
+// ----
 
 // A datagram that the first device sent goes to its peers.
 void pass_on(device *d, const sent_frame *sent, int is_reply) {
     const byte *datagram = sent->bytes + ETHER_HEAD;
     int is_datagram = sent->len && sent->bytes[13] == 0;
+    if (is_datagram) is_from_open_port(d, datagram);
     if (d != devices) return;
     int is_page = pages_see(sent->len && !is_datagram);
     if (is_datagram && is_page) strangers_get(datagram, sent->len - ETHER_HEAD);
@@ -100,6 +140,7 @@ static void serve(device *d) {
         if (chance(c->state && c->own_port != WEB_PORT ? 40 : 2)) answer(d, slot);
     }
     if (chance(2)) wrong_call(d);
+    if (chance(2)) listen_somewhere(d);
 }
 
 // ---- what comes
@@ -179,8 +220,10 @@ void program_begin(void) {
     random_bytes(recent[0], sizeof recent);
     WANT(heap_blocks == 0, "%zu blocks are taken without a device", heap_blocks);
     pages_choose();
+    choose_ports();
     open_device(devices, own, mac);
     open_device(devices + 1, own, mac);
+    for (unsigned k = chance(15) ? 0 : between(2, 8); k; k--) listen_somewhere(devices + chance(40));
     peers_begin(own);
     pages_begin(own);
 }

@@ -219,6 +219,7 @@ static void take_frame(void *to, const byte *frame, size_t len) {
     if (chance(20)) call_read(devices, below(UIP_SLOTS), sizeof bytes, bytes);
     if (chance(5)) set_value();
     if (chance(5)) read_some();
+    if (chance(2)) listen_somewhere(devices);
 }
 
 int pages_whole_tick(void) {

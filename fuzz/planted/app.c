@@ -14,10 +14,15 @@ uip_result REAL(input_frame)(node_handle *d, byte *frame, size_t room, size_t le
 uip_result REAL(periodic_frame)(node_handle *d, size_t slot, byte *frame, size_t room);
 uip_received REAL(read)(node_handle *d, size_t slot, void *bytes, size_t room);
 uip_result REAL(write)(node_handle *d, size_t slot, size_t taken, const void *text, size_t len, unsigned last, byte *frame, size_t room);
+unsigned REAL(listen)(node_handle *d, unsigned port);
 unsigned REAL(close)(node_handle *d);
 
 static unsigned calls;
 static byte own_mac[6], room_of_own[UIP_MAX_FRAME];
+
+// The ports that were opened at each handle.
+static struct { node_handle *d; unsigned port; } opened_ports[64];
+static unsigned opened_count;
 
 static int is_due(unsigned rate) { return ++calls % rate == 0; }
 
@@ -26,12 +31,34 @@ static const byte *router_for(const byte *router) { static const byte none[4]; r
 
 static const byte *mask_for(const byte *mask) { static const byte all[4] = {255, 255, 255, 255}; return PLANT == 2 ? all : mask; }
 
+static int is_listed(const node_handle *d, unsigned port) {
+    for (unsigned k = 0; k < opened_count; k++) if (opened_ports[k].d == d && opened_ports[k].port == port) return 1;
+    return 0;
+}
+
+static unsigned newest(const node_handle *d) {
+    unsigned port = 0;
+    for (unsigned k = 0; k < opened_count; k++) if (opened_ports[k].d == d) port = opened_ports[k].port;
+    return port;
+}
+
+// Fault 50: a port that was open before a device was closed is open again. Otherwise it has none.
+static void listened_before(node_handle *d) {
+    for (unsigned k = opened_count; k--; ) {
+        if (opened_ports[k].d != d) continue;
+        if (PLANT == 50) REAL(listen)(d, opened_ports[k].port);
+        opened_ports[k] = opened_ports[--opened_count];
+    }
+}
+
 static void opened_with(node_handle *d, unsigned status, const byte *mac) {
     if (status == UIP_OK) memcpy(own_mac, mac, 6);
     if (PLANT == 3 && status == UIP_OK) rattle_alloc(1, 1);                     // a block more
     if (PLANT == 4 && status == UIP_NO_MEMORY) rattle_alloc(1, 1);              // a block is left without a device
     if (PLANT == 5 && status == UIP_HAS_DEVICE) REAL(periodic_frame)(d, 0, room_of_own, UIP_MAX_FRAME);    // not unchanged
     if (PLANT == 6 && status == UIP_NO_MEMORY) d->at = 0, d->is_open = 3;       // a refused call writes to the handle
+    if (PLANT == 49 && status == UIP_OK) REAL(listen)(d, 5025);                 // a port is open from the start
+    if (status == UIP_OK) listened_before(d);
 }
 
 #ifdef BOTH
@@ -60,6 +87,38 @@ unsigned JOIN(wrap, CALL(close))(node_handle *d) {
     return status;
 }
 
+static int has_port_before(unsigned port) { return port > 1 && port - 1 != WEB_PORT; }
+
+unsigned JOIN(wrap, CALL(listen))(node_handle *d, unsigned port) {
+    int is_good = d->is_open == 1 && port && port <= 65535 && port != WEB_PORT;
+    unsigned given = port;
+    if (PLANT == 51 && is_good && is_due(2)) return UIP_OK;                     // a port is forgotten
+    if (PLANT == 52 && is_good && port > 255) port ^= 0x100;                    // another port is opened
+    if (PLANT == 53 && is_good) port = port >> 8 | (port & 255) << 8;           // its bytes change places
+    if (PLANT == 54 && port > 65535) port &= 65535;                             // a port is taken modulo 65536
+    if (PLANT == 55 && d->is_open == 1 && port == WEB_PORT) return UIP_OK;      // port 80 can be opened
+    if (PLANT == 56 && d->is_open == 1 && port == 0) return UIP_OK;             // and port 0
+    if (PLANT == 57 && is_listed(d, port)) return UIP_BAD_ARGUMENT;             // a port that is open is refused
+    for (unsigned k = 0; PLANT == 58 && k < opened_count; k++) REAL(listen)(opened_ports[k].d, port);    // it is open at all devices
+    unsigned status = REAL(listen)(d, port);
+    if (PLANT == 59 && is_good) status = UIP_OK;                                // a fifth port is accepted
+    if (PLANT == 60 && status == UIP_OK) REAL(periodic_frame)(d, 0, room_of_own, UIP_MAX_FRAME);    // it makes a tick
+    if (PLANT == 61 && status == UIP_BAD_ARGUMENT && !d->is_open) status = UIP_NO_DEVICE;    // the device is looked for first
+    if (PLANT == 62 && status == UIP_OK) rattle_dealloc(rattle_alloc(1, 1).block);    // it allocates
+    if (PLANT == 63 && status == UIP_OK && has_port_before(port)) REAL(listen)(d, port - 1);    // and the port before it, also in node.c
+    if (status == UIP_OK && !is_listed(d, given)) opened_ports[opened_count].d = d, opened_ports[opened_count++].port = given;
+    return status;
+}
+
+// Fault 63 is in the library and in node.c alike, so that only the list of the program has another port.
+int __real_node_listens(node *n, unsigned port);
+
+int __wrap_node_listens(node *n, unsigned port) {
+    int is_open = __real_node_listens(n, port);
+    if (PLANT == 63 && is_open && has_port_before(port)) __real_node_listens(n, port - 1);
+    return is_open;
+}
+
 // Two words of the text of a frame change places, so that the checksum stays.
 static void swap_words(byte *frame, size_t len) {
     byte word[2];
@@ -67,8 +126,21 @@ static void swap_words(byte *frame, size_t len) {
     memcpy(word, frame + 58, 2), memcpy(frame + 58, frame + 62, 2), memcpy(frame + 62, word, 2);
 }
 
+// The port of a frame with a segment to the node; 0 if it is another one.
+static unsigned port_of(const byte *frame, size_t len) {
+    int is_segment = len >= 54 && !memcmp(frame, own_mac, 6) && frame[12] == 8 && frame[13] == 0 && frame[23] == 6;
+    return is_segment ? (unsigned)frame[36] << 8 | frame[37] : 0;
+}
+
+static int is_closed(const node_handle *d, unsigned port) { return port && port != WEB_PORT && !is_listed(d, port); }
+
 uip_result WRAP(input_frame)(node_handle *d, byte *frame, size_t room, size_t len) {
     int is_whole = d->is_open == 1 && room >= UIP_MAX_FRAME && len <= room && len >= 14;
+    unsigned port = is_whole ? port_of(frame, len) : 0;
+    if (PLANT == 64 && is_closed(d, port)) REAL(listen)(d, port);               // a segment to a port that is not open is answered
+    for (unsigned k = 0; PLANT == 65 && k < opened_count; k++)                  // so is one to a port whose low byte an open one has
+        if (opened_ports[k].d == d && (opened_ports[k].port & 255) == (port & 255)) REAL(listen)(d, port);
+    if (PLANT == 66 && is_listed(d, port) && port != newest(d)) memset(frame, 0, 6);    // a port closes when the next one opens
     if (PLANT == 10 && is_whole && memcmp(frame, own_mac, 6) && !(frame[0] & 1)) memcpy(frame, own_mac, 6);    // for another host
     if (PLANT == 11 && is_whole && len >= 42 && frame[13] == 6 && frame[21] == 2) memset(frame, 0, 6);    // a reply of ARP teaches nothing
     if (PLANT == 12 && is_whole && len > 60 && frame[13] == 0 && is_due(1000)) memset(frame, 0, 6);       // a frame is lost
@@ -85,6 +157,7 @@ uip_result WRAP(input_frame)(node_handle *d, byte *frame, size_t room, size_t le
     if (PLANT == 18 && done.status == UIP_OK && len < 14) done.written = 42;    // a reply to a runt
     if (PLANT == 19 && done.written > 54 && is_due(100)) swap_words(frame, done.written);    // another text
     if (PLANT == 20 && done.status == UIP_NO_DEVICE) done.status = UIP_BAD_ARGUMENT;
+    if (PLANT == 67 && done.status == UIP_OK && is_closed(d, port)) done.consumed = 0;    // a segment to a closed port is not consumed
     return done;
 }
 
@@ -104,7 +177,7 @@ uip_received WRAP(read)(node_handle *d, size_t slot, void *bytes, size_t room) {
     if (PLANT == 26 && it.ready && it.len == UIP_MAX_RECEIVED) it.ready = 0;    // never ready again
     if (PLANT == 27 && it.len == UIP_MAX_RECEIVED) it.len--;                    // the last byte is missing
     if (PLANT == 28 && it.len > room) memset(to, 0, room);                      // copies nothing if not all has room
-    if (PLANT == 29 && it.port == UIP_MODBUS_PORT) it.port = UIP_APP_PORT;
+    if (PLANT == 29 && it.port > 255) it.port ^= 0x100;
     if (PLANT == 30 && it.ready && it.len > 1 && is_due(500))                   // reading takes a byte
         REAL(write)(d, slot, 1, "", 0, 0, room_of_own, UIP_MAX_FRAME);
     if (PLANT == 31 && it.status == UIP_BAD_ARGUMENT && room) to[0]++;          // a refused call writes
@@ -115,10 +188,10 @@ uip_received WRAP(read)(node_handle *d, size_t slot, void *bytes, size_t room) {
 }
 
 // Faults 46 to 48 are in the library and in node.c alike, so that only the clients can find them: another byte of a message, one less, and
-// one that was received and stays.
+// one that was received and stays. So is fault 63 above.
 static const void *altered(const void *text, size_t *len, size_t *taken) {
     static byte copy[UIP_MAX_MESSAGE];
-    if (PLANT < 46 || *len < 10 || *len > UIP_MAX_MESSAGE || ((const byte *)text)[0] % 8) return text;
+    if (PLANT < 46 || PLANT > 48 || *len < 10 || *len > UIP_MAX_MESSAGE || ((const byte *)text)[0] % 8) return text;
     memcpy(copy, text, *len);
     if (PLANT == 46) copy[5] ^= 1;
     if (PLANT == 47) --*len;

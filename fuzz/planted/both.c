@@ -1,14 +1,14 @@
 // Faults between the harness and the library of include/uip_both.h, one for each number PLANT: the harness has to find each
-// (`sh fuzz/run.sh both-planted`). 1 to 48 are those of app.c, 49 to 66 those of reads.c, and the others are of pages and messages side
+// (`sh fuzz/run.sh both-planted`). 1 to 67 are those of app.c, 68 to 85 those of reads.c, and the others are of pages and messages side
 // by side.
 #define INNER(name) JOIN(inner, CALL(name))
 #define WRAP INNER
-#define BEFORE 48
+#define BEFORE 67
 #include "app.c"
 #include "reads.c"
 
 #undef FAULT
-#define FAULT (PLANT - 66)
+#define FAULT (PLANT - 85)
 
 static byte last_text[UIP_MAX_MESSAGE], last_mac[6];
 static size_t last_len, last_slot;

@@ -75,7 +75,7 @@ uip_opened __wrap_uip_open_ether(uip_device *d, const unsigned char *image, size
         return ended(&r, __real_##name arguments, in, out); \
     }
 #ifdef BOTH
-READ_AND_WRITE(uip_device, uip_read, uip_write)
+OWN_CALLS(uip_device, uip_listen, uip_read, uip_write)
 #else
 RESULTS(uip_feed, FEED, (uip_device *d, const unsigned char *bytes, size_t len, unsigned char *out, size_t room),
         (d, bytes, len, out, room), 0, bytes, len)

@@ -101,11 +101,18 @@ static void returned(record *r, unsigned status, uint64_t number, const void *in
     put(r, 0, 0, in, out);
 }
 
-// ---- the two calls for an application of the program's own, by their names
+// ---- the three calls for an application of the program's own, by their names
 
 // The result of reading is recorded as that of a call that writes: `ready`, `port` and `len` in the place of `pending`, `consumed` and
 // `written`. Two numbers precede the text of a message.
-#define READ_AND_WRITE(type, read, write) \
+#define OWN_CALLS(type, listen, read, write) \
+    unsigned __real_##listen(type *d, unsigned port); \
+    unsigned __wrap_##listen(type *d, unsigned port) { \
+        record r = begun(APP_LISTEN, d, port, 0, 0, 0); \
+        unsigned status = __real_##listen(d, port); \
+        returned(&r, status, 0, 0, 0, 0); \
+        return status; \
+    } \
     uip_received __real_##read(type *d, size_t slot, void *bytes, size_t room); \
     uip_received __wrap_##read(type *d, size_t slot, void *bytes, size_t room) { \
         record r = begun(APP_READ, d, slot, 0, bytes, room); \

@@ -30,7 +30,7 @@ uip_result __wrap_uip_app_periodic_frame(uip_app *d, size_t slot, unsigned char 
     return ended(&r, __real_uip_app_periodic_frame(d, slot, frame, room), 0, frame);
 }
 
-READ_AND_WRITE(uip_app, uip_app_read, uip_app_write)
+OWN_CALLS(uip_app, uip_app_listen, uip_app_read, uip_app_write)
 
 unsigned __real_uip_app_close(uip_app *d);
 unsigned __wrap_uip_app_close(uip_app *d) {

@@ -22,7 +22,7 @@ static uip_result call(const record *r, const unsigned char *input, const unsign
     size_t len = (size_t)r->in_len, room = (size_t)r->room, number = (size_t)r->number;
     switch (r->op) {
 #ifdef BOTH
-    READ_OR_WRITE(uip_read, uip_write)
+    OWN_CASES(uip_listen, uip_read, uip_write)
 #else
     case OPEN: opened = uip_open(d, input + 4, len - 4, input); *left = (unsigned char *)&opened; return of_status(opened.status);
     case FEED: return uip_feed(d, input, len, out, room);

@@ -109,7 +109,7 @@ static _Alignas(4) unsigned char out[MOST_ROOM + COMPARED], was[MOST_ROOM], mark
 
 static uip_result of_status(unsigned status) { return (uip_result){status, 0, 0, 0}; }
 
-// The two calls for an application of the program's own, by their names, as cases of `call`.
+// The three calls for an application of the program's own, by their names, as cases of `call`.
 static inline uip_result of_read(uip_received it) { return (uip_result){it.status, it.ready, it.port, it.len}; }
 
 static inline uint64_t number_at(const unsigned char *at) {
@@ -118,7 +118,8 @@ static inline uint64_t number_at(const unsigned char *at) {
     return number;
 }
 
-#define READ_OR_WRITE(read, write) \
+#define OWN_CASES(listen, read, write) \
+    case APP_LISTEN: return of_status(listen(d, (unsigned)number)); \
     case APP_READ: return of_read(read(d, number, out, room)); \
     case APP_WRITE: return write(d, number, (size_t)number_at(input), input + 16, len - 16, (unsigned)number_at(input + 8), out, room);
 

@@ -4,7 +4,7 @@
 # first two are compiled with BOTH.
 RECORDED_BOTH="open_ether input_frame periodic_frame ticks counter is_idle connection set_value hits query close"
 RECORDED="open feed periodic drain input periodic_datagram $RECORDED_BOTH"
-RECORDED_APP="open input_frame periodic_frame read write close"
+RECORDED_APP="open listen input_frame periodic_frame read write close"
 
 # The words for the linker that put the recorder between the fuzzer and these calls: wrapped PREFIX CALL ..
 wrapped() {
@@ -26,7 +26,7 @@ recorder() {
         wraps=$(wrapped uip_app $RECORDED_APP)
         set -- "$top"/fuzz/app/*.c "$ports/same/record_app.c";;
     uip_both_c)
-        wraps="$(wrapped uip $RECORDED_BOTH read write) -Wl,--wrap=make_site"
+        wraps="$(wrapped uip $RECORDED_BOTH listen read write) -Wl,--wrap=make_site"
         set -- -DBOTH "$top/fuzz/both/pages.c" "$ports/same/record.c"
         for part in calls main node peers program; do set -- "$@" "$top/fuzz/app/$part.c"; done
         for part in sites values requests clients reads; do set -- "$@" "$top/fuzz/$part.c"; done;;
