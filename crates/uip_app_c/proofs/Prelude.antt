@@ -15,7 +15,7 @@ pub use Rattle.std.specs.declared.option.Option.{Option}
 pub use Rattle.std.specs.declared.option.Option.TheVariants.{None, Some}
 pub use Rattle.uip_app_c.specs.AppCalls.{AnsweredCall, AppCall, Calls, CallsAreExact, CouldWrite, DidCall, DidCalls, IsExact, Listens, Writes, call_at, first_station, link_of, ports_after, ports_after_call, station_after_call, undropped}
 pub use Rattle.uip_app_c.specs.Handles.{OpensOwn, OwnAnswers, OwnWrites}
-pub use Rattle.uip_app_c.specs.Ports.{OwnListens, OwnTakes, ports_of}
+pub use Rattle.uip_app_c.specs.Ports.{OwnListens, OwnInputs, ports_of}
 pub use Rattle.uip_app_c.specs.Holding.{DeviceRow, holds}
 pub use Rattle.uip_app_c.specs.Kept.{HasOwn, Kept, OwnEther}
 pub use Rattle.uip_app_c.specs.declared.held.Held.{Held}

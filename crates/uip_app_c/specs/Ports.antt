@@ -31,14 +31,14 @@ has_no_room port (Some d) = not (can_listen port (ports_of d))
 
 -- A frame for a port that is not open is dropped: no bytes were written, and nothing changed. Any other frame was received, and the call
 -- wrote this frame, or no bytes.
-pub record TakesFrame (frame : List ℕ) (old new : OwnEther) (handed : List ℕ) : Type 0 where
+pub record InputsOrDrops (frame : List ℕ) (old new : OwnEther) (handed : List ℕ) : Type 0 where
   pub dropped : is_for_closed_port (ports_of old) frame ≡ true → (new ≡ old) × (handed ≡ [])
   pub answers : is_for_closed_port (ports_of old) frame ≡ false → AnswersFrame ghosts ether_link (InputsFrame frame) old new handed
 
--- There was a device and there still is one, which took this frame so.
-pub record OwnTakes (frame : List ℕ) (old new : Kept) (handed : List ℕ) : Type 0 where
+-- There was a device and there still is one, which received this frame or dropped it.
+pub record OwnInputs (frame : List ℕ) (old new : Kept) (handed : List ℕ) : Type 0 where
   pub before : OwnEther
   pub after : OwnEther
   pub was : old ≡ Some before
   pub is : new ≡ Some after
-  pub takes : TakesFrame frame before after handed
+  pub inputs : InputsOrDrops frame before after handed

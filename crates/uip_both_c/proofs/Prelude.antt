@@ -44,6 +44,6 @@ pub use Rattle.uip_both_c.specs.Kept.{BothApps}
 pub use Rattle.uip_both_c.specs.BothCalls.{AnsweredCall, BothAtStation, BothCall, Calls, CallsAreExact, CouldWrite, DidCall, DidCalls, Gives, IsExact, Listens, Writes, call_at, first_station, ports_after, ports_after_call, station_after_call, undropped}
 pub use Rattle.uip_both_c.specs.BothSpec.{site_of}
 pub use Rattle.uip_both_c.specs.Handles.{BothAnswers, BothGives, BothWrites, OpensBothAs}
-pub use Rattle.uip_both_c.specs.Ports.{BothListens, BothTakes, is_dropped, ports_of, with_ports_of}
+pub use Rattle.uip_both_c.specs.Ports.{BothListens, BothInputs, is_dropped, ports_of, with_ports_of}
 pub use Rattle.uip_both_c.specs.Kept.{HasBoth}
 pub use Rattle.uip_node.specs.Prelude.{AbstractNode, Represents}

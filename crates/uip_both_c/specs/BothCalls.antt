@@ -17,7 +17,7 @@ use Rattle.site_image.specs.Prelude.{File}
 use Rattle.uip_both_c.specs.BothSpec.{both, both_spec, first_both_numbers, is_both_port, own_in, site_of}
 use Rattle.uip_both_c.specs.Handles.{BothAnswers, BothGives, BothWrites, OpensBothAs}
 use Rattle.uip_both_c.specs.Kept.{BothEther, HasBoth, Kept}
-use Rattle.uip_both_c.specs.Ports.{BothListens, BothTakes, is_dropped, ports_of}
+use Rattle.uip_both_c.specs.Ports.{BothListens, BothInputs, is_dropped, ports_of}
 use Rattle.uip_device.specs.Prelude.{write_value}
 use Rattle.uip_wire.specs.declared.addr.Addr.{Addr}
 use Rattle.uip_wire.specs.declared.port.TheConstants.{WEB_PORT}
@@ -36,7 +36,7 @@ AnsweredCall = AnsweredBy BothCall
 -- What a call did, by its clauses.
 abbrev pub DidCall : BothCall → Kept → Kept → List ℕ → Type 0
 DidCall (Calls DoesNothing) old new handed = (new ≡ old) × (handed ≡ [])
-DidCall (Calls (InputsFrame frame)) old new handed = BothTakes frame old new handed
+DidCall (Calls (InputsFrame frame)) old new handed = BothInputs frame old new handed
 DidCall (Calls (CallsSlot slot)) old new handed = BothAnswers (CallsSlot slot) old new handed
 DidCall (Writes slot taken text last) old new handed = BothWrites slot taken text last old new handed
 DidCall (Gives number text) old new handed = BothGives number text old new × (handed ≡ [])
@@ -129,7 +129,8 @@ pub record IsExact (files : List File) (own : Addr) (mac : Mac) (network : Netwo
 
 -- The open ports of the device are those that the calls opened. Each connection that is not CLOSED is at one of them, or at that of the
 -- pages.
-pub record HasOpenPorts (files : List File) (own : Addr) (mac : Mac) (network : Network) (all : List AnsweredCall) (new : Kept) : Type 0 where
+pub record HasOpenPorts (files : List File) (own : Addr) (mac : Mac) (network : Network) (all : List AnsweredCall) (new : Kept)
+    : Type 0 where
   pub ports : HasBoth (λ d. ports_of d ≡ ports_after (program_calls all) []) new
   pub connections : AreAtOpenPorts (WEB_PORT ∷ ports_after (program_calls all) [])
       (station_after_calls files own mac network (program_calls (undropped [] all)) (first_station files own)).node

@@ -43,14 +43,14 @@ is_dropped ports frame = is_for_closed_port (WEB_PORT ∷ ports) frame
 
 -- A frame for a port that is not open is dropped: no bytes were written, and nothing changed. Any other frame was received, and the call
 -- wrote this frame, or no bytes.
-pub record TakesFrame (frame : List ℕ) (old new : BothEther) (handed : List ℕ) : Type 0 where
+pub record InputsOrDrops (frame : List ℕ) (old new : BothEther) (handed : List ℕ) : Type 0 where
   pub dropped : is_dropped (ports_of old) frame ≡ true → (new ≡ old) × (handed ≡ [])
   pub answers : is_dropped (ports_of old) frame ≡ false → AnswersFrame both ether_link (InputsFrame frame) old new handed
 
--- There was a device and there still is one, which took this frame so.
-pub record BothTakes (frame : List ℕ) (old new : Kept) (handed : List ℕ) : Type 0 where
+-- There was a device and there still is one, which received this frame or dropped it.
+pub record BothInputs (frame : List ℕ) (old new : Kept) (handed : List ℕ) : Type 0 where
   pub before : BothEther
   pub after : BothEther
   pub was : old ≡ Some before
   pub is : new ≡ Some after
-  pub takes : TakesFrame frame before after handed
+  pub inputs : InputsOrDrops frame before after handed
