@@ -88,10 +88,10 @@ extern "C" {
 
 /*
  * The heap of one device, in bytes, for an image of `files` files (1 or more): the six blocks of uip_open_ether, with
- * 4800 bytes in the place of 1600 and 1272 in the place of 976, each rounded up to a multiple of 16. Measured on
- * x86-64, and the same blocks on every target of ports. See "The heap" of uip.h. UIP_BOTH_MEMORY(6) is 7,808.
+ * 4800 bytes in the place of 1600 and 1288 in the place of 976, each rounded up to a multiple of 16. Measured on
+ * x86-64, and the same blocks on every target of ports. See "The heap" of uip.h. UIP_BOTH_MEMORY(6) is 7,824.
  */
-#define UIP_BOTH_MEMORY(files) (UIP_MEMORY_ETHER(files) + 3504)
+#define UIP_BOTH_MEMORY(files) (UIP_MEMORY_ETHER(files) + 3520)
 
 /*
  * Opens a port for the program's own application: connections to it are accepted from now on. As uip_app_listen of

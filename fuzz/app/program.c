@@ -82,7 +82,8 @@ static void teach(device *d, const byte *address) {
     receive(d, frame, ARP_LEN + padding);
 }
 
-// A frame like one of ARP or of a datagram with some of its bytes changed, cut or longer: mostly dropped, and foretold in any case.
+// A frame like one of ARP or of a datagram with some of its bytes changed, cut or longer: mostly dropped, and foretold in any case. It is not
+// sent if its checksums are right all the same: it would be another segment of a client, whose bytes are compared.
 static void odd_frame(device *d, const byte *datagram, size_t len) {
     static byte frame[AREA];
     byte mac[6];
@@ -95,6 +96,8 @@ static void odd_frame(device *d, const byte *datagram, size_t len) {
         memcpy(frame + ETHER_HEAD, datagram, len);
     }
     for (unsigned k = below(3); k; k--) frame[chance(80) ? below(ARP_LEN) : below((unsigned)frame_len)] = (byte)random_next();
+    int is_datagram = frame[12] == 8 && frame[13] == 0;
+    if (is_datagram && !fault_of(h->own, frame + ETHER_HEAD, frame_len - ETHER_HEAD) && memcmp(frame + ETHER_HEAD, datagram, len)) return;
     if (chance(20)) frame_len = below(chance(50) ? 43 : (unsigned)frame_len + 1);
     else if (chance(5)) random_bytes(frame + frame_len, AREA - frame_len), frame_len = between(1500, 1600);
     receive(d, frame, frame_len);
