@@ -1,6 +1,7 @@
 -- The names that the proofs of this crate cite: of std, of the crates below, and of its own definitions. Declares nothing.
 pub use Rattle.app_events.specs.Prelude.{IsAddr, IsByte}
 pub use Rattle.app_events.specs.declared.row.Row.{Row}
+pub use Rattle.c_pages.specs.Prelude.{TellsRow}
 pub use Rattle.device_values.specs.Prelude.{word_calls, words, words_bytes, words_short}
 pub use Rattle.ethernet_arp.specs.declared.mac.Mac.{Mac}
 pub use Rattle.file_tree.specs.Prelude.{HasSoundScripts, IsLoaded, SiteContent, files_of}
@@ -18,7 +19,7 @@ pub use Rattle.std.specs.List.{All}
 pub use Rattle.std.specs.Prelude.{false, if◌then◌else◌, true}
 pub use Rattle.std.specs.contracts.impls.GlobalAllocator.TheImpl.{ghosts}
 pub use Rattle.std.specs.declared.option.Option.TheVariants.{Some}
-pub use Rattle.uip_c.specs.Prelude.{Did, DidAll, DidFrame, DidFrames, EtherAnswers, EtherRepresents, EtherRow, EtherWeb, HandleAnswers, HandleGives, HasAbstractNode, IsEther, IsLine, IsOpenedEther, Kept, LineRow, NoDevice, OnEther, OnLine, OpensAs, OpensEtherAs, TellsRow, holds, is_on_ether, is_on_line, kept_of, left_text_in, lefts_in, node_in, node_of, web_frames_sent, web_station_after}
+pub use Rattle.uip_c.specs.Prelude.{Did, DidAll, DidFrame, DidFrames, EtherAnswers, EtherRepresents, EtherRow, EtherWeb, HandleAnswers, HandleGives, HasAbstractNode, IsEther, IsLine, IsOpenedEther, Kept, LineRow, NoDevice, OnEther, OnLine, OpensAs, OpensEtherAs, holds, is_on_ether, is_on_line, kept_of, left_text_in, lefts_in, node_in, node_of, web_frames_sent, web_station_after}
 pub use Rattle.uip_c.specs.declared.handle.AnyDevice.{AnyDevice}
 pub use Rattle.uip_c.specs.declared.handle.AnyDevice.TheVariants.{Ether, Line}
 pub use Rattle.uip_c.specs.declared.held.Held.{Held}

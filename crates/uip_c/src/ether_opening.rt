@@ -1,12 +1,13 @@
 //! Opening a device on Ethernet.
 
 ghost use Rattle.std.specs.Prelude.{◌≡◌, ◌==◌, ◌⊎◌, replicate};
-ghost use Rattle.uip_c.specs.Prelude.{OpensEtherWeb, has_device, OpensEther, TellsFault};
+ghost use Rattle.c_pages.specs.Prelude.{TellsFault};
+ghost use Rattle.uip_c.specs.Prelude.{OpensEther, OpensEtherWeb, has_device};
 
 use crate::handle::{UipDevice, put_ether};
 use crate::held::EtherWeb;
-use crate::opening::{UipOpened, boxed, plain};
-use crate::status::{BAD_IMAGE, HAS_DEVICE, NO_MEMORY, OK};
+use c_calls::{BAD_IMAGE, HAS_DEVICE, NO_MEMORY, OK};
+use c_pages::{UipOpened, boxed, plain};
 use ethernet_arp::Mac;
 use frame_device::{Ethernet, FrameDevice, Network};
 use std::alloc::Global;

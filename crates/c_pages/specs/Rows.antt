@@ -5,7 +5,7 @@ use Rattle.app_events.specs.declared.row.Row.{Row}
 use Rattle.app_events.specs.declared.state.State.{State}
 use Rattle.app_events.specs.declared.state.State.TheVariants.{Closed, SynRcvd, Established, CloseWait, FinWait1, FinWait2}
 use Rattle.app_events.specs.declared.state.State.TheVariants.{Closing, TimeWait, LastAck}
-use Rattle.uip_c.specs.declared.rows.UipRow.{UipRow}
+use Rattle.c_pages.specs.declared.row.UipRow.{UipRow}
 
 -- The states by their numbers in include/uip.h.
 abbrev pub state_number : State → ℕ

@@ -1,0 +1,50 @@
+//! What a program reads of a connection.
+
+ghost use Rattle.std.specs.Prelude.{◌≡◌, length, take};
+ghost use Rattle.uip_wire.specs.Prelude.{written};
+ghost use Rattle.c_calls.specs.Results.{flag_of};
+
+/// What was read of a connection: whether it is ready for a message (1), its port, and how many bytes are pending. The port is 0 if the
+/// connection is not open.
+#[repr(C)]
+#[derive(Clone, Copy, Debug, PartialEq, Eq)]
+pub struct UipReceived {
+    pub status: u32,
+    pub ready: u32,
+    pub port: u32,
+    pub len: usize,
+}
+
+impl UipReceived {
+    /// Reports a status without a connection.
+    #[inline]
+    pub fn unread(status: u32) -> UipReceived
+        ensures { result ≡ record { status = status; ready = 0; port = 0; len = 0 } }
+    {
+        UipReceived {
+            status,
+            ready: 0,
+            port: 0,
+            len: 0,
+        }
+    }
+}
+
+/// Returns 1 for true, else 0.
+#[inline]
+pub fn ready_flag(is_ready: bool) -> u32
+    ensures { result ≡ flag_of is_ready }
+{
+    if is_ready { 1 } else { 0 }
+}
+
+/// Copies as many of these bytes as an area has room for. Returns how many there are.
+#[inline]
+pub fn copy_prefix(bytes: &[u8], area: &mut [u8]) -> usize
+    ensures len { result ≡ length bytes.now }
+    ensures bytes { area.new ≡ written area.old 0 (take (length area.old) bytes.now) }
+{
+    let count = bytes.len().min(area.len());
+    area[..count].copy_from_slice(&bytes[..count]);
+    bytes.len()
+}
