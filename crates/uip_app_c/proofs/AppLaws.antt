@@ -41,20 +41,20 @@ takes_undropped ports frame a b handed has it =
     let were = ports_were ports a it.before has it.was in
     let same = ap (λ (l : List ℕ). is_for_closed_port l frame) were in
     choose (λ (call : FrameCall). Did (Calls call) a b handed × HasPorts ports b) (is_for_closed_port ports frame) DoesNothing (InputsFrame frame)
-    (λ e. (let dropped = it.takes.dropped (same ∙ e) in
+    (λ e. (let dropped = it.holds.dropped (same ∙ e) in
     let stays : b ≡ a = it.is ∙ ap (λ (d : OwnEther). Some d) dropped.0 ∙ sym it.was in ((stays, dropped.1), (has.0, stays ∙ has.1, has.2))))
-    (λ e. (let answers = it.takes.answers (same ∙ e) in
-    (record { before = it.before; after = it.after; was = it.was; is = it.is; answers = answers }, (it.after, it.is, answers.kept ∙ were))))
+    (λ e. (let answers = it.holds.answers (same ∙ e) in
+    (record { before = it.before; after = it.after; was = it.was; is = it.is; holds = answers }, (it.after, it.is, answers.kept ∙ were))))
 
 one_undropped : (ports : List ℕ) (call : AppCall) (a b : Kept) (handed : List ℕ) → HasPorts ports a → DidCall call a b handed
     → Did (call_at ports call) a b handed × HasPorts (ports_after_call call ports) b
 one_undropped ports (Calls (InputsFrame frame)) a b handed has it = takes_undropped ports frame a b handed has it
-one_undropped ports (Calls (CallsSlot slot)) a b handed has it = (it, (it.after, it.is, it.answers.kept ∙ ports_were ports a it.before has it.was))
+one_undropped ports (Calls (CallsSlot slot)) a b handed has it = (it, (it.after, it.is, it.holds.kept ∙ ports_were ports a it.before has it.was))
 one_undropped ports (Calls DoesNothing) a b handed has it = (it, (has.0, it.0 ∙ has.1, has.2))
 one_undropped ports (Writes slot taken text last) a b handed has it =
     (it, (it.after, it.is, it.answers.kept ∙ it.writes.kept ∙ ports_were ports a it.before has it.was))
 one_undropped ports (Listens port) a b handed has it =
-    (it, (it.0.after, it.0.is, it.0.opens.ports ∙ ap (λ (l : List ℕ). with_port port l) (ports_were ports a it.0.before has it.0.was)))
+    (it, (it.0.after, it.0.is, it.0.holds.ports ∙ ap (λ (l : List ℕ). with_port port l) (ports_were ports a it.0.before has it.0.was)))
 
 all_undropped : (ports : List ℕ) (all : List AnsweredCall) (a c : Kept) → HasPorts ports a → DidCalls all a c
     → DidInTurn Did (undropped ports all) a c × HasPorts (ports_after (program_calls all) ports) c
@@ -83,7 +83,7 @@ module _ (own : Addr) (mac : Mac) (network : Network) where
 
   by_call : (call : FrameCall) (d : OwnEther) (s : Station Act) (a b : Kept) (handed : List ℕ) → a ≡ Some d → Here d s → OwnAnswers call a b handed → Step (Calls call) s b handed
   by_call call d s a b handed is here it =
-      let from = it.answers.each (interface_at own mac network) own_spec own s (subst (λ (x : OwnEther). Here x s) (sym (same_own it.before d (sym it.was ∙ is))) here) in
+      let from = it.holds.each (interface_at own mac network) own_spec own s (subst (λ (x : OwnEther). Here x s) (sym (same_own it.before d (sym it.was ∙ is))) here) in
       record { after = it.after; is = it.is; here = from.0; wrote = from.1; could = tt }
 
   -- a message was written, at the station before the periodic call
@@ -133,7 +133,7 @@ module _ (own : Addr) (mac : Mac) (network : Network) where
       record {
         after = it.after;
         is = it.is;
-        here = subst (λ (x : OwnEther). Here x s) (sym it.opens.rest) (opened_here it.before it.after s at);
+        here = subst (λ (x : OwnEther). Here x s) (sym it.holds.rest) (opened_here it.before it.after s at);
         wrote = none;
         could = tt;
       }

@@ -1,7 +1,7 @@
 -- What a handle keeps: a device, or none.
-use Rattle.std.specs.Prelude.{◌≡◌}
 use Rattle.std.specs.declared.option.Option.{Option}
 use Rattle.std.specs.declared.option.Option.TheVariants.{Some}
+use Rattle.c_calls.specs.Prelude.{HasDevice}
 use Rattle.frame_device.specs.declared.device.FrameDevice.{FrameDevice}
 use Rattle.frame_device.specs.declared.ether.Ethernet.{Ethernet}
 use Rattle.own_app.specs.declared.app.OwnApp.{OwnApp}
@@ -16,4 +16,4 @@ Kept = Option OwnEther
 
 -- There is a device, and P holds of it.
 abbrev pub HasOwn : (OwnEther → Type 0) → Kept → Type 0
-HasOwn P kept = (d : OwnEther) × (kept ≡ Some d) × P d
+HasOwn P kept = HasDevice Some P kept

@@ -3,12 +3,12 @@
 ghost use Rattle.std.specs.Prelude.{◌≡◌, ◌==◌, ◌||◌, false, not, true};
 ghost use Rattle.std.specs.declared.option.Option.TheVariants.{None};
 ghost use Rattle.own_app.specs.Prelude.{can_listen, is_program_port};
-ghost use Rattle.uip_app_c.specs.Handles.{IsCallStatus};
+ghost use Rattle.c_calls.specs.Prelude.{IsCallStatus};
 ghost use Rattle.uip_app_c.specs.Ports.{OpensPort, OwnListens, has_no_room, ports_of};
 
 use crate::handle::{AppDevice, put_in, take_out};
 use crate::held::OwnEther;
-use crate::status::{BAD_ARGUMENT, NO_DEVICE, OK};
+use c_calls::{BAD_ARGUMENT, NO_DEVICE, OK};
 use own_app::is_program_port;
 use std::alloc::Global;
 

@@ -49,10 +49,10 @@ takes_undropped ports frame a b handed has it =
     let were = ports_were ports a it.before has it.was in
     let same = ap (λ (l : List ℕ). is_dropped l frame) were in
     choose (λ (call : FrameCall). Did (Calls call) a b handed × HasPorts ports b) (is_dropped ports frame) DoesNothing (InputsFrame frame)
-    (λ e. (let dropped = it.takes.dropped (same ∙ e) in
+    (λ e. (let dropped = it.holds.dropped (same ∙ e) in
     let stays : b ≡ a = it.is ∙ ap (λ (d : BothEther). Some d) dropped.0 ∙ sym it.was in ((stays, dropped.1), (has.0, stays ∙ has.1, has.2))))
-    (λ e. (let answers = it.takes.answers (same ∙ e) in (
-      record { before = it.before; after = it.after; was = it.was; is = it.is; answers = answers },
+    (λ e. (let answers = it.holds.answers (same ∙ e) in (
+      record { before = it.before; after = it.after; was = it.was; is = it.is; holds = answers },
       (it.after, it.is, ports_stay it.before it.after answers.kept ∙ were),
     )))
 
@@ -60,14 +60,14 @@ one_undropped : (ports : List ℕ) (call : BothCall) (a b : Kept) (handed : List
     → Did (call_at ports call) a b handed × HasPorts (ports_after_call call ports) b
 one_undropped ports (Calls (InputsFrame frame)) a b handed has it = takes_undropped ports frame a b handed has it
 one_undropped ports (Calls (CallsSlot slot)) a b handed has it =
-    (it, (it.after, it.is, ports_stay it.before it.after it.answers.kept ∙ ports_were ports a it.before has it.was))
+    (it, (it.after, it.is, ports_stay it.before it.after it.holds.kept ∙ ports_were ports a it.before has it.was))
 one_undropped ports (Calls DoesNothing) a b handed has it = (it, (has.0, it.0 ∙ has.1, has.2))
 one_undropped ports (Writes slot taken text last) a b handed has it =
     (it, (it.after, it.is, ports_stay it.between it.after it.answers.kept ∙ ports_stay it.before it.between it.writes.kept ∙ ports_were ports a it.before has it.was))
 one_undropped ports (Gives number text) a b handed has it =
-    (it, (it.0.after, it.0.is, ports_stay it.0.before it.0.after it.0.gives.kept ∙ ports_were ports a it.0.before has it.0.was))
+    (it, (it.0.after, it.0.is, ports_stay it.0.before it.0.after it.0.holds.kept ∙ ports_were ports a it.0.before has it.0.was))
 one_undropped ports (Listens port) a b handed has it =
-    (it, (it.0.after, it.0.is, it.0.opens.ports ∙ ap (λ (l : List ℕ). with_port port l) (ports_were ports a it.0.before has it.0.was)))
+    (it, (it.0.after, it.0.is, it.0.holds.ports ∙ ap (λ (l : List ℕ). with_port port l) (ports_were ports a it.0.before has it.0.was)))
 
 all_undropped : (ports : List ℕ) (all : List AnsweredCall) (a c : Kept) → HasPorts ports a → DidCalls all a c
     → DidInTurn Did (undropped ports all) a c × HasPorts (ports_after (program_calls all) ports) c
@@ -108,11 +108,11 @@ module _ (files : List File) (own : Addr) (mac : Mac) (network : Network) where
   by_call : (call : FrameCall) (d : BothEther) (s : Station Act) (a b : Kept) (handed : List ℕ) → a ≡ Some d → Here d s → BothAnswers call a b handed → Step (Calls call) s b handed
   by_call call d s a b handed is here it =
       let at : Here it.before s = subst (λ (x : BothEther). Here x s) (sym (same_both it.before d (sym it.was ∙ is))) here in
-      let from = it.answers.each (interface_at own mac network) (both_spec files) own s at.station in
+      let from = it.holds.each (interface_at own mac network) (both_spec files) own s at.station in
       record {
         after = it.after;
         is = it.is;
-        here = record { files_are = files_stay it.before it.after it.answers.kept at.files_are; station = from.0 };
+        here = record { files_are = files_stay it.before it.after it.holds.kept at.files_are; station = from.0 };
         wrote = from.1;
         could = tt;
       }
@@ -157,8 +157,8 @@ module _ (files : List File) (own : Addr) (mac : Mac) (network : Network) where
         after = it.after;
         is = it.is;
         here = record {
-          files_are = files_stay it.before it.after it.gives.kept at.files_are;
-          station = it.gives.each (interface_at own mac network) (both_spec files) own s at.station;
+          files_are = files_stay it.before it.after it.holds.kept at.files_are;
+          station = it.holds.each (interface_at own mac network) (both_spec files) own s at.station;
         };
         wrote = none;
         could = tt;
@@ -195,7 +195,7 @@ module _ (files : List File) (own : Addr) (mac : Mac) (network : Network) where
       record {
         after = it.after;
         is = it.is;
-        here = subst (λ (x : BothEther). Here x s) (sym it.opens.rest) (opened_here it.before it.after s at);
+        here = subst (λ (x : BothEther). Here x s) (sym it.holds.rest) (opened_here it.before it.after s at);
         wrote = none;
         could = tt;
       }

@@ -2,6 +2,7 @@
 pub use Rattle.app_events.specs.declared.row.Row.{Row}
 pub use Rattle.app_pair.specs.Lemmas.NumberLaws.{first_back, first_kept}
 pub use Rattle.app_pair.specs.PairNumbers.{change_own, numbers_of_first, pair_numbers, with_own}
+pub use Rattle.c_pages.specs.Prelude.{TellsRow}
 pub use Rattle.device_values.specs.Prelude.{value_given}
 pub use Rattle.ethernet_arp.specs.declared.mac.Mac.{Mac}
 pub use Rattle.file_tree.specs.Prelude.{AreApart, files_of}
@@ -23,7 +24,6 @@ pub use Rattle.uip_both_c.specs.BothSpec.{both, both_spec, first_both_numbers}
 pub use Rattle.uip_both_c.specs.Holding.{DeviceRow, holds}
 pub use Rattle.uip_both_c.specs.Kept.{BothEther, BothNode, BothShared, Kept}
 pub use Rattle.uip_both_c.specs.Opening.{IsOpenedBoth}
-pub use Rattle.uip_both_c.specs.Rows.{TellsRow}
 pub use Rattle.uip_both_c.specs.declared.held.Held.{Held}
 pub use Rattle.uip_device.proofs.WebLaws.{hits_at, written_after}
 pub use Rattle.uip_device.specs.Prelude.{ChangesNode, IsFirstShared, IsOfImage, ReadsQuery, first_numbers, query_of, write_value}

@@ -2,14 +2,16 @@
 
 ghost use Rattle.std.specs.Prelude.{◌≡◌, ◌==◌, ◌||◌, ◌≤◌, length, nat_le, nat_lt, take};
 ghost use Rattle.std.specs.declared.option.Option.TheVariants.{None};
-ghost use Rattle.uip_wire.specs.Prelude.{written};
+ghost use Rattle.c_calls.specs.Prelude.{IsCallStatus, IsWriteStatus, Refused};
 ghost use Rattle.frame_device.specs.Prelude.{CallsSlot};
-ghost use Rattle.uip_both_c.specs.Handles.{CannotWrite, IsCallStatus, IsWriteStatus, BothAnswers, BothWrites, ReadsSlot, Refused, flag_of};
+ghost use Rattle.uip_both_c.specs.Handles.{BothAnswers, BothWrites, CannotWrite, ReadsSlot};
 ghost use Rattle.uip_both_c.specs.Ports.{BothTakes};
 
 use crate::device::{call_slot, is_ready, own_port, pending, take_frame, write};
 use crate::handle::{UipDevice, put_in, take_out};
-use crate::status::{BAD_ARGUMENT, NO_DEVICE, NOT_READY, OK, UipResult};
+use c_calls::{
+    BAD_ARGUMENT, NO_DEVICE, NOT_READY, OK, UipReceived, UipResult, copy_prefix, ready_flag,
+};
 use frame_device::LARGEST_OUT;
 use own_app::MESSAGE_ROOM;
 use std::alloc::Global;
@@ -43,7 +45,7 @@ pub extern "C" fn uip_input_frame(
     };
     let written = take_frame(&mut opened, frame, len);
     put_in(device, opened);
-    UipResult::done(len, written)
+    UipResult::done(len, written, None)
 }
 
 /// Makes the periodic call of a slot, due for each of the ten in turn twice a second; that of slot 0 begins a tick. Writes the frame that
@@ -73,47 +75,7 @@ pub extern "C" fn uip_periodic_frame(
     };
     let written = call_slot(&mut opened, slot, frame);
     put_in(device, opened);
-    UipResult::done(0, written)
-}
-
-/// What was read of a connection: whether it is ready for a message (1), its port, and how many bytes are pending. The port is 0 if the
-/// connection is not open.
-#[repr(C)]
-#[derive(Clone, Copy, Debug, PartialEq, Eq)]
-pub struct UipReceived {
-    pub status: u32,
-    pub ready: u32,
-    pub port: u32,
-    pub len: usize,
-}
-
-/// Reports a status without a connection.
-fn unread(status: u32) -> UipReceived
-    ensures { result ≡ record { status = status; ready = 0; port = 0; len = 0 } }
-{
-    UipReceived {
-        status,
-        ready: 0,
-        port: 0,
-        len: 0,
-    }
-}
-
-/// Returns 1 for true, else 0.
-fn ready_flag(is_ready: bool) -> u32
-    ensures { result ≡ flag_of is_ready }
-{
-    if is_ready { 1 } else { 0 }
-}
-
-/// Copies as many of these bytes as an area has room for. Returns how many there are.
-fn copy_prefix(bytes: &[u8], area: &mut [u8]) -> usize
-    ensures len { result ≡ length bytes.now }
-    ensures bytes { area.new ≡ written area.old 0 (take (length area.old) bytes.now) }
-{
-    let count = bytes.len().min(area.len());
-    area[..count].copy_from_slice(&bytes[..count]);
-    bytes.len()
+    UipResult::done(0, written, None)
 }
 
 /// Reads the connection in a slot: whether it is ready for a message, and what it received that no message has answered. Copies as many of
@@ -134,10 +96,10 @@ pub extern "C" fn uip_read(
     ensures same { device.new.held.device ≡ device.old.held.device }
 {
     if slot >= 10 {
-        return unread(BAD_ARGUMENT);
+        return UipReceived::unread(BAD_ARGUMENT);
     }
     let Some(opened) = take_out(alloc, device) else {
-        return unread(NO_DEVICE);
+        return UipReceived::unread(NO_DEVICE);
     };
     let ready = ready_flag(is_ready(&opened, slot));
     let port = own_port(&opened, slot) as u32;
@@ -187,5 +149,5 @@ pub extern "C" fn uip_write(
     }
     let sent = call_slot(&mut opened, slot, frame);
     put_in(device, opened);
-    UipResult::done(0, sent)
+    UipResult::done(0, sent, None)
 }

@@ -1,8 +1,7 @@
-//! What holds of calls from C, and the numbers of the header.
+//! What holds of calls from C.
 
 ghost use Rattle.uip_both_c.specs.BothCalls.{CallsAreExact};
 ghost use Rattle.uip_both_c.specs.BothPromise.{BothCallsConform};
-ghost use Rattle.uip_both_c.specs.ConstantValues.{ConstantValues};
 
 /// Holds for any sequence of calls on a handle that was just opened, successful or refused, with any values set between. Each call writes
 /// exactly the frame that the initial node and its link send for its events, or none. Each message was written to a connection that could
@@ -18,9 +17,4 @@ pub fn both_calls_are_exact()
 /// connection. Each frame with a datagram goes to the hardware address that its next hop taught last.
 pub fn both_calls_keep_the_promise()
     ensures { BothCallsConform }
-{}
-
-/// The constants have the values that the header names.
-pub fn constant_values()
-    ensures { ConstantValues }
 {}
