@@ -10,7 +10,7 @@ mod status;
 
 pub use closing::free;
 pub use laws::constant_values;
-pub use received::{UipReceived, copy_prefix, ready_flag};
+pub use received::{UipReceived, copy_prefix, flag};
 pub use result::UipResult;
 pub use status::{
     BAD_ARGUMENT, BAD_IMAGE, HAS_DEVICE, NO_DEVICE, NO_MEMORY, NOT_READY, OK, OUTPUT_PENDING,

@@ -32,10 +32,10 @@ impl UipReceived {
 
 /// Returns 1 for true, else 0.
 #[inline]
-pub fn ready_flag(is_ready: bool) -> u32
-    ensures { result ≡ flag_of is_ready }
+pub fn flag(is_true: bool) -> u32
+    ensures { result ≡ flag_of is_true }
 {
-    if is_ready { 1 } else { 0 }
+    if is_true { 1 } else { 0 }
 }
 
 /// Copies as many of these bytes as an area has room for. Returns how many there are.

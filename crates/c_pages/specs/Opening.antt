@@ -22,8 +22,8 @@ abbrev pub IsWordOf : SiteWhy → List ℕ → Type 0
 IsWordOf why word = word ≡ take 8 (why_word why ++ replicate 8 0)
 
 -- The entry and the word are those of the image's first fault, or of a page that can be too long once scripts show values.
-abbrev pub TellsFault : List ℕ → ℕ → List ℕ → Type 0
-TellsFault image entry word =
+abbrev pub ReportsFault : List ℕ → ℕ → List ℕ → Type 0
+ReportsFault image entry word =
     (error : SiteError) × ((read_image image ≡ Err error) ⊎ IsLongWithValues image error) × (entry ≡ error.entry) × IsWordOf error.why word
 
 -- What is reported if a device was not made, or if there is no memory for its box.

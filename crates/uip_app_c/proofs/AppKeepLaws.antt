@@ -24,10 +24,7 @@ use Rattle.std.specs.List.{All}
 use Rattle.std.proofs.lemmas.List.Elements.{All-cons, All-head, All-nil, All-tail}
 use Rattle.app_events.specs.Prelude.{IsAddr}
 use Rattle.own_node.specs.Prelude.{is_for_closed_port}
-use Rattle.uip_app_c.specs.AppCalls.{AnsweredCall, AppCall, Calls, CouldWrite, Listens, OfEachCall, Writes, app_program, call_at, change_by, first_station, link_of, ports_after_call, station_after_call, station_after_calls, undropped}
-use Rattle.uip_app_c.specs.Handles.{OpensOwn}
-use Rattle.uip_app_c.specs.Kept.{Kept}
-use Rattle.uip_app_c.specs.AppPromise.{AppCallsConform, AppTraceConforms, Captures, IsCallOfBytes, connection_after, text_in_call}
+use Rattle.uip_app_c.specs.Prelude.{AnsweredCall, AppCall, AppCallsConform, AppTraceConforms, Calls, Captures, CouldWrite, IsCallOfBytes, Kept, Listens, OfEachCall, OpensOwn, Writes, app_program, call_at, change_by, connection_after, first_station, link_of, ports_after_call, station_after_call, station_after_calls, text_in_call, undropped}
 use Rattle.uip_app_c.proofs.AppLaws.{Did, did_undropped, undropped_exact}
 use Rattle.uip_node.proofs.Basics.{choose}
 use Rattle.uip_node.specs.Prelude.{AbstractNode, Event, Periodic, connection_in, run}

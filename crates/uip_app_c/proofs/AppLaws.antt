@@ -7,7 +7,7 @@ use Rattle.own_app.specs.Prelude.{is_open_port, no_message, numbers_of}
 use Rattle.own_node.proofs.OpenPorts.{IsAt, first_at, frame_at, run_at, stays_open}
 use Rattle.own_node.specs.Prelude.{AreAtOpenPorts}
 use Rattle.std.specs.List.{All}
-use Rattle.uip_app_c.specs.AppCalls.{app_program, station_after_calls}
+use Rattle.uip_app_c.specs.Prelude.{app_program, station_after_calls}
 use Rattle.uip_node.specs.Prelude.{connection_in}
 use Rattle.frame_device.specs.contracts.ether.EthernetFrames.TheImpl.{ghosts as ether_link}
 use Rattle.own_app.specs.contracts.app.OwnAppApp.TheImpl.{ghosts}

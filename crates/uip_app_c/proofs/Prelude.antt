@@ -13,11 +13,7 @@ pub use Rattle.std.specs.Option.{is_some}
 pub use Rattle.std.specs.Prelude.{true}
 pub use Rattle.std.specs.declared.option.Option.{Option}
 pub use Rattle.std.specs.declared.option.Option.TheVariants.{None, Some}
-pub use Rattle.uip_app_c.specs.AppCalls.{AnsweredCall, AppCall, Calls, CallsAreExact, CouldWrite, DidCall, DidCalls, IsExact, Listens, Writes, call_at, first_station, link_of, ports_after, ports_after_call, station_after_call, undropped}
-pub use Rattle.uip_app_c.specs.Handles.{OpensOwn, OwnAnswers, OwnWrites}
-pub use Rattle.uip_app_c.specs.Ports.{OwnListens, OwnTakes, ports_of}
-pub use Rattle.uip_app_c.specs.Holding.{DeviceRow, holds}
-pub use Rattle.uip_app_c.specs.Kept.{HasOwn, Kept, OwnEther}
+pub use Rattle.uip_app_c.specs.Prelude.{AnsweredCall, AppCall, Calls, CallsAreExact, CouldWrite, DeviceRow, DidCall, DidCalls, HasOwn, IsExact, Kept, Listens, OpensOwn, OwnAnswers, OwnEther, OwnListens, OwnTakes, OwnWrites, Writes, call_at, first_station, holds, link_of, ports_after, ports_after_call, ports_of, station_after_call, undropped}
 pub use Rattle.uip_app_c.specs.declared.held.Held.{Held}
 pub use Rattle.uip_node.proofs.Basics.{choose}
 pub use Rattle.uip_node.specs.Prelude.{AbstractNode, Represents}

@@ -4,13 +4,12 @@ ghost use Rattle.std.specs.Prelude.{◌≡◌, ◌==◌, ◌||◌, ◌≤◌, le
 ghost use Rattle.std.specs.declared.option.Option.TheVariants.{None};
 ghost use Rattle.c_calls.specs.Prelude.{IsCallStatus, IsWriteStatus, Refused};
 ghost use Rattle.frame_device.specs.Prelude.{CallsSlot};
-ghost use Rattle.uip_app_c.specs.Handles.{CannotWrite, OwnAnswers, OwnWrites, ReadsSlot};
-ghost use Rattle.uip_app_c.specs.Ports.{OwnTakes, TakesFrame};
+ghost use Rattle.uip_app_c.specs.Prelude.{CannotWrite, OwnAnswers, OwnTakes, OwnWrites, ReadsSlot, TakesFrame};
 
 use crate::handle::{AppDevice, put_in, take_out};
 use crate::held::OwnEther;
 use c_calls::{
-    BAD_ARGUMENT, NO_DEVICE, NOT_READY, OK, UipReceived, UipResult, copy_prefix, ready_flag,
+    BAD_ARGUMENT, NO_DEVICE, NOT_READY, OK, UipReceived, UipResult, copy_prefix, flag,
 };
 use frame_device::LARGEST_OUT;
 use own_app::MESSAGE_ROOM;
@@ -117,7 +116,7 @@ pub extern "C" fn uip_app_read(
     let Some(opened) = take_out(alloc, device) else {
         return UipReceived::unread(NO_DEVICE);
     };
-    let ready = ready_flag(is_ready(&opened.node, slot));
+    let ready = flag(is_ready(&opened.node, slot));
     let port = own_port(&opened.node, slot) as u32;
     let len = copy_prefix(pending(&opened.node, slot), bytes);
     put_in(device, opened);

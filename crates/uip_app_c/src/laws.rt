@@ -1,7 +1,6 @@
 //! What holds of calls from C.
 
-ghost use Rattle.uip_app_c.specs.AppCalls.{CallsAreExact};
-ghost use Rattle.uip_app_c.specs.AppPromise.{AppCallsConform};
+ghost use Rattle.uip_app_c.specs.Prelude.{AppCallsConform, CallsAreExact};
 
 /// Holds for any sequence of calls on a handle that was just opened, successful or refused. Each call writes exactly the frame that the
 /// initial node and its link send for its events, or none. Each message was written to a connection that could capture it. The device

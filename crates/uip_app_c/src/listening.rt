@@ -4,7 +4,7 @@ ghost use Rattle.std.specs.Prelude.{◌≡◌, ◌==◌, ◌||◌, false, not, t
 ghost use Rattle.std.specs.declared.option.Option.TheVariants.{None};
 ghost use Rattle.own_app.specs.Prelude.{can_listen, is_program_port};
 ghost use Rattle.c_calls.specs.Prelude.{IsCallStatus};
-ghost use Rattle.uip_app_c.specs.Ports.{OpensPort, OwnListens, has_no_room, ports_of};
+ghost use Rattle.uip_app_c.specs.Prelude.{OpensPort, OwnListens, has_no_room, ports_of};
 
 use crate::handle::{AppDevice, put_in, take_out};
 use crate::held::OwnEther;

@@ -4,7 +4,7 @@ ghost use Rattle.std.specs.Prelude.{◌≡◌, ◌==◌, ◌⊎◌, IfOk};
 ghost use Rattle.std.specs.Option.{is_some};
 ghost use Rattle.std.specs.declared.option.Option.TheVariants.{None};
 ghost use Rattle.c_calls.specs.Prelude.{ClosesHandle};
-ghost use Rattle.uip_app_c.specs.Handles.{IsFreshOwnEther, OpensOwn};
+ghost use Rattle.uip_app_c.specs.Prelude.{IsFreshOwnEther, OpensOwn};
 
 use crate::handle::{AppDevice, put_in, take_out};
 use crate::held::OwnEther;

@@ -34,12 +34,7 @@ use Rattle.pair_laws.proofs.PairLines.{speaks_on_lines}
 use Rattle.serve_loop.specs.Prelude.{Station}
 use Rattle.site_image.specs.Prelude.{File}
 use Rattle.tcp_machine.specs.Prelude.{Connection}
-use Rattle.uip_both_c.specs.BothCalls.{AnsweredCall, BothCall, Calls, CouldWrite, Gives, Listens, OfEachCall, Writes, both_program, call_at, change_by, first_station, link_of, ports_after_call, station_after_call, station_after_calls, undropped}
-use Rattle.uip_both_c.specs.BothPromise.{BothCallsConform, BothTraceConforms, Captures, IsCallOfBytes, both_model, connection_after, text_in_call}
-use Rattle.uip_both_c.specs.BothSpec.{both_spec, first_both_numbers, is_both_port, own_in}
-use Rattle.uip_both_c.specs.Kept.{Kept}
-use Rattle.uip_both_c.specs.Opening.{OpensBoth}
-use Rattle.uip_both_c.specs.Ports.{is_dropped}
+use Rattle.uip_both_c.specs.Prelude.{AnsweredCall, BothCall, BothCallsConform, BothTraceConforms, Calls, Captures, CouldWrite, Gives, IsCallOfBytes, Kept, Listens, OfEachCall, OpensBoth, Writes, both_model, both_program, both_spec, call_at, change_by, connection_after, first_both_numbers, first_station, is_both_port, is_dropped, link_of, own_in, ports_after_call, station_after_call, station_after_calls, text_in_call, undropped}
 use Rattle.uip_both_c.proofs.BothLaws.{Did, did_undropped, undropped_exact}
 use Rattle.uip_node.proofs.Basics.{choose}
 use Rattle.uip_device.specs.Lemmas.PagePairs.{pages_can_pair}

@@ -9,10 +9,9 @@ use Rattle.own_node.proofs.OpenPorts.{IsAt, first_at, frame_at, or_more, run_at,
 use Rattle.own_node.specs.Prelude.{AreAtOpenPorts}
 use Rattle.std.proofs.Common.{eqb}
 use Rattle.std.specs.List.{All}
-use Rattle.uip_both_c.specs.BothCalls.{both_program, link_of, station_after_calls}
+use Rattle.uip_both_c.specs.Prelude.{both_program, is_both_port, link_of, station_after_calls}
 use Rattle.uip_node.specs.Prelude.{connection_in}
 use Rattle.uip_wire.specs.declared.port.TheConstants.{WEB_PORT}
-use Rattle.uip_both_c.specs.BothSpec.{is_both_port}
 use Rattle.frame_device.specs.contracts.ether.EthernetFrames.TheImpl.{ghosts as ether_link}
 
 abbrev both_or : BothEther → Kept → BothEther

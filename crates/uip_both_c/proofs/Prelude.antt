@@ -2,6 +2,7 @@
 pub use Rattle.app_events.specs.declared.row.Row.{Row}
 pub use Rattle.app_pair.specs.Lemmas.NumberLaws.{first_back, first_kept}
 pub use Rattle.app_pair.specs.PairNumbers.{change_own, numbers_of_first, pair_numbers, with_own}
+pub use Rattle.c_calls.specs.Prelude.{flag_of}
 pub use Rattle.c_pages.specs.Prelude.{TellsRow}
 pub use Rattle.device_values.specs.Prelude.{value_given}
 pub use Rattle.ethernet_arp.specs.declared.mac.Mac.{Mac}
@@ -20,10 +21,7 @@ pub use Rattle.std.proofs.lemmas.Grind.{get_or_default_zero}
 pub use Rattle.std.proofs.lemmas.List.{get_or_append_left}
 pub use Rattle.std.specs.Option.{is_some}
 pub use Rattle.std.specs.Prelude.{if◌then◌else◌, true}
-pub use Rattle.uip_both_c.specs.BothSpec.{both, both_spec, first_both_numbers}
-pub use Rattle.uip_both_c.specs.Holding.{DeviceRow, holds}
-pub use Rattle.uip_both_c.specs.Kept.{BothEther, BothNode, BothShared, Kept}
-pub use Rattle.uip_both_c.specs.Opening.{IsOpenedBoth}
+pub use Rattle.uip_both_c.specs.Prelude.{AnsweredCall, BothAnswers, BothApps, BothAtStation, BothCall, BothEther, BothGives, BothListens, BothNode, BothShared, BothTakes, BothWrites, Calls, CallsAreExact, CouldWrite, DeviceRow, DidCall, DidCalls, Gives, HasBoth, IsExact, IsOpenedBoth, Kept, Listens, OpensBothAs, Writes, both, both_spec, call_at, first_both_numbers, first_station, holds, is_dropped, ports_after, ports_after_call, ports_of, site_of, station_after_call, undropped, with_ports_of}
 pub use Rattle.uip_both_c.specs.declared.held.Held.{Held}
 pub use Rattle.uip_device.proofs.WebLaws.{hits_at, written_after}
 pub use Rattle.uip_device.specs.Prelude.{ChangesNode, IsFirstShared, IsOfImage, ReadsQuery, first_numbers, query_of, write_value}
@@ -40,10 +38,4 @@ pub use Rattle.serve_loop.specs.Prelude.{Station}
 pub use Rattle.std.proofs.Common.{[], ◌∷◌}
 pub use Rattle.uip_node.proofs.Basics.{choose}
 pub use Rattle.app_events.specs.Prelude.{AppState}
-pub use Rattle.uip_both_c.specs.Kept.{BothApps}
-pub use Rattle.uip_both_c.specs.BothCalls.{AnsweredCall, BothAtStation, BothCall, Calls, CallsAreExact, CouldWrite, DidCall, DidCalls, Gives, IsExact, Listens, Writes, call_at, first_station, ports_after, ports_after_call, station_after_call, undropped}
-pub use Rattle.uip_both_c.specs.BothSpec.{site_of}
-pub use Rattle.uip_both_c.specs.Handles.{BothAnswers, BothGives, BothWrites, OpensBothAs}
-pub use Rattle.uip_both_c.specs.Ports.{BothListens, BothTakes, is_dropped, ports_of, with_ports_of}
-pub use Rattle.uip_both_c.specs.Kept.{HasBoth}
 pub use Rattle.uip_node.specs.Prelude.{AbstractNode, Represents}

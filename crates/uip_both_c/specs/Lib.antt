@@ -6,3 +6,4 @@ pub mod Handles
 pub mod Opening
 pub mod BothCalls
 pub mod BothPromise
+pub mod Prelude

@@ -4,13 +4,12 @@ ghost use Rattle.std.specs.Prelude.{◌≡◌, ◌==◌, ◌||◌, ◌≤◌, le
 ghost use Rattle.std.specs.declared.option.Option.TheVariants.{None};
 ghost use Rattle.c_calls.specs.Prelude.{IsCallStatus, IsWriteStatus, Refused};
 ghost use Rattle.frame_device.specs.Prelude.{CallsSlot};
-ghost use Rattle.uip_both_c.specs.Handles.{BothAnswers, BothWrites, CannotWrite, ReadsSlot};
-ghost use Rattle.uip_both_c.specs.Ports.{BothTakes};
+ghost use Rattle.uip_both_c.specs.Prelude.{BothAnswers, BothTakes, BothWrites, CannotWrite, ReadsSlot};
 
 use crate::device::{call_slot, is_ready, own_port, pending, take_frame, write};
 use crate::handle::{UipDevice, put_in, take_out};
 use c_calls::{
-    BAD_ARGUMENT, NO_DEVICE, NOT_READY, OK, UipReceived, UipResult, copy_prefix, ready_flag,
+    BAD_ARGUMENT, NO_DEVICE, NOT_READY, OK, UipReceived, UipResult, copy_prefix, flag,
 };
 use frame_device::LARGEST_OUT;
 use own_app::MESSAGE_ROOM;
@@ -101,7 +100,7 @@ pub extern "C" fn uip_read(
     let Some(opened) = take_out(alloc, device) else {
         return UipReceived::unread(NO_DEVICE);
     };
-    let ready = ready_flag(is_ready(&opened, slot));
+    let ready = flag(is_ready(&opened, slot));
     let port = own_port(&opened, slot) as u32;
     let len = copy_prefix(pending(&opened, slot), bytes);
     put_in(device, opened);

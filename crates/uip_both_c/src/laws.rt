@@ -1,7 +1,6 @@
 //! What holds of calls from C.
 
-ghost use Rattle.uip_both_c.specs.BothCalls.{CallsAreExact};
-ghost use Rattle.uip_both_c.specs.BothPromise.{BothCallsConform};
+ghost use Rattle.uip_both_c.specs.Prelude.{BothCallsConform, CallsAreExact};
 
 /// Holds for any sequence of calls on a handle that was just opened, successful or refused, with any values set between. Each call writes
 /// exactly the frame that the initial node and its link send for its events, or none. Each message was written to a connection that could

@@ -4,7 +4,7 @@ ghost use Rattle.std.specs.Prelude.{◌≡◌, ◌==◌, ◌||◌, not};
 ghost use Rattle.std.specs.declared.option.Option.TheVariants.{None};
 ghost use Rattle.own_app.specs.Prelude.{is_program_port};
 ghost use Rattle.c_calls.specs.Prelude.{IsCallStatus};
-ghost use Rattle.uip_both_c.specs.Ports.{BothListens, has_no_room};
+ghost use Rattle.uip_both_c.specs.Prelude.{BothListens, has_no_room};
 
 use crate::device::listen;
 use crate::handle::{UipDevice, put_in, take_out};

@@ -4,8 +4,8 @@ ghost use Rattle.std.specs.Prelude.{◌≡◌, ◌==◌, ◌⊎◌, replicate};
 ghost use Rattle.std.specs.Option.{is_some};
 ghost use Rattle.std.specs.declared.option.Option.TheVariants.{None};
 ghost use Rattle.c_calls.specs.Prelude.{ClosesHandle};
-ghost use Rattle.c_pages.specs.Prelude.{TellsFault};
-ghost use Rattle.uip_both_c.specs.Opening.{OpensBoth, OpensBothEther};
+ghost use Rattle.c_pages.specs.Prelude.{ReportsFault};
+ghost use Rattle.uip_both_c.specs.Prelude.{OpensBoth, OpensBothEther};
 
 use crate::handle::{UipDevice, put_in, take_out};
 use crate::held::BothEther;
@@ -61,7 +61,7 @@ pub extern "C" fn uip_open_ether(
     ensures fine { result.status ≡ OK
         → OpensBoth image.now own.now mac.now mask.now router.now device.old.held.device device.new.held.device }
     ensures has_device { (result.status == HAS_DEVICE) ≡ is_some device.old.held.device }
-    ensures bad_site { result.status ≡ BAD_IMAGE → TellsFault image.now result.entry result.word }
+    ensures bad_site { result.status ≡ BAD_IMAGE → ReportsFault image.now result.entry result.word }
     ensures no_fault { (result.status ≡ BAD_IMAGE → ⊥) → (result.entry ≡ 0) × (result.word ≡ replicate 8 0) }
     ensures refused { (result.status ≡ OK → ⊥) → device.new ≡ device.old }
 {

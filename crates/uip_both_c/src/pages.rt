@@ -3,7 +3,7 @@
 ghost use Rattle.std.specs.Prelude.{◌≡◌, ◌<◌, ◌≤◌, false, length};
 ghost use Rattle.app_pair.specs.PairNumbers.{change_own, own_numbers};
 ghost use Rattle.file_tree.specs.Prelude.{files_of};
-ghost use Rattle.uip_both_c.specs.BothSpec.{both};
+ghost use Rattle.uip_both_c.specs.Prelude.{both};
 ghost use Rattle.uip_device.specs.Prelude.{ChangesNode, ReadsQuery, query_of, write_value};
 ghost use Rattle.uip_node.specs.Prelude.{AbstractNode, Represents};
 ghost use Rattle.web_pages.specs.Prelude.{hits_of};

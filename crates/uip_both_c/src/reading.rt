@@ -1,21 +1,20 @@
 //! The calls that read a number, a query or a connection of a device, and the call that sets a value which scripts show.
 
-ghost use Rattle.std.specs.Prelude.{◌≡◌, ◌==◌, ◌||◌, ◌-◌, ◌⊎◌, Some as IsThere, false, if◌then◌else◌, length, nat_le, nat_lt, slice_get};
+ghost use Rattle.std.specs.Prelude.{◌≡◌, ◌==◌, ◌||◌, ◌-◌, ◌⊎◌, Some as IsThere, false, length, nat_le, nat_lt, slice_get};
 ghost use Rattle.std.specs.declared.option.Option.TheVariants.{None};
 ghost use Rattle.file_tree.specs.Prelude.{files_of};
 ghost use Rattle.uip_node.specs.Prelude.{counters, ticks_of};
 ghost use Rattle.uip_device.specs.Prelude.{ReadsQuery, connection_row, is_node_idle, query_of};
 ghost use Rattle.web_pages.specs.Prelude.{hits_of};
 ghost use Rattle.app_pair.specs.PairNumbers.{own_numbers};
+ghost use Rattle.c_calls.specs.Prelude.{flag_of};
 ghost use Rattle.c_pages.specs.Prelude.{IsNoRow, TellsRow};
-ghost use Rattle.uip_both_c.specs.BothSpec.{HasAbstractNode};
-ghost use Rattle.uip_both_c.specs.Handles.{BothGives};
-ghost use Rattle.uip_both_c.specs.Kept.{HasBoth};
+ghost use Rattle.uip_both_c.specs.Prelude.{BothGives, HasAbstractNode, HasBoth};
 
 use crate::device::give;
 use crate::handle::{UipDevice, put_in, take_out};
 use crate::pages::{page_hits, page_query};
-use c_calls::{BAD_ARGUMENT, NO_DEVICE, OK, read_device};
+use c_calls::{BAD_ARGUMENT, NO_DEVICE, OK, flag, read_device};
 use c_pages::{UipNumber, UipQuery, UipRow};
 use device_values::{LONGEST_VALUE, MOST_VALUES};
 use std::alloc::Global;
@@ -55,13 +54,13 @@ pub extern "C" fn uip_counter(alloc: Global, device: &mut UipDevice, number: usi
 #[unsafe(no_mangle)]
 pub extern "C" fn uip_is_idle(alloc: Global, device: &mut UipDevice) -> UipNumber
     ensures known { (result.status ≡ OK) ⊎ (result.status ≡ NO_DEVICE) }
-    ensures fine { result.status ≡ OK → HasAbstractNode (λ files n. result.number ≡ (if is_node_idle n then 1 else 0))
+    ensures fine { result.status ≡ OK → HasAbstractNode (λ files n. result.number ≡ flag_of (is_node_idle n))
         device.old.held.device }
     ensures no_device { result.status ≡ NO_DEVICE → device.old.held.device ≡ None }
     ensures unread { (result.status ≡ OK → ⊥) → result.number ≡ 0 }
     ensures same { device.new.held.device ≡ device.old.held.device }
 {
-    read_device!(UipNumber, alloc, device, opened => is_node_idle(&opened.node) as u32)
+    read_device!(UipNumber, alloc, device, opened => flag(is_node_idle(&opened.node)))
 }
 
 /// Returns how often the file of that name was requested, modulo 2^32; 0 if no file has the name.

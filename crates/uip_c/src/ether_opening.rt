@@ -1,7 +1,7 @@
 //! Opening a device on Ethernet.
 
 ghost use Rattle.std.specs.Prelude.{◌≡◌, ◌==◌, ◌⊎◌, replicate};
-ghost use Rattle.c_pages.specs.Prelude.{TellsFault};
+ghost use Rattle.c_pages.specs.Prelude.{ReportsFault};
 ghost use Rattle.uip_c.specs.Prelude.{OpensEther, OpensEtherWeb, has_device};
 
 use crate::handle::{UipDevice, put_ether};
@@ -52,7 +52,7 @@ pub extern "C" fn uip_open_ether(
     ensures fine { result.status ≡ OK
         → OpensEther image.now own.now mac.now mask.now router.now device.old.held.device device.new.held.device }
     ensures has_device { (result.status == HAS_DEVICE) ≡ has_device device.old.held.device }
-    ensures bad_site { result.status ≡ BAD_IMAGE → TellsFault image.now result.entry result.word }
+    ensures bad_site { result.status ≡ BAD_IMAGE → ReportsFault image.now result.entry result.word }
     ensures no_fault { (result.status ≡ BAD_IMAGE → ⊥) → (result.entry ≡ 0) × (result.word ≡ replicate 8 0) }
     ensures refused { (result.status ≡ OK → ⊥) → device.new ≡ device.old }
 {

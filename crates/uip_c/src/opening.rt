@@ -2,7 +2,7 @@
 
 ghost use Rattle.std.specs.Prelude.{◌≡◌, ◌==◌, ◌⊎◌, replicate};
 ghost use Rattle.c_calls.specs.Prelude.{ClosesHandle};
-ghost use Rattle.c_pages.specs.Prelude.{TellsFault};
+ghost use Rattle.c_pages.specs.Prelude.{ReportsFault};
 ghost use Rattle.uip_c.specs.Prelude.{NoDevice, OpensFine, has_device};
 
 use crate::handle::{UipDevice, put_line, take_out};
@@ -25,7 +25,7 @@ pub extern "C" fn uip_open(
     ensures known { (result.status ≡ OK) ⊎ (result.status ≡ HAS_DEVICE) ⊎ (result.status ≡ BAD_IMAGE) ⊎ (result.status ≡ NO_MEMORY) }
     ensures fine { result.status ≡ OK → OpensFine image.now own.now device.old.held.device device.new.held.device }
     ensures has_device { (result.status == HAS_DEVICE) ≡ has_device device.old.held.device }
-    ensures bad_site { result.status ≡ BAD_IMAGE → TellsFault image.now result.entry result.word }
+    ensures bad_site { result.status ≡ BAD_IMAGE → ReportsFault image.now result.entry result.word }
     ensures no_fault { (result.status ≡ BAD_IMAGE → ⊥) → (result.entry ≡ 0) × (result.word ≡ replicate 8 0) }
     ensures refused { (result.status ≡ OK → ⊥) → device.new ≡ device.old }
 {
