@@ -1,14 +1,7 @@
 -- Calls on a handle, one after the other, are exact.
-use Rattle.uip_app_c.proofs.Prelude.{AbstractNode, Act, Addr, AnsweredCall, AppCall, Bool, Calls, CallsAreExact, CallsSlot, CouldWrite, DidCall, DidCalls, DoesNothing, Ethernet, FrameCall, HasOwn, InputsFrame, IsExact, Kept, List, Listens, Mac, Network, None, OpensOwn, OwnAnswers, OwnEther, OwnListens, OwnTakes, OwnWrites, PlainMessage, Represents, RepresentsStation, Some, Station, Writes, [], ◌∷◌, ap, call_at, choose, first_station, interface_at, is_for_closed_port, is_own_port, link_of, own_spec, ports_after, ports_after_call, ports_of, station_after_call, subst, sym, undropped, with_port, with_written, ℕ, ◌∙◌, ◌≡◌}
-use Rattle.frame_device.specs.ProgramCalls.{DidInTurn, before_program_call, program_calls, program_frame}
+use Rattle.uip_app_c.proofs.Prelude.{AbstractNode, Act, Addr, AnsweredCall, AppCall, Bool, Calls, CallsAreExact, CallsSlot, CouldWrite, DidCall, DidCalls, DoesNothing, Ethernet, FrameCall, HasOwn, InputsFrame, IsExact, Kept, List, Listens, Mac, Network, None, OpensOwn, OwnAnswers, OwnEther, OwnListens, OwnTakes, OwnWrites, PlainMessage, Represents, RepresentsStation, Some, Station, Writes, [], ◌∷◌, ap, call_at, choose, first_station, interface_at, is_for_closed_port, is_own_port, link_of, own_spec, ports_after, ports_after_call, ports_of, station_after_call, subst, sym, undropped, with_port, with_written, ℕ, ◌∙◌, ◌≡◌, DidInTurn, before_program_call, program_calls, program_frame, all_exact, events_of_call, node_of_call, is_open_port, no_message, numbers_of, AreAtOpenPorts, All, app_program, station_after_calls, connection_in}
 use Rattle.frame_device.proofs.Arrivals.{frame_each, slot_each}
-use Rattle.frame_device.proofs.ProgramLaws.{all_exact, events_of_call, node_of_call}
-use Rattle.own_app.specs.Prelude.{is_open_port, no_message, numbers_of}
 use Rattle.own_node.proofs.OpenPorts.{IsAt, first_at, frame_at, run_at, stays_open}
-use Rattle.own_node.specs.Prelude.{AreAtOpenPorts}
-use Rattle.std.specs.List.{All}
-use Rattle.uip_app_c.specs.Prelude.{app_program, station_after_calls}
-use Rattle.uip_node.specs.Prelude.{connection_in}
 use Rattle.frame_device.specs.contracts.ether.EthernetFrames.TheImpl.{ghosts as ether_link}
 use Rattle.own_app.specs.contracts.app.OwnAppApp.TheImpl.{ghosts}
 

@@ -8,9 +8,7 @@ ghost use Rattle.uip_app_c.specs.Prelude.{CannotWrite, OwnAnswers, OwnTakes, Own
 
 use crate::handle::{AppDevice, put_in, take_out};
 use crate::held::OwnEther;
-use c_calls::{
-    BAD_ARGUMENT, NO_DEVICE, NOT_READY, OK, UipReceived, UipResult, copy_prefix, flag,
-};
+use c_calls::{BAD_ARGUMENT, NO_DEVICE, NOT_READY, OK, UipReceived, UipResult, copy_prefix, flag};
 use frame_device::LARGEST_OUT;
 use own_app::MESSAGE_ROOM;
 use own_node::{is_for_closed_port, is_ready, own_port, pending, write};

@@ -1,16 +1,8 @@
 -- Calls on a handle, one after the other, are exact.
-use Rattle.uip_both_c.proofs.Prelude.{Act, Addr, AbstractNode, AnsweredCall, AppState, Bool, BothAnswers, BothApps, BothAtStation, BothCall, BothEther, BothGives, BothListens, BothTakes, BothWrites, Calls, CallsAreExact, CallsSlot, CouldWrite, DidCall, DidCalls, DoesNothing, Ethernet, File, FrameCall, Gives, HasBoth, InputsFrame, IsExact, Kept, List, Listens, Mac, Network, None, OpensBothAs, PlainMessage, Represents, Some, Station, Writes, [], ◌∷◌, ap, both, both_spec, call_at, change_own, choose, files_of, first_station, interface_at, first_both_numbers, is_dropped, ports_after, ports_after_call, ports_of, site_of, station_after_call, subst, sym, true, undropped, with_change, with_port, with_ports_of, write_message, ℕ, ◌∙◌, ◌≡◌}
+use Rattle.uip_both_c.proofs.Prelude.{Act, Addr, AbstractNode, AnsweredCall, AppState, Bool, BothAnswers, BothApps, BothAtStation, BothCall, BothEther, BothGives, BothListens, BothTakes, BothWrites, Calls, CallsAreExact, CallsSlot, CouldWrite, DidCall, DidCalls, DoesNothing, Ethernet, File, FrameCall, Gives, HasBoth, InputsFrame, IsExact, Kept, List, Listens, Mac, Network, None, OpensBothAs, PlainMessage, Represents, Some, Station, Writes, [], ◌∷◌, ap, both, both_spec, call_at, change_own, choose, files_of, first_station, interface_at, first_both_numbers, is_dropped, ports_after, ports_after_call, ports_of, site_of, station_after_call, subst, sym, true, undropped, with_change, with_port, with_ports_of, write_message, ℕ, ◌∙◌, ◌≡◌, DidInTurn, before_program_call, program_calls, program_frame, all_exact, events_of_call, node_of_call, is_open_port, AreAtOpenPorts, eqb, All, both_program, is_both_port, link_of, station_after_calls, connection_in}
 use Rattle.app_pair.specs.declared.pair.AppPair.TheVariants as pair
-use Rattle.frame_device.specs.ProgramCalls.{DidInTurn, before_program_call, program_calls, program_frame}
 use Rattle.frame_device.proofs.Arrivals.{frame_each, slot_each}
-use Rattle.frame_device.proofs.ProgramLaws.{all_exact, events_of_call, node_of_call}
-use Rattle.own_app.specs.Prelude.{is_open_port}
 use Rattle.own_node.proofs.OpenPorts.{IsAt, first_at, frame_at, or_more, run_at, stays_open}
-use Rattle.own_node.specs.Prelude.{AreAtOpenPorts}
-use Rattle.std.proofs.Common.{eqb}
-use Rattle.std.specs.List.{All}
-use Rattle.uip_both_c.specs.Prelude.{both_program, is_both_port, link_of, station_after_calls}
-use Rattle.uip_node.specs.Prelude.{connection_in}
 use Rattle.uip_wire.specs.declared.port.TheConstants.{WEB_PORT}
 use Rattle.frame_device.specs.contracts.ether.EthernetFrames.TheImpl.{ghosts as ether_link}
 

@@ -8,9 +8,7 @@ ghost use Rattle.uip_both_c.specs.Prelude.{BothAnswers, BothTakes, BothWrites, C
 
 use crate::device::{call_slot, is_ready, own_port, pending, take_frame, write};
 use crate::handle::{UipDevice, put_in, take_out};
-use c_calls::{
-    BAD_ARGUMENT, NO_DEVICE, NOT_READY, OK, UipReceived, UipResult, copy_prefix, flag,
-};
+use c_calls::{BAD_ARGUMENT, NO_DEVICE, NOT_READY, OK, UipReceived, UipResult, copy_prefix, flag};
 use frame_device::LARGEST_OUT;
 use own_app::MESSAGE_ROOM;
 use std::alloc::Global;
