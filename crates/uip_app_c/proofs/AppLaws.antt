@@ -1,5 +1,5 @@
 -- Calls on a handle, one after the other, are exact.
-use Rattle.uip_app_c.proofs.Prelude.{AbstractNode, Act, Addr, AnsweredCall, AppCall, Bool, Calls, CallsAreExact, CallsSlot, CouldWrite, DidCall, DidCalls, DoesNothing, Ethernet, FrameCall, HasOwn, InputsFrame, IsExact, Kept, List, Listens, Mac, Network, None, OpensOwn, OwnAnswers, OwnEther, OwnListens, OwnTakes, OwnWrites, PlainMessage, Represents, RepresentsStation, Some, Station, Writes, [], ◌∷◌, ap, call_at, choose, first_station, interface_at, is_for_closed_port, is_own_port, link_of, own_spec, ports_after, ports_after_call, ports_of, station_after_call, subst, sym, undropped, with_port, with_written, ℕ, ◌∙◌, ◌≡◌, DidInTurn, before_program_call, program_calls, program_frame, all_exact, events_of_call, node_of_call, is_open_port, no_message, numbers_of, AreAtOpenPorts, All, app_program, station_after_calls, connection_in}
+use Rattle.uip_app_c.proofs.Prelude.{AbstractNode, Act, Addr, AnsweredCall, AppCall, Bool, Calls, CallsAreExact, CallsSlot, CouldWrite, DidCall, DidCalls, DoesNothing, Ethernet, FrameCall, HasOwn, InputsFrame, IsExact, Kept, List, Listens, Mac, Network, None, OpensOwn, OwnAnswers, OwnEther, OwnListens, OwnInputs, OwnWrites, PlainMessage, Represents, RepresentsStation, Some, Station, Writes, [], ◌∷◌, ap, call_at, choose, first_station, interface_at, is_for_closed_port, is_own_port, link_of, own_spec, ports_after, ports_after_call, ports_of, station_after_call, subst, sym, undropped, with_port, with_written, ℕ, ◌∙◌, ◌≡◌, DidInTurn, before_program_call, program_calls, program_frame, all_exact, events_of_call, node_of_call, is_open_port, no_message, numbers_of, AreAtOpenPorts, All, app_program, station_after_calls, connection_in}
 use Rattle.frame_device.proofs.Arrivals.{frame_each, slot_each}
 use Rattle.own_node.proofs.OpenPorts.{IsAt, first_at, frame_at, run_at, stays_open}
 use Rattle.frame_device.specs.contracts.ether.EthernetFrames.TheImpl.{ghosts as ether_link}
@@ -28,9 +28,9 @@ HasPorts ports kept = HasOwn (λ d. ports_of d ≡ ports) kept
 ports_were : (ports : List ℕ) (a : Kept) (x : OwnEther) → HasPorts ports a → a ≡ Some x → ports_of x ≡ ports
 ports_were ports a x has was = ap (λ (d : OwnEther). ports_of d) (same_own x has.0 (sym was ∙ has.1)) ∙ has.2
 
-takes_undropped : (ports frame : List ℕ) (a b : Kept) (handed : List ℕ) → HasPorts ports a → OwnTakes frame a b handed
+inputs_undropped : (ports frame : List ℕ) (a b : Kept) (handed : List ℕ) → HasPorts ports a → OwnInputs frame a b handed
     → Did (call_at ports (Calls (InputsFrame frame))) a b handed × HasPorts ports b
-takes_undropped ports frame a b handed has it =
+inputs_undropped ports frame a b handed has it =
     let were = ports_were ports a it.before has it.was in
     let same = ap (λ (l : List ℕ). is_for_closed_port l frame) were in
     choose (λ (call : FrameCall). Did (Calls call) a b handed × HasPorts ports b) (is_for_closed_port ports frame) DoesNothing (InputsFrame frame)
@@ -41,7 +41,7 @@ takes_undropped ports frame a b handed has it =
 
 one_undropped : (ports : List ℕ) (call : AppCall) (a b : Kept) (handed : List ℕ) → HasPorts ports a → DidCall call a b handed
     → Did (call_at ports call) a b handed × HasPorts (ports_after_call call ports) b
-one_undropped ports (Calls (InputsFrame frame)) a b handed has it = takes_undropped ports frame a b handed has it
+one_undropped ports (Calls (InputsFrame frame)) a b handed has it = inputs_undropped ports frame a b handed has it
 one_undropped ports (Calls (CallsSlot slot)) a b handed has it = (it, (it.after, it.is, it.holds.kept ∙ ports_were ports a it.before has it.was))
 one_undropped ports (Calls DoesNothing) a b handed has it = (it, (has.0, it.0 ∙ has.1, has.2))
 one_undropped ports (Writes slot taken text last) a b handed has it =

@@ -15,7 +15,7 @@ use Rattle.own_app.specs.contracts.app.OwnAppApp.TheImpl.{ghosts}
 use Rattle.own_node.specs.Prelude.{AreAtOpenPorts, can_write_in, is_for_closed_port, next_message}
 use Rattle.uip_app_c.specs.Handles.{OpensOwn, OwnAnswers, OwnWrites}
 use Rattle.uip_app_c.specs.Kept.{HasOwn, Kept}
-use Rattle.uip_app_c.specs.Ports.{OwnListens, OwnTakes, ports_of}
+use Rattle.uip_app_c.specs.Ports.{OwnListens, OwnInputs, ports_of}
 
 -- `Calls`: a frame is received, or a slot is called. A call that is refused or that reads is `Calls DoesNothing`. `Listens`: a port is
 -- opened.
@@ -30,7 +30,7 @@ AnsweredCall = AnsweredBy AppCall
 -- What a call did, by its clauses.
 abbrev pub DidCall : AppCall → Kept → Kept → List ℕ → Type 0
 DidCall (Calls DoesNothing) old new handed = (new ≡ old) × (handed ≡ [])
-DidCall (Calls (InputsFrame frame)) old new handed = OwnTakes frame old new handed
+DidCall (Calls (InputsFrame frame)) old new handed = OwnInputs frame old new handed
 DidCall (Calls (CallsSlot slot)) old new handed = OwnAnswers (CallsSlot slot) old new handed
 DidCall (Writes slot taken text last) old new handed = OwnWrites slot taken text last old new handed
 DidCall (Listens port) old new handed = OwnListens port old new × (handed ≡ [])

@@ -28,10 +28,10 @@ has_no_room port (Some d) = not (can_listen port (ports_of d))
 
 -- A frame for a port that is not open is dropped: no bytes were written, and nothing changed. Any other frame was received, and the call
 -- wrote this frame, or no bytes.
-abbrev pub TakesFrame : List ℕ → OwnEther → OwnEther → List ℕ → Type 0
-TakesFrame frame old new handed =
+abbrev pub InputsOrDrops : List ℕ → OwnEther → OwnEther → List ℕ → Type 0
+InputsOrDrops frame old new handed =
     DropsOr (AnswersFrame ghosts ether_link (InputsFrame frame) old new handed) (is_for_closed_port (ports_of old) frame) old new handed
 
 -- There was a device and there still is one, which took this frame so.
-abbrev pub OwnTakes : List ℕ → Kept → Kept → List ℕ → Type 0
-OwnTakes frame old new handed = StillHas Some (λ before after. TakesFrame frame before after handed) old new
+abbrev pub OwnInputs : List ℕ → Kept → Kept → List ℕ → Type 0
+OwnInputs frame old new handed = StillHas Some (λ before after. InputsOrDrops frame before after handed) old new

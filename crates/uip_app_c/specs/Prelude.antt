@@ -6,4 +6,4 @@ pub use Rattle.uip_app_c.specs.AppPromise.{AppCallsConform, AppTraceConforms, Ca
 pub use Rattle.uip_app_c.specs.Handles.{CannotWrite, IsFreshOwnEther, OpensOwn, OwnAnswers, OwnWrites, ReadsSlot}
 pub use Rattle.uip_app_c.specs.Holding.{DeviceRow, holds}
 pub use Rattle.uip_app_c.specs.Kept.{HasOwn, Kept, OwnEther}
-pub use Rattle.uip_app_c.specs.Ports.{OpensPort, OwnListens, OwnTakes, TakesFrame, has_no_room, ports_of}
+pub use Rattle.uip_app_c.specs.Ports.{OpensPort, OwnListens, OwnInputs, InputsOrDrops, has_no_room, ports_of}

@@ -4,7 +4,7 @@ ghost use Rattle.std.specs.Prelude.{◌≡◌, ◌==◌, ◌||◌, ◌≤◌, le
 ghost use Rattle.std.specs.declared.option.Option.TheVariants.{None};
 ghost use Rattle.c_calls.specs.Prelude.{IsCallStatus, IsWriteStatus, Refused};
 ghost use Rattle.frame_device.specs.Prelude.{CallsSlot};
-ghost use Rattle.uip_app_c.specs.Prelude.{CannotWrite, OwnAnswers, OwnTakes, OwnWrites, ReadsSlot, TakesFrame};
+ghost use Rattle.uip_app_c.specs.Prelude.{CannotWrite, OwnAnswers, OwnInputs, OwnWrites, ReadsSlot, InputsOrDrops};
 
 use crate::handle::{AppDevice, put_in, take_out};
 use crate::held::OwnEther;
@@ -16,12 +16,12 @@ use std::alloc::Global;
 
 /// Receives a frame of a device, unless it is for a port that is not open. Writes the frame that is sent, if there is one, to the same
 /// place. Returns its length.
-fn take_frame(device: &mut OwnEther, frame: &mut [u8], len: usize) -> usize
+fn input_or_drop(device: &mut OwnEther, frame: &mut [u8], len: usize) -> usize
     requires within { len ≤ length frame.old }
     requires room { LARGEST_OUT ≤ length frame.old }
     ensures long { length frame.new ≡ length frame.old }
     ensures wrote { result ≤ length frame.new }
-    ensures takes { TakesFrame (take len frame.old) device.old device.new (take result frame.new) }
+    ensures inputs { InputsOrDrops (take len frame.old) device.old device.new (take result frame.new) }
 {
     if is_for_closed_port(device.node.shared.ports.as_slice(), &frame[..len]) {
         return 0;
@@ -41,7 +41,7 @@ pub extern "C" fn uip_app_input_frame(
 ) -> UipResult
     ensures known { IsCallStatus result.status }
     ensures fine { result.status ≡ OK
-        → OwnTakes (take len frame.old) device.old.held.device device.new.held.device (take result.written frame.new) }
+        → OwnInputs (take len frame.old) device.old.held.device device.new.held.device (take result.written frame.new) }
     ensures whole { result.status ≡ OK → result.consumed ≡ len }
     ensures within { result.written ≤ length frame.new }
     ensures pending { result.pending ≡ 0 }
@@ -56,7 +56,7 @@ pub extern "C" fn uip_app_input_frame(
     let Some(mut opened) = take_out(alloc, device) else {
         return UipResult::refused(NO_DEVICE);
     };
-    let written = take_frame(&mut opened, frame, len);
+    let written = input_or_drop(&mut opened, frame, len);
     put_in(device, opened);
     UipResult::done(len, written, None)
 }

@@ -1,5 +1,5 @@
 -- Calls on a handle, one after the other, are exact.
-use Rattle.uip_both_c.proofs.Prelude.{Act, Addr, AbstractNode, AnsweredCall, AppState, Bool, BothAnswers, BothApps, BothAtStation, BothCall, BothEther, BothGives, BothListens, BothTakes, BothWrites, Calls, CallsAreExact, CallsSlot, CouldWrite, DidCall, DidCalls, DoesNothing, Ethernet, File, FrameCall, Gives, HasBoth, InputsFrame, IsExact, Kept, List, Listens, Mac, Network, None, OpensBothAs, PlainMessage, Represents, Some, Station, Writes, [], ◌∷◌, ap, both, both_spec, call_at, change_own, choose, files_of, first_station, interface_at, first_both_numbers, is_dropped, ports_after, ports_after_call, ports_of, site_of, station_after_call, subst, sym, true, undropped, with_change, with_port, with_ports_of, write_message, ℕ, ◌∙◌, ◌≡◌, DidInTurn, before_program_call, program_calls, program_frame, all_exact, events_of_call, node_of_call, is_open_port, AreAtOpenPorts, eqb, All, both_program, is_both_port, link_of, station_after_calls, connection_in}
+use Rattle.uip_both_c.proofs.Prelude.{Act, Addr, AbstractNode, AnsweredCall, AppState, Bool, BothAnswers, BothApps, BothAtStation, BothCall, BothEther, BothGives, BothListens, BothInputs, BothWrites, Calls, CallsAreExact, CallsSlot, CouldWrite, DidCall, DidCalls, DoesNothing, Ethernet, File, FrameCall, Gives, HasBoth, InputsFrame, IsExact, Kept, List, Listens, Mac, Network, None, OpensBothAs, PlainMessage, Represents, Some, Station, Writes, [], ◌∷◌, ap, both, both_spec, call_at, change_own, choose, files_of, first_station, interface_at, first_both_numbers, is_dropped, ports_after, ports_after_call, ports_of, site_of, station_after_call, subst, sym, true, undropped, with_change, with_port, with_ports_of, write_message, ℕ, ◌∙◌, ◌≡◌, DidInTurn, before_program_call, program_calls, program_frame, all_exact, events_of_call, node_of_call, is_open_port, AreAtOpenPorts, eqb, All, both_program, is_both_port, link_of, station_after_calls, connection_in}
 use Rattle.app_pair.specs.declared.pair.AppPair.TheVariants as pair
 use Rattle.frame_device.proofs.Arrivals.{frame_each, slot_each}
 use Rattle.own_node.proofs.OpenPorts.{IsAt, first_at, frame_at, or_more, run_at, stays_open}
@@ -34,9 +34,9 @@ ports_were ports a x has was = ap (λ (d : BothEther). ports_of d) (same_both x 
 ports_stay : (d x : BothEther) → both.config x.node.shared ≡ both.config d.node.shared → ports_of x ≡ ports_of d
 ports_stay d x kept = ap (λ (k : both.Config). k.1) kept
 
-takes_undropped : (ports frame : List ℕ) (a b : Kept) (handed : List ℕ) → HasPorts ports a → BothTakes frame a b handed
+inputs_undropped : (ports frame : List ℕ) (a b : Kept) (handed : List ℕ) → HasPorts ports a → BothInputs frame a b handed
     → Did (call_at ports (Calls (InputsFrame frame))) a b handed × HasPorts ports b
-takes_undropped ports frame a b handed has it =
+inputs_undropped ports frame a b handed has it =
     let were = ports_were ports a it.before has it.was in
     let same = ap (λ (l : List ℕ). is_dropped l frame) were in
     choose (λ (call : FrameCall). Did (Calls call) a b handed × HasPorts ports b) (is_dropped ports frame) DoesNothing (InputsFrame frame)
@@ -49,7 +49,7 @@ takes_undropped ports frame a b handed has it =
 
 one_undropped : (ports : List ℕ) (call : BothCall) (a b : Kept) (handed : List ℕ) → HasPorts ports a → DidCall call a b handed
     → Did (call_at ports call) a b handed × HasPorts (ports_after_call call ports) b
-one_undropped ports (Calls (InputsFrame frame)) a b handed has it = takes_undropped ports frame a b handed has it
+one_undropped ports (Calls (InputsFrame frame)) a b handed has it = inputs_undropped ports frame a b handed has it
 one_undropped ports (Calls (CallsSlot slot)) a b handed has it =
     (it, (it.after, it.is, ports_stay it.before it.after it.holds.kept ∙ ports_were ports a it.before has it.was))
 one_undropped ports (Calls DoesNothing) a b handed has it = (it, (has.0, it.0 ∙ has.1, has.2))

@@ -17,7 +17,7 @@ use Rattle.site_image.specs.Prelude.{File}
 use Rattle.uip_both_c.specs.BothSpec.{both, both_spec, first_both_numbers, is_both_port, own_in, site_of}
 use Rattle.uip_both_c.specs.Handles.{BothAnswers, BothGives, BothWrites, OpensBothAs}
 use Rattle.uip_both_c.specs.Kept.{BothEther, HasBoth, Kept}
-use Rattle.uip_both_c.specs.Ports.{BothListens, BothTakes, is_dropped, ports_of}
+use Rattle.uip_both_c.specs.Ports.{BothListens, BothInputs, is_dropped, ports_of}
 use Rattle.uip_device.specs.Prelude.{write_value}
 use Rattle.uip_wire.specs.declared.addr.Addr.{Addr}
 use Rattle.uip_wire.specs.declared.port.TheConstants.{WEB_PORT}
@@ -36,7 +36,7 @@ AnsweredCall = AnsweredBy BothCall
 -- What a call did, by its clauses.
 abbrev pub DidCall : BothCall → Kept → Kept → List ℕ → Type 0
 DidCall (Calls DoesNothing) old new handed = (new ≡ old) × (handed ≡ [])
-DidCall (Calls (InputsFrame frame)) old new handed = BothTakes frame old new handed
+DidCall (Calls (InputsFrame frame)) old new handed = BothInputs frame old new handed
 DidCall (Calls (CallsSlot slot)) old new handed = BothAnswers (CallsSlot slot) old new handed
 DidCall (Writes slot taken text last) old new handed = BothWrites slot taken text last old new handed
 DidCall (Gives number text) old new handed = BothGives number text old new × (handed ≡ [])

@@ -40,10 +40,10 @@ is_dropped ports frame = is_for_closed_port (WEB_PORT ∷ ports) frame
 
 -- A frame for a port that is not open is dropped: no bytes were written, and nothing changed. Any other frame was received, and the call
 -- wrote this frame, or no bytes.
-abbrev pub TakesFrame : List ℕ → BothEther → BothEther → List ℕ → Type 0
-TakesFrame frame old new handed =
+abbrev pub InputsOrDrops : List ℕ → BothEther → BothEther → List ℕ → Type 0
+InputsOrDrops frame old new handed =
     DropsOr (AnswersFrame both ether_link (InputsFrame frame) old new handed) (is_dropped (ports_of old) frame) old new handed
 
 -- There was a device and there still is one, which took this frame so.
-abbrev pub BothTakes : List ℕ → Kept → Kept → List ℕ → Type 0
-BothTakes frame old new handed = StillHas Some (λ before after. TakesFrame frame before after handed) old new
+abbrev pub BothInputs : List ℕ → Kept → Kept → List ℕ → Type 0
+BothInputs frame old new handed = StillHas Some (λ before after. InputsOrDrops frame before after handed) old new

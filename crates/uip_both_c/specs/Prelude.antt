@@ -10,4 +10,4 @@ pub use Rattle.uip_both_c.specs.Handles.{BothAnswers, BothGives, BothWrites, Can
 pub use Rattle.uip_both_c.specs.Holding.{DeviceRow, holds}
 pub use Rattle.uip_both_c.specs.Kept.{BothApps, BothEther, BothNode, BothShared, HasBoth, Kept}
 pub use Rattle.uip_both_c.specs.Opening.{IsOpenedBoth, OpensBoth, OpensBothEther}
-pub use Rattle.uip_both_c.specs.Ports.{BothListens, BothTakes, OpensPort, TakesFrame, has_no_room, is_dropped, ports_of, with_ports_of}
+pub use Rattle.uip_both_c.specs.Ports.{BothListens, BothInputs, OpensPort, InputsOrDrops, has_no_room, is_dropped, ports_of, with_ports_of}

@@ -4,9 +4,9 @@ ghost use Rattle.std.specs.Prelude.{◌≡◌, ◌==◌, ◌||◌, ◌≤◌, le
 ghost use Rattle.std.specs.declared.option.Option.TheVariants.{None};
 ghost use Rattle.c_calls.specs.Prelude.{IsCallStatus, IsWriteStatus, Refused};
 ghost use Rattle.frame_device.specs.Prelude.{CallsSlot};
-ghost use Rattle.uip_both_c.specs.Prelude.{BothAnswers, BothTakes, BothWrites, CannotWrite, ReadsSlot};
+ghost use Rattle.uip_both_c.specs.Prelude.{BothAnswers, BothInputs, BothWrites, CannotWrite, ReadsSlot};
 
-use crate::device::{call_slot, is_ready, own_port, pending, take_frame, write};
+use crate::device::{call_slot, is_ready, own_port, pending, input_or_drop, write};
 use crate::handle::{UipDevice, put_in, take_out};
 use c_calls::{BAD_ARGUMENT, NO_DEVICE, NOT_READY, OK, UipReceived, UipResult, copy_prefix, flag};
 use frame_device::LARGEST_OUT;
@@ -25,7 +25,7 @@ pub extern "C" fn uip_input_frame(
 ) -> UipResult
     ensures known { IsCallStatus result.status }
     ensures fine { result.status ≡ OK
-        → BothTakes (take len frame.old) device.old.held.device device.new.held.device (take result.written frame.new) }
+        → BothInputs (take len frame.old) device.old.held.device device.new.held.device (take result.written frame.new) }
     ensures whole { result.status ≡ OK → result.consumed ≡ len }
     ensures within { result.written ≤ length frame.new }
     ensures pending { result.pending ≡ 0 }
@@ -40,7 +40,7 @@ pub extern "C" fn uip_input_frame(
     let Some(mut opened) = take_out(alloc, device) else {
         return UipResult::refused(NO_DEVICE);
     };
-    let written = take_frame(&mut opened, frame, len);
+    let written = input_or_drop(&mut opened, frame, len);
     put_in(device, opened);
     UipResult::done(len, written, None)
 }

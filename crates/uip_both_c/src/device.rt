@@ -6,7 +6,7 @@ ghost use Rattle.frame_device.specs.Prelude.{AnswersFrame, CallsSlot, ChangesNum
 ghost use Rattle.frame_device.specs.contracts.ether.EthernetFrames.TheImpl.{ghosts as ether_link};
 ghost use Rattle.own_app.specs.Prelude.{can_listen};
 ghost use Rattle.own_node.specs.Prelude.{WritesMessageWith, can_write_at, is_ready_at, pending_at, seen_in_pair};
-ghost use Rattle.uip_both_c.specs.Prelude.{OfBoth, OpensPort, TakesFrame, both, own_in, own_port_in, ports_of};
+ghost use Rattle.uip_both_c.specs.Prelude.{OfBoth, OpensPort, InputsOrDrops, both, own_in, own_port_in, ports_of};
 ghost use Rattle.uip_device.specs.Prelude.{write_value};
 
 use crate::held::BothEther;
@@ -17,12 +17,12 @@ use own_node::is_for_closed_port_of_pair;
 
 /// Receives the frame of `len` bytes at the start of a buffer, unless it is for a port that is not open. Writes the frame that is sent, if
 /// there is one, to the same place. Returns its length.
-pub(crate) fn take_frame(device: &mut BothEther, frame: &mut [u8], len: usize) -> usize
+pub(crate) fn input_or_drop(device: &mut BothEther, frame: &mut [u8], len: usize) -> usize
     requires within { len ≤ length frame.old }
     requires room { LARGEST_OUT ≤ length frame.old }
     ensures long { length frame.new ≡ length frame.old }
     ensures wrote { result ≤ length frame.new }
-    ensures takes { TakesFrame (take len frame.old) device.old device.new (take result frame.new) }
+    ensures inputs { InputsOrDrops (take len frame.old) device.old device.new (take result frame.new) }
 {
     if is_for_closed_port_of_pair(device.node.shared.second.ports.as_slice(), &frame[..len]) {
         return 0;
