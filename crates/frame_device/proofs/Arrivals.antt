@@ -1,5 +1,5 @@
 -- What holds of the events of a call, if it holds of that of its datagram.
-use Rattle.frame_device.proofs.Prelude.{All, All-cons, All-nil, ◌≡◌, ℕ, ◌==◌, ◌&&◌, ◌||◌, List, [], ◌∷◌, ◌++◌, drop, length, map, nat_lt, sym, subst, choose, bytes_eq, word_at, Addr, Event, event_of, Periodic, MediumInput, OfMedium, OfNode, station_event_by, events_among, Act, Pair, arp_brings, broadcast, frame_brings, is_arp, is_arp_for, is_datagram, is_taken, mac_at, payload_brings, sender_of, acts_before, CallsSlot, InputsFrame, Interface, ether_frames, station_events_by}
+use Rattle.frame_device.proofs.Prelude.{All, All-cons, All-nil, ◌≡◌, ℕ, ◌==◌, ◌&&◌, ◌||◌, List, [], drop, length, map, nat_lt, sym, subst, choose, bytes_eq, word_at, Addr, Event, event_of, Periodic, MediumInput, station_event_by, events_among, Act, Pair, arp_brings, broadcast, frame_brings, is_arp, is_arp_for, is_datagram, is_taken, mac_at, payload_brings, sender_of, acts_before, CallsSlot, InputsFrame, Interface, ether_frames, station_events_by}
 use Rattle.frame_device.proofs.ProgramLaws.{periodic_events}
 use Rattle.std.proofs.lemmas.Bool.{and_parts, eqb-true}
 

@@ -129,7 +129,8 @@ pub record IsExact (files : List File) (own : Addr) (mac : Mac) (network : Netwo
 
 -- The open ports of the device are those that the calls opened. Each connection that is not CLOSED is at one of them, or at that of the
 -- pages.
-pub record HasOpenPorts (files : List File) (own : Addr) (mac : Mac) (network : Network) (all : List AnsweredCall) (new : Kept) : Type 0 where
+pub record HasOpenPorts (files : List File) (own : Addr) (mac : Mac) (network : Network) (all : List AnsweredCall) (new : Kept)
+    : Type 0 where
   pub ports : HasBoth (λ d. ports_of d ≡ ports_after (program_calls all) []) new
   pub connections : AreAtOpenPorts (WEB_PORT ∷ ports_after (program_calls all) [])
       (station_after_calls files own mac network (program_calls (undropped [] all)) (first_station files own)).node
