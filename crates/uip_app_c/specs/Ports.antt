@@ -32,6 +32,6 @@ abbrev pub InputsOrDrops : List ℕ → OwnEther → OwnEther → List ℕ → T
 InputsOrDrops frame old new handed =
     DropsOr (AnswersFrame ghosts ether_link (InputsFrame frame) old new handed) (is_for_closed_port (ports_of old) frame) old new handed
 
--- There was a device and there still is one, which took this frame so.
+-- There was a device and there still is one, which received this frame or dropped it.
 abbrev pub OwnInputs : List ℕ → Kept → Kept → List ℕ → Type 0
 OwnInputs frame old new handed = StillHas Some (λ before after. InputsOrDrops frame before after handed) old new

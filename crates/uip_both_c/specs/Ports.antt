@@ -44,6 +44,6 @@ abbrev pub InputsOrDrops : List ℕ → BothEther → BothEther → List ℕ →
 InputsOrDrops frame old new handed =
     DropsOr (AnswersFrame both ether_link (InputsFrame frame) old new handed) (is_dropped (ports_of old) frame) old new handed
 
--- There was a device and there still is one, which took this frame so.
+-- There was a device and there still is one, which received this frame or dropped it.
 abbrev pub BothInputs : List ℕ → Kept → Kept → List ℕ → Type 0
 BothInputs frame old new handed = StillHas Some (λ before after. InputsOrDrops frame before after handed) old new
