@@ -132,7 +132,7 @@ messages_sent : (files : List File) (c : Connection) (exchanges : List Exchange)
 messages_sent files c exchanges it mine =
     let model_is : both_model files c.sockets.own_port.0 ≡ own_model true (own_output_model c.sockets.own_port.0) =
     ap (λ (b : Bool). if b then own_model true (own_output_model c.sockets.own_port.0) else own_model false (at_every_port (value_pages files) c.sockets.own_port.0)) mine in
-    let text = subst (λ (model : OutputModel). TextConforms model it.incarnation (it.conforms.account 0)) model_is (newest_text (both_model files c.sockets.own_port.0) c exchanges it) in
+    let text = subst (λ (model : OutputModel). TextConforms model it.newest.incarnation (it.conforms.account 0)) model_is (newest_text (both_model files c.sockets.own_port.0) c exchanges it) in
     subst (λ (ks : List Snapshot). IsPrefixOf (it.conforms.account 0).stream (messages_text (map (own_snapshot true) ks))) it.snapshots text.0.2.prefix
 
 both_words : (files : List File) → All IsU32 (first_both_numbers files)
