@@ -4,6 +4,8 @@ ghost use Rattle.std.specs.Prelude.{◌≡◌, length, take};
 ghost use Rattle.uip_wire.specs.Prelude.{written};
 ghost use Rattle.c_calls.specs.Results.{flag_of};
 
+use crate::status::OK;
+
 /// What was read of a connection: whether it is ready for a message (1), its port, and how many bytes are pending. The port is 0 if the
 /// connection is not open.
 #[repr(C)]
@@ -16,17 +18,33 @@ pub struct UipReceived {
 }
 
 impl UipReceived {
+    /// Reports a status with what was read.
+    #[inline]
+    fn new(status: u32, ready: u32, port: u32, len: usize) -> UipReceived
+        ensures { result ≡ record { status = status; ready = ready; port = port; len = len } }
+    {
+        UipReceived {
+            status,
+            ready,
+            port,
+            len,
+        }
+    }
+
+    /// Reports a connection that was read.
+    #[inline]
+    pub fn read(is_ready: bool, port: u16, len: usize) -> UipReceived
+        ensures { result ≡ record { status = OK; ready = flag_of is_ready; port = port; len = len } }
+    {
+        UipReceived::new(OK, flag(is_ready), port as u32, len)
+    }
+
     /// Reports a status without a connection.
     #[inline]
     pub fn unread(status: u32) -> UipReceived
         ensures { result ≡ record { status = status; ready = 0; port = 0; len = 0 } }
     {
-        UipReceived {
-            status,
-            ready: 0,
-            port: 0,
-            len: 0,
-        }
+        UipReceived::new(status, 0, 0, 0)
     }
 }
 

@@ -2,6 +2,7 @@
 #![tactic(auto)]
 
 mod number;
+mod open_device;
 mod opened;
 mod query;
 mod row;

@@ -1,16 +1,18 @@
-//! The calls over Ethernet (RFC 894) with ARP (RFC 826); what the program reads of a connection, and writes to it.
+//! The calls over Ethernet (RFC 894) with ARP (RFC 826); what the program reads of a connection, and writes to it; the ports that it opens.
 
-ghost use Rattle.std.specs.Prelude.{◌≡◌, ◌==◌, ◌||◌, ◌≤◌, length, nat_le, nat_lt, take};
+ghost use Rattle.std.specs.Prelude.{◌≡◌, ◌==◌, ◌||◌, ◌≤◌, false, length, nat_le, nat_lt, not, take, true};
 ghost use Rattle.std.specs.declared.option.Option.TheVariants.{None};
 ghost use Rattle.c_calls.specs.Prelude.{IsCallStatus, IsWriteStatus, Refused};
 ghost use Rattle.frame_device.specs.Prelude.{CallsSlot};
-ghost use Rattle.uip_app_c.specs.Prelude.{CannotWrite, OwnAnswers, OwnInputs, OwnWrites, ReadsSlot, InputsOrDrops};
+ghost use Rattle.own_app.specs.Prelude.{can_listen, is_program_port};
+ghost use Rattle.uip_app_c.specs.Prelude.{CannotWrite, InputsOrDrops, OpensPort, OwnAnswers, OwnInputs, OwnListens, OwnWrites, ReadsSlot};
+ghost use Rattle.uip_app_c.specs.Prelude.{has_no_room, ports_of};
 
 use crate::handle::{AppDevice, put_in, take_out};
 use crate::held::OwnEther;
-use c_calls::{BAD_ARGUMENT, NO_DEVICE, NOT_READY, OK, UipReceived, UipResult, copy_prefix, flag};
+use c_calls::{BAD_ARGUMENT, NO_DEVICE, NOT_READY, OK, UipReceived, UipResult, copy_prefix};
 use frame_device::LARGEST_OUT;
-use own_app::MESSAGE_ROOM;
+use own_app::{MESSAGE_ROOM, is_program_port};
 use own_node::{is_for_closed_port, is_ready, own_port, pending, write};
 use std::alloc::Global;
 
@@ -114,16 +116,11 @@ pub extern "C" fn uip_app_read(
     let Some(opened) = take_out(alloc, device) else {
         return UipReceived::unread(NO_DEVICE);
     };
-    let ready = flag(is_ready(&opened.node, slot));
-    let port = own_port(&opened.node, slot) as u32;
+    let is_ready = is_ready(&opened.node, slot);
+    let port = own_port(&opened.node, slot);
     let len = copy_prefix(pending(&opened.node, slot), bytes);
     put_in(device, opened);
-    UipReceived {
-        status: OK,
-        ready,
-        port,
-        len,
-    }
+    UipReceived::read(is_ready, port, len)
 }
 
 /// Writes a message of at most 260 bytes to the connection in a slot, and makes the periodic call of the slot, which sends it. The message
@@ -163,4 +160,33 @@ pub extern "C" fn uip_app_write(
     let sent = opened.periodic(slot, frame);
     put_in(device, opened);
     UipResult::done(0, sent, None)
+}
+
+/// Opens a port of a device. Returns false and changes nothing if it is not open and four others are.
+fn listen(device: &mut OwnEther, port: u16) -> bool
+    ensures can { result ≡ can_listen port (ports_of device.old) }
+    ensures opens { result ≡ true → OpensPort port device.old device.new }
+    ensures refused { result ≡ false → device.new ≡ device.old }
+{
+    device.node.shared.listen(port)
+}
+
+/// Opens a port, at most four, for the application. A device that was just opened has none. A port that is open stays open.
+#[unsafe(no_mangle)]
+pub extern "C" fn uip_app_listen(alloc: Global, device: &mut AppDevice, port: u32) -> u32
+    ensures known { IsCallStatus result }
+    ensures fine { result ≡ OK → OwnListens port device.old.held.device device.new.held.device }
+    ensures no_device { result ≡ NO_DEVICE → device.old.held.device ≡ None }
+    ensures bad_call { (result == BAD_ARGUMENT) ≡ (not (is_program_port port) || has_no_room port device.old.held.device) }
+    ensures refused { (result ≡ OK → ⊥) → device.new.held.device ≡ device.old.held.device }
+{
+    if !is_program_port(port) {
+        return BAD_ARGUMENT;
+    }
+    let Some(mut opened) = take_out(alloc, device) else {
+        return NO_DEVICE;
+    };
+    let can_listen = listen(&mut opened, port as u16);
+    put_in(device, opened);
+    if can_listen { OK } else { BAD_ARGUMENT }
 }

@@ -5,14 +5,14 @@ mod calls;
 mod handle;
 mod held;
 mod laws;
-mod listening;
 mod opening;
 #[cfg(test)]
 mod tests;
 
-pub use calls::{uip_app_input_frame, uip_app_periodic_frame, uip_app_read, uip_app_write};
+pub use calls::{
+    uip_app_input_frame, uip_app_listen, uip_app_periodic_frame, uip_app_read, uip_app_write,
+};
 pub use handle::AppDevice;
 pub use held::{Held, OwnEther};
 pub use laws::{app_calls_are_exact, app_calls_keep_the_promise};
-pub use listening::uip_app_listen;
 pub use opening::{uip_app_close, uip_app_open};

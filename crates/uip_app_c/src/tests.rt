@@ -3,10 +3,11 @@
 ghost use Rattle.std.specs.Prelude.{◌≡◌};
 ghost use Rattle.std.specs.declared.option.Option.TheVariants.{None};
 
-use crate::calls::{uip_app_input_frame, uip_app_periodic_frame, uip_app_read, uip_app_write};
+use crate::calls::{
+    uip_app_input_frame, uip_app_listen, uip_app_periodic_frame, uip_app_read, uip_app_write,
+};
 use crate::handle::AppDevice;
 use crate::held::Held;
-use crate::listening::uip_app_listen;
 use crate::opening::{uip_app_close, uip_app_open};
 use c_calls::{BAD_ARGUMENT, HAS_DEVICE, NO_DEVICE, NOT_READY, OK, UipReceived, UipResult};
 use frame_device::LARGEST_OUT;

@@ -1,16 +1,17 @@
-//! The calls over Ethernet (RFC 894) with ARP (RFC 826); what the program reads of a connection, and writes to it.
+//! The calls over Ethernet (RFC 894) with ARP (RFC 826); what the program reads of a connection, and writes to it; the ports that it opens.
 
-ghost use Rattle.std.specs.Prelude.{◌≡◌, ◌==◌, ◌||◌, ◌≤◌, length, nat_le, nat_lt, take};
+ghost use Rattle.std.specs.Prelude.{◌≡◌, ◌==◌, ◌||◌, ◌≤◌, length, nat_le, nat_lt, not, take};
 ghost use Rattle.std.specs.declared.option.Option.TheVariants.{None};
 ghost use Rattle.c_calls.specs.Prelude.{IsCallStatus, IsWriteStatus, Refused};
 ghost use Rattle.frame_device.specs.Prelude.{CallsSlot};
-ghost use Rattle.uip_both_c.specs.Prelude.{BothAnswers, BothInputs, BothWrites, CannotWrite, ReadsSlot};
+ghost use Rattle.own_app.specs.Prelude.{is_program_port};
+ghost use Rattle.uip_both_c.specs.Prelude.{BothAnswers, BothInputs, BothListens, BothWrites, CannotWrite, ReadsSlot, has_no_room};
 
-use crate::device::{call_slot, is_ready, own_port, pending, input_or_drop, write};
+use crate::device::{call_slot, input_or_drop, is_ready, listen, own_port, pending, write};
 use crate::handle::{UipDevice, put_in, take_out};
-use c_calls::{BAD_ARGUMENT, NO_DEVICE, NOT_READY, OK, UipReceived, UipResult, copy_prefix, flag};
+use c_calls::{BAD_ARGUMENT, NO_DEVICE, NOT_READY, OK, UipReceived, UipResult, copy_prefix};
 use frame_device::LARGEST_OUT;
-use own_app::MESSAGE_ROOM;
+use own_app::{MESSAGE_ROOM, is_program_port};
 use std::alloc::Global;
 
 /// Receives the frame of `len` bytes at the start of `frame`, which has room for 1514 bytes, and writes the frame that is sent, if there is
@@ -98,16 +99,11 @@ pub extern "C" fn uip_read(
     let Some(opened) = take_out(alloc, device) else {
         return UipReceived::unread(NO_DEVICE);
     };
-    let ready = flag(is_ready(&opened, slot));
-    let port = own_port(&opened, slot) as u32;
+    let is_ready = is_ready(&opened, slot);
+    let port = own_port(&opened, slot);
     let len = copy_prefix(pending(&opened, slot), bytes);
     put_in(device, opened);
-    UipReceived {
-        status: OK,
-        ready,
-        port,
-        len,
-    }
+    UipReceived::read(is_ready, port, len)
 }
 
 /// Writes a message of at most 260 bytes to the connection in a slot, and makes the periodic call of the slot, which sends it. The message
@@ -147,4 +143,24 @@ pub extern "C" fn uip_write(
     let sent = call_slot(&mut opened, slot, frame);
     put_in(device, opened);
     UipResult::done(0, sent, None)
+}
+
+/// Opens a port, at most four, for the program's application. A device that was just opened has none. A port that is open stays open.
+#[unsafe(no_mangle)]
+pub extern "C" fn uip_listen(alloc: Global, device: &mut UipDevice, port: u32) -> u32
+    ensures known { IsCallStatus result }
+    ensures fine { result ≡ OK → BothListens port device.old.held.device device.new.held.device }
+    ensures no_device { result ≡ NO_DEVICE → device.old.held.device ≡ None }
+    ensures bad_call { (result == BAD_ARGUMENT) ≡ (not (is_program_port port) || has_no_room port device.old.held.device) }
+    ensures refused { (result ≡ OK → ⊥) → device.new.held.device ≡ device.old.held.device }
+{
+    if !is_program_port(port) {
+        return BAD_ARGUMENT;
+    }
+    let Some(mut opened) = take_out(alloc, device) else {
+        return NO_DEVICE;
+    };
+    let can_listen = listen(&mut opened, port as u16);
+    put_in(device, opened);
+    if can_listen { OK } else { BAD_ARGUMENT }
 }

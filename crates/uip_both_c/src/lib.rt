@@ -6,18 +6,16 @@ mod device;
 mod handle;
 mod held;
 mod laws;
-mod listening;
 mod opening;
 mod pages;
 mod reading;
 #[cfg(test)]
 mod tests;
 
-pub use calls::{uip_input_frame, uip_periodic_frame, uip_read, uip_write};
+pub use calls::{uip_input_frame, uip_listen, uip_periodic_frame, uip_read, uip_write};
 pub use handle::UipDevice;
 pub use held::{BothApps, BothEther, Held};
 pub use laws::{both_calls_are_exact, both_calls_keep_the_promise};
-pub use listening::uip_listen;
 pub use opening::{uip_close, uip_open_ether};
 pub use reading::{
     uip_connection, uip_counter, uip_hits, uip_is_idle, uip_query, uip_set_value, uip_ticks,

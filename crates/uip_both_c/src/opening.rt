@@ -11,7 +11,7 @@ use crate::handle::{UipDevice, put_in, take_out};
 use crate::held::BothEther;
 use app_pair::PairShared;
 use c_calls::{BAD_IMAGE, HAS_DEVICE, NO_MEMORY, OK, free};
-use c_pages::{UipOpened, boxed, plain};
+use c_pages::{UipOpened, open_device, plain};
 use ethernet_arp::Mac;
 use frame_device::{Ethernet, FrameDevice, Network};
 use own_app::OwnShared;
@@ -73,12 +73,7 @@ pub extern "C" fn uip_open_ether(
         router: Addr(*router),
     };
     let made = open_ether(alloc, image, Addr(*own), Mac(*mac), network);
-    let opened = match boxed(alloc, made) {
-        Ok(opened) => opened,
-        Err(refused) => return refused,
-    };
-    put_in(device, opened);
-    plain(OK)
+    open_device!(alloc, device, made => put_in)
 }
 
 /// Closes the handle's device and frees its memory.

@@ -3,10 +3,9 @@
 ghost use Rattle.std.specs.Prelude.{◌≡◌};
 ghost use Rattle.std.specs.declared.option.Option.TheVariants.{None};
 
-use crate::calls::{uip_input_frame, uip_periodic_frame, uip_read, uip_write};
+use crate::calls::{uip_input_frame, uip_listen, uip_periodic_frame, uip_read, uip_write};
 use crate::handle::UipDevice;
 use crate::held::Held;
-use crate::listening::uip_listen;
 use crate::opening::{uip_close, uip_open_ether};
 use crate::reading::{
     uip_connection, uip_counter, uip_hits, uip_is_idle, uip_query, uip_set_value, uip_ticks,

@@ -7,7 +7,7 @@ ghost use Rattle.uip_c.specs.Prelude.{OpensEther, OpensEtherWeb, has_device};
 use crate::handle::{UipDevice, put_ether};
 use crate::held::EtherWeb;
 use c_calls::{BAD_IMAGE, HAS_DEVICE, NO_MEMORY, OK};
-use c_pages::{UipOpened, boxed, plain};
+use c_pages::{UipOpened, open_device, plain};
 use ethernet_arp::Mac;
 use frame_device::{Ethernet, FrameDevice, Network};
 use std::alloc::Global;
@@ -64,10 +64,5 @@ pub extern "C" fn uip_open_ether(
         router: Addr(*router),
     };
     let made = open_ether(alloc, image, Addr(*own), Mac(*mac), network);
-    let opened = match boxed(alloc, made) {
-        Ok(opened) => opened,
-        Err(refused) => return refused,
-    };
-    put_ether(device, opened);
-    plain(OK)
+    open_device!(alloc, device, made => put_ether)
 }

@@ -7,7 +7,7 @@ ghost use Rattle.uip_c.specs.Prelude.{NoDevice, OpensFine, has_device};
 
 use crate::handle::{UipDevice, put_line, take_out};
 use c_calls::{BAD_IMAGE, HAS_DEVICE, NO_MEMORY, OK, free};
-use c_pages::{UipOpened, boxed, plain};
+use c_pages::{UipOpened, open_device, plain};
 use std::alloc::Global;
 use uip_device::open_web;
 use uip_wire::Addr;
@@ -32,12 +32,7 @@ pub extern "C" fn uip_open(
     if device.is_open == 1 || device.is_open == 2 {
         return plain(HAS_DEVICE);
     }
-    let opened = match boxed(alloc, open_web(alloc, image, Addr(*own))) {
-        Ok(opened) => opened,
-        Err(refused) => return refused,
-    };
-    put_line(device, opened);
-    plain(OK)
+    open_device!(alloc, device, open_web(alloc, image, Addr(*own)) => put_line)
 }
 
 /// Closes the handle's device and frees its memory.

@@ -1,4 +1,4 @@
-use Rattle.uip_app_c.proofs.listening.listen.Goals as goal
+use Rattle.uip_app_c.proofs.calls.listen.Goals as goal
 
 -- the state of a connection does not depend on the open ports
 pub invariant_of-device : goal.invariant_of-device
