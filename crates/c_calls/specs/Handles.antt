@@ -1,10 +1,16 @@
 -- What a handle keeps, before and after a call. `Kept` is what a handle can keep, and `keeps d` that it keeps the device `d`.
 use Rattle.std.specs.Prelude.{◌≡◌, ◌⊎◌, ℕ, Bool, true, false, List, []}
+use Rattle.std.specs.declared.option.Option.{Option}
+use Rattle.std.specs.declared.option.Option.TheVariants.{Some}
 use Rattle.c_calls.specs.declared.status.TheConstants.{NO_DEVICE, OK}
 
 -- There is a device of this kind, and P holds of it.
 abbrev pub HasDevice : {D Kept : Type 0} → (D → Kept) → (D → Type 0) → Kept → Type 0
 HasDevice {D} keeps P kept = (d : D) × (kept ≡ keeps d) × P d
+
+-- The same of a handle that keeps one kind of device.
+abbrev pub HasOne : (D : Type 0) → (D → Type 0) → Option D → Type 0
+HasOne D P kept = HasDevice Some P kept
 
 -- There was a device of this kind and there still is one, and P holds of the device before and after.
 pub record StillHas {D Kept : Type 0} (keeps : D → Kept) (P : D → D → Type 0) (old new : Kept) : Type 0 where

@@ -1,5 +1,5 @@
 -- Calls on a handle, one after the other, are exact.
-use Rattle.uip_app_c.proofs.Prelude.{AbstractNode, Act, Addr, AnsweredCall, AppCall, Bool, Calls, CallsAreExact, CallsSlot, CouldWrite, DidCall, DidCalls, DoesNothing, Ethernet, FrameCall, HasOwn, InputsFrame, IsExact, Kept, List, Listens, Mac, Network, None, OpensOwn, OwnAnswers, OwnEther, OwnListens, OwnInputs, OwnWrites, PlainMessage, Represents, RepresentsStation, Some, Station, Writes, [], ◌∷◌, ap, call_at, choose, first_station, interface_at, is_for_closed_port, is_own_port, link_of, own_spec, ports_after, ports_after_call, ports_of, station_after_call, subst, sym, undropped, with_port, with_written, ℕ, ◌∙◌, ◌≡◌, DidInTurn, before_program_call, program_calls, program_frame, all_exact, events_of_call, node_of_call, is_open_port, no_message, numbers_of, AreAtOpenPorts, All, app_program, station_after_calls, connection_in}
+use Rattle.uip_app_c.proofs.Prelude.{AbstractNode, Act, Addr, All, AnsweredCall, AppCall, AreAtOpenPorts, Bool, Calls, CallsAreExact, CallsSlot, CouldWrite, DidCall, DidCalls, DidInTurn, DoesNothing, Ethernet, FrameCall, HasOne, InputsFrame, IsExact, Kept, List, Listens, Mac, Network, None, OpensOwn, OwnAnswers, OwnEther, OwnInputs, OwnListens, OwnWrites, PlainMessage, Represents, RepresentsStation, Some, Station, Writes, [], all_exact, ap, app_program, before_program_call, call_at, choose, connection_in, events_of_call, first_station, interface_at, is_for_closed_port, is_open_port, is_own_port, link_of, no_message, node_of_call, numbers_of, own_spec, ports_after, ports_after_call, ports_of, program_calls, program_frame, station_after_call, station_after_calls, subst, sym, undropped, with_port, with_written, ℕ, ◌∙◌, ◌∷◌, ◌≡◌}
 use Rattle.frame_device.proofs.Arrivals.{frame_each, slot_each}
 use Rattle.own_node.proofs.OpenPorts.{IsAt, first_at, frame_at, run_at, stays_open}
 use Rattle.frame_device.specs.contracts.ether.EthernetFrames.TheImpl.{ghosts as ether_link}
@@ -22,7 +22,7 @@ Did (Writes slot taken text last) old new handed = OwnWrites slot taken text las
 Did (Listens port) old new handed = OwnListens port old new × (handed ≡ [])
 
 abbrev HasPorts : List ℕ → Kept → Type 0
-HasPorts ports kept = HasOwn (λ d. ports_of d ≡ ports) kept
+HasPorts ports kept = HasOne OwnEther (λ d. ports_of d ≡ ports) kept
 
 -- the ports of a device that there was
 ports_were : (ports : List ℕ) (a : Kept) (x : OwnEther) → HasPorts ports a → a ≡ Some x → ports_of x ≡ ports
@@ -171,7 +171,7 @@ module _ (own : Addr) (mac : Mac) (network : Network) where
   calls_at_ports ports (it ∷ all) s each = calls_at_ports (ports_after_call it.call ports) all (after (call_at ports it.call) s) (call_at_ports ports it.call s each)
 
   abbrev KeptHere : Kept → Station Act → Type 0
-  KeptHere kept s = HasOwn (λ d. Here d s) kept
+  KeptHere kept s = HasOne OwnEther (λ d. Here d s) kept
 
   one_call : (call : AppCall) (s : Station Act) (a b : Kept) (handed : List ℕ) → KeptHere a s → Did call a b handed
       → KeptHere b (station_after_call own mac network call s) × (handed ≡ sent_at call s) × CouldWrite call s
@@ -188,7 +188,7 @@ undropped_exact own mac network all closed old new opens did =
 -- without the frames that are dropped, from the start
 pub did_undropped : (own : Addr) (mac : Mac) (network : Network) (all : List AnsweredCall) (closed old new : Kept)
     → OpensOwn own.0 mac.0 network.mask.0 network.router.0 closed old → DidCalls all old new
-    → DidInTurn Did (undropped [] all) old new × HasOwn (λ d. ports_of d ≡ ports_after (program_calls all) []) new
+    → DidInTurn Did (undropped [] all) old new × HasOne OwnEther (λ d. ports_of d ≡ ports_after (program_calls all) []) new
 did_undropped own mac network all closed old new opens did = all_undropped [] all old new (opens.1.0, opens.1.1, opens.1.2.ports) did
 
 pub calls_exact : CallsAreExact

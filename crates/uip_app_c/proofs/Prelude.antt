@@ -18,7 +18,8 @@ pub use Rattle.std.specs.Option.{is_some}
 pub use Rattle.std.specs.Prelude.{true}
 pub use Rattle.std.specs.declared.option.Option.{Option}
 pub use Rattle.std.specs.declared.option.Option.TheVariants.{None, Some}
-pub use Rattle.uip_app_c.specs.Prelude.{AnsweredCall, AppCall, Calls, CallsAreExact, CouldWrite, DeviceRow, DidCall, DidCalls, HasOwn, IsExact, Kept, Listens, OpensOwn, OwnAnswers, OwnEther, OwnListens, OwnInputs, OwnWrites, Writes, call_at, first_station, holds, link_of, ports_after, ports_after_call, ports_of, station_after_call, undropped, AppCallsConform, AppTraceConforms, Captures, IsCallOfBytes, OfEachCall, app_program, change_by, connection_after, station_after_calls, text_in_call}
+pub use Rattle.c_calls.specs.Prelude.{HasOne}
+pub use Rattle.uip_app_c.specs.Prelude.{AnsweredCall, AppCall, Calls, CallsAreExact, CouldWrite, DeviceRow, DidCall, DidCalls, IsExact, Kept, Listens, OpensOwn, OwnAnswers, OwnEther, OwnListens, OwnInputs, OwnWrites, Writes, call_at, first_station, holds, link_of, ports_after, ports_after_call, ports_of, station_after_call, undropped, AppCallsConform, AppTraceConforms, Captures, IsCallOfBytes, OfEachCall, app_program, change_by, connection_after, station_after_calls, text_in_call}
 pub use Rattle.uip_app_c.specs.declared.held.Held.{Held}
 pub use Rattle.uip_node.proofs.Basics.{choose}
 pub use Rattle.uip_node.specs.Prelude.{AbstractNode, Represents, Event, Periodic, connection_in, run}

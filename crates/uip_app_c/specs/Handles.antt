@@ -1,7 +1,7 @@
 -- What a call does to what a handle keeps.
 use Rattle.std.specs.Prelude.{◌≡◌, ℕ, Bool, true, false, List, []}
 use Rattle.std.specs.declared.option.Option.TheVariants.{None, Some}
-use Rattle.c_calls.specs.Prelude.{ReadsConnection, StillHas}
+use Rattle.c_calls.specs.Prelude.{HasOne, ReadsConnection, StillHas}
 use Rattle.c_calls.specs.declared.received.UipReceived.{UipReceived}
 use Rattle.uip_wire.specs.declared.addr.Addr.{Addr}
 use Rattle.ethernet_arp.specs.declared.mac.Mac.{Mac}
@@ -11,7 +11,7 @@ use Rattle.frame_device.specs.contracts.ether.EthernetFrames.TheImpl.{ghosts as 
 use Rattle.own_app.specs.contracts.app.OwnAppApp.TheImpl.{ghosts}
 use Rattle.own_app.specs.Prelude.{no_message, numbers_of, own_spec}
 use Rattle.own_node.specs.Prelude.{OfNode, WritesMessage, can_write_in, is_ready_in, pending_in, port_in}
-use Rattle.uip_app_c.specs.Kept.{HasOwn, Kept, OwnEther}
+use Rattle.uip_app_c.specs.Kept.{Kept, OwnEther}
 use Rattle.uip_app_c.specs.Ports.{ports_of}
 
 -- It represents the initial node at this address, and a link with this hardware address, on this network, that has learned nothing. No
@@ -24,7 +24,7 @@ pub record IsFreshOwnEther (own : Addr) (mac : Mac) (network : Network) (d : Own
 abbrev pub OpensOwn : List ℕ → List ℕ → List ℕ → List ℕ → Kept → Kept → Type 0
 OpensOwn own mac mask router old new =
     (old ≡ None)
-    × HasOwn (IsFreshOwnEther (record { 0 = own }) (record { 0 = mac })
+    × HasOne OwnEther (IsFreshOwnEther (record { 0 = own }) (record { 0 = mac })
     (record { mask = record { 0 = mask }; router = record { 0 = router } })) new
 
 -- There was a device and there still is one, and the call wrote this frame, or no bytes.
@@ -46,9 +46,9 @@ pub record OwnWrites (slot taken : ℕ) (text : List ℕ) (last : Bool) (old new
 
 -- There is a device, and the connection in this slot cannot capture a message that answers this number of bytes.
 abbrev pub CannotWrite : ℕ → ℕ → Kept → Type 0
-CannotWrite slot taken kept = HasOwn (λ d. OfNode d.node (λ n. can_write_in slot taken n ≡ false)) kept
+CannotWrite slot taken kept = HasOne OwnEther (λ d. OfNode d.node (λ n. can_write_in slot taken n ≡ false)) kept
 
 -- There is a device, and this is what was read of the connection in a slot.
 abbrev pub ReadsSlot : ℕ → UipReceived → List ℕ → List ℕ → Kept → Type 0
 ReadsSlot slot result area area' kept =
-    HasOwn (λ d. ReadsConnection (λ P. OfNode d.node P) (is_ready_in slot) (port_in slot) (pending_in slot) result area area') kept
+    HasOne OwnEther (λ d. ReadsConnection (λ P. OfNode d.node P) (is_ready_in slot) (port_in slot) (pending_in slot) result area area') kept

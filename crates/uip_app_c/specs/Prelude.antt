@@ -5,5 +5,5 @@ pub use Rattle.uip_app_c.specs.AppCalls.{ports_after_call, station_after_call, s
 pub use Rattle.uip_app_c.specs.AppPromise.{AppCallsConform, AppTraceConforms, Captures, IsCallOfBytes, connection_after, text_in_call}
 pub use Rattle.uip_app_c.specs.Handles.{CannotWrite, IsFreshOwnEther, OpensOwn, OwnAnswers, OwnWrites, ReadsSlot}
 pub use Rattle.uip_app_c.specs.Holding.{DeviceRow, holds}
-pub use Rattle.uip_app_c.specs.Kept.{HasOwn, Kept, OwnEther}
+pub use Rattle.uip_app_c.specs.Kept.{Kept, OwnEther}
 pub use Rattle.uip_app_c.specs.Ports.{OpensPort, OwnListens, OwnInputs, InputsOrDrops, has_no_room, ports_of}

@@ -1,5 +1,5 @@
 -- Calls on a handle, one after the other, are exact.
-use Rattle.uip_both_c.proofs.Prelude.{Act, Addr, AbstractNode, AnsweredCall, AppState, Bool, BothAnswers, BothApps, BothAtStation, BothCall, BothEther, BothGives, BothListens, BothInputs, BothWrites, Calls, CallsAreExact, CallsSlot, CouldWrite, DidCall, DidCalls, DoesNothing, Ethernet, File, FrameCall, Gives, HasBoth, InputsFrame, IsExact, Kept, List, Listens, Mac, Network, None, OpensBothAs, PlainMessage, Represents, Some, Station, Writes, [], ◌∷◌, ap, both, both_spec, call_at, change_own, choose, files_of, first_station, interface_at, first_both_numbers, is_dropped, ports_after, ports_after_call, ports_of, site_of, station_after_call, subst, sym, true, undropped, with_change, with_port, with_ports_of, write_message, ℕ, ◌∙◌, ◌≡◌, DidInTurn, before_program_call, program_calls, program_frame, all_exact, events_of_call, node_of_call, is_open_port, AreAtOpenPorts, eqb, All, both_program, is_both_port, link_of, station_after_calls, connection_in}
+use Rattle.uip_both_c.proofs.Prelude.{AbstractNode, Act, Addr, All, AnsweredCall, AppState, AreAtOpenPorts, Bool, BothAnswers, BothApps, BothAtStation, BothCall, BothEther, BothGives, BothInputs, BothListens, BothWrites, Calls, CallsAreExact, CallsSlot, CouldWrite, DidCall, DidCalls, DidInTurn, DoesNothing, Ethernet, File, FrameCall, Gives, HasOne, InputsFrame, IsExact, Kept, List, Listens, Mac, Network, None, OpensBothAs, PlainMessage, Represents, Some, Station, Writes, [], all_exact, ap, before_program_call, both, both_program, both_spec, call_at, change_own, choose, connection_in, eqb, events_of_call, files_of, first_both_numbers, first_station, interface_at, is_both_port, is_dropped, is_open_port, link_of, node_of_call, ports_after, ports_after_call, ports_of, program_calls, program_frame, site_of, station_after_call, station_after_calls, subst, sym, true, undropped, with_change, with_port, with_ports_of, write_message, ℕ, ◌∙◌, ◌∷◌, ◌≡◌}
 use Rattle.app_pair.specs.declared.pair.AppPair.TheVariants as pair
 use Rattle.frame_device.proofs.Arrivals.{frame_each, slot_each}
 use Rattle.own_node.proofs.OpenPorts.{IsAt, first_at, frame_at, or_more, run_at, stays_open}
@@ -24,7 +24,7 @@ Did (Gives number text) old new handed = BothGives number text old new × (hande
 Did (Listens port) old new handed = BothListens port old new × (handed ≡ [])
 
 abbrev HasPorts : List ℕ → Kept → Type 0
-HasPorts ports kept = HasBoth (λ d. ports_of d ≡ ports) kept
+HasPorts ports kept = HasOne BothEther (λ d. ports_of d ≡ ports) kept
 
 -- the ports of a device that there was
 ports_were : (ports : List ℕ) (a : Kept) (x : BothEther) → HasPorts ports a → a ≡ Some x → ports_of x ≡ ports
@@ -236,7 +236,7 @@ module _ (files : List File) (own : Addr) (mac : Mac) (network : Network) where
   calls_at_ports ports (it ∷ all) s each = calls_at_ports (ports_after_call it.call ports) all (after (call_at ports it.call) s) (call_at_ports ports it.call s each)
 
   abbrev KeptHere : Kept → Station Act → Type 0
-  KeptHere kept s = HasBoth (λ d. Here d s) kept
+  KeptHere kept s = HasOne BothEther (λ d. Here d s) kept
 
   one_call : (call : BothCall) (s : Station Act) (a b : Kept) (handed : List ℕ) → KeptHere a s → Did call a b handed
       → KeptHere b (station_after_call files own mac network call s) × (handed ≡ sent_at call s) × CouldWrite call s
@@ -254,7 +254,7 @@ undropped_exact files own mac network all closed old new opens did =
 -- without the frames that are dropped, from the start
 pub did_undropped : (files : List File) (own : Addr) (mac : Mac) (network : Network) (all : List AnsweredCall) (closed old new : Kept)
     → OpensBothAs files own mac network closed old → DidCalls all old new
-    → DidInTurn Did (undropped [] all) old new × HasBoth (λ d. ports_of d ≡ ports_after (program_calls all) []) new
+    → DidInTurn Did (undropped [] all) old new × HasOne BothEther (λ d. ports_of d ≡ ports_after (program_calls all) []) new
 did_undropped files own mac network all closed old new opens did = all_undropped [] all old new (opens.1.0, opens.1.1, opens.1.2.ports) did
 
 pub calls_exact : CallsAreExact

@@ -3,7 +3,7 @@ pub use Rattle.app_events.specs.Prelude.{AppState, AppSpec, IsAddr, IsPrefixOf, 
 pub use Rattle.app_events.specs.declared.row.Row.{Row}
 pub use Rattle.app_pair.specs.Lemmas.NumberLaws.{first_back, first_kept, others_stay, own_u32, pair_u32, second_back, with_own_u32}
 pub use Rattle.app_pair.specs.PairNumbers.{change_own, numbers_of_first, pair_numbers, with_own, own_numbers}
-pub use Rattle.c_calls.specs.Prelude.{flag_of}
+pub use Rattle.c_calls.specs.Prelude.{HasOne, flag_of}
 pub use Rattle.c_pages.specs.Prelude.{TellsRow}
 pub use Rattle.device_values.specs.Prelude.{value_given, words, words_bytes, words_short}
 pub use Rattle.ethernet_arp.specs.Prelude.{Act}
@@ -33,7 +33,7 @@ pub use Rattle.std.proofs.lemmas.List.{get_or_append_left, length-map}
 pub use Rattle.std.specs.List.{All}
 pub use Rattle.std.specs.Option.{is_some}
 pub use Rattle.std.specs.Prelude.{if◌then◌else◌, true}
-pub use Rattle.uip_both_c.specs.Prelude.{AnsweredCall, BothAnswers, BothApps, BothAtStation, BothCall, BothEther, BothGives, BothListens, BothNode, BothShared, BothInputs, BothWrites, Calls, CallsAreExact, CouldWrite, DeviceRow, DidCall, DidCalls, Gives, HasBoth, IsExact, IsOpenedBoth, Kept, Listens, OpensBothAs, Writes, both, both_spec, call_at, first_both_numbers, first_station, holds, is_dropped, ports_after, ports_after_call, ports_of, site_of, station_after_call, undropped, with_ports_of, BothCallsConform, BothTraceConforms, Captures, IsCallOfBytes, OfEachCall, OpensBoth, both_model, both_program, change_by, connection_after, is_both_port, link_of, own_in, station_after_calls, text_in_call}
+pub use Rattle.uip_both_c.specs.Prelude.{AnsweredCall, BothAnswers, BothApps, BothAtStation, BothCall, BothEther, BothGives, BothListens, BothNode, BothShared, BothInputs, BothWrites, Calls, CallsAreExact, CouldWrite, DeviceRow, DidCall, DidCalls, Gives, IsExact, IsOpenedBoth, Kept, Listens, OpensBothAs, Writes, both, both_spec, call_at, first_both_numbers, first_station, holds, is_dropped, ports_after, ports_after_call, ports_of, site_of, station_after_call, undropped, with_ports_of, BothCallsConform, BothTraceConforms, Captures, IsCallOfBytes, OfEachCall, OpensBoth, both_model, both_program, change_by, connection_after, is_both_port, link_of, own_in, station_after_calls, text_in_call}
 pub use Rattle.uip_both_c.specs.declared.held.Held.{Held}
 pub use Rattle.uip_device.proofs.WebLaws.{hits_at, written_after, first_words, written_words}
 pub use Rattle.uip_device.specs.Prelude.{ChangesNode, IsFirstShared, IsOfImage, ReadsQuery, first_numbers, query_of, write_value, value_pages, value_spec}

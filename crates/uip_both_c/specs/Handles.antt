@@ -2,7 +2,7 @@
 use Rattle.std.specs.Prelude.{◌≡◌, ℕ, Bool, true, false, List, []}
 use Rattle.std.specs.declared.option.Option.TheVariants.{None, Some}
 use Rattle.app_pair.specs.PairNumbers.{change_own}
-use Rattle.c_calls.specs.Prelude.{ReadsConnection, StillHas}
+use Rattle.c_calls.specs.Prelude.{HasOne, ReadsConnection, StillHas}
 use Rattle.c_calls.specs.declared.received.UipReceived.{UipReceived}
 use Rattle.ethernet_arp.specs.declared.mac.Mac.{Mac}
 use Rattle.frame_device.specs.Prelude.{AnswersFrame, CallsSlot, ChangesNumbers, FrameCall, IsFreshFrameDevice, interface_at}
@@ -12,7 +12,7 @@ use Rattle.file_tree.specs.Prelude.{files_of}
 use Rattle.own_node.specs.Prelude.{WritesMessageWith, can_write_at, is_ready_at, pending_at, seen_in_pair}
 use Rattle.site_image.specs.Prelude.{File}
 use Rattle.uip_both_c.specs.BothSpec.{OfBoth, both, both_spec, first_both_numbers, own_in, own_port_in, site_of}
-use Rattle.uip_both_c.specs.Kept.{BothEther, HasBoth, Kept}
+use Rattle.uip_both_c.specs.Kept.{BothEther, Kept}
 use Rattle.uip_both_c.specs.Ports.{ports_of}
 use Rattle.uip_device.specs.Prelude.{write_value}
 use Rattle.uip_wire.specs.declared.addr.Addr.{Addr}
@@ -26,7 +26,7 @@ pub record IsFreshBothEther (files : List File) (own : Addr) (mac : Mac) (networ
 
 -- There was no device, and there is a fresh one with these files at this address and hardware address, on this network.
 abbrev pub OpensBothAs : List File → Addr → Mac → Network → Kept → Kept → Type 0
-OpensBothAs files own mac network old new = (old ≡ None) × HasBoth (IsFreshBothEther files own mac network) new
+OpensBothAs files own mac network old new = (old ≡ None) × HasOne BothEther (IsFreshBothEther files own mac network) new
 
 -- There was a device and there still is one, and the call wrote this frame, or no bytes.
 abbrev pub BothAnswers : FrameCall → Kept → Kept → List ℕ → Type 0
@@ -52,9 +52,9 @@ pub record BothWrites (slot taken : ℕ) (text : List ℕ) (last : Bool) (old ne
 
 -- There is a device, and the connection in this slot cannot capture a message that answers this number of bytes.
 abbrev pub CannotWrite : ℕ → ℕ → Kept → Type 0
-CannotWrite slot taken kept = HasBoth (λ d. OfBoth d (λ n. can_write_at taken (own_in slot n) ≡ false)) kept
+CannotWrite slot taken kept = HasOne BothEther (λ d. OfBoth d (λ n. can_write_at taken (own_in slot n) ≡ false)) kept
 
 -- There is a device, and this is what was read of the connection in a slot.
 abbrev pub ReadsSlot : ℕ → UipReceived → List ℕ → List ℕ → Kept → Type 0
 ReadsSlot slot result area area' kept =
-    HasBoth (λ d. ReadsConnection (OfBoth d) (λ n. is_ready_at (own_in slot n)) (own_port_in slot) (λ n. pending_at (own_in slot n)) result area area') kept
+    HasOne BothEther (λ d. ReadsConnection (OfBoth d) (λ n. is_ready_at (own_in slot n)) (own_port_in slot) (λ n. pending_at (own_in slot n)) result area area') kept

@@ -1,9 +1,7 @@
 -- What a handle keeps: a device, or none.
 use Rattle.std.specs.declared.option.Option.{Option}
-use Rattle.std.specs.declared.option.Option.TheVariants.{Some}
 use Rattle.app_pair.specs.declared.pair.AppPair.{AppPair}
 use Rattle.app_pair.specs.declared.pair.PairShared.{PairShared}
-use Rattle.c_calls.specs.Prelude.{HasDevice}
 use Rattle.frame_device.specs.declared.device.FrameDevice.{FrameDevice}
 use Rattle.frame_device.specs.declared.ether.Ethernet.{Ethernet}
 use Rattle.own_app.specs.declared.app.OwnApp.{OwnApp}
@@ -28,7 +26,3 @@ BothEther = FrameDevice BothApps Ethernet BothShared
 
 abbrev pub Kept : Type 0
 Kept = Option BothEther
-
--- There is a device, and P holds of it.
-abbrev pub HasBoth : (BothEther → Type 0) → Kept → Type 0
-HasBoth P kept = HasDevice Some P kept

@@ -8,6 +8,6 @@ pub use Rattle.uip_both_c.specs.BothSpec.{HasAbstractNode, OfBoth, both, both_sp
 pub use Rattle.uip_both_c.specs.BothSpec.{site_of}
 pub use Rattle.uip_both_c.specs.Handles.{BothAnswers, BothGives, BothWrites, CannotWrite, OpensBothAs, ReadsSlot}
 pub use Rattle.uip_both_c.specs.Holding.{DeviceRow, holds}
-pub use Rattle.uip_both_c.specs.Kept.{BothApps, BothEther, BothNode, BothShared, HasBoth, Kept}
+pub use Rattle.uip_both_c.specs.Kept.{BothApps, BothEther, BothNode, BothShared, Kept}
 pub use Rattle.uip_both_c.specs.Opening.{IsOpenedBoth, OpensBoth, OpensBothEther}
 pub use Rattle.uip_both_c.specs.Ports.{BothListens, BothInputs, OpensPort, InputsOrDrops, has_no_room, is_dropped, ports_of, with_ports_of}

@@ -7,9 +7,9 @@ ghost use Rattle.uip_node.specs.Prelude.{counters, ticks_of};
 ghost use Rattle.uip_device.specs.Prelude.{ReadsQuery, connection_row, is_node_idle, query_of};
 ghost use Rattle.web_pages.specs.Prelude.{hits_of};
 ghost use Rattle.app_pair.specs.PairNumbers.{own_numbers};
-ghost use Rattle.c_calls.specs.Prelude.{flag_of};
+ghost use Rattle.c_calls.specs.Prelude.{HasOne, flag_of};
 ghost use Rattle.c_pages.specs.Prelude.{IsNoRow, TellsRow};
-ghost use Rattle.uip_both_c.specs.Prelude.{BothGives, HasAbstractNode, HasBoth};
+ghost use Rattle.uip_both_c.specs.Prelude.{BothEther, BothGives, HasAbstractNode};
 
 use crate::device::give;
 use crate::handle::{UipDevice, put_in, take_out};
@@ -86,7 +86,7 @@ pub extern "C" fn uip_query(
     out: &mut [u8],
 ) -> UipQuery
     ensures known { (result.status ≡ OK) ⊎ (result.status ≡ NO_DEVICE) ⊎ (result.status ≡ BAD_ARGUMENT) }
-    ensures fine { result.status ≡ OK → HasBoth (λ d. let pages = d.node.shared.first in
+    ensures fine { result.status ≡ OK → HasOne BothEther (λ d. let pages = d.node.shared.first in
         ReadsQuery (query_of (files_of pages.web.site) pages.query name.now) result.hit result.len out.old out.new)
         device.old.held.device }
     ensures no_device { result.status ≡ NO_DEVICE → device.old.held.device ≡ None }
