@@ -7,3 +7,4 @@ pub mod Alone
 pub mod InPair
 pub mod ReadingLaws
 pub mod CaptureLaws
+mod Prelude
