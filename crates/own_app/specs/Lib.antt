@@ -1,4 +1,5 @@
 pub mod OwnSpec
+pub mod Ports
 pub mod OwnRepresents
 pub mod OwnLines
 pub mod OwnTraces

@@ -6,10 +6,12 @@ use Rattle.app_events.specs.Prelude.{AppSpec, AppState, Snapshot}
 use Rattle.app_events.specs.declared.now.Now.{Now}
 use Rattle.app_events.specs.declared.want.Want.{Want}
 use Rattle.app_events.specs.declared.want.Want.TheVariants.{Nothing, Send, Close, Abort}
-use Rattle.own_app.specs.declared.TheConstants.{MODBUS_PORT, MOST_SILENT_POLLS, OWN_PORT, RECEIVED_ROOM}
+use Rattle.uip_wire.specs.declared.port.TheConstants.{WEB_PORT}
+use Rattle.own_app.specs.declared.TheConstants.{MOST_SILENT_POLLS, RECEIVED_ROOM}
 
+-- Every port but that of web pages, which a pair serves there (RFC 1700, "http").
 abbrev pub is_own_port : ℕ → Bool
-is_own_port port = port == OWN_PORT || port == MODBUS_PORT
+is_own_port port = not (port == WEB_PORT)
 
 -- ---- messages
 

@@ -2,11 +2,11 @@
 
 use crate::record::{advanced, copied, copy_from, rest_len, see_bytes};
 use crate::shared::{Message, OwnShared};
-use crate::{MESSAGE_ROOM, MODBUS_PORT, MOST_SILENT_POLLS, OWN_PORT, RECEIVED_ROOM};
+use crate::{MESSAGE_ROOM, MOST_SILENT_POLLS, RECEIVED_ROOM};
 use app_events::{App, Ending, Now, Want};
 use app_pair::CanPair;
 use arrayvec::ArrayVec;
-use uip_wire::Port;
+use uip_wire::{Port, WEB_PORT};
 
 /// The application on one connection.
 #[derive(Drop)]
@@ -94,15 +94,17 @@ impl OwnApp {
 }
 
 impl App for OwnApp {
+    ghost use Rattle.std.specs.Prelude.{ℕ, List};
     ghost use Rattle.own_app.specs.OwnSpec.{is_own_port, numbers_of, own_spec};
     ghost use Rattle.own_app.specs.OwnRepresents.{OwnRepresents, message_of};
     ghost use Rattle.own_app.specs.Lemmas.OwnLaws.{own_lawful, own_same_left, own_starts};
 
     type Shared = OwnShared;
 
-    ghost Config = { Unit {0} };
+    // The open ports, which no call changes.
+    ghost Config = { List ℕ };
 
-    ghost config = { λ _. tt };
+    ghost config = { λ shared. shared.ports.items };
 
     ghost numbers = { λ shared. numbers_of shared.opened (message_of shared.message) };
 
@@ -113,7 +115,7 @@ impl App for OwnApp {
     ghost served = { is_own_port };
 
     fn serves(port: Port) -> bool {
-        port.0 == OWN_PORT || port.0 == MODBUS_PORT
+        port.0 != WEB_PORT
     }
 
     fn idle() -> OwnApp {

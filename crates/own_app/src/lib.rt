@@ -4,6 +4,7 @@
 
 mod app;
 mod laws;
+mod ports;
 mod record;
 mod shared;
 #[cfg(test)]
@@ -11,6 +12,7 @@ mod tests;
 
 pub use app::OwnApp;
 pub use laws::{constant_values, own_app_speaks_on_lines, own_trace_conforms};
+pub use ports::is_program_port;
 pub use shared::{Message, OwnShared};
 
 /// The bytes of received text that a connection stores. A connection that receives more before the program takes some is given up.
@@ -19,11 +21,8 @@ pub const RECEIVED_ROOM: usize = 128;
 /// The longest message, in bytes: a frame of Modbus/TCP has at most 7 bytes of header and 253 of data.
 pub const MESSAGE_ROOM: usize = 260;
 
-/// The port of a console, as instruments have it for SCPI.
-pub const OWN_PORT: u16 = 5025;
-
-/// The port of Modbus/TCP.
-pub const MODBUS_PORT: u16 = 502;
+/// The most ports that are open at a time.
+pub const MOST_PORTS: usize = 4;
 
 /// A connection that neither receives nor sends for this number of ticks is given up: ten minutes.
 pub const MOST_SILENT_POLLS: u16 = 1200;

@@ -1,10 +1,11 @@
-//! What all connections share: how many were opened, and the newest message of the program.
+//! What all connections share: the open ports, how many connections were opened, and the newest message of the program.
 
-ghost use Rattle.std.specs.Prelude.{◌≡◌};
+ghost use Rattle.std.specs.Prelude.{◌≡◌, [], false, true};
 ghost use Rattle.own_app.specs.OwnRepresents.{message_of};
 ghost use Rattle.own_app.specs.OwnSpec.{no_message};
+ghost use Rattle.own_app.specs.Ports.{can_listen, with_port};
 
-use crate::MESSAGE_ROOM;
+use crate::{MESSAGE_ROOM, MOST_PORTS};
 use arrayvec::ArrayVec;
 
 /// A message of the program to one connection.
@@ -24,6 +25,8 @@ pub struct Message {
 /// What all connections share.
 #[derive(Drop)]
 pub struct OwnShared {
+    /// The open ports. No call of a connection reads them.
+    pub ports: ArrayVec<u16, MOST_PORTS>,
     /// How many connections were opened, modulo 2^32: the ticket of the newest.
     pub opened: u32,
     /// The newest message. A connection captures it if it is its own, and the next.
@@ -31,12 +34,14 @@ pub struct OwnShared {
 }
 
 impl OwnShared {
-    /// Returns what the connections share at first: none was opened, and no message was written.
+    /// Returns what the connections share at first: no port is open, no connection was opened, and no message was written.
     pub fn first() -> OwnShared
+        ensures ports { result.ports.items ≡ [] }
         ensures opened { result.opened ≡ 0 }
         ensures none { message_of result.message ≡ no_message }
     {
         OwnShared {
+            ports: ArrayVec::new(),
             opened: 0,
             message: Message {
                 to: 0,
@@ -46,5 +51,18 @@ impl OwnShared {
                 text: ArrayVec::new(),
             },
         }
+    }
+
+    /// Opens a port. Returns false and changes nothing if it is not open and four others are.
+    pub fn listen(&mut self, port: u16) -> bool
+        ensures can { result ≡ can_listen port self.old.ports.items }
+        ensures opened { result ≡ true → self.new.ports.items ≡ with_port port self.old.ports.items }
+        ensures rest { self.new ≡ record self.old { ports = self.new.ports } }
+        ensures refused { result ≡ false → self.new ≡ self.old }
+    {
+        if self.ports.as_slice().contains(&port) {
+            return true;
+        }
+        self.ports.try_push(port).is_ok()
     }
 }

@@ -1,6 +1,6 @@
 //! What a connection stores and captures, worked by hand.
 
-use crate::{MESSAGE_ROOM, MODBUS_PORT, Message, OWN_PORT, OwnApp, RECEIVED_ROOM};
+use crate::{MESSAGE_ROOM, Message, OwnApp, OwnShared, RECEIVED_ROOM};
 use app_events::App;
 use arrayvec::ArrayVec;
 use std::mem::size_of;
@@ -68,9 +68,19 @@ fn one_byte_too_many_overruns(rt: HostRuntime) {
 }
 
 #[test]
-fn a_value_is_small_and_serves_two_ports(rt: HostRuntime) {
+fn a_value_is_small_and_serves_each_port_but_one(rt: HostRuntime) {
     assert!(rt; size_of::<OwnApp>() <= 440);
-    assert!(rt; OwnApp::serves(Port(OWN_PORT)));
-    assert!(rt; OwnApp::serves(Port(MODBUS_PORT)));
+    assert!(rt; OwnApp::serves(Port(5025)));
     assert!(rt; !OwnApp::serves(Port(80)));
+}
+
+#[test]
+fn four_ports_are_open_at_most(rt: HostRuntime) {
+    let mut shared = OwnShared::first();
+    for port in [502, 5025, 23, 502, 7] {
+        assert!(rt; shared.listen(port));
+    }
+    assert!(rt; !shared.listen(8));
+    assert!(rt; shared.listen(7));
+    assert_eq!(rt; shared.ports.as_slice(), [502, 5025, 23, 7].as_slice());
 }

@@ -7,4 +7,5 @@ pub mod Alone
 pub mod InPair
 pub mod ReadingLaws
 pub mod CaptureLaws
+pub mod OpenPorts
 mod Prelude

@@ -1,4 +1,5 @@
 pub mod Written
 pub mod Messages
 pub mod Capturing
+pub mod Ports
 pub mod Prelude

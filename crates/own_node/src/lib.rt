@@ -4,6 +4,7 @@
 
 mod holding;
 mod laws;
+mod ports;
 mod reading;
 #[cfg(test)]
 mod tests;
@@ -11,5 +12,6 @@ mod writing;
 
 pub use holding::HoldsOwn;
 pub use laws::{pairs_capture_ready_messages, ready_messages_are_captured};
+pub use ports::{is_for_closed_port, is_for_closed_port_of_pair};
 pub use reading::{is_ready, own_port, pending};
 pub use writing::write;

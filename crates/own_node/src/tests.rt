@@ -1,6 +1,8 @@
 //! A node without connections, with `OwnApp` alone and in a pair.
 
-use crate::{HoldsOwn, is_ready, own_port, pending, write};
+use crate::{
+    HoldsOwn, is_for_closed_port, is_for_closed_port_of_pair, is_ready, own_port, pending, write,
+};
 use app_events::{App, Fixed};
 use app_pair::{AppPair, PairShared};
 use own_app::{OwnApp, OwnShared};
@@ -41,9 +43,32 @@ fn nor_in_a_pair(rt: HostRuntime) -> Result<(), Fail> {
 }
 
 #[test]
-fn a_pair_with_pages_serves_three_ports(rt: HostRuntime) {
+fn a_pair_with_pages_serves_each_port(rt: HostRuntime) {
     assert!(rt; AppPair::<Fixed, OwnApp>::serves(Port(80)));
-    assert!(rt; AppPair::<Fixed, OwnApp>::serves(Port(502)));
     assert!(rt; AppPair::<Fixed, OwnApp>::serves(Port(5025)));
-    assert!(rt; !AppPair::<Fixed, OwnApp>::serves(Port(23)));
+}
+
+/// A frame with a SYN, and none of its variants: too short, ARP, with options, and UDP.
+#[test]
+fn a_frame_is_for_a_closed_port(rt: HostRuntime) {
+    let mut frame = [0; 54];
+    frame[12] = 0x08;
+    frame[14] = 0x45;
+    frame[23] = 6;
+    frame[36] = 19;
+    frame[37] = 161;
+    assert!(rt; is_for_closed_port(&[502, 80], &frame));
+    assert!(rt; !is_for_closed_port(&[502, 5025], &frame));
+    assert!(rt; !is_for_closed_port(&[], &frame[..37]));
+    frame[36] = 0;
+    frame[37] = 80;
+    assert!(rt; is_for_closed_port(&[502], &frame));
+    assert!(rt; !is_for_closed_port_of_pair(&[502], &frame));
+    for (at, other) in [(13, 6), (14, 0x46), (23, 17)] {
+        let was = frame[at];
+        frame[at] = other;
+        assert!(rt; !is_for_closed_port(&[], &frame));
+        frame[at] = was;
+    }
+    assert!(rt; is_for_closed_port(&[], &frame));
 }

@@ -6,7 +6,7 @@ use Rattle.ethernet_arp.specs.Prelude.{Act}
 use Rattle.ethernet_arp.specs.declared.mac.Mac.{Mac}
 use Rattle.frame_device.specs.Prelude.{CallsSlot, DoesNothing, FrameCall, FrameSpec, InputsFrame, IsFrameOfBytes, Makes, acts_before, ether_brings_bytes, interface_at, station_events_by}
 use Rattle.frame_device.specs.declared.network.Network.{Network}
-use Rattle.frame_device.specs.ProgramCalls.{program_calls}
+use Rattle.frame_device.specs.ProgramCalls.{DidInTurn, program_calls}
 use Rattle.frame_device.proofs.ProgramLaws.{IsOfLine, call_few, each_by, each_with, events_of_call, program_goes_home, node_of_call, periodic_events, program_conforms}
 use Rattle.line_promise.specs.Prelude.{events_among}
 use Rattle.frame_device.specs.Newest.{NewestConforms}
@@ -20,9 +20,16 @@ use Rattle.own_node.proofs.Alone.{own_words, alone, alone_captured, alone_messag
 use Rattle.own_node.proofs.WrittenLaws.{Follows, HasWrittenText, Holds, HoldsAfter, change_follows, events_leave, first_follows, first_holds, run_follows}
 use Rattle.serve_loop.specs.Prelude.{Station}
 use Rattle.tcp_machine.specs.Prelude.{Connection}
-use Rattle.uip_app_c.specs.AppCalls.{AnsweredCall, AppCall, Calls, CouldWrite, OfEachCall, Writes, app_program, change_by, first_station, link_of, station_after_call, station_after_calls}
-use Rattle.uip_app_c.specs.AppPromise.{AppCallsConform, Captures, IsCallOfBytes, connection_after, text_in_call}
-use Rattle.uip_app_c.proofs.AppLaws.{calls_exact}
+use Rattle.std.specs.List.{All}
+use Rattle.std.proofs.lemmas.List.Elements.{All-cons, All-head, All-nil, All-tail}
+use Rattle.app_events.specs.Prelude.{IsAddr}
+use Rattle.own_node.specs.Prelude.{is_for_closed_port}
+use Rattle.uip_app_c.specs.AppCalls.{AnsweredCall, AppCall, Calls, CouldWrite, Listens, OfEachCall, Writes, app_program, call_at, change_by, first_station, link_of, ports_after_call, station_after_call, station_after_calls, undropped}
+use Rattle.uip_app_c.specs.Handles.{OpensOwn}
+use Rattle.uip_app_c.specs.Kept.{Kept}
+use Rattle.uip_app_c.specs.AppPromise.{AppCallsConform, AppTraceConforms, Captures, IsCallOfBytes, connection_after, text_in_call}
+use Rattle.uip_app_c.proofs.AppLaws.{Did, did_undropped, undropped_exact}
+use Rattle.uip_node.proofs.Basics.{choose}
 use Rattle.uip_node.specs.Prelude.{AbstractNode, Event, Periodic, connection_in, run}
 use Rattle.uip_wire.specs.declared.addr.Addr.{Addr}
 
@@ -55,6 +62,7 @@ module _ (own : Addr) (mac : Mac) (network : Network) where
 
   of_line : (call : AppCall) (s : Station Act) → FollowsAt s → IsGood call s → IsOfLine app_program own_spec is_own_port link own call s
   of_line (Calls call) s f good = (frame_of_bytes call good.0, λ numbers h. h)
+  of_line (Listens port) s f good = (tt, λ numbers h. h)
   of_line (Writes slot taken text last) s f good =
       (tt, λ numbers h. written_u32 (next_message slot taken text last s.node) numbers (alone_message s.node slot taken text last f good.0 good.1) h)
 
@@ -67,6 +75,7 @@ module _ (own : Addr) (mac : Mac) (network : Network) where
 
   captures_one : (call : AppCall) (s : Station Act) → FollowsAt s → IsGood call s → Captures own mac network call s
   captures_one (Calls call) s f good = tt
+  captures_one (Listens port) s f good = tt
   captures_one (Writes slot taken text last) s f good =
       subst (λ (n : AbstractNode). HasCaptured (next_message slot taken text last s.node) (connection_in slot s.node) (connection_in slot n)) (sym (called slot taken text last s))
       (alone_captured s.node slot taken text last f good.0 good.1)
@@ -88,6 +97,8 @@ module _ (own : Addr) (mac : Mac) (network : Network) where
       → HoldsNext (after call s).node count slot (text ++ text_in_call slot call)
   one_leaves (Calls call) s f good count slot before low h =
       subst (λ (n : AbstractNode). HoldsNext n count slot (before ++ [])) (sym (node_of_call app_program own_spec is_own_port link own (Calls call) s)) (call_leaves call s.node f count slot before low h)
+  one_leaves (Listens port) s f good count slot before low h =
+      subst (λ (n : AbstractNode). HoldsNext n count slot (before ++ [])) (sym (node_of_call app_program own_spec is_own_port link own (Listens port) s)) (call_leaves DoesNothing s.node f count slot before low h)
   one_leaves (Writes at taken text last) s f good count slot before low h =
       subst (λ (n : AbstractNode). HoldsNext n count slot (before ++ text_in_call slot (Writes at taken text last))) (sym (called at taken text last s))
       (alone_wrote s.node at taken text last f good.0 good.1 count slot before h)
@@ -107,11 +118,13 @@ messages_sent : (c : Connection) (exchanges : List Exchange) (it : NewestConform
 messages_sent c exchanges it =
     subst (λ (ks : List Snapshot). IsPrefixOf (it.conforms.account 0).stream (messages_text ks)) it.snapshots (newest_text (own_output_model c.sockets.own_port.0) c exchanges it).0.2.prefix
 
-pub calls_conform : AppCallsConform
-calls_conform own is mac network all bytes closed old new opens did =
+undropped_conform : (own : Addr) → IsAddr own → (mac : Mac) (network : Network) (all : List AnsweredCall) → All IsCallOfBytes (program_calls all)
+    → (closed old new : Kept) → OpensOwn own.0 mac.0 network.mask.0 network.router.0 closed old → DidInTurn Did all old new
+    → AppTraceConforms own mac network all
+undropped_conform own is mac network all bytes closed old new opens did =
     let s : Station Act = first_station own in
     let calls : List AppCall = program_calls all in
-    let exact = calls_exact own mac network all closed old new opens did in
+    let exact = undropped_exact own mac network all closed old new opens did in
     let numbers : List ℕ = numbers_of 0 no_message in
     let link : FrameSpec Act = link_of own mac network in
     let f = first_follows any_port same_part same_numbers own_spec alone own numbers in
@@ -127,3 +140,23 @@ calls_conform own is mac network all bytes closed old new opens did =
           (first_holds any_port same_part same_numbers own_spec alone own numbers refl slot)).text_is;
       home = λ six. program_goes_home app_program own_spec is_own_port (interface_at own mac network) own six calls s tt;
     }
+
+-- the calls that are not dropped are of bytes too
+call_of_bytes : (ports : List ℕ) (call : AppCall) → IsCallOfBytes call → IsCallOfBytes (call_at ports call)
+call_of_bytes ports (Calls (InputsFrame frame)) is =
+    choose (λ (call : FrameCall). IsCallOfBytes (Calls call)) (is_for_closed_port ports frame) DoesNothing (InputsFrame frame) (λ e. tt) (λ e. is)
+call_of_bytes ports (Calls (CallsSlot slot)) is = is
+call_of_bytes ports (Calls DoesNothing) is = is
+call_of_bytes ports (Writes slot taken text last) is = is
+call_of_bytes ports (Listens port) is = is
+
+calls_of_bytes : (ports : List ℕ) (all : List AnsweredCall) → All IsCallOfBytes (program_calls all) → All IsCallOfBytes (program_calls (undropped ports all))
+calls_of_bytes ports [] are = All-nil IsCallOfBytes
+calls_of_bytes ports (it ∷ all) are =
+    let next : List ℕ = ports_after_call it.call ports in
+    All-cons IsCallOfBytes (call_at ports it.call) (program_calls (undropped next all)) (call_of_bytes ports it.call (All-head IsCallOfBytes it.call (program_calls all) are))
+    (calls_of_bytes next all (All-tail IsCallOfBytes it.call (program_calls all) are))
+
+pub calls_conform : AppCallsConform
+calls_conform own is mac network all bytes closed old new opens did =
+    undropped_conform own is mac network (undropped [] all) (calls_of_bytes [] all bytes) closed old new opens (did_undropped own mac network all closed old new opens did).0

@@ -1,8 +1,14 @@
 -- Calls on a handle, one after the other, are exact.
-use Rattle.uip_app_c.proofs.Prelude.{AbstractNode, Act, Addr, AppCall, Bool, Calls, CallsAreExact, CallsSlot, CouldWrite, DidCall, DoesNothing, Ethernet, FrameCall, HasOwn, InputsFrame, Kept, List, Mac, Network, None, OwnAnswers, OwnEther, OwnWrites, PlainMessage, Represents, RepresentsStation, Some, Station, Writes, ap, first_station, interface_at, is_own_port, link_of, own_spec, station_after_call, subst, sym, with_written, ℕ, ◌∙◌, ◌≡◌}
-use Rattle.frame_device.specs.ProgramCalls.{before_program_call, program_frame}
-use Rattle.frame_device.proofs.ProgramLaws.{all_exact}
-use Rattle.uip_app_c.specs.AppCalls.{app_program}
+use Rattle.uip_app_c.proofs.Prelude.{AbstractNode, Act, Addr, AnsweredCall, AppCall, Bool, Calls, CallsAreExact, CallsSlot, CouldWrite, DidCall, DidCalls, DoesNothing, Ethernet, FrameCall, HasOwn, InputsFrame, IsExact, Kept, List, Listens, Mac, Network, None, OpensOwn, OwnAnswers, OwnEther, OwnListens, OwnInputs, OwnWrites, PlainMessage, Represents, RepresentsStation, Some, Station, Writes, [], ◌∷◌, ap, call_at, choose, first_station, interface_at, is_for_closed_port, is_own_port, link_of, own_spec, ports_after, ports_after_call, ports_of, station_after_call, subst, sym, undropped, with_port, with_written, ℕ, ◌∙◌, ◌≡◌}
+use Rattle.frame_device.specs.ProgramCalls.{DidInTurn, before_program_call, program_calls, program_frame}
+use Rattle.frame_device.proofs.Arrivals.{frame_each, slot_each}
+use Rattle.frame_device.proofs.ProgramLaws.{all_exact, events_of_call, node_of_call}
+use Rattle.own_app.specs.Prelude.{is_open_port, no_message, numbers_of}
+use Rattle.own_node.proofs.OpenPorts.{IsAt, first_at, frame_at, run_at, stays_open}
+use Rattle.own_node.specs.Prelude.{AreAtOpenPorts}
+use Rattle.std.specs.List.{All}
+use Rattle.uip_app_c.specs.AppCalls.{app_program, station_after_calls}
+use Rattle.uip_node.specs.Prelude.{connection_in}
 use Rattle.frame_device.specs.contracts.ether.EthernetFrames.TheImpl.{ghosts as ether_link}
 use Rattle.own_app.specs.contracts.app.OwnAppApp.TheImpl.{ghosts}
 
@@ -12,6 +18,53 @@ own_or none None = none
 
 same_own : (x y : OwnEther) → Some x ≡ Some y → x ≡ y
 same_own x y e = ap (λ (k : Kept). own_or x k) e
+
+-- ---- the frames that are dropped
+
+-- what a call did, if its frame was not dropped
+abbrev pub Did : AppCall → Kept → Kept → List ℕ → Type 0
+Did (Calls DoesNothing) old new handed = (new ≡ old) × (handed ≡ [])
+Did (Calls call) old new handed = OwnAnswers call old new handed
+Did (Writes slot taken text last) old new handed = OwnWrites slot taken text last old new handed
+Did (Listens port) old new handed = OwnListens port old new × (handed ≡ [])
+
+abbrev HasPorts : List ℕ → Kept → Type 0
+HasPorts ports kept = HasOwn (λ d. ports_of d ≡ ports) kept
+
+-- the ports of a device that there was
+ports_were : (ports : List ℕ) (a : Kept) (x : OwnEther) → HasPorts ports a → a ≡ Some x → ports_of x ≡ ports
+ports_were ports a x has was = ap (λ (d : OwnEther). ports_of d) (same_own x has.0 (sym was ∙ has.1)) ∙ has.2
+
+inputs_undropped : (ports frame : List ℕ) (a b : Kept) (handed : List ℕ) → HasPorts ports a → OwnInputs frame a b handed
+    → Did (call_at ports (Calls (InputsFrame frame))) a b handed × HasPorts ports b
+inputs_undropped ports frame a b handed has it =
+    let were = ports_were ports a it.before has it.was in
+    let same = ap (λ (l : List ℕ). is_for_closed_port l frame) were in
+    choose (λ (call : FrameCall). Did (Calls call) a b handed × HasPorts ports b) (is_for_closed_port ports frame) DoesNothing (InputsFrame frame)
+    (λ e. (let dropped = it.inputs.dropped (same ∙ e) in
+    let stays : b ≡ a = it.is ∙ ap (λ (d : OwnEther). Some d) dropped.0 ∙ sym it.was in ((stays, dropped.1), (has.0, stays ∙ has.1, has.2))))
+    (λ e. (let answers = it.inputs.answers (same ∙ e) in
+    (record { before = it.before; after = it.after; was = it.was; is = it.is; answers = answers }, (it.after, it.is, answers.kept ∙ were))))
+
+one_undropped : (ports : List ℕ) (call : AppCall) (a b : Kept) (handed : List ℕ) → HasPorts ports a → DidCall call a b handed
+    → Did (call_at ports call) a b handed × HasPorts (ports_after_call call ports) b
+one_undropped ports (Calls (InputsFrame frame)) a b handed has it = inputs_undropped ports frame a b handed has it
+one_undropped ports (Calls (CallsSlot slot)) a b handed has it = (it, (it.after, it.is, it.answers.kept ∙ ports_were ports a it.before has it.was))
+one_undropped ports (Calls DoesNothing) a b handed has it = (it, (has.0, it.0 ∙ has.1, has.2))
+one_undropped ports (Writes slot taken text last) a b handed has it =
+    (it, (it.after, it.is, it.answers.kept ∙ it.writes.kept ∙ ports_were ports a it.before has it.was))
+one_undropped ports (Listens port) a b handed has it =
+    (it, (it.0.after, it.0.is, it.0.opens.ports ∙ ap (λ (l : List ℕ). with_port port l) (ports_were ports a it.0.before has it.0.was)))
+
+all_undropped : (ports : List ℕ) (all : List AnsweredCall) (a c : Kept) → HasPorts ports a → DidCalls all a c
+    → DidInTurn Did (undropped ports all) a c × HasPorts (ports_after (program_calls all) ports) c
+all_undropped ports [] a c has same = (same, subst (λ (k : Kept). HasPorts ports k) same has)
+all_undropped ports (it ∷ all) a c has more =
+    let one = one_undropped ports it.call a more.0 it.handed has more.1 in
+    let others = all_undropped (ports_after_call it.call ports) all more.0 c one.1 more.2 in
+    ((more.0, one.0, others.0), others.1)
+
+-- ---- what the calls do
 
 module _ (own : Addr) (mac : Mac) (network : Network) where
   abbrev Here : OwnEther → Station Act → Type 0
@@ -51,22 +104,106 @@ module _ (own : Addr) (mac : Mac) (network : Network) where
       let from = it.answers.each (interface_at own mac network) own_spec own (before_program_call app_program own_spec is_own_port (link_of own mac network) own (Writes slot taken text last) s) named in
       record { after = it.after; is = it.is; here = from.0; wrote = from.1; could = it.could s.node at.stands.stands }
 
-  one : (call : AppCall) (d : OwnEther) (s : Station Act) (a b : Kept) (handed : List ℕ) → a ≡ Some d → Here d s → DidCall call a b handed → Step call s b handed
+  -- a port was opened, which no connection sees
+  opened_here : (d x : OwnEther) (s : Station Act) → Here d s
+      → Here (record d { node = record (d.node) { shared = record (d.node.shared) { ports = x.node.shared.ports } } }) s
+  opened_here d x s here = record {
+    stands = record {
+      meant = here.stands.meant;
+      address = here.stands.address;
+      stands = record {
+        addr = here.stands.stands.addr;
+        slots = record {
+          same_length = here.stands.stands.slots.same_length;
+          each = λ i c a in_code in_node.
+              (let each = here.stands.stands.slots.each i c a in_code in_node in record { numbers = each.numbers; part = each.part });
+        };
+        iss = here.stands.stands.iss;
+        numbers_stand = here.stands.stands.numbers_stand;
+        counts = here.stands.stands.counts;
+      };
+    };
+    acted = here.acted;
+  }
+
+  by_listen : (port : ℕ) (d : OwnEther) (s : Station Act) (a b : Kept) (handed : List ℕ) → a ≡ Some d → Here d s → OwnListens port a b → handed ≡ []
+      → Step (Listens port) s b handed
+  by_listen port d s a b handed is here it none =
+      let at : Here it.before s = subst (λ (x : OwnEther). Here x s) (sym (same_own it.before d (sym it.was ∙ is))) here in
+      record {
+        after = it.after;
+        is = it.is;
+        here = subst (λ (x : OwnEther). Here x s) (sym it.opens.rest) (opened_here it.before it.after s at);
+        wrote = none;
+        could = tt;
+      }
+
+  one : (call : AppCall) (d : OwnEther) (s : Station Act) (a b : Kept) (handed : List ℕ) → a ≡ Some d → Here d s → Did call a b handed → Step call s b handed
   one (Calls (InputsFrame frame)) d s a b handed is here it = by_call (InputsFrame frame) d s a b handed is here it
   one (Calls (CallsSlot slot)) d s a b handed is here it = by_call (CallsSlot slot) d s a b handed is here it
   one (Calls DoesNothing) d s a b handed is here it = record { after = d; is = it.0 ∙ is; here = here; wrote = it.1; could = tt }
   one (Writes slot taken text last) d s a b handed is here it = by_write slot taken text last d s a b handed is here it
+  one (Listens port) d s a b handed is here it = by_listen port d s a b handed is here it.0 it.1
+
+  -- ---- the ports of the connections
+
+  abbrev AtPorts : List ℕ → Station Act → Type 0
+  AtPorts ports s = AreAtOpenPorts ports s.node
+
+  abbrev after : AppCall → Station Act → Station Act
+  after call s = station_after_call own mac network call s
+
+  -- a call that makes this call of the device
+  makes_at : (ports : List ℕ) (call : AppCall) (s : Station Act) → AtPorts ports s
+      → All (IsAt (is_open_port ports)) (events_of_call app_program own_spec is_own_port (link_of own mac network) own call) → AtPorts ports (after call s)
+  makes_at ports call s each are =
+      subst (λ (n : AbstractNode). AreAtOpenPorts ports n) (sym (node_of_call app_program own_spec is_own_port (link_of own mac network) own call s))
+      (run_at own_spec is_own_port (is_open_port ports) (events_of_call app_program own_spec is_own_port (link_of own mac network) own call)
+      (before_program_call app_program own_spec is_own_port (link_of own mac network) own call s).node each are)
+
+  call_at_ports : (ports : List ℕ) (call : AppCall) (s : Station Act) → AtPorts ports s → AtPorts (ports_after_call call ports) (after (call_at ports call) s)
+  call_at_ports ports (Calls (InputsFrame frame)) s each =
+      choose (λ (call : FrameCall). AtPorts ports (after (Calls call) s)) (is_for_closed_port ports frame) DoesNothing (InputsFrame frame) (λ e. each)
+      (λ e. makes_at ports (Calls (InputsFrame frame)) s each
+      (frame_each (interface_at own mac network) own (IsAt (is_open_port ports)) frame (λ kind. frame_at own ports frame kind e)))
+  call_at_ports ports (Calls (CallsSlot slot)) s each = makes_at ports (Calls (CallsSlot slot)) s each (slot_each (interface_at own mac network) own (IsAt (is_open_port ports)) slot tt)
+  call_at_ports ports (Calls DoesNothing) s each = each
+  call_at_ports ports (Writes slot taken text last) s each =
+      makes_at ports (Writes slot taken text last) s each (slot_each (interface_at own mac network) own (IsAt (is_open_port ports)) slot tt)
+  call_at_ports ports (Listens port) s each = λ slot live. stays_open port (connection_in slot s.node).sockets.own_port.0 ports (each slot live)
+
+  pub calls_at_ports : (ports : List ℕ) (all : List AnsweredCall) (s : Station Act) → AtPorts ports s
+      → AtPorts (ports_after (program_calls all) ports) (station_after_calls own mac network (program_calls (undropped ports all)) s)
+  calls_at_ports ports [] s each = each
+  calls_at_ports ports (it ∷ all) s each = calls_at_ports (ports_after_call it.call ports) all (after (call_at ports it.call) s) (call_at_ports ports it.call s each)
 
   abbrev KeptHere : Kept → Station Act → Type 0
   KeptHere kept s = HasOwn (λ d. Here d s) kept
 
-  one_call : (call : AppCall) (s : Station Act) (a b : Kept) (handed : List ℕ) → KeptHere a s → DidCall call a b handed
+  one_call : (call : AppCall) (s : Station Act) (a b : Kept) (handed : List ℕ) → KeptHere a s → Did call a b handed
       → KeptHere b (station_after_call own mac network call s) × (handed ≡ sent_at call s) × CouldWrite call s
   one_call call s a b handed here did =
       let step = one call here.0 s a b handed here.1 here.2 did in ((step.after, step.is, step.here), step.wrote, step.could)
 
+pub undropped_exact : (own : Addr) (mac : Mac) (network : Network) (all : List AnsweredCall) (closed old new : Kept)
+    → OpensOwn own.0 mac.0 network.mask.0 network.router.0 closed old → DidInTurn Did all old new → IsExact own mac network all new
+undropped_exact own mac network all closed old new opens did =
+    let exact = all_exact app_program own_spec is_own_port (link_of own mac network) own (KeptHere own mac network) CouldWrite Did (one_call own mac network) all (first_station own) old new
+    (opens.1.0, opens.1.1, opens.1.2.fresh.stands) did in
+    record { frames = exact.frames; could = exact.each; represents = exact.here }
+
+-- without the frames that are dropped, from the start
+pub did_undropped : (own : Addr) (mac : Mac) (network : Network) (all : List AnsweredCall) (closed old new : Kept)
+    → OpensOwn own.0 mac.0 network.mask.0 network.router.0 closed old → DidCalls all old new
+    → DidInTurn Did (undropped [] all) old new × HasOwn (λ d. ports_of d ≡ ports_after (program_calls all) []) new
+did_undropped own mac network all closed old new opens did = all_undropped [] all old new (opens.1.0, opens.1.1, opens.1.2.ports) did
+
 pub calls_exact : CallsAreExact
 calls_exact own mac network all closed old new opens did =
-    let exact = all_exact app_program own_spec is_own_port (link_of own mac network) own (KeptHere own mac network) CouldWrite DidCall (one_call own mac network) all (first_station own) old new
-    (opens.1.0, opens.1.1, opens.1.2.stands) did in
-    record { frames = exact.frames; could = exact.each; represents = exact.here }
+    let undropped_did = did_undropped own mac network all closed old new opens did in (
+      undropped_exact own mac network (undropped [] all) closed old new opens undropped_did.0,
+      record {
+        ports = undropped_did.1;
+        connections = calls_at_ports own mac network [] all (first_station own) (first_at (is_open_port []) own (numbers_of 0 no_message));
+      },
+    )

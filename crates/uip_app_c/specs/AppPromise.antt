@@ -15,8 +15,8 @@ use Rattle.frame_device.specs.ProgramKeeping.{ProgramConforms}
 use Rattle.own_app.specs.Prelude.{is_own_port, messages_text, no_message, numbers_of, own_output_model, own_spec}
 use Rattle.own_node.specs.Prelude.{HasCaptured, next_message}
 use Rattle.own_node.specs.Written.{text_written}
-use Rattle.uip_app_c.specs.AppCalls.{AnsweredCall, AppCall, Calls, DidCalls, OfEachCall, Writes, app_program, first_station, link_of}
-use Rattle.uip_app_c.specs.AppCalls.{station_after_call, station_after_calls}
+use Rattle.uip_app_c.specs.AppCalls.{AnsweredCall, AppCall, Calls, DidCalls, Listens, OfEachCall, Writes, app_program, first_station}
+use Rattle.uip_app_c.specs.AppCalls.{link_of, station_after_call, station_after_calls, undropped}
 use Rattle.uip_app_c.specs.Handles.{OpensOwn}
 use Rattle.uip_app_c.specs.Kept.{Kept}
 
@@ -25,12 +25,14 @@ abbrev pub IsCallOfBytes : AppCall → Type 0
 IsCallOfBytes (Calls (InputsFrame frame)) = All IsByte frame
 IsCallOfBytes (Calls _) = ⊤
 IsCallOfBytes (Writes slot taken text last) = All IsByte text
+IsCallOfBytes (Listens port) = ⊤
 
 -- ---- what a connection captures
 
 -- A message that was written is the newest capture of its connection after the call. Its text follows the text before.
 abbrev pub Captures : Addr → Mac → Network → AppCall → Station Act → Type 0
 Captures own mac network (Calls call) s = ⊤
+Captures own mac network (Listens port) s = ⊤
 Captures own mac network (Writes slot taken text last) s =
     HasCaptured (next_message slot taken text last s.node) (connection_in slot s.node)
     (connection_in slot (station_after_call own mac network (Writes slot taken text last) s).node)
@@ -38,6 +40,7 @@ Captures own mac network (Writes slot taken text last) s =
 -- The text that C writes in a call to the connection in a slot.
 abbrev pub text_in_call : ℕ → AppCall → List ℕ
 text_in_call slot (Calls call) = []
+text_in_call slot (Listens port) = []
 text_in_call slot (Writes at taken text last) = if at == slot then text else []
 
 -- The text that C wrote to the connection in a slot since it was accepted there.
@@ -67,9 +70,9 @@ pub record AppTraceConforms (own : Addr) (mac : Mac) (network : Network) (all : 
   pub home : length mac.0 ≡ 6
       → GoHome app_program own_spec is_own_port (interface_at own mac network) own (program_calls all) (first_station own)
 
--- So do all calls on a handle that was just opened, for any frames and texts of bytes.
+-- So do all calls on a handle that was just opened, without the frames that are dropped, for any frames and texts of bytes.
 abbrev pub AppCallsConform : Type 0
 AppCallsConform =
     (own : Addr) → IsAddr own → (mac : Mac) (network : Network) (all : List AnsweredCall) → All IsCallOfBytes (program_calls all)
     → (closed old new : Kept) → OpensOwn own.0 mac.0 network.mask.0 network.router.0 closed old → DidCalls all old new
-    → AppTraceConforms own mac network all
+    → AppTraceConforms own mac network (undropped [] all)

@@ -1,5 +1,5 @@
 -- What a call does to what a handle keeps.
-use Rattle.std.specs.Prelude.{◌≡◌, ◌⊎◌, ℕ, Bool, true, false, List, length, take}
+use Rattle.std.specs.Prelude.{◌≡◌, ◌⊎◌, ℕ, Bool, true, false, List, [], length, take}
 use Rattle.std.specs.declared.option.Option.TheVariants.{None, Some}
 use Rattle.uip_wire.specs.Prelude.{written}
 use Rattle.uip_wire.specs.declared.addr.Addr.{Addr}
@@ -11,14 +11,16 @@ use Rattle.own_app.specs.contracts.app.OwnAppApp.TheImpl.{ghosts}
 use Rattle.own_app.specs.Prelude.{no_message, numbers_of, own_spec}
 use Rattle.own_node.specs.Prelude.{OfNode, WritesMessage, can_write_in, is_ready_in, pending_in, port_in}
 use Rattle.uip_app_c.specs.Kept.{HasOwn, Kept, OwnEther}
+use Rattle.uip_app_c.specs.Ports.{ports_of}
 use Rattle.uip_app_c.specs.declared.calls.AppReceived.{AppReceived}
 use Rattle.uip_app_c.specs.declared.status.AppResult.{AppResult}
 use Rattle.uip_app_c.specs.declared.status.TheConstants.{BAD_ARGUMENT, NO_DEVICE, NOT_READY, OK}
 
--- It represents the initial node at this address, and a link with this hardware address, on this network, that has learned nothing.
-abbrev pub IsFreshOwnEther : Addr → Mac → Network → OwnEther → Type 0
-IsFreshOwnEther own mac network d =
-    IsFreshFrameDevice ghosts ether_link (interface_at own mac network) own_spec (numbers_of 0 no_message) own d
+-- It represents the initial node at this address, and a link with this hardware address, on this network, that has learned nothing. No
+-- port is open.
+pub record IsFreshOwnEther (own : Addr) (mac : Mac) (network : Network) (d : OwnEther) : Type 0 where
+  pub fresh : IsFreshFrameDevice ghosts ether_link (interface_at own mac network) own_spec (numbers_of 0 no_message) own d
+  pub ports : ports_of d ≡ []
 
 -- There was no device, and there is a fresh one at this address and hardware address, with this mask and this router.
 abbrev pub OpensOwn : List ℕ → List ℕ → List ℕ → List ℕ → Kept → Kept → Type 0

@@ -1,5 +1,6 @@
 pub mod Kept
 pub mod Holding
+pub mod Ports
 pub mod Handles
 pub mod AppCalls
 pub mod AppPromise

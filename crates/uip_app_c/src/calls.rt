@@ -3,19 +3,36 @@
 ghost use Rattle.std.specs.Prelude.{◌≡◌, ◌==◌, ◌||◌, ◌≤◌, length, nat_le, nat_lt, take};
 ghost use Rattle.std.specs.declared.option.Option.TheVariants.{None};
 ghost use Rattle.uip_wire.specs.Prelude.{written};
-ghost use Rattle.frame_device.specs.Prelude.{CallsSlot, InputsFrame};
+ghost use Rattle.frame_device.specs.Prelude.{CallsSlot};
 ghost use Rattle.uip_app_c.specs.Handles.{CannotWrite, IsCallStatus, IsWriteStatus, OwnAnswers, OwnWrites, ReadsSlot, Refused, flag_of};
+ghost use Rattle.uip_app_c.specs.Ports.{OwnInputs, InputsOrDrops};
 
 use crate::handle::{AppDevice, put_in, take_out};
+use crate::held::OwnEther;
 use crate::status::{AppResult, BAD_ARGUMENT, NO_DEVICE, NOT_READY, OK};
 use frame_device::LARGEST_OUT;
 use own_app::MESSAGE_ROOM;
-use own_node::{is_ready, own_port, pending, write};
+use own_node::{is_for_closed_port, is_ready, own_port, pending, write};
 use std::alloc::Global;
+
+/// Receives a frame of a device, unless it is for a port that is not open. Writes the frame that is sent, if there is one, to the same
+/// place. Returns its length.
+fn input_or_drop(device: &mut OwnEther, frame: &mut [u8], len: usize) -> usize
+    requires within { len ≤ length frame.old }
+    requires room { LARGEST_OUT ≤ length frame.old }
+    ensures long { length frame.new ≡ length frame.old }
+    ensures wrote { result ≤ length frame.new }
+    ensures inputs { InputsOrDrops (take len frame.old) device.old device.new (take result frame.new) }
+{
+    if is_for_closed_port(device.node.shared.ports.as_slice(), &frame[..len]) {
+        return 0;
+    }
+    device.input(frame, len)
+}
 
 /// Receives the frame of `len` bytes at the start of `frame`, which has room for 1514 bytes, and writes the frame that is sent, if there is
 /// one, to the same place: an ARP packet, or the reply of the node. A frame of fewer than 14 or more than 1514 bytes is dropped, and so is
-/// one for another host.
+/// one for another host, or a TCP segment to a port that is not open.
 #[unsafe(no_mangle)]
 pub extern "C" fn uip_app_input_frame(
     alloc: Global,
@@ -25,7 +42,7 @@ pub extern "C" fn uip_app_input_frame(
 ) -> AppResult
     ensures known { IsCallStatus result.status }
     ensures fine { result.status ≡ OK
-        → OwnAnswers (InputsFrame (take len frame.old)) device.old.held.device device.new.held.device (take result.written frame.new) }
+        → OwnInputs (take len frame.old) device.old.held.device device.new.held.device (take result.written frame.new) }
     ensures whole { result.status ≡ OK → result.consumed ≡ len }
     ensures within { result.written ≤ length frame.new }
     ensures pending { result.pending ≡ 0 }
@@ -40,7 +57,7 @@ pub extern "C" fn uip_app_input_frame(
     let Some(mut opened) = take_out(alloc, device) else {
         return AppResult::refused(NO_DEVICE);
     };
-    let written = opened.input(frame, len);
+    let written = input_or_drop(&mut opened, frame, len);
     put_in(device, opened);
     AppResult::done(len, written)
 }

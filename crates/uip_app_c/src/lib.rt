@@ -5,6 +5,7 @@ mod calls;
 mod handle;
 mod held;
 mod laws;
+mod listening;
 mod opening;
 mod status;
 #[cfg(test)]
@@ -16,5 +17,6 @@ pub use calls::{
 pub use handle::AppDevice;
 pub use held::{Held, OwnEther};
 pub use laws::{app_calls_are_exact, app_calls_keep_the_promise, constant_values};
+pub use listening::uip_app_listen;
 pub use opening::{uip_app_close, uip_app_open};
 pub use status::{AppResult, BAD_ARGUMENT, HAS_DEVICE, NO_DEVICE, NO_MEMORY, NOT_READY, OK};

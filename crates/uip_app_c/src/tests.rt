@@ -8,6 +8,7 @@ use crate::calls::{
 };
 use crate::handle::AppDevice;
 use crate::held::Held;
+use crate::listening::uip_app_listen;
 use crate::opening::{uip_app_close, uip_app_open};
 use crate::status::{AppResult, BAD_ARGUMENT, HAS_DEVICE, NO_DEVICE, NOT_READY, OK};
 use frame_device::LARGEST_OUT;
@@ -26,6 +27,12 @@ const MASK: &[u8; 4] = &[255, 255, 255, 0];
 
 /// The router, which has 02:00:00:00:00:09.
 const ROUTER: &[u8; 4] = &[10, 0, 0, 254];
+
+/// A SYN from 10.0.0.2, which has 02:00:00:00:00:02, to port 5025 (RFC 793).
+const SYN: [u8; 54] = [
+    2, 0, 0, 0, 0, 1, 2, 0, 0, 0, 0, 2, 8, 0, 69, 0, 0, 40, 0, 1, 0, 0, 64, 6, 102, 205, 10, 0, 0,
+    2, 10, 0, 0, 1, 4, 1, 19, 161, 0, 0, 3, 232, 0, 0, 0, 0, 80, 2, 32, 0, 96, 86, 0, 0,
+];
 
 /// Returns a handle without a device.
 fn no_device(alloc: Global) -> AppDevice {
@@ -89,6 +96,7 @@ fn check_refused(rt: &impl Abort, alloc: Global, device: &mut AppDevice, status:
         uip_app_write(alloc, device, 9, 0, b"bye\n", 1, &mut frame),
         refused
     );
+    assert_eq!(rt; uip_app_listen(alloc, device, 5025), status);
 }
 
 #[test]
@@ -142,6 +150,29 @@ fn a_reply_to_another_network_goes_to_the_router(rt: HostRuntime) {
     close(&rt, alloc, device);
 }
 
+/// A SYN is dropped until its port is open.
+#[test]
+fn four_ports_are_opened(rt: HostRuntime) {
+    let alloc = rt.alloc();
+    let mut device = opened(&rt, alloc);
+    check_reply(&rt, alloc, &mut device, &ARP_REQUEST, &ARP_REPLY);
+    let mut frame = [0; LARGEST_OUT];
+    frame[..54].copy_from_slice(&SYN);
+    assert_eq!(rt;
+        uip_app_input_frame(alloc, &mut device, &mut frame, 54),
+        AppResult::done(54, 0)
+    );
+    for port in [502, 23, 5025, 65535, 502] {
+        assert_eq!(rt; uip_app_listen(alloc, &mut device, port), OK);
+    }
+    assert_eq!(rt; uip_app_listen(alloc, &mut device, 7), BAD_ARGUMENT);
+    assert_eq!(rt;
+        uip_app_input_frame(alloc, &mut device, &mut frame, 54),
+        AppResult::done(54, 58)
+    );
+    close(&rt, alloc, device);
+}
+
 #[test]
 fn a_bad_argument_is_refused(rt: HostRuntime) {
     let alloc = rt.alloc();
@@ -168,5 +199,8 @@ fn a_bad_argument_is_refused(rt: HostRuntime) {
         uip_app_write(alloc, &mut device, 0, 0, b"", 0, &mut frame[1..]),
         refused
     );
+    for port in [0, 80, 65536] {
+        assert_eq!(rt; uip_app_listen(alloc, &mut device, port), BAD_ARGUMENT);
+    }
     close(&rt, alloc, device);
 }

@@ -2,7 +2,8 @@
 use Rattle.std.specs.List.{All}
 use Rattle.std.proofs.Common.{◌≡◌, ◌∙◌, ℕ, ◌+◌, ◌<◌, Bool, true, false, if◌then◌else◌, List, [], ◌∷◌, ◌++◌, length, map, sym, ap, subst, arith}
 use Rattle.std.proofs.lemmas.List.{length-map}
-use Rattle.app_events.specs.Prelude.{AppSpec, IsPrefixOf, IsU32, Snapshot}
+use Rattle.std.proofs.lemmas.List.Elements.{All-cons, All-head, All-nil, All-tail}
+use Rattle.app_events.specs.Prelude.{AppSpec, IsAddr, IsPrefixOf, IsU32, Snapshot}
 use Rattle.app_pair.specs.Lemmas.NumberLaws.{others_stay, own_u32, pair_u32, second_back, with_own_u32}
 use Rattle.app_pair.specs.PairNumbers.{change_own, own_numbers}
 use Rattle.app_pair.specs.PairSpec.{CanBePaired, own_snapshot}
@@ -12,7 +13,7 @@ use Rattle.file_tree.specs.Prelude.{files_of}
 use Rattle.device_values.specs.Prelude.{words, words_bytes, words_short}
 use Rattle.frame_device.specs.Prelude.{CallsSlot, DoesNothing, FrameCall, FrameSpec, InputsFrame, IsFrameOfBytes, Makes, acts_before, ether_brings_bytes, interface_at, station_events_by}
 use Rattle.frame_device.specs.declared.network.Network.{Network}
-use Rattle.frame_device.specs.ProgramCalls.{program_calls}
+use Rattle.frame_device.specs.ProgramCalls.{DidInTurn, program_calls}
 use Rattle.frame_device.proofs.ProgramLaws.{IsOfLine, at_end, call_few, each_by, each_with, events_of_call, program_goes_home, node_of_call, periodic_events, program_conforms}
 use Rattle.line_promise.specs.Prelude.{events_among}
 use Rattle.frame_device.specs.Newest.{NewestConforms}
@@ -33,10 +34,14 @@ use Rattle.pair_laws.proofs.PairLines.{speaks_on_lines}
 use Rattle.serve_loop.specs.Prelude.{Station}
 use Rattle.site_image.specs.Prelude.{File}
 use Rattle.tcp_machine.specs.Prelude.{Connection}
-use Rattle.uip_both_c.specs.BothCalls.{AnsweredCall, BothCall, Calls, CouldWrite, Gives, OfEachCall, Writes, both_program, change_by, first_station, link_of, station_after_call, station_after_calls}
-use Rattle.uip_both_c.specs.BothPromise.{BothCallsConform, Captures, IsCallOfBytes, both_model, connection_after, text_in_call}
+use Rattle.uip_both_c.specs.BothCalls.{AnsweredCall, BothCall, Calls, CouldWrite, Gives, Listens, OfEachCall, Writes, both_program, call_at, change_by, first_station, link_of, ports_after_call, station_after_call, station_after_calls, undropped}
+use Rattle.uip_both_c.specs.BothPromise.{BothCallsConform, BothTraceConforms, Captures, IsCallOfBytes, both_model, connection_after, text_in_call}
 use Rattle.uip_both_c.specs.BothSpec.{both_spec, first_both_numbers, is_both_port, own_in}
-use Rattle.uip_both_c.proofs.BothLaws.{calls_exact}
+use Rattle.uip_both_c.specs.Kept.{Kept}
+use Rattle.uip_both_c.specs.Opening.{OpensBoth}
+use Rattle.uip_both_c.specs.Ports.{is_dropped}
+use Rattle.uip_both_c.proofs.BothLaws.{Did, did_undropped, undropped_exact}
+use Rattle.uip_node.proofs.Basics.{choose}
 use Rattle.uip_device.specs.Lemmas.PagePairs.{pages_can_pair}
 use Rattle.uip_device.specs.Prelude.{first_numbers, value_pages, value_spec, write_value}
 use Rattle.uip_device.proofs.WebLaws.{first_words, written_words}
@@ -82,6 +87,7 @@ module _ (files : List File) (own : Addr) (mac : Mac) (network : Network) where
 
   of_line : (call : BothCall) (s : Station Act) → FollowsAt s → IsGood call s → IsOfLine both_program spec is_both_port link own call s
   of_line (Calls call) s f good = (frame_of_bytes call good.0, λ numbers h. h)
+  of_line (Listens port) s f good = (tt, λ numbers h. h)
   of_line (Writes slot taken text last) s f good = (
     tt,
     λ numbers h. (let message : PlainMessage = next_message_at taken text last (own_in slot s.node) in
@@ -102,6 +108,7 @@ module _ (files : List File) (own : Addr) (mac : Mac) (network : Network) where
 
   captures_one : (call : BothCall) (s : Station Act) → FollowsAt s → IsGood call s → Captures files own mac network call s
   captures_one (Calls call) s f good = tt
+  captures_one (Listens port) s f good = tt
   captures_one (Writes slot taken text last) s f good =
       subst (λ (n : AbstractNode). HasCaptured (next_message_at taken text last (own_in slot s.node)) (own_connection (connection_in slot s.node)) (own_connection (connection_in slot n))) (sym (called slot taken text last s))
       (pair_captured (value_spec files) pages_pair s.node slot taken text last f good.0 good.1)
@@ -124,6 +131,8 @@ module _ (files : List File) (own : Addr) (mac : Mac) (network : Network) where
       → HoldsNext (after call s).node count slot (text ++ text_in_call slot call)
   one_leaves (Calls call) s f good count slot before low h =
       subst (λ (n : AbstractNode). HoldsNext n count slot (before ++ [])) (sym (node_of_call both_program spec is_both_port link own (Calls call) s)) (call_leaves call s.node f count slot before low h)
+  one_leaves (Listens port) s f good count slot before low h =
+      subst (λ (n : AbstractNode). HoldsNext n count slot (before ++ [])) (sym (node_of_call both_program spec is_both_port link own (Listens port) s)) (call_leaves DoesNothing s.node f count slot before low h)
   one_leaves (Writes at taken text last) s f good count slot before low h =
       subst (λ (n : AbstractNode). HoldsNext n count slot (before ++ text_in_call slot (Writes at taken text last))) (sym (called at taken text last s))
       (pair_wrote (value_spec files) pages_pair s.node at taken text last f good.0 good.1 count slot before h)
@@ -159,12 +168,14 @@ both_words files = pair_u32 (first_numbers files) (numbers_of 0 no_message) (fir
 
 -- ---- the law
 
-pub calls_conform : BothCallsConform
-calls_conform image own is mac network all bytes closed old new opens did =
+undropped_conform : (image : List ℕ) (own : Addr) → IsAddr own → (mac : Mac) (network : Network) (all : List AnsweredCall) → All IsCallOfBytes (program_calls all)
+    → (closed old new : Kept) → (opens : OpensBoth image own.0 mac.0 network.mask.0 network.router.0 closed old) → DidInTurn Did all old new
+    → BothTraceConforms (files_of opens.site) own mac network all
+undropped_conform image own is mac network all bytes closed old new opens did =
     let files : List File = files_of opens.site in
     let s : Station Act = first_station files own in
     let calls : List BothCall = program_calls all in
-    let exact = calls_exact files own mac network all closed old new opens.opened did in
+    let exact = undropped_exact files own mac network all closed old new opens.opened did in
     let numbers : List ℕ = first_both_numbers files in
     let spec : AppSpec = both_spec files in
     let link : FrameSpec Act = link_of own mac network in
@@ -196,3 +207,25 @@ calls_conform image own is mac network all bytes closed old new opens did =
           ap (λ (x : Connection). messages_text x.part.snapshots) (sym (view_own is_own_port second_part second_numbers c (ap is_own_port (ends.at_port slot) ∙ mine))) ∙ has.text_is);
       home = λ six. program_goes_home both_program spec is_both_port (interface_at own mac network) own six calls s tt;
     }
+
+-- the calls that are not dropped are of bytes too
+call_of_bytes : (ports : List ℕ) (call : BothCall) → IsCallOfBytes call → IsCallOfBytes (call_at ports call)
+call_of_bytes ports (Calls (InputsFrame frame)) is =
+    choose (λ (call : FrameCall). IsCallOfBytes (Calls call)) (is_dropped ports frame) DoesNothing (InputsFrame frame) (λ e. tt) (λ e. is)
+call_of_bytes ports (Calls (CallsSlot slot)) is = is
+call_of_bytes ports (Calls DoesNothing) is = is
+call_of_bytes ports (Writes slot taken text last) is = is
+call_of_bytes ports (Gives number text) is = is
+call_of_bytes ports (Listens port) is = is
+
+calls_of_bytes : (ports : List ℕ) (all : List AnsweredCall) → All IsCallOfBytes (program_calls all) → All IsCallOfBytes (program_calls (undropped ports all))
+calls_of_bytes ports [] are = All-nil IsCallOfBytes
+calls_of_bytes ports (it ∷ all) are =
+    let next : List ℕ = ports_after_call it.call ports in
+    All-cons IsCallOfBytes (call_at ports it.call) (program_calls (undropped next all)) (call_of_bytes ports it.call (All-head IsCallOfBytes it.call (program_calls all) are))
+    (calls_of_bytes next all (All-tail IsCallOfBytes it.call (program_calls all) are))
+
+pub calls_conform : BothCallsConform
+calls_conform image own is mac network all bytes closed old new opens did =
+    undropped_conform image own is mac network (undropped [] all) (calls_of_bytes [] all bytes) closed old new opens
+    (did_undropped (files_of opens.site) own mac network all closed old new opens.opened did).0

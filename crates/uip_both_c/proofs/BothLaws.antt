@@ -1,8 +1,17 @@
 -- Calls on a handle, one after the other, are exact.
-use Rattle.uip_both_c.proofs.Prelude.{Act, Addr, AbstractNode, Bool, BothAnswers, BothAtStation, BothCall, BothEther, BothGives, BothWrites, Calls, CallsAreExact, CallsSlot, CouldWrite, DidCall, DoesNothing, Ethernet, File, FrameCall, Gives, HasBoth, InputsFrame, Kept, List, Mac, Network, None, PlainMessage, Represents, Some, Station, Writes, [], ap, both, both_spec, change_own, files_of, first_station, interface_at, site_of, station_after_call, subst, sym, true, with_change, write_message, ℕ, ◌∙◌, ◌≡◌}
-use Rattle.frame_device.specs.ProgramCalls.{before_program_call, program_frame}
-use Rattle.frame_device.proofs.ProgramLaws.{all_exact}
-use Rattle.uip_both_c.specs.BothCalls.{both_program, link_of}
+use Rattle.uip_both_c.proofs.Prelude.{Act, Addr, AbstractNode, AnsweredCall, AppState, Bool, BothAnswers, BothApps, BothAtStation, BothCall, BothEther, BothGives, BothListens, BothInputs, BothWrites, Calls, CallsAreExact, CallsSlot, CouldWrite, DidCall, DidCalls, DoesNothing, Ethernet, File, FrameCall, Gives, HasBoth, InputsFrame, IsExact, Kept, List, Listens, Mac, Network, None, OpensBothAs, PlainMessage, Represents, Some, Station, Writes, [], ◌∷◌, ap, both, both_spec, call_at, change_own, choose, files_of, first_station, interface_at, first_both_numbers, is_dropped, ports_after, ports_after_call, ports_of, site_of, station_after_call, subst, sym, true, undropped, with_change, with_port, with_ports_of, write_message, ℕ, ◌∙◌, ◌≡◌}
+use Rattle.app_pair.specs.declared.pair.AppPair.TheVariants as pair
+use Rattle.frame_device.specs.ProgramCalls.{DidInTurn, before_program_call, program_calls, program_frame}
+use Rattle.frame_device.proofs.Arrivals.{frame_each, slot_each}
+use Rattle.frame_device.proofs.ProgramLaws.{all_exact, events_of_call, node_of_call}
+use Rattle.own_app.specs.Prelude.{is_open_port}
+use Rattle.own_node.proofs.OpenPorts.{IsAt, first_at, frame_at, or_more, run_at, stays_open}
+use Rattle.own_node.specs.Prelude.{AreAtOpenPorts}
+use Rattle.std.proofs.Common.{eqb}
+use Rattle.std.specs.List.{All}
+use Rattle.uip_both_c.specs.BothCalls.{both_program, link_of, station_after_calls}
+use Rattle.uip_node.specs.Prelude.{connection_in}
+use Rattle.uip_wire.specs.declared.port.TheConstants.{WEB_PORT}
 use Rattle.uip_both_c.specs.BothSpec.{is_both_port}
 use Rattle.frame_device.specs.contracts.ether.EthernetFrames.TheImpl.{ghosts as ether_link}
 
@@ -12,6 +21,70 @@ both_or none None = none
 
 same_both : (x y : BothEther) → Some x ≡ Some y → x ≡ y
 same_both x y e = ap (λ (k : Kept). both_or x k) e
+
+-- ---- the frames that are dropped
+
+-- what a call did, if its frame was not dropped
+abbrev pub Did : BothCall → Kept → Kept → List ℕ → Type 0
+Did (Calls DoesNothing) old new handed = (new ≡ old) × (handed ≡ [])
+Did (Calls call) old new handed = BothAnswers call old new handed
+Did (Writes slot taken text last) old new handed = BothWrites slot taken text last old new handed
+Did (Gives number text) old new handed = BothGives number text old new × (handed ≡ [])
+Did (Listens port) old new handed = BothListens port old new × (handed ≡ [])
+
+abbrev HasPorts : List ℕ → Kept → Type 0
+HasPorts ports kept = HasBoth (λ d. ports_of d ≡ ports) kept
+
+-- the ports of a device that there was
+ports_were : (ports : List ℕ) (a : Kept) (x : BothEther) → HasPorts ports a → a ≡ Some x → ports_of x ≡ ports
+ports_were ports a x has was = ap (λ (d : BothEther). ports_of d) (same_both x has.0 (sym was ∙ has.1)) ∙ has.2
+
+-- no call but that which opens a port changes them
+ports_stay : (d x : BothEther) → both.config x.node.shared ≡ both.config d.node.shared → ports_of x ≡ ports_of d
+ports_stay d x kept = ap (λ (k : both.Config). k.1) kept
+
+inputs_undropped : (ports frame : List ℕ) (a b : Kept) (handed : List ℕ) → HasPorts ports a → BothInputs frame a b handed
+    → Did (call_at ports (Calls (InputsFrame frame))) a b handed × HasPorts ports b
+inputs_undropped ports frame a b handed has it =
+    let were = ports_were ports a it.before has it.was in
+    let same = ap (λ (l : List ℕ). is_dropped l frame) were in
+    choose (λ (call : FrameCall). Did (Calls call) a b handed × HasPorts ports b) (is_dropped ports frame) DoesNothing (InputsFrame frame)
+    (λ e. (let dropped = it.inputs.dropped (same ∙ e) in
+    let stays : b ≡ a = it.is ∙ ap (λ (d : BothEther). Some d) dropped.0 ∙ sym it.was in ((stays, dropped.1), (has.0, stays ∙ has.1, has.2))))
+    (λ e. (let answers = it.inputs.answers (same ∙ e) in (
+      record { before = it.before; after = it.after; was = it.was; is = it.is; answers = answers },
+      (it.after, it.is, ports_stay it.before it.after answers.kept ∙ were),
+    )))
+
+one_undropped : (ports : List ℕ) (call : BothCall) (a b : Kept) (handed : List ℕ) → HasPorts ports a → DidCall call a b handed
+    → Did (call_at ports call) a b handed × HasPorts (ports_after_call call ports) b
+one_undropped ports (Calls (InputsFrame frame)) a b handed has it = inputs_undropped ports frame a b handed has it
+one_undropped ports (Calls (CallsSlot slot)) a b handed has it =
+    (it, (it.after, it.is, ports_stay it.before it.after it.answers.kept ∙ ports_were ports a it.before has it.was))
+one_undropped ports (Calls DoesNothing) a b handed has it = (it, (has.0, it.0 ∙ has.1, has.2))
+one_undropped ports (Writes slot taken text last) a b handed has it =
+    (it, (it.after, it.is, ports_stay it.between it.after it.answers.kept ∙ ports_stay it.before it.between it.writes.kept ∙ ports_were ports a it.before has it.was))
+one_undropped ports (Gives number text) a b handed has it =
+    (it, (it.0.after, it.0.is, ports_stay it.0.before it.0.after it.0.gives.kept ∙ ports_were ports a it.0.before has it.0.was))
+one_undropped ports (Listens port) a b handed has it =
+    (it, (it.0.after, it.0.is, it.0.opens.ports ∙ ap (λ (l : List ℕ). with_port port l) (ports_were ports a it.0.before has it.0.was)))
+
+all_undropped : (ports : List ℕ) (all : List AnsweredCall) (a c : Kept) → HasPorts ports a → DidCalls all a c
+    → DidInTurn Did (undropped ports all) a c × HasPorts (ports_after (program_calls all) ports) c
+all_undropped ports [] a c has same = (same, subst (λ (k : Kept). HasPorts ports k) same has)
+all_undropped ports (it ∷ all) a c has more =
+    let one = one_undropped ports it.call a more.0 it.handed has more.1 in
+    let others = all_undropped (ports_after_call it.call ports) all more.0 c one.1 more.2 in
+    ((more.0, one.0, others.0), others.1)
+
+-- ---- a port is opened
+
+-- which no connection sees
+pub part_with_ports : (a : BothApps) (k : both.Config) (ports : List ℕ) (p : AppState) → both.represents a k p → both.represents a (k.0, ports) p
+part_with_ports (pair.First a) k ports p r = r
+part_with_ports (pair.Second b) k ports p r = record { port = r.port; own = r.own }
+
+-- ---- what the calls do
 
 module _ (files : List File) (own : Addr) (mac : Mac) (network : Network) where
   abbrev Here : BothEther → Station Act → Type 0
@@ -91,24 +164,114 @@ module _ (files : List File) (own : Addr) (mac : Mac) (network : Network) where
         could = tt;
       }
 
-  one : (call : BothCall) (d : BothEther) (s : Station Act) (a b : Kept) (handed : List ℕ) → a ≡ Some d → Here d s → DidCall call a b handed → Step call s b handed
+  opened_here : (d x : BothEther) (s : Station Act) → Here d s → Here (with_ports_of x d) s
+  opened_here d x s here = record {
+    files_are = here.files_are;
+    station = record {
+      stands = record {
+        meant = here.station.stands.meant;
+        address = here.station.stands.address;
+        stands = record {
+          addr = here.station.stands.stands.addr;
+          slots = record {
+            same_length = here.station.stands.stands.slots.same_length;
+            each = λ i c a in_code in_node.
+                (let each = here.station.stands.stands.slots.each i c a in_code in_node in
+                record { numbers = each.numbers; part = λ opened. part_with_ports c.app (both.config d.node.shared) (ports_of x) a.part (each.part opened) });
+          };
+          iss = here.station.stands.stands.iss;
+          numbers_stand = here.station.stands.stands.numbers_stand;
+          counts = here.station.stands.stands.counts;
+        };
+      };
+      acted = here.station.acted;
+    };
+  }
+
+  by_listen : (port : ℕ) (d : BothEther) (s : Station Act) (a b : Kept) (handed : List ℕ) → a ≡ Some d → Here d s → BothListens port a b → handed ≡ []
+      → Step (Listens port) s b handed
+  by_listen port d s a b handed is here it none =
+      let at : Here it.before s = subst (λ (x : BothEther). Here x s) (sym (same_both it.before d (sym it.was ∙ is))) here in
+      record {
+        after = it.after;
+        is = it.is;
+        here = subst (λ (x : BothEther). Here x s) (sym it.opens.rest) (opened_here it.before it.after s at);
+        wrote = none;
+        could = tt;
+      }
+
+  one : (call : BothCall) (d : BothEther) (s : Station Act) (a b : Kept) (handed : List ℕ) → a ≡ Some d → Here d s → Did call a b handed → Step call s b handed
   one (Calls (InputsFrame frame)) d s a b handed is here it = by_call (InputsFrame frame) d s a b handed is here it
   one (Calls (CallsSlot slot)) d s a b handed is here it = by_call (CallsSlot slot) d s a b handed is here it
   one (Calls DoesNothing) d s a b handed is here it = record { after = d; is = it.0 ∙ is; here = here; wrote = it.1; could = tt }
   one (Writes slot taken text last) d s a b handed is here it = by_write slot taken text last d s a b handed is here it
   one (Gives number text) d s a b handed is here it = by_value number text d s a b handed is here it.0 it.1
+  one (Listens port) d s a b handed is here it = by_listen port d s a b handed is here it.0 it.1
+
+  -- ---- the ports of the connections
+
+  abbrev AtPorts : List ℕ → Station Act → Type 0
+  AtPorts ports s = AreAtOpenPorts (WEB_PORT ∷ ports) s.node
+
+  abbrev after : BothCall → Station Act → Station Act
+  after call s = station_after_call files own mac network call s
+
+  -- a call that makes this call of the device
+  makes_at : (ports : List ℕ) (call : BothCall) (s : Station Act) → AtPorts ports s
+      → All (IsAt (is_open_port (WEB_PORT ∷ ports))) (events_of_call both_program (both_spec files) is_both_port (link_of own mac network) own call) → AtPorts ports (after call s)
+  makes_at ports call s each are =
+      subst (λ (n : AbstractNode). AreAtOpenPorts (WEB_PORT ∷ ports) n) (sym (node_of_call both_program (both_spec files) is_both_port (link_of own mac network) own call s))
+      (run_at (both_spec files) is_both_port (is_open_port (WEB_PORT ∷ ports)) (events_of_call both_program (both_spec files) is_both_port (link_of own mac network) own call)
+      (before_program_call both_program (both_spec files) is_both_port (link_of own mac network) own call s).node each are)
+
+  more_open : (port p : ℕ) (ports : List ℕ) → is_open_port (WEB_PORT ∷ ports) p ≡ true → is_open_port (WEB_PORT ∷ with_port port ports) p ≡ true
+  more_open port p ports e = or_more (eqb WEB_PORT p) (is_open_port ports p) (is_open_port (with_port port ports) p) (stays_open port p ports) e
+
+  call_at_ports : (ports : List ℕ) (call : BothCall) (s : Station Act) → AtPorts ports s → AtPorts (ports_after_call call ports) (after (call_at ports call) s)
+  call_at_ports ports (Calls (InputsFrame frame)) s each =
+      choose (λ (call : FrameCall). AtPorts ports (after (Calls call) s)) (is_dropped ports frame) DoesNothing (InputsFrame frame) (λ e. each)
+      (λ e. makes_at ports (Calls (InputsFrame frame)) s each
+      (frame_each (interface_at own mac network) own (IsAt (is_open_port (WEB_PORT ∷ ports))) frame (λ kind. frame_at own (WEB_PORT ∷ ports) frame kind e)))
+  call_at_ports ports (Calls (CallsSlot slot)) s each = makes_at ports (Calls (CallsSlot slot)) s each (slot_each (interface_at own mac network) own (IsAt (is_open_port (WEB_PORT ∷ ports))) slot tt)
+  call_at_ports ports (Calls DoesNothing) s each = each
+  call_at_ports ports (Writes slot taken text last) s each =
+      makes_at ports (Writes slot taken text last) s each (slot_each (interface_at own mac network) own (IsAt (is_open_port (WEB_PORT ∷ ports))) slot tt)
+  call_at_ports ports (Gives number text) s each = each
+  call_at_ports ports (Listens port) s each = λ slot live. more_open port (connection_in slot s.node).sockets.own_port.0 ports (each slot live)
+
+  pub calls_at_ports : (ports : List ℕ) (all : List AnsweredCall) (s : Station Act) → AtPorts ports s
+      → AtPorts (ports_after (program_calls all) ports) (station_after_calls files own mac network (program_calls (undropped ports all)) s)
+  calls_at_ports ports [] s each = each
+  calls_at_ports ports (it ∷ all) s each = calls_at_ports (ports_after_call it.call ports) all (after (call_at ports it.call) s) (call_at_ports ports it.call s each)
 
   abbrev KeptHere : Kept → Station Act → Type 0
   KeptHere kept s = HasBoth (λ d. Here d s) kept
 
-  one_call : (call : BothCall) (s : Station Act) (a b : Kept) (handed : List ℕ) → KeptHere a s → DidCall call a b handed
+  one_call : (call : BothCall) (s : Station Act) (a b : Kept) (handed : List ℕ) → KeptHere a s → Did call a b handed
       → KeptHere b (station_after_call files own mac network call s) × (handed ≡ sent_at call s) × CouldWrite call s
   one_call call s a b handed here did =
       let step = one call here.0 s a b handed here.1 here.2 did in ((step.after, step.is, step.here), step.wrote, step.could)
 
-pub calls_exact : CallsAreExact
-calls_exact files own mac network all closed old new opens did =
+pub undropped_exact : (files : List File) (own : Addr) (mac : Mac) (network : Network) (all : List AnsweredCall) (closed old new : Kept)
+    → OpensBothAs files own mac network closed old → DidInTurn Did all old new → IsExact files own mac network all new
+undropped_exact files own mac network all closed old new opens did =
     let fresh = opens.1.2 in
-    let exact = all_exact both_program (both_spec files) is_both_port (link_of own mac network) own (KeptHere files own mac network) CouldWrite DidCall (one_call files own mac network) all (first_station files own) old new
+    let exact = all_exact both_program (both_spec files) is_both_port (link_of own mac network) own (KeptHere files own mac network) CouldWrite Did (one_call files own mac network) all (first_station files own) old new
     (opens.1.0, opens.1.1, record { files_are = fresh.files_are; station = fresh.fresh.stands }) did in
     record { frames = exact.frames; could = exact.each; represents = exact.here }
+
+-- without the frames that are dropped, from the start
+pub did_undropped : (files : List File) (own : Addr) (mac : Mac) (network : Network) (all : List AnsweredCall) (closed old new : Kept)
+    → OpensBothAs files own mac network closed old → DidCalls all old new
+    → DidInTurn Did (undropped [] all) old new × HasBoth (λ d. ports_of d ≡ ports_after (program_calls all) []) new
+did_undropped files own mac network all closed old new opens did = all_undropped [] all old new (opens.1.0, opens.1.1, opens.1.2.ports) did
+
+pub calls_exact : CallsAreExact
+calls_exact files own mac network all closed old new opens did =
+    let undropped_did = did_undropped files own mac network all closed old new opens did in (
+      undropped_exact files own mac network (undropped [] all) closed old new opens undropped_did.0,
+      record {
+        ports = undropped_did.1;
+        connections = calls_at_ports files own mac network [] all (first_station files own) (first_at (is_open_port (WEB_PORT ∷ [])) own (first_both_numbers files));
+      },
+    )

@@ -1,5 +1,5 @@
 -- What opening a device and setting a value in it give.
-use Rattle.uip_both_c.proofs.Prelude.{◌≡◌, Addr, BothEther, BothNode, BothShared, Bool, ChangesNode, ChangesNumbers, DeviceWeb, IsFirstShared, IsFreshFrameDevice, IsOfImage, IsOpenedBoth, List, Mac, Network, OwnShared, PlainMessage, ap, both, both_spec, change_own, false, files_of, first_both_numbers, first_numbers, if◌then◌else◌, interface_at, message_of, no_message, numbers_of, pair_numbers, refl, subst, sym, true, write_value, ℕ, ◌∙◌}
+use Rattle.uip_both_c.proofs.Prelude.{◌≡◌, Addr, BothEther, BothNode, BothShared, Bool, ChangesNode, ChangesNumbers, DeviceWeb, IsFirstShared, IsFreshFrameDevice, IsOfImage, IsOpenedBoth, List, Mac, Network, OwnShared, PlainMessage, ap, both, both_spec, change_own, false, files_of, first_both_numbers, first_numbers, if◌then◌else◌, interface_at, message_of, no_message, numbers_of, pair_numbers, refl, subst, sym, true, write_value, ℕ, [], ◌∙◌}
 use mir.Val.{bool_byte}
 use Rattle.frame_device.specs.contracts.ether.EthernetFrames.TheImpl.{ghosts as ether_link}
 
@@ -14,10 +14,10 @@ first_numbered image first second its opened none =
     ∙ ap (λ (m : PlainMessage). pair_numbers (first_numbers (files_of first.web.site)) (numbers_of 0 m)) none
 
 pub opened_both : (image : List ℕ) (own : Addr) (mac : Mac) (network : Network) (d : BothEther) (first : DeviceWeb) (second : OwnShared)
-    → d.node.shared ≡ shared_of first second → IsFirstShared image first → second.opened ≡ 0 → message_of second.message ≡ no_message
+    → d.node.shared ≡ shared_of first second → IsFirstShared image first → second.opened ≡ 0 → message_of second.message ≡ no_message → second.ports.items ≡ []
     → IsFreshFrameDevice both ether_link (interface_at own mac network) (both_spec (files_of first.web.site)) (both.numbers (shared_of first second)) own d
     → IsOpenedBoth image own mac network d
-opened_both image own mac network d first second same its opened none fresh =
+opened_both image own mac network d first second same its opened none ports fresh =
     let numbered = subst (λ (l : List ℕ). IsFreshFrameDevice both ether_link (interface_at own mac network) (both_spec (files_of first.web.site)) l own d)
     (first_numbered image first second its opened none) fresh in
     record {
@@ -26,6 +26,7 @@ opened_both image own mac network d first second same its opened none fresh =
         files_are = refl;
         fresh = subst (λ (s : BothShared). IsFreshFrameDevice both ether_link (interface_at own mac network) (both_spec (files_of s.first.web.site)) (first_both_numbers (files_of s.first.web.site)) own d)
             (sym same) numbered;
+        ports = ap (λ (s : BothShared). s.second.ports.items) same ∙ ports;
       };
     }
 

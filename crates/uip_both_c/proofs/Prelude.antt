@@ -34,12 +34,16 @@ pub use Rattle.web_pages.specs.Prelude.{hits_of, place_of}
 pub use Rattle.ethernet_arp.specs.Prelude.{Act}
 pub use Rattle.frame_device.specs.Prelude.{CallsSlot, DoesNothing, FrameCall, InputsFrame}
 pub use Rattle.frame_device.specs.declared.ether.Ethernet.{Ethernet}
-pub use Rattle.own_app.specs.Prelude.{write_message}
+pub use Rattle.own_app.specs.Prelude.{with_port, write_message}
 pub use Rattle.own_node.specs.Prelude.{with_change}
 pub use Rattle.serve_loop.specs.Prelude.{Station}
-pub use Rattle.std.proofs.Common.{[]}
-pub use Rattle.uip_both_c.specs.BothCalls.{BothAtStation, BothCall, Calls, CallsAreExact, CouldWrite, DidCall, Gives, Writes, first_station, station_after_call}
+pub use Rattle.std.proofs.Common.{[], ◌∷◌}
+pub use Rattle.uip_node.proofs.Basics.{choose}
+pub use Rattle.app_events.specs.Prelude.{AppState}
+pub use Rattle.uip_both_c.specs.Kept.{BothApps}
+pub use Rattle.uip_both_c.specs.BothCalls.{AnsweredCall, BothAtStation, BothCall, Calls, CallsAreExact, CouldWrite, DidCall, DidCalls, Gives, IsExact, Listens, Writes, call_at, first_station, ports_after, ports_after_call, station_after_call, undropped}
 pub use Rattle.uip_both_c.specs.BothSpec.{site_of}
-pub use Rattle.uip_both_c.specs.Handles.{BothAnswers, BothGives, BothWrites}
+pub use Rattle.uip_both_c.specs.Handles.{BothAnswers, BothGives, BothWrites, OpensBothAs}
+pub use Rattle.uip_both_c.specs.Ports.{BothListens, BothInputs, is_dropped, ports_of, with_ports_of}
 pub use Rattle.uip_both_c.specs.Kept.{HasBoth}
 pub use Rattle.uip_node.specs.Prelude.{AbstractNode, Represents}

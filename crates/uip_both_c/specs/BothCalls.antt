@@ -1,29 +1,34 @@
 -- Calls on a handle, one after the other, and what the definition of the node and its link gives for them.
-use Rattle.std.specs.Prelude.{◌≡◌, ℕ, Bool, List, [], false, map, true, ⊤}
+use Rattle.std.specs.Prelude.{◌≡◌, ℕ, Bool, List, [], ◌∷◌, false, if◌then◌else◌, map, true, ⊤}
 use Rattle.app_pair.specs.PairNumbers.{change_own}
 use Rattle.ethernet_arp.specs.Prelude.{Act}
 use Rattle.ethernet_arp.specs.declared.mac.Mac.{Mac}
 use Rattle.file_tree.specs.Prelude.{files_of}
-use Rattle.frame_device.specs.Prelude.{CallsSlot, DoesNothing, FrameCall, FrameSpec, RepresentsStation, ether_frames, interface_at}
+use Rattle.frame_device.specs.Prelude.{CallsSlot, DoesNothing, FrameCall, FrameSpec, InputsFrame, RepresentsStation, ether_frames}
+use Rattle.frame_device.specs.Prelude.{interface_at}
 use Rattle.frame_device.specs.ProgramCalls.{AnsweredBy, DidInTurn, OfEach, Program, after_program_call, after_program_calls}
 use Rattle.frame_device.specs.ProgramCalls.{program_calls, program_frames}
 use Rattle.frame_device.specs.contracts.ether.EthernetFrames.TheImpl.{ghosts as ether_link}
 use Rattle.frame_device.specs.declared.network.Network.{Network}
-use Rattle.own_app.specs.Prelude.{write_message}
-use Rattle.own_node.specs.Prelude.{can_write_at, next_message_at}
+use Rattle.own_app.specs.Prelude.{with_port, write_message}
+use Rattle.own_node.specs.Prelude.{AreAtOpenPorts, can_write_at, next_message_at}
 use Rattle.serve_loop.specs.Prelude.{Station, initial_station}
 use Rattle.site_image.specs.Prelude.{File}
 use Rattle.uip_both_c.specs.BothSpec.{both, both_spec, first_both_numbers, is_both_port, own_in, site_of}
 use Rattle.uip_both_c.specs.Handles.{BothAnswers, BothGives, BothWrites, OpensBothAs}
 use Rattle.uip_both_c.specs.Kept.{BothEther, HasBoth, Kept}
+use Rattle.uip_both_c.specs.Ports.{BothListens, BothInputs, is_dropped, ports_of}
 use Rattle.uip_device.specs.Prelude.{write_value}
 use Rattle.uip_wire.specs.declared.addr.Addr.{Addr}
+use Rattle.uip_wire.specs.declared.port.TheConstants.{WEB_PORT}
 
 -- `Calls`: a frame is received, or a slot is called. A call that is refused or that reads is `Calls DoesNothing`. `Gives`: a value is set.
+-- `Listens`: a port is opened.
 pub data BothCall : Type 0 where
   Calls : (call : FrameCall) → BothCall
   Writes : (slot taken : ℕ) (text : List ℕ) (last : Bool) → BothCall
   Gives : (number : ℕ) (text : List ℕ) → BothCall
+  Listens : (port : ℕ) → BothCall
 
 abbrev pub AnsweredCall : Type 0
 AnsweredCall = AnsweredBy BothCall
@@ -31,30 +36,55 @@ AnsweredCall = AnsweredBy BothCall
 -- What a call did, by its clauses.
 abbrev pub DidCall : BothCall → Kept → Kept → List ℕ → Type 0
 DidCall (Calls DoesNothing) old new handed = (new ≡ old) × (handed ≡ [])
-DidCall (Calls call) old new handed = BothAnswers call old new handed
+DidCall (Calls (InputsFrame frame)) old new handed = BothInputs frame old new handed
+DidCall (Calls (CallsSlot slot)) old new handed = BothAnswers (CallsSlot slot) old new handed
 DidCall (Writes slot taken text last) old new handed = BothWrites slot taken text last old new handed
 DidCall (Gives number text) old new handed = BothGives number text old new × (handed ≡ [])
+DidCall (Listens port) old new handed = BothListens port old new × (handed ≡ [])
 
 abbrev pub DidCalls : List AnsweredCall → Kept → Kept → Type 0
 DidCalls all a c = DidInTurn DidCall all a c
+
+-- ---- the open ports
+
+abbrev pub ports_after_call : BothCall → List ℕ → List ℕ
+ports_after_call (Listens port) ports = with_port port ports
+ports_after_call call ports = ports
+
+abbrev pub ports_after : List BothCall → List ℕ → List ℕ
+ports_after [] ports = ports
+ports_after (call ∷ calls) ports = ports_after calls (ports_after_call call ports)
+
+-- A frame for a port that is not open is dropped.
+abbrev pub call_at : List ℕ → BothCall → BothCall
+call_at ports (Calls (InputsFrame frame)) = Calls (if is_dropped ports frame then DoesNothing else InputsFrame frame)
+call_at ports call = call
+
+-- The calls, without the frames that are dropped, if these ports are open at first.
+abbrev pub undropped : List ℕ → List AnsweredCall → List AnsweredCall
+undropped ports [] = []
+undropped ports (it ∷ all) =
+    record { call = call_at ports it.call; handed = it.handed } ∷ undropped (ports_after_call it.call ports) all
 
 -- ---- by definition
 
 abbrev pub link_of : Addr → Mac → Network → FrameSpec Act
 link_of own mac network = ether_frames (interface_at own mac network)
 
--- A call that writes a message first puts it in the place of the newest, and then makes the call of the slot. A call that sets a value
--- makes no call of the device.
+-- A call that writes a message first puts it in the place of the newest, and then makes the call of the slot. A call that sets a value or
+-- opens a port makes no call of the device.
 abbrev pub change_by : BothCall → Station Act → List ℕ → List ℕ
 change_by (Calls call) s numbers = numbers
 change_by (Writes slot taken text last) s numbers =
     change_own true (write_message (next_message_at taken text last (own_in slot s.node))) numbers
 change_by (Gives number text) s numbers = change_own false (write_value number text) numbers
+change_by (Listens port) s numbers = numbers
 
 abbrev pub frame_call_of : BothCall → FrameCall
 frame_call_of (Calls call) = call
 frame_call_of (Writes slot taken text last) = CallsSlot slot
 frame_call_of (Gives number text) = DoesNothing
+frame_call_of (Listens port) = DoesNothing
 
 abbrev pub both_program : Program BothCall Act
 both_program = record { change = change_by; makes = frame_call_of }
@@ -64,6 +94,7 @@ abbrev pub CouldWrite : BothCall → Station Act → Type 0
 CouldWrite (Calls call) s = ⊤
 CouldWrite (Writes slot taken text last) s = can_write_at taken (own_in slot s.node) ≡ true
 CouldWrite (Gives number text) s = ⊤
+CouldWrite (Listens port) s = ⊤
 
 module _ (files : List File) (own : Addr) (mac : Mac) (network : Network) where
   abbrev pub station_after_call : BothCall → Station Act → Station Act
@@ -96,8 +127,17 @@ pub record IsExact (files : List File) (own : Addr) (mac : Mac) (network : Netwo
   pub represents : HasBoth (λ d. BothAtStation files own mac network d
       (station_after_calls files own mac network (program_calls all) (first_station files own))) new
 
--- So is every sequence of calls on a handle that was just opened.
+-- The open ports of the device are those that the calls opened. Each connection that is not CLOSED is at one of them, or at that of the
+-- pages.
+pub record HasOpenPorts (files : List File) (own : Addr) (mac : Mac) (network : Network) (all : List AnsweredCall) (new : Kept)
+    : Type 0 where
+  pub ports : HasBoth (λ d. ports_of d ≡ ports_after (program_calls all) []) new
+  pub connections : AreAtOpenPorts (WEB_PORT ∷ ports_after (program_calls all) [])
+      (station_after_calls files own mac network (program_calls (undropped [] all)) (first_station files own)).node
+
+-- So is every sequence of calls on a handle that was just opened, without the frames that are dropped.
 abbrev pub CallsAreExact : Type 0
 CallsAreExact =
     (files : List File) (own : Addr) (mac : Mac) (network : Network) (all : List AnsweredCall) (closed old new : Kept)
-    → OpensBothAs files own mac network closed old → DidCalls all old new → IsExact files own mac network all new
+    → OpensBothAs files own mac network closed old → DidCalls all old new
+    → IsExact files own mac network (undropped [] all) new × HasOpenPorts files own mac network all new

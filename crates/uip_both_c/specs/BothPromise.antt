@@ -17,8 +17,8 @@ use Rattle.pair_laws.specs.PairLines.{pair_model}
 use Rattle.serve_loop.specs.Prelude.{Station}
 use Rattle.site_image.specs.Prelude.{File}
 use Rattle.tcp_machine.specs.Prelude.{Connection, is_live}
-use Rattle.uip_both_c.specs.BothCalls.{AnsweredCall, BothCall, Calls, DidCalls, Gives, OfEachCall, Writes, both_program, first_station}
-use Rattle.uip_both_c.specs.BothCalls.{link_of, station_after_call, station_after_calls}
+use Rattle.uip_both_c.specs.BothCalls.{AnsweredCall, BothCall, Calls, DidCalls, Gives, Listens, OfEachCall, Writes, both_program}
+use Rattle.uip_both_c.specs.BothCalls.{first_station, link_of, station_after_call, station_after_calls, undropped}
 use Rattle.uip_both_c.specs.BothSpec.{both_spec, first_both_numbers, is_both_port, own_in}
 use Rattle.uip_both_c.specs.Kept.{Kept}
 use Rattle.uip_both_c.specs.Opening.{OpensBoth}
@@ -32,6 +32,7 @@ IsCallOfBytes (Calls (InputsFrame frame)) = All IsByte frame
 IsCallOfBytes (Calls _) = ⊤
 IsCallOfBytes (Writes slot taken text last) = All IsByte text
 IsCallOfBytes (Gives number text) = (length text ≤ 32) × All IsByte text
+IsCallOfBytes (Listens port) = ⊤
 
 -- What determines the output at each port: at the ports of the program's application its messages, at port 80 the pages of these files.
 abbrev pub both_model : List File → ℕ → OutputModel
@@ -42,6 +43,7 @@ abbrev pub text_in_call : ℕ → BothCall → List ℕ
 text_in_call slot (Calls call) = []
 text_in_call slot (Writes at taken text last) = if at == slot then text else []
 text_in_call slot (Gives number text) = []
+text_in_call slot (Listens port) = []
 
 module _ (files : List File) (own : Addr) (mac : Mac) (network : Network) where
   -- ---- what a connection captures
@@ -53,6 +55,7 @@ module _ (files : List File) (own : Addr) (mac : Mac) (network : Network) where
       HasCaptured (next_message_at taken text last (own_in slot s.node)) (own_connection (connection_in slot s.node))
       (own_connection (connection_in slot (station_after_call files own mac network (Writes slot taken text last) s).node))
   Captures (Gives number text) s = ⊤
+  Captures (Listens port) s = ⊤
 
   -- The text that the program wrote to the connection in a slot since it was accepted there.
   abbrev pub text_written_in : ℕ → List BothCall → List ℕ
@@ -86,10 +89,11 @@ pub record BothTraceConforms (files : List File) (own : Addr) (mac : Mac) (netwo
   pub home : length mac.0 ≡ 6
       → GoHome both_program (both_spec files) is_both_port (interface_at own mac network) own (program_calls all) (first_station files own)
 
--- So do all calls on a handle that was just opened with a good image, for any frames and texts of bytes.
+-- So do all calls on a handle that was just opened with a good image, without the frames that are dropped, for any frames and texts of
+-- bytes.
 abbrev pub BothCallsConform : Type 0
 BothCallsConform =
     (image : List ℕ) (own : Addr) → IsAddr own → (mac : Mac) (network : Network)
     → (all : List AnsweredCall) → All IsCallOfBytes (program_calls all)
     → (closed old new : Kept) → (opens : OpensBoth image own.0 mac.0 network.mask.0 network.router.0 closed old) → DidCalls all old new
-    → BothTraceConforms (files_of opens.site) own mac network all
+    → BothTraceConforms (files_of opens.site) own mac network (undropped [] all)

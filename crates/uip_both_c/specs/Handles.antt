@@ -1,5 +1,5 @@
 -- What a call does to what a handle keeps.
-use Rattle.std.specs.Prelude.{◌≡◌, ◌⊎◌, ℕ, Bool, true, false, List, length, take}
+use Rattle.std.specs.Prelude.{◌≡◌, ◌⊎◌, ℕ, Bool, true, false, List, [], length, take}
 use Rattle.std.specs.declared.option.Option.TheVariants.{None, Some}
 use Rattle.app_pair.specs.PairNumbers.{change_own}
 use Rattle.ethernet_arp.specs.declared.mac.Mac.{Mac}
@@ -11,6 +11,7 @@ use Rattle.own_node.specs.Prelude.{WritesMessageWith, can_write_at, is_ready_at,
 use Rattle.site_image.specs.Prelude.{File}
 use Rattle.uip_both_c.specs.BothSpec.{OfBoth, both, both_spec, first_both_numbers, own_in, own_port_in, site_of}
 use Rattle.uip_both_c.specs.Kept.{BothEther, HasBoth, Kept}
+use Rattle.uip_both_c.specs.Ports.{ports_of}
 use Rattle.uip_both_c.specs.declared.calls.UipReceived.{UipReceived}
 use Rattle.uip_both_c.specs.declared.status.TheConstants.{BAD_ARGUMENT, NO_DEVICE, NOT_READY, OK}
 use Rattle.uip_both_c.specs.declared.status.UipResult.{UipResult}
@@ -19,10 +20,11 @@ use Rattle.uip_wire.specs.Prelude.{written}
 use Rattle.uip_wire.specs.declared.addr.Addr.{Addr}
 
 -- It serves these files and represents the initial node at this address, and a link with this hardware address, on this network, that has
--- learned nothing.
+-- learned nothing. No port of the program's application is open.
 pub record IsFreshBothEther (files : List File) (own : Addr) (mac : Mac) (network : Network) (d : BothEther) : Type 0 where
   pub files_are : files_of (site_of d.node) ≡ files
   pub fresh : IsFreshFrameDevice both ether_link (interface_at own mac network) (both_spec files) (first_both_numbers files) own d
+  pub ports : ports_of d ≡ []
 
 -- There was no device, and there is a fresh one with these files at this address and hardware address, on this network.
 abbrev pub OpensBothAs : List File → Addr → Mac → Network → Kept → Kept → Type 0

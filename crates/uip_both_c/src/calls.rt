@@ -3,10 +3,11 @@
 ghost use Rattle.std.specs.Prelude.{◌≡◌, ◌==◌, ◌||◌, ◌≤◌, length, nat_le, nat_lt, take};
 ghost use Rattle.std.specs.declared.option.Option.TheVariants.{None};
 ghost use Rattle.uip_wire.specs.Prelude.{written};
-ghost use Rattle.frame_device.specs.Prelude.{CallsSlot, InputsFrame};
+ghost use Rattle.frame_device.specs.Prelude.{CallsSlot};
 ghost use Rattle.uip_both_c.specs.Handles.{CannotWrite, IsCallStatus, IsWriteStatus, BothAnswers, BothWrites, ReadsSlot, Refused, flag_of};
+ghost use Rattle.uip_both_c.specs.Ports.{BothInputs};
 
-use crate::device::{call_slot, input_frame, is_ready, own_port, pending, write};
+use crate::device::{call_slot, input_or_drop, is_ready, own_port, pending, write};
 use crate::handle::{UipDevice, put_in, take_out};
 use crate::status::{BAD_ARGUMENT, NO_DEVICE, NOT_READY, OK, UipResult};
 use frame_device::LARGEST_OUT;
@@ -15,7 +16,7 @@ use std::alloc::Global;
 
 /// Receives the frame of `len` bytes at the start of `frame`, which has room for 1514 bytes, and writes the frame that is sent, if there is
 /// one, to the same place: an ARP packet, or the reply of the node. A frame of fewer than 14 or more than 1514 bytes is dropped, and so is
-/// one for another host.
+/// one for another host, or a TCP segment to a port that is not open.
 #[unsafe(no_mangle)]
 pub extern "C" fn uip_input_frame(
     alloc: Global,
@@ -25,7 +26,7 @@ pub extern "C" fn uip_input_frame(
 ) -> UipResult
     ensures known { IsCallStatus result.status }
     ensures fine { result.status ≡ OK
-        → BothAnswers (InputsFrame (take len frame.old)) device.old.held.device device.new.held.device (take result.written frame.new) }
+        → BothInputs (take len frame.old) device.old.held.device device.new.held.device (take result.written frame.new) }
     ensures whole { result.status ≡ OK → result.consumed ≡ len }
     ensures within { result.written ≤ length frame.new }
     ensures pending { result.pending ≡ 0 }
@@ -40,7 +41,7 @@ pub extern "C" fn uip_input_frame(
     let Some(mut opened) = take_out(alloc, device) else {
         return UipResult::refused(NO_DEVICE);
     };
-    let written = input_frame(&mut opened, frame, len);
+    let written = input_or_drop(&mut opened, frame, len);
     put_in(device, opened);
     UipResult::done(len, written)
 }

@@ -4,18 +4,36 @@ ghost use Rattle.std.specs.Prelude.{◌≡◌, ◌<◌, ◌≤◌, false, length
 ghost use Rattle.app_pair.specs.PairNumbers.{change_own};
 ghost use Rattle.frame_device.specs.Prelude.{AnswersFrame, CallsSlot, ChangesNumbers, InputsFrame};
 ghost use Rattle.frame_device.specs.contracts.ether.EthernetFrames.TheImpl.{ghosts as ether_link};
+ghost use Rattle.own_app.specs.Prelude.{can_listen};
 ghost use Rattle.own_node.specs.Prelude.{WritesMessageWith, can_write_at, is_ready_at, pending_at, seen_in_pair};
 ghost use Rattle.uip_both_c.specs.BothSpec.{OfBoth, both, own_in, own_port_in};
+ghost use Rattle.uip_both_c.specs.Ports.{OpensPort, InputsOrDrops, ports_of};
 ghost use Rattle.uip_device.specs.Prelude.{write_value};
 
 use crate::held::BothEther;
 use crate::pages::set_page_value;
 use frame_device::LARGEST_OUT;
 use own_app::MESSAGE_ROOM;
+use own_node::is_for_closed_port_of_pair;
+
+/// Receives the frame of `len` bytes at the start of a buffer, unless it is for a port that is not open. Writes the frame that is sent, if
+/// there is one, to the same place. Returns its length.
+pub(crate) fn input_or_drop(device: &mut BothEther, frame: &mut [u8], len: usize) -> usize
+    requires within { len ≤ length frame.old }
+    requires room { LARGEST_OUT ≤ length frame.old }
+    ensures long { length frame.new ≡ length frame.old }
+    ensures wrote { result ≤ length frame.new }
+    ensures inputs { InputsOrDrops (take len frame.old) device.old device.new (take result frame.new) }
+{
+    if is_for_closed_port_of_pair(device.node.shared.second.ports.as_slice(), &frame[..len]) {
+        return 0;
+    }
+    input_frame(device, frame, len)
+}
 
 /// Receives the frame of `len` bytes at the start of a buffer, and writes the frame that is sent, if there is one, to the same place.
 /// Returns its length.
-pub(crate) fn input_frame(device: &mut BothEther, frame: &mut [u8], len: usize) -> usize
+fn input_frame(device: &mut BothEther, frame: &mut [u8], len: usize) -> usize
     requires within { len ≤ length frame.old }
     requires room { LARGEST_OUT ≤ length frame.old }
     ensures long { length frame.new ≡ length frame.old }
@@ -34,6 +52,15 @@ pub(crate) fn call_slot(device: &mut BothEther, slot: usize, frame: &mut [u8]) -
     ensures answers { AnswersFrame both ether_link (CallsSlot slot) device.old device.new (take result frame.new) }
 {
     device.periodic(slot, frame)
+}
+
+/// Opens a port. Returns false and changes nothing if it is not open and four others are.
+pub(crate) fn listen(device: &mut BothEther, port: u16) -> bool
+    ensures can { result ≡ can_listen port (ports_of device.old) }
+    ensures opens { result ≡ true → OpensPort port device.old device.new }
+    ensures refused { result ≡ false → device.new ≡ device.old }
+{
+    device.node.shared.second.listen(port)
 }
 
 /// Sets a value of the pages.

@@ -7,6 +7,7 @@ use crate::calls::{UipReceived, uip_input_frame, uip_periodic_frame, uip_read, u
 use crate::giving::uip_set_value;
 use crate::handle::UipDevice;
 use crate::held::Held;
+use crate::listening::uip_listen;
 use crate::opening::{UipOpened, uip_close, uip_open_ether};
 use crate::query::{UipQuery, uip_query};
 use crate::reading::{uip_counter, uip_hits, uip_is_idle, uip_ticks};
@@ -138,6 +139,7 @@ fn check_refused(rt: &impl Abort, alloc: Global, device: &mut UipDevice, status:
         refused
     );
     assert_eq!(rt; uip_set_value(alloc, device, 15, b"7"), status);
+    assert_eq!(rt; uip_listen(alloc, device, 5025), status);
 }
 
 /// Returns what is read of a connection: whether it is ready, its port, and how many bytes are pending.
@@ -263,12 +265,14 @@ fn a_page_is_served(rt: HostRuntime) {
     close(&rt, alloc, device);
 }
 
-/// A line is read and answered, once. It counts no hit.
+/// A SYN is dropped until its port is open. A line is read and answered, once. It counts no hit.
 #[test]
 fn a_line_is_answered(rt: HostRuntime) {
     let alloc = rt.alloc();
     let mut device = opened(&rt, alloc);
     let mut line = [b'.'; 8];
+    check_datagram(&rt, alloc, &mut device, CONSOLE_SYN, 0);
+    assert_eq!(rt; uip_listen(alloc, &mut device, 5025), OK);
     check_datagram(&rt, alloc, &mut device, CONSOLE_SYN, 58);
     check_datagram(&rt, alloc, &mut device, LINE, 54);
     assert_eq!(rt;
@@ -321,6 +325,12 @@ fn a_bad_argument_is_refused(rt: HostRuntime) {
         refused
     );
     assert_eq!(rt; uip_set_value(alloc, &mut device, 16, b"7"), BAD_ARGUMENT);
+    for port in [502, 23, 7, 9] {
+        assert_eq!(rt; uip_listen(alloc, &mut device, port), OK);
+    }
+    for port in [0, 80, 65536, 5025] {
+        assert_eq!(rt; uip_listen(alloc, &mut device, port), BAD_ARGUMENT);
+    }
     assert_eq!(rt;
         uip_set_value(alloc, &mut device, 0, &[b'7'; 33]),
         BAD_ARGUMENT
