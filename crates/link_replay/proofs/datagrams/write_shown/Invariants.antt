@@ -1,6 +1,6 @@
 use Rattle.link_replay.proofs.Prelude.{◌≡◌, ℕ, Bool, true, ◌+◌, drop, AppSpec, World, IsAt, IsLink, LinkRepresents, AppendsShown, link_of, line_of_datagram, numbered_texts}
 use Rattle.link_replay.proofs.Saying.{Saying}
-use Rattle.link_replay.proofs.datagrams.write_datagrams.Given as goal
+use Rattle.link_replay.proofs.datagrams.write_shown.Given as goal
 
 abbrev pub invariant-loop-place : goal.invariant-loop-place
 invariant-loop-place g l = record {
