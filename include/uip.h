@@ -25,7 +25,7 @@
  *
  *     static uip_device device = UIP_INIT;
  *
- *     int half_a_second_passed(void) {                     // 1 if a tick is due; after 1.5 s or more 1 once
+ *     int half_a_second_passed(void) {                     // 1 if a tick is due; after a stall only one is
  *         static unsigned last;
  *         unsigned now = milliseconds();
  *         if (now - last < 500) return 0;
@@ -43,7 +43,7 @@
  *
  *     int main(void) {
  *         static const unsigned char own[4] = {10, 0, 0, 1};
- *         static unsigned char bytes[64], out[32];
+ *         static unsigned char bytes[64], out[32];         // small areas will do: a frame passes through in pieces
  *         unsigned status = uip_open(&device, site_image, SITE_IMAGE_LEN, own).status;
  *         while (status == UIP_OK) {                       // nothing that arrives ends it
  *             size_t len = read_serial(bytes, sizeof bytes);
@@ -61,6 +61,7 @@
  *     python3 tools/pack.py FOLDER site.c                  # the pages of FOLDER, as a constant array
  *     arm-none-eabi-gcc -mcpu=cortex-m4 -mthumb -mfloat-abi=soft -Os -nostartfiles -Iinclude -Iexamples/common \
  *         -T board.ld startup.c drivers.c main.c lib/m4/libuip_c.a -lc -lgcc -o firmware.elf
+ *     python3 examples/browse.py --line /dev/ttyUSB0 115200    # Linux at the other end; it prints how to see the pages
  *
  * LINKS. Take one row, and link its one library:
  *
@@ -70,8 +71,9 @@
  *     Ethernet              uip_open_ether  uip_input_frame  uip_tick_frames     libuip_c_ether.a (has all calls)
  *
  * TARGETS, in bytes. Flash is with a driver and without your pages. The stack is the greatest depth from reset, without
- * interrupts, computed for our test firmwares; on Ethernet it is that of opening. RAM also holds your buffers and the
- * heap: for six files UIP_MEMORY(6), 5,728 bytes, on Ethernet UIP_MEMORY_ETHER(6), 4,304.
+ * interrupts, computed for our test firmwares; on Ethernet it is that of opening. The heap is UIP_MEMORY(files), 5,728
+ * for six files, and on Ethernet UIP_MEMORY_ETHER(files), 4,304. So RAM in all, on a Cortex-M4: 8.4 kB on a serial line
+ * with a ring of 512 bytes, 11.2 kB on Ethernet, and your own.
  *
  *                                                      serial line          Ethernet
  *     TARGET         processor, ABI                  flash     stack     flash     stack
@@ -122,8 +124,8 @@
  *   9. The stack is as large as TARGETS states, with what your own functions and interrupts need beyond ours. It is
  *      aligned as the ABI demands.
  *  10. The processor is set up for the code. m4, m7, m33: CCR.UNALIGN_TRP is 0, and stack, heap, image and all areas
- *      that are passed lie in Normal memory. aarch64: SIMD registers are on, an interrupt handler saves those that it
- *      uses, and code, image and data lie in Normal memory. x86_64: level v2 (SSE4.2). The others: nothing.
+ *      that are passed lie in Normal memory, as RAM and flash are by default. aarch64: SIMD registers are on, interrupt
+ *      handlers save those that they use, and code, image and data lie in Normal memory. x86_64: level v2 (SSE4.2).
  * Undefined too: a null `block` of rattle_alloc, a header and a library of two releases, a header of uIP in the same
  * file, a `done` or `out` of uip_drain_all that are not of the last call with the device, and the compiler's
  * -fpcc-struct-return and -freg-struct-return.

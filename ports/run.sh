@@ -6,6 +6,8 @@
 #     sh ports/run.sh TARGET usage                 the same, and prints what memory that run used
 #     sh ports/run.sh TARGET state                 the same for the firmware of a device with a state (examples/board/state.c)
 #     sh ports/run.sh m4 ether                     builds a firmware on Ethernet, and runs it: Linux's ARP finds it, ping and curl try it (root)
+#     sh ports/run.sh TARGET ether-usage           links that firmware with a controller that does nothing, and prints its flash and its stack;
+#                                                  not for wasm
 #     sh ports/run.sh TARGET same [CALLS [SEED]]   makes CALLS random calls of the library for this machine and of this one: every
 #                                                  status, number, byte and call of the heap must be the same
 #     sh ports/run.sh TARGET same-app [CALLS [SEED]]    the same for the library of uip_app.h
@@ -51,9 +53,10 @@ target=$1
 choose_target "$target"
 work=${2:-build}
 case "$work" in
-build|library|app-library|both-library|fetch|usage|state|ether|app|both|same|same-app|same-both|speed|planted) ;;
+build|library|app-library|both-library|fetch|usage|state|ether|ether-usage|app|both|same|same-app|same-both|speed|planted) ;;
 *) fail "no work $work; --help lists what there is";;
 esac
+[ "$work-$target" != ether-usage-wasm ] || fail "the node of the page has no calls for Ethernet"
 
 # ---- the module and the tools
 
@@ -135,6 +138,7 @@ case "$work" in app-library|both-library) exit 0;; esac
 main=main site=$top/examples/site.img link=serial
 case "$work" in
 state) main=state site=$top/examples/state.img;;
+ether-usage) main=ether link=no_mac;;
 ether|app|both) [ "$target" = m4 ] || fail "the one board with a driver for its Ethernet controller is that of m4"
     main=$work board=lan9118 link=$work;;
 esac
@@ -145,6 +149,7 @@ firmware() {
     case "$link" in
     serial) set -- "$example/ring.c"; linked=libuip_c.a heap="UIP_MEMORY($files)";;
     ether) linked=libuip_c_ether.a heap="UIP_MEMORY_ETHER($files)";;
+    no_mac) set -- "$example/ring.c" "$ports/boards/no_mac.c"; linked=libuip_c_ether.a heap="UIP_MEMORY_ETHER($files)";;
     app) linked=libuip_app_c.a heap="UIP_APP_MEMORY";;
     both) linked=libuip_both_c.a heap="UIP_BOTH_MEMORY($files)";;
     esac
@@ -181,13 +186,19 @@ esac
 case "$target" in
 wasm) wasm "$work"; exit;;
 aarch64-small)
-    case "$work" in build) words=build;; state) words="state -- python3 $top/examples/state.py 200";; *) words=usage;; esac
+    linked=libuip_c.a
+    case "$work" in
+    build) words=build;;
+    state) words="state -- python3 $top/examples/state.py 200";;
+    ether-usage) words=ether linked=libuip_c_ether.a;;
+    *) words=usage;;
+    esac
     # shellcheck disable=SC2086
-    LIBRARY=$to/libuip_c.a exec sh "$example/run.sh" $words;;
+    LIBRARY=$to/$linked exec sh "$example/run.sh" $words;;
 esac
 firmware
 case "$work" in
-build) usage; exit;;
+build|ether-usage) usage; exit;;
 fetch|usage) browse "$top/examples/fetch.py";;
 state) browse "$top/examples/state.py" 200;;
 ether|app|both)
