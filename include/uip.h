@@ -470,7 +470,7 @@ UIP_INLINE unsigned uip_tick_datagrams(uip_device *device, unsigned char *out, s
 /* ---- ETHERNET
  *
  * Frames of RFC 894 with ARP (RFC 826), from the destination address on, without preamble and check sequence. The
- * program is the one at the top with UIP_MEMORY_ETHER, with these in place of read_serial and write_serial, and so:
+ * program is the one at the top, with UIP_MEMORY_ETHER in place of UIP_MEMORY, with these functions, and this `main`:
  *
  *     size_t mac_receive(unsigned char *frame, size_t room);    // the length of a frame, or 0. It may sleep until one
  *                                                               // arrives or a tick is due
