@@ -567,11 +567,8 @@ unsigned uip_set_value(uip_device *device, size_t number, const void *text, size
  *
  * Each GET of the name counts, whatever follows a `?`. A retransmitted request counts once, and a request of / for
  * /index.html. If two links were followed between two looks, their order is not known. A browser may follow a link by
- * itself, or twice: let it set a state, and not toggle it. It may also show a stored copy and ask nothing. Against that
- * give the link a query that your program changes, in a file .shtml:
- *
- *     <a href="/lamp-on.html?%! value 5
- *     ">on</a>
+ * itself, or twice: let it set a state, and not toggle it. It may also show a stored copy and ask nothing, unless the
+ * link has another query each time: /lamp-on.html?7, where a value of your program gives the 7.
  */
 uip_number uip_hits(uip_device *device, const void *name, size_t len);
 
