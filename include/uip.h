@@ -386,9 +386,8 @@ unsigned uip_close(uip_device *device);
  * SLIP (RFC 1055), uncompressed, at a rate of your choice: 8 data bits, no parity, no XON and XOFF; RTS and CTS are
  * yours. If your write may wait, you need only uip_feed_all and uip_tick_all. While it waits, an interrupt or a DMA
  * must store what arrives: begin with a ring of 512 bytes, 44 ms at 115,200 bits a second. One pass of the program at
- * the top writes at most 36,024 bytes, in 3.1 s. What finds no room in the ring is lost: the node drops the damaged
- * frame, and TCP sends it again. An RTS prevents that only if it follows the fill of your ring; that of most UARTs
- * does not.
+ * the top writes at most 36,024 bytes, in 3.1 s. What overflows the ring is lost: the node drops the damaged frame,
+ * and TCP sends it again. RTS prevents that only if it follows the fill of your ring; that of most UARTs does not.
  *
  * A product should not wait: let examples/common/step.c call uip_feed, uip_periodic and uip_drain for you, with a ring
  * of 6,004 bytes, as two of the longest frames can arrive while the node writes two. Call serve() in place of the loop
