@@ -86,11 +86,10 @@
  *     no C library      -ffreestanding -nostdlib, examples/board/runtime.c (memcpy, memmove, memset) in place of -lc
  *     a release         lib/m4/libuip_c.a and -Iexamples/common (release.sh makes an archive with both)
  *
- * THE OTHER END of a serial line: browse.py is 10.0.0.2. The node announces an MSS of 1460, sends and receives
- * datagrams of up to 1500 bytes, and drops fragments. So a gateway gives the line an MTU of 1500, or clamps the MSS of
- * both directions to its MTU less 40. It has a route to `own`, and may route or NAT (not tried). Put one node on a
- * line: two can answer each other for ever. On Windows or macOS try web/serve.py (not tried): its page opens the port,
- * in Chromium or Edge.
+ * THE OTHER END of a serial line: browse.py is 10.0.0.2. The node announces an MSS of 1460, exchanges datagrams of up
+ * to 1500 bytes, and drops fragments. So a gateway gives the line an MTU of 1500, or clamps the MSS of both directions
+ * to its MTU less 40. It has a route to `own`, and may route or NAT (not tried). Put one node on a line: two can answer
+ * each other for ever. On Windows or macOS try web/serve.py (not tried): its page opens the port, in Chromium or Edge.
  *
  * LINKS. Take one row, and link its one library. On x86_64 and aarch64 libuip_c.a has the calls of Ethernet too.
  *     link                  open            what arrives     each half second    library
@@ -99,9 +98,8 @@
  *     Ethernet              uip_open_ether  uip_input_frame  uip_tick_frames     libuip_c_ether.a: all calls
  *
  * TARGETS, in bytes. `flash` is with our serial driver, without your pages and a driver of Ethernet. `stack` is the
- * greatest depth from reset with main and drivers of our test firmware, for either loop, without interrupts. `calls` is
- * that of the library, below its caller: a task needs it, its own functions and the saved context. Both are computed
- * from the linked code.
+ * greatest depth from reset of our test firmware, for either loop, without interrupts. `calls` is that of the library,
+ * below its caller: a task needs it, its own functions and the saved context. Both are computed from the linked code.
  *                                              serial line                       Ethernet
  *     TARGET         processor, ABI        flash   stack   calls    flash   stack   opening   other calls
  *     m0             Cortex-M0+, M0       29,149   2,180   2,084   29,829   5,504     5,408         2,020
