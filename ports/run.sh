@@ -8,6 +8,8 @@
 #     sh ports/run.sh m4 ether                     builds a firmware on Ethernet, and runs it: Linux's ARP finds it, ping and curl try it (root)
 #     sh ports/run.sh TARGET ether-usage           links that firmware with a controller that does nothing, and prints its flash and its stack;
 #                                                  not for wasm
+#     sh ports/run.sh TARGET calls                 prints how much stack each call of libuip_c.a and of libuip_c_ether.a needs (not for wasm);
+#                                                  app-calls and both-calls do so for the libraries of uip_app.h and uip_both.h
 #     sh ports/run.sh TARGET same [CALLS [SEED]]   makes CALLS random calls of the library for this machine and of this one: every
 #                                                  status, number, byte and call of the heap must be the same
 #     sh ports/run.sh TARGET same-app [CALLS [SEED]]    the same for the library of uip_app.h
@@ -35,7 +37,7 @@
 #
 # The first run proves the library (module.sh). Needs python3 and the kit of `rt`; for fetch, usage and state qemu-system-arm or
 # qemu-system-misc, `ip` and /dev/net/tun; for same and planted qemu-user and a C compiler for this machine; for wasm node.
-case "$1" in -h|--help|"") sed -n '2,40s/^# \{0,1\}//p' "$0"; exit 0;; esac
+case "$1" in -h|--help|"") sed -n '2,42s/^# \{0,1\}//p' "$0"; exit 0;; esac
 ports=$(cd "$(dirname "$0")" && pwd)
 top=$(cd "$ports/.." && pwd)
 example=$top/examples/board
@@ -53,10 +55,10 @@ target=$1
 choose_target "$target"
 work=${2:-build}
 case "$work" in
-build|library|app-library|both-library|fetch|usage|state|ether|ether-usage|app|both|same|same-app|same-both|speed|planted) ;;
+build|library|app-library|both-library|fetch|usage|state|ether|ether-usage|calls|app-calls|both-calls|app|both|same|same-app|same-both|speed|planted) ;;
 *) fail "no work $work; --help lists what there is";;
 esac
-[ "$work-$target" != ether-usage-wasm ] || fail "the node of the page has no calls for Ethernet"
+case "$work-$target" in ether-usage-wasm|*calls-wasm) fail "no $work for wasm";; esac
 
 # ---- the module and the tools
 
@@ -130,7 +132,22 @@ archive() {
     llvm-ar rcsD "$to/$2" "$to/$1.o" "$to/$1_calls.o" || fail "llvm-ar failed"
 }
 case "$crate" in uip_c) library;; uip_app_c) app_library;; *) both_library;; esac
-case "$work" in app-library|both-library) exit 0;; esac
+# How much stack each call needs. The heap and the copies are linked as a firmware has them.
+# shellcheck disable=SC2086
+calls() {
+    c_code -Os "$example/runtime.c" -o "$to/runtime.o"
+    c_code -Os -include uip.h -DUIP_HEAP_SIZE=8000 "$top/examples/heap.c" -o "$to/heap.o"
+    for file; do
+        echo "$file"
+        python3 "$example/depths.py" "$to/$file" "$to/runtime.o" "$to/heap.o" || exit 1
+    done
+}
+case "$work" in
+app-library|both-library) exit 0;;
+calls) calls libuip_c.a libuip_c_ether.a; exit;;
+app-calls) calls libuip_app_c.a; exit;;
+both-calls) calls libuip_both_c.a; exit;;
+esac
 [ "$work" != library ] || [ "$target" = wasm ] || exit 0
 
 # ---- the firmware, or the node of the page
