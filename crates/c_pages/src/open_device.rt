@@ -1,7 +1,7 @@
 //! How an export opens a device.
 
-/// Boxes a device that was made, and puts it into a handle by this function. Evaluates to what the export reports. The caller has the status
-/// `OK` in scope.
+/// Boxes a device that was made, and puts it into a handle by this function. Evaluates to what the export reports. The caller has `OK` in
+/// scope.
 #[macro_export]
 macro_rules! open_device {
     ($alloc:expr, $device:expr, $made:expr => $put:ident) => {

@@ -1,6 +1,5 @@
 -- `OwnApp` alone contains itself: a message that is written, and the periodic call of its slot.
-use Rattle.own_node.proofs.Prelude.{All, ◌≡◌, ℕ, zero, suc, ◌<◌, ◌==◌, Bool, true, if◌then◌else◌, List, [], ◌∷◌, ◌++◌, length, nat_le, refl, sym, arith, and_parts, false≢true, slice_index_or, AppState, IsByte, IsU32, Connection, closed, is_open, AbstractNode, connection_in, periodic, own_can_pair, HasCaptured, can_write_at, can_write_in, is_ready_at, next_message}
-use Rattle.std.proofs.lemmas.List.Elements.{All-nil}
+use Rattle.own_node.proofs.Prelude.{All, ◌≡◌, ℕ, zero, suc, ◌<◌, ◌==◌, Bool, true, if◌then◌else◌, List, [], ◌∷◌, ◌++◌, length, nat_le, refl, sym, arith, and_parts, false≢true, slice_index_or, AppState, IsByte, IsU32, Connection, closed, is_open, AbstractNode, connection_in, periodic, own_can_pair, HasCaptured, can_write_at, can_write_in, is_ready_at, next_message, All-nil}
 use Rattle.own_app.specs.Prelude.{IsMessage, no_message, numbers_of, own_spec, pending as pending_of, with_written, write_message}
 use Rattle.own_app.proofs.OwnLines.{written_u32}
 use Rattle.own_node.proofs.CaptureLaws.{captures_ready}

@@ -1,7 +1,5 @@
 -- What an event does to the slots of a node, as `OwnApp` sees them.
-use Rattle.own_node.proofs.Prelude.{◌≡◌, ◌∙◌, ℕ, zero, suc, ◌&&◌, Bool, true, false, if◌then◌else◌, List, [], ◌∷◌, Option, Some, None, refl, sym, ap, subst, arith, position, replicate, slice_index_or, slice_set, PlainSegment, has_rst, AppSpec, AppState, SynRcvd, Connection, Outcome, Sockets, accepted, asked, closed, is_plain_syn, on_segment, on_tick, serves, Addr, AbstractNode, Event, NodeStep, connection_in, initial_node, step, arrives_at, for_no_connection, happened, opens, opens_in, periodic, slot_for_syn, snapshot, choose}
-use Rattle.uip_node.specs.Counters.{initial_number}
-use Rattle.uip_node.specs.Events.Event.{Arrived, EchoAsked, IcmpRefused, IpRefused, Overlong, Periodic, TcpRefused}
+use Rattle.own_node.proofs.Prelude.{◌≡◌, ◌∙◌, ℕ, zero, suc, ◌&&◌, Bool, true, false, if◌then◌else◌, List, [], ◌∷◌, Option, Some, None, refl, sym, ap, subst, arith, position, replicate, slice_index_or, slice_set, PlainSegment, has_rst, AppSpec, AppState, SynRcvd, Connection, Outcome, Sockets, accepted, asked, closed, is_plain_syn, on_segment, on_tick, serves, Addr, AbstractNode, Event, NodeStep, connection_in, initial_node, step, arrives_at, for_no_connection, happened, opens, opens_in, periodic, slot_for_syn, snapshot, choose, initial_number, Arrived, EchoAsked, IcmpRefused, IpRefused, Overlong, Periodic, TcpRefused}
 use Rattle.own_node.proofs.Containing.{Contains, elsewhere, own_view, view, view_in, view_node, view_set}
 use Rattle.own_node.proofs.Parts.{AskedPart, IsAtPort, OutParts, Stepped, segment_step, tick_step}
 

@@ -1,5 +1,6 @@
 -- The names that the proofs of this crate cite: of std, of the crates below, and of its own definitions. Declares nothing.
 pub use Rattle.app_events.specs.Prelude.{IsPrefixOf, Snapshot, IsAddr}
+pub use Rattle.c_calls.specs.Prelude.{HasOne}
 pub use Rattle.ethernet_arp.specs.Prelude.{Act}
 pub use Rattle.ethernet_arp.specs.declared.mac.Mac.{Mac}
 pub use Rattle.frame_device.proofs.ProgramLaws.{IsOfLine, call_few, each_by, each_with, events_of_call, program_goes_home, node_of_call, periodic_events, program_conforms, all_exact}
@@ -18,7 +19,6 @@ pub use Rattle.std.specs.Option.{is_some}
 pub use Rattle.std.specs.Prelude.{true}
 pub use Rattle.std.specs.declared.option.Option.{Option}
 pub use Rattle.std.specs.declared.option.Option.TheVariants.{None, Some}
-pub use Rattle.c_calls.specs.Prelude.{HasOne}
 pub use Rattle.uip_app_c.specs.Prelude.{AnsweredCall, AppCall, Calls, CallsAreExact, CouldWrite, DeviceRow, DidCall, DidCalls, IsExact, Kept, Listens, OpensOwn, OwnAnswers, OwnEther, OwnListens, OwnInputs, OwnWrites, Writes, call_at, first_station, holds, link_of, ports_after, ports_after_call, ports_of, station_after_call, undropped, AppCallsConform, AppTraceConforms, Captures, IsCallOfBytes, OfEachCall, app_program, change_by, connection_after, station_after_calls, text_in_call}
 pub use Rattle.uip_app_c.specs.declared.held.Held.{Held}
 pub use Rattle.uip_node.proofs.Basics.{choose}

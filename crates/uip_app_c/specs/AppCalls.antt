@@ -15,7 +15,7 @@ use Rattle.own_app.specs.Prelude.{is_own_port, no_message, numbers_of, own_spec,
 use Rattle.own_app.specs.contracts.app.OwnAppApp.TheImpl.{ghosts}
 use Rattle.own_node.specs.Prelude.{AreAtOpenPorts, can_write_in, is_for_closed_port, next_message}
 use Rattle.uip_app_c.specs.Handles.{OpensOwn, OwnAnswers, OwnWrites}
-use Rattle.uip_app_c.specs.Kept.{Kept}
+use Rattle.uip_app_c.specs.Kept.{Kept, OwnEther}
 use Rattle.uip_app_c.specs.Ports.{OwnListens, OwnInputs, ports_of}
 
 -- `Calls`: a frame is received, or a slot is called. A call that is refused or that reads is `Calls DoesNothing`. `Listens`: a port is

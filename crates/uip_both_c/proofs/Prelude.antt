@@ -11,22 +11,19 @@ pub use Rattle.ethernet_arp.specs.declared.mac.Mac.{Mac}
 pub use Rattle.file_tree.specs.Prelude.{AreApart, files_of}
 pub use Rattle.file_tree.specs.declared.file_id.FileId.{FileId}
 pub use Rattle.frame_device.proofs.ProgramLaws.{IsOfLine, at_end, call_few, each_by, each_with, events_of_call, program_goes_home, node_of_call, periodic_events, program_conforms, all_exact}
-pub use Rattle.frame_device.specs.Prelude.{CallsSlot, DoesNothing, FrameCall, InputsFrame, FrameSpec, IsFrameOfBytes, Makes, acts_before, ether_brings_bytes, interface_at, station_events_by}
-pub use Rattle.frame_device.specs.Prelude.{CallsSlot, DoesNothing, FrameCall, InputsFrame, FrameSpec, IsFrameOfBytes, Makes, acts_before, ether_brings_bytes, interface_at, station_events_by}
+pub use Rattle.frame_device.specs.Prelude.{CallsSlot, DoesNothing, FrameCall, InputsFrame, FrameSpec, IsFrameOfBytes, Makes, acts_before, ether_brings_bytes, interface_at, station_events_by, ChangesNumbers, IsFreshFrameDevice}
 pub use Rattle.frame_device.specs.ProgramCalls.{DidInTurn, program_calls, before_program_call, program_frame}
 pub use Rattle.frame_device.specs.declared.ether.Ethernet.{Ethernet}
 pub use Rattle.frame_device.specs.declared.network.Network.{Network}
 pub use Rattle.httpd.proofs.Finding.{found_place}
 pub use Rattle.httpd.specs.Web.{WebContent}
 pub use Rattle.loose_box.proofs.Moving.{Opened, opens_well, HeapRow, makes_null_well, gives_parts_well, takes_parts_well}
-pub use Rattle.own_app.specs.Prelude.{with_port, write_message, PlainMessage, is_own_port, messages_text, no_message, numbers_of, own_output_model, own_spec, is_open_port}
-pub use Rattle.own_app.specs.Prelude.{with_port, write_message, PlainMessage, is_own_port, messages_text, no_message, numbers_of, own_output_model, own_spec, is_open_port}
+pub use Rattle.own_app.specs.Prelude.{with_port, write_message, PlainMessage, is_own_port, messages_text, no_message, numbers_of, own_output_model, own_spec, is_open_port, message_of}
 pub use Rattle.own_app.specs.declared.shared.OwnShared.{OwnShared}
 pub use Rattle.own_node.specs.Prelude.{with_change, HasCaptured, next_message_at, own_connection, AreAtOpenPorts}
 pub use Rattle.serve_loop.specs.Prelude.{Station}
 pub use Rattle.site_image.specs.Prelude.{File}
-pub use Rattle.std.proofs.Common.{[], ◌∷◌, ◌≡◌, ◌∙◌, ℕ, ◌+◌, ◌<◌, Bool, false, List, ◌++◌, length, map, sym, ap, subst, arith, eqb}
-pub use Rattle.std.proofs.Common.{[], ◌∷◌, ◌≡◌, ◌∙◌, ℕ, ◌+◌, ◌<◌, Bool, false, List, ◌++◌, length, map, sym, ap, subst, arith, eqb}
+pub use Rattle.std.proofs.Common.{[], ◌∷◌, ◌≡◌, ◌∙◌, ℕ, ◌+◌, ◌<◌, Bool, false, List, ◌++◌, length, map, sym, ap, subst, arith, eqb, None, Option, Some, get_or, option_map, refl}
 pub use Rattle.std.proofs.lemmas.Bool.{false≢true}
 pub use Rattle.std.proofs.lemmas.Grind.{get_or_default_zero}
 pub use Rattle.std.proofs.lemmas.List.{get_or_append_left, length-map}

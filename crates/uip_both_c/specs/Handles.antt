@@ -57,4 +57,5 @@ CannotWrite slot taken kept = HasOne BothEther (λ d. OfBoth d (λ n. can_write_
 -- There is a device, and this is what was read of the connection in a slot.
 abbrev pub ReadsSlot : ℕ → UipReceived → List ℕ → List ℕ → Kept → Type 0
 ReadsSlot slot result area area' kept =
-    HasOne BothEther (λ d. ReadsConnection (OfBoth d) (λ n. is_ready_at (own_in slot n)) (own_port_in slot) (λ n. pending_at (own_in slot n)) result area area') kept
+    HasOne BothEther (λ d. ReadsConnection (OfBoth d) (λ n. is_ready_at (own_in slot n)) (own_port_in slot)
+    (λ n. pending_at (own_in slot n)) result area area') kept
