@@ -12,7 +12,7 @@ mod tests;
 
 pub use app::OwnApp;
 pub use laws::{constant_values, own_app_speaks_on_lines, own_trace_conforms};
-pub use ports::is_program_port;
+pub use ports::{is_open_port, is_program_port};
 pub use shared::{Message, OwnShared};
 
 /// The bytes of received text that a connection stores. A connection that receives more before the program takes some is given up.

@@ -5,6 +5,7 @@ ghost use Rattle.own_app.specs.OwnRepresents.{message_of};
 ghost use Rattle.own_app.specs.OwnSpec.{no_message};
 ghost use Rattle.own_app.specs.Ports.{can_listen, with_port};
 
+use crate::ports::is_open_port;
 use crate::{MESSAGE_ROOM, MOST_PORTS};
 use arrayvec::ArrayVec;
 
@@ -60,7 +61,7 @@ impl OwnShared {
         ensures rest { self.new ≡ record self.old { ports = self.new.ports } }
         ensures refused { result ≡ false → self.new ≡ self.old }
     {
-        if self.ports.as_slice().contains(&port) {
+        if is_open_port(self.ports.as_slice(), port) {
             return true;
         }
         self.ports.try_push(port).is_ok()

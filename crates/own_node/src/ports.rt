@@ -3,6 +3,7 @@
 ghost use Rattle.std.specs.Prelude.{◌≡◌, ◌∷◌, if◌then◌else◌};
 ghost use Rattle.own_node.specs.Ports.{carries_segment, is_for_closed_port as is_for_closed, target_port as port_in};
 
+use own_app::is_open_port;
 use uip_wire::{WEB_PORT, get16};
 
 /// Returns the destination port of the TCP segment that a frame carries, if it carries one.
@@ -20,7 +21,7 @@ pub fn is_for_closed_port(ports: &[u16], frame: &[u8]) -> bool
     ensures { result ≡ is_for_closed ports.now frame.now }
 {
     match target_port(frame) {
-        Some(port) => !ports.contains(&port),
+        Some(port) => !is_open_port(ports, port),
         None => false,
     }
 }
@@ -30,7 +31,7 @@ pub fn is_for_closed_port_of_pair(ports: &[u16], frame: &[u8]) -> bool
     ensures { result ≡ is_for_closed (WEB_PORT ∷ ports.now) frame.now }
 {
     match target_port(frame) {
-        Some(port) => port != WEB_PORT && !ports.contains(&port),
+        Some(port) => port != WEB_PORT && !is_open_port(ports, port),
         None => false,
     }
 }
