@@ -143,9 +143,13 @@ fn a_device_answers_arp_and_has_no_connection(rt: HostRuntime) {
 fn a_reply_to_another_network_goes_to_the_router(rt: HostRuntime) {
     let alloc = rt.alloc();
     let mut device = opened(&rt, alloc);
-    check_reply(&rt, alloc, &mut device, &FAR_PING, &ROUTER_REQUEST);
-    check_reply(&rt, alloc, &mut device, &ROUTER_REPLY, b"");
-    check_reply(&rt, alloc, &mut device, &FAR_PING, &FAR_REPLY);
+    for (sent, reply) in [
+        (&FAR_PING, ROUTER_REQUEST.as_slice()),
+        (&ROUTER_REPLY, b"".as_slice()),
+        (&FAR_PING, FAR_REPLY.as_slice()),
+    ] {
+        check_reply(&rt, alloc, &mut device, sent, reply);
+    }
     close(&rt, alloc, device);
 }
 
