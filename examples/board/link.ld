@@ -7,7 +7,7 @@ MEMORY {
 ENTRY(_start)
 SECTIONS {
     .text : { __flash_start = .; KEEP(*(.start)) *(.text .text.*) } > FLASH
-    .rodata : { *(.rodata .rodata.* .srodata .srodata.*) . = ALIGN(8); __flash_end = .; } > FLASH
+    .rodata : { *(.rodata .rodata.* .srodata .srodata.* .data.rel.ro .data.rel.ro.*) . = ALIGN(8); __flash_end = .; } > FLASH
     .stack (NOLOAD) : { __stack_low = .; . += 8K; __stack_top = .; } > RAM
     .heap (NOLOAD) : { *(.bss.area) } > RAM
     .data : { *(.data .data.* .sdata .sdata.* .got .got.*) } > RAM
