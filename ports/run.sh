@@ -6,6 +6,10 @@
 #     sh ports/run.sh TARGET usage                 the same, and prints what memory that run used
 #     sh ports/run.sh TARGET state                 the same for the firmware of a device with a state (examples/board/state.c)
 #     sh ports/run.sh m4 ether                     builds a firmware on Ethernet, and runs it: Linux's ARP finds it, ping and curl try it (root)
+#     sh ports/run.sh TARGET ether-usage           links that firmware with a controller that does nothing, and prints its flash and its stack;
+#                                                  not for wasm
+#     sh ports/run.sh TARGET calls                 prints how much stack each call of libuip_c.a and of libuip_c_ether.a needs (not for wasm);
+#                                                  app-calls and both-calls do so for the libraries of uip_app.h and uip_both.h
 #     sh ports/run.sh TARGET same [CALLS [SEED]]   makes CALLS random calls of the library for this machine and of this one: every
 #                                                  status, number, byte and call of the heap must be the same
 #     sh ports/run.sh TARGET same-app [CALLS [SEED]]    the same for the library of uip_app.h
@@ -33,7 +37,7 @@
 #
 # The first run proves the library (module.sh). Needs python3 and the kit of `rt`; for fetch, usage and state qemu-system-arm or
 # qemu-system-misc, `ip` and /dev/net/tun; for same and planted qemu-user and a C compiler for this machine; for wasm node.
-case "$1" in -h|--help|"") sed -n '2,40s/^# \{0,1\}//p' "$0"; exit 0;; esac
+case "$1" in -h|--help|"") sed -n '2,42s/^# \{0,1\}//p' "$0"; exit 0;; esac
 ports=$(cd "$(dirname "$0")" && pwd)
 top=$(cd "$ports/.." && pwd)
 example=$top/examples/board
@@ -51,9 +55,10 @@ target=$1
 choose_target "$target"
 work=${2:-build}
 case "$work" in
-build|library|app-library|both-library|fetch|usage|state|ether|app|both|same|same-app|same-both|speed|planted) ;;
+build|library|app-library|both-library|fetch|usage|state|ether|ether-usage|calls|app-calls|both-calls|app|both|same|same-app|same-both|speed|planted) ;;
 *) fail "no work $work; --help lists what there is";;
 esac
+case "$work-$target" in ether-usage-wasm|*calls-wasm) fail "no $work for wasm";; esac
 
 # ---- the module and the tools
 
@@ -127,7 +132,22 @@ archive() {
     llvm-ar rcsD "$to/$2" "$to/$1.o" "$to/$1_calls.o" || fail "llvm-ar failed"
 }
 case "$crate" in uip_c) library;; uip_app_c) app_library;; *) both_library;; esac
-case "$work" in app-library|both-library) exit 0;; esac
+# How much stack each call needs. The heap and the copies are linked as a firmware has them.
+# shellcheck disable=SC2086
+calls() {
+    c_code -Os "$example/runtime.c" -o "$to/runtime.o"
+    c_code -Os -include uip.h -DUIP_HEAP_SIZE=8000 "$top/examples/heap.c" -o "$to/heap.o"
+    for file; do
+        echo "$file"
+        python3 "$example/depths.py" "$to/$file" "$to/runtime.o" "$to/heap.o" || exit 1
+    done
+}
+case "$work" in
+app-library|both-library) exit 0;;
+calls) calls libuip_c.a libuip_c_ether.a; exit;;
+app-calls) calls libuip_app_c.a; exit;;
+both-calls) calls libuip_both_c.a; exit;;
+esac
 [ "$work" != library ] || [ "$target" = wasm ] || exit 0
 
 # ---- the firmware, or the node of the page
@@ -135,6 +155,7 @@ case "$work" in app-library|both-library) exit 0;; esac
 main=main site=$top/examples/site.img link=serial
 case "$work" in
 state) main=state site=$top/examples/state.img;;
+ether-usage) main=ether link=no_mac;;
 ether|app|both) [ "$target" = m4 ] || fail "the one board with a driver for its Ethernet controller is that of m4"
     main=$work board=lan9118 link=$work;;
 esac
@@ -145,6 +166,7 @@ firmware() {
     case "$link" in
     serial) set -- "$example/ring.c"; linked=libuip_c.a heap="UIP_MEMORY($files)";;
     ether) linked=libuip_c_ether.a heap="UIP_MEMORY_ETHER($files)";;
+    no_mac) set -- "$example/ring.c" "$ports/boards/no_mac.c"; linked=libuip_c_ether.a heap="UIP_MEMORY_ETHER($files)";;
     app) linked=libuip_app_c.a heap="UIP_APP_MEMORY";;
     both) linked=libuip_both_c.a heap="UIP_BOTH_MEMORY($files)";;
     esac
@@ -181,13 +203,19 @@ esac
 case "$target" in
 wasm) wasm "$work"; exit;;
 aarch64-small)
-    case "$work" in build) words=build;; state) words="state -- python3 $top/examples/state.py 200";; *) words=usage;; esac
+    linked=libuip_c.a
+    case "$work" in
+    build) words=build;;
+    state) words="state -- python3 $top/examples/state.py 200";;
+    ether-usage) words=ether linked=libuip_c_ether.a;;
+    *) words=usage;;
+    esac
     # shellcheck disable=SC2086
-    LIBRARY=$to/libuip_c.a exec sh "$example/run.sh" $words;;
+    LIBRARY=$to/$linked exec sh "$example/run.sh" $words;;
 esac
 firmware
 case "$work" in
-build) usage; exit;;
+build|ether-usage) usage; exit;;
 fetch|usage) browse "$top/examples/fetch.py";;
 state) browse "$top/examples/state.py" 200;;
 ether|app|both)

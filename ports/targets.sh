@@ -11,7 +11,7 @@
 TARGETS="m0 m4 m7 m33 rv32 rv64 aarch64-small wasm"
 
 choose_cortex_m() {
-    triple=$1; words="-mcpu=$2 ${FLOAT:--mfloat-abi=soft}"; c_words=-fshort-enums
+    triple=$1; words="-mcpu=$2 ${FLOAT:--mfloat-abi=soft}"; c_words="-fshort-enums${FLOAT:+ -DUIP_HARD_FLOAT}"
     board=mps2; flash=0x00000000 ram=0x20000000; machine="qemu-system-arm -M $3 -kernel {}"
     user=qemu-arm package=qemu-user
 }

@@ -10,11 +10,13 @@
 #     sh examples/board/run.sh early           sends bytes before the port is open
 #     sh examples/board/run.sh line            two clients at once over a line of 19,200 bits a second without flow control
 #     sh examples/board/run.sh stack           fetches every file, and prints how far the stack pointer went
+#     sh examples/board/run.sh ether           links a firmware on Ethernet with a controller that does nothing, and prints its flash and its stack
+#     sh examples/board/run.sh calls           prints how much stack each call of the library needs
 #     sh examples/board/run.sh state [..]      the same with the firmware of a device with a state (state.c), and its site
 #
 # Needs qemu-system-aarch64 (Debian: qemu-system-arm), python3, `ip` and /dev/net/tun, and clang and ld.lld, which the kit of rt has: CLANG,
 # LLD and QEMU name others. If the library is not there, rt builds it; LIBRARY names another.
-case "$1" in -h|--help) sed -n '2,18s/^# \{0,1\}//p' "$0"; exit 0;; esac
+case "$1" in -h|--help) sed -n '2,20s/^# \{0,1\}//p' "$0"; exit 0;; esac
 here=$(cd "$(dirname "$0")" && pwd)
 top=$(cd "$here/../.." && pwd)
 out=$here/out
@@ -48,6 +50,14 @@ link() {
         "$out/start.o" "$@" "$out/ring.o" "$out/runtime.o" "$out/heap.o" "$out/site.o" "$library"
     "$lld" -Map="$to.map" -o "$to.elf" "$@" && "$lld" --oformat binary -o "$to.bin" "$@" || fail "ld.lld failed"
 }
+if [ "$1" = ether ]; then
+    compile "$here/ether.c" -o "$out/ether.o"
+    compile "$top/ports/boards/no_mac.c" -o "$out/no_mac.o"
+    compile "$(echo "$heap" | sed s/UIP_MEMORY/UIP_MEMORY_ETHER/)" "$top/examples/heap.c" -o "$out/heap.o"
+    link ether "$out/board.o" "$out/ether.o" "$out/no_mac.o"
+    exec python3 "$here/usage.py" "$out/ether"
+fi
+if [ "$1" = calls ]; then exec python3 "$here/depths.py" "$library" "$out/runtime.o" "$out/heap.o"; fi
 link $name "$out/board.o" "$out/$main.o"
 python3 "$here/usage.py" "$out/$name" || exit 1
 [ "$1" = build ] && exit 0

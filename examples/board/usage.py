@@ -143,4 +143,5 @@ def main():
         print_run(at, sys.argv[2], static)
 
 
-main()
+if __name__ == "__main__":
+    main()

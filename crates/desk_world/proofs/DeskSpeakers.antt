@@ -1,5 +1,5 @@
 -- The output model of the desk at each port: the shell's session at port 23, and the pages of its files at any other.
-use Rattle.desk_world.proofs.Prelude.{All, ◌≡◌, ℕ, ◌<◌, ◌≤◌, ◌==◌, Bool, true, false, not, inl, inr, List, [], ◌++◌, length, refl, sym, ap, ◌∙◌, subst, arith, append-nil, if◌then◌else◌, eqb-true, IsSnapshot, IsPaged, MayWant, AppSpec, Snapshot, AppState, Now, Want, Close, File, SiteContent, IsLoaded, files_of, pages_of, web_spec, keeps_page_laws, choose, not-true, IsServed, World, Side, AtPorts, HearsSome, KeepsHeard, Speaker, HasOutputModel, page_by, TELNET_PORT, desk_spec, app_spec_at, at_shell, at_web, KeepsPort, is_stopped, shell_spec, take_capture, DeliversPrefix, sessions, desk_steady, keeps_session, two_applications}
+use Rattle.desk_world.proofs.Prelude.{All, ◌≡◌, ℕ, ◌<◌, ◌≤◌, ◌==◌, Bool, true, false, not, inl, inr, List, [], ◌++◌, length, refl, sym, ap, ◌∙◌, subst, arith, append-nil, if◌then◌else◌, eqb-true, IsSnapshot, IsPaged, MayWant, AppSpec, Snapshot, AppState, Now, Want, Close, File, SiteContent, IsLoaded, files_of, pages_of, web_spec, keeps_page_laws, choose, not-true, IsServed, World, Side, AtPorts, HearsSome, KeepsHeard, Speaker, HasOutputModel, page_by, TELNET_PORT, desk_spec, app_spec_at, at_shell, at_web, StaysAtPort, is_stopped, shell_spec, take_capture, DeliversPrefix, sessions, desk_steady, keeps_session, two_applications}
 use Rattle.desk_world.proofs.ShortSessions.{sessions_short}
 
 abbrev pub session_speaker : Speaker
@@ -34,7 +34,7 @@ module _ (site : SiteContent) (loaded : IsLoaded site) where
   abbrev desk : AppSpec
   desk = desk_spec (files_of site)
 
-  keeps_port : KeepsPort desk
+  keeps_port : StaysAtPort desk
   keeps_port = two_applications.port files
 
   -- ---- the shell's talk

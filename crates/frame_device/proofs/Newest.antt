@@ -1,19 +1,10 @@
 -- The newest incarnation of a connection conforms, and its newest account has the captures of the connection.
-use Rattle.std.specs.List.{All}
-use Rattle.std.proofs.Common.{◌≡◌, ◌∙◌, ℕ, zero, suc, ◌<◌, Bool, true, false, List, [], ◌∷◌, ◌++◌, Some, drop, length, refl, sym, ap, subst, arith, if◌then◌else◌}
-use Rattle.std.specs.Prelude.{replicate, slice_get, slice_index_or}
-use Rattle.std.proofs.lemmas.List.Elements.{All-head, All-tail}
-use Rattle.app_events.specs.Prelude.{AppSpec, IsU32}
-use Rattle.uip_wire.specs.declared.addr.Addr.{Addr}
+use Rattle.frame_device.proofs.Prelude.{All, ◌≡◌, ◌∙◌, ℕ, zero, suc, ◌<◌, Bool, true, false, List, [], ◌∷◌, ◌++◌, Some, drop, length, refl, sym, ap, subst, arith, if◌then◌else◌, replicate, slice_get, slice_index_or, All-head, All-tail, AppSpec, IsU32, Addr, AbstractNode, Event, IsEvent, IsSteady, connection_in, initial_node, serving, step, both_ways, Account, AccountHolds, Exchange, HasOutputModel, IncarnationConforms, IsExtendedBy, OutputModel, TextConforms, exchange, exchanges_onto, exchanges_with, is_empty, is_incarnation, is_opening, HasNewest, NewestConforms, NewestInEachSlot}
 use Rattle.tcp_machine.specs.Prelude.{Connection, Sockets, closed, is_live}
-use Rattle.uip_node.specs.Prelude.{AbstractNode, Event, IsEvent, IsSteady, connection_in, initial_node, serving, step}
-use Rattle.uip_node.proofs.Basics.{both_ways}
 use Rattle.uip_node.proofs.Connections.{Single, all_closed, none_serves, serving_free, serving_is}
 use Rattle.uip_node.proofs.SocketPairs.{serves_yes}
 use Rattle.uip_node.proofs.FitNodes.{FitNode, closed_fits, event_fits}
 use Rattle.uip_node.proofs.Fits.{FitConn}
-use Rattle.node_laws.specs.Prelude.{Account, AccountHolds, Exchange, HasOutputModel, IncarnationConforms, IsExtendedBy, OutputModel, TextConforms, exchange, exchanges_onto, exchanges_with, is_empty, is_incarnation, is_opening}
-use Rattle.frame_device.specs.Newest.{NewestConforms, NewestInEachSlot}
 use Rattle.node_laws.proofs.Lines.{Comes, OfMedium, comes}
 use Rattle.node_laws.proofs.Lines.OfMedium.{born, evicted, hears, passes_by, refused, ticks, unanswered}
 use Rattle.node_laws.proofs.Lives.{Good, Onward, begins_by, goes_on}
@@ -107,12 +98,6 @@ module _ (m : AppSpec) (steady : IsSteady m) (models : ℕ → OutputModel) (spe
 
   -- ---- a connection that is not CLOSED has an incarnation
 
-  record HasNewest (so_far : List Exchange) : Type 0 where
-    incarnation : List Exchange
-    before : List Exchange
-    split : so_far ≡ incarnation ++ before
-    is : is_incarnation incarnation ≡ true
-
   newest_new : (x : Exchange) (so_far : List Exchange) → is_opening x ≡ true → HasNewest (x ∷ so_far)
   newest_new x so_far o = record { incarnation = x ∷ []; before = so_far; split = refl; is = ap (λ (b : Bool). if b then is_empty [] else is_incarnation []) o }
 
@@ -190,8 +175,8 @@ some_back [] e = absurd (cc)
 some_back (x ∷ incarnation) e = omega arith
 
 -- so the newest text conforms
-pub newest_text : (model : OutputModel) (c : Connection) (exchanges : List Exchange) (it : NewestConforms model c exchanges) → TextConforms model it.incarnation (it.conforms.account 0)
-newest_text model c exchanges it = it.conforms.conforms 0 (some_back it.incarnation it.is)
+pub newest_text : (model : OutputModel) (c : Connection) (exchanges : List Exchange) (it : NewestConforms model c exchanges) → TextConforms model it.newest.incarnation (it.conforms.account 0)
+newest_text model c exchanges it = it.conforms.conforms 0 (some_back it.newest.incarnation it.newest.is)
 
 in_slot : (cs : List Connection) (slot : ℕ) → is_live (slice_index_or cs slot closed).state ≡ true → slice_get cs slot ≡ Some (slice_index_or cs slot closed)
 in_slot [] slot live = absurd (cc)
@@ -199,18 +184,11 @@ in_slot (c ∷ cs) zero live = refl
 in_slot (c ∷ cs) (suc slot) live = in_slot cs slot live
 
 module _ (m : AppSpec) (steady : IsSteady m) (models : ℕ → OutputModel) (speaks : HasOutputModel m models) (served : ℕ → Bool) where
-  newest_of : (c : Connection) (exchanges : List Exchange) → HasNewest m steady models speaks served c.sockets exchanges → CurrentIn m steady models speaks served c.sockets c exchanges → is_live c.state ≡ true
+  newest_of : (c : Connection) (exchanges : List Exchange) → HasNewest exchanges → CurrentIn m steady models speaks served c.sockets c exchanges → is_live c.state ≡ true
       → NewestConforms (models c.sockets.own_port.0) c exchanges
   newest_of c exchanges it current live =
       let v = current it.incarnation it.before it.split it.is in
-      record {
-        incarnation = it.incarnation;
-        before = it.before;
-        split = it.split;
-        is = it.is;
-        conforms = v.conforms;
-        snapshots = ap (λ (a : Account). a.snapshots) v.newest ∙ sym (v.good.live live).captures_are;
-      }
+      record { newest = it; conforms = v.conforms; snapshots = ap (λ (a : Account). a.snapshots) v.newest ∙ sym (v.good.live live).captures_are }
 
   pub newest_in_each_slot : (own : Addr) (numbers : List ℕ) → All IsU32 numbers → (steps : List LineStep) → All (IsStep own) steps
       → NewestInEachSlot models (node_over m served steps (initial_node own numbers)) (trace_over m served steps (initial_node own numbers))

@@ -1,10 +1,9 @@
 -- Calls of a program on a device: what they write in turn conforms, and goes home.
-use Rattle.frame_device.proofs.Prelude.{All, flat_map, ◌≡◌, ◌⊎◌, inl, inr, ℕ, ◌==◌, ◌&&◌, ◌||◌, Bool, List, [], ◌∷◌, ◌++◌, drop, length, map, nat_lt, refl, sym, ap, ◌∙◌, subst, choose, bytes_eq, word_at, All-append, All-cons, All-head, All-nil, All-tail, IsAddr, IsU32, AppSpec, Addr, Event, AbstractNode, run, Periodic, MediumInput, OfMedium, OfNode, Station, station_event_by, event_of, events_among, TraceConforms, TraceEntry, IsDecoded, every_step, OutputModel, HasOutputModel, IsSteady, SendsBytes, Act, Pair, arp_brings, broadcast, frame_brings, is_arp, is_arp_for, is_datagram, is_taken, mac_at, payload_brings, sender_of, AllSound, DecodesBytes, FrameSpec, acts_before, AnsweredFrame, CallsSlot, DoesNothing, FrameCall, InputsFrame, Interface, Makes, ether_frames, station_events_by, initial_station, AllHandOut, IsFrameOfBytes, FrameTrace}
+use Rattle.frame_device.proofs.Prelude.{All, flat_map, ◌≡◌, ◌⊎◌, inl, inr, ℕ, ◌==◌, ◌&&◌, ◌||◌, Bool, List, [], ◌∷◌, ◌++◌, drop, length, map, nat_lt, refl, sym, ap, ◌∙◌, subst, choose, bytes_eq, word_at, All-append, All-cons, All-head, All-nil, All-tail, IsAddr, IsU32, AppSpec, Addr, Event, AbstractNode, run, Periodic, MediumInput, OfMedium, OfNode, Station, station_event_by, event_of, events_among, TraceConforms, TraceEntry, IsDecoded, every_step, OutputModel, HasOutputModel, IsSteady, SendsBytes, Act, Pair, arp_brings, broadcast, frame_brings, is_arp, is_arp_for, is_datagram, is_taken, mac_at, payload_brings, sender_of, AllSound, DecodesBytes, FrameSpec, acts_before, AnsweredFrame, CallsSlot, DoesNothing, FrameCall, InputsFrame, Interface, Makes, ether_frames, station_events_by, initial_station, AllHandOut, IsFrameOfBytes, FrameTrace, NewestInEachSlot}
 use Rattle.frame_device.specs.ProgramCalls.{AnsweredBy, DidInTurn, GoHome, OfEach, Program, after_program_call, after_program_calls, before_program_call, program_calls, program_frame, frames_made, program_frames}
 use Rattle.frame_device.specs.ProgramKeeping.{ProgramConforms}
 use Rattle.frame_device.proofs.HomeLaws.{call_home}
 use Rattle.frame_device.proofs.KeepLaws.{acts_after, call_hands_out, call_of_line, node_after, turns_of_call}
-use Rattle.frame_device.specs.Newest.{NewestInEachSlot}
 use Rattle.frame_device.proofs.Newest.{newest_in_each_slot, node_over}
 use Rattle.node_laws.proofs.Steps.{Changes, OfNode as HappensAt, IsStep, LineStep, all_happen, trace_over, turns_then}
 

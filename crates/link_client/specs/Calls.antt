@@ -13,7 +13,7 @@ use Rattle.tcp_segment.specs.declared.segment.Segment.{Segment}
 use Rattle.link_client.specs.Client.{AbstractClient, ClientStep, client_takes, fin_sent, is_receiving, keeps, may_finish, has_outstanding}
 use Rattle.link_client.specs.State.{Client}
 use Rattle.link_client.specs.declared.client_state.ClientState.{ClientState}
-use Rattle.link_client.specs.declared.client_state.ClientState.TheVariants.{Idle, Opening, Opened, Reset}
+use Rattle.link_client.specs.declared.client_state.ClientState.TheVariants.{Idle, Opening, Reset}
 use Rattle.link_client.specs.declared.setup.Setup.{Setup}
 
 -- a client of the code with its request and the bytes that it accepted, as an abstract client
@@ -105,9 +105,9 @@ has_spoken Idle = false
 has_spoken Reset = false
 has_spoken _ = true
 
+-- it accepts text, and has not closed
 abbrev pub is_opened : ClientState → Bool
-is_opened Opened = true
-is_opened _ = false
+is_opened state = is_receiving state && not (may_finish state)
 
 -- it sends request bytes or its FIN next
 abbrev pub has_more_to_send : AbstractClient → Bool

@@ -34,14 +34,13 @@ fn without_text(sent: Option<usize>) -> Heard
     }
 }
 
-/// Returns that the text was accepted.
-fn with_text(sent: Option<usize>) -> Heard
-    ensures { result ≡ record { sent = sent; took_text = true } }
-{
-    Heard {
-        sent,
-        took_text: true,
-    }
+/// What a client did with the text of a segment.
+#[derive(Clone, Copy, Debug, PartialEq, Eq)]
+struct Accepted {
+    /// The segment is answered at least by an ACK.
+    owed: bool,
+    /// The text was accepted.
+    took_text: bool,
 }
 
 /// Returns what was sent, and the range of the text in its datagram if it was accepted.
@@ -200,35 +199,31 @@ impl Client {
         segment.seq.0 == self.rcv.0 && self.is_receiving()
     }
 
-    /// Handles a segment whose acknowledgement was recorded.
+    /// Accepts the text of a segment if it is in order.
     #[tactic(auto, unfolding(crate::specs::Client::takes_in_order))]
-    fn take_in_order(
-        &mut self,
-        request: &[u8],
-        segment: &Segment,
-        piece: &[u8],
-        area: &mut [u8],
-    ) -> Heard
-        requires fits { FitsRequest self.old request.now }
+    fn accept(&mut self, segment: &Segment, piece: &[u8]) -> Accepted
         requires short { length piece.now ≤ LARGEST_DATAGRAM }
-        requires room { LARGEST_DATAGRAM ≤ length area.old }
-        ensures fits { FitsRequest self.new request.now }
         ensures setup { self.new.setup ≡ self.old.setup }
-        ensures behind { KeepsAfter result.sent area.old area.new }
-        ensures step { DidAtText (λ c. takes_in_order c (plain segment.now piece.now)) request.now piece.now result.took_text
-            self.old self.new result.sent area.new }
+        ensures fits { (request : List ℕ) → FitsRequest self.old request → FitsRequest self.new request }
+        ensures step { (request received : List ℕ) → takes_in_order (standing self.old request received) (plain segment.now piece.now)
+            ≡ sends_next result.owed (standing self.new request (received_with result.took_text received piece.now)) }
     {
+        let mut accepted = Accepted {
+            owed: true,
+            took_text: false,
+        };
         if segment.has_syn() {
-            return without_text(self.send_next(request, true, area));
+            return accepted;
         }
         if !occupies_sequence_space(segment, piece) {
-            return without_text(self.send_next(request, false, area));
+            accepted.owed = false;
+            return accepted;
         }
         if self.is_next(segment) {
             self.take_text(segment, piece);
-            return with_text(self.send_next(request, true, area));
+            accepted.took_text = true;
         }
-        without_text(self.send_next(request, true, area))
+        accepted
     }
 
     /// Handles a segment that arrives before the SYN is answered.
@@ -248,35 +243,6 @@ impl Client {
             return self.send_next(request, true, area);
         }
         None
-    }
-
-    /// Handles a segment without RST.
-    #[tactic(auto, unfolding(crate::specs::Client::takes_by))]
-    fn take_by_state(
-        &mut self,
-        request: &[u8],
-        segment: &Segment,
-        piece: &[u8],
-        area: &mut [u8],
-    ) -> Heard
-        requires fits { FitsRequest self.old request.now }
-        requires short { length piece.now ≤ LARGEST_DATAGRAM }
-        requires room { LARGEST_DATAGRAM ≤ length area.old }
-        ensures fits { FitsRequest self.new request.now }
-        ensures setup { self.new.setup ≡ self.old.setup }
-        ensures behind { KeepsAfter result.sent area.old area.new }
-        ensures step { DidAtText (λ c. takes_by self.old.state c (plain segment.now piece.now)) request.now piece.now result.took_text
-            self.old self.new result.sent area.new }
-    {
-        match self.state {
-            ClientState::Idle | ClientState::Reset => without_text(None),
-            ClientState::Opening => without_text(self.take_opening(request, segment, area)),
-            ClientState::Opened | ClientState::Closing | ClientState::Closed | ClientState::Ended =>
-                {
-                    self.hear_ack(segment);
-                    self.take_in_order(request, segment, piece, area)
-                }
-        }
     }
 
     /// Returns whether a RST is valid: as the answer to the SYN, and later at RCV.NXT.
@@ -307,7 +273,7 @@ impl Client {
     }
 
     /// Handles a segment of its server; `piece` is the segment's text.
-    #[tactic(auto, unfolding(crate::specs::Client::client_takes))]
+    #[tactic(auto, unfolding(crate::specs::Client::client_takes, crate::specs::Client::takes_by))]
     pub(crate) fn take_segment(
         &mut self,
         request: &[u8],
@@ -328,6 +294,18 @@ impl Client {
             self.take_reset(segment);
             return without_text(None);
         }
-        self.take_by_state(request, segment, piece, area)
+        match self.state {
+            ClientState::Idle | ClientState::Reset => without_text(None),
+            ClientState::Opening => without_text(self.take_opening(request, segment, area)),
+            ClientState::Opened | ClientState::Closing | ClientState::Closed | ClientState::Ended =>
+                {
+                    self.hear_ack(segment);
+                    let accepted = self.accept(segment, piece);
+                    Heard {
+                        sent: self.send_next(request, accepted.owed, area),
+                        took_text: accepted.took_text,
+                    }
+                }
+        }
     }
 }

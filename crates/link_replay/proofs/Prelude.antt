@@ -8,13 +8,12 @@ pub use Rattle.hex.specs.Hex.{decode_of, digit_or_error, encode_lower, hex_digit
 unfoldable pub use Rattle.hex.specs.Hex.{decode_pairs, encode_with}
 pub use Rattle.hex.specs.declared.error.FromHexError.{FromHexError}
 pub use Rattle.hex.specs.declared.error.FromHexError.TheVariants.{OddLength}
-pub use Rattle.icmp_echo.specs.Prelude.{echo_reply}
 pub use Rattle.link_client.specs.Prelude.{AbstractClient, Client, ClientStep, FitsRequest, Sends, advertises_window, client_datagram, client_hands, client_hears, client_opens, idle, keeps, offered, standing}
 unfoldable pub use Rattle.link_client.specs.Prelude.{aborts_by, again_by, client_takes, closes_by, opens_by, sends_next, takes_by, takes_in_order}
 pub use Rattle.link_client.specs.declared.client_state.ClientState.{ClientState}
 pub use Rattle.link_client.specs.declared.client_state.ClientState.TheVariants.{Idle}
 pub use Rattle.link_client.specs.declared.setup.Setup.{Setup}
-pub use Rattle.link_replay.specs.Prelude.{AbortAndCloseApart, ActSteps, ActsEnd, AnswersTo, AppendsShown, AreFresh, AreTo, AreWorkedReplays, AreWorkedReports, AreWorkedSummaries, ClosesInTime, CodeSent, CodeSide, CodeWorld, DamageLoses, EndsReport, EndsWith, Follows, HasReached, HitsAreCounted, HonestPages, HonestReplay, HonestWebPeer, IsAt, IsAtLast, IsFresh, IsHonest, IsLink, IsLoadText, IsPlayDue, IsReplayText, IsShort, IsTextDue, IsTo, KeepsPromises, LacksEither, LinesEnd, Link, LinkRepresents, LoadEnds, LoadIsTold, Matched, OnlyEpoch, OnlyFull, PagesAreReceived, PlaysSchedule, PostsOfClient, PostsReply, Reaches, Refuses, ReplayEnds, ReplayIsTold, SentRepresents, ServesHonest, ShownSide, SideRepresents, Stepped, Stops, StopsAt, TellsFault, WorldRepresents, WritesDue, WritesText, Wrote, WroteDue, bad_schedule, becomes_hit, buried, client_line, client_told, code_side_shown, column, counts_line, datagram_line, digits_or_dash, event_at, gone_pair, hits_over, is_at_end, is_place, is_sent_again, kind_sent, line_of_datagram, lines_of_client, link_of, lost, lost_at, most_of, numbered_texts, one_hits, opening_for, or_pair, outcome, own_step, owner, owner_in, pair_at, pair_at_side, parts_of, pieces_for, plan_from, planned, refusal_at, report, resent, rounds_for, sees, segment_kind, server, side_shown, sockets_at, sockets_for, summary_of, tally_line, tally_of, text_line, texts_for, texts_of, told_of}
+pub use Rattle.link_replay.specs.Prelude.{AbortAndCloseApart, ActSteps, ActsEnd, AnswersTo, AppendsShown, AreFresh, AreTo, AreWorkedReplays, AreWorkedReports, AreWorkedSummaries, ClosesInTime, CodeSent, CodeSide, CodeWorld, DamageLoses, EndsReport, EndsWith, Follows, FromHere, HasReached, HitsAreCounted, HonestPages, HonestReplay, HonestWebPeer, IsAt, IsAtLast, IsFresh, IsHonest, IsLink, IsLoadText, IsPlayDue, IsReplayText, IsShort, IsTextDue, IsTo, KeepsPromises, LacksEither, LinesEnd, Link, LinkRepresents, LoadEnds, LoadIsTold, Matched, OnlyEpoch, OnlyFull, PagesAreReceived, PlaysSchedule, PostsOfClient, PostsReply, Reaches, Refuses, ReplayEnds, ReplayIsTold, SentRepresents, ServesHonest, ShownSide, SideRepresents, Stepped, Stops, StopsAt, TellsFault, WorldRepresents, WritesDue, WritesText, Wrote, WroteDue, bad_schedule, becomes_hit, buried, client_line, client_told, code_side_shown, column, counts_line, datagram_line, digits_or_dash, event_at, gone_pair, hits_over, is_at_end, is_place, is_sent_again, kind_sent, line_of_datagram, lines_of_client, link_of, lost, lost_at, most_of, numbered_texts, one_hits, opening_for, or_pair, outcome, own_step, owner, owner_in, pair_at, pair_at_side, parts_of, pieces_for, plan_from, planned, refusal_at, report, resent, rounds_for, sees, segment_kind, server, side_shown, sockets_at, sockets_for, summary_of, tally_line, tally_of, text_line, texts_for, texts_of, told_of}
 pub use Rattle.link_replay.specs.declared.kind.Kind.{Kind}
 pub use Rattle.link_replay.specs.declared.kind.Kind.TheVariants.{EchoReply}
 pub use Rattle.link_replay.specs.declared.own.Own.{Own}
@@ -63,9 +62,6 @@ pub use Rattle.link_world.specs.declared.step_fault.StepFault.TheVariants.{Alrea
 pub use Rattle.link_world.specs.declared.who.Who.{Who}
 pub use Rattle.link_world.specs.declared.who.Who.TheVariants.{FromClient, FromNode, Pinger}
 pub use Rattle.node_laws.proofs.HonestPeers.{honest_peer, of_syn}
-pub use Rattle.packet_buffer.specs.Prelude.{Buffer, datagram_in}
-pub use Rattle.rexmit_timer.specs.Prelude.{beat_at}
-pub use Rattle.rexmit_timer.specs.declared.timer.Beat.{Beat}
 pub use Rattle.script_lang.specs.Prelude.{length_at_most, takes_capture}
 pub use Rattle.script_lang.specs.declared.function.Function.{Function}
 pub use Rattle.script_lang.specs.declared.function.Function.TheVariants.{FileStats, NetStats, TcpConnections, Ticks, Unknown}
@@ -95,17 +91,9 @@ pub use Rattle.std.specs.Prelude.{IfSome, IsSomeAnd, MatchResult, OnErr, OnOk, c
 pub use Rattle.std.specs.Str.{bytes_eq}
 pub use Rattle.std.specs.Vec.{with_items}
 pub use Rattle.tcp_machine.specs.Prelude.{ConnRepresents, Connection, Outcome, Sockets, accept, accepted, after_own_fin, asked, asked_for, by_beat, by_state, closed, closes, does_as_wanted, first_mss, grows_older, has_text, hears, in_state, is_acked, is_again, is_live, is_out_of_order, is_plain_syn, limit_of, on_tick, outstanding, peer_has_closed, prepared, reset_for_no_connection, rests, rows_from, same_sockets, segment_of, serves, takes, tick_by, told_end, with_part, with_window}
-unfoldable pub use Rattle.tcp_machine.specs.Prelude.{fin_acked, fin_waits, idles, in_established, on_segment, peer_closes, rests_on, stays_established, ticks_established}
-pub use Rattle.tcp_machine.specs.declared.step.Step.{Step}
-pub use Rattle.tcp_machine.specs.declared.ticking.TheConstants.{REST_TIME}
-pub use Rattle.tcp_segment.specs.Prelude.{PlainSegment, has_fin, has_rst}
-unfoldable pub use Rattle.tcp_segment.specs.Prelude.{datagram_bytes}
-pub use Rattle.tcp_table.specs.Prelude.{is_at}
-pub use Rattle.tcp_table.specs.declared.conn.Conn.{Conn}
 pub use Rattle.text_room.specs.Prelude.{word_if}
 pub use Rattle.uip_edge.proofs.Told.{Appends-none, Appends-then, appends_by, on_err, prefix_by, prefix_more, prefix_then}
 pub use Rattle.uip_edge.specs.Prelude.{AppendsPrefix, Files, SinkView, WorkUnfailed, WorkView, WritesAll, WritesEnd, sink_view, work_view}
-pub use Rattle.uip_node.proofs.Prelude.{Abort, Close, CloseWait, Closed, Closing, Ending, Established, FinWait1, FinWait2, Ghosts, LastAck, Nothing, Now, Row, Send, State, SynRcvd, TimeWait, Want}
 pub use Rattle.uip_node.proofs.Basics.{and_true, append_nothing, both_ways, choose, eqb-eq, get_push, ltb-zero, not-true, prefix_length, wrap_wrap}
 pub use Rattle.uip_node.proofs.Basics.AtEnd.{newest, older}
 pub use Rattle.uip_node.proofs.Cases.{by_own_fin, on_tick_by}
@@ -114,15 +102,14 @@ pub use Rattle.uip_node.proofs.Connections.Written.{here, there}
 pub use Rattle.uip_node.proofs.FitNodes.{Inside, position_in, slot_inside}
 pub use Rattle.uip_node.proofs.Fits.{all_cons, all_nil}
 pub use Rattle.uip_node.proofs.Peers.{asked_keeps, on_segment_keeps, on_tick_closed, on_tick_keeps}
+pub use Rattle.uip_node.proofs.Prelude.{Abort, Addr, Beat, Buffer, Close, CloseWait, Closed, Closing, Conn, Ending, Established, FinWait1, FinWait2, Ghosts, LastAck, Nothing, Now, PlainSegment, Port, REST_TIME, Row, Send, State, Step, SynRcvd, TimeWait, Want, beat_at, datagram_in, echo_reply, has_fin, has_rst, is_at}
+unfoldable pub use Rattle.uip_node.proofs.Prelude.{datagram_bytes, fin_acked, fin_waits, for_no_connection, happened, idles, in_established, on_segment, opens_in, peer_closes, rests_on, stays_established, ticks_established}
 pub use Rattle.uip_node.proofs.SocketPairs.{flip, not_peer, same_is, serves_dead, serves_yes}
 pub use Rattle.uip_node.proofs.SoundSegments.{first_low}
 pub use Rattle.uip_node.proofs.Stepping.{slice_get-element}
-pub use Rattle.uip_node.specs.Prelude.{AbstractNode, Answer, AnswersIn, AnswersPolled, Arrived, Echo, EchoAsked, EchoReplied, Event, GoesOnBy, HasBytes, HistoryEntry, IcmpRefused, IpRefused, IsSent, NoSlot, NodeStep, Overlong, Periodic, Reply, Represents, Silent, SlotsRepresent, Spoke, TcpReply, TcpRefused, arrives_at, connection_in, datagram_to, event_of, gone_by, initial_node, initial_number, opens, passes, raised_by_answer, raises, refuses, reply_bytes, run, serving, slot_for_syn, snapshot, step, tick, ticks_of, times}
-unfoldable pub use Rattle.uip_node.specs.Prelude.{for_no_connection, happened, opens_in}
+pub use Rattle.uip_node.specs.Prelude.{AbstractNode, Node, Answer, AnswersIn, AnswersPolled, Arrived, Echo, EchoAsked, EchoReplied, Event, GoesOnBy, HasBytes, HistoryEntry, IcmpRefused, IpRefused, IsSent, NoSlot, NodeStep, Overlong, Periodic, Reply, Represents, Silent, SlotsRepresent, Spoke, TcpReply, TcpRefused, arrives_at, connection_in, datagram_to, event_of, gone_by, initial_node, initial_number, opens, passes, raised_by_answer, raises, refuses, reply_bytes, run, serving, slot_for_syn, snapshot, step, tick, ticks_of, times}
 pub use Rattle.uip_wire.specs.Prelude.{cut_at_dot, numeral, part_number, wrap}
 unfoldable pub use Rattle.uip_wire.specs.Prelude.{quad_of}
-pub use Rattle.uip_wire.specs.declared.addr.Addr.{Addr}
-pub use Rattle.uip_wire.specs.declared.port.Port.{Port}
 pub use Rattle.uip_wire.specs.declared.sizes.TheConstants.{LARGEST_DATAGRAM}
 pub use Rattle.web_pages.proofs.Bounds.{silent_none, text_bound}
 pub use Rattle.web_pages.proofs.ByteLaws.{made_of_bytes}

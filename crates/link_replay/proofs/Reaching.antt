@@ -25,15 +25,7 @@ module _ (m : AppSpec) (served : ℕ → Bool) where
 
   -- the mark alone
   pub at_marked : (w : World) (k : ℕ) → IsAt m served w → IsAt m served (record w { mark = k })
-  at_marked w k h = record {
-    pages = h.pages;
-    lawful = h.lawful;
-    bytes = h.bytes;
-    start = h.start;
-    schedule = h.schedule;
-    are_acts = h.are_acts;
-    accepted = h.accepted;
-  }
+  at_marked w k h = h
 
   -- what every law of reached worlds asks for
   pub reached_at : (w : World) → (h : IsAt m served w) → IsReached m h.pages (record w { mark = 0 })

@@ -47,12 +47,6 @@ more_shown first mid now a b = record {
   whole = Appends-then first mid now a.text b.text a.whole b.whole;
 }
 
--- the datagrams where all is shown
-pub where_shown : {T E : Type 0} (show : Bool) (old new : Option (List ℕ)) (r : Result T E) → show ≡ true → OnOk r (AppendsShown true old new)
-    → OnOk r (AppendsShown show old new)
-where_shown show old new (Ok t) is a = record { text = a.text; hidden = λ e. absurd (cc); whole = a.whole }
-where_shown show old new (Err e) is a = tt
-
 -- the datagrams, the clients, and then the last line
 pub report_ends : {T E : Type 0} (show : Bool) (old a b new : Option (List ℕ)) (clients line : List ℕ) (r : Result T E) → AppendsShown show old a
     → Appends a b clients → Wrote b new r line → OnOk r (EndsReport show old new (clients ++ line))

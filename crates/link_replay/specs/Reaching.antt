@@ -9,15 +9,19 @@ use Rattle.link_world.specs.declared.step_fault.StepFault.{StepFault}
 use Rattle.link_world.specs.declared.step_fault.StepFault.TheVariants.{NoDatagram, NoByte, AlreadyOpen, NotOpen, Full, NoMemory}
 use Rattle.uip_node.specs.Prelude.{HasBytes}
 
--- A world that accepted acts reach from the initial one, with a server whose pages are bytes. No act depends on the mark.
-pub record IsAt (m : AppSpec) (served : ℕ → Bool) (w : World) : Type 0 where
+-- A world that accepted acts reach from the initial one, with a server whose pages are bytes.
+pub record IsReachedBy (m : AppSpec) (served : ℕ → Bool) (w : World) : Type 0 where
   pub pages : Pages
   pub lawful : IsPaged m pages
   pub bytes : HasBytes pages
   pub start : Start
   pub schedule : List Act
   pub are_acts : All IsAct schedule
-  pub accepted : runs m served schedule (started start) ≡ Ok (record w { mark = 0 })
+  pub accepted : runs m served schedule (started start) ≡ Ok w
+
+-- The same, whatever its mark: no act depends on the mark.
+abbrev pub IsAt : AppSpec → (ℕ → Bool) → World → Type 0
+IsAt m served w = IsReachedBy m served (record w { mark = 0 })
 
 -- a refusal with a named reason, which out of memory is not
 abbrev pub IsNamed : StepFault → Type 0

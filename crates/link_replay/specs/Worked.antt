@@ -4,46 +4,25 @@ use Rattle.std.specs.Prelude.{◌≡◌, ℕ, ◌+◌, List, [], ◌∷◌, ◌+
 use Rattle.std.specs.Prelude.{map, replicate, Option, Some, None, Result, Ok, Err}
 use Rattle.site_image.specs.Prelude.{File}
 use Rattle.uip_node.specs.Prelude.{ticks_of}
-use Rattle.link_client.specs.declared.client_state.ClientState.{ClientState}
 use Rattle.link_client.specs.declared.client_state.ClientState.TheVariants.{Opening, Opened, Closed, Reset}
-use Rattle.link_world.specs.Prelude.{World, Side, Sent, Content, numbered, OfSegment, OfPing}
-use Rattle.link_world.specs.Prelude.{OfEcho, Planned, initial_world, plays, BadLine}
+use Rattle.link_world.specs.Prelude.{World, Sent, numbered, Planned, initial_world, plays, BadLine}
+use Rattle.link_world.specs.Prelude.{ClientEnd, clean_end, end_of_client, text_of_content, worked_client}
 use Rattle.link_schedule.specs.declared.event.Event.{Event}
 use Rattle.link_schedule.specs.declared.event.Event.TheVariants.{Opens, Closes, Ping, Give, Tick, Round, Lose}
 use Rattle.web_pages.specs.Prelude.{is_served, web_spec, file, ok, as_html, get, hello_site, hits_site}
 
--- a client at 10.0.0.2: its ISS, its port, the number of bytes in each segment, and its request
+-- a client of the web server: its ISS, its port, the number of bytes in each segment, and its request
 abbrev pub client : ℕ → ℕ → ℕ → List ℕ → Planned
-client first port seg request = record {
-  setup = record {
-    addr = record { 0 = 10 ∷ 0 ∷ 0 ∷ 2 ∷ [] };
-    port = record { 0 = port };
-    mss = 0;
-    seg = seg;
-    iss = record { 0 = first };
-    server = record { 0 = 10 ∷ 0 ∷ 0 ∷ 1 ∷ [] };
-    server_port = record { 0 = 80 };
-  };
-  request = request;
-}
-
--- What a client has at the end: its state, the bytes received, and the number of its first stale datagram.
-pub record Has : Type 0 where
-  pub state : ClientState
-  pub received : List ℕ
-  pub first_stale : Option ℕ
+client first port seg request = worked_client first port 80 seg request
 
 -- The end of a schedule: what the clients have, the number of ticks, and the number of datagrams.
 pub record Ending : Type 0 where
-  pub clients : List Has
+  pub clients : List ClientEnd
   pub ticks : ℕ
   pub datagrams : ℕ
 
-abbrev pub has_at : Side → Has
-has_at side = record { state = side.client.state; received = side.client.received; first_stale = side.first_stale }
-
 abbrev pub ending_at : World → Ending
-ending_at w = record { clients = map has_at w.sides; ticks = ticks_of w.node.history; datagrams = length w.sent }
+ending_at w = record { clients = map end_of_client w.sides; ticks = ticks_of w.node.history; datagrams = length w.sent }
 
 abbrev pub ending_of : Result World BadLine → Result Ending BadLine
 ending_of (Ok w) = Ok (ending_at w)
@@ -57,24 +36,16 @@ replayed files plan lines =
 abbrev pub ends_with : List File → List Planned → List Event → Result Ending BadLine
 ends_with files plan lines = ending_of (replayed files plan lines)
 
-abbrev pub content_data : Content → List ℕ
-content_data (OfSegment id segment) = segment.text
-content_data (OfPing datagram) = []
-content_data (OfEcho request) = []
-
 abbrev pub worked_text : Option Sent → List ℕ
 worked_text None = []
-worked_text (Some sent) = content_data sent.content
+worked_text (Some sent) = text_of_content sent.content
 
 -- the text of the datagram with a number
 abbrev pub text_sent : ℕ → Result World BadLine → List ℕ
 text_sent k (Ok w) = worked_text (numbered w.sent k)
 text_sent k (Err bad) = []
 
-abbrev pub clean : ClientState → List ℕ → Has
-clean state received = record { state = state; received = received; first_stale = None }
-
-abbrev pub ended : List Has → ℕ → Result Ending BadLine
+abbrev pub ended : List ClientEnd → ℕ → Result Ending BadLine
 ended clients datagrams = Ok (record { clients = clients; ticks = 0; datagrams = datagrams })
 
 -- a page that shows one hit count of one digit
@@ -130,25 +101,25 @@ table_page =
 pub record AreWorkedReplays : Type 0 where
   -- a whole page
   pub page : ends_with hello_site (client 1000 1025 536 (get (codes "/")) ∷ []) (Opens 1 ∷ replicate 14 Round)
-      ≡ ended (clean Closed (ok ++ as_html ++ codes "hello\n") ∷ []) 8
+      ≡ ended (clean_end Closed (ok ++ as_html ++ codes "hello\n") ∷ []) 8
   -- the second client sees the hit of the first
   pub hits : ends_with hits_site (client 1000 1025 536 (get (codes "/h.shtml")) ∷ client 2000 1026 536 (get (codes "/h.shtml")) ∷ [])
       (Opens 1 ∷ replicate 14 Round ++ Opens 2 ∷ replicate 14 Round)
-      ≡ ended (clean Closed (hit_page 49) ∷ clean Closed (hit_page 50) ∷ []) 20
+      ≡ ended (clean_end Closed (hit_page 49) ∷ clean_end Closed (hit_page 50) ∷ []) 20
   -- a request that is refused, byte by byte: a normal close, and no page
   pub refused : ends_with hello_site (client 1000 1025 1 (codes "POST / ") ∷ []) (Opens 1 ∷ replicate 14 Round)
-      ≡ ended (clean Closed [] ∷ []) 14
+      ≡ ended (clean_end Closed [] ∷ []) 14
   -- a client that closes before its request is decided is reset
   pub undecided : ends_with hello_site (client 1000 1025 536 (codes "GET") ∷ [])
       (Opens 1 ∷ replicate 4 Round ++ Closes 1 ∷ replicate 2 Round)
-      ≡ ended (clean Reset [] ∷ []) 6
+      ≡ ended (clean_end Reset [] ∷ []) 6
   -- a generated text that is lost is retransmitted with the same bytes, though the counters have changed
   pub first_time : text_sent 6 sent_again ≡ at_first
   pub second_time : text_sent 11 sent_again ≡ at_first
   pub counters : ending_of sent_again
-      ≡ Ok (record { clients = clean Closed (ok ++ as_html ++ at_first ++ later) ∷ []; ticks = 4; datagrams = 17 })
+      ≡ Ok (record { clients = clean_end Closed (ok ++ as_html ++ at_first ++ later) ∷ []; ticks = 4; datagrams = 17 })
   -- the table while all ten connections are in use; the SYN of the eleventh client is dropped
   pub full_table : ends_with table_site eleven
       (Opens 1 ∷ Opens 2 ∷ Opens 3 ∷ Opens 4 ∷ Opens 5 ∷ Opens 6 ∷ Opens 7 ∷ Opens 8 ∷ Opens 9 ∷ Opens 10 ∷ Opens 11 ∷ Round ∷ Round
       ∷ Give 22 ∷ Give 32 ∷ Give 33 ∷ Give 34 ∷ Give 35 ∷ Give 36 ∷ Give 37 ∷ Give 38 ∷ Give 39 ∷ Give 40 ∷ [])
-      ≡ ended (clean Closed table_page ∷ replicate 9 (clean Opened []) ++ clean Opening [] ∷ []) 40
+      ≡ ended (clean_end Closed table_page ∷ replicate 9 (clean_end Opened []) ++ clean_end Opening [] ∷ []) 40

@@ -26,24 +26,9 @@ pub(crate) fn write_shown<K: Sink>(
     ensures some { OnOk result (AppendsShown show (K.written sink.old) (K.written sink.new)) }
     ensures cause { HasCause (K.faults sink.old) (K.faults sink.new) result }
 {
-    if show {
-        return write_datagrams(addr, sides, sent, sink);
+    if !show {
+        return Ok(());
     }
-    Ok(())
-}
-
-/// Writes the line of each datagram.
-fn write_datagrams<K: Sink>(
-    addr: Addr,
-    sides: &[Side],
-    sent: &[Sent],
-    sink: &mut K,
-) -> Result<(), Failed>
-    ensures wrote { OfLink addr (link_of sides.now sent.now) (λ w. Wrote (K.written sink.old) (K.written sink.new) result
-        (numbered_texts line_of_datagram 1 w.sent)) }
-    ensures some { OnOk result (AppendsShown true (K.written sink.old) (K.written sink.new)) }
-    ensures cause { HasCause (K.faults sink.old) (K.faults sink.new) result }
-{
     for (place, datagram) in sent.iter().enumerate() {
         write_datagram(addr, sides, place + 1, datagram, sink)?;
     }

@@ -5,7 +5,7 @@ ghost use Rattle.uip_node.specs.Prelude.{tick, Periodic};
 ghost use Rattle.link_world.specs.Prelude.{client_acts, does, handles_all, changed, ping_from, OfPing, IsAct};
 ghost use Rattle.link_world.specs.World.{World as PlainWorld, node_handles, posts};
 ghost use Rattle.link_world.specs.declared.who.Who.TheVariants.{Pinger};
-ghost use Rattle.link_replay.specs.Prelude.{DoesAct, FromHere, HandsOver, PassesToNode, own_step, WorldRepresents, client_told};
+ghost use Rattle.link_replay.specs.Prelude.{DoesAct, FromHere, HandsOver, KeepsLink, PassesToNode, TellsStep, own_step, WorldRepresents, client_told};
 
 use crate::acting::{act_alone, advertise_window, hear};
 use crate::before::Before;
@@ -22,6 +22,30 @@ use uip_ipv4::{Proto, put_head};
 use uip_wire::{Addr, LARGEST_DATAGRAM};
 
 impl<A: App> WorldOf<A> {
+    /// Records what a call of the node changed. Its reply, if any, goes to the client with these sockets, or is an echo reply.
+    fn record_call(
+        &mut self,
+        before: &Before,
+        answer: Option<usize>,
+        to: Option<SocketPair>,
+    ) -> Result<(), NoMemory>
+        ensures node { self.new.node ≡ self.old.node }
+        ensures mark { self.new.mark ≡ self.old.mark }
+        ensures spent { self.new.spent ≡ self.old.spent }
+        ensures kept { KeepsLink self.old.link self.new.link }
+        ensures told { OnOk result (TellsStep A.App before.now self.old.node to answer self.old.link self.new.link) }
+    {
+        tell(
+            &self.node,
+            &mut self.sides,
+            &mut self.sent,
+            before,
+            answer,
+            to,
+        )?;
+        Ok(())
+    }
+
     /// Passes bytes to the node. Its reply goes to the client with these sockets, or is an echo reply.
     fn node_hears(&mut self, bytes: &[u8], to: Option<SocketPair>) -> Result<(), NoMemory>
         requires most { length bytes.now ≤ LARGEST_DATAGRAM }
@@ -31,14 +55,7 @@ impl<A: App> WorldOf<A> {
     {
         let before = Before::of(&self.node);
         let answer = self.node.input(bytes);
-        tell(
-            &self.node,
-            &mut self.sides,
-            &mut self.sent,
-            &before,
-            answer,
-            to,
-        )?;
+        self.record_call(&before, answer, to)?;
         Ok(())
     }
 
@@ -53,14 +70,7 @@ impl<A: App> WorldOf<A> {
         let before = Before::of(&self.node);
         let answer = self.node.periodic(slot);
         let to = before.pair(slot);
-        tell(
-            &self.node,
-            &mut self.sides,
-            &mut self.sent,
-            &before,
-            answer,
-            to,
-        )?;
+        self.record_call(&before, answer, to)?;
         Ok(())
     }
 

@@ -3,10 +3,8 @@
 ghost use Rattle.std.specs.Prelude.{◌≡◌, ◌≤◌, ℕ, List, IfSome, None, length};
 ghost use Rattle.link_world.specs.Prelude.{fault_of, if_idle, is_idle, named_fault, state_at};
 ghost use Rattle.link_world.specs.World.{Side as PlainSide, World as PlainWorld, numbered};
-ghost use Rattle.link_replay.specs.Matched.{Matched};
+ghost use Rattle.link_replay.specs.Prelude.{Matched, LinkRepresents, SentRepresents, SideRepresents, link_of};
 ghost use Rattle.link_replay.specs.Reaching.{IsNamed};
-ghost use Rattle.link_replay.specs.Represents.{LinkRepresents, SentRepresents, SideRepresents};
-ghost use Rattle.link_replay.specs.State.{link_of};
 
 use crate::acts::needs;
 use crate::sent::Sent;

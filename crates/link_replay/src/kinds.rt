@@ -6,8 +6,7 @@ ghost use Rattle.tcp_machine.specs.Prelude.{Sockets};
 ghost use Rattle.tcp_segment.specs.Prelude.{segment_or_fate, PlainSegment};
 ghost use Rattle.uip_node.specs.Prelude.{by_segment, event_of, Arrived};
 ghost use Rattle.link_world.specs.World.{Side as PlainSide, numbered};
-ghost use Rattle.link_replay.specs.Prelude.{OfDatagram, Matched, SideRepresents};
-ghost use Rattle.link_replay.specs.Report.{kind_sent as kind_meant, segment_kind};
+ghost use Rattle.link_replay.specs.Prelude.{OfDatagram, Matched, SideRepresents, kind_sent as kind_meant, segment_kind};
 
 use crate::kind::Kind;
 use crate::sent::Sent;

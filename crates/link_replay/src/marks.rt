@@ -3,14 +3,8 @@
 ghost use Rattle.std.specs.Prelude.{◌≡◌, List};
 ghost use Rattle.link_world.specs.World.{Sent as PlainSent, Side as PlainSide, marked, numbered};
 ghost use Rattle.uip_wire.specs.declared.addr.Addr.{Addr as Address};
-ghost use Rattle.link_replay.specs.Matched.{Matched};
-ghost use Rattle.link_replay.specs.Epochs.{sockets_for};
-ghost use Rattle.link_replay.specs.Noting.{pair_at};
+ghost use Rattle.link_replay.specs.Prelude.{Matched, sockets_for, pair_at, IsLink, SideRepresents, link_of, CodeSent, pair_at_side};
 ghost use Rattle.link_replay.specs.Moving.{RecordsDelivery};
-ghost use Rattle.link_replay.specs.Represents.{IsLink, SideRepresents};
-ghost use Rattle.link_replay.specs.State.{link_of};
-ghost use Rattle.link_replay.specs.Plain.{CodeSent};
-ghost use Rattle.link_replay.specs.Telling.{pair_at_side};
 
 use crate::side::Side;
 use crate::socket_pair::SocketPair;

@@ -5,8 +5,7 @@ ghost use Rattle.std.specs.Prelude.{◌≡◌, ◌<◌, ◌≤◌, ℕ, Some, tr
 ghost use Rattle.app_events.specs.Prelude.{IsAddr};
 ghost use Rattle.link_schedule.specs.Kept.{client_in_range};
 ghost use Rattle.link_world.specs.Prelude.{IsPlanned, Planned};
-ghost use Rattle.link_replay.specs.Opening.{AreFresh, IsFresh, opening_for, plan_from, planned};
-ghost use Rattle.link_replay.specs.Represents.{WorldRepresents};
+ghost use Rattle.link_replay.specs.Prelude.{AreFresh, IsFresh, opening_for, plan_from, planned, WorldRepresents};
 
 use crate::side::Side;
 use crate::types::{is_addr, is_bytes, is_short};

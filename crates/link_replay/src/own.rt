@@ -3,8 +3,7 @@
 ghost use Rattle.std.specs.Prelude.{◌≡◌, ◌≤◌, IfOk, length, Some};
 ghost use Rattle.link_client.specs.Prelude.{FitsRequest, client_hears, client_hands, advertises_window};
 ghost use Rattle.link_world.specs.World.{Side as PlainSide, with_client};
-ghost use Rattle.link_replay.specs.Owning.{Stepped, own_step};
-ghost use Rattle.link_replay.specs.Represents.{SideRepresents};
+ghost use Rattle.link_replay.specs.Prelude.{Stepped, own_step, SideRepresents};
 
 use crate::faults::is_idle_client;
 use crate::side::Side;

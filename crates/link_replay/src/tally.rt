@@ -1,9 +1,7 @@
 //! The counts of a replay's clients and datagrams.
 
 ghost use Rattle.std.specs.Prelude.{◌≡◌, ◌==◌, count_by, is_none, length, map, not, sum_by};
-ghost use Rattle.link_replay.specs.Kinds.{column};
-ghost use Rattle.link_replay.specs.Shown.{code_side_shown};
-ghost use Rattle.link_replay.specs.Summary.{tally_of};
+ghost use Rattle.link_replay.specs.Prelude.{column, code_side_shown, tally_of};
 
 use crate::sent::Sent;
 use crate::side::Side;

@@ -3,8 +3,7 @@
 ghost use Rattle.std.specs.Prelude.{◌≡◌, ◌<◌, ◌*◌, ◌≤◌, length};
 ghost use Rattle.hex.specs.Hex.{encode_lower};
 ghost use Rattle.uip_edge.specs.Prelude.{HasCause};
-ghost use Rattle.link_replay.specs.Report.{digits_or_dash, text_line};
-ghost use Rattle.link_replay.specs.Writing.{Wrote};
+ghost use Rattle.link_replay.specs.Prelude.{digits_or_dash, text_line, Wrote};
 
 use uip_edge::{Failed, Sink};
 

@@ -5,9 +5,8 @@ ghost use Rattle.std.specs.Prelude.{◌≡◌, ℕ, true, false, OnErr, Ok, Err,
 ghost use Rattle.link_world.specs.Acts.{acts as acted, runs};
 ghost use Rattle.link_world.specs.Schedule.{acts_of as lines_acts, plays_line};
 ghost use Rattle.link_world.specs.Prelude.{IsAct, OfLine};
-ghost use Rattle.link_replay.specs.Moving.{FromHere};
+ghost use Rattle.link_replay.specs.Prelude.{FromHere, WorldRepresents};
 ghost use Rattle.link_replay.specs.Reaching.{ActsEnd, IsNamed, ActSteps, Stops};
-ghost use Rattle.link_replay.specs.Represents.{WorldRepresents};
 
 use crate::acts::{acts_of, mark_after};
 use crate::faults::fault_of;

@@ -1,6 +1,6 @@
 -- The acts preserve what holds of all connections and clients.
-use Rattle.link_world.proofs.Prelude.{All, ◌≤◌, ℕ, suc, Bool, List, [], ◌∷◌, length, map, refl, sym, subst, Some, AppSpec, IsSteady, IsU32, Connection, Arrived, EchoAsked, Periodic, EchoReplied, Echo, remembers, AbstractClient, ClientStep, client_takes, client_opens, client_again, client_closes, client_aborts, advertises_window, World, Sent, Content, client_sockets, client_stepped, delivers, marked, node_handles, with_side, OfSegment, OfPing, OfEcho, client_acts, handles_all, does, Act, Who, FromClient, FromNode, Pinger, IsLoss, FitConns}
-use Rattle.link_world.proofs.Doing.{at_number}
+use Rattle.link_world.proofs.Prelude.{All, ◌≤◌, ℕ, suc, Bool, List, [], ◌∷◌, length, map, refl, sym, subst, Some, AppSpec, IsSteady, IsU32, Connection, EchoAsked, Periodic, EchoReplied, Echo, remembers, AbstractClient, ClientStep, client_takes, client_opens, client_again, client_closes, client_aborts, advertises_window, World, Sent, Content, client_sockets, client_stepped, delivers, marked, node_handles, with_side, client_acts, handles_all, does, Act, Who, IsLoss, FitConns}
+use Rattle.link_world.proofs.Doing.{at_number, delivered_by}
 use Rattle.link_world.proofs.Harmless.{Harmless}
 use Rattle.link_world.proofs.Setups.{SameSetup, takes_setup, opens_setup, again_setup, closes_setup, aborts_setup}
 use Rattle.link_world.proofs.FitWorlds.{FitWorld, FitSides, put_fits, client_fits, arrival_fits, periodic_fits, still_world}
@@ -17,19 +17,11 @@ loss_fits w v l f = record {
 
 module _ (m : AppSpec) (steady : IsSteady m) (served : ℕ → Bool) where
   delivers_fit : (w : World) (k : ℕ) (e : Sent) (who : Who) (content : Content) → FitWorld w → FitWorld (delivers m served w k e who content)
-  delivers_fit w k e (FromClient number) (OfSegment id s) f =
-      at_number FitWorld (λ i side. node_handles m served (with_side w i (marked side k e)) (Arrived (client_sockets side) s)) w.sides number w f
-      (λ n side at. arrival_fits m steady served (with_side w (suc n) (marked side k e)) (client_sockets side) s (f.sides n side at).addr (f.sides n side at).port (put_fits w n side (marked side k e) at refl refl f))
-  delivers_fit w k e (FromNode number) (OfSegment id s) f =
-      at_number FitWorld (λ i side. client_stepped w i (marked side k e) (client_takes side.client s)) w.sides number w f
-      (λ n side at. client_fits w n side (marked side k e) (client_takes side.client s) at refl refl (takes_setup side.client s) f)
-  delivers_fit w k e Pinger (OfPing datagram) f = still_world m steady served w (remembers w.node (EchoAsked datagram) EchoReplied) (Some (Echo datagram)) refl refl f
-  delivers_fit w k e (FromClient n) (OfPing datagram) f = f
-  delivers_fit w k e (FromClient n) (OfEcho request) f = f
-  delivers_fit w k e (FromNode n) (OfPing datagram) f = f
-  delivers_fit w k e (FromNode n) (OfEcho request) f = f
-  delivers_fit w k e Pinger (OfSegment id s) f = f
-  delivers_fit w k e Pinger (OfEcho request) f = f
+  delivers_fit w k e who content f =
+      delivered_by m served FitWorld w k e who content f
+      (λ n side at s. arrival_fits m steady served (with_side w (suc n) (marked side k e)) (client_sockets side) s (f.sides n side at).addr (f.sides n side at).port (put_fits w n side (marked side k e) at refl refl f))
+      (λ n side at s. client_fits w n side (marked side k e) (client_takes side.client s) at refl refl (takes_setup side.client s) f)
+      (λ datagram is. still_world m steady served w (remembers w.node (EchoAsked datagram) EchoReplied) (Some (Echo datagram)) refl refl f)
 
   numbered_fit : (w : World) (number : ℕ) (act : AbstractClient → ClientStep) → ((c : AbstractClient) → SameSetup c (act c)) → FitWorld w → FitWorld (client_acts w number act)
   numbered_fit w number act s f =

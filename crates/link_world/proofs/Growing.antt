@@ -1,6 +1,6 @@
 -- Acts only add datagrams, a client that has sent is never idle again, and every client stays as planned.
 use Rattle.link_world.proofs.Prelude.{◌≡◌, ℕ, zero, suc, ◌≤◌, Bool, false, List, [], ◌∷◌, length, map, set, Option, Some, None, slice_get, refl, sym, ap, ◌∙◌, arith, slice_get-map, option_map, AppSpec, PlainSegment, Connection, same_sockets, ticks_of, Event, Reply, tick, event_of, Arrived, EchoAsked, Echo, TcpReply, NodeStep, step, AbstractClient, ClientStep, client_takes, keeps, advertises_window, client_opens, client_again, client_closes, client_aborts, client_acts, does, handed, handles_all, hands_over, is_idle, state_at, changed, hears_datagram, ping_from, sent_bytes, Content, Sent, Side, World, retires, retires_in, client_sockets, client_stepped, delivers, epoch_of, marked, node_handles, node_stepped, posts, posts_of_client, posts_reply, with_client, with_side, OfSegment, OfPing, OfEcho, planned_of, Act, Who, FromClient, FromNode, Pinger, choose}
-use Rattle.link_world.proofs.Doing.{at_number, where_there}
+use Rattle.link_world.proofs.Doing.{at_number, where_there, delivered_by}
 use Rattle.link_world.proofs.Rounds.{one_longer}
 use Rattle.link_world.proofs.Setups.{Keeps, again_keeps, aborts_keeps, closes_keeps, opens_keeps, planned_by, takes_keeps}
 
@@ -95,19 +95,9 @@ module _ (m : AppSpec) (served : ℕ → Bool) where
       grows_on w v (node_handles m served v (Arrived (client_sockets side) s)) (put_grows w n side (marked side k e) at (λ h. h) refl) (handles_grows v (Arrived (client_sockets side) s))
 
   delivers_grows : (w : World) (k : ℕ) (e : Sent) (who : Who) (content : Content) → Grows w (delivers m served w k e who content)
-  delivers_grows w k e (FromClient number) (OfSegment id s) =
-      at_number (Grows w) (λ i side. node_handles m served (with_side w i (marked side k e)) (Arrived (client_sockets side) s)) w.sides number w (grows_not w)
-      (λ n side at. node_grows w n k e s side at)
-  delivers_grows w k e (FromNode number) (OfSegment id s) =
-      at_number (Grows w) (λ i side. client_stepped w i (marked side k e) (client_takes side.client s)) w.sides number w (grows_not w)
-      (λ n side at. client_grows w n side (marked side k e) (client_takes side.client s) at refl (takes_keeps side.client s))
-  delivers_grows w k e Pinger (OfPing datagram) = handles_grows w (EchoAsked datagram)
-  delivers_grows w k e (FromClient n) (OfPing datagram) = grows_not w
-  delivers_grows w k e (FromClient n) (OfEcho request) = grows_not w
-  delivers_grows w k e (FromNode n) (OfPing datagram) = grows_not w
-  delivers_grows w k e (FromNode n) (OfEcho request) = grows_not w
-  delivers_grows w k e Pinger (OfSegment id s) = grows_not w
-  delivers_grows w k e Pinger (OfEcho request) = grows_not w
+  delivers_grows w k e who content =
+      delivered_by m served (Grows w) w k e who content (grows_not w) (λ n side at s. node_grows w n k e s side at)
+      (λ n side at s. client_grows w n side (marked side k e) (client_takes side.client s) at refl (takes_keeps side.client s)) (λ datagram is. handles_grows w (EchoAsked datagram))
 
   acts_grows : (w : World) (number : ℕ) (act : AbstractClient → ClientStep) → ((c : AbstractClient) → Keeps c (act c)) → Grows w (client_acts w number act)
   acts_grows w number act keeps =

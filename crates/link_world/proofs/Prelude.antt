@@ -1,8 +1,6 @@
 -- The names that the proofs of this crate cite: of std, of the crates below, and of its own definitions. Declares nothing.
 pub use Rattle.app_events.specs.Prelude.{After, AppSpec, AppState, CanSend, IsAddr, IsByte, IsNow, IsPaged, IsPrefixOf, IsSnapshot, IsU32, MayWant, Pages, Snapshot, text_left}
 pub use Rattle.app_events.specs.declared.ending.Ending.TheVariants.{Reset}
-pub use Rattle.icmp_echo.specs.Prelude.{echo_fate, echo_reply}
-pub use Rattle.icmp_echo.specs.declared.fate.IcmpFate.{IcmpFate}
 pub use Rattle.link_client.specs.Prelude.{AbstractClient, ClientStep, ack_of, advertises_window, after_fin, client_aborts, client_again, client_closes, client_hears, client_opens, fin_out, fin_sent, has_closed, has_outstanding, heard_by_head, heard_by_proto, heard_in, hears_ack, is_receiving, is_reset_by, keeps, may_finish, next_own, offered, one_if, opened_by, own_fin, own_first, own_request, own_reset, steps_with, syn_of, takes_text}
 unfoldable pub use Rattle.link_client.specs.Prelude.{aborts_by, again_by, client_takes, closes_by, opens_by, sends_next, takes_by, takes_in_order}
 pub use Rattle.link_client.specs.declared.client_state.ClientState.{ClientState}
@@ -20,14 +18,11 @@ pub use Rattle.link_world.specs.declared.who.Who.{Who}
 pub use Rattle.link_world.specs.declared.who.Who.TheVariants.{FromClient, FromNode, Pinger}
 pub use Rattle.rexmit_timer.proofs.AgeTable.{repeats}
 pub use Rattle.rexmit_timer.specs.Prelude.{ages, beat_at, count_at, give_up_age, tries_at}
-pub use Rattle.rexmit_timer.specs.declared.timer.Beat.{Beat}
 pub use Rattle.rexmit_timer.specs.declared.timer.Timer.{Timer}
 pub use Rattle.std.proofs.Common.{Bool, Err, IfSome, List, None, Ok, Option, Result, Some, [], ap, append_assoc, arith, bit_xor, bytes_eq, cond, count_by, drop, eqb, false, filter, flat_map, get_or, if◌then◌else◌, inl, inr, is_none, is_some, length, length-append, length-drop, length-take, ltb, map, max, min, nat_le, not, position, refl, replicate, reverse, set, slice_get, slice_index, slice_index_or, subst, suc, sym, take, true, zero, ℕ, ◌%◌, ◌&&◌, ◌*◌, ◌++◌, ◌+◌, ◌-◌, ◌<◌, ◌==◌, ◌||◌, ◌∙◌, ◌∷◌, ◌≡◌, ◌≢◌, ◌≤◌, ◌⊎◌}
 pub use Rattle.std.proofs.Math.Nat.{suc-mul}
 pub use Rattle.std.proofs.Math.Seq.{take-add, take-append-add, take-length}
 pub use Rattle.std.proofs.lemmas.Bool.{cases_lt, eq-eqb, eqb-true, le-ltb, lt-ltb, ne_eqb}
-pub use Rattle.std.proofs.lemmas.Grind.{common_steps}
-pub use Rattle.std.proofs.lemmas.Iterator.Adapters.{position_from-zero}
 pub use Rattle.std.proofs.lemmas.List.{append-nil, drop_at, take-append-drop, take_all}
 pub use Rattle.std.proofs.lemmas.List.Concat.{flat_map-cons}
 pub use Rattle.std.proofs.lemmas.List.Elements.{All-append, All-drop, All-filter, All-head, All-tail, All-take}
@@ -35,29 +30,20 @@ pub use Rattle.std.proofs.lemmas.List.Recursion.{is_count_by}
 pub use Rattle.std.proofs.lemmas.List.Sorted.{All-permutation, IsPermutation-reverse}
 pub use Rattle.std.proofs.lemmas.Nat.{xor_of_8}
 pub use Rattle.std.proofs.lemmas.Option.{slice_get-map}
-pub use Rattle.std.proofs.lemmas.Slice.Eq.{bytes_eq-Decides}
 pub use Rattle.std.specs.Int.Bits.{xor_assoc, xor_self, xor_zero_l}
 pub use Rattle.std.specs.List.{All, list_all, list_any, position_from, range_with_len}
-pub use Rattle.std.specs.Option.{option_map_or, option_or}
 pub use Rattle.std.specs.Prelude.{nat_lt, option_map, ⊤}
 pub use Rattle.std.specs.Result.{result_map_both}
 pub use Rattle.tcp_machine.specs.Prelude.{Connection, Outcome, Sockets, accept, accepted, after_own_fin, ask, asked, asked_for, bare_ack, by_beat, by_state, closed, closes, connects, does_as_wanted, fin_of, first_mss, grows_older, has_text, hears, in_state, is_acked, is_again, is_live, is_open, is_out_of_order, is_plain_syn, is_resting, leaves, limit_of, occupies_sequence_space, on_tick, outstanding, peer_has_closed, prepared, rcv_nxt, reset_for_no_connection, reset_of, rests, same_sockets, segment_of, serves, snd_una, syn_ack, takes, text_segment, tick_by, told_end, tries_of, waits_for_ack, with_part, with_window}
-unfoldable pub use Rattle.tcp_machine.specs.Prelude.{fin_acked, fin_waits, idles, in_established, on_segment, peer_closes, rests_on, stays_established, ticks_established}
-pub use Rattle.tcp_machine.specs.declared.step.Step.{Step}
 pub use Rattle.tcp_segment.specs.Prelude.{Datagram, IsReadBack, PlainSegment, fields_sent, has_ack, has_fin, has_rst, has_syn, head_of, header_len, pseudo_header, segment_or_fate}
 unfoldable pub use Rattle.tcp_segment.specs.Prelude.{datagram_bytes, segment_in}
 pub use Rattle.tcp_segment.specs.declared.fate.TcpFate.{TcpFate}
-pub use Rattle.tcp_segment.specs.declared.flags.TheConstants.{ACK, FIN, PSH, RST, SYN}
 pub use Rattle.tcp_segment.specs.declared.segment.Segment.{Segment}
 pub use Rattle.uip_ipv4.proofs.Back.{length-head_bytes, reads_back}
 pub use Rattle.uip_ipv4.proofs.Facts.{head_facts}
 pub use Rattle.uip_ipv4.specs.Prelude.{IsHeadOf, head_by, payload_of, proto_of}
 unfoldable pub use Rattle.uip_ipv4.specs.Prelude.{head_bytes, head_or_fate}
 pub use Rattle.uip_ipv4.specs.declared.fate.IpFate.{IpFate}
-pub use Rattle.uip_ipv4.specs.declared.head.IpHead.{IpHead}
-pub use Rattle.uip_ipv4.specs.declared.proto.Proto.{Proto}
-pub use Rattle.uip_ipv4.specs.declared.proto.Proto.TheVariants.{Icmp}
-pub use Rattle.uip_node.proofs.Prelude.{Abort, Close, CloseWait, Closed, Closing, Established, FinWait1, FinWait2, LastAck, Nothing, Now, Row, Send, State, SynRcvd, TimeWait, Want}
 pub use Rattle.uip_node.proofs.Basics.{IsPart, and_false, and_true, append_nothing, both_ways, choose, cut_length, cut_part, empty_part, eqb-eq, get_push, in_place, ltb-lt, ltb-yes, ltb-zero, not-false, not-true, nothing_placed, only_some, part_joins, part_none, part_prefix, prefix_joins, prefix_length, prefix_part, same_place, wrap_low, wrap_wrap, zero_or_more}
 pub use Rattle.uip_node.proofs.Basics.AtEnd.{newest, older}
 pub use Rattle.uip_node.proofs.Cases.{asked_by, by_open, by_own_fin, fin_lives, is_ask, no_ask_again, on_tick_by, open_live, wanted_unmoved}
@@ -71,15 +57,14 @@ pub use Rattle.uip_node.proofs.Fits.{FitConn, FitOut, accepted_fits, all_cons, a
 pub use Rattle.uip_node.proofs.Handed.{Heard, hears_is}
 pub use Rattle.uip_node.proofs.Moves.{Moves, asked_moves, segment_moves, tick_moves}
 pub use Rattle.uip_node.proofs.Peers.{asked_keeps, on_segment_keeps, on_tick_closed, on_tick_keeps}
+pub use Rattle.uip_node.proofs.Prelude.{ACK, Abort, Addr, Beat, Close, CloseWait, Closed, Closing, Established, FIN, FinWait1, FinWait2, Icmp, IcmpFate, IpHead, LastAck, Nothing, Now, OWN_MSS, PSH, Proto, RST, Row, SYN, Send, State, Step, SynRcvd, TimeWait, Want, bytes_eq-Decides, common_steps, echo_fate, echo_reply, option_map_or, option_or, position_from-zero}
+unfoldable pub use Rattle.uip_node.proofs.Prelude.{fin_acked, fin_waits, for_no_connection, happened, idles, in_established, on_segment, opens_in, peer_closes, rests_on, stays_established, ticks_established}
 pub use Rattle.uip_node.proofs.SocketPairs.{apart, flip, is_same, not_peer, same_is, same_self, serves_dead, serves_not, serves_yes}
 pub use Rattle.uip_node.proofs.SoundSegments.{IsSoundSegment, Lens, accepted_lens, asked_lens, closed_lens, none_sound, on_segment_lens, on_tick_lens, said_sound}
 pub use Rattle.uip_node.proofs.Steadiness.{steady_of}
 pub use Rattle.uip_node.proofs.Stepped.{stepped_fits, stepped_tells}
 pub use Rattle.uip_node.proofs.Told.{IsDue, Onto, OutTold, Safe, SafeState, StepTells, Still, Tells, alike_refl, alike_sym, alike_trans, due, segment_tells, tick_tells}
 pub use Rattle.uip_node.specs.Prelude.{AbstractNode, Alike, Answer, AnswersIn, Arrived, Echo, EchoAsked, EchoReplied, Event, GoesOnBy, HasBytes, HistoryEntry, IcmpRefused, IpRefused, IsEvent, IsSlice, IsSteady, NoSlot, NodeStep, Overlong, Periodic, Reply, SendsBytes, Silent, Spoke, TcpReply, TcpRefused, arrives, arrives_at, by_head, by_proto, by_segment, connection_in, counters, datagram_to, event_of, gone_by, ident_of, initial_node, initial_number, opens, passes, periodic, raised_by, raised_by_answer, raises, refuses, remembers, run, serving, slot_for_syn, snapshot, step, tick, ticks_of, times}
-unfoldable pub use Rattle.uip_node.specs.Prelude.{for_no_connection, happened, opens_in}
 pub use Rattle.uip_wire.proofs.Folding.{one_byte}
 pub use Rattle.uip_wire.specs.Prelude.{address_at, checksum_of, word_at, wrap}
 unfoldable pub use Rattle.uip_wire.specs.Prelude.{folded}
-pub use Rattle.uip_wire.specs.declared.addr.Addr.{Addr}
-pub use Rattle.uip_wire.specs.declared.sizes.TheConstants.{OWN_MSS}

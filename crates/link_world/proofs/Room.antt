@@ -1,6 +1,6 @@
 -- Acts are refused before there are more than 65,535 datagrams, so a world that is reached has at most that number.
 use Rattle.link_world.proofs.Prelude.{option_or, ◌≡◌, ℕ, suc, ◌+◌, ◌≤◌, Bool, true, false, List, [], ◌∷◌, length, refl, ap, arith, Option, Some, None, ltb, if◌then◌else◌, common_steps, AppSpec, ticks_of, Event, Reply, tick, Arrived, EchoAsked, Echo, TcpReply, NodeStep, step, AbstractClient, ClientStep, client_takes, advertises_window, client_opens, client_again, client_closes, client_aborts, client_acts, does, fault_of, handles_all, named_fault, needs, ping_from, Content, Sent, Side, World, addressed, retires, client_sockets, client_stepped, delivers, epoch_of, marked, node_handles, node_stepped, posts, posts_reply, with_client, with_side, OfSegment, OfPing, OfEcho, Act, StepFault, Full, Who, FromClient, FromNode, Pinger}
-use Rattle.link_world.proofs.Doing.{at_number, where_there}
+use Rattle.link_world.proofs.Doing.{at_number, where_there, delivered_by}
 use Rattle.link_world.proofs.Harmless.{Harmless}
 use Rattle.link_world.proofs.Rounds.{one_longer}
 
@@ -45,19 +45,9 @@ module _ (m : AppSpec) (served : ℕ → Bool) where
   handles_each (e ∷ events) w = (let v = node_handles m served w e in let one = handles_one w e in let rest = handles_each events v in omega (arith, one, rest))
 
   delivers_one : (w : World) (k : ℕ) (e : Sent) (who : Who) (content : Content) → Adds 1 w (delivers m served w k e who content)
-  delivers_one w k e (FromClient number) (OfSegment id s) =
-      at_number (λ v. Adds 1 w v) (λ i side. node_handles m served (with_side w i (marked side k e)) (Arrived (client_sockets side) s)) w.sides number w (same w)
-      (λ n side at. handles_one (with_side w (suc n) (marked side k e)) (Arrived (client_sockets side) s))
-  delivers_one w k e (FromNode number) (OfSegment id s) =
-      at_number (λ v. Adds 1 w v) (λ i side. client_stepped w i (marked side k e) (client_takes side.client s)) w.sides number w (same w)
-      (λ n side at. client_one w (suc n) (marked side k e) (client_takes side.client s))
-  delivers_one w k e Pinger (OfPing datagram) = handles_one w (EchoAsked datagram)
-  delivers_one w k e (FromClient n) (OfPing datagram) = same w
-  delivers_one w k e (FromClient n) (OfEcho request) = same w
-  delivers_one w k e (FromNode n) (OfPing datagram) = same w
-  delivers_one w k e (FromNode n) (OfEcho request) = same w
-  delivers_one w k e Pinger (OfSegment id s) = same w
-  delivers_one w k e Pinger (OfEcho request) = same w
+  delivers_one w k e who content =
+      delivered_by m served (Adds 1 w) w k e who content (same w) (λ n side at s. handles_one (with_side w (suc n) (marked side k e)) (Arrived (client_sockets side) s))
+      (λ n side at s. client_one w (suc n) (marked side k e) (client_takes side.client s)) (λ datagram is. handles_one w (EchoAsked datagram))
 
   acts_one : (w : World) (number : ℕ) (act : AbstractClient → ClientStep) → Adds 1 w (client_acts w number act)
   acts_one w number act = at_number (λ v. Adds 1 w v) (λ i side. client_stepped w i side (act side.client)) w.sides number w (same w) (λ n side at. client_one w (suc n) side (act side.client))

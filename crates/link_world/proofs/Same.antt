@@ -47,6 +47,21 @@ pub record Before (sent : List Sent) (e : Sent) (i : ℕ) : Type 0 where
 before_more : (sent : List Sent) (new e : Sent) (i : ℕ) → Before sent e i → Before (sent ++ new ∷ []) e i
 before_more sent new e i b = record { place = b.place; earlier = b.earlier; it = b.it; there = get_older sent new b.it b.place b.there; who = b.who; epoch = b.epoch; placed = b.placed; seq = b.seq; alike = b.alike }
 
+-- a datagram of the node to a client, in the present epoch
+pub record IsSentTo (k : ℕ) (side : Side) (sent : List Sent) : Type 0 where
+  pub place : ℕ
+  pub it : Sent
+  pub there : slice_get sent place ≡ Some it
+  pub who : it.who ≡ to k
+  pub epoch : it.epoch ≡ length side.history
+  pub placed : occupies_sequence_space (seg it) ≡ true
+
+abbrev sent_more : (k : ℕ) (side : Side) (sent : List Sent) (new : Sent) → IsSentTo k side sent → IsSentTo k side (sent ++ new ∷ [])
+sent_more k side sent new x = record { place = x.place; it = x.it; there = get_older sent new x.it x.place x.there; who = x.who; epoch = x.epoch; placed = x.placed }
+
+abbrev sent_newest : (k : ℕ) (side : Side) (sent : List Sent) (new : Sent) → new.who ≡ to k → new.epoch ≡ length side.history → occupies_sequence_space (seg new) ≡ true → IsSentTo k side (sent ++ new ∷ [])
+sent_newest k side sent new who epoch placed = record { place = length sent; it = new; there = get_newest sent new; who = who; epoch = epoch; placed = placed }
+
 pub record IsOld (c : Connection) (s : PlainSegment) : Type 0 where
   pub at : ℕ
   pub seq : s.seq ≡ wrap (c.iss + at)
@@ -63,13 +78,8 @@ near_by acked c d h = elim (h.place) [ inl e ↦ omega (arith, e) | inr e ↦ om
 module _ (m : AppSpec) (steady : IsSteady m) where
   -- what is outstanding was sent
   pub record WasSent (k : ℕ) (side : Side) (c : Connection) (sent : List Sent) : Type 0 where
-    pub place : ℕ
-    pub it : Sent
-    pub there : slice_get sent place ≡ Some it
-    pub who : it.who ≡ to k
-    pub epoch : it.epoch ≡ length side.history
-    pub placed : occupies_sequence_space (seg it) ≡ true
-    pub due_now : IsDue m steady Any_low (λ p f. tt) c (seg it)
+    pub sent_as : IsSentTo k side sent
+    pub due_now : IsDue m steady Any_low (λ p f. tt) c (seg sent_as.it)
 
   pub record Told (k : ℕ) (side : Side) (c : Connection) (sent : List Sent) : Type 0 where
     pub fit : FitConn c
@@ -96,7 +106,7 @@ module _ (m : AppSpec) (steady : IsSteady m) where
     lens = t.lens;
     room = λ l. (let r = t.room l in omega (arith, r, length-append sent (new ∷ [])));
     safe = t.safe;
-    was_sent = λ l z. (let x = t.was_sent l z in record { place = x.place; it = x.it; there = get_older sent new x.it x.place x.there; who = x.who; epoch = x.epoch; placed = x.placed; due_now = x.due_now });
+    was_sent = λ l z. (let x = t.was_sent l z in record { sent_as = sent_more k side sent new x.sent_as; due_now = x.due_now });
     time = λ j e x w. elim (get_push sent new j e x) [ older h ↦ t.time j e h w | newest i h ↦ (let s = (q (ap (λ n. n.who) h ∙ w)).epoch in subst (λ n. n ≤ length side.history) (ap (λ n. n.epoch) h) s) ];
     tells = λ j e x w p y. elim (get_push sent new j e x) [ older h ↦ t.tells j e h w p y | newest i h ↦ absurd ((q (ap (λ n. n.who) h ∙ w)).unplaced (ap (λ n. occupies_sequence_space (seg n)) h ∙ p)) ];
     repeats = λ j e x w a. elim (get_push sent new j e x) [ older h ↦ before_more sent new e j (t.repeats j e h w a) | newest i h ↦ absurd ((q (ap (λ n. n.who) h ∙ w)).unmarked (ap (λ n. n.again) h ∙ a)) ];
@@ -138,7 +148,10 @@ module _ (m : AppSpec) (steady : IsSteady m) where
     lens = t.lens;
     room = t.room;
     safe = t.safe;
-    was_sent = λ l z. (let x = t.was_sent l z in record { place = x.place; it = x.it; there = x.there; who = x.who; epoch = x.epoch ∙ ap length (sym q); placed = x.placed; due_now = x.due_now });
+    was_sent = λ l z. (let x = t.was_sent l z in let y = x.sent_as in record {
+      sent_as = record { place = y.place; it = y.it; there = y.there; who = y.who; epoch = y.epoch ∙ ap length (sym q); placed = y.placed };
+      due_now = x.due_now;
+    });
     time = λ j e x w. subst (λ p. e.epoch ≤ length p) (sym q) (t.time j e x w);
     tells = λ j e x w p y. t.tells j e x w p (y ∙ ap length q);
     repeats = t.repeats;
@@ -195,16 +208,11 @@ module _ (m : AppSpec) (steady : IsSteady m) where
         let x = t.was_sent live z in
         let y = o.kept z s in
         record {
-          place = x.place;
-          it = x.it;
-          there = x.there;
-          who = x.who;
-          epoch = x.epoch;
-          placed = x.placed;
+          sent_as = x.sent_as;
           due_now = record {
             len = y.0;
             seq = x.due_now.seq ∙ ap (λ n. wrap (n + c.acked)) (sym o.iss) ∙ ap (λ n. wrap (d.iss + n)) (sym s);
-            alike = alike_trans (seg x.it) (due m c.state c) (due m d.state d) x.due_now.alike (alike_sym (due m d.state d) (due m c.state c) y.1);
+            alike = alike_trans (seg x.sent_as.it) (due m c.state c) (due m d.state d) x.due_now.alike (alike_sym (due m d.state d) (due m c.state c) y.1);
           };
         }
 
@@ -261,17 +269,18 @@ module _ (m : AppSpec) (steady : IsSteady m) where
       before_it a =
           let r = h.repeated a in
           let x = t.was_sent live r.0 in
-          let s : (seg x.it).seq ≡ (seg new).seq = x.due_now.seq ∙ ap (λ n. wrap (n + c.acked)) (sym o.iss) ∙ ap (λ n. wrap (d.iss + n)) (sym r.1) ∙ sym h.due_now.seq in
+          let y = x.sent_as in
+          let s : (seg y.it).seq ≡ (seg new).seq = x.due_now.seq ∙ ap (λ n. wrap (n + c.acked)) (sym o.iss) ∙ ap (λ n. wrap (d.iss + n)) (sym r.1) ∙ sym h.due_now.seq in
           record {
-            place = x.place;
-            earlier = get_inside sent x.it x.place x.there;
-            it = x.it;
-            there = get_older sent new x.it x.place x.there;
-            who = x.who ∙ sym who;
-            epoch = x.epoch ∙ sym epoch;
-            placed = x.placed;
+            place = y.place;
+            earlier = get_inside sent y.it y.place y.there;
+            it = y.it;
+            there = get_older sent new y.it y.place y.there;
+            who = y.who ∙ sym who;
+            epoch = y.epoch ∙ sym epoch;
+            placed = y.placed;
             seq = s;
-            alike = alike_trans (seg x.it) (due m c.state c) (seg new) x.due_now.alike
+            alike = alike_trans (seg y.it) (due m c.state c) (seg new) x.due_now.alike
                 (alike_trans (due m c.state c) (due m d.state d) (seg new) (alike_sym (due m d.state d) (due m c.state c) (o.kept r.0 r.1).1) (alike_sym (seg new) (due m d.state d) h.due_now.alike));
           }
 
@@ -281,7 +290,7 @@ module _ (m : AppSpec) (steady : IsSteady m) where
         lens = lens;
         room = λ x. (let r = t.room live in let n = lens.len in omega (arith, near, r, n, length-append sent (new ∷ [])));
         safe = λ x. f;
-        was_sent = λ x z. record { place = length sent; it = new; there = get_newest sent new; who = who; epoch = epoch; placed = placed; due_now = h.due_now };
+        was_sent = λ x z. record { sent_as = sent_newest k side sent new who epoch placed; due_now = h.due_now };
         time = λ j e x w. elim (get_push sent new j e x) [ older g ↦ t.time j e g w | newest i g ↦ (let q : e.epoch ≡ length side.history = ap (λ n. n.epoch) (sym g) ∙ epoch in omega (arith, q)) ];
         tells = λ j e x w p q. elim (get_push sent new j e x) [
           | older g ↦ tells_on j e g w p q
@@ -344,7 +353,7 @@ module _ (m : AppSpec) (steady : IsSteady m) where
         lens = accepted_lens iss sockets (seg e);
         room = λ l. omega (arith, length-append w.sent (new ∷ []));
         safe = λ l. record { mss = mss_some (seg e).mss; initial = mss_some (seg e).mss; state = record { len = refl; acked = refl } };
-        was_sent = λ x z. record { place = length w.sent; it = new; there = get_newest w.sent new; who = refl; epoch = refl; placed = refl; due_now = due_now };
+        was_sent = λ x z. record { sent_as = sent_newest k side w.sent new refl refl refl; due_now = due_now };
         time = λ i x g wh. elim (get_push w.sent new i x g) [ older h ↦ t.time i x h wh | newest b h ↦ (let q : x.epoch ≡ length side.history = ap (λ n. n.epoch) (sym h) in omega (arith, q)) ];
         tells = λ i x g wh p q. elim (get_push w.sent new i x g) [ older h ↦ absurd (none i x h wh p q) | newest b h ↦ (refl, inr (subst (λ n. IsDue m steady Any_low (λ p f. tt) c (seg n)) h due_now)) ];
         repeats = λ i x g wh a. elim (get_push w.sent new i x g) [ older h ↦ before_more w.sent new x i (t.repeats i x h wh a) | newest b h ↦ absurd (let z : false ≡ true = ap (λ n. n.again) h ∙ a in cc) ];

@@ -1,6 +1,6 @@
 -- Each datagram is a client's, a pinger's or the node's, and the node sends to clients alone.
 use Rattle.link_world.proofs.Prelude.{◌≡◌, ℕ, zero, suc, Bool, true, false, ◌&&◌, List, [], ◌∷◌, ◌++◌, map, set, refl, sym, ap, ◌∙◌, subst, arith, Option, Some, None, slice_get, slice_index_or, option_map, option_map_or, slice_get-map, PlainSegment, has_rst, AppSpec, Pages, IsPaged, Sockets, Connection, closed, is_live, serves, same_sockets, is_plain_syn, segment_of, is_again, reset_for_no_connection, Outcome, leaves, asked, accept, on_segment, on_tick, Step, Event, Answer, HistoryEntry, Reply, Arrived, EchoAsked, Periodic, Silent, Spoke, NoSlot, Echo, TcpReply, initial_number, ident_of, AbstractNode, NodeStep, snapshot, happened, connection_in, slot_for_syn, passes, refuses, opens_in, opens, for_no_connection, arrives_at, step, AbstractClient, ClientStep, client_takes, client_opens, client_again, client_closes, client_aborts, advertises_window, Setup, World, Side, Sent, Content, client_sockets, retires, retires_in, addressed, posts, posts_reply, node_stepped, node_handles, with_client, with_side, client_stepped, marked, delivers, OfSegment, OfPing, OfEcho, ping_from, client_acts, handles_all, does, serving, Planned, initial_world, Act, Who, FromClient, FromNode, Pinger, IsLoss, IsReached, IsNumberOf, IsSentBy, SentToClients, both_ways, choose, only_some, and_true, get_push, older, newest, get_set, get_set_same, find_is, index_of, all_closed, here, there, finds, finds_none, same_is, asked_keeps, on_segment_keeps, on_tick_keeps, on_tick_closed}
-use Rattle.link_world.proofs.Doing.{at_number, where_there}
+use Rattle.link_world.proofs.Doing.{at_number, where_there, delivered_by}
 use Rattle.link_world.proofs.Sides.{finds_one, buried_sockets}
 use Rattle.link_world.proofs.Setups.{SameSetup, takes_setup, opens_setup, again_setup, closes_setup, aborts_setup}
 use Rattle.link_world.proofs.Harmless.{Harmless}
@@ -260,19 +260,9 @@ module _ (m : AppSpec) (served : ℕ → Bool) where
   echo_from w datagram a h = stepped_from w (step m served w.node (EchoAsked datagram)) record { conns = h.conns; output = λ x e. only_some (λ r. MaySay w.sides w.sent r) (Echo datagram) x e a } h
 
   delivers_from : (w : World) (k : ℕ) (e : Sent) (who : Who) (content : Content) → ((datagram : List ℕ) → content ≡ OfPing datagram → IsAsked w.sent datagram) → HasSenders w → HasSenders (delivers m served w k e who content)
-  delivers_from w k e (FromClient number) (OfSegment id s) a h =
-      at_number HasSenders (λ i side. node_handles m served (with_side w i (marked side k e)) (Arrived (client_sockets side) s)) w.sides number w h
-      (λ n side at. gives_node_from w n k e s side at h)
-  delivers_from w k e (FromNode number) (OfSegment id s) a h =
-      at_number HasSenders (λ i side. client_stepped w i (marked side k e) (client_takes side.client s)) w.sides number w h
-      (λ n side at. client_from w n side (marked side k e) (client_takes side.client s) at (takes_setup side.client s) h)
-  delivers_from w k e Pinger (OfPing datagram) a h = echo_from w datagram (a datagram refl) h
-  delivers_from w k e (FromClient n) (OfPing datagram) a h = h
-  delivers_from w k e (FromClient n) (OfEcho request) a h = h
-  delivers_from w k e (FromNode n) (OfPing datagram) a h = h
-  delivers_from w k e (FromNode n) (OfEcho request) a h = h
-  delivers_from w k e Pinger (OfSegment id s) a h = h
-  delivers_from w k e Pinger (OfEcho request) a h = h
+  delivers_from w k e who content a h =
+      delivered_by m served HasSenders w k e who content h (λ n side at s. gives_node_from w n k e s side at h)
+      (λ n side at s. client_from w n side (marked side k e) (client_takes side.client s) at (takes_setup side.client s) h) (λ datagram is. echo_from w datagram (a datagram is) h)
 
   act_from : (w : World) (number : ℕ) (act : AbstractClient → ClientStep) → ((c : AbstractClient) → SameSetup c (act c)) → HasSenders w → HasSenders (client_acts w number act)
   act_from w number act s h =

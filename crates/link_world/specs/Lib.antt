@@ -2,6 +2,7 @@ pub mod World
 pub mod Bytes
 pub mod Acts
 pub mod Schedule
+pub mod Ends
 pub mod History
 pub mod Headline
 pub mod Parts

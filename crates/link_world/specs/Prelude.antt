@@ -3,6 +3,7 @@ pub use Rattle.link_world.specs.Acts.{acts, client_acts, does, fault_of, handed,
 pub use Rattle.link_world.specs.Acts.{if_idle, is_idle, named_fault, needs, runs, state_at}
 pub use Rattle.link_world.specs.Bytes.{bytes_by, changed, client_bytes, heard_by, hears_datagram, node_bytes, sent_bytes, server_of}
 unfoldable pub use Rattle.link_world.specs.Bytes.{ping_from}
+pub use Rattle.link_world.specs.Ends.{ClientEnd, clean_end, end_of_client, text_of_content, worked_client}
 pub use Rattle.link_world.specs.Headline.{AgainExactly, AgainExactlyPlainly, CountsBy, DamageIsLoss, DamageIsLossThere, IsAct}
 pub use Rattle.link_world.specs.Headline.{IsExpired, IsInStep, IsLoss, IsPlainAct, IsReached, IsReachedPlainly, IsRepeatOf}
 pub use Rattle.link_world.specs.Headline.{IsSchedulePlayed, IsServed, IsWholeDatagram, LinesAreActs, MarksRepeats, OfLine}

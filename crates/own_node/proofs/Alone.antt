@@ -1,17 +1,7 @@
 -- `OwnApp` alone contains itself: a message that is written, and the periodic call of its slot.
-use Rattle.std.specs.List.{All}
-use Rattle.std.proofs.Common.{◌≡◌, ℕ, zero, suc, ◌<◌, ◌==◌, Bool, true, if◌then◌else◌, List, [], ◌∷◌, ◌++◌, length, nat_le, refl, sym, arith}
-use Rattle.std.proofs.lemmas.Bool.{and_parts, false≢true}
-use Rattle.std.proofs.lemmas.List.Elements.{All-nil}
-use Rattle.std.specs.Prelude.{slice_index_or}
-use Rattle.app_events.specs.Prelude.{AppState, IsByte, IsU32}
-use Rattle.tcp_machine.specs.Prelude.{Connection, closed, is_open}
-use Rattle.uip_node.specs.Prelude.{AbstractNode, connection_in}
-use Rattle.uip_node.specs.Node.{periodic}
-use Rattle.own_app.specs.Lemmas.OwnPairs.{own_can_pair}
+use Rattle.own_node.proofs.Prelude.{All, ◌≡◌, ℕ, zero, suc, ◌<◌, ◌==◌, Bool, true, if◌then◌else◌, List, [], ◌∷◌, ◌++◌, length, nat_le, refl, sym, arith, and_parts, false≢true, slice_index_or, AppState, IsByte, IsU32, Connection, closed, is_open, AbstractNode, connection_in, periodic, own_can_pair, HasCaptured, can_write_at, can_write_in, is_ready_at, next_message, All-nil}
 use Rattle.own_app.specs.Prelude.{IsMessage, no_message, numbers_of, own_spec, pending as pending_of, with_written, write_message}
 use Rattle.own_app.proofs.OwnLines.{written_u32}
-use Rattle.own_node.specs.Prelude.{HasCaptured, can_write_at, can_write_in, is_ready_at, next_message}
 use Rattle.own_node.proofs.CaptureLaws.{captures_ready}
 use Rattle.own_node.proofs.Containing.{Contains, view_in, view_node}
 use Rattle.own_node.proofs.ReadingLaws.{IsReady, ready_has}

@@ -1,27 +1,8 @@
 -- The periodic call of its slot captures a message that was written to a connection that is ready.
-use Rattle.std.specs.List.{All}
-use Rattle.std.proofs.Common.{◌≡◌, ℕ, ◌<◌, ◌+◌, ◌%◌, ◌&&◌, Bool, true, false, List, [], ◌∷◌, ◌++◌, drop, length, nat_le, nat_lt, not, refl, sym, ap, ◌∙◌, if◌then◌else◌}
-use Rattle.std.proofs.lemmas.Bool.{and_from, and_parts, eq-eqb, false≢true}
-use Rattle.std.proofs.lemmas.List.{drop-drop}
-use Rattle.app_events.specs.Prelude.{After, AppSpec, AppState, IsByte, Snapshot}
-use Rattle.app_events.specs.declared.now.Now.{Now}
-use Rattle.app_events.specs.declared.state.State.{State}
-use Rattle.app_events.specs.declared.state.State.TheVariants.{Established}
-use Rattle.app_events.specs.declared.want.Want.{Want}
-use Rattle.app_events.specs.declared.want.Want.TheVariants.{Nothing, Send, Close, Abort}
-use Rattle.tcp_machine.specs.Prelude.{Connection, Outcome, asked, closed, does_as_wanted, idles, on_tick, peer_has_closed, polls, prepared, tick_by, ticks_established, waits_for_ack}
+use Rattle.own_node.proofs.Prelude.{All, ◌≡◌, ℕ, ◌<◌, ◌+◌, ◌%◌, ◌&&◌, Bool, true, false, List, [], ◌∷◌, ◌++◌, drop, length, nat_le, nat_lt, not, refl, sym, ap, ◌∙◌, if◌then◌else◌, and_from, and_parts, eq-eqb, false≢true, After, AppSpec, AppState, IsByte, Snapshot, Now, State, Established, Want, Nothing, Send, Close, Abort, Connection, Outcome, asked, closed, does_as_wanted, idles, on_tick, peer_has_closed, polls, prepared, tick_by, ticks_established, waits_for_ack, choose, change_own, own_numbers, CanBePaired, own_part, pair_spec, own_back, two_applications, own_can_pair, message_back, taken_more, HasCaptured, PairsCaptureReadyMessages, ReadyMessagesAreCaptured, called_after, called_in_pair, can_write_at, is_open_state, is_ready_at, next_message, next_message_at, own_connection, with_change, drop-drop, index_of}
 use Rattle.uip_node.specs.Prelude.{AbstractNode, Periodic, connection_in, happened, periodic, snapshot}
-use Rattle.uip_node.proofs.Basics.{choose}
-use Rattle.uip_node.proofs.Connections.{index_of}
 use Rattle.uip_node.proofs.Settling.{get_set}
-use Rattle.app_pair.specs.PairNumbers.{change_own, own_numbers}
-use Rattle.app_pair.specs.PairSpec.{CanBePaired, own_part, pair_spec}
-use Rattle.app_pair.specs.Lemmas.NumberLaws.{own_back}
-use Rattle.app_pair.proofs.PairActs.{two_applications}
-use Rattle.own_app.specs.Lemmas.OwnPairs.{own_can_pair}
 use Rattle.own_app.specs.Prelude.{PlainMessage, bytes_taken, is_next_message, is_own_port, has_last, message_in, messages_text, messages_text_more, numbers_of, opened_in, own_spec, pending as pending_of, with_message, with_written, write_message}
-use Rattle.own_app.proofs.CaptureLaws.{message_back, taken_more}
-use Rattle.own_node.specs.Prelude.{HasCaptured, PairsCaptureReadyMessages, ReadyMessagesAreCaptured, called_after, called_in_pair, can_write_at, is_open_state, is_ready_at, next_message, next_message_at, own_connection, with_change}
 use Rattle.own_node.proofs.ReadingLaws.{IsReady, ready_has}
 
 -- ---- the part of the connection after the application was asked

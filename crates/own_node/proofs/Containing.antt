@@ -1,15 +1,5 @@
 -- An application of which `OwnApp` is all, or one part: what `OwnApp` sees of the connections and numbers of a node.
-use Rattle.std.proofs.Common.{◌≡◌, ◌∙◌, ℕ, zero, suc, Bool, true, false, List, [], ◌∷◌, drop, if◌then◌else◌, map, refl, sym, ap}
-use Rattle.std.specs.Prelude.{slice_index_or, slice_set}
-use Rattle.app_events.specs.Prelude.{After, AppSpec, AppState}
-use Rattle.app_events.specs.declared.ending.Ending.{Ending}
-use Rattle.app_events.specs.declared.now.Now.{Now}
-use Rattle.app_events.specs.declared.state.State.{State}
-use Rattle.app_events.specs.declared.state.State.TheVariants.{SynRcvd}
-use Rattle.tcp_machine.specs.Prelude.{Connection, closed, is_open}
-use Rattle.uip_node.specs.Prelude.{AbstractNode, connection_in}
-use Rattle.own_app.specs.Prelude.{next_ticket, own_spec}
-use Rattle.own_node.specs.Written.{is_accepted}
+use Rattle.own_node.proofs.Prelude.{◌≡◌, ◌∙◌, ℕ, zero, suc, Bool, true, false, List, [], ◌∷◌, drop, if◌then◌else◌, map, refl, sym, ap, slice_index_or, slice_set, After, AppSpec, AppState, Ending, Now, State, SynRcvd, Connection, closed, is_open, AbstractNode, connection_in, next_ticket, own_spec, is_accepted}
 
 module _ (mine : ℕ → Bool) (seen : AppState → AppState) (own : List ℕ → List ℕ) where
   -- A call leaves the port; at a port of `OwnApp` also its ticket and its captures; and the numbers of `OwnApp`.

@@ -1,20 +1,6 @@
 -- A pair of which `OwnApp` is the second contains it: a message that is written, and the periodic call of its slot.
-use Rattle.std.specs.List.{All}
-use Rattle.std.proofs.Common.{◌≡◌, ◌∙◌, ℕ, ◌&&◌, ◌==◌, Bool, true, false, not, if◌then◌else◌, List, [], ◌++◌, refl, sym, ap, subst}
-use Rattle.std.proofs.lemmas.Bool.{false≢true}
-use Rattle.app_events.specs.Prelude.{After, AppSpec, AppState, IsByte, Snapshot}
-use Rattle.tcp_machine.specs.Prelude.{Connection, closed}
-use Rattle.uip_node.specs.Prelude.{AbstractNode, connection_in}
-use Rattle.uip_node.specs.Node.{periodic}
-use Rattle.uip_node.proofs.Basics.{both_ways}
-use Rattle.app_pair.specs.PairNumbers.{change_own, own_numbers}
-use Rattle.app_pair.specs.PairSpec.{CanBePaired, own_part, pair_spec}
+use Rattle.own_node.proofs.Prelude.{All, ◌≡◌, ◌∙◌, ℕ, ◌&&◌, ◌==◌, Bool, true, false, not, if◌then◌else◌, List, [], ◌++◌, refl, sym, ap, subst, false≢true, After, AppSpec, AppState, IsByte, Snapshot, Connection, closed, AbstractNode, connection_in, periodic, both_ways, change_own, own_numbers, CanBePaired, own_part, pair_spec, own_back, two_applications, own_can_pair, IsMessage, PlainMessage, is_own_port, own_spec, write_message, HasCaptured, can_write_at, is_open_state, next_message_at, own_connection, seen_in_pair, with_change}
 use Rattle.app_pair.specs.TwoApplications.{ActsAs}
-use Rattle.app_pair.specs.Lemmas.NumberLaws.{own_back}
-use Rattle.app_pair.proofs.PairActs.{two_applications}
-use Rattle.own_app.specs.Lemmas.OwnPairs.{own_can_pair}
-use Rattle.own_app.specs.Prelude.{IsMessage, PlainMessage, is_own_port, own_spec, write_message}
-use Rattle.own_node.specs.Prelude.{HasCaptured, can_write_at, is_open_state, next_message_at, own_connection, seen_in_pair, with_change}
 use Rattle.own_node.proofs.Alone.{open_inside, ready_of}
 use Rattle.own_node.proofs.CaptureLaws.{called_part, pairs_capture}
 use Rattle.own_node.proofs.Containing.{Contains, Keeps, view_in, view_node, view_own}

@@ -8,3 +8,4 @@ pub mod InPair
 pub mod ReadingLaws
 pub mod CaptureLaws
 pub mod OpenPorts
+mod Prelude

@@ -1,17 +1,12 @@
 -- A connection opens only at the port that its frame is for.
-use Rattle.std.proofs.Common.{◌≡◌, ◌∙◌, ℕ, ◌+◌, ◌-◌, ◌%◌, ◌<◌, ◌≤◌, ◌&&◌, ◌||◌, Bool, true, false, not, eqb, ltb, List, [], ◌∷◌, ◌++◌, drop, length, length-drop, length-take, take, Option, Some, None, refl, sym, ap, subst, arith}
-use Rattle.std.proofs.lemmas.Bool.{and_from, and_parts, eq-eqb, eqb-true, false≢true, le-leb, ltb-false}
+use Rattle.own_node.proofs.Prelude.{◌≡◌, ◌∙◌, ℕ, ◌+◌, ◌-◌, ◌%◌, ◌<◌, ◌≤◌, ◌&&◌, ◌||◌, Bool, true, false, if◌then◌else◌, not, eqb, ltb, List, [], ◌∷◌, ◌++◌, drop, length, length-drop, length-take, take, Option, Some, None, refl, sym, ap, subst, arith, and_from, and_parts, eq-eqb, eqb-true, false≢true, le-leb, ltb-false, get_or-drop, get_or-take, All-head, All-tail, AppSpec, is_open_port, with_port, choose, find_is, finds, finds_none, index_of, initial_number, Arrived, EchoAsked, IcmpRefused, IpRefused, Overlong, Periodic, TcpRefused}
 use Rattle.std.proofs.lemmas.Grind.{common_steps}
-use Rattle.std.proofs.lemmas.List.{get_or-drop, get_or-take}
-use Rattle.std.proofs.lemmas.List.Elements.{All-head, All-tail}
 use Rattle.std.specs.List.{All}
 use Rattle.std.specs.Option.{option_map_or}
-use Rattle.std.specs.Prelude.{Result, position, slice_index, slice_index_or, slice_range}
+use Rattle.std.specs.Prelude.{Result, Ok, Err, position, slice_index, slice_index_or, slice_range}
 use Rattle.std.specs.Str.{bytes_eq}
-use Rattle.app_events.specs.Prelude.{AppSpec}
 use Rattle.icmp_echo.specs.Prelude.{echo_fate}
 use Rattle.icmp_echo.specs.declared.fate.IcmpFate.{IcmpFate}
-use Rattle.own_app.specs.Prelude.{is_open_port, with_port}
 use Rattle.own_node.specs.Ports.{carries_segment, is_for_closed_port, target_port}
 use Rattle.own_node.proofs.Slots.{each_closed, each_set}
 use Rattle.tcp_machine.specs.Prelude.{Connection, Outcome, Sockets, accept, asked, closed, is_live, is_plain_syn, on_segment, on_tick, same_sockets, serves}
@@ -24,12 +19,9 @@ use Rattle.uip_ipv4.specs.declared.fate.IpFate.{IpFate}
 use Rattle.uip_ipv4.specs.declared.head.IpHead.{IpHead}
 use Rattle.uip_ipv4.specs.declared.proto.Proto.{Proto}
 use Rattle.uip_ipv4.specs.declared.proto.Proto.TheVariants.{Icmp, Tcp}
-use Rattle.uip_node.proofs.Basics.{choose}
-use Rattle.uip_node.proofs.Connections.{find_is, finds, finds_none, index_of}
+use Rattle.uip_ipv4.proofs.Facts.{facts_at}
 use Rattle.uip_node.proofs.Peers.{asked_keeps, on_segment_keeps, on_tick_closed, on_tick_keeps}
 use Rattle.uip_node.proofs.SocketPairs.{same_is}
-use Rattle.uip_node.specs.Counters.{initial_number}
-use Rattle.uip_node.specs.Events.Event.{Arrived, EchoAsked, IcmpRefused, IpRefused, Overlong, Periodic, TcpRefused}
 use Rattle.uip_node.specs.Laws.{serving}
 use Rattle.uip_node.specs.Node.{arrives_at, for_no_connection, happened, opens, opens_in, slot_for_syn, snapshot}
 use Rattle.uip_node.specs.Prelude.{AbstractNode, Event, NodeStep, by_head, by_segment, connection_in, event_of, initial_node, run, step}
@@ -38,15 +30,15 @@ use Rattle.uip_wire.specs.declared.addr.Addr.{Addr}
 
 -- ---- the event of a datagram
 
+-- what is known of the sockets of a segment that arrives, and nothing of another event
+abbrev pub OfSegment : (Sockets → Type 0) → Event → Type 0
+OfSegment P (Arrived p s) = P p
+OfSegment P _ = Unit {0}
+
 -- a datagram with a segment has no options, and the segment is to this port
 abbrev pub IsTo : List ℕ → Event → Type 0
-IsTo bytes (Arrived p s) = (24 ≤ length bytes) × (slice_index bytes 0 ≡ 69) × (slice_index bytes 9 ≡ 6) × (p.own_port.0 ≡ word_at bytes 22)
-IsTo bytes (IpRefused fate) = Unit {0}
-IsTo bytes (IcmpRefused fate) = Unit {0}
-IsTo bytes (TcpRefused fate) = Unit {0}
-IsTo bytes (EchoAsked datagram) = Unit {0}
-IsTo bytes Overlong = Unit {0}
-IsTo bytes (Periodic slot) = Unit {0}
+IsTo bytes event =
+    OfSegment (λ p. (24 ≤ length bytes) × (slice_index bytes 0 ≡ 69) × (slice_index bytes 9 ≡ 6) × (p.own_port.0 ≡ word_at bytes 22)) event
 
 same_number : (a b : ℕ) → not (eqb a b) ≡ false → a ≡ b
 same_number a b h = grind (arith, common_steps)
@@ -87,29 +79,29 @@ head_to bytes version =
     choose P (eqb (slice_index bytes 9) 1) _ _ (λ e. echo_to bytes (echo_fate (payload_of (head Icmp) bytes)) (take (word_at bytes 2) bytes))
     (λ e. choose P (eqb (slice_index bytes 9) 6) _ _ (λ f. segment_to (head Tcp) bytes (address_at bytes 12) (address_at bytes 16) (word_at bytes 2) version (eqb-true (slice_index bytes 9) 6 f)) (λ f. tt))
 
-pub bytes_to : (own : Addr) (bytes : List ℕ) → IsTo bytes (event_of own bytes)
+-- a header that was read has this version and length
+second_passed : (short version : Bool) (first second : IpFate) (rest : Result IpHead IpFate) (head : IpHead) → (if short then Err first else if version then Err second else rest) ≡ Ok head → version ≡ false
+second_passed true version first second rest head e = absurd (cc)
+second_passed false true first second rest head e = absurd (cc)
+second_passed false false first second rest head e = refl
+
+version_is : (own bytes : List ℕ) (head : IpHead) → head_or_fate bytes own ≡ Ok head → slice_index bytes 0 ≡ 69
 unfolding head_or_fate
-bytes_to own bytes =
-    let P : Result IpHead IpFate → Type 0 = λ r. IsTo bytes (by_head bytes r) in
-    choose P (ltb (length bytes) 20) _ _ (λ e. tt)
-    (λ e. choose P (not (eqb (slice_index bytes 0) 69)) _ _ (λ f. tt)
-    (λ f. choose P (ltb (word_at bytes 2) 20 || ltb (length bytes) (word_at bytes 2)) _ _ (λ g. tt)
-    (λ g. choose P (not (eqb (word_at bytes 6 % 16384) 0)) _ _ (λ i. tt)
-    (λ i. choose P (not (eqb (checksum_of (take 20 bytes)) 0)) _ _ (λ j. tt)
-    (λ j. choose P (not (bytes_eq (address_at bytes 16) own.0)) _ _ (λ k. tt)
-    (λ k. head_to bytes (same_number (slice_index bytes 0) 69 f)))))))
+version_is own bytes head e = same_number (slice_index bytes 0) 69 (second_passed _ _ _ _ _ head e)
+
+pub bytes_to : (own : Addr) (bytes : List ℕ) → IsTo bytes (event_of own bytes)
+bytes_to own bytes = by (head_or_fate bytes own.0) refl
+  where
+    by : (r : Result IpHead IpFate) → head_or_fate bytes own.0 ≡ r → IsTo bytes (by_head bytes r)
+    by (Err fate) e = tt
+    by (Ok head) e =
+        subst (λ (r : Result IpHead IpFate). IsTo bytes (by_head bytes r)) (facts_at own.0 bytes head e).fields (head_to bytes (version_is own.0 bytes head e))
 
 -- ---- the event of a frame that is not dropped
 
 -- a segment is to a port of these
 abbrev pub IsAt : (ℕ → Bool) → Event → Type 0
-IsAt Q (Arrived p s) = Q p.own_port.0 ≡ true
-IsAt Q (IpRefused fate) = Unit {0}
-IsAt Q (IcmpRefused fate) = Unit {0}
-IsAt Q (TcpRefused fate) = Unit {0}
-IsAt Q (EchoAsked datagram) = Unit {0}
-IsAt Q Overlong = Unit {0}
-IsAt Q (Periodic slot) = Unit {0}
+IsAt Q event = OfSegment (λ p. Q p.own_port.0 ≡ true) event
 
 carries : (frame : List ℕ) → word_at frame 12 ≡ 2048 → 24 ≤ length (drop 14 frame) → slice_index (drop 14 frame) 0 ≡ 69 → slice_index (drop 14 frame) 9 ≡ 6 → carries_segment frame ≡ true
 carries frame kind long version protocol =

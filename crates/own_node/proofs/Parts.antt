@@ -1,21 +1,8 @@
 -- What a step of a connection does to the ticket and to the captures of `OwnApp`.
-use Rattle.std.proofs.Common.{◌≡◌, ◌∙◌, ℕ, ◌&&◌, ◌⊎◌, inl, inr, Bool, true, false, not, List, [], ◌∷◌, ◌+◌, drop, length, nat_lt, refl, sym, ap, subst}
-use Rattle.std.proofs.lemmas.Bool.{false≢true}
+use Rattle.own_node.proofs.Prelude.{◌≡◌, ◌∙◌, ℕ, ◌&&◌, ◌⊎◌, inl, inr, Bool, true, false, not, List, [], ◌∷◌, ◌+◌, drop, length, nat_lt, refl, sym, ap, subst, false≢true, PlainSegment, has_fin, has_rst, After, AppSpec, AppState, Ending, Now, State, Closed, SynRcvd, Established, CloseWait, FinWait1, FinWait2, Closing, TimeWait, LastAck, Want, Nothing, Send, Close, Abort, Connection, Outcome, Sockets, asked, by_beat, by_state, does_as_wanted, fin_acked, fin_waits, has_text, hears, idles, in_established, in_state, is_acked, is_open, is_out_of_order, on_segment, on_tick, peer_closes, peer_has_closed, prepared, rests, stays_established, takes, told_end, with_part, both_ways, choose, Unmoved, asked_by, by_own_fin, is_ask, no_ask_again, on_tick_by, wanted_unmoved, next_ticket, own_spec}
 use Rattle.rexmit_timer.specs.declared.timer.Beat.{Beat}
-use Rattle.tcp_segment.specs.Prelude.{PlainSegment, has_fin, has_rst}
-use Rattle.app_events.specs.Prelude.{After, AppSpec, AppState}
-use Rattle.app_events.specs.declared.ending.Ending.{Ending}
 use Rattle.app_events.specs.declared.ending.Ending.TheVariants.{Reset, TimedOut}
-use Rattle.app_events.specs.declared.now.Now.{Now}
-use Rattle.app_events.specs.declared.state.State.{State}
-use Rattle.app_events.specs.declared.state.State.TheVariants.{Closed, SynRcvd, Established, CloseWait, FinWait1, FinWait2, Closing, TimeWait, LastAck}
-use Rattle.app_events.specs.declared.want.Want.{Want}
-use Rattle.app_events.specs.declared.want.Want.TheVariants.{Nothing, Send, Close, Abort}
-use Rattle.tcp_machine.specs.Prelude.{Connection, Outcome, Sockets, asked, by_beat, by_state, does_as_wanted, fin_acked, fin_waits, has_text, hears, idles, in_established, in_state, is_acked, is_open, is_out_of_order, on_segment, on_tick, peer_closes, peer_has_closed, prepared, rests, stays_established, takes, told_end, with_part}
 use Rattle.tcp_machine.specs.declared.step.Step.{Step}
-use Rattle.uip_node.proofs.Basics.{both_ways, choose}
-use Rattle.uip_node.proofs.Cases.{Unmoved, asked_by, by_own_fin, is_ask, no_ask_again, on_tick_by, wanted_unmoved}
-use Rattle.own_app.specs.Prelude.{next_ticket, own_spec}
 use Rattle.own_node.proofs.Containing.{Contains, Keeps, elsewhere, elsewhere_part, elsewhere_shut, elsewhere_syn, own_view, still, then_keeps, view, view_other, view_own}
 
 -- ---- as `OwnApp` sees them

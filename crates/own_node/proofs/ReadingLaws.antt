@@ -1,19 +1,11 @@
 -- What is read of a connection by its value is what the definitions give for the abstract one.
-use Rattle.std.proofs.Common.{◌≡◌, ℕ, ◌&&◌, ◌==◌, not, true, false, Bool, List, [], Option, Some, None, refl, sym, ap, ◌∙◌, subst, arith, if◌then◌else◌, length, nat_le, MatchOption}
+use Rattle.own_node.proofs.Prelude.{◌≡◌, ℕ, ◌&&◌, ◌==◌, not, true, false, Bool, List, [], Option, Some, None, refl, sym, ap, ◌∙◌, subst, arith, if◌then◌else◌, length, nat_le, MatchOption, slice_get, State, Closed, SynRcvd, Established, CloseWait, FinWait1, FinWait2, Closing, TimeWait, LastAck, and_parts, eqb-true, false≢true, Connection, closed, ConnRepresents, is_live, AbstractNode, SlotsRepresent, connection_in, nothing_left, SeesOwn, can_write_at, can_write_by, is_established, is_open_state, is_ready_at, is_ready_by, message_by, next_message_at, pending_at, pending_by, port_at, port_by}
 use Rattle.std.specs.Borrow.{Bor}
-use Rattle.std.specs.Prelude.{slice_get}
 use Rattle.std.proofs.lemmas.Option.{slice_get-get_or, slice_get_within}
 use Rattle.app_events.specs.declared.app.App.{Ghosts}
-use Rattle.app_events.specs.declared.state.State.{State}
 use Rattle.tcp_table.specs.declared.conn.Conn.{Conn}
-use Rattle.app_events.specs.declared.state.State.TheVariants.{Closed, SynRcvd, Established, CloseWait, FinWait1, FinWait2, Closing, TimeWait, LastAck}
-use Rattle.std.proofs.lemmas.Bool.{and_parts, eqb-true, false≢true}
-use Rattle.tcp_machine.specs.Prelude.{Connection, closed, ConnRepresents, is_live}
-use Rattle.uip_node.specs.Prelude.{AbstractNode, SlotsRepresent, connection_in}
 use Rattle.own_app.specs.Prelude.{OwnRepresents, not_true, state_of, has_last, is_overrun, len_left, pending as pending_of}
 use Rattle.own_app.specs.declared.app.OwnApp.{OwnApp}
-use Rattle.own_app.proofs.CaptureLaws.{nothing_left}
-use Rattle.own_node.specs.Prelude.{SeesOwn, can_write_at, can_write_by, is_established, is_open_state, is_ready_at, is_ready_by, message_by, next_message_at, pending_at, pending_by, port_at, port_by}
 
 -- what a connection of the code with a value of `OwnApp` has of the abstract one, as `OwnApp` sees it
 pub record HasOwnConn (state : State) (len port : ℕ) (app : OwnApp) (a : Connection) : Type 0 where

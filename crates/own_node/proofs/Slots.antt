@@ -1,16 +1,5 @@
 -- What an event does to the slots of a node, as `OwnApp` sees them.
-use Rattle.std.proofs.Common.{◌≡◌, ◌∙◌, ℕ, zero, suc, ◌&&◌, Bool, true, false, if◌then◌else◌, List, [], ◌∷◌, Option, Some, None, refl, sym, ap, subst, arith}
-use Rattle.std.specs.Prelude.{position, replicate, slice_index_or, slice_set}
-use Rattle.tcp_segment.specs.Prelude.{PlainSegment, has_rst}
-use Rattle.app_events.specs.Prelude.{AppSpec, AppState}
-use Rattle.app_events.specs.declared.state.State.TheVariants.{SynRcvd}
-use Rattle.tcp_machine.specs.Prelude.{Connection, Outcome, Sockets, accepted, asked, closed, is_plain_syn, on_segment, on_tick, serves}
-use Rattle.uip_wire.specs.declared.addr.Addr.{Addr}
-use Rattle.uip_node.specs.Prelude.{AbstractNode, Event, NodeStep, connection_in, initial_node, step}
-use Rattle.uip_node.specs.Node.{arrives_at, for_no_connection, happened, opens, opens_in, periodic, slot_for_syn, snapshot}
-use Rattle.uip_node.specs.Counters.{initial_number}
-use Rattle.uip_node.specs.Events.Event.{Arrived, EchoAsked, IcmpRefused, IpRefused, Overlong, Periodic, TcpRefused}
-use Rattle.uip_node.proofs.Basics.{choose}
+use Rattle.own_node.proofs.Prelude.{◌≡◌, ◌∙◌, ℕ, zero, suc, ◌&&◌, Bool, true, false, if◌then◌else◌, List, [], ◌∷◌, Option, Some, None, refl, sym, ap, subst, arith, position, replicate, slice_index_or, slice_set, PlainSegment, has_rst, AppSpec, AppState, SynRcvd, Connection, Outcome, Sockets, accepted, asked, closed, is_plain_syn, on_segment, on_tick, serves, Addr, AbstractNode, Event, NodeStep, connection_in, initial_node, step, arrives_at, for_no_connection, happened, opens, opens_in, periodic, slot_for_syn, snapshot, choose, initial_number, Arrived, EchoAsked, IcmpRefused, IpRefused, Overlong, Periodic, TcpRefused}
 use Rattle.own_node.proofs.Containing.{Contains, elsewhere, own_view, view, view_in, view_node, view_set}
 use Rattle.own_node.proofs.Parts.{AskedPart, IsAtPort, OutParts, Stepped, segment_step, tick_step}
 

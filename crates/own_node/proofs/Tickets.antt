@@ -1,14 +1,7 @@
 -- The ticket of each connection is a number of 32 bits, and so are the numbers of a message that can be written.
-use Rattle.std.specs.List.{All}
-use Rattle.std.proofs.Common.{◌≡◌, ◌∙◌, ℕ, ◌≤◌, inl, inr, Bool, true, false, List, if◌then◌else◌, length, nat_le, refl, sym, ap, subst, arith}
-use Rattle.std.proofs.lemmas.Bool.{and_parts, leb-true, ltb-false}
-use Rattle.app_events.specs.Prelude.{AppState, IsByte, IsU32}
-use Rattle.app_events.specs.declared.now.Now.{Now}
-use Rattle.tcp_machine.specs.Prelude.{Connection, Outcome}
-use Rattle.uip_node.specs.Prelude.{AbstractNode, connection_in}
+use Rattle.own_node.proofs.Prelude.{All, ◌≡◌, ◌∙◌, ℕ, ◌≤◌, inl, inr, Bool, true, false, List, if◌then◌else◌, length, nat_le, refl, sym, ap, subst, arith, and_parts, leb-true, ltb-false, AppState, IsByte, IsU32, Now, Connection, Outcome, AbstractNode, connection_in, can_write_in, is_ready_at, next_message}
 use Rattle.own_app.specs.Prelude.{IsMessage, is_next_message, message_in, own_spec, pending as pending_of, with_message}
 use Rattle.own_app.specs.declared.TheConstants.{RECEIVED_ROOM}
-use Rattle.own_node.specs.Prelude.{can_write_in, is_ready_at, next_message}
 use Rattle.own_node.proofs.ReadingLaws.{IsReady, ready_has}
 use Rattle.own_node.proofs.Parts.{AskedPart, OutParts}
 use Rattle.own_node.proofs.Parts.OutParts.{opened, same}

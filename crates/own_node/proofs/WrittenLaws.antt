@@ -1,23 +1,7 @@
 -- What a connection of `OwnApp` captured is what the program wrote to it, for fewer than 2^32 calls.
-use Rattle.std.specs.List.{All}
-use Rattle.std.proofs.Common.{◌≡◌, ◌∙◌, ℕ, ◌+◌, ◌<◌, ◌≤◌, ◌%◌, ◌==◌, ◌⊎◌, inl, inr, Bool, true, false, List, [], ◌∷◌, ◌++◌, append-nil, drop, if◌then◌else◌, length, length-append, nat_le, refl, sym, ap, subst, arith}
-use Rattle.std.proofs.lemmas.Bool.{and_parts, eq-eqb, eqb-true, false≢true}
-use Rattle.std.specs.Prelude.{slice_index_or, slice_set}
-use Rattle.app_events.specs.Prelude.{AppSpec, AppState, IsByte, Snapshot}
-use Rattle.app_events.specs.declared.now.Now.{Now}
-use Rattle.app_events.specs.declared.state.State.{State}
-use Rattle.app_events.specs.declared.state.State.TheVariants.{Closed, SynRcvd, Established, CloseWait, FinWait1, FinWait2, Closing, TimeWait, LastAck}
-use Rattle.tcp_machine.specs.Prelude.{Connection, Outcome, closed, is_open}
-use Rattle.uip_wire.specs.declared.addr.Addr.{Addr}
-use Rattle.uip_node.specs.Prelude.{AbstractNode, Event, connection_in, initial_node, run, step}
-use Rattle.uip_node.specs.Node.{periodic}
-use Rattle.uip_node.proofs.Basics.{both_ways}
-use Rattle.uip_node.proofs.Cases.{is_ask}
+use Rattle.own_node.proofs.Prelude.{All, ◌≡◌, ◌∙◌, ℕ, ◌+◌, ◌<◌, ◌≤◌, ◌%◌, ◌==◌, ◌⊎◌, inl, inr, Bool, true, false, List, [], ◌∷◌, ◌++◌, append-nil, drop, if◌then◌else◌, length, length-append, nat_le, refl, sym, ap, subst, arith, and_parts, eq-eqb, eqb-true, false≢true, slice_index_or, slice_set, AppSpec, AppState, IsByte, Snapshot, Now, State, Closed, SynRcvd, Established, CloseWait, FinWait1, FinWait2, Closing, TimeWait, LastAck, Connection, Outcome, closed, is_open, Addr, AbstractNode, Event, connection_in, initial_node, run, step, periodic, both_ways, is_ask, message_back, HasCaptured, can_write_at, can_write_in, is_ready_at, next_message, next_message_at, with_change, is_accepted}
 use Rattle.own_app.specs.Prelude.{IsMessage, PlainMessage, is_next_message, message_in, messages_text, next_ticket, no_message, numbers_of, opened_in, own_spec, pending as pending_of, with_message, with_written, write_message}
-use Rattle.own_app.proofs.CaptureLaws.{message_back}
-use Rattle.own_node.specs.Prelude.{HasCaptured, can_write_at, can_write_in, is_ready_at, next_message, next_message_at, with_change}
 use Rattle.own_node.proofs.ReadingLaws.{IsReady, ready_has}
-use Rattle.own_node.specs.Written.{is_accepted}
 use Rattle.own_node.proofs.Parts.{AskedPart, IsAtPort}
 use Rattle.own_node.proofs.Parts.OutParts.{opened, same}
 use Rattle.own_node.proofs.Containing.{Contains, view, view_accepted, view_closed, view_in, view_node}

@@ -1,15 +1,13 @@
 //! `pack`: files to an image.
 
 ghost use Rattle.std.specs.Prelude.{◌≡◌};
-ghost use Rattle.site_commands.specs.Prelude.{pack_due, Ends, Makes};
-ghost use Rattle.uip_edge.specs.Prelude.{work_view, shelf_view};
+ghost use Rattle.site_commands.specs.Prelude.{pack_due, Ends};
+ghost use Rattle.uip_edge.specs.Prelude.{work_view};
 
 use crate::finish::finish;
 use crate::gathering::gather;
-use crate::halt::Halt;
 use crate::imaging::{imaged, refused};
 use crate::named_file::NamedFile;
-use crate::outcome::Outcome;
 use crate::site_end::SiteEnd;
 use std::alloc::Global;
 use uip_edge::{Shelf, Sink};
@@ -25,16 +23,8 @@ pub fn pack<H: Shelf, K: Sink>(
         (work_view H.Shelf K.Sink shelf.new out.new) result }
     ensures kept { H.held shelf.new ≡ H.held shelf.old }
 {
-    finish(make(alloc, files, shelf), out)
-}
-
-/// Makes the image, or returns the first fault of the list with nothing to write.
-fn make<H: Shelf>(alloc: Global, files: &[NamedFile], shelf: &mut H) -> Result<Outcome, Halt>
-    ensures made { Makes (pack_due files.now) (shelf_view H.Shelf shelf.old) (shelf_view H.Shelf shelf.new) result }
-    ensures kept { H.held shelf.new ≡ H.held shelf.old }
-{
     match gather(alloc, files, shelf) {
-        Ok(list) => imaged(alloc, file_tree::pack(alloc, &list)),
-        Err(fault) => refused(alloc, fault),
+        Ok(list) => finish(imaged(alloc, file_tree::pack(alloc, &list)), out),
+        Err(fault) => finish(refused(alloc, fault), out),
     }
 }

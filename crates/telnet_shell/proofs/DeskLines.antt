@@ -1,5 +1,5 @@
 -- What the desk satisfies on a line.
-use Rattle.telnet_shell.proofs.Prelude.{All, ◌≡◌, ℕ, ◌==◌, ◌≤◌, Bool, true, false, inl, inr, List, [], length, refl, sym, ap, ◌∙◌, subst, append-nil, if◌then◌else◌, eqb-true, IsByte, IsPaged, MayWant, AppState, Now, File, SiteContent, IsLoaded, files_of, pages_of, is_served, web_spec, made_of_bytes, keeps_page_laws, Paged, Interactive, Free, AcceptsPrefix, IsPagedAt, FollowsPagesAt, LeavesDelivered, HasOutputModel, FollowsModelAt, SendsBytes, page_bytes, TELNET_PORT, DeskSpeaksOnLines, desk_output_model, desk_spec, DoesAs, is_stopped, shell_spec, take_capture, session, DeliversPrefix, sessions, KeepsPort}
+use Rattle.telnet_shell.proofs.Prelude.{All, ◌≡◌, ℕ, ◌==◌, ◌≤◌, Bool, true, false, inl, inr, List, [], length, refl, sym, ap, ◌∙◌, subst, append-nil, if◌then◌else◌, eqb-true, IsByte, IsPaged, MayWant, AppState, Now, File, SiteContent, IsLoaded, files_of, pages_of, is_served, web_spec, made_of_bytes, keeps_page_laws, Paged, Interactive, Free, AcceptsPrefix, IsPagedAt, FollowsPagesAt, LeavesDelivered, HasOutputModel, FollowsModelAt, SendsBytes, page_bytes, TELNET_PORT, DeskSpeaksOnLines, desk_output_model, desk_spec, DoesAs, is_stopped, shell_spec, take_capture, session, DeliversPrefix, sessions, StaysAtPort}
 use Rattle.telnet_shell.proofs.SessionLaws.{keeps_session}
 use Rattle.telnet_shell.proofs.DeskSteady.{desk_steady}
 use Rattle.telnet_shell.proofs.TwoBytes.{desk_bytes}
@@ -17,7 +17,7 @@ module _ (site : SiteContent) (loaded : IsLoaded site) (image : All IsByte site.
 
   -- ---- pages at port 80
 
-  keeps_port : KeepsPort (desk_spec files)
+  keeps_port : StaysAtPort (desk_spec files)
   keeps_port = two_applications.port files
 
   stays_at : (port : ℕ) (p q : AppState) → q.port ≡ p.port → (p.port == port) ≡ true → (q.port == port) ≡ true

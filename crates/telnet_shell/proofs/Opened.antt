@@ -1,5 +1,5 @@
 -- A shell that has received nothing, and what a shell can send.
-use Rattle.telnet_shell.proofs.Prelude.{◌≡◌, ℕ, ◌+◌, ◌≤◌, ◌<◌, Bool, true, false, List, [], ◌∷◌, ◌++◌, length, refl, sym, ap, subst, ◌∙◌, arith, length-drop, length-append, if◌then◌else◌, ∥∥₁_elim, le_prop, AppState, text_left, CanSay, IsRepresented, Capture, Empty, Command, Shell, said_with, transcript, IsTrailing, IsLeading, left_said, prefix_size, stops_at, shell_spec, ShellRepresents, fresh_part, left_of_value}
+use Rattle.telnet_shell.proofs.Prelude.{◌≡◌, ℕ, ◌+◌, ◌≤◌, ◌<◌, Bool, true, false, List, [], ◌∷◌, ◌++◌, length, refl, sym, ap, subst, arith, length-drop, length-append, if◌then◌else◌, ∥∥₁_elim, le_prop, AppState, text_left, CanSay, IsRepresented, Capture, Empty, Command, Shell, said_with, transcript, IsTrailing, IsLeading, left_said, prefix_size, stops_at, shell_spec, ShellRepresents, fresh_part, left_of_value}
 
 pub opened_after : (q : List Command) (port : ℕ) → q ≡ [] → IsTrailing q Empty 0 (fresh_part port)
 opened_after q port e = record { before = []; spoken = []; prefix = []; commands = sym e; snapshots = refl; took = refl; acked = refl; shows = refl }

@@ -1,8 +1,6 @@
 -- The names that the proofs of this crate cite: of std, of the crates below, and of its own definitions. Declares nothing.
 pub use Rattle.app_events.specs.Prelude.{AppSpec, AppState, CanSay, IsByte, IsPaged, IsPrefixOf, IsRepresented, MayWant, Snapshot, text_left}
-pub use Rattle.app_events.specs.declared.now.Now.{Now}
-pub use Rattle.app_events.specs.declared.want.Want.{Want}
-pub use Rattle.app_events.specs.declared.want.Want.TheVariants.{Abort, Close, Nothing, Send}
+pub use Rattle.app_pair.specs.PairSpec.{StaysAtPort}
 pub use Rattle.file_tree.specs.Prelude.{IsLoaded, SiteContent, files_of}
 pub use Rattle.generators.specs.Prelude.{capture_bytes, capture_of, capture_text, either_bytes, literal_bytes}
 pub use Rattle.generators.specs.declared.capture.Capture.{Capture}
@@ -17,11 +15,8 @@ pub use Rattle.std.proofs.Math.Logic.{∥∥₁_elim, ∥∥₁_map}
 pub use Rattle.std.proofs.Math.Seq.{take-suc}
 pub use Rattle.std.proofs.lemmas.Bool.{and_from, and_parts, eq-eqb, eqb-false, eqb-true, false_from_ne_true, le-leb, le-ltb, leb-false, leb-true, lt-leb, lt-ltb, ltb-true, ne_eqb}
 pub use Rattle.std.proofs.lemmas.List.Elements.{All-append, All-cons, All-head, All-nil, All-tail}
-pub use Rattle.std.proofs.lemmas.Slice.Eq.{bytes_eq-Decides}
 pub use Rattle.std.specs.Coded.{le_prop}
 unfoldable pub use Rattle.std.specs.Fmt.{digits}
-pub use Rattle.std.specs.List.{All}
-pub use Rattle.std.specs.Prelude.{is_some}
 pub use Rattle.std.specs.Str.{bytes_eq}
 pub use Rattle.telnet_shell.specs.DeskLines.{DeskSpeaksOnLines, desk_output_model}
 pub use Rattle.telnet_shell.specs.DeskMeaning.{app_spec_at, desk_spec}
@@ -29,7 +24,7 @@ pub use Rattle.telnet_shell.specs.DeskPorts.{DoesAs, IsAtShell, IsAtWeb, IsTwoAp
 pub use Rattle.telnet_shell.specs.DeskRepresents.{DeskRepresents, IsShellPart, IsWebPart, at_shell, at_web, shell_left, web_left}
 pub use Rattle.telnet_shell.specs.Exactly.{IsExact, all_acknowledged, capture_comes_next, completes, exact_want, is_given_up}
 pub use Rattle.telnet_shell.specs.Hearing.{IsLine, IsOpen, awaited}
-pub use Rattle.telnet_shell.specs.Lemmas.DeskLaws.{KeepsPort, desk_lawful, port_at, shell_port, web_port}
+pub use Rattle.telnet_shell.specs.Lemmas.DeskLaws.{desk_lawful, port_at, shell_port, web_port}
 pub use Rattle.telnet_shell.specs.Lemmas.Growing.{commands_grow, commands_joined, further, tokens_joined, transcript_grows, until_quit_joined}
 pub use Rattle.telnet_shell.specs.Lemmas.SameLeft.{left_of_value}
 pub use Rattle.telnet_shell.specs.Lemmas.ShellLaws.{shell_lawful, shell_starts}
@@ -53,8 +48,8 @@ pub use Rattle.telnet_shell.specs.declared.hearing.TheConstants.{DO, IAC, WILL}
 pub use Rattle.telnet_shell.specs.declared.shell.TheConstants.{TELNET_PORT}
 pub use Rattle.uip_node.proofs.Basics.{choose}
 pub use Rattle.uip_node.proofs.DeliveredBytes.{page_bytes}
+pub use Rattle.uip_node.proofs.Prelude.{Abort, All, Close, IsSteady, Nothing, Now, Send, SendsBytes, Want, bytes_eq-Decides, is_some}
 pub use Rattle.uip_node.proofs.Steadiness.{steady_of}
-pub use Rattle.uip_node.specs.Prelude.{IsSteady, SendsBytes}
 pub use Rattle.uip_wire.specs.declared.port.TheConstants.{WEB_PORT}
 pub use Rattle.web_pages.proofs.ByteLaws.{made_of_bytes}
 pub use Rattle.web_pages.proofs.PageLaws.{keeps_page_laws}

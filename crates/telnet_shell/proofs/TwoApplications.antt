@@ -1,5 +1,5 @@
 -- What the desk is at each of its ports.
-use Rattle.telnet_shell.proofs.Prelude.{◌≡◌, ℕ, ◌==◌, true, false, List, refl, sym, ap, ◌∙◌, true≢false, WEB_PORT, AppState, AppSpec, File, SiteContent, web_spec, TELNET_PORT, Desk, shell_spec, app_spec_at, desk_spec, DeskRepresents, at_web, at_shell, KeepsPort, port_at, DoesAs, IsAtWeb, IsAtShell, IsTwoApplications}
+use Rattle.telnet_shell.proofs.Prelude.{◌≡◌, ℕ, ◌==◌, true, false, List, refl, sym, ap, ◌∙◌, true≢false, WEB_PORT, AppState, AppSpec, File, SiteContent, web_spec, TELNET_PORT, Desk, shell_spec, app_spec_at, desk_spec, DeskRepresents, at_web, at_shell, StaysAtPort, port_at, DoesAs, IsAtWeb, IsAtShell, IsTwoApplications}
 use Rattle.telnet_shell.specs.declared.desk.Desk.TheVariants as desk
 
 is_web_port : (port : ℕ) → port ≡ WEB_PORT → (port == TELNET_PORT) ≡ false
@@ -28,7 +28,7 @@ shell_value : (a : Desk) (site : SiteContent) (part : AppState) → (part.port =
 shell_value (desk.Web web) site part e s = elim (true≢false (sym e ∙ s.port)) [ ]
 shell_value (desk.Shell shell) site part e s = record { shell = shell; is = refl; stands = s.stands }
 
-desk_port : (files : List File) → KeepsPort (desk_spec files)
+desk_port : (files : List File) → StaysAtPort (desk_spec files)
 desk_port files = record {
   connected = λ numbers port. (port_at files port).connected numbers port;
   newdata = λ numbers p piece. (port_at files p.port).newdata numbers p piece;

@@ -17,7 +17,7 @@ use Rattle.telnet_shell.specs.ShellMeaning.{shell_spec}
 use Rattle.telnet_shell.specs.ShellRepresents.{ShellRepresents}
 use Rattle.telnet_shell.specs.DeskMeaning.{desk_spec}
 use Rattle.telnet_shell.specs.DeskRepresents.{DeskRepresents}
-use Rattle.telnet_shell.specs.Lemmas.DeskLaws.{KeepsPort}
+use Rattle.app_pair.specs.PairSpec.{StaysAtPort}
 
 -- In this state each call of m does what that of n does.
 pub record DoesAs (m n : AppSpec) (part : AppState) : Type 0 where
@@ -50,4 +50,4 @@ pub record IsTwoApplications : Type 0 where
   pub shell_value : (a : Desk) (site : SiteContent) (part : AppState) → part.port ≡ TELNET_PORT
       → DeskRepresents a site part → IsAtShell a part
   -- no call changes the port
-  pub port : (files : List File) → KeepsPort (desk_spec files)
+  pub port : (files : List File) → StaysAtPort (desk_spec files)

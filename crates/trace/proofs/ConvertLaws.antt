@@ -1,5 +1,6 @@
 -- How the reading of a capture file ends.
-use Rattle.trace.proofs.Prelude.{◌≡◌, ℕ, ◌<◌, ◌≤◌, List, [], ◌∷◌, ◌++◌, Option, Some, None, length, map, take, refl, sym, ap, ◌∙◌, append-nil, arith, subst, Appends, Consumes, bytes_among, EndsBy, Item, Byte, Quiet, ServeEnd, breaks_prefix, bytes_among-append, bytes_among-map, LineView, IsCalm, SinkView, Captured, IsReadAs, Reading, cut_in, captured_in, fault_in, lines_of, BadHeader, BadLength, InRecord, InHeader, Whole, Converts, HasNewFault, IsFoundSoon, SlipEndsBy, WroteLine, IsReadTo, IsOpen, IsReadSound, StopBy, Stopped, StopsAt, end_at, EndsRead, StopsRead, Reader, Stop, CaptureWhy, SlipEnd, Stage}
+use Rattle.trace.proofs.Prelude.{◌≡◌, ℕ, ◌<◌, ◌≤◌, List, [], ◌∷◌, ◌++◌, Option, Some, None, length, map, take, refl, sym, ap, ◌∙◌, append-nil, arith, subst, Appends, Consumes, bytes_among, EndsBy, Item, Byte, Quiet, ServeEnd, breaks_prefix, bytes_among-append, bytes_among-map, LineView, IsCalm, SinkView, Captured, IsReadAs, Reading, cut_in, captured_in, fault_in, lines_of, BadHeader, BadLength, InRecord, InHeader, Whole, Converts, HasNewFault, IsFoundSoon, SlipEndsBy, WroteLine, IsReadTo, IsOpen, IsReadSound, StopBy, Stopped, StopsAt, end_at, EndsRead, StopsRead, Stop, CaptureWhy, SlipEnd, Stage}
+use Rattle.trace.specs.declared.reader.Reader.{Reader}
 use Rattle.uip_edge.specs.declared.serve_end.ServeEnd.TheVariants as line
 use Rattle.trace.specs.contracts.reader.ReaderLineReader.TheImpl.{ghosts}
 use Rattle.trace.specs.declared.reader.Stop.TheVariants as stops

@@ -1,5 +1,6 @@
 -- The frames of bytes that a decoder consumed, and what is written of them.
-use Rattle.trace.proofs.Prelude.{◌≡◌, ℕ, ◌+◌, List, [], ◌∷◌, ◌++◌, Option, Result, Ok, Err, IfErr, length, map, take, drop, refl, sym, ap, ◌∙◌, append-nil, arith, length-append, subst, length-map, map-append, take-append-drop, Appends, Rose, SinkView, BreaksOff, breaks_by, breaks_then, breaks_whole, Appends-none, Appends-then, appends_by, bytes_among-append, bytes_among-map, Item, Byte, Quiet, State, WasFed, Frame, frames, seen_at, seen_after, seen_on, silences_of, BrokeWatch, HasSeen, IsWatched, Saw, text_after, texts_from, Form, Watch, bytes_among}
+use Rattle.trace.proofs.Prelude.{◌≡◌, ℕ, ◌+◌, List, [], ◌∷◌, ◌++◌, Option, Result, Ok, Err, IfErr, length, map, take, drop, refl, sym, ap, ◌∙◌, append-nil, arith, length-append, subst, length-map, map-append, take-append-drop, Appends, Rose, SinkView, BreaksOff, breaks_by, breaks_then, breaks_whole, Appends-none, Appends-then, appends_by, bytes_among-append, bytes_among-map, Item, Byte, Quiet, State, WasFed, Frame, frames, seen_at, seen_after, seen_on, silences_of, BrokeWatch, HasSeen, IsWatched, Saw, text_after, texts_from, Form, bytes_among}
+use Rattle.trace.specs.declared.watch.Watch.{Watch}
 use Rattle.trace.proofs.SeenLaws.{seen-told, seen_on-append, silences-append, silences-bytes, text-then}
 
 -- what holds of a failure, whichever it is

@@ -1,5 +1,7 @@
 -- A capture file that was written of a line is read as the line's datagrams.
-use Rattle.trace.proofs.Prelude.{◌≡◌, ℕ, Bool, true, false, leb, if◌then◌else◌, ◌+◌, ◌*◌, ◌/◌, ◌%◌, ◌<◌, ◌≤◌, List, [], ◌∷◌, ◌++◌, Option, Some, None, length, map, refl, sym, ap, ◌∙◌, append-nil, arith, length-append, subst, Appends, AllByRecursion, flat_map, leb-true, length-map, map-append, take-append-le, div-add-mod, flat_map-append, Consumes, bytes_among, TookAll, Item, Byte, Frame, Datagram, Overlong, all_but_last, frame_of, frames, parts, unescaped, slip_text, long_bytes, LARGEST_DATAGRAM, appends_by, bytes_among-append, bytes_among-map, taken_within, Captured, HoldsJust, IsCaptured, IsReadAs, Reading, cut_in, captured_in, captured_bytes, fault_in, lines_of, order_of, BadHeader, BadLength, InRecord, InHeader, Whole, capture_header, capture_file, datagrams_in, datagrams_on, frame_record, Converts, IsSurely, SlipEndsBy, end_by_cut, Seen, seen_on, Big, CaptureWhy, SlipEnd, LineView, LineUnfailed}
+use Rattle.trace.proofs.Prelude.{◌≡◌, ℕ, Bool, true, false, leb, if◌then◌else◌, ◌+◌, ◌*◌, ◌/◌, ◌%◌, ◌<◌, ◌≤◌, List, [], ◌∷◌, ◌++◌, Option, Some, None, length, map, refl, sym, ap, ◌∙◌, append-nil, arith, length-append, subst, Appends, AllByRecursion, flat_map, leb-true, length-map, map-append, take-append-le, flat_map-append, Consumes, bytes_among, TookAll, Item, Byte, Frame, Datagram, Overlong, all_but_last, frame_of, frames, parts, unescaped, slip_text, LARGEST_DATAGRAM, appends_by, bytes_among-append, bytes_among-map, taken_within, Captured, HoldsJust, IsCaptured, IsReadAs, Reading, cut_in, captured_in, captured_bytes, fault_in, lines_of, order_of, BadHeader, BadLength, InRecord, InHeader, Whole, capture_header, capture_file, datagrams_in, datagrams_on, frame_record, Converts, IsSurely, SlipEndsBy, end_by_cut, Seen, seen_on, Big, CaptureWhy, SlipEnd, LineView, LineUnfailed}
+use Rattle.uip_wire.specs.Prelude.{long_bytes}
+use Rattle.std.proofs.Math.Nat.{div-add-mod}
 use Rattle.trace.proofs.CaptureLaws.{captured_line, length_in-append, more_rest}
 use Rattle.trace.proofs.OneReading.{one_reading}
 use Rattle.trace.proofs.ReadLaws.{line_some}

@@ -1,5 +1,6 @@
 -- The frames that items complete after others, and what is written of them.
-use Rattle.trace.proofs.Prelude.{◌≡◌, ℕ, ◌+◌, List, [], ◌∷◌, ◌++◌, length, map, refl, sym, ap, ◌∙◌, append-nil, append_assoc, arith, length-append, enumerate_from, flat_map, map-append, flat_map-append, Item, Byte, Quiet, Frame, completed, frames, completed_by, completed_told, frames-then, Seen, seen_at, seen_after, seen_on, silences_of, frame_text, text_after, texts_from, Form, bytes_among, bytes_among-append}
+use Rattle.trace.proofs.Prelude.{◌≡◌, ℕ, ◌+◌, List, [], ◌∷◌, ◌++◌, length, map, refl, sym, ap, ◌∙◌, append-nil, append_assoc, arith, length-append, enumerate_from, flat_map, map-append, flat_map-append, Item, Byte, Quiet, Frame, completed, frames, Seen, seen_at, seen_after, seen_on, silences_of, frame_text, text_after, texts_from, Form, bytes_among, bytes_among-append}
+use Rattle.uip_slip.proofs.FrameLaws.{completed_by, completed_told, frames-then}
 
 -- bytes bring the frames that they complete
 seen-bytes : (before : List ℕ) (silences : ℕ) (bytes : List ℕ) → seen_after before silences (map Byte bytes) ≡ map (seen_at silences) (completed_by before bytes)

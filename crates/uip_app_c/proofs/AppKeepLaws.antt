@@ -1,37 +1,17 @@
 -- Calls on a handle, one after the other, keep the promise.
-use Rattle.std.proofs.Common.{◌≡◌, ◌∙◌, ℕ, ◌+◌, ◌<◌, Bool, if◌then◌else◌, List, [], ◌∷◌, ◌++◌, length, refl, sym, ap, subst, arith}
+use Rattle.uip_app_c.proofs.Prelude.{◌≡◌, ◌∙◌, ℕ, ◌+◌, ◌<◌, Bool, if◌then◌else◌, List, [], ◌∷◌, ◌++◌, length, refl, sym, ap, subst, arith, IsPrefixOf, Snapshot, Act, Mac, CallsSlot, DoesNothing, FrameCall, FrameSpec, InputsFrame, IsFrameOfBytes, Makes, acts_before, ether_brings_bytes, interface_at, station_events_by, Network, DidInTurn, program_calls, IsOfLine, call_few, each_by, each_with, events_of_call, program_goes_home, node_of_call, periodic_events, program_conforms, is_own_port, messages_text, no_message, numbers_of, own_output_model, own_spec, HasCaptured, next_message, with_change, Station, All, IsAddr, is_for_closed_port, AnsweredCall, AppCall, AppCallsConform, AppTraceConforms, Calls, Captures, CouldWrite, IsCallOfBytes, Kept, Listens, OfEachCall, OpensOwn, Writes, app_program, call_at, change_by, connection_after, first_station, link_of, ports_after_call, station_after_call, station_after_calls, text_in_call, undropped, choose, AbstractNode, Event, Periodic, connection_in, run, Addr}
 use Rattle.std.proofs.lemmas.List.{length-map}
-use Rattle.app_events.specs.Prelude.{IsPrefixOf, Snapshot}
-use Rattle.ethernet_arp.specs.Prelude.{Act}
-use Rattle.ethernet_arp.specs.declared.mac.Mac.{Mac}
-use Rattle.frame_device.specs.Prelude.{CallsSlot, DoesNothing, FrameCall, FrameSpec, InputsFrame, IsFrameOfBytes, Makes, acts_before, ether_brings_bytes, interface_at, station_events_by}
-use Rattle.frame_device.specs.declared.network.Network.{Network}
-use Rattle.frame_device.specs.ProgramCalls.{DidInTurn, program_calls}
-use Rattle.frame_device.proofs.ProgramLaws.{IsOfLine, call_few, each_by, each_with, events_of_call, program_goes_home, node_of_call, periodic_events, program_conforms}
 use Rattle.line_promise.specs.Prelude.{events_among}
 use Rattle.frame_device.specs.Newest.{NewestConforms}
 use Rattle.node_laws.specs.Prelude.{Exchange}
 use Rattle.frame_device.proofs.Newest.{newest_text}
-use Rattle.own_app.specs.Prelude.{is_own_port, messages_text, no_message, numbers_of, own_output_model, own_spec}
 use Rattle.own_app.proofs.OwnLines.{own_speaks, written_u32}
-use Rattle.own_node.specs.Prelude.{HasCaptured, next_message, with_change}
 use Rattle.own_node.specs.Written.{is_accepted, text_written}
 use Rattle.own_node.proofs.Alone.{own_words, alone, alone_captured, alone_message, alone_wrote, any_port, same_numbers, same_part}
 use Rattle.own_node.proofs.WrittenLaws.{Follows, HasWrittenText, Holds, HoldsAfter, change_follows, events_leave, first_follows, first_holds, run_follows}
-use Rattle.serve_loop.specs.Prelude.{Station}
 use Rattle.tcp_machine.specs.Prelude.{Connection}
-use Rattle.std.specs.List.{All}
 use Rattle.std.proofs.lemmas.List.Elements.{All-cons, All-head, All-nil, All-tail}
-use Rattle.app_events.specs.Prelude.{IsAddr}
-use Rattle.own_node.specs.Prelude.{is_for_closed_port}
-use Rattle.uip_app_c.specs.AppCalls.{AnsweredCall, AppCall, Calls, CouldWrite, Listens, OfEachCall, Writes, app_program, call_at, change_by, first_station, link_of, ports_after_call, station_after_call, station_after_calls, undropped}
-use Rattle.uip_app_c.specs.Handles.{OpensOwn}
-use Rattle.uip_app_c.specs.Kept.{Kept}
-use Rattle.uip_app_c.specs.AppPromise.{AppCallsConform, AppTraceConforms, Captures, IsCallOfBytes, connection_after, text_in_call}
 use Rattle.uip_app_c.proofs.AppLaws.{Did, did_undropped, undropped_exact}
-use Rattle.uip_node.proofs.Basics.{choose}
-use Rattle.uip_node.specs.Prelude.{AbstractNode, Event, Periodic, connection_in, run}
-use Rattle.uip_wire.specs.declared.addr.Addr.{Addr}
 
 module _ (own : Addr) (mac : Mac) (network : Network) where
   abbrev link : FrameSpec Act

@@ -1,14 +1,7 @@
 -- Calls on a handle, one after the other, are exact.
-use Rattle.uip_app_c.proofs.Prelude.{AbstractNode, Act, Addr, AnsweredCall, AppCall, Bool, Calls, CallsAreExact, CallsSlot, CouldWrite, DidCall, DidCalls, DoesNothing, Ethernet, FrameCall, HasOwn, InputsFrame, IsExact, Kept, List, Listens, Mac, Network, None, OpensOwn, OwnAnswers, OwnEther, OwnListens, OwnInputs, OwnWrites, PlainMessage, Represents, RepresentsStation, Some, Station, Writes, [], ◌∷◌, ap, call_at, choose, first_station, interface_at, is_for_closed_port, is_own_port, link_of, own_spec, ports_after, ports_after_call, ports_of, station_after_call, subst, sym, undropped, with_port, with_written, ℕ, ◌∙◌, ◌≡◌}
-use Rattle.frame_device.specs.ProgramCalls.{DidInTurn, before_program_call, program_calls, program_frame}
+use Rattle.uip_app_c.proofs.Prelude.{AbstractNode, Act, Addr, All, AnsweredCall, AppCall, AreAtOpenPorts, Bool, Calls, CallsAreExact, CallsSlot, CouldWrite, DidCall, DidCalls, DidInTurn, DoesNothing, Ethernet, FrameCall, HasOne, InputsFrame, IsExact, Kept, List, Listens, Mac, Network, None, OpensOwn, OwnAnswers, OwnEther, OwnInputs, OwnListens, OwnWrites, PlainMessage, Represents, RepresentsStation, Some, Station, Writes, [], all_exact, ap, app_program, before_program_call, call_at, choose, connection_in, events_of_call, first_station, interface_at, is_for_closed_port, is_open_port, is_own_port, link_of, no_message, node_of_call, numbers_of, own_spec, ports_after, ports_after_call, ports_of, program_calls, program_frame, station_after_call, station_after_calls, subst, sym, undropped, with_port, with_written, ℕ, ◌∙◌, ◌∷◌, ◌≡◌}
 use Rattle.frame_device.proofs.Arrivals.{frame_each, slot_each}
-use Rattle.frame_device.proofs.ProgramLaws.{all_exact, events_of_call, node_of_call}
-use Rattle.own_app.specs.Prelude.{is_open_port, no_message, numbers_of}
 use Rattle.own_node.proofs.OpenPorts.{IsAt, first_at, frame_at, run_at, stays_open}
-use Rattle.own_node.specs.Prelude.{AreAtOpenPorts}
-use Rattle.std.specs.List.{All}
-use Rattle.uip_app_c.specs.AppCalls.{app_program, station_after_calls}
-use Rattle.uip_node.specs.Prelude.{connection_in}
 use Rattle.frame_device.specs.contracts.ether.EthernetFrames.TheImpl.{ghosts as ether_link}
 use Rattle.own_app.specs.contracts.app.OwnAppApp.TheImpl.{ghosts}
 
@@ -29,7 +22,7 @@ Did (Writes slot taken text last) old new handed = OwnWrites slot taken text las
 Did (Listens port) old new handed = OwnListens port old new × (handed ≡ [])
 
 abbrev HasPorts : List ℕ → Kept → Type 0
-HasPorts ports kept = HasOwn (λ d. ports_of d ≡ ports) kept
+HasPorts ports kept = HasOne OwnEther (λ d. ports_of d ≡ ports) kept
 
 -- the ports of a device that there was
 ports_were : (ports : List ℕ) (a : Kept) (x : OwnEther) → HasPorts ports a → a ≡ Some x → ports_of x ≡ ports
@@ -41,20 +34,20 @@ inputs_undropped ports frame a b handed has it =
     let were = ports_were ports a it.before has it.was in
     let same = ap (λ (l : List ℕ). is_for_closed_port l frame) were in
     choose (λ (call : FrameCall). Did (Calls call) a b handed × HasPorts ports b) (is_for_closed_port ports frame) DoesNothing (InputsFrame frame)
-    (λ e. (let dropped = it.inputs.dropped (same ∙ e) in
+    (λ e. (let dropped = it.holds.dropped (same ∙ e) in
     let stays : b ≡ a = it.is ∙ ap (λ (d : OwnEther). Some d) dropped.0 ∙ sym it.was in ((stays, dropped.1), (has.0, stays ∙ has.1, has.2))))
-    (λ e. (let answers = it.inputs.answers (same ∙ e) in
-    (record { before = it.before; after = it.after; was = it.was; is = it.is; answers = answers }, (it.after, it.is, answers.kept ∙ were))))
+    (λ e. (let answers = it.holds.answers (same ∙ e) in
+    (record { before = it.before; after = it.after; was = it.was; is = it.is; holds = answers }, (it.after, it.is, answers.kept ∙ were))))
 
 one_undropped : (ports : List ℕ) (call : AppCall) (a b : Kept) (handed : List ℕ) → HasPorts ports a → DidCall call a b handed
     → Did (call_at ports call) a b handed × HasPorts (ports_after_call call ports) b
 one_undropped ports (Calls (InputsFrame frame)) a b handed has it = inputs_undropped ports frame a b handed has it
-one_undropped ports (Calls (CallsSlot slot)) a b handed has it = (it, (it.after, it.is, it.answers.kept ∙ ports_were ports a it.before has it.was))
+one_undropped ports (Calls (CallsSlot slot)) a b handed has it = (it, (it.after, it.is, it.holds.kept ∙ ports_were ports a it.before has it.was))
 one_undropped ports (Calls DoesNothing) a b handed has it = (it, (has.0, it.0 ∙ has.1, has.2))
 one_undropped ports (Writes slot taken text last) a b handed has it =
     (it, (it.after, it.is, it.answers.kept ∙ it.writes.kept ∙ ports_were ports a it.before has it.was))
 one_undropped ports (Listens port) a b handed has it =
-    (it, (it.0.after, it.0.is, it.0.opens.ports ∙ ap (λ (l : List ℕ). with_port port l) (ports_were ports a it.0.before has it.0.was)))
+    (it, (it.0.after, it.0.is, it.0.holds.ports ∙ ap (λ (l : List ℕ). with_port port l) (ports_were ports a it.0.before has it.0.was)))
 
 all_undropped : (ports : List ℕ) (all : List AnsweredCall) (a c : Kept) → HasPorts ports a → DidCalls all a c
     → DidInTurn Did (undropped ports all) a c × HasPorts (ports_after (program_calls all) ports) c
@@ -83,7 +76,7 @@ module _ (own : Addr) (mac : Mac) (network : Network) where
 
   by_call : (call : FrameCall) (d : OwnEther) (s : Station Act) (a b : Kept) (handed : List ℕ) → a ≡ Some d → Here d s → OwnAnswers call a b handed → Step (Calls call) s b handed
   by_call call d s a b handed is here it =
-      let from = it.answers.each (interface_at own mac network) own_spec own s (subst (λ (x : OwnEther). Here x s) (sym (same_own it.before d (sym it.was ∙ is))) here) in
+      let from = it.holds.each (interface_at own mac network) own_spec own s (subst (λ (x : OwnEther). Here x s) (sym (same_own it.before d (sym it.was ∙ is))) here) in
       record { after = it.after; is = it.is; here = from.0; wrote = from.1; could = tt }
 
   -- a message was written, at the station before the periodic call
@@ -133,7 +126,7 @@ module _ (own : Addr) (mac : Mac) (network : Network) where
       record {
         after = it.after;
         is = it.is;
-        here = subst (λ (x : OwnEther). Here x s) (sym it.opens.rest) (opened_here it.before it.after s at);
+        here = subst (λ (x : OwnEther). Here x s) (sym it.holds.rest) (opened_here it.before it.after s at);
         wrote = none;
         could = tt;
       }
@@ -178,7 +171,7 @@ module _ (own : Addr) (mac : Mac) (network : Network) where
   calls_at_ports ports (it ∷ all) s each = calls_at_ports (ports_after_call it.call ports) all (after (call_at ports it.call) s) (call_at_ports ports it.call s each)
 
   abbrev KeptHere : Kept → Station Act → Type 0
-  KeptHere kept s = HasOwn (λ d. Here d s) kept
+  KeptHere kept s = HasOne OwnEther (λ d. Here d s) kept
 
   one_call : (call : AppCall) (s : Station Act) (a b : Kept) (handed : List ℕ) → KeptHere a s → Did call a b handed
       → KeptHere b (station_after_call own mac network call s) × (handed ≡ sent_at call s) × CouldWrite call s
@@ -195,7 +188,7 @@ undropped_exact own mac network all closed old new opens did =
 -- without the frames that are dropped, from the start
 pub did_undropped : (own : Addr) (mac : Mac) (network : Network) (all : List AnsweredCall) (closed old new : Kept)
     → OpensOwn own.0 mac.0 network.mask.0 network.router.0 closed old → DidCalls all old new
-    → DidInTurn Did (undropped [] all) old new × HasOwn (λ d. ports_of d ≡ ports_after (program_calls all) []) new
+    → DidInTurn Did (undropped [] all) old new × HasOne OwnEther (λ d. ports_of d ≡ ports_after (program_calls all) []) new
 did_undropped own mac network all closed old new opens did = all_undropped [] all old new (opens.1.0, opens.1.1, opens.1.2.ports) did
 
 pub calls_exact : CallsAreExact

@@ -1,5 +1,6 @@
 -- Calls on a handle, one after the other, and what the definition of the node and its link gives for them.
 use Rattle.std.specs.Prelude.{◌≡◌, ℕ, Bool, List, [], ◌∷◌, if◌then◌else◌, map, true, ⊤}
+use Rattle.c_calls.specs.Prelude.{HasOne}
 use Rattle.uip_wire.specs.declared.addr.Addr.{Addr}
 use Rattle.ethernet_arp.specs.Prelude.{Act}
 use Rattle.ethernet_arp.specs.declared.mac.Mac.{Mac}
@@ -14,7 +15,7 @@ use Rattle.own_app.specs.Prelude.{is_own_port, no_message, numbers_of, own_spec,
 use Rattle.own_app.specs.contracts.app.OwnAppApp.TheImpl.{ghosts}
 use Rattle.own_node.specs.Prelude.{AreAtOpenPorts, can_write_in, is_for_closed_port, next_message}
 use Rattle.uip_app_c.specs.Handles.{OpensOwn, OwnAnswers, OwnWrites}
-use Rattle.uip_app_c.specs.Kept.{HasOwn, Kept}
+use Rattle.uip_app_c.specs.Kept.{Kept, OwnEther}
 use Rattle.uip_app_c.specs.Ports.{OwnListens, OwnInputs, ports_of}
 
 -- `Calls`: a frame is received, or a slot is called. A call that is refused or that reads is `Calls DoesNothing`. `Listens`: a port is
@@ -106,12 +107,12 @@ pub record IsExact (own : Addr) (mac : Mac) (network : Network) (all : List Answ
   pub frames : map (λ it. it.handed) all
       ≡ program_frames app_program own_spec is_own_port (link_of own mac network) own (program_calls all) (first_station own)
   pub could : OfEachCall own mac network CouldWrite (program_calls all) (first_station own)
-  pub represents : HasOwn (λ d. RepresentsStation ghosts ether_link (interface_at own mac network) own_spec own d
+  pub represents : HasOne OwnEther (λ d. RepresentsStation ghosts ether_link (interface_at own mac network) own_spec own d
       (station_after_calls own mac network (program_calls all) (first_station own))) new
 
 -- The open ports of the device are those that the calls opened. Each connection that is not CLOSED is at one of them.
 pub record HasOpenPorts (own : Addr) (mac : Mac) (network : Network) (all : List AnsweredCall) (new : Kept) : Type 0 where
-  pub ports : HasOwn (λ d. ports_of d ≡ ports_after (program_calls all) []) new
+  pub ports : HasOne OwnEther (λ d. ports_of d ≡ ports_after (program_calls all) []) new
   pub connections : AreAtOpenPorts (ports_after (program_calls all) [])
       (station_after_calls own mac network (program_calls (undropped [] all)) (first_station own)).node
 

@@ -1,7 +1,8 @@
 -- What a call does to what a handle keeps.
-use Rattle.std.specs.Prelude.{◌≡◌, ◌⊎◌, ℕ, Bool, true, false, List, [], length, take}
+use Rattle.std.specs.Prelude.{◌≡◌, ℕ, Bool, true, false, List, []}
 use Rattle.std.specs.declared.option.Option.TheVariants.{None, Some}
-use Rattle.uip_wire.specs.Prelude.{written}
+use Rattle.c_calls.specs.Prelude.{HasOne, ReadsConnection, StillHas}
+use Rattle.c_calls.specs.declared.received.UipReceived.{UipReceived}
 use Rattle.uip_wire.specs.declared.addr.Addr.{Addr}
 use Rattle.ethernet_arp.specs.declared.mac.Mac.{Mac}
 use Rattle.frame_device.specs.declared.network.Network.{Network}
@@ -10,11 +11,8 @@ use Rattle.frame_device.specs.contracts.ether.EthernetFrames.TheImpl.{ghosts as 
 use Rattle.own_app.specs.contracts.app.OwnAppApp.TheImpl.{ghosts}
 use Rattle.own_app.specs.Prelude.{no_message, numbers_of, own_spec}
 use Rattle.own_node.specs.Prelude.{OfNode, WritesMessage, can_write_in, is_ready_in, pending_in, port_in}
-use Rattle.uip_app_c.specs.Kept.{HasOwn, Kept, OwnEther}
+use Rattle.uip_app_c.specs.Kept.{Kept, OwnEther}
 use Rattle.uip_app_c.specs.Ports.{ports_of}
-use Rattle.uip_app_c.specs.declared.calls.AppReceived.{AppReceived}
-use Rattle.uip_app_c.specs.declared.status.AppResult.{AppResult}
-use Rattle.uip_app_c.specs.declared.status.TheConstants.{BAD_ARGUMENT, NO_DEVICE, NOT_READY, OK}
 
 -- It represents the initial node at this address, and a link with this hardware address, on this network, that has learned nothing. No
 -- port is open.
@@ -26,16 +24,12 @@ pub record IsFreshOwnEther (own : Addr) (mac : Mac) (network : Network) (d : Own
 abbrev pub OpensOwn : List ℕ → List ℕ → List ℕ → List ℕ → Kept → Kept → Type 0
 OpensOwn own mac mask router old new =
     (old ≡ None)
-    × HasOwn (IsFreshOwnEther (record { 0 = own }) (record { 0 = mac })
+    × HasOne OwnEther (IsFreshOwnEther (record { 0 = own }) (record { 0 = mac })
     (record { mask = record { 0 = mask }; router = record { 0 = router } })) new
 
 -- There was a device and there still is one, and the call wrote this frame, or no bytes.
-pub record OwnAnswers (call : FrameCall) (old new : Kept) (handed : List ℕ) : Type 0 where
-  pub before : OwnEther
-  pub after : OwnEther
-  pub was : old ≡ Some before
-  pub is : new ≡ Some after
-  pub answers : AnswersFrame ghosts ether_link call before after handed
+abbrev pub OwnAnswers : FrameCall → Kept → Kept → List ℕ → Type 0
+OwnAnswers call old new handed = StillHas Some (λ before after. AnswersFrame ghosts ether_link call before after handed) old new
 
 -- There was a device and there still is one. The connection in this slot could capture a message. It was written, and the periodic call of
 -- the slot wrote this frame, or no bytes.
@@ -52,31 +46,9 @@ pub record OwnWrites (slot taken : ℕ) (text : List ℕ) (last : Bool) (old new
 
 -- There is a device, and the connection in this slot cannot capture a message that answers this number of bytes.
 abbrev pub CannotWrite : ℕ → ℕ → Kept → Type 0
-CannotWrite slot taken kept = HasOwn (λ d. OfNode d.node (λ n. can_write_in slot taken n ≡ false)) kept
+CannotWrite slot taken kept = HasOne OwnEther (λ d. OfNode d.node (λ n. can_write_in slot taken n ≡ false)) kept
 
-abbrev pub flag_of : Bool → ℕ
-flag_of true = 1
-flag_of false = 0
-
--- There is a device, and this is what was read of the connection in a slot: whether it is ready, its port, and its pending bytes, of which
--- the area has as many as it has room for.
-pub record ReadsSlotOf (slot : ℕ) (result : AppReceived) (area area' : List ℕ) (d : OwnEther) : Type 0 where
-  pub ready : OfNode d.node (λ n. result.ready ≡ flag_of (is_ready_in slot n))
-  pub port : OfNode d.node (λ n. result.port ≡ port_in slot n)
-  pub len : OfNode d.node (λ n. result.len ≡ length (pending_in slot n))
-  pub bytes : OfNode d.node (λ n. area' ≡ written area 0 (take (length area) (pending_in slot n)))
-
-abbrev pub ReadsSlot : ℕ → AppReceived → List ℕ → List ℕ → Kept → Type 0
-ReadsSlot slot result area area' kept = HasOwn (ReadsSlotOf slot result area area') kept
-
--- The statuses of a call, if it is made on a handle; `uip_app_write` has one more.
-abbrev pub IsCallStatus : ℕ → Type 0
-IsCallStatus status = (status ≡ OK) ⊎ (status ≡ NO_DEVICE) ⊎ (status ≡ BAD_ARGUMENT)
-
-abbrev pub IsWriteStatus : ℕ → Type 0
-IsWriteStatus status = (status ≡ OK) ⊎ (status ≡ NO_DEVICE) ⊎ (status ≡ BAD_ARGUMENT) ⊎ (status ≡ NOT_READY)
-
--- A refused call reports its status alone, and leaves the frame and the device unchanged.
-abbrev pub Refused : AppResult → List ℕ → List ℕ → Kept → Kept → Type 0
-Refused done area area' old new =
-    (done ≡ record { status = done.status; pending = 0; consumed = 0; written = 0 }) × (area' ≡ area) × (new ≡ old)
+-- There is a device, and this is what was read of the connection in a slot.
+abbrev pub ReadsSlot : ℕ → UipReceived → List ℕ → List ℕ → Kept → Type 0
+ReadsSlot slot result area area' kept =
+    HasOne OwnEther (λ d. ReadsConnection (λ P. OfNode d.node P) (is_ready_in slot) (port_in slot) (pending_in slot) result area area') kept

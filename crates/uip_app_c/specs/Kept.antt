@@ -1,7 +1,5 @@
 -- What a handle keeps: a device, or none.
-use Rattle.std.specs.Prelude.{◌≡◌}
 use Rattle.std.specs.declared.option.Option.{Option}
-use Rattle.std.specs.declared.option.Option.TheVariants.{Some}
 use Rattle.frame_device.specs.declared.device.FrameDevice.{FrameDevice}
 use Rattle.frame_device.specs.declared.ether.Ethernet.{Ethernet}
 use Rattle.own_app.specs.declared.app.OwnApp.{OwnApp}
@@ -13,7 +11,3 @@ OwnEther = FrameDevice OwnApp Ethernet OwnShared
 
 abbrev pub Kept : Type 0
 Kept = Option OwnEther
-
--- There is a device, and P holds of it.
-abbrev pub HasOwn : (OwnEther → Type 0) → Kept → Type 0
-HasOwn P kept = (d : OwnEther) × (kept ≡ Some d) × P d

@@ -4,4 +4,4 @@ pub mod Ports
 pub mod Handles
 pub mod AppCalls
 pub mod AppPromise
-pub mod ConstantValues
+pub mod Prelude

@@ -1,17 +1,18 @@
-//! The calls over Ethernet (RFC 894) with ARP (RFC 826); what the program reads of a connection, and writes to it.
+//! The calls over Ethernet (RFC 894) with ARP (RFC 826); what the program reads of a connection, and writes to it; the ports that it opens.
 
-ghost use Rattle.std.specs.Prelude.{◌≡◌, ◌==◌, ◌||◌, ◌≤◌, length, nat_le, nat_lt, take};
+ghost use Rattle.std.specs.Prelude.{◌≡◌, ◌==◌, ◌||◌, ◌≤◌, false, length, nat_le, nat_lt, not, take, true};
 ghost use Rattle.std.specs.declared.option.Option.TheVariants.{None};
-ghost use Rattle.uip_wire.specs.Prelude.{written};
+ghost use Rattle.c_calls.specs.Prelude.{IsCallStatus, IsWriteStatus, Refused};
 ghost use Rattle.frame_device.specs.Prelude.{CallsSlot};
-ghost use Rattle.uip_app_c.specs.Handles.{CannotWrite, IsCallStatus, IsWriteStatus, OwnAnswers, OwnWrites, ReadsSlot, Refused, flag_of};
-ghost use Rattle.uip_app_c.specs.Ports.{OwnInputs, InputsOrDrops};
+ghost use Rattle.own_app.specs.Prelude.{can_listen, is_program_port};
+ghost use Rattle.uip_app_c.specs.Prelude.{CannotWrite, InputsOrDrops, OpensPort, OwnAnswers, OwnInputs, OwnListens, OwnWrites, ReadsSlot};
+ghost use Rattle.uip_app_c.specs.Prelude.{has_no_room, ports_of};
 
 use crate::handle::{AppDevice, put_in, take_out};
 use crate::held::OwnEther;
-use crate::status::{AppResult, BAD_ARGUMENT, NO_DEVICE, NOT_READY, OK};
+use c_calls::{BAD_ARGUMENT, NO_DEVICE, NOT_READY, OK, UipReceived, UipResult, copy_prefix};
 use frame_device::LARGEST_OUT;
-use own_app::MESSAGE_ROOM;
+use own_app::{MESSAGE_ROOM, is_program_port};
 use own_node::{is_for_closed_port, is_ready, own_port, pending, write};
 use std::alloc::Global;
 
@@ -39,7 +40,7 @@ pub extern "C" fn uip_app_input_frame(
     device: &mut AppDevice,
     frame: &mut [u8],
     len: usize,
-) -> AppResult
+) -> UipResult
     ensures known { IsCallStatus result.status }
     ensures fine { result.status ≡ OK
         → OwnInputs (take len frame.old) device.old.held.device device.new.held.device (take result.written frame.new) }
@@ -52,14 +53,14 @@ pub extern "C" fn uip_app_input_frame(
         → Refused result frame.old frame.new device.old.held.device device.new.held.device }
 {
     if frame.len() < LARGEST_OUT || frame.len() < len {
-        return AppResult::refused(BAD_ARGUMENT);
+        return UipResult::refused(BAD_ARGUMENT);
     }
     let Some(mut opened) = take_out(alloc, device) else {
-        return AppResult::refused(NO_DEVICE);
+        return UipResult::refused(NO_DEVICE);
     };
     let written = input_or_drop(&mut opened, frame, len);
     put_in(device, opened);
-    AppResult::done(len, written)
+    UipResult::done(len, written, None)
 }
 
 /// Makes the periodic call of a slot, due for each of the ten in turn twice a second; that of slot 0 begins a tick. Writes the frame that
@@ -70,7 +71,7 @@ pub extern "C" fn uip_app_periodic_frame(
     device: &mut AppDevice,
     slot: usize,
     frame: &mut [u8],
-) -> AppResult
+) -> UipResult
     ensures known { IsCallStatus result.status }
     ensures fine { result.status ≡ OK
         → OwnAnswers (CallsSlot slot) device.old.held.device device.new.held.device (take result.written frame.new) }
@@ -82,54 +83,14 @@ pub extern "C" fn uip_app_periodic_frame(
         → Refused result frame.old frame.new device.old.held.device device.new.held.device }
 {
     if slot >= 10 || frame.len() < LARGEST_OUT {
-        return AppResult::refused(BAD_ARGUMENT);
+        return UipResult::refused(BAD_ARGUMENT);
     }
     let Some(mut opened) = take_out(alloc, device) else {
-        return AppResult::refused(NO_DEVICE);
+        return UipResult::refused(NO_DEVICE);
     };
     let written = opened.periodic(slot, frame);
     put_in(device, opened);
-    AppResult::done(0, written)
-}
-
-/// What was read of a connection: whether it is ready for a message (1), its port, and how many bytes are pending. The port is 0 if the
-/// connection is not open.
-#[repr(C)]
-#[derive(Clone, Copy, Debug, PartialEq, Eq)]
-pub struct AppReceived {
-    pub status: u32,
-    pub ready: u32,
-    pub port: u32,
-    pub len: usize,
-}
-
-/// Reports a status without a connection.
-fn unread(status: u32) -> AppReceived
-    ensures { result ≡ record { status = status; ready = 0; port = 0; len = 0 } }
-{
-    AppReceived {
-        status,
-        ready: 0,
-        port: 0,
-        len: 0,
-    }
-}
-
-/// Returns 1 for true, else 0.
-fn ready_flag(is_ready: bool) -> u32
-    ensures { result ≡ flag_of is_ready }
-{
-    if is_ready { 1 } else { 0 }
-}
-
-/// Copies as many of these bytes as an area has room for. Returns how many there are.
-fn copy_prefix(bytes: &[u8], area: &mut [u8]) -> usize
-    ensures len { result ≡ length bytes.now }
-    ensures bytes { area.new ≡ written area.old 0 (take (length area.old) bytes.now) }
-{
-    let count = bytes.len().min(area.len());
-    area[..count].copy_from_slice(&bytes[..count]);
-    bytes.len()
+    UipResult::done(0, written, None)
 }
 
 /// Reads the connection in a slot: whether it is ready for a message, and what it received that no message has answered. Copies as many of
@@ -140,7 +101,7 @@ pub extern "C" fn uip_app_read(
     device: &mut AppDevice,
     slot: usize,
     bytes: &mut [u8],
-) -> AppReceived
+) -> UipReceived
     ensures known { IsCallStatus result.status }
     ensures fine { result.status ≡ OK → ReadsSlot slot result bytes.old bytes.new device.old.held.device }
     ensures no_device { result.status ≡ NO_DEVICE → device.old.held.device ≡ None }
@@ -150,21 +111,16 @@ pub extern "C" fn uip_app_read(
     ensures same { device.new.held.device ≡ device.old.held.device }
 {
     if slot >= 10 {
-        return unread(BAD_ARGUMENT);
+        return UipReceived::unread(BAD_ARGUMENT);
     }
     let Some(opened) = take_out(alloc, device) else {
-        return unread(NO_DEVICE);
+        return UipReceived::unread(NO_DEVICE);
     };
-    let ready = ready_flag(is_ready(&opened.node, slot));
-    let port = own_port(&opened.node, slot) as u32;
+    let is_ready = is_ready(&opened.node, slot);
+    let port = own_port(&opened.node, slot);
     let len = copy_prefix(pending(&opened.node, slot), bytes);
     put_in(device, opened);
-    AppReceived {
-        status: OK,
-        ready,
-        port,
-        len,
-    }
+    UipReceived::read(is_ready, port, len)
 }
 
 /// Writes a message of at most 260 bytes to the connection in a slot, and makes the periodic call of the slot, which sends it. The message
@@ -178,7 +134,7 @@ pub extern "C" fn uip_app_write(
     text: &[u8],
     last: u32,
     frame: &mut [u8],
-) -> AppResult
+) -> UipResult
     ensures known { IsWriteStatus result.status }
     ensures fine { result.status ≡ OK
         → OwnWrites slot taken text.now (last == 1) device.old.held.device device.new.held.device (take result.written frame.new) }
@@ -192,16 +148,45 @@ pub extern "C" fn uip_app_write(
         → Refused result frame.old frame.new device.old.held.device device.new.held.device }
 {
     if slot >= 10 || text.len() > MESSAGE_ROOM || frame.len() < LARGEST_OUT {
-        return AppResult::refused(BAD_ARGUMENT);
+        return UipResult::refused(BAD_ARGUMENT);
     }
     let Some(mut opened) = take_out(alloc, device) else {
-        return AppResult::refused(NO_DEVICE);
+        return UipResult::refused(NO_DEVICE);
     };
     if !write(&mut opened.node, slot, taken, text, last == 1) {
         put_in(device, opened);
-        return AppResult::refused(NOT_READY);
+        return UipResult::refused(NOT_READY);
     }
     let sent = opened.periodic(slot, frame);
     put_in(device, opened);
-    AppResult::done(0, sent)
+    UipResult::done(0, sent, None)
+}
+
+/// Opens a port of a device. Returns false and changes nothing if it is not open and four others are.
+fn listen(device: &mut OwnEther, port: u16) -> bool
+    ensures can { result ≡ can_listen port (ports_of device.old) }
+    ensures opens { result ≡ true → OpensPort port device.old device.new }
+    ensures refused { result ≡ false → device.new ≡ device.old }
+{
+    device.node.shared.listen(port)
+}
+
+/// Opens a port, at most four, for the application. A device that was just opened has none. A port that is open stays open.
+#[unsafe(no_mangle)]
+pub extern "C" fn uip_app_listen(alloc: Global, device: &mut AppDevice, port: u32) -> u32
+    ensures known { IsCallStatus result }
+    ensures fine { result ≡ OK → OwnListens port device.old.held.device device.new.held.device }
+    ensures no_device { result ≡ NO_DEVICE → device.old.held.device ≡ None }
+    ensures bad_call { (result == BAD_ARGUMENT) ≡ (not (is_program_port port) || has_no_room port device.old.held.device) }
+    ensures refused { (result ≡ OK → ⊥) → device.new.held.device ≡ device.old.held.device }
+{
+    if !is_program_port(port) {
+        return BAD_ARGUMENT;
+    }
+    let Some(mut opened) = take_out(alloc, device) else {
+        return NO_DEVICE;
+    };
+    let can_listen = listen(&mut opened, port as u16);
+    put_in(device, opened);
+    if can_listen { OK } else { BAD_ARGUMENT }
 }

@@ -1,8 +1,6 @@
-//! What holds of calls from C, and the numbers of the header.
+//! What holds of calls from C.
 
-ghost use Rattle.uip_app_c.specs.AppCalls.{CallsAreExact};
-ghost use Rattle.uip_app_c.specs.AppPromise.{AppCallsConform};
-ghost use Rattle.uip_app_c.specs.ConstantValues.{ConstantValues};
+ghost use Rattle.uip_app_c.specs.Prelude.{AppCallsConform, CallsAreExact};
 
 /// Holds for any sequence of calls on a handle that was just opened, successful or refused. A frame for a port that is not open is dropped.
 /// Each other call writes exactly the frame that the initial node and its link send for its events, or none. Each message was written to a
@@ -19,9 +17,4 @@ pub fn app_calls_are_exact()
 /// taught last.
 pub fn app_calls_keep_the_promise()
     ensures { AppCallsConform }
-{}
-
-/// The constants have the values that the header names.
-pub fn constant_values()
-    ensures { ConstantValues }
 {}

@@ -1,13 +1,14 @@
 //! Opening and closing a device.
 
-ghost use Rattle.std.specs.Prelude.{◌≡◌, ◌==◌, ◌⊎◌, IfOk, true};
+ghost use Rattle.std.specs.Prelude.{◌≡◌, ◌==◌, ◌⊎◌, IfOk};
 ghost use Rattle.std.specs.Option.{is_some};
 ghost use Rattle.std.specs.declared.option.Option.TheVariants.{None};
-ghost use Rattle.uip_app_c.specs.Handles.{IsFreshOwnEther, OpensOwn};
+ghost use Rattle.c_calls.specs.Prelude.{ClosesHandle};
+ghost use Rattle.uip_app_c.specs.Prelude.{IsFreshOwnEther, OpensOwn};
 
 use crate::handle::{AppDevice, put_in, take_out};
 use crate::held::OwnEther;
-use crate::status::{HAS_DEVICE, NO_DEVICE, NO_MEMORY, OK};
+use c_calls::{HAS_DEVICE, NO_MEMORY, OK, free};
 use ethernet_arp::Mac;
 use frame_device::{Ethernet, FrameDevice, Network};
 use own_app::OwnShared;
@@ -64,17 +65,7 @@ pub extern "C" fn uip_app_open(
 /// Closes the handle's device and frees its memory. Its connections end without a segment.
 #[unsafe(no_mangle)]
 pub extern "C" fn uip_app_close(alloc: Global, device: &mut AppDevice) -> u32
-    ensures known { (result ≡ OK) ⊎ (result ≡ NO_DEVICE) }
-    ensures fine { result ≡ OK → is_some device.old.held.device ≡ true }
-    ensures no_device { result ≡ NO_DEVICE → device.old.held.device ≡ None }
-    ensures closed { device.new.held.device ≡ None }
-    ensures shut { device.new.is_open ≡ 0 }
+    ensures closes { ClosesHandle None is_some result device.new.is_open device.old.held.device device.new.held.device }
 {
-    match take_out(alloc, device) {
-        None => NO_DEVICE,
-        Some(opened) => {
-            drop(opened);
-            OK
-        }
-    }
+    free(take_out(alloc, device))
 }

@@ -4,13 +4,12 @@ ghost use Rattle.std.specs.Prelude.{◌≡◌};
 ghost use Rattle.std.specs.declared.option.Option.TheVariants.{None};
 
 use crate::calls::{
-    AppReceived, uip_app_input_frame, uip_app_periodic_frame, uip_app_read, uip_app_write,
+    uip_app_input_frame, uip_app_listen, uip_app_periodic_frame, uip_app_read, uip_app_write,
 };
 use crate::handle::AppDevice;
 use crate::held::Held;
-use crate::listening::uip_app_listen;
 use crate::opening::{uip_app_close, uip_app_open};
-use crate::status::{AppResult, BAD_ARGUMENT, HAS_DEVICE, NO_DEVICE, NOT_READY, OK};
+use c_calls::{BAD_ARGUMENT, HAS_DEVICE, NO_DEVICE, NOT_READY, OK, UipReceived, UipResult};
 use frame_device::LARGEST_OUT;
 use frame_device::worked::{
     ARP_REPLY, ARP_REQUEST, FAR_PING, FAR_REPLY, ROUTER_REPLY, ROUTER_REQUEST,
@@ -78,7 +77,7 @@ fn check_reply(
     frame[..42].copy_from_slice(sent);
     assert_eq!(rt;
         uip_app_input_frame(alloc, device, &mut frame, 42),
-        AppResult::done(42, reply.len())
+        UipResult::done(42, reply.len(), None)
     );
     assert!(rt; frame.starts_with(reply));
 }
@@ -86,7 +85,7 @@ fn check_reply(
 /// Each call that changes a device is refused with this status.
 fn check_refused(rt: &impl Abort, alloc: Global, device: &mut AppDevice, status: u32) {
     let mut frame = [0; LARGEST_OUT];
-    let refused = AppResult::refused(status);
+    let refused = UipResult::refused(status);
     assert_eq!(rt; uip_app_input_frame(alloc, device, &mut frame, 42), refused);
     assert_eq!(rt;
         uip_app_periodic_frame(alloc, device, 9, &mut frame),
@@ -124,9 +123,9 @@ fn a_device_answers_arp_and_has_no_connection(rt: HostRuntime) {
     let mut frame = [0; LARGEST_OUT];
     assert_eq!(rt;
         uip_app_periodic_frame(alloc, &mut device, 0, &mut frame),
-        AppResult::done(0, 0)
+        UipResult::done(0, 0, None)
     );
-    let closed = AppReceived {
+    let closed = UipReceived {
         status: OK,
         ready: 0,
         port: 0,
@@ -135,7 +134,7 @@ fn a_device_answers_arp_and_has_no_connection(rt: HostRuntime) {
     assert_eq!(rt; uip_app_read(alloc, &mut device, 9, &mut frame), closed);
     assert_eq!(rt;
         uip_app_write(alloc, &mut device, 9, 0, b"bye\n", 1, &mut frame),
-        AppResult::refused(NOT_READY)
+        UipResult::refused(NOT_READY)
     );
     close(&rt, alloc, device);
 }
@@ -160,7 +159,7 @@ fn four_ports_are_opened(rt: HostRuntime) {
     frame[..54].copy_from_slice(&SYN);
     assert_eq!(rt;
         uip_app_input_frame(alloc, &mut device, &mut frame, 54),
-        AppResult::done(54, 0)
+        UipResult::done(54, 0, None)
     );
     for port in [502, 23, 5025, 65535, 502] {
         assert_eq!(rt; uip_app_listen(alloc, &mut device, port), OK);
@@ -168,7 +167,7 @@ fn four_ports_are_opened(rt: HostRuntime) {
     assert_eq!(rt; uip_app_listen(alloc, &mut device, 7), BAD_ARGUMENT);
     assert_eq!(rt;
         uip_app_input_frame(alloc, &mut device, &mut frame, 54),
-        AppResult::done(54, 58)
+        UipResult::done(54, 58, None)
     );
     close(&rt, alloc, device);
 }
@@ -178,7 +177,7 @@ fn a_bad_argument_is_refused(rt: HostRuntime) {
     let alloc = rt.alloc();
     let mut device = opened(&rt, alloc);
     let mut frame = [0; LARGEST_OUT];
-    let refused = AppResult::refused(BAD_ARGUMENT);
+    let refused = UipResult::refused(BAD_ARGUMENT);
     assert_eq!(rt;
         uip_app_input_frame(alloc, &mut device, &mut frame, 1515),
         refused

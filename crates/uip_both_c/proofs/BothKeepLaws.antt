@@ -1,29 +1,14 @@
 -- Calls on a handle, one after the other, keep the promise.
-use Rattle.std.specs.List.{All}
-use Rattle.std.proofs.Common.{◌≡◌, ◌∙◌, ℕ, ◌+◌, ◌<◌, Bool, true, false, if◌then◌else◌, List, [], ◌∷◌, ◌++◌, length, map, sym, ap, subst, arith}
-use Rattle.std.proofs.lemmas.List.{length-map}
+use Rattle.uip_both_c.proofs.Prelude.{All, ◌≡◌, ◌∙◌, ℕ, ◌+◌, ◌<◌, Bool, true, false, if◌then◌else◌, List, [], ◌∷◌, ◌++◌, length, map, sym, ap, subst, arith, length-map, AppSpec, IsAddr, IsPrefixOf, IsU32, Snapshot, others_stay, own_u32, pair_u32, second_back, with_own_u32, change_own, own_numbers, Act, Mac, files_of, words, words_bytes, words_short, CallsSlot, DoesNothing, FrameCall, FrameSpec, InputsFrame, IsFrameOfBytes, Makes, acts_before, ether_brings_bytes, interface_at, station_events_by, Network, DidInTurn, program_calls, IsOfLine, at_end, call_few, each_by, each_with, events_of_call, program_goes_home, node_of_call, periodic_events, program_conforms, PlainMessage, is_own_port, messages_text, no_message, numbers_of, own_output_model, own_spec, write_message, HasCaptured, next_message_at, own_connection, with_change, Station, File, AnsweredCall, BothCall, BothCallsConform, BothTraceConforms, Calls, Captures, CouldWrite, Gives, IsCallOfBytes, Kept, Listens, OfEachCall, OpensBoth, Writes, both_model, both_program, both_spec, call_at, change_by, connection_after, first_both_numbers, first_station, is_both_port, is_dropped, link_of, own_in, ports_after_call, station_after_call, station_after_calls, text_in_call, undropped, choose, first_numbers, value_pages, value_spec, write_value, first_words, written_words, AbstractNode, Event, Periodic, connection_in, run, Addr}
 use Rattle.std.proofs.lemmas.List.Elements.{All-cons, All-head, All-nil, All-tail}
-use Rattle.app_events.specs.Prelude.{AppSpec, IsAddr, IsPrefixOf, IsU32, Snapshot}
-use Rattle.app_pair.specs.Lemmas.NumberLaws.{others_stay, own_u32, pair_u32, second_back, with_own_u32}
-use Rattle.app_pair.specs.PairNumbers.{change_own, own_numbers}
 use Rattle.app_pair.specs.PairSpec.{CanBePaired, own_snapshot}
-use Rattle.ethernet_arp.specs.Prelude.{Act}
-use Rattle.ethernet_arp.specs.declared.mac.Mac.{Mac}
-use Rattle.file_tree.specs.Prelude.{files_of}
-use Rattle.device_values.specs.Prelude.{words, words_bytes, words_short}
-use Rattle.frame_device.specs.Prelude.{CallsSlot, DoesNothing, FrameCall, FrameSpec, InputsFrame, IsFrameOfBytes, Makes, acts_before, ether_brings_bytes, interface_at, station_events_by}
-use Rattle.frame_device.specs.declared.network.Network.{Network}
-use Rattle.frame_device.specs.ProgramCalls.{DidInTurn, program_calls}
-use Rattle.frame_device.proofs.ProgramLaws.{IsOfLine, at_end, call_few, each_by, each_with, events_of_call, program_goes_home, node_of_call, periodic_events, program_conforms}
 use Rattle.line_promise.specs.Prelude.{events_among}
 use Rattle.frame_device.specs.Newest.{NewestConforms}
 use Rattle.node_laws.specs.Prelude.{Exchange, OutputModel, TextConforms, at_every_port}
 use Rattle.node_laws.proofs.EveryTraceConforms.{paged_everywhere}
 use Rattle.frame_device.proofs.Newest.{newest_text}
 use Rattle.own_app.specs.Lemmas.OwnPairs.{own_can_pair}
-use Rattle.own_app.specs.Prelude.{PlainMessage, is_own_port, messages_text, no_message, numbers_of, own_output_model, own_spec, write_message}
 use Rattle.own_app.proofs.OwnLines.{own_speaks, written_u32}
-use Rattle.own_node.specs.Prelude.{HasCaptured, next_message_at, own_connection, with_change}
 use Rattle.own_node.specs.Written.{is_accepted, text_written}
 use Rattle.own_node.proofs.Alone.{own_words}
 use Rattle.own_node.proofs.Containing.{view, view_own}
@@ -31,24 +16,11 @@ use Rattle.own_node.proofs.InPair.{in_pair, pair_captured, pair_message, pair_wr
 use Rattle.own_node.proofs.WrittenLaws.{Follows, HasWrittenText, Holds, HoldsAfter, change_follows, change_leaves, events_leave, first_follows, first_holds, run_follows}
 use Rattle.pair_laws.specs.PairLines.{own_model}
 use Rattle.pair_laws.proofs.PairLines.{speaks_on_lines}
-use Rattle.serve_loop.specs.Prelude.{Station}
-use Rattle.site_image.specs.Prelude.{File}
 use Rattle.tcp_machine.specs.Prelude.{Connection}
-use Rattle.uip_both_c.specs.BothCalls.{AnsweredCall, BothCall, Calls, CouldWrite, Gives, Listens, OfEachCall, Writes, both_program, call_at, change_by, first_station, link_of, ports_after_call, station_after_call, station_after_calls, undropped}
-use Rattle.uip_both_c.specs.BothPromise.{BothCallsConform, BothTraceConforms, Captures, IsCallOfBytes, both_model, connection_after, text_in_call}
-use Rattle.uip_both_c.specs.BothSpec.{both_spec, first_both_numbers, is_both_port, own_in}
-use Rattle.uip_both_c.specs.Kept.{Kept}
-use Rattle.uip_both_c.specs.Opening.{OpensBoth}
-use Rattle.uip_both_c.specs.Ports.{is_dropped}
 use Rattle.uip_both_c.proofs.BothLaws.{Did, did_undropped, undropped_exact}
-use Rattle.uip_node.proofs.Basics.{choose}
 use Rattle.uip_device.specs.Lemmas.PagePairs.{pages_can_pair}
-use Rattle.uip_device.specs.Prelude.{first_numbers, value_pages, value_spec, write_value}
-use Rattle.uip_device.proofs.WebLaws.{first_words, written_words}
 use Rattle.uip_node.proofs.DeliveredBytes.{page_bytes}
 use Rattle.uip_node.proofs.Steadiness.{steady_of}
-use Rattle.uip_node.specs.Prelude.{AbstractNode, Event, Periodic, connection_in, run}
-use Rattle.uip_wire.specs.declared.addr.Addr.{Addr}
 use Rattle.web_pages.proofs.ByteLaws.{made_of_bytes_by}
 use Rattle.web_pages.proofs.PageLaws.{keeps_page_laws_by}
 
@@ -160,7 +132,7 @@ messages_sent : (files : List File) (c : Connection) (exchanges : List Exchange)
 messages_sent files c exchanges it mine =
     let model_is : both_model files c.sockets.own_port.0 ≡ own_model true (own_output_model c.sockets.own_port.0) =
     ap (λ (b : Bool). if b then own_model true (own_output_model c.sockets.own_port.0) else own_model false (at_every_port (value_pages files) c.sockets.own_port.0)) mine in
-    let text = subst (λ (model : OutputModel). TextConforms model it.incarnation (it.conforms.account 0)) model_is (newest_text (both_model files c.sockets.own_port.0) c exchanges it) in
+    let text = subst (λ (model : OutputModel). TextConforms model it.newest.incarnation (it.conforms.account 0)) model_is (newest_text (both_model files c.sockets.own_port.0) c exchanges it) in
     subst (λ (ks : List Snapshot). IsPrefixOf (it.conforms.account 0).stream (messages_text (map (own_snapshot true) ks))) it.snapshots text.0.2.prefix
 
 both_words : (files : List File) → All IsU32 (first_both_numbers files)

@@ -1,18 +1,9 @@
 -- Calls on a handle, one after the other, are exact.
-use Rattle.uip_both_c.proofs.Prelude.{Act, Addr, AbstractNode, AnsweredCall, AppState, Bool, BothAnswers, BothApps, BothAtStation, BothCall, BothEther, BothGives, BothListens, BothInputs, BothWrites, Calls, CallsAreExact, CallsSlot, CouldWrite, DidCall, DidCalls, DoesNothing, Ethernet, File, FrameCall, Gives, HasBoth, InputsFrame, IsExact, Kept, List, Listens, Mac, Network, None, OpensBothAs, PlainMessage, Represents, Some, Station, Writes, [], ◌∷◌, ap, both, both_spec, call_at, change_own, choose, files_of, first_station, interface_at, first_both_numbers, is_dropped, ports_after, ports_after_call, ports_of, site_of, station_after_call, subst, sym, true, undropped, with_change, with_port, with_ports_of, write_message, ℕ, ◌∙◌, ◌≡◌}
+use Rattle.uip_both_c.proofs.Prelude.{AbstractNode, Act, Addr, All, AnsweredCall, AppState, AreAtOpenPorts, Bool, BothAnswers, BothApps, BothAtStation, BothCall, BothEther, BothGives, BothInputs, BothListens, BothWrites, Calls, CallsAreExact, CallsSlot, CouldWrite, DidCall, DidCalls, DidInTurn, DoesNothing, Ethernet, File, FrameCall, Gives, HasOne, InputsFrame, IsExact, Kept, List, Listens, Mac, Network, None, OpensBothAs, PlainMessage, Represents, Some, Station, Writes, [], all_exact, ap, before_program_call, both, both_program, both_spec, call_at, change_own, choose, connection_in, eqb, events_of_call, files_of, first_both_numbers, first_station, interface_at, is_both_port, is_dropped, is_open_port, link_of, node_of_call, ports_after, ports_after_call, ports_of, program_calls, program_frame, site_of, station_after_call, station_after_calls, subst, sym, true, undropped, with_change, with_port, with_ports_of, write_message, ℕ, ◌∙◌, ◌∷◌, ◌≡◌}
 use Rattle.app_pair.specs.declared.pair.AppPair.TheVariants as pair
-use Rattle.frame_device.specs.ProgramCalls.{DidInTurn, before_program_call, program_calls, program_frame}
 use Rattle.frame_device.proofs.Arrivals.{frame_each, slot_each}
-use Rattle.frame_device.proofs.ProgramLaws.{all_exact, events_of_call, node_of_call}
-use Rattle.own_app.specs.Prelude.{is_open_port}
 use Rattle.own_node.proofs.OpenPorts.{IsAt, first_at, frame_at, or_more, run_at, stays_open}
-use Rattle.own_node.specs.Prelude.{AreAtOpenPorts}
-use Rattle.std.proofs.Common.{eqb}
-use Rattle.std.specs.List.{All}
-use Rattle.uip_both_c.specs.BothCalls.{both_program, link_of, station_after_calls}
-use Rattle.uip_node.specs.Prelude.{connection_in}
 use Rattle.uip_wire.specs.declared.port.TheConstants.{WEB_PORT}
-use Rattle.uip_both_c.specs.BothSpec.{is_both_port}
 use Rattle.frame_device.specs.contracts.ether.EthernetFrames.TheImpl.{ghosts as ether_link}
 
 abbrev both_or : BothEther → Kept → BothEther
@@ -33,7 +24,7 @@ Did (Gives number text) old new handed = BothGives number text old new × (hande
 Did (Listens port) old new handed = BothListens port old new × (handed ≡ [])
 
 abbrev HasPorts : List ℕ → Kept → Type 0
-HasPorts ports kept = HasBoth (λ d. ports_of d ≡ ports) kept
+HasPorts ports kept = HasOne BothEther (λ d. ports_of d ≡ ports) kept
 
 -- the ports of a device that there was
 ports_were : (ports : List ℕ) (a : Kept) (x : BothEther) → HasPorts ports a → a ≡ Some x → ports_of x ≡ ports
@@ -49,10 +40,10 @@ inputs_undropped ports frame a b handed has it =
     let were = ports_were ports a it.before has it.was in
     let same = ap (λ (l : List ℕ). is_dropped l frame) were in
     choose (λ (call : FrameCall). Did (Calls call) a b handed × HasPorts ports b) (is_dropped ports frame) DoesNothing (InputsFrame frame)
-    (λ e. (let dropped = it.inputs.dropped (same ∙ e) in
+    (λ e. (let dropped = it.holds.dropped (same ∙ e) in
     let stays : b ≡ a = it.is ∙ ap (λ (d : BothEther). Some d) dropped.0 ∙ sym it.was in ((stays, dropped.1), (has.0, stays ∙ has.1, has.2))))
-    (λ e. (let answers = it.inputs.answers (same ∙ e) in (
-      record { before = it.before; after = it.after; was = it.was; is = it.is; answers = answers },
+    (λ e. (let answers = it.holds.answers (same ∙ e) in (
+      record { before = it.before; after = it.after; was = it.was; is = it.is; holds = answers },
       (it.after, it.is, ports_stay it.before it.after answers.kept ∙ were),
     )))
 
@@ -60,14 +51,14 @@ one_undropped : (ports : List ℕ) (call : BothCall) (a b : Kept) (handed : List
     → Did (call_at ports call) a b handed × HasPorts (ports_after_call call ports) b
 one_undropped ports (Calls (InputsFrame frame)) a b handed has it = inputs_undropped ports frame a b handed has it
 one_undropped ports (Calls (CallsSlot slot)) a b handed has it =
-    (it, (it.after, it.is, ports_stay it.before it.after it.answers.kept ∙ ports_were ports a it.before has it.was))
+    (it, (it.after, it.is, ports_stay it.before it.after it.holds.kept ∙ ports_were ports a it.before has it.was))
 one_undropped ports (Calls DoesNothing) a b handed has it = (it, (has.0, it.0 ∙ has.1, has.2))
 one_undropped ports (Writes slot taken text last) a b handed has it =
     (it, (it.after, it.is, ports_stay it.between it.after it.answers.kept ∙ ports_stay it.before it.between it.writes.kept ∙ ports_were ports a it.before has it.was))
 one_undropped ports (Gives number text) a b handed has it =
-    (it, (it.0.after, it.0.is, ports_stay it.0.before it.0.after it.0.gives.kept ∙ ports_were ports a it.0.before has it.0.was))
+    (it, (it.0.after, it.0.is, ports_stay it.0.before it.0.after it.0.holds.kept ∙ ports_were ports a it.0.before has it.0.was))
 one_undropped ports (Listens port) a b handed has it =
-    (it, (it.0.after, it.0.is, it.0.opens.ports ∙ ap (λ (l : List ℕ). with_port port l) (ports_were ports a it.0.before has it.0.was)))
+    (it, (it.0.after, it.0.is, it.0.holds.ports ∙ ap (λ (l : List ℕ). with_port port l) (ports_were ports a it.0.before has it.0.was)))
 
 all_undropped : (ports : List ℕ) (all : List AnsweredCall) (a c : Kept) → HasPorts ports a → DidCalls all a c
     → DidInTurn Did (undropped ports all) a c × HasPorts (ports_after (program_calls all) ports) c
@@ -108,11 +99,11 @@ module _ (files : List File) (own : Addr) (mac : Mac) (network : Network) where
   by_call : (call : FrameCall) (d : BothEther) (s : Station Act) (a b : Kept) (handed : List ℕ) → a ≡ Some d → Here d s → BothAnswers call a b handed → Step (Calls call) s b handed
   by_call call d s a b handed is here it =
       let at : Here it.before s = subst (λ (x : BothEther). Here x s) (sym (same_both it.before d (sym it.was ∙ is))) here in
-      let from = it.answers.each (interface_at own mac network) (both_spec files) own s at.station in
+      let from = it.holds.each (interface_at own mac network) (both_spec files) own s at.station in
       record {
         after = it.after;
         is = it.is;
-        here = record { files_are = files_stay it.before it.after it.answers.kept at.files_are; station = from.0 };
+        here = record { files_are = files_stay it.before it.after it.holds.kept at.files_are; station = from.0 };
         wrote = from.1;
         could = tt;
       }
@@ -157,8 +148,8 @@ module _ (files : List File) (own : Addr) (mac : Mac) (network : Network) where
         after = it.after;
         is = it.is;
         here = record {
-          files_are = files_stay it.before it.after it.gives.kept at.files_are;
-          station = it.gives.each (interface_at own mac network) (both_spec files) own s at.station;
+          files_are = files_stay it.before it.after it.holds.kept at.files_are;
+          station = it.holds.each (interface_at own mac network) (both_spec files) own s at.station;
         };
         wrote = none;
         could = tt;
@@ -195,7 +186,7 @@ module _ (files : List File) (own : Addr) (mac : Mac) (network : Network) where
       record {
         after = it.after;
         is = it.is;
-        here = subst (λ (x : BothEther). Here x s) (sym it.opens.rest) (opened_here it.before it.after s at);
+        here = subst (λ (x : BothEther). Here x s) (sym it.holds.rest) (opened_here it.before it.after s at);
         wrote = none;
         could = tt;
       }
@@ -245,7 +236,7 @@ module _ (files : List File) (own : Addr) (mac : Mac) (network : Network) where
   calls_at_ports ports (it ∷ all) s each = calls_at_ports (ports_after_call it.call ports) all (after (call_at ports it.call) s) (call_at_ports ports it.call s each)
 
   abbrev KeptHere : Kept → Station Act → Type 0
-  KeptHere kept s = HasBoth (λ d. Here d s) kept
+  KeptHere kept s = HasOne BothEther (λ d. Here d s) kept
 
   one_call : (call : BothCall) (s : Station Act) (a b : Kept) (handed : List ℕ) → KeptHere a s → Did call a b handed
       → KeptHere b (station_after_call files own mac network call s) × (handed ≡ sent_at call s) × CouldWrite call s
@@ -263,7 +254,7 @@ undropped_exact files own mac network all closed old new opens did =
 -- without the frames that are dropped, from the start
 pub did_undropped : (files : List File) (own : Addr) (mac : Mac) (network : Network) (all : List AnsweredCall) (closed old new : Kept)
     → OpensBothAs files own mac network closed old → DidCalls all old new
-    → DidInTurn Did (undropped [] all) old new × HasBoth (λ d. ports_of d ≡ ports_after (program_calls all) []) new
+    → DidInTurn Did (undropped [] all) old new × HasOne BothEther (λ d. ports_of d ≡ ports_after (program_calls all) []) new
 did_undropped files own mac network all closed old new opens did = all_undropped [] all old new (opens.1.0, opens.1.1, opens.1.2.ports) did
 
 pub calls_exact : CallsAreExact

@@ -1,6 +1,5 @@
 -- What opening a device and setting a value in it give.
-use Rattle.uip_both_c.proofs.Prelude.{◌≡◌, Addr, BothEther, BothNode, BothShared, Bool, ChangesNode, ChangesNumbers, DeviceWeb, IsFirstShared, IsFreshFrameDevice, IsOfImage, IsOpenedBoth, List, Mac, Network, OwnShared, PlainMessage, ap, both, both_spec, change_own, false, files_of, first_both_numbers, first_numbers, if◌then◌else◌, interface_at, message_of, no_message, numbers_of, pair_numbers, refl, subst, sym, true, write_value, ℕ, [], ◌∙◌}
-use mir.Val.{bool_byte}
+use Rattle.uip_both_c.proofs.Prelude.{◌≡◌, Addr, BothEther, BothNode, BothShared, ChangesNode, ChangesNumbers, DeviceWeb, IsFirstShared, IsFreshFrameDevice, IsOfImage, IsOpenedBoth, List, Mac, Network, OwnShared, PlainMessage, ap, both, both_spec, change_own, false, files_of, first_both_numbers, first_numbers, interface_at, message_of, no_message, numbers_of, pair_numbers, refl, subst, sym, true, write_value, ℕ, [], ◌∙◌}
 use Rattle.frame_device.specs.contracts.ether.EthernetFrames.TheImpl.{ghosts as ether_link}
 
 abbrev shared_of : DeviceWeb → OwnShared → BothShared
@@ -37,7 +36,3 @@ both_given number text d node changes = record {
   kept = changes.kept;
   each = λ k m own s here. record { stands = changes.stands m own s.node here.stands; acted = here.acted };
 }
-
-pub byte_of : (b : Bool) → bool_byte b ≡ (if b then 1 else 0)
-byte_of true = refl
-byte_of false = refl

@@ -1,5 +1,6 @@
 -- Calls on a handle, one after the other, and what the definition of the node and its link gives for them.
 use Rattle.std.specs.Prelude.{◌≡◌, ℕ, Bool, List, [], ◌∷◌, false, if◌then◌else◌, map, true, ⊤}
+use Rattle.c_calls.specs.Prelude.{HasOne}
 use Rattle.app_pair.specs.PairNumbers.{change_own}
 use Rattle.ethernet_arp.specs.Prelude.{Act}
 use Rattle.ethernet_arp.specs.declared.mac.Mac.{Mac}
@@ -16,7 +17,7 @@ use Rattle.serve_loop.specs.Prelude.{Station, initial_station}
 use Rattle.site_image.specs.Prelude.{File}
 use Rattle.uip_both_c.specs.BothSpec.{both, both_spec, first_both_numbers, is_both_port, own_in, site_of}
 use Rattle.uip_both_c.specs.Handles.{BothAnswers, BothGives, BothWrites, OpensBothAs}
-use Rattle.uip_both_c.specs.Kept.{BothEther, HasBoth, Kept}
+use Rattle.uip_both_c.specs.Kept.{BothEther, Kept}
 use Rattle.uip_both_c.specs.Ports.{BothListens, BothInputs, is_dropped, ports_of}
 use Rattle.uip_device.specs.Prelude.{write_value}
 use Rattle.uip_wire.specs.declared.addr.Addr.{Addr}
@@ -124,14 +125,14 @@ pub record IsExact (files : List File) (own : Addr) (mac : Mac) (network : Netwo
       ≡ program_frames both_program (both_spec files) is_both_port (link_of own mac network) own (program_calls all)
       (first_station files own)
   pub could : OfEachCall files own mac network CouldWrite (program_calls all) (first_station files own)
-  pub represents : HasBoth (λ d. BothAtStation files own mac network d
+  pub represents : HasOne BothEther (λ d. BothAtStation files own mac network d
       (station_after_calls files own mac network (program_calls all) (first_station files own))) new
 
 -- The open ports of the device are those that the calls opened. Each connection that is not CLOSED is at one of them, or at that of the
 -- pages.
 pub record HasOpenPorts (files : List File) (own : Addr) (mac : Mac) (network : Network) (all : List AnsweredCall) (new : Kept)
     : Type 0 where
-  pub ports : HasBoth (λ d. ports_of d ≡ ports_after (program_calls all) []) new
+  pub ports : HasOne BothEther (λ d. ports_of d ≡ ports_after (program_calls all) []) new
   pub connections : AreAtOpenPorts (WEB_PORT ∷ ports_after (program_calls all) [])
       (station_after_calls files own mac network (program_calls (undropped [] all)) (first_station files own)).node
 

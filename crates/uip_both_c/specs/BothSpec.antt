@@ -1,5 +1,6 @@
 -- A node with the pages of a site at port 80 and the application of the program's own at its ports.
 use Rattle.std.specs.Prelude.{◌≡◌, ℕ, ◌||◌, Bool, List, if◌then◌else◌}
+use Rattle.c_calls.specs.Prelude.{HasOne}
 use Rattle.app_events.specs.Prelude.{AppSpec}
 use Rattle.app_events.specs.declared.app.App.{Ghosts}
 use Rattle.app_pair.specs.PairNumbers.{pair_numbers}
@@ -12,7 +13,7 @@ use Rattle.own_node.specs.Prelude.{OfNodeWith, is_open_state, seen_in_pair}
 use Rattle.serve_loop.specs.Prelude.{IsNode}
 use Rattle.site_image.specs.Prelude.{File}
 use Rattle.tcp_machine.specs.Prelude.{Connection}
-use Rattle.uip_both_c.specs.Kept.{BothApps, BothEther, BothNode, BothShared, HasBoth, Kept}
+use Rattle.uip_both_c.specs.Kept.{BothApps, BothEther, BothNode, BothShared, Kept}
 use Rattle.uip_device.specs.Prelude.{first_numbers, value_spec}
 use Rattle.uip_device.specs.contracts.value_pages.ValuePagesApp.TheImpl.{ghosts as page_ghosts}
 use Rattle.uip_node.specs.Prelude.{AbstractNode, connection_in}
@@ -64,4 +65,4 @@ pub record BothRepresents (files : List File) (own : Addr) (it : BothNode) (n : 
 -- There is a device, and P holds of its files and of each abstract node that its node represents.
 abbrev pub HasAbstractNode : (List File → AbstractNode → Type 0) → Kept → Type 0
 HasAbstractNode P kept =
-    HasBoth (λ d. (files : List File) (own : Addr) (n : AbstractNode) → BothRepresents files own d.node n → P files n) kept
+    HasOne BothEther (λ d. (files : List File) (own : Addr) (n : AbstractNode) → BothRepresents files own d.node n → P files n) kept

@@ -1,7 +1,5 @@
 -- What a handle keeps: a device, or none.
-use Rattle.std.specs.Prelude.{◌≡◌}
 use Rattle.std.specs.declared.option.Option.{Option}
-use Rattle.std.specs.declared.option.Option.TheVariants.{Some}
 use Rattle.app_pair.specs.declared.pair.AppPair.{AppPair}
 use Rattle.app_pair.specs.declared.pair.PairShared.{PairShared}
 use Rattle.frame_device.specs.declared.device.FrameDevice.{FrameDevice}
@@ -28,7 +26,3 @@ BothEther = FrameDevice BothApps Ethernet BothShared
 
 abbrev pub Kept : Type 0
 Kept = Option BothEther
-
--- There is a device, and P holds of it.
-abbrev pub HasBoth : (BothEther → Type 0) → Kept → Type 0
-HasBoth P kept = (d : BothEther) × (kept ≡ Some d) × P d

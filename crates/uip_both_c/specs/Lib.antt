@@ -4,7 +4,6 @@ pub mod Holding
 pub mod Ports
 pub mod Handles
 pub mod Opening
-pub mod Rows
 pub mod BothCalls
 pub mod BothPromise
-pub mod ConstantValues
+pub mod Prelude

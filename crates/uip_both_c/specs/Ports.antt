@@ -1,6 +1,7 @@
 -- The open ports of a device: a port is opened, and a frame for one that is not open is dropped.
 use Rattle.std.specs.Prelude.{◌≡◌, ℕ, Bool, true, false, not, List, [], ◌∷◌}
 use Rattle.std.specs.declared.option.Option.TheVariants.{None, Some}
+use Rattle.c_calls.specs.Prelude.{DropsOr, StillHas}
 use Rattle.frame_device.specs.Prelude.{AnswersFrame, InputsFrame}
 use Rattle.frame_device.specs.contracts.ether.EthernetFrames.TheImpl.{ghosts as ether_link}
 use Rattle.own_app.specs.Prelude.{can_listen, with_port}
@@ -25,12 +26,8 @@ pub record OpensPort (port : ℕ) (old new : BothEther) : Type 0 where
   pub rest : new ≡ with_ports_of new old
 
 -- There was a device and there still is one, at which this port was opened.
-pub record BothListens (port : ℕ) (old new : Kept) : Type 0 where
-  pub before : BothEther
-  pub after : BothEther
-  pub was : old ≡ Some before
-  pub is : new ≡ Some after
-  pub opens : OpensPort port before after
+abbrev pub BothListens : ℕ → Kept → Kept → Type 0
+BothListens port old new = StillHas Some (λ before after. OpensPort port before after) old new
 
 -- There is a device at which this port cannot be opened.
 abbrev pub has_no_room : ℕ → Kept → Bool
@@ -43,14 +40,10 @@ is_dropped ports frame = is_for_closed_port (WEB_PORT ∷ ports) frame
 
 -- A frame for a port that is not open is dropped: no bytes were written, and nothing changed. Any other frame was received, and the call
 -- wrote this frame, or no bytes.
-pub record InputsOrDrops (frame : List ℕ) (old new : BothEther) (handed : List ℕ) : Type 0 where
-  pub dropped : is_dropped (ports_of old) frame ≡ true → (new ≡ old) × (handed ≡ [])
-  pub answers : is_dropped (ports_of old) frame ≡ false → AnswersFrame both ether_link (InputsFrame frame) old new handed
+abbrev pub InputsOrDrops : List ℕ → BothEther → BothEther → List ℕ → Type 0
+InputsOrDrops frame old new handed =
+    DropsOr (AnswersFrame both ether_link (InputsFrame frame) old new handed) (is_dropped (ports_of old) frame) old new handed
 
 -- There was a device and there still is one, which received this frame or dropped it.
-pub record BothInputs (frame : List ℕ) (old new : Kept) (handed : List ℕ) : Type 0 where
-  pub before : BothEther
-  pub after : BothEther
-  pub was : old ≡ Some before
-  pub is : new ≡ Some after
-  pub inputs : InputsOrDrops frame before after handed
+abbrev pub BothInputs : List ℕ → Kept → Kept → List ℕ → Type 0
+BothInputs frame old new handed = StillHas Some (λ before after. InputsOrDrops frame before after handed) old new

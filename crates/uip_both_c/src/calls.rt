@@ -1,17 +1,17 @@
-//! The calls over Ethernet (RFC 894) with ARP (RFC 826); what the program reads of a connection, and writes to it.
+//! The calls over Ethernet (RFC 894) with ARP (RFC 826); what the program reads of a connection, and writes to it; the ports that it opens.
 
-ghost use Rattle.std.specs.Prelude.{◌≡◌, ◌==◌, ◌||◌, ◌≤◌, length, nat_le, nat_lt, take};
+ghost use Rattle.std.specs.Prelude.{◌≡◌, ◌==◌, ◌||◌, ◌≤◌, length, nat_le, nat_lt, not, take};
 ghost use Rattle.std.specs.declared.option.Option.TheVariants.{None};
-ghost use Rattle.uip_wire.specs.Prelude.{written};
+ghost use Rattle.c_calls.specs.Prelude.{IsCallStatus, IsWriteStatus, Refused};
 ghost use Rattle.frame_device.specs.Prelude.{CallsSlot};
-ghost use Rattle.uip_both_c.specs.Handles.{CannotWrite, IsCallStatus, IsWriteStatus, BothAnswers, BothWrites, ReadsSlot, Refused, flag_of};
-ghost use Rattle.uip_both_c.specs.Ports.{BothInputs};
+ghost use Rattle.own_app.specs.Prelude.{is_program_port};
+ghost use Rattle.uip_both_c.specs.Prelude.{BothAnswers, BothInputs, BothListens, BothWrites, CannotWrite, ReadsSlot, has_no_room};
 
-use crate::device::{call_slot, input_or_drop, is_ready, own_port, pending, write};
+use crate::device::{call_slot, input_or_drop, is_ready, listen, own_port, pending, write};
 use crate::handle::{UipDevice, put_in, take_out};
-use crate::status::{BAD_ARGUMENT, NO_DEVICE, NOT_READY, OK, UipResult};
+use c_calls::{BAD_ARGUMENT, NO_DEVICE, NOT_READY, OK, UipReceived, UipResult, copy_prefix};
 use frame_device::LARGEST_OUT;
-use own_app::MESSAGE_ROOM;
+use own_app::{MESSAGE_ROOM, is_program_port};
 use std::alloc::Global;
 
 /// Receives the frame of `len` bytes at the start of `frame`, which has room for 1514 bytes, and writes the frame that is sent, if there is
@@ -43,7 +43,7 @@ pub extern "C" fn uip_input_frame(
     };
     let written = input_or_drop(&mut opened, frame, len);
     put_in(device, opened);
-    UipResult::done(len, written)
+    UipResult::done(len, written, None)
 }
 
 /// Makes the periodic call of a slot, due for each of the ten in turn twice a second; that of slot 0 begins a tick. Writes the frame that
@@ -73,47 +73,7 @@ pub extern "C" fn uip_periodic_frame(
     };
     let written = call_slot(&mut opened, slot, frame);
     put_in(device, opened);
-    UipResult::done(0, written)
-}
-
-/// What was read of a connection: whether it is ready for a message (1), its port, and how many bytes are pending. The port is 0 if the
-/// connection is not open.
-#[repr(C)]
-#[derive(Clone, Copy, Debug, PartialEq, Eq)]
-pub struct UipReceived {
-    pub status: u32,
-    pub ready: u32,
-    pub port: u32,
-    pub len: usize,
-}
-
-/// Reports a status without a connection.
-fn unread(status: u32) -> UipReceived
-    ensures { result ≡ record { status = status; ready = 0; port = 0; len = 0 } }
-{
-    UipReceived {
-        status,
-        ready: 0,
-        port: 0,
-        len: 0,
-    }
-}
-
-/// Returns 1 for true, else 0.
-fn ready_flag(is_ready: bool) -> u32
-    ensures { result ≡ flag_of is_ready }
-{
-    if is_ready { 1 } else { 0 }
-}
-
-/// Copies as many of these bytes as an area has room for. Returns how many there are.
-fn copy_prefix(bytes: &[u8], area: &mut [u8]) -> usize
-    ensures len { result ≡ length bytes.now }
-    ensures bytes { area.new ≡ written area.old 0 (take (length area.old) bytes.now) }
-{
-    let count = bytes.len().min(area.len());
-    area[..count].copy_from_slice(&bytes[..count]);
-    bytes.len()
+    UipResult::done(0, written, None)
 }
 
 /// Reads the connection in a slot: whether it is ready for a message, and what it received that no message has answered. Copies as many of
@@ -134,21 +94,16 @@ pub extern "C" fn uip_read(
     ensures same { device.new.held.device ≡ device.old.held.device }
 {
     if slot >= 10 {
-        return unread(BAD_ARGUMENT);
+        return UipReceived::unread(BAD_ARGUMENT);
     }
     let Some(opened) = take_out(alloc, device) else {
-        return unread(NO_DEVICE);
+        return UipReceived::unread(NO_DEVICE);
     };
-    let ready = ready_flag(is_ready(&opened, slot));
-    let port = own_port(&opened, slot) as u32;
+    let is_ready = is_ready(&opened, slot);
+    let port = own_port(&opened, slot);
     let len = copy_prefix(pending(&opened, slot), bytes);
     put_in(device, opened);
-    UipReceived {
-        status: OK,
-        ready,
-        port,
-        len,
-    }
+    UipReceived::read(is_ready, port, len)
 }
 
 /// Writes a message of at most 260 bytes to the connection in a slot, and makes the periodic call of the slot, which sends it. The message
@@ -187,5 +142,25 @@ pub extern "C" fn uip_write(
     }
     let sent = call_slot(&mut opened, slot, frame);
     put_in(device, opened);
-    UipResult::done(0, sent)
+    UipResult::done(0, sent, None)
+}
+
+/// Opens a port, at most four, for the program's application. A device that was just opened has none. A port that is open stays open.
+#[unsafe(no_mangle)]
+pub extern "C" fn uip_listen(alloc: Global, device: &mut UipDevice, port: u32) -> u32
+    ensures known { IsCallStatus result }
+    ensures fine { result ≡ OK → BothListens port device.old.held.device device.new.held.device }
+    ensures no_device { result ≡ NO_DEVICE → device.old.held.device ≡ None }
+    ensures bad_call { (result == BAD_ARGUMENT) ≡ (not (is_program_port port) || has_no_room port device.old.held.device) }
+    ensures refused { (result ≡ OK → ⊥) → device.new.held.device ≡ device.old.held.device }
+{
+    if !is_program_port(port) {
+        return BAD_ARGUMENT;
+    }
+    let Some(mut opened) = take_out(alloc, device) else {
+        return NO_DEVICE;
+    };
+    let can_listen = listen(&mut opened, port as u16);
+    put_in(device, opened);
+    if can_listen { OK } else { BAD_ARGUMENT }
 }

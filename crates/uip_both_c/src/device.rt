@@ -6,8 +6,7 @@ ghost use Rattle.frame_device.specs.Prelude.{AnswersFrame, CallsSlot, ChangesNum
 ghost use Rattle.frame_device.specs.contracts.ether.EthernetFrames.TheImpl.{ghosts as ether_link};
 ghost use Rattle.own_app.specs.Prelude.{can_listen};
 ghost use Rattle.own_node.specs.Prelude.{WritesMessageWith, can_write_at, is_ready_at, pending_at, seen_in_pair};
-ghost use Rattle.uip_both_c.specs.BothSpec.{OfBoth, both, own_in, own_port_in};
-ghost use Rattle.uip_both_c.specs.Ports.{OpensPort, InputsOrDrops, ports_of};
+ghost use Rattle.uip_both_c.specs.Prelude.{OfBoth, OpensPort, InputsOrDrops, both, own_in, own_port_in, ports_of};
 ghost use Rattle.uip_device.specs.Prelude.{write_value};
 
 use crate::held::BothEther;

@@ -1,8 +1,6 @@
-//! What holds of calls from C, and the numbers of the header.
+//! What holds of calls from C.
 
-ghost use Rattle.uip_both_c.specs.BothCalls.{CallsAreExact};
-ghost use Rattle.uip_both_c.specs.BothPromise.{BothCallsConform};
-ghost use Rattle.uip_both_c.specs.ConstantValues.{ConstantValues};
+ghost use Rattle.uip_both_c.specs.Prelude.{BothCallsConform, CallsAreExact};
 
 /// Holds for any sequence of calls on a handle that was just opened, successful or refused, with any values set between. A frame for a port
 /// that is not open, nor that of the pages, is dropped. Each other call writes exactly the frame that the initial node and its link send
@@ -21,9 +19,4 @@ pub fn both_calls_are_exact()
 /// hop taught last.
 pub fn both_calls_keep_the_promise()
     ensures { BothCallsConform }
-{}
-
-/// The constants have the values that the header names.
-pub fn constant_values()
-    ensures { ConstantValues }
 {}

@@ -2,31 +2,15 @@
 
 ghost use Rattle.std.specs.Prelude.{◌≡◌, ◌<◌, ◌≤◌, false, length};
 ghost use Rattle.app_pair.specs.PairNumbers.{change_own, own_numbers};
-ghost use Rattle.file_tree.specs.Prelude.{IsLoaded, files_of};
-ghost use Rattle.uip_both_c.specs.BothSpec.{both};
+ghost use Rattle.file_tree.specs.Prelude.{files_of};
+ghost use Rattle.uip_both_c.specs.Prelude.{both};
 ghost use Rattle.uip_device.specs.Prelude.{ChangesNode, ReadsQuery, query_of, write_value};
 ghost use Rattle.uip_node.specs.Prelude.{AbstractNode, Represents};
 ghost use Rattle.web_pages.specs.Prelude.{hits_of};
 
 use crate::held::BothApps;
-use device_values::Values;
-use file_tree::FlashSite;
 use uip_device::QueryRead;
 use uip_node::Node;
-
-/// States the length of the values.
-fn see_values(values: &Values)
-    ensures { length values.now.bytes ≡ 528 }
-{
-    let _ = &values.bytes;
-}
-
-/// States what is true of every site.
-fn see_loaded(site: &FlashSite)
-    ensures { IsLoaded site.now }
-{
-    let _ = &site.image;
-}
 
 /// Sets value `number` of the pages, below 16, to a copy of `text`, at most 32 bytes.
 pub(crate) fn set_page_value(node: &mut Node<BothApps>, number: usize, text: &[u8])
@@ -34,8 +18,7 @@ pub(crate) fn set_page_value(node: &mut Node<BothApps>, number: usize, text: &[u
     requires short { length text.now ≤ 32 }
     ensures { ChangesNode both (change_own false (write_value number text.now)) node.old node.new }
 {
-    see_values(&node.shared.first.values);
-    node.shared.first.values.give(number, text);
+    node.shared.first.set_value(number, text);
 }
 
 /// Returns how often the file of that name was requested of the pages, modulo 2^32; 0 if no file has the name.
@@ -43,12 +26,7 @@ pub(crate) fn page_hits(node: &Node<BothApps>, name: &[u8]) -> u32
     ensures { (n : AbstractNode) → Represents both node.now n n.history
         → result ≡ hits_of (files_of node.now.shared.first.web.site) (own_numbers false n.numbers) name.now }
 {
-    let web = &node.shared.first.web;
-    see_loaded(&web.site);
-    match web.site.find(name) {
-        Some(id) => web.hits[id.0 as usize],
-        None => 0,
-    }
+    node.shared.first.hits(name)
 }
 
 /// Copies the text of the query that the pages keep for the file of that name to the start of `out`, which has room for 64 bytes. Returns
@@ -58,7 +36,5 @@ pub(crate) fn page_query(node: &Node<BothApps>, name: &[u8], out: &mut [u8]) -> 
     ensures { let pages = node.now.shared.first in
         ReadsQuery (query_of (files_of pages.web.site) pages.query name.now) result.hit result.len out.old out.new }
 {
-    let web = &node.shared.first.web;
-    see_loaded(&web.site);
-    node.shared.first.query.read(web.site.find(name), out)
+    node.shared.first.read_query(name, out)
 }

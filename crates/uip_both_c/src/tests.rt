@@ -3,16 +3,17 @@
 ghost use Rattle.std.specs.Prelude.{◌≡◌};
 ghost use Rattle.std.specs.declared.option.Option.TheVariants.{None};
 
-use crate::calls::{UipReceived, uip_input_frame, uip_periodic_frame, uip_read, uip_write};
-use crate::giving::uip_set_value;
+use crate::calls::{uip_input_frame, uip_listen, uip_periodic_frame, uip_read, uip_write};
 use crate::handle::UipDevice;
 use crate::held::Held;
-use crate::listening::uip_listen;
-use crate::opening::{UipOpened, uip_close, uip_open_ether};
-use crate::query::{UipQuery, uip_query};
-use crate::reading::{uip_counter, uip_hits, uip_is_idle, uip_ticks};
-use crate::rows::uip_connection;
-use crate::status::{BAD_ARGUMENT, BAD_IMAGE, HAS_DEVICE, NO_DEVICE, NOT_READY, OK, UipResult};
+use crate::opening::{uip_close, uip_open_ether};
+use crate::reading::{
+    uip_connection, uip_counter, uip_hits, uip_is_idle, uip_query, uip_set_value, uip_ticks,
+};
+use c_calls::{
+    BAD_ARGUMENT, BAD_IMAGE, HAS_DEVICE, NO_DEVICE, NOT_READY, OK, UipReceived, UipResult,
+};
+use c_pages::{UipOpened, UipQuery};
 use frame_device::LARGEST_OUT;
 use frame_device::worked::{
     ARP_REPLY, ARP_REQUEST, FAR_PING, FAR_REPLY, PING, PING_REPLY, ROUTER_REPLY, ROUTER_REQUEST,
@@ -104,7 +105,7 @@ fn check_reply(
     frame[..42].copy_from_slice(sent);
     assert_eq!(rt;
         uip_input_frame(alloc, device, &mut frame, 42),
-        UipResult::done(42, reply.len())
+        UipResult::done(42, reply.len(), None)
     );
     assert!(rt; frame.starts_with(reply));
 }
@@ -124,7 +125,7 @@ fn check_datagram(
     frame[14..14 + len].copy_from_slice(datagram);
     assert_eq!(rt;
         uip_input_frame(alloc, device, &mut frame, 14 + len),
-        UipResult::done(14 + len, written)
+        UipResult::done(14 + len, written, None)
     );
 }
 
@@ -202,7 +203,7 @@ fn a_device_answers_ping_and_has_no_connection(rt: HostRuntime) {
     let mut frame = [0; LARGEST_OUT];
     assert_eq!(rt;
         uip_periodic_frame(alloc, &mut device, 0, &mut frame),
-        UipResult::done(0, 0)
+        UipResult::done(0, 0, None)
     );
     assert_eq!(rt;
         uip_read(alloc, &mut device, 9, &mut frame),
@@ -287,7 +288,7 @@ fn a_line_is_answered(rt: HostRuntime) {
     );
     assert_eq!(rt;
         uip_write(alloc, &mut device, 0, 4, b"42\n", 0, &mut frame),
-        UipResult::done(0, 57)
+        UipResult::done(0, 57, None)
     );
     assert!(rt; frame[54..].starts_with(b"42\n"));
     assert_eq!(rt;

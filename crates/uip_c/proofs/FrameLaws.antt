@@ -20,7 +20,7 @@ on_device : (call : FrameCall) (d : EtherWeb) (a b : Kept) (handed : List ℕ) �
 on_device call d a b handed is it = record {
   after = it.after;
   is = it.is;
-  answers = subst (λ (x : EtherWeb). AnswersFrame ghosts ether_link call x it.after handed) (same_ether it.before d (sym it.was ∙ is)) it.answers;
+  answers = subst (λ (x : EtherWeb). AnswersFrame ghosts ether_link call x it.after handed) (same_ether it.before d (sym it.was ∙ is)) it.holds;
 }
 
 -- the device in which a value was set

@@ -30,7 +30,7 @@ on_device : (call : Call) (d : WebDevice) (a b : Kept) (handed : List ℕ) → a
 on_device call d a b handed is it = record {
   after = it.after;
   is = it.is;
-  answers = subst (λ (x : WebDevice). Answers ghosts call x it.after handed) (same_line it.before d (sym it.was ∙ is)) it.answers;
+  answers = subst (λ (x : WebDevice). Answers ghosts call x it.after handed) (same_line it.before d (sym it.was ∙ is)) it.holds;
 }
 
 did_device : (move : Move) (d : WebDevice) (a b : Kept) (handed : List ℕ) → a ≡ OnLine d → Did move a b handed → OnDevice move d b handed

@@ -1,6 +1,5 @@
 -- What opening a device on Ethernet and setting a value in it give.
-use Rattle.uip_c.proofs.Prelude.{◌≡◌, Bool, List, ℕ, refl, subst, sym, true, false, if◌then◌else◌, files_of, Addr, Mac, Network, ChangesNumbers, IsFreshFrameDevice, DeviceWeb, ChangesNode, IsFirstShared, IsOfImage, WebNode, first_numbers, value_spec, write_value, IsOpenedEther, interface_at, EtherWeb}
-use mir.Val.{bool_byte}
+use Rattle.uip_c.proofs.Prelude.{◌≡◌, List, ℕ, refl, subst, sym, files_of, Addr, Mac, Network, ChangesNumbers, IsFreshFrameDevice, DeviceWeb, ChangesNode, IsFirstShared, IsOfImage, WebNode, first_numbers, value_spec, write_value, IsOpenedEther, interface_at, EtherWeb}
 use Rattle.frame_device.specs.contracts.ether.EthernetFrames.TheImpl.{ghosts as ether_link}
 use Rattle.uip_device.specs.contracts.value_pages.ValuePagesApp.TheImpl.{ghosts}
 
@@ -23,7 +22,3 @@ ether_given number text d node changes = record {
   kept = changes.kept;
   each = λ k m own s here. record { stands = changes.stands m own s.node here.stands; acted = here.acted };
 }
-
-pub byte_of : (b : Bool) → bool_byte b ≡ (if b then 1 else 0)
-byte_of true = refl
-byte_of false = refl

@@ -1,6 +1,8 @@
 -- The names that the proofs of this crate cite: of std, of the crates below, and of its own definitions. Declares nothing.
 pub use Rattle.app_events.specs.Prelude.{IsAddr, IsByte}
 pub use Rattle.app_events.specs.declared.row.Row.{Row}
+pub use Rattle.c_calls.specs.Prelude.{flag_of}
+pub use Rattle.c_pages.specs.Prelude.{TellsRow}
 pub use Rattle.device_values.specs.Prelude.{word_calls, words, words_bytes, words_short}
 pub use Rattle.ethernet_arp.specs.declared.mac.Mac.{Mac}
 pub use Rattle.file_tree.specs.Prelude.{HasSoundScripts, IsLoaded, SiteContent, files_of}
@@ -8,6 +10,7 @@ pub use Rattle.frame_device.proofs.KeepLaws.{keeps_frames}
 pub use Rattle.frame_device.proofs.MoveLaws.{device_stands, frames_exact, same_kept}
 pub use Rattle.frame_device.specs.Prelude.{AnsweredFrame, AnswersAllFrames, AnswersFrame, AnswersFrameMove, CallsSlot, ChangesNumbers, DoesNothing, FrameCall, FrameMove, FramesConform, Gives, InputsFrame, Interface, IsFrameOfBytes, IsFreshFrameDevice, Makes, ether_brings_bytes, ether_frames, frame_moves_of, handed_of, interface_at}
 pub use Rattle.frame_device.specs.declared.network.Network.{Network}
+pub use Rattle.loose_box.proofs.Moving.{Opened, opens_well, gives_parts_well, HeapRow, makes_null_well, takes_parts_well, PartsRow, converts_well, parts_opened}
 pub use Rattle.node_laws.specs.Prelude.{at_every_port}
 pub use Rattle.serve_loop.specs.Prelude.{initial_station}
 pub use Rattle.site_image.specs.Prelude.{File}
@@ -18,7 +21,7 @@ pub use Rattle.std.specs.List.{All}
 pub use Rattle.std.specs.Prelude.{false, if◌then◌else◌, true}
 pub use Rattle.std.specs.contracts.impls.GlobalAllocator.TheImpl.{ghosts}
 pub use Rattle.std.specs.declared.option.Option.TheVariants.{Some}
-pub use Rattle.uip_c.specs.Prelude.{Did, DidAll, DidFrame, DidFrames, EtherAnswers, EtherRepresents, EtherRow, EtherWeb, HandleAnswers, HandleGives, HasAbstractNode, IsEther, IsLine, IsOpenedEther, Kept, LineRow, NoDevice, OnEther, OnLine, OpensAs, OpensEtherAs, TellsRow, holds, is_on_ether, is_on_line, kept_of, left_text_in, lefts_in, node_in, node_of, web_frames_sent, web_station_after}
+pub use Rattle.uip_c.specs.Prelude.{Did, DidAll, DidFrame, DidFrames, EtherAnswers, EtherRepresents, EtherRow, EtherWeb, HandleAnswers, HandleGives, HasAbstractNode, IsEther, IsLine, IsOpenedEther, Kept, LineRow, NoDevice, OnEther, OnLine, OpensAs, OpensEtherAs, holds, is_on_ether, is_on_line, kept_of, left_text_in, lefts_in, node_in, node_of, web_frames_sent, web_station_after}
 pub use Rattle.uip_c.specs.declared.handle.AnyDevice.{AnyDevice}
 pub use Rattle.uip_c.specs.declared.handle.AnyDevice.TheVariants.{Ether, Line}
 pub use Rattle.uip_c.specs.declared.held.Held.{Held}

@@ -1,7 +1,6 @@
 -- The two fields of a `Held`. Assumes nothing.
-use Rattle.uip_c.proofs.Prelude.{refl, Held, holds}
+use Rattle.uip_c.proofs.Prelude.{refl, Held, holds, Opened}
 use denote.RattleType.{RattleType}
-use Rattle.loose_box.proofs.Moving.{Opened}
 use Rattle.uip_c.specs.contracts.held.Held as held
 
 -- the row of `Held`

@@ -7,21 +7,18 @@ use Rattle.frame_device.specs.declared.network.Network.{Network}
 use Rattle.frame_device.specs.Prelude.{AnsweredFrame, AnswersFrame, DoesNothing, FrameCall, FrameMove, Gives, Makes}
 use Rattle.frame_device.specs.contracts.ether.EthernetFrames.TheImpl.{ghosts as ether_link}
 use Rattle.uip_device.specs.contracts.value_pages.ValuePagesApp.TheImpl.{ghosts}
+use Rattle.c_calls.specs.Prelude.{StillHas}
 use Rattle.uip_c.specs.EtherWebs.{IsFreshEtherWeb}
 use Rattle.uip_c.specs.Handles.{HandleGives}
-use Rattle.uip_c.specs.Kept.{EtherWeb, IsEther, Kept, NoDevice, OnEther}
+use Rattle.uip_c.specs.Kept.{IsEther, Kept, NoDevice, OnEther}
 
 -- There was no device, and there is a fresh one on Ethernet with these files at this address and hardware address, on this network.
 abbrev pub OpensEtherAs : List File → Addr → Mac → Network → Kept → Kept → Type 0
 OpensEtherAs files own mac network old new = (old ≡ NoDevice) × IsEther (IsFreshEtherWeb files own mac network) new
 
 -- There was a device on Ethernet and there still is one, and the call wrote this frame, or no bytes.
-pub record EtherAnswers (call : FrameCall) (old new : Kept) (handed : List ℕ) : Type 0 where
-  pub before : EtherWeb
-  pub after : EtherWeb
-  pub was : old ≡ OnEther before
-  pub is : new ≡ OnEther after
-  pub answers : AnswersFrame ghosts ether_link call before after handed
+abbrev pub EtherAnswers : FrameCall → Kept → Kept → List ℕ → Type 0
+EtherAnswers call old new handed = StillHas OnEther (λ before after. AnswersFrame ghosts ether_link call before after handed) old new
 
 -- What a move did, by the clauses of its call. A call that was refused or that only read left the handle unchanged. Such a call, and one
 -- that set a value, wrote nothing.

@@ -1,8 +1,6 @@
 -- What a call does to what a handle keeps. Calls over Ethernet: `specs/FrameHandles.antt`.
-use Rattle.std.specs.Prelude.{◌≡◌, ◌⊎◌, ℕ, true, List, [], ◌∷◌}
+use Rattle.std.specs.Prelude.{◌≡◌, ℕ, true, List, [], ◌∷◌}
 use Rattle.std.specs.Option.{is_some}
-use Rattle.std.specs.declared.option.Option.{Option}
-use Rattle.std.specs.declared.option.Option.TheVariants.{None, Some}
 use Rattle.site_image.specs.Prelude.{File}
 use Rattle.frame_device.specs.Prelude.{ChangesNumbers}
 use Rattle.frame_device.specs.contracts.ether.EthernetFrames.TheImpl.{ghosts as ether_link}
@@ -10,21 +8,16 @@ use Rattle.uip_device.specs.contracts.value_pages.ValuePagesApp.TheImpl.{ghosts}
 use Rattle.uip_wire.specs.declared.addr.Addr.{Addr}
 use Rattle.uip_device.specs.Prelude.{Call, DoesNothing, Answered, Answers, Changes, left_text_of}
 use Rattle.uip_device.specs.Prelude.{Move, Gives, Makes, IsFreshWebDevice, WebDevice, write_value}
+use Rattle.c_calls.specs.Prelude.{StillHas}
 use Rattle.uip_c.specs.Kept.{IsLine, Kept, NoDevice, OnEther, OnLine}
-use Rattle.uip_c.specs.declared.status.UipResult.{UipResult}
-use Rattle.uip_c.specs.declared.status.TheConstants.{BAD_ARGUMENT, OK, NO_DEVICE, OUTPUT_PENDING, WRONG_LINK}
 
 -- There was no device, and there is a fresh one for a line with these files at this address.
 abbrev pub OpensAs : List File → Addr → Kept → Kept → Type 0
 OpensAs files own old new = (old ≡ NoDevice) × IsLine (IsFreshWebDevice files own) new
 
 -- There was a device for a line and there still is one, and the call wrote these bytes.
-pub record HandleAnswers (call : Call) (old new : Kept) (handed : List ℕ) : Type 0 where
-  pub before : WebDevice
-  pub after : WebDevice
-  pub was : old ≡ OnLine before
-  pub is : new ≡ OnLine after
-  pub answers : Answers ghosts call before after handed
+abbrev pub HandleAnswers : Call → Kept → Kept → List ℕ → Type 0
+HandleAnswers call old new handed = StillHas OnLine (λ before after. Answers ghosts call before after handed) old new
 
 -- There was a device and there still is one of the same kind, in which the value of this number is now this text.
 abbrev pub HandleGives : ℕ → List ℕ → Kept → Kept → Type 0
@@ -60,24 +53,6 @@ abbrev pub lefts_in : (all : List Answered) (a c : Kept) → DidAll all a c → 
 lefts_in [] a c same = []
 lefts_in (it ∷ all) a c more = left_text_in more.0 ∷ lefts_in all more.0 c more.2
 
--- The statuses of a call that writes output of its own.
-abbrev pub IsTextStatus : ℕ → Type 0
-IsTextStatus status = (status ≡ OK) ⊎ (status ≡ NO_DEVICE) ⊎ (status ≡ BAD_ARGUMENT) ⊎ (status ≡ OUTPUT_PENDING) ⊎ (status ≡ WRONG_LINK)
-
--- The statuses of another call for one kind of device, if it is made on a handle.
-abbrev pub IsCallStatus : ℕ → Type 0
-IsCallStatus status = (status ≡ OK) ⊎ (status ≡ NO_DEVICE) ⊎ (status ≡ BAD_ARGUMENT) ⊎ (status ≡ WRONG_LINK)
-
--- A refused call reports its status alone, and leaves the output area and the device unchanged.
-abbrev pub Refused : UipResult → List ℕ → List ℕ → Kept → Kept → Type 0
-Refused done area area' old new =
-    (done ≡ record { status = done.status; pending = 0; consumed = 0; written = 0 }) × (area' ≡ area) × (new ≡ old)
-
 -- There is a device, and it has output pending.
 abbrev pub HasText : Kept → Type 0
 HasText kept = IsLine (λ d. is_some d.left ≡ true) kept
-
--- The value of `pending` in C: 1 if output is pending, else 0.
-abbrev pub left_flag : Option ℕ → ℕ
-left_flag None = 0
-left_flag (Some at) = 1

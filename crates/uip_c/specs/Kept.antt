@@ -2,6 +2,7 @@
 use Rattle.std.specs.Prelude.{◌≡◌, List, Bool, true, false}
 use Rattle.std.specs.declared.option.Option.{Option}
 use Rattle.std.specs.declared.option.Option.TheVariants.{None, Some}
+use Rattle.c_calls.specs.Prelude.{HasDevice}
 use Rattle.site_image.specs.Prelude.{File}
 use Rattle.uip_wire.specs.declared.addr.Addr.{Addr}
 use Rattle.uip_node.specs.Prelude.{AbstractNode}
@@ -41,10 +42,10 @@ node_in (OnEther d) = Some d.node
 
 -- There is a device for a line, or on Ethernet, and P holds of it; there is a device, and P holds of its node.
 abbrev pub IsLine : (WebDevice → Type 0) → Kept → Type 0
-IsLine P kept = (d : WebDevice) × (kept ≡ OnLine d) × P d
+IsLine P kept = HasDevice OnLine P kept
 
 abbrev pub IsEther : (EtherWeb → Type 0) → Kept → Type 0
-IsEther P kept = (d : EtherWeb) × (kept ≡ OnEther d) × P d
+IsEther P kept = HasDevice OnEther P kept
 
 abbrev pub HasNode : (WebNode → Type 0) → Kept → Type 0
 HasNode P kept = (node : WebNode) × (node_in kept ≡ Some node) × P node

@@ -5,7 +5,6 @@ pub mod EtherWebs
 pub mod FrameHandles
 pub mod HandleLaws
 pub mod Opening
-pub mod Rows
 pub mod Taking
 pub mod ConstantValues
 pub mod Prelude

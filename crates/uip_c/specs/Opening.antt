@@ -1,24 +1,9 @@
 -- The results of opening a handle.
-use Rattle.std.specs.Prelude.{◌≡◌, ◌⊎◌, ℕ, List, Result, ◌++◌, replicate, take, Err}
-use Rattle.site_image.specs.declared.site_error.SiteError.{SiteError}
-use Rattle.site_image.specs.declared.site_error.SiteWhy.{SiteWhy}
-use Rattle.site_image.specs.Prelude.{read_image, File}
-use Rattle.file_tree.specs.Prelude.{SiteContent, files_of}
-use Rattle.site_report.specs.Prelude.{why_word}
-use Rattle.uip_device.specs.Prelude.{IsLongWithValues, IsOfImage}
-use Rattle.uip_device.specs.declared.opening.OpenFault.{OpenFault}
-use Rattle.uip_device.specs.declared.opening.OpenFault.TheVariants.{BadSite}
+use Rattle.std.specs.Prelude.{ℕ, List}
+use Rattle.c_pages.specs.Prelude.{OpensWith}
 use Rattle.uip_c.specs.FrameHandles.{OpensEtherAs}
 use Rattle.uip_c.specs.Handles.{OpensAs}
 use Rattle.uip_c.specs.Kept.{Kept}
-use Rattle.uip_c.specs.declared.opening.UipOpened.{UipOpened}
-use Rattle.uip_c.specs.declared.status.TheConstants.{BAD_IMAGE, NO_MEMORY}
-
--- The site is one of this image, and a device was opened with its files: P.
-pub record OpensWith (image : List ℕ) (P : List File → Type 0) : Type 0 where
-  pub site : SiteContent
-  pub of_image : IsOfImage image site
-  pub opened : P (files_of site)
 
 -- A device for a line was opened with the files at this address, or one on Ethernet at this address and hardware address, with this mask
 -- and this router.
@@ -29,19 +14,3 @@ abbrev pub OpensEther : List ℕ → List ℕ → List ℕ → List ℕ → List
 OpensEther image own mac mask router old new =
     OpensWith image (λ files. OpensEtherAs files (record { 0 = own }) (record { 0 = mac })
     (record { mask = record { 0 = mask }; router = record { 0 = router } }) old new)
-
--- Eight bytes: the word of a fault, padded with zeros.
-abbrev pub IsWordOf : SiteWhy → List ℕ → Type 0
-IsWordOf why word = word ≡ take 8 (why_word why ++ replicate 8 0)
-
--- The entry and the word are those of the image's first fault, or of a page that can be too long once scripts show values.
-abbrev pub TellsFault : List ℕ → ℕ → List ℕ → Type 0
-TellsFault image entry word =
-    (error : SiteError) × ((read_image image ≡ Err error) ⊎ IsLongWithValues image error) × (entry ≡ error.entry) × IsWordOf error.why word
-
--- What is reported if a device was not made, or if there is no memory for its box.
-pub record TellsRefusal {T : Type 0} (made : Result T OpenFault) (told : UipOpened) : Type 0 where
-  pub known : (told.status ≡ BAD_IMAGE) ⊎ (told.status ≡ NO_MEMORY)
-  pub bad_site : told.status ≡ BAD_IMAGE
-      → (error : SiteError) × (made ≡ Err (BadSite error)) × (told.entry ≡ error.entry) × IsWordOf error.why told.word
-  pub no_fault : (told.status ≡ BAD_IMAGE → ⊥) → (told.entry ≡ 0) × (told.word ≡ replicate 8 0)

@@ -3,11 +3,12 @@ use Rattle.std.specs.Prelude.{◌≡◌, ◌⊎◌, ◌==◌, ℕ, Bool, true, f
 use Rattle.std.specs.declared.option.Option.{Option}
 use Rattle.std.specs.declared.option.Option.TheVariants.{None, Some}
 use Rattle.uip_device.specs.Prelude.{IsSoundWebDevice, WebDevice, WebNode}
-use Rattle.uip_c.specs.Handles.{HasText, IsTextStatus}
+use Rattle.c_calls.specs.Prelude.{IsTextStatus}
+use Rattle.uip_c.specs.Handles.{HasText}
 use Rattle.uip_c.specs.Kept.{EtherWeb, Kept, NoDevice, OnEther, OnLine, is_on_ether}
 use Rattle.uip_c.specs.declared.handle.AnyDevice.{AnyDevice}
 use Rattle.uip_c.specs.declared.handle.AnyDevice.TheVariants.{Ether, Line}
-use Rattle.uip_c.specs.declared.status.TheConstants.{BAD_ARGUMENT, OK, NO_DEVICE, OUTPUT_PENDING, WRONG_LINK}
+use Rattle.c_calls.specs.declared.status.TheConstants.{BAD_ARGUMENT, OK, NO_DEVICE, OUTPUT_PENDING, WRONG_LINK}
 
 -- This device for a line was taken out.
 pub record TakesLine (taken : WebDevice) (old new : Kept) : Type 0 where

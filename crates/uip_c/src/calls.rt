@@ -5,11 +5,11 @@ ghost use Rattle.std.specs.Prelude.{◌≡◌, ◌==◌, ◌||◌, ◌<◌, ◌�
 ghost use Rattle.std.specs.Option.{is_some};
 ghost use Rattle.uip_device.specs.Prelude.{Calls, CallsForDatagram, Drains, Feeds, Inputs, StopsAtEnd, CompleteOne, HasFilled};
 ghost use Rattle.frame_device.specs.Prelude.{CallsSlot, InputsFrame};
-ghost use Rattle.uip_c.specs.Handles.{HandleAnswers, HasText, IsCallStatus, IsTextStatus, Refused, left_flag};
-ghost use Rattle.uip_c.specs.Prelude.{EtherAnswers, IsLine, NoDevice, is_on_ether, is_on_line};
+ghost use Rattle.c_calls.specs.Prelude.{IsLinkStatus, IsTextStatus, Refused, left_flag};
+ghost use Rattle.uip_c.specs.Prelude.{EtherAnswers, HandleAnswers, HasText, IsLine, NoDevice, is_on_ether, is_on_line};
 
 use crate::handle::{UipDevice, put_ether, put_line, take_ether, take_idle, take_line};
-use crate::status::{BAD_ARGUMENT, NO_DEVICE, OK, OUTPUT_PENDING, UipResult, WRONG_LINK};
+use c_calls::{BAD_ARGUMENT, NO_DEVICE, OK, OUTPUT_PENDING, UipResult, WRONG_LINK};
 use frame_device::LARGEST_OUT;
 use std::alloc::Global;
 use uip_device::LARGEST_TEXT;
@@ -97,7 +97,7 @@ pub extern "C" fn uip_periodic(
 /// Writes pending output, as much as fits in `out`; no bytes if nothing is pending.
 #[unsafe(no_mangle)]
 pub extern "C" fn uip_drain(alloc: Global, device: &mut UipDevice, out: &mut [u8]) -> UipResult
-    ensures known { IsCallStatus result.status }
+    ensures known { IsLinkStatus result.status }
     ensures fine { result.status ≡ OK
         → HandleAnswers Drains device.old.held.device device.new.held.device (take result.written out.new) }
     ensures some { result.status ≡ OK → IsLine (λ d. is_some d.left ≡ true → 0 < result.written) device.old.held.device }
@@ -199,7 +199,7 @@ pub extern "C" fn uip_input_frame(
     frame: &mut [u8],
     len: usize,
 ) -> UipResult
-    ensures known { IsCallStatus result.status }
+    ensures known { IsLinkStatus result.status }
     ensures fine { result.status ≡ OK
         → EtherAnswers (InputsFrame (take len frame.old)) device.old.held.device device.new.held.device (take result.written frame.new) }
     ensures whole { result.status ≡ OK → result.consumed ≡ len }
@@ -232,7 +232,7 @@ pub extern "C" fn uip_periodic_frame(
     slot: usize,
     frame: &mut [u8],
 ) -> UipResult
-    ensures known { IsCallStatus result.status }
+    ensures known { IsLinkStatus result.status }
     ensures fine { result.status ≡ OK
         → EtherAnswers (CallsSlot slot) device.old.held.device device.new.held.device (take result.written frame.new) }
     ensures within { (result.consumed ≡ 0) × (result.written ≤ length frame.new) }

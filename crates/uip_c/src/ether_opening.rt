@@ -1,12 +1,13 @@
 //! Opening a device on Ethernet.
 
 ghost use Rattle.std.specs.Prelude.{◌≡◌, ◌==◌, ◌⊎◌, replicate};
-ghost use Rattle.uip_c.specs.Prelude.{OpensEtherWeb, has_device, OpensEther, TellsFault};
+ghost use Rattle.c_pages.specs.Prelude.{ReportsFault};
+ghost use Rattle.uip_c.specs.Prelude.{OpensEther, OpensEtherWeb, has_device};
 
 use crate::handle::{UipDevice, put_ether};
 use crate::held::EtherWeb;
-use crate::opening::{UipOpened, boxed, plain};
-use crate::status::{BAD_IMAGE, HAS_DEVICE, NO_MEMORY, OK};
+use c_calls::{BAD_IMAGE, HAS_DEVICE, NO_MEMORY, OK};
+use c_pages::{UipOpened, open_device, plain};
 use ethernet_arp::Mac;
 use frame_device::{Ethernet, FrameDevice, Network};
 use std::alloc::Global;
@@ -51,7 +52,7 @@ pub extern "C" fn uip_open_ether(
     ensures fine { result.status ≡ OK
         → OpensEther image.now own.now mac.now mask.now router.now device.old.held.device device.new.held.device }
     ensures has_device { (result.status == HAS_DEVICE) ≡ has_device device.old.held.device }
-    ensures bad_site { result.status ≡ BAD_IMAGE → TellsFault image.now result.entry result.word }
+    ensures bad_site { result.status ≡ BAD_IMAGE → ReportsFault image.now result.entry result.word }
     ensures no_fault { (result.status ≡ BAD_IMAGE → ⊥) → (result.entry ≡ 0) × (result.word ≡ replicate 8 0) }
     ensures refused { (result.status ≡ OK → ⊥) → device.new ≡ device.old }
 {
@@ -63,10 +64,5 @@ pub extern "C" fn uip_open_ether(
         router: Addr(*router),
     };
     let made = open_ether(alloc, image, Addr(*own), Mac(*mac), network);
-    let opened = match boxed(alloc, made) {
-        Ok(opened) => opened,
-        Err(refused) => return refused,
-    };
-    put_ether(device, opened);
-    plain(OK)
+    open_device!(alloc, device, made => put_ether)
 }

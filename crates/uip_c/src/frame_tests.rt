@@ -2,13 +2,13 @@
 
 use crate::calls::{uip_drain, uip_input_frame, uip_periodic_frame};
 use crate::ether_opening::uip_open_ether;
-use crate::giving::uip_set_value;
 use crate::handle::UipDevice;
 use crate::opening::uip_open;
-use crate::reading::{uip_counter, uip_hits, uip_is_idle, uip_ticks};
-use crate::rows::uip_connection;
-use crate::status::{BAD_ARGUMENT, HAS_DEVICE, OK, WRONG_LINK};
+use crate::reading::{
+    uip_connection, uip_counter, uip_hits, uip_is_idle, uip_set_value, uip_ticks,
+};
 use crate::tests::{IMAGE, OWN, VALUE_IMAGE, answer, check_refused, close, made, no_device};
+use c_calls::{BAD_ARGUMENT, HAS_DEVICE, OK, WRONG_LINK};
 use frame_device::LARGEST_OUT;
 use frame_device::worked::{
     ARP_REPLY, ARP_REQUEST, FAR_PING, FAR_REPLY, OWN_REQUEST, PING, PING_REPLY, ROUTER_REPLY,

@@ -7,7 +7,7 @@ ghost use Rattle.uip_c.specs.Kept.{NoDevice, OnEther, OnLine, is_on_ether, is_on
 ghost use Rattle.uip_c.specs.Taking.{IsSoundAny, TakesEther, TakesIdle, TakesLine, TakesNoIdle, TakesNone, kept_by, kept_of, node_of};
 
 use crate::held::{EtherWeb, Held};
-use crate::status::{NO_DEVICE, OUTPUT_PENDING, WRONG_LINK};
+use c_calls::{NO_DEVICE, OUTPUT_PENDING, WRONG_LINK};
 use loose_box::BoxParts;
 use std::alloc::Global;
 use std::mem::replace;
@@ -77,7 +77,7 @@ pub(crate) fn take_ether(alloc: Global, device: &mut UipDevice) -> Result<Box<Et
 }
 
 /// Takes the device out of the handle, which has none after.
-pub(crate) fn take_any(alloc: Global, device: &mut UipDevice) -> Option<AnyDevice>
+pub(crate) fn take_out(alloc: Global, device: &mut UipDevice) -> Option<AnyDevice>
     ensures taken { kept_by result ≡ device.old.held.device }
     ensures sound { IfSome result IsSoundAny }
     ensures none { device.new.held.device ≡ NoDevice }
@@ -143,7 +143,7 @@ pub(crate) fn put_ether(device: &mut UipDevice, opened: Box<EtherWeb>)
 }
 
 /// Puts a device into a handle that has none.
-pub(crate) fn put_any(device: &mut UipDevice, opened: AnyDevice)
+pub(crate) fn put_in(device: &mut UipDevice, opened: AnyDevice)
     requires none { device.old.held.device ≡ NoDevice }
     requires sound { IsSoundAny opened }
     ensures { device.new.held.device ≡ kept_of opened }

@@ -48,7 +48,7 @@ pub fn frames_from_c_keep_the_promise()
     ensures { FramesFromCConform }
 {}
 
-/// The numbers that definitions and contracts name by the code's constants, which are those of include/uip.h.
+/// The smallest `out` has the number of include/uip.h.
 pub fn constant_values()
     ensures { ConstantValues }
 {}

@@ -1,9 +1,9 @@
 use crate::calls::uip_input;
 use crate::opening::uip_open;
-use crate::query::{UipQuery, uip_query};
-use crate::reading::uip_hits;
-use crate::status::{BAD_ARGUMENT, NO_DEVICE, OK};
+use crate::reading::{uip_hits, uip_query};
 use crate::tests::{OWN, SYN, VALUE_IMAGE, close, made, no_device};
+use c_calls::{BAD_ARGUMENT, NO_DEVICE, OK};
+use c_pages::UipQuery;
 use uip_device::LARGEST_TEXT;
 
 /// The peer's request of `/v.shtml?lamp=1`, which acknowledges the SYN of the node.

@@ -1,15 +1,16 @@
 use crate::calls::{uip_drain, uip_feed, uip_input, uip_periodic, uip_periodic_datagram};
 use crate::ether_opening::uip_open_ether;
 use crate::frame_tests::{MAC, MASK, ROUTER, check_frames_refused};
-use crate::giving::uip_set_value;
 use crate::handle::UipDevice;
 use crate::held::Held;
-use crate::opening::{UipOpened, uip_close, uip_open};
-use crate::reading::{uip_counter, uip_hits, uip_is_idle, uip_ticks};
-use crate::rows::{UipRow, uip_connection};
-use crate::status::{
+use crate::opening::{uip_close, uip_open};
+use crate::reading::{
+    uip_connection, uip_counter, uip_hits, uip_is_idle, uip_set_value, uip_ticks,
+};
+use c_calls::{
     BAD_ARGUMENT, BAD_IMAGE, HAS_DEVICE, NO_DEVICE, OK, OUTPUT_PENDING, UipResult, WRONG_LINK,
 };
+use c_pages::{UipOpened, UipRow};
 use std::alloc::Global;
 use std::process::Abort;
 use uip_device::LARGEST_TEXT;

@@ -4,6 +4,7 @@ pub mod CallLaws
 pub mod FrameLaws
 pub mod HandLaws
 pub mod KeepLaws
+pub mod NumberLaws
 pub mod SendLaws
 pub mod WebLaws
 pub mod QueryLaws

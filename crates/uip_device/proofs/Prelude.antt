@@ -1,33 +1,37 @@
 -- The names that the proofs of this crate cite: of std, of the crates below, and of its own definitions. Declares nothing.
-pub use Rattle.app_events.specs.Prelude.{AppSpec, CanSay, IsAddr, IsByte, IsPaged, IsRepresented, IsU32, Pages}
+pub use Rattle.app_events.specs.Prelude.{AppSpec, CanSay, IsAddr, IsByte, IsPaged, IsRepresented, IsU32, Pages, AppState}
 pub use Rattle.app_events.specs.declared.app.App.{Ghosts}
 pub use Rattle.device_values.specs.Prelude.{no_values, record_text, value_given, words}
 pub use Rattle.file_tree.specs.Prelude.{AreApart, SiteContent, files_of}
 pub use Rattle.file_tree.specs.declared.file_id.FileId.{FileId}
-pub use Rattle.httpd.proofs.Finding.{found_place, hits_left}
-pub use Rattle.httpd.specs.Compact.{CompactRepresent}
+pub use Rattle.httpd.proofs.Finding.{found_place, hits_left, no_place, place_is}
+pub use Rattle.httpd.specs.Compact.{CompactRepresent, HearsWord}
 pub use Rattle.httpd.specs.Web.{WebContent}
 pub use Rattle.node_laws.proofs.EveryTraceConforms.{every_step_of_pages}
 pub use Rattle.node_laws.proofs.Steps.{LineStep, trace_over, turns_then}
 pub use Rattle.node_laws.proofs.TurnRuns.{sends, turn_events}
 pub use Rattle.node_laws.specs.Prelude.{IsOfLine, IsDecoded, TraceConforms, TraceEntry, at_every_port, of_bytes, of_call, of_overlong, trace_of}
 pub use Rattle.packet_buffer.specs.Prelude.{Buffer, datagram_in}
+pub use Rattle.protosocket.proofs.Cuts.{cut_at, found, missing, whole}
+pub use Rattle.protosocket.specs.Prelude.{Line, is_query_mark, is_stop, none_at_all, word_of}
+pub use Rattle.protosocket.specs.declared.stops.Stops.TheVariants.{Space, SpaceOrLine}
 pub use Rattle.serve_loop.proofs.ByteLaws.{slip_brings_bytes}
 pub use Rattle.serve_loop.proofs.NodeLaws.{node_on, node_step}
 pub use Rattle.serve_loop.proofs.RunLaws.{run-text-append, text_of-joined}
 pub use Rattle.serve_loop.proofs.SlipServeLaws.{said_on_line}
 pub use Rattle.serve_loop.specs.Prelude.{CarriesBytes, IsNode, beat, came_by, event_by, events_after, initial_station, is_beat, line_events, output_by, slip_medium, text_for, text_of}
-pub use Rattle.site_image.specs.Prelude.{File}
-pub use Rattle.std.proofs.Common.{Bool, List, None, Option, Some, [], ap, append-nil, append_assoc, arith, drop, false, get_or, if◌then◌else◌, inl, inr, length, length-append, length-drop, length-take, lit<, map, option_map, refl, replicate, subst, sym, take, true, ℕ, ◌*◌, ◌++◌, ◌+◌, ◌-◌, ◌<◌, ◌∙◌, ◌∷◌, ◌≡◌, ◌≤◌}
-pub use Rattle.std.proofs.lemmas.Bool.{false≢true}
+pub use Rattle.site_image.specs.Prelude.{File, file_named, has_name}
+pub use Rattle.std.proofs.Common.{Bool, List, None, Option, Some, [], ap, append-nil, append_assoc, arith, drop, false, get_or, if◌then◌else◌, inl, inr, length, length-append, length-drop, length-take, lit<, map, option_map, refl, replicate, subst, sym, take, true, ℕ, ◌*◌, ◌++◌, ◌+◌, ◌-◌, ◌<◌, ◌∙◌, ◌∷◌, ◌≡◌, ◌≤◌, true≢false, find, cond, ◌||◌, position}
+pub use Rattle.std.proofs.lemmas.Bool.{false≢true, eqb-true}
 pub use Rattle.std.proofs.lemmas.Grind.{get_or_default_zero}
-pub use Rattle.std.proofs.lemmas.List.{drop_at, get_or_append_left, length-take-le, map-append, take-append-drop, take_at, take_rest}
+pub use Rattle.std.proofs.lemmas.List.{drop_at, get_or_append_left, length-take-le, map-append, take-append-drop, take_at, take_rest, drop_all, take_all}
 pub use Rattle.std.proofs.lemmas.List.Concat.{flat_map-append}
 pub use Rattle.std.proofs.lemmas.List.Elements.{All-append, All-cons, All-drop, All-head, All-nil, All-replicate, All-tail, All-take}
-pub use Rattle.std.specs.List.{All, flat_map, slice_index_or}
+pub use Rattle.std.specs.List.{All, flat_map, slice_index_or, before_first, list_any}
 pub use Rattle.std.specs.Option.{is_some, option_map_or}
-pub use Rattle.std.specs.Prelude.{⊤}
-pub use Rattle.uip_device.specs.Prelude.{AllHandOutSent, Answered, Answers, AnswersAll, AnswersMove, Bring, Call, Calls, CallsConform, CallsForDatagram, DoesNothing, Drains, Feeds, Gives, HandsOut, HasDelivered, Inputs, IsFreshDevice, IsOfBytes, KeepsU32, Makes, Move, MoveTrace, OutputIsSent, SendsOver, Writing, byte_calls, bytes_of_call, bytes_of_move, calls_after, datagram_sent, datagrams_handed, datagrams_sent, events_by, events_of_calls, events_of_move, first_numbers, goes_by_datagram, is_by_datagram, left_text_of, lefts_of, line_handed, line_sent, moves_of, node_reached, rest_text, run_move, text_to_come, tick_calls, with_value, write_value}
+pub use Rattle.std.specs.Prelude.{⊤, nat_eq, slice_get, codes, IfSome}
+pub use Rattle.uip_device.specs.Prelude.{AllHandOutSent, Answered, Answers, AnswersAll, AnswersMove, Bring, Call, Calls, CallsConform, CallsForDatagram, DoesNothing, Drains, Feeds, Gives, HandsOut, HasDelivered, Inputs, IsFreshDevice, IsOfBytes, KeepsU32, Makes, Move, MoveTrace, OutputIsSent, SendsOver, Writing, byte_calls, bytes_of_call, bytes_of_move, calls_after, datagram_sent, datagrams_handed, datagrams_sent, events_by, events_of_calls, events_of_move, first_numbers, goes_by_datagram, is_by_datagram, left_text_of, lefts_of, line_handed, line_sent, moves_of, node_reached, rest_text, run_move, text_to_come, tick_calls, with_value, write_value, ChangesNode}
+pub use Rattle.uip_device.specs.Query.{QueryContent, kept_query, kept_text, place_wanted, query_after, query_by, query_in, text_after_mark, ReadsQuery, query_for}
 pub use Rattle.uip_device.specs.declared.device.Device.{Device}
 pub use Rattle.uip_edge.proofs.Told.{moved_on}
 pub use Rattle.uip_edge.specs.declared.item.Item.{Item}
@@ -38,4 +42,4 @@ pub use Rattle.uip_slip.proofs.FrameLaws.{completed_by, completed_told}
 pub use Rattle.uip_slip.specs.Prelude.{Datagram, Frame, Overlong, WasFed, completed, escaped, escaped_byte, frames, slip_text}
 pub use Rattle.uip_wire.specs.declared.addr.Addr.{Addr}
 pub use Rattle.web_pages.proofs.OwnState.{hits_by_prefix}
-pub use Rattle.web_pages.specs.Prelude.{hits_of, no_hits, place_of, wanted, web_spec_by}
+pub use Rattle.web_pages.specs.Prelude.{hits_of, no_hits, place_of, wanted, web_spec_by, Wanted, Name, NotYet, Refused, target_of}

@@ -1,31 +1,16 @@
 -- What is kept of a request, by what the pages represent.
-use Rattle.std.proofs.Common.{◌≡◌, ℕ, Bool, false, true, List, [], ◌∷◌, Option, None, Some, refl, sym, ap, subst, ◌∙◌, option_map, length, take, true≢false, find, cond, ◌||◌, ◌++◌, ◌+◌, ◌-◌, drop, position, length-drop, length-take, arith}
-use Rattle.std.specs.List.{before_first, list_any}
-use Rattle.std.specs.Prelude.{nat_eq, slice_get}
+use Rattle.uip_device.proofs.Prelude.{◌≡◌, ℕ, Bool, false, true, List, [], ◌∷◌, Option, None, Some, refl, sym, ap, subst, ◌∙◌, option_map, length, take, cond, ◌||◌, ◌+◌, ◌-◌, drop, position, length-drop, length-take, arith, before_first, list_any, nat_eq, slice_get, eqb-true, drop_all, take_all, AppState, AreApart, SiteContent, files_of, FileId, no_place, place_is, CompactRepresent, cut_at, found, missing, whole, Space, Line, is_query_mark, is_stop, none_at_all, word_of, File, file_named, has_name, place_of, target_of, wanted, QueryContent, kept_query, kept_text, place_wanted, query_after, query_by, query_in, text_after_mark}
 use Rattle.std.specs.Str.{bytes_eq}
 use Rattle.std.proofs.lemmas.Option.{slice_get-get_or}
-use Rattle.std.proofs.lemmas.Bool.{eqb-true}
-use Rattle.std.proofs.lemmas.List.{drop_all, take_all}
 use Rattle.std.proofs.lemmas.List.Quantifiers.{position-Some}
 use Rattle.std.proofs.lemmas.Slice.Eq.{bytes_eq-Decides}
-use Rattle.app_events.specs.Prelude.{AppState}
-use Rattle.file_tree.specs.Prelude.{AreApart, SiteContent, files_of}
-use Rattle.file_tree.specs.declared.file_id.FileId.{FileId}
 use Rattle.generators.specs.Prelude.{Giving}
 use Rattle.httpd.proofs.Compacting.{word_open}
-use Rattle.httpd.proofs.Finding.{no_place, place_is}
-use Rattle.httpd.specs.Compact.{CompactRepresent, HearsWord}
 use Rattle.httpd.specs.Hearing.{HearsMethod}
 use Rattle.httpd.specs.Places.{IsFound}
 use Rattle.httpd.specs.Reply.{found_file}
 use Rattle.httpd.specs.declared.compact.CompactPages.TheVariants as compact
 use Rattle.httpd.specs.declared.thread.Thread.{Thread}
-use Rattle.protosocket.proofs.Cuts.{cut_at, found, missing, whole}
-use Rattle.protosocket.specs.declared.stops.Stops.TheVariants.{Space}
-use Rattle.protosocket.specs.Prelude.{Line, is_query_mark, is_stop, none_at_all, word_of}
-use Rattle.site_image.specs.Prelude.{File, file_named, has_name}
-use Rattle.web_pages.specs.Prelude.{Wanted, Name, NotYet, Refused, place_of, target_of, wanted}
-use Rattle.uip_device.specs.Query.{QueryContent, kept_query, kept_text, place_wanted, query_after, query_by, query_in, text_after_mark}
 
 -- ---- where a text is cut
 

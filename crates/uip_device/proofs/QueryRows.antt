@@ -1,7 +1,5 @@
 -- Requests worked by hand, and the text that each brings.
-use Rattle.std.specs.Prelude.{◌≡◌, ◌++◌, codes, map, replicate, Option, Some, None, [], ◌∷◌, List, ℕ}
-use Rattle.std.proofs.Common.{refl}
-use Rattle.uip_device.specs.Query.{query_in}
+use Rattle.uip_device.proofs.Prelude.{◌≡◌, ◌++◌, codes, map, replicate, Option, Some, None, [], ◌∷◌, List, ℕ, refl, query_in}
 
 -- a setting; at the root; no text; a space ends the text; 64 bytes
 abbrev bringing : List (List ℕ)

@@ -1,9 +1,8 @@
 -- The query that a device keeps for C: the text after the '?' of the target of a request (RFC 1945, section 5.1.2).
-use Rattle.std.specs.Prelude.{◌≡◌, ◌==◌, ℕ, ◌+◌, Bool, false, ◌&&◌, ◌||◌, List, [], ◌∷◌, ◌++◌, codes, drop, length, nat_eq, nat_le}
-use Rattle.std.specs.Prelude.{if◌then◌else◌, Option, None, Some, option_map}
+use Rattle.std.specs.Prelude.{◌≡◌, ◌==◌, ℕ, ◌+◌, Bool, false, ◌&&◌, ◌||◌, List, [], ◌∷◌, ◌++◌, codes, drop, length, nat_le}
+use Rattle.std.specs.Prelude.{if◌then◌else◌, Option, None, Some}
 use Rattle.std.specs.Char.{is_ascii_alphanumeric}
 use Rattle.std.specs.List.{before_first, list_all, list_any, slice_index_or}
-use Rattle.std.specs.Option.{option_map_or}
 use Rattle.protosocket.specs.Prelude.{is_query_mark}
 use Rattle.site_image.specs.Prelude.{File}
 use Rattle.web_pages.specs.Prelude.{Wanted, Name, NotYet, Refused, place_of, target_of, wanted}

@@ -91,6 +91,10 @@ abbrev pub FailsAs : List ℕ → OpenFault → Type 0
 FailsAs image (BadSite error) = (read_image image ≡ Err error) ⊎ IsLongWithValues image error
 FailsAs image NoMemory = ⊤
 
+abbrev pub OpensSite : List ℕ → Result SiteContent OpenFault → Type 0
+OpensSite image (Ok site) = IsOfImage image site
+OpensSite image (Err fault) = FailsAs image fault
+
 -- What the connections share at first: the site of this image, with the first numbers.
 pub record IsFirstShared (image : List ℕ) (shared : DeviceWeb) : Type 0 where
   pub site : IsOfImage image shared.web.site

@@ -1,13 +1,13 @@
 //! A device and its calls: a node with a SLIP decoder (RFC 1055) and the output that is still pending.
 
-ghost use Rattle.std.specs.Prelude.{◌≡◌, ◌<◌, ◌≤◌, ◌+◌, ◌++◌, ◌∷◌, [], List, ℕ, IfSome, None, Some, length, map, take};
+ghost use Rattle.std.specs.Prelude.{◌≡◌, ◌<◌, ◌≤◌, ◌+◌, ◌++◌, ◌∷◌, [], List, ℕ, None, Some, length, map, take};
 ghost use Rattle.packet_buffer.specs.Prelude.{datagram_in};
 ghost use Rattle.uip_edge.specs.declared.item.Item.TheVariants.{Byte};
 ghost use Rattle.uip_slip.specs.Prelude.{WasFed, frames};
 ghost use Rattle.uip_node.specs.Prelude.{event_of};
 ghost use Rattle.serve_loop.specs.Prelude.{events_after, text_of};
 ghost use Rattle.uip_device.specs.Calls.{StopsAtEnd};
-ghost use Rattle.uip_device.specs.Handing.{FillsRoom, text_to_come};
+ghost use Rattle.uip_device.specs.Handing.{IsPartWritten, text_to_come};
 ghost use Rattle.uip_device.specs.Sending.{SendsOver};
 
 use crate::datagrams::copy_sent;
@@ -42,10 +42,7 @@ fn answer<A: App>(node: &mut Node<A>, datagram: &[u8], out: &mut [u8]) -> Writte
     requires most { length datagram.now ≤ LARGEST_DATAGRAM }
     requires room { 0 < length out.old }
     ensures long { length out.new ≡ length out.old }
-    ensures fits { result.wrote ≤ length out.new }
-    ensures left { IfSome result.left (λ k. k ≤ length (datagram_in node.new.packet)) }
-    ensures all { LARGEST_TEXT ≤ length out.old → result.left ≡ None }
-    ensures full { FillsRoom (datagram_in node.new.packet) result.left result.wrote (length out.new) }
+    ensures part { IsPartWritten (datagram_in node.new.packet) result.wrote result.left (length out.new) }
     ensures sends { SendsOver A.App (λ own. event_of own datagram.now ∷ []) node.old node.new (λ own replies. text_of own replies
         ≡ take result.wrote out.new ++ text_to_come (datagram_in node.new.packet) result.left) }
 {
@@ -69,10 +66,7 @@ fn take<A: App>(decoder: &mut Decoder, node: &mut Node<A>, bytes: &[u8], out: &m
     ensures one { (before : List ℕ) → WasFed before decoder.old
         → length (frames (before ++ take result.count bytes.now)) ≤ length (frames before) + 1 }
     ensures long { length out.new ≡ length out.old }
-    ensures fits { result.written.wrote ≤ length out.new }
-    ensures left { IfSome result.written.left (λ k. k ≤ length (datagram_in node.new.packet)) }
-    ensures all { LARGEST_TEXT ≤ length out.old → result.written.left ≡ None }
-    ensures full { FillsRoom (datagram_in node.new.packet) result.written.left result.written.wrote (length out.new) }
+    ensures part { IsPartWritten (datagram_in node.new.packet) result.written.wrote result.written.left (length out.new) }
     ensures fed { (before : List ℕ) → WasFed before decoder.old → WasFed (before ++ take result.count bytes.now) decoder.new }
     ensures sends { (before : List ℕ) → WasFed before decoder.old
         → SendsOver A.App (λ own. events_after own 0 before (map Byte (take result.count bytes.now))) node.old node.new

@@ -6,7 +6,7 @@ ghost use Rattle.uip_slip.specs.Prelude.{escaped};
 ghost use Rattle.uip_wire.specs.declared.addr.Addr.{Addr as Address};
 ghost use Rattle.uip_node.specs.Prelude.{Reply, IsSent};
 ghost use Rattle.serve_loop.specs.Prelude.{text_for};
-ghost use Rattle.uip_device.specs.Handing.{FillsRoom, text_to_come};
+ghost use Rattle.uip_device.specs.Handing.{FillsRoom, IsPartWritten, text_to_come};
 
 use app_events::App;
 use uip_node::Node;
@@ -121,10 +121,7 @@ fn put_end(out: &mut [u8])
 pub(crate) fn write_text<A: App>(node: &Node<A>, sent: Option<usize>, out: &mut [u8]) -> Written
     requires room { 0 < length out.old }
     ensures long { length out.new ≡ length out.old }
-    ensures fits { result.wrote ≤ length out.new }
-    ensures left { IfSome result.left (λ k. k ≤ length (datagram_in node.now.packet)) }
-    ensures whole { LARGEST_TEXT ≤ length out.old → result.left ≡ None }
-    ensures full { FillsRoom (datagram_in node.now.packet) result.left result.wrote (length out.new) }
+    ensures part { IsPartWritten (datagram_in node.now.packet) result.wrote result.left (length out.new) }
     ensures text { (own : Address) (reply : Option Reply) → IsSent own reply sent node.now.packet
         → take result.wrote out.new ++ text_to_come (datagram_in node.now.packet) result.left ≡ text_for own reply }
 {

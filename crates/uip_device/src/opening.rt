@@ -7,7 +7,7 @@ ghost use Rattle.device_values.specs.Prelude.{word_calls};
 ghost use Rattle.file_tree.specs.Prelude.{HasSoundScripts, IsLoaded, files_of};
 ghost use Rattle.site_image.specs.Prelude.{fault};
 ghost use Rattle.site_image.specs.declared.site_error.SiteWhy.TheVariants.{PageTooLong};
-ghost use Rattle.uip_device.specs.WebDevices.{OpensDevice, OpensShared, first_numbers};
+ghost use Rattle.uip_device.specs.WebDevices.{OpensDevice, OpensShared, OpensSite, first_numbers};
 
 use crate::device::Device;
 use crate::device_web::{DeviceWeb, FlashWeb};
@@ -60,6 +60,22 @@ fn too_long() -> SiteError
     }
 }
 
+/// Returns the site of an image, which is read in place and not copied.
+fn site_of(alloc: Global, image: &'static [u8]) -> Result<FlashSite, OpenFault>
+    ensures { OpensSite image.now result }
+{
+    let site = match FlashSite::read_in_place(alloc, image) {
+        Ok(site) => site,
+        Err(LoadFault::Bad(error)) => return Err(OpenFault::BadSite(error)),
+        Err(_) => return Err(OpenFault::NoMemory),
+    };
+    if !is_sound(&site) {
+        return Err(OpenFault::BadSite(too_long()));
+    }
+    see_loaded(&site);
+    Ok(site)
+}
+
 /// Returns what the connections of a site's web server share at first.
 fn web_of(alloc: Global, site: FlashSite) -> Result<DeviceWeb, NoMemory>
     ensures site { IfOk result (λ shared. shared.web.site ≡ site.entry) }
@@ -77,15 +93,10 @@ fn web_of(alloc: Global, site: FlashSite) -> Result<DeviceWeb, NoMemory>
 pub fn open_shared(alloc: Global, image: &'static [u8]) -> Result<DeviceWeb, OpenFault>
     ensures { OpensShared image.now result }
 {
-    let site = match FlashSite::read_in_place(alloc, image) {
+    let site = match site_of(alloc, image) {
         Ok(site) => site,
-        Err(LoadFault::Bad(error)) => return Err(OpenFault::BadSite(error)),
-        Err(_) => return Err(OpenFault::NoMemory),
+        Err(fault) => return Err(fault),
     };
-    if !is_sound(&site) {
-        return Err(OpenFault::BadSite(too_long()));
-    }
-    see_loaded(&site);
     match web_of(alloc, site) {
         Ok(shared) => Ok(shared),
         Err(NoMemory) => Err(OpenFault::NoMemory),
@@ -93,19 +104,14 @@ pub fn open_shared(alloc: Global, image: &'static [u8]) -> Result<DeviceWeb, Ope
 }
 
 /// Opens a device at an address with the site of an image, which is read in place and not copied. No later call allocates memory
-/// (measured). It repeats `open_shared`, since by a call of it a device is copied on the stack.
+/// (measured). It does not call `open_shared`, since a device is then copied on the stack.
 pub fn open_web(alloc: Global, image: &'static [u8], own: Addr) -> Result<WebDevice, OpenFault>
     ensures { OpensDevice image.now own result }
 {
-    let site = match FlashSite::read_in_place(alloc, image) {
+    let site = match site_of(alloc, image) {
         Ok(site) => site,
-        Err(LoadFault::Bad(error)) => return Err(OpenFault::BadSite(error)),
-        Err(_) => return Err(OpenFault::NoMemory),
+        Err(fault) => return Err(fault),
     };
-    if !is_sound(&site) {
-        return Err(OpenFault::BadSite(too_long()));
-    }
-    see_loaded(&site);
     let Ok(shared) = web_of(alloc, site) else {
         return Err(OpenFault::NoMemory);
     };

@@ -2,7 +2,7 @@
 use Rattle.std.proofs.Common.{◌≡◌, ℕ, ◌==◌, ◌&&◌, Bool, true, false, List, [], ◌∷◌, ◌++◌, length, nat_lt, refl, sym, ap, ◌∙◌, if◌then◌else◌}
 use Rattle.site_image.specs.Prelude.{File}
 use Rattle.app_events.specs.Prelude.{AppState, AppSpec, IsLawful, StartsAnew, Grows}
-use Rattle.app_events.specs.declared.now.Now.{Now}
+use Rattle.app_pair.specs.PairSpec.{StaysAtPort}
 use Rattle.generators.specs.Prelude.{uip}
 use Rattle.web_pages.specs.Prelude.{wanted, web_spec, is_acknowledged, waits_for_capture, web_lawful, web_starts}
 use Rattle.telnet_shell.specs.declared.TheConstants.{MOST_COMMANDS}
@@ -10,14 +10,6 @@ use Rattle.telnet_shell.specs.declared.shell.TheConstants.{TELNET_PORT}
 use Rattle.telnet_shell.specs.ShellMeaning.{shell_spec, waiting, with_byte, hear_byte, hear_all, is_stopped, take_capture}
 use Rattle.telnet_shell.specs.Lemmas.ShellLaws.{shell_lawful, shell_starts}
 use Rattle.telnet_shell.specs.DeskMeaning.{app_spec_at, desk_spec}
-
--- no call changes the port of a connection
-pub record KeepsPort (m : AppSpec) : Type 0 where
-  pub connected : (numbers : List ℕ) (port : ℕ) → (m.connected numbers port).part.port ≡ port
-  pub newdata : (numbers : List ℕ) (p : AppState) (piece : List ℕ) → (m.newdata numbers p piece).part.port ≡ p.port
-  pub prepare : (numbers : List ℕ) (p : AppState) (now : Now) → (m.prepare numbers p now).port ≡ p.port
-  pub acked : (numbers : List ℕ) (p : AppState) (count : ℕ) → (m.acked numbers p count).part.port ≡ p.port
-  pub polled : (numbers : List ℕ) (p : AppState) → (m.polled numbers p).part.port ≡ p.port
 
 either_port : (b : Bool) (p q : AppState) → q.port ≡ p.port → (if b then q else p).port ≡ p.port
 either_port true p q e = e
@@ -34,7 +26,7 @@ heard_port p [] = refl
 heard_port p (byte ∷ more) =
     heard_port (hear_byte p byte) more ∙ byte_port p byte (p.own == 1) (nat_lt MOST_COMMANDS (length (waiting (with_byte p byte))))
 
-pub web_port : (files : List File) → KeepsPort (web_spec files)
+pub web_port : (files : List File) → StaysAtPort (web_spec files)
 web_port files = record {
   connected = λ numbers port. refl;
   newdata = λ numbers p piece. refl;
@@ -45,7 +37,7 @@ web_port files = record {
   polled = λ numbers p. refl;
 }
 
-pub shell_port : KeepsPort shell_spec
+pub shell_port : StaysAtPort shell_spec
 shell_port = record {
   connected = λ numbers port. refl;
   newdata = λ numbers p piece. heard_port (record p { polls = 0 }) piece;
@@ -70,8 +62,8 @@ lawful_at files port =
 starts_at : (files : List File) (port : ℕ) → StartsAnew (app_spec_at files port)
 starts_at files port = by_port StartsAnew files (port == TELNET_PORT) (web_starts uip files) shell_starts
 
-pub port_at : (files : List File) (port : ℕ) → KeepsPort (app_spec_at files port)
-port_at files port = by_port KeepsPort files (port == TELNET_PORT) (web_port files) shell_port
+pub port_at : (files : List File) (port : ℕ) → StaysAtPort (app_spec_at files port)
+port_at files port = by_port StaysAtPort files (port == TELNET_PORT) (web_port files) shell_port
 
 -- at the same port the desk sends what the application of that port sends
 says_at : (files : List File) (p q : AppState) → q.port ≡ p.port → (desk_spec files).output q ≡ (app_spec_at files p.port).output q

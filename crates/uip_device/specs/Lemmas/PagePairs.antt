@@ -1,5 +1,5 @@
 -- The pages of a device can be one of a pair.
-use Rattle.std.proofs.Common.{◌≡◌, ◌⊎◌, inl, inr, ℕ, Bool, true, false, ◌&&◌, List, [], ◌∷◌, ◌++◌, if◌then◌else◌, refl}
+use Rattle.std.proofs.Common.{◌≡◌, ◌⊎◌, inl, inr, Bool, true, false, ◌&&◌, List, [], ◌∷◌, ◌++◌, if◌then◌else◌, refl}
 use Rattle.app_events.specs.Prelude.{AppState, Snapshot}
 use Rattle.app_pair.specs.PairSpec.{CanBePaired}
 use Rattle.generators.specs.Prelude.{Giving}

@@ -1,5 +1,4 @@
-use Rattle.std.proofs.Common.{◌∙◌}
-use Rattle.uip_node.specs.Prelude.{connection_in}
+use Rattle.own_node.proofs.Prelude.{◌∙◌, connection_in}
 use Rattle.own_node.proofs.ReadingLaws.{no_port, none_seen, own_seen, port_is}
 use Rattle.own_node.proofs.reading.own_port.Goals as goal
 

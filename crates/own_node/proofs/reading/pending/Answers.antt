@@ -1,5 +1,4 @@
-use Rattle.std.proofs.Common.{◌∙◌}
-use Rattle.uip_node.specs.Prelude.{connection_in}
+use Rattle.own_node.proofs.Prelude.{◌∙◌, connection_in}
 use Rattle.own_node.proofs.ReadingLaws.{none_seen, nothing_pending, own_seen, pending_is}
 use Rattle.own_node.proofs.reading.pending.Goals as goal
 

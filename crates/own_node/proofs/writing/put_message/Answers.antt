@@ -1,6 +1,4 @@
-use Rattle.std.proofs.Common.{List, ap, subst, sym, ℕ, ◌∙◌}
-use Rattle.uip_node.specs.Prelude.{AllWellFormed, SlotsRepresent}
-use Rattle.own_app.specs.Prelude.{message_of, write_message}
+use Rattle.own_node.proofs.Prelude.{List, ap, subst, sym, ℕ, ◌∙◌, AllWellFormed, SlotsRepresent, message_of, write_message}
 use Rattle.own_node.proofs.writing.put_message.Goals as goal
 
 pub invariant_of-node : goal.invariant_of-node

@@ -1,6 +1,4 @@
-use Rattle.std.proofs.Common.{◌∙◌, sym}
-use Rattle.uip_node.specs.Prelude.{connection_in}
-use Rattle.own_app.specs.Prelude.{message_of}
+use Rattle.own_node.proofs.Prelude.{◌∙◌, sym, connection_in, message_of}
 use Rattle.own_node.proofs.ReadingLaws.{can_is, cannot_write, message_is, none_seen, own_seen}
 use Rattle.own_node.proofs.writing.write.Goals as goal
 

@@ -1,12 +1,10 @@
-use Rattle.uip_both_c.proofs.Prelude.{Bool, ap, ◌∙◌}
+use Rattle.uip_both_c.proofs.Prelude.{Bool, ap, flag_of, ◌∙◌}
 use Rattle.uip_both_c.proofs.Taking.{read_out}
-use mir.Val.{bool_byte}
-use Rattle.uip_both_c.proofs.Opened.{byte_of}
 use Rattle.uip_both_c.proofs.reading.uip_is_idle.Goals as goal
 
-pub returns-clause-fine : goal.returns-clause-fine
-returns-clause-fine c = λ fine. (
+pub returns-in-Some-read_device-clause-fine : goal.returns-in-Some-read_device-clause-fine
+returns-in-Some-read_device-clause-fine c = rw c.read_device-read.ensures (λ fine. (
   c.deref.result.now,
-  read_out c.deref.result.now c.in-Some.opened.value _ c.deref.ensures c.in-Some.ensures.taken,
-  λ files own n s. ap (λ (b : Bool). bool_byte b) (c.is_node_idle-number.ensures n s.node.stands) ∙ byte_of _,
-)
+  read_out c.deref.result.now c.in-Some-read_device.opened.value _ c.deref.ensures c.in-Some-read_device.ensures.taken,
+  λ files own n s. c.flag.ensures ∙ ap (λ (b : Bool). flag_of b) (c.is_node_idle.ensures n s.node.stands),
+))

@@ -1,6 +1,4 @@
-use Rattle.protosocket.specs.Prelude.{is_stop}
-use Rattle.protosocket.specs.declared.stops.Stops.TheVariants.{Space}
-use Rattle.std.proofs.Common.{sym, ◌∙◌}
+use Rattle.uip_device.proofs.Prelude.{is_stop, Space, sym, ◌∙◌}
 use Rattle.uip_device.proofs.QueryLaws.{rest_after, rest_none}
 use Rattle.uip_device.proofs.query.after_method.Goals as goal
 

@@ -1,7 +1,4 @@
-use Rattle.protosocket.proofs.Cuts.{cut_at, whole}
-use Rattle.protosocket.specs.Prelude.{is_stop, word_of}
-use Rattle.protosocket.specs.declared.stops.Stops.TheVariants.{SpaceOrLine}
-use Rattle.std.proofs.Common.{ap, sym, ◌∙◌}
+use Rattle.uip_device.proofs.Prelude.{cut_at, whole, is_stop, word_of, SpaceOrLine, ap, sym, ◌∙◌}
 use Rattle.uip_device.proofs.query.target_in.Goals as goal
 
 pub returns-in-Some : goal.returns-in-Some

@@ -1,4 +1,4 @@
-use Rattle.std.proofs.Common.{sym, ◌∙◌}
+use Rattle.uip_device.proofs.Prelude.{sym, ◌∙◌}
 use Rattle.uip_device.proofs.QueryLaws.{mark_after, mark_none}
 use Rattle.uip_device.proofs.query.text_after_mark.Goals as goal
 

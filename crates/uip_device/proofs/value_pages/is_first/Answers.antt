@@ -1,6 +1,4 @@
-use Rattle.httpd.specs.declared.compact.CompactPages.TheVariants as compact
-use Rattle.protosocket.specs.Prelude.{Line}
-use Rattle.uip_device.proofs.Prelude.{◌≡◌, ℕ, List, [], ap, subst, sym, ◌∙◌, CompactRepresent, record_text, words}
+use Rattle.uip_device.proofs.Prelude.{ap, subst, sym, ◌∙◌, CompactRepresent, record_text, words, Line}
 use Rattle.uip_device.proofs.QueryLaws.{first_open, no_length}
 use Rattle.uip_device.proofs.value_pages.is_first.Goals as goal
 

@@ -1,6 +1,5 @@
-use Rattle.uip_device.proofs.Prelude.{List, ◌++◌, ap, subst, sym, ◌∙◌, CompactRepresent, SiteContent, files_of, record_text, wanted, words}
+use Rattle.uip_device.proofs.Prelude.{◌++◌, ap, subst, sym, ◌∙◌, CompactRepresent, SiteContent, files_of, record_text, wanted, words, kept_query, place_wanted, query_in}
 use Rattle.uip_device.proofs.QueryLaws.{after_first, after_later}
-use Rattle.uip_device.specs.Query.{kept_query, place_wanted, query_in}
 use Rattle.uip_device.proofs.value_pages.receive.Goals as goal
 
 pub returns-then-first-clause-query : goal.returns-then-first-clause-query

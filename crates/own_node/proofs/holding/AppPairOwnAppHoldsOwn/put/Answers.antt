@@ -1,7 +1,4 @@
-use Rattle.std.proofs.Common.{List, ap, sym, true, ℕ, ◌∙◌}
-use Rattle.own_app.specs.Prelude.{message_of, numbers_of, write_message}
-use Rattle.app_pair.specs.PairNumbers.{pair_numbers, with_own}
-use Rattle.app_pair.specs.Lemmas.NumberLaws.{second_back, second_kept}
+use Rattle.own_node.proofs.Prelude.{List, ap, sym, true, ℕ, ◌∙◌, message_of, numbers_of, write_message, pair_numbers, with_own, second_back, second_kept}
 use Rattle.own_node.proofs.holding.AppPairOwnAppHoldsOwn.put.Goals as goal
 
 pub returns-clause-numbers : goal.returns-clause-numbers

@@ -1,11 +1,10 @@
 -- Proves `none` by hand, since it makes a struct that owns memory, though here it owns none.
-use Rattle.uip_app_c.proofs.Prelude.{refl, None}
+use Rattle.uip_app_c.proofs.Prelude.{refl, None, HeapRow, makes_null_well}
 use base.Logic.{emp}
 use contract.Monad.{fact_i}
 use denote.RawPtr.{null_ptr}
 use denote.Signature.{plain}
 use denote.Triple.Walked.{Goes-dropped}
-use Rattle.loose_box.proofs.Moving.{HeapRow, makes_null_well}
 use Rattle.uip_app_c.proofs.Words.{HeldRow}
 use Rattle.uip_app_c.specs.contracts.held.Held.none.{ended, clauses}
 use Rattle.uip_app_c.specs.contracts.held.Held.none.Key.{name as #self}

@@ -1,8 +1,7 @@
 -- Proves `of` by hand, since it makes a struct that owns memory: the handle takes what the parts own.
-use Rattle.uip_app_c.proofs.Prelude.{refl, DeviceRow, Some}
+use Rattle.uip_app_c.proofs.Prelude.{refl, DeviceRow, Some, takes_parts_well}
 use base.Logic.{emp}
 use contract.Monad.{fact_i}
-use Rattle.loose_box.proofs.Moving.{takes_parts_well}
 use Rattle.uip_app_c.proofs.Words.{HeldRow}
 use Rattle.uip_app_c.specs.contracts.held.Held.of.{ended, clauses}
 use Rattle.uip_app_c.specs.contracts.held.Held.of.Key.{name as #self}

@@ -1,8 +1,7 @@
 -- Proves `into_parts` by hand, since it opens a struct that owns memory and makes another: the parts take what the handle owns.
-use Rattle.uip_both_c.proofs.Prelude.{◌≡◌, ap, true, DeviceRow, Kept, holds, is_some}
+use Rattle.uip_both_c.proofs.Prelude.{◌≡◌, ap, true, DeviceRow, Kept, holds, is_some, gives_parts_well}
 use base.Logic.{emp, id⊢}
 use contract.Monad.{fact_i}
-use Rattle.loose_box.proofs.Moving.{gives_parts_well}
 use Rattle.uip_both_c.proofs.Taking.{some_of}
 use Rattle.uip_both_c.proofs.Words.{HeldRow, held_opened}
 use Rattle.uip_both_c.specs.contracts.held.Held.into_parts.{ended, clauses}

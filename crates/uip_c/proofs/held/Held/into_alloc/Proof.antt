@@ -1,8 +1,7 @@
 -- Proves `into_alloc` by hand, since it opens a struct that owns memory, though here it owns none.
-use Rattle.uip_c.proofs.Prelude.{refl}
+use Rattle.uip_c.proofs.Prelude.{refl, opens_well}
 use base.Logic.{emp}
 use contract.Monad.{fact_i}
-use Rattle.loose_box.proofs.Moving.{opens_well}
 use Rattle.uip_c.proofs.Words.{HeldRow, held_opened}
 use Rattle.uip_c.specs.contracts.held.Held.into_alloc.{ended, clauses}
 use Rattle.uip_c.specs.contracts.held.Held.into_alloc.Key.{name as #self}

@@ -1,8 +1,7 @@
 -- Proves `into_ether_parts` by hand, since it opens a struct that owns memory and makes another: the parts take what the handle owns.
-use Rattle.uip_c.proofs.Prelude.{◌≡◌, ap, true, EtherRow, Kept, holds, is_on_ether}
+use Rattle.uip_c.proofs.Prelude.{◌≡◌, ap, true, EtherRow, Kept, holds, is_on_ether, gives_parts_well}
 use base.Logic.{emp, id⊢}
 use contract.Monad.{fact_i}
-use Rattle.loose_box.proofs.Moving.{gives_parts_well}
 use Rattle.uip_c.proofs.Taking.{ether_of}
 use Rattle.uip_c.proofs.Words.{HeldRow, held_opened}
 use Rattle.uip_c.specs.contracts.held.Held.into_ether_parts.{ended, clauses}

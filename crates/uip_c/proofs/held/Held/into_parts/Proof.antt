@@ -1,10 +1,9 @@
 -- Proves `into_parts` by hand, since it opens a struct that owns memory and makes another: the parts take what the handle owns.
-use Rattle.uip_c.proofs.Prelude.{◌≡◌, refl, true, box_owns, ghosts, WebDevice, IsSoundWebDevice, LineRow, holds, Kept, OnLine, is_on_line}
+use Rattle.uip_c.proofs.Prelude.{◌≡◌, refl, true, box_owns, ghosts, WebDevice, IsSoundWebDevice, LineRow, holds, Kept, OnLine, is_on_line, PartsRow, converts_well}
 use base.Logic.{emp}
 use contract.Monad.{fact_i}
 use types.Kit.{fpick, rewrite, ‵, ◌$◌}
 use denote.Steps.{heard}
-use Rattle.loose_box.proofs.Moving.{PartsRow, converts_well}
 use Rattle.uip_c.proofs.Taking.{line_of}
 use Rattle.uip_c.proofs.Words.{HeldRow, held_opened}
 use Rattle.uip_c.specs.contracts.held.Held.into_parts.{ended, clauses}

@@ -1,12 +1,11 @@
 -- Proves `of` by hand, since it makes a struct that owns memory: the handle takes what the parts own, with the fact that the device is
 -- sound.
 -- [add: c-application] A handle: proofs as those of this folder.
-use Rattle.uip_c.proofs.Prelude.{refl, box_owns, ghosts, IsSoundWebDevice, LineRow, OnLine, holds}
+use Rattle.uip_c.proofs.Prelude.{refl, box_owns, ghosts, IsSoundWebDevice, LineRow, OnLine, holds, PartsRow, converts_well, parts_opened}
 use base.Logic.{emp}
 use contract.Monad.{fact_i}
 use types.Kit.{fpack, ◌$◌}
 use denote.Steps.{heard}
-use Rattle.loose_box.proofs.Moving.{PartsRow, converts_well, parts_opened}
 use Rattle.uip_c.proofs.Words.{HeldRow}
 use Rattle.uip_c.specs.contracts.held.Held.of.{ended, clauses}
 use Rattle.uip_c.specs.contracts.held.Held.of.Key.{name as #self}

@@ -1,8 +1,7 @@
 -- Proves `of_ether` by hand, since it makes a struct that owns memory: the handle takes what the parts own.
-use Rattle.uip_c.proofs.Prelude.{refl, EtherRow, OnEther}
+use Rattle.uip_c.proofs.Prelude.{refl, EtherRow, OnEther, takes_parts_well}
 use base.Logic.{emp}
 use contract.Monad.{fact_i}
-use Rattle.loose_box.proofs.Moving.{takes_parts_well}
 use Rattle.uip_c.proofs.Words.{HeldRow}
 use Rattle.uip_c.specs.contracts.held.Held.of_ether.{ended, clauses}
 use Rattle.uip_c.specs.contracts.held.Held.of_ether.Key.{name as #self}

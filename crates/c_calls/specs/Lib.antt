@@ -1,0 +1,4 @@
+pub mod ConstantValues
+pub mod Handles
+pub mod Results
+pub mod Prelude
