@@ -11,7 +11,7 @@
  *
  * RULES FOR THE CALLER: 1 to 5 and 7 to 10 of uip.h. In them uip_app_open and uip_app_close have the
  * place of uip_open_ether and uip_close, and rule 5 holds for `bytes` of uip_app_read as for `out`. On a
- * Cortex-M4 uip_app_open needs 1,472 bytes of stack, and the other calls less (rule 9; computed for our test firmware).
+ * Cortex-M4 uip_app_open needs 1,520 bytes of stack, and the other calls less (rule 9; computed for our test firmware).
  *
  * ERRORS, as in uip.h: a call that returns another status than UIP_OK has changed nothing, and all other fields of the
  * result are 0. UIP_NOT_READY is looked for after UIP_NO_DEVICE.
