@@ -13,7 +13,8 @@
  *
  * RULES FOR THE CALLER: those of uip.h. Rule 5 holds for `bytes` of uip_read as for `out`. On a Cortex-M4
  * uip_open_ether needs 7,384 bytes of stack, uip_close 2,496, and the other calls at most 2,328 (rule 9; computed from
- * the linked code; on rv32 uip_open_ether needs 8,832). A sink may call uip_read and uip_listen. It may not call uip_write.
+ * the linked code; on rv32 uip_open_ether needs 8,832). A sink may call uip_read and uip_listen. It may not call
+ * uip_write.
  *
  * ERRORS, as in uip.h and uip_app.h.
  *
