@@ -2,7 +2,8 @@
 use Rattle.std.specs.List.{concat}
 use Rattle.std.specs.Prelude.{◌≡◌, ℕ, List, [], ◌∷◌, ◌++◌, codes, filter, map, replicate, Result, Ok, Err}
 use Rattle.link_client.specs.declared.client_state.ClientState.TheVariants.{Opened, Closed, Reset}
-use Rattle.link_world.specs.Prelude.{World, Planned, initial_world, plays, BadLine, ClientEnd, clean_end, end_of_client, text_of_content, worked_client}
+use Rattle.link_world.specs.Prelude.{World, Planned, initial_world, plays, BadLine, ClientEnd, clean_end, end_of_client, text_of_content}
+use Rattle.link_world.specs.Prelude.{worked_client}
 use Rattle.link_schedule.specs.declared.event.Event.{Event}
 use Rattle.link_schedule.specs.declared.event.Event.TheVariants.{Opens, Damage, Tick, Round, Lose}
 use Rattle.web_pages.specs.Prelude.{ok, as_html, get, hello_site}

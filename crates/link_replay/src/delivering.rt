@@ -5,7 +5,8 @@ ghost use Rattle.uip_node.specs.Prelude.{tick, Periodic};
 ghost use Rattle.link_world.specs.Prelude.{client_acts, does, handles_all, changed, ping_from, OfPing, IsAct};
 ghost use Rattle.link_world.specs.World.{World as PlainWorld, node_handles, posts};
 ghost use Rattle.link_world.specs.declared.who.Who.TheVariants.{Pinger};
-ghost use Rattle.link_replay.specs.Prelude.{DoesAct, FromHere, HandsOver, KeepsLink, PassesToNode, TellsStep, own_step, WorldRepresents, client_told};
+ghost use Rattle.link_replay.specs.Prelude.{DoesAct, FromHere, HandsOver, KeepsLink, PassesToNode, TellsStep, WorldRepresents};
+ghost use Rattle.link_replay.specs.Prelude.{client_told, own_step};
 
 use crate::acting::{act_alone, advertise_window, hear};
 use crate::before::Before;
