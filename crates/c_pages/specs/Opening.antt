@@ -27,7 +27,7 @@ ReportsFault image entry word =
     (error : SiteError) × ((read_image image ≡ Err error) ⊎ IsLongWithValues image error) × (entry ≡ error.entry) × IsWordOf error.why word
 
 -- What is reported if a device was not made, or if there is no memory for its box.
-pub record TellsRefusal {T : Type 0} (made : Result T OpenFault) (told : UipOpened) : Type 0 where
+pub record ReportsRefusal {T : Type 0} (made : Result T OpenFault) (told : UipOpened) : Type 0 where
   pub known : (told.status ≡ BAD_IMAGE) ⊎ (told.status ≡ NO_MEMORY)
   pub bad_site : told.status ≡ BAD_IMAGE
       → (error : SiteError) × (made ≡ Err (BadSite error)) × (told.entry ≡ error.entry) × IsWordOf error.why told.word

@@ -34,6 +34,6 @@ IsNoRow told =
     told ≡ record { status = told.status; state = 0; peer = replicate 4 0; port = 0; tries = 0; count = 0; waiting = 0 }
 
 -- For a CLOSED slot only the state is reported, which is 0.
-abbrev pub TellsRow : Option Row → UipRow → Type 0
-TellsRow None told = IsNoRow told
-TellsRow (Some row) told = IsToldRow row told
+abbrev pub ReportsRow : Option Row → UipRow → Type 0
+ReportsRow None told = IsNoRow told
+ReportsRow (Some row) told = IsToldRow row told

@@ -1,7 +1,7 @@
 //! What opening a device with a site reports.
 
 ghost use Rattle.std.specs.Prelude.{◌≡◌, IfErr, IfOk, Ok, replicate};
-ghost use Rattle.c_pages.specs.Opening.{IsWordOf, TellsRefusal};
+ghost use Rattle.c_pages.specs.Opening.{IsWordOf, ReportsRefusal};
 
 use c_calls::{BAD_IMAGE, NO_MEMORY};
 use site_image::{SiteError, SiteWhy};
@@ -57,7 +57,7 @@ fn bad_site(error: SiteError) -> UipOpened
 #[inline(always)]
 pub fn boxed<T: Drop>(alloc: Global, made: Result<T, OpenFault>) -> Result<Box<T>, UipOpened>
     ensures boxed { IfOk result (λ opened. made ≡ Ok opened.value) }
-    ensures refused { IfErr result (λ told. TellsRefusal made told) }
+    ensures refused { IfErr result (λ told. ReportsRefusal made told) }
 {
     match made {
         Ok(made) => match Box::new(alloc, made) {

@@ -1,7 +1,7 @@
 //! A connection that C reads.
 
 ghost use Rattle.std.specs.Prelude.{◌≡◌};
-ghost use Rattle.c_pages.specs.Rows.{IsNoRow, IsToldRow, TellsRow, state_number};
+ghost use Rattle.c_pages.specs.Rows.{IsNoRow, IsToldRow, ReportsRow, state_number};
 
 use app_events::{Row, State};
 use c_calls::OK;
@@ -68,7 +68,7 @@ impl UipRow {
     #[inline]
     pub fn read(row: Option<Row>) -> UipRow
         ensures status { result.status ≡ OK }
-        ensures row { TellsRow row result }
+        ensures row { ReportsRow row result }
     {
         match row {
             Some(row) => told_row(row),

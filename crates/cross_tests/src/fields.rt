@@ -113,9 +113,9 @@ fn shell(value: &Shell) {
         over: _,
         iac: _,
         queue: _,
+        capture: record,
         lost: _,
         done: _,
-        capture: record,
         at: _,
         polls: _,
     } = value;

@@ -1,5 +1,5 @@
 -- What a run of bytes does to an Ethernet line.
-use Rattle.ethernet_arp.proofs.Prelude.{◌≡◌, ◌++◌, ◌∙◌, ◌&&◌, [], List, ℕ, if◌then◌else◌, true, false, nat_le, take, ap, append-nil, sym, subst, MediumInput, TellsBrought, acts_among, all_decoded, Decoded, ether_medium, open_from, Host, frame_brings, Act, Holds, brought_from, whole_brings, Knows, Arp, FramePart}
+use Rattle.ethernet_arp.proofs.Prelude.{◌≡◌, ◌++◌, ◌∙◌, ◌&&◌, [], List, ℕ, if◌then◌else◌, true, false, nat_le, take, ap, append-nil, sym, subst, MediumInput, ReportsBrought, acts_among, all_decoded, Decoded, ether_medium, open_from, Host, frame_brings, Act, Holds, brought_from, whole_brings, Knows, Arp, FramePart}
 use Rattle.ethernet_arp.proofs.PartLaws.{brought_is, open-append}
 
 -- the part after more bytes
@@ -30,10 +30,10 @@ module _ (k host : Host) (p : FramePart) (before bytes : List ℕ) where
       ap (λ (h : Host). frame_brings h (take p.len p.area)) is ∙ sym (brought_is k before bytes ∙ e ∙ whole_frame k p t)
 
   pub told_whole : (shown : List ℕ) (brought : Decoded) → host ≡ k → brought_from k (open_from [] before) bytes ≡ whole_brings k p → (nat_le 14 p.len && nat_le p.len 1514) ≡ true
-      → TellsBrought (ether_medium host) shown brought (frame_brings host (take p.len p.area)) → TellsBrought (ether_medium k) shown brought (all_decoded (ether_medium k) before bytes)
+      → ReportsBrought (ether_medium host) shown brought (frame_brings host (take p.len p.area)) → ReportsBrought (ether_medium k) shown brought (all_decoded (ether_medium k) before bytes)
   told_whole shown brought is e t told =
-      subst (λ (h : Host). TellsBrought (ether_medium h) shown brought (all_decoded (ether_medium k) before bytes)) is
-      (subst (λ (l : List (MediumInput Act)). TellsBrought (ether_medium host) shown brought l) (brings_frame is e t) told)
+      subst (λ (h : Host). ReportsBrought (ether_medium h) shown brought (all_decoded (ether_medium k) before bytes)) is
+      (subst (λ (l : List (MediumInput Act)). ReportsBrought (ether_medium host) shown brought l) (brings_frame is e t) told)
 
   pub did_whole : (arp : Arp) (acts : List Act) → host ≡ k → brought_from k (open_from [] before) bytes ≡ whole_brings k p → (nat_le 14 p.len && nat_le p.len 1514) ≡ true
       → Knows arp (acts ++ acts_among (frame_brings host (take p.len p.area))) → Knows arp (acts ++ acts_among (all_decoded (ether_medium k) before bytes))

@@ -35,9 +35,9 @@ IsTaught (Own act ∷ cs) old new = (pair : Pair) → taught act ≡ Some pair �
 IsTaught cs old new = new ≡ old
 
 -- The result for a frame, what it decodes to, and the area before and after.
-abbrev pub TellsTaken : Host → List ℕ → Taken → List (MediumInput Act) → List ℕ → List ℕ → Type 0
-TellsTaken k frame taken.Nothing cs old new = IsQuiet cs × (new ≡ old)
-TellsTaken k frame (taken.Reply n) cs old new =
+abbrev pub ReportsTaken : Host → List ℕ → Taken → List (MediumInput Act) → List ℕ → List ℕ → Type 0
+ReportsTaken k frame taken.Nothing cs old new = IsQuiet cs × (new ≡ old)
+ReportsTaken k frame (taken.Reply n) cs old new =
     (pair : Pair) × (cs ≡ Own (Asked pair) ∷ []) × (n ≡ length (arp_reply k pair)) × (new ≡ written old 0 (arp_reply k pair))
-TellsTaken k frame (taken.Datagram at n) cs old new =
+ReportsTaken k frame (taken.Datagram at n) cs old new =
     (cs ≡ Datagram (drop at frame) ∷ []) × (at + n ≡ length frame) × (0 < n) × (new ≡ old)

@@ -1,7 +1,7 @@
 //! Ethernet with ARP as a medium.
 
 ghost use Rattle.std.specs.Prelude.{◌≡◌, ◌≤◌, ◌++◌, [], List, length, take};
-ghost use Rattle.line_medium.specs.Prelude.{ShowsBrought, TellsBrought, acts_among};
+ghost use Rattle.line_medium.specs.Prelude.{ShowsBrought, ReportsBrought, acts_among};
 ghost use Rattle.ethernet_arp.specs.EtherWay.{ether_medium};
 ghost use Rattle.ethernet_arp.specs.Frames.{frame_brings};
 ghost use Rattle.ethernet_arp.specs.Learning.{Act};
@@ -49,7 +49,7 @@ impl EtherLine {
         requires most { self.old.part.len ≤ LARGEST_FRAME }
         ensures part { self.new.part ≡ self.old.part }
         ensures host { host_of self.new.arp ≡ host_of self.old.arp }
-        ensures told { TellsBrought (ether_medium (host_of self.old.arp)) (shown_of self.new) result
+        ensures told { ReportsBrought (ether_medium (host_of self.old.arp)) (shown_of self.new) result
             (frame_brings (host_of self.old.arp) (take self.old.part.len self.old.part.area)) }
         ensures knows { (acts : List Act) → Knows self.old.arp acts → Knows self.new.arp
             (acts ++ acts_among (frame_brings (host_of self.old.arp) (take self.old.part.len self.old.part.area))) }

@@ -8,7 +8,7 @@ ghost use Rattle.ethernet_arp.specs.Frames.{arp_brings, broadcast, frame_brings,
 ghost use Rattle.ethernet_arp.specs.Frames.{payload_brings, arp_reply, sender_of};
 ghost use Rattle.ethernet_arp.specs.Learning.{Act};
 ghost use Rattle.ethernet_arp.specs.Table.{Knows, host_of};
-ghost use Rattle.ethernet_arp.specs.Taking.{IsTaught, TellsTaken, SomeBytes, came_of};
+ghost use Rattle.ethernet_arp.specs.Taking.{IsTaught, ReportsTaken, SomeBytes, came_of};
 
 use crate::arp::Arp;
 use crate::mac::{BROADCAST, Mac};
@@ -46,7 +46,7 @@ pub fn take(arp: &mut Arp, frame: &[u8], out: &mut [u8]) -> Taken
     requires most { length frame.now ≤ LARGEST_FRAME }
     requires room { ARP_FRAME ≤ length out.old }
     ensures host { host_of arp.new ≡ host_of arp.old }
-    ensures told { TellsTaken (host_of arp.old) frame.now result
+    ensures told { ReportsTaken (host_of arp.old) frame.now result
         (frame_brings (host_of arp.old) frame.now) out.old out.new }
     ensures table { IsTaught (frame_brings (host_of arp.old) frame.now) arp.old arp.new }
     ensures knows { (acts : List Act) → Knows arp.old acts

@@ -35,11 +35,11 @@ all_said w [] = []
 all_said w (a ∷ acts) = w.says a ++ all_said w acts
 
 -- What a result reports, if these bytes can be read from the medium.
-abbrev pub TellsBrought : {A : Type 0} → MediumSpec A → List ℕ → Decoded → List (MediumInput A) → Type 0
-TellsBrought w shown brought.Nothing cs = cs ≡ []
-TellsBrought w shown brought.Overlong cs = cs ≡ Overlong ∷ []
-TellsBrought w shown (brought.Datagram n) cs = cs ≡ Datagram shown ∷ []
-TellsBrought {A = A} w shown (brought.Own n) cs = (a : A) × (cs ≡ Own a ∷ []) × (w.says a ≡ shown)
+abbrev pub ReportsBrought : {A : Type 0} → MediumSpec A → List ℕ → Decoded → List (MediumInput A) → Type 0
+ReportsBrought w shown brought.Nothing cs = cs ≡ []
+ReportsBrought w shown brought.Overlong cs = cs ≡ Overlong ∷ []
+ReportsBrought w shown (brought.Datagram n) cs = cs ≡ Datagram shown ∷ []
+ReportsBrought {A = A} w shown (brought.Own n) cs = (a : A) × (cs ≡ Own a ∷ []) × (w.says a ≡ shown)
 
 -- what a result leaves to be read
 abbrev pub ShowsBrought : (ℕ → Type 0) → List ℕ → Decoded → Type 0

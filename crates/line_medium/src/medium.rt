@@ -3,7 +3,7 @@
 ghost use Rattle.std.specs.Prelude.{[], ◌≡◌, ◌<◌, ◌≤◌, ◌++◌, List, ℕ, length, take, OnOk, OnErr};
 ghost use Rattle.std.specs.Io.KnownBytes.{Appends};
 ghost use Rattle.uip_edge.specs.Prelude.{HasCause, AppendsPrefix};
-ghost use Rattle.line_medium.specs.Media.{MediumSpec, ShowsBrought, TellsBrought, all_decoded, all_said, acts_among};
+ghost use Rattle.line_medium.specs.Media.{MediumSpec, ShowsBrought, ReportsBrought, all_decoded, all_said, acts_among};
 
 use uip_edge::{Failed, Sink};
 
@@ -56,7 +56,7 @@ pub trait Medium {
         ensures within { result.count ≤ length bytes.now }
         ensures fed { (k : Self.Config) (before : List ℕ) → fed self.old k before
             → fed self.new k (before ++ take result.count bytes.now) }
-        ensures told { (k : Self.Config) (before : List ℕ) → fed self.old k before → TellsBrought (spec k)
+        ensures told { (k : Self.Config) (before : List ℕ) → fed self.old k before → ReportsBrought (spec k)
             (shown self.new) result.brought (all_decoded (spec k) before (take result.count bytes.now)) }
         ensures did { (k : Self.Config) (before : List ℕ) (acts : List Self.Act)
             → fed self.old k before → did self.old k acts

@@ -1,5 +1,5 @@
 -- What is due for a schedule that was played by the server of a site.
-use Rattle.link_replay.proofs.Prelude.{All, ◌≡◌, ℕ, List, Result, Ok, Err, length, sym, subst, refl, inl, inr, ap, ◌∙◌, Bool, lit<, All-replicate, AppSpec, IsByte, IsPaged, IsU32, Pages, SiteContent, IsLoaded, files_of, File, pages_of, web_spec, keeps_page_laws, ReadsSchedule, IfOk, MatchResult, Some, slice_get, BadText, SchedulePlan, read_text, ReadSchedule, Bad, HasBytes, plays, World, plan_from, PlaysSchedule, Reaches, Refuses, IsAt, bad_schedule, outcome, is_served, no_hits, WritesDue, IsPlayDue, IsTextDue, TellsFault, told_of, HasReached, ServesHonest, KeepsPromises, ReplayEnd, Telling, Report, Planned, IsPlanned, WritesEnd, SinkView}
+use Rattle.link_replay.proofs.Prelude.{All, ◌≡◌, ℕ, List, Result, Ok, Err, length, sym, subst, refl, inl, inr, ap, ◌∙◌, Bool, lit<, All-replicate, AppSpec, IsByte, IsPaged, IsU32, Pages, SiteContent, IsLoaded, files_of, File, pages_of, web_spec, keeps_page_laws, ReadsSchedule, IfOk, MatchResult, Some, slice_get, BadText, SchedulePlan, read_text, ReadSchedule, Bad, HasBytes, plays, World, plan_from, PlaysSchedule, Reaches, Refuses, IsAt, bad_schedule, outcome, is_served, no_hits, WritesDue, IsPlayDue, IsTextDue, WritesFault, told_of, HasReached, ServesHonest, KeepsPromises, ReplayEnd, Telling, Report, Planned, IsPlanned, WritesEnd, SinkView}
 use Rattle.link_schedule.specs.declared.read_schedule.ReadSchedule.TheVariants.{NoMemory}
 use Rattle.link_replay.specs.declared.replay_end.ReplayEnd.TheVariants as ends
 use Rattle.link_replay.proofs.Honest.{honest_at}
@@ -78,7 +78,7 @@ module _ (site : SiteContent) (loaded : IsLoaded site) (content : SchedulePlan) 
   -- a line of it was refused, and is reported
   pub refused_due : {X : Type 0} (Now : X → World → Type 0) (fault : ReadSchedule)
       → PlaysSchedule (web_spec (files_of site)) is_served (no_hits (files_of site)) content Now (Err fault)
-      → TellsFault fault old new result → WritesDue (IsPlayDue (files_of site) content telling) old new result
+      → WritesFault fault old new result → WritesDue (IsPlayDue (files_of site) content telling) old new result
   refused_due Now NoMemory plays short = inr short
   refused_due Now (Bad line why) plays (inr short) = inr short
   refused_due Now (Bad line why) plays (inl wrote) =
@@ -99,7 +99,7 @@ text_answers files bytes content show reads old new result (inr short) = inr sho
 
 -- the text does not read, and its first bad line is reported
 pub text_refused : (files : List File) (bytes : List ℕ) (show : Bool) (fault : ReadSchedule) → ReadsSchedule (Err fault) (read_text bytes)
-    → (old new : SinkView) (result : ReplayEnd) → TellsFault fault old new result
+    → (old new : SinkView) (result : ReplayEnd) → WritesFault fault old new result
     → WritesDue (IsTextDue files bytes show) old new result
 text_refused files bytes show NoMemory reads old new result short = inr short
 text_refused files bytes show (Bad line why) reads old new result (inr short) = inr short

@@ -7,14 +7,14 @@ pub same_work : (old new : WorkView) → new.shelf.held ≡ old.shelf.held → n
 same_work old new held sink faults = λ i. record { shelf = record { held = held i; faults = faults i }; sink = sink i }
 
 -- an end that goes with a text
-abbrev pub IsToldEnd : ReplayEnd → Type 0
-IsToldEnd ends.Done = ⊤
-IsToldEnd (ends.BadSite error) = ⊤
-IsToldEnd (ends.BadSchedule line why) = ⊤
-IsToldEnd _ = ⊥
+abbrev pub IsReportedEnd : ReplayEnd → Type 0
+IsReportedEnd ends.Done = ⊤
+IsReportedEnd (ends.BadSite error) = ⊤
+IsReportedEnd (ends.BadSchedule line why) = ⊤
+IsReportedEnd _ = ⊥
 
 module _ (Is : Option Files → List ℕ → ReplayEnd → Type 0) (Missing : Option Files → Type 0) (old new : WorkView)
-    (only : (text : List ℕ) (end : ReplayEnd) → Is old.shelf.held text end → IsToldEnd end)
+    (only : (text : List ℕ) (end : ReplayEnd) → Is old.shelf.held text end → IsReportedEnd end)
     (held : new.shelf.held ≡ old.shelf.held) (shelf : new.shelf.faults ≡ old.shelf.faults) where
   -- the whole text
   whole_ends : (text : List ℕ) (end : ReplayEnd) → Is old.shelf.held text end → WritesAll old.sink new.sink text → EndsWith Is Missing old new end
@@ -37,7 +37,7 @@ module _ (Is : Option Files → List ℕ → ReplayEnd → Type 0) (Missing : Op
   short_ends result short = subst (EndsWith Is Missing old new) (sym short.0) (same_work old new held short.1 shelf)
 
 module _ (site schedule : List ℕ) (show : Bool) (old new : WorkView) (held : new.shelf.held ≡ old.shelf.held) (shelf : new.shelf.faults ≡ old.shelf.faults) where
-  only_text : (text : List ℕ) (end : ReplayEnd) → IsReplayText site schedule show old.shelf.held text end → IsToldEnd end
+  only_text : (text : List ℕ) (end : ReplayEnd) → IsReplayText site schedule show old.shelf.held text end → IsReportedEnd end
   only_text text ends.Done is = tt
   only_text text (ends.BadSite error) is = tt
   only_text text (ends.BadSchedule line why) is = tt
@@ -64,7 +64,7 @@ module _ (site schedule : List ℕ) (show : Bool) (old new : WorkView) (held : n
       short_ends (IsReplayText site schedule show) (LacksEither site schedule) old new only_text held shelf result short
 
 module _ (site : List ℕ) (seed clients : ℕ) (old new : WorkView) (held : new.shelf.held ≡ old.shelf.held) (shelf : new.shelf.faults ≡ old.shelf.faults) where
-  only_load : (text : List ℕ) (end : ReplayEnd) → IsLoadText site seed clients old.shelf.held text end → IsToldEnd end
+  only_load : (text : List ℕ) (end : ReplayEnd) → IsLoadText site seed clients old.shelf.held text end → IsReportedEnd end
   only_load text ends.Done is = tt
   only_load text (ends.BadSite error) is = tt
   only_load text (ends.BadSchedule line why) is = tt

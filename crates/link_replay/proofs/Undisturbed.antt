@@ -1,5 +1,5 @@
 -- A replay or a load that nothing outside disturbs ends as is due.
-use Rattle.link_replay.proofs.Prelude.{ℕ, List, Option, refl, inl, inr, arith, Files, LacksFile, site_read, EndsWith, IsLoadText, IsReplayText, LacksEither, WroteDue, LoadIsTold, ReplayIsTold, ReplayEnd, WorkView, WorkUnfailed}
+use Rattle.link_replay.proofs.Prelude.{ℕ, List, Option, refl, inl, inr, arith, Files, LacksFile, site_read, EndsWith, IsLoadText, IsReplayText, LacksEither, WroteDue, LoadIsReported, ReplayIsReported, ReplayEnd, WorkView, WorkUnfailed}
 use Rattle.link_replay.specs.declared.replay_end.ReplayEnd.TheVariants as ends
 
 module _ (Is : Option Files → List ℕ → ReplayEnd → Type 0) (Missing : Option Files → Type 0) where
@@ -12,8 +12,8 @@ module _ (Is : Option Files → List ℕ → ReplayEnd → Type 0) (Missing : Op
   as_due old new ends.WriteFault e calm there = absurd (omega (arith, e.wrote.rose, calm.sink.same, calm.sink.below))
   as_due old new ends.NoMemory e calm there = inl refl
 
-pub replay_is_reported : ReplayIsTold
+pub replay_is_reported : ReplayIsReported
 replay_is_reported site schedule show = as_due (IsReplayText site schedule show) (LacksEither site schedule)
 
-pub load_is_reported : LoadIsTold
+pub load_is_reported : LoadIsReported
 load_is_reported site seed clients = as_due (IsLoadText site seed clients) (LacksFile (site_read site))

@@ -26,7 +26,7 @@ told_of Summary w = summary_of w
 
 -- The schedule was played to its end by the server of these files. The text reports the world reached, which satisfies the guarantees. If
 -- the schedule has one client over a link that loses nothing, the client has its whole page.
-pub record TellsWorld (files : List File) (content : SchedulePlan) (telling : Telling) (text : List ℕ) : Type 0 where
+pub record ReportsWorld (files : List File) (content : SchedulePlan) (telling : Telling) (text : List ℕ) : Type 0 where
   pub world : World
   pub plays : outcome files content ≡ Ok world
   pub told : text ≡ told_of telling world
@@ -46,7 +46,7 @@ ServesHonest files content w = (plan : Plan) → IsHonest files content plan →
 
 -- the text that is due with an end, for the files of a site and a schedule
 abbrev pub IsPlayDue : List File → SchedulePlan → Telling → List ℕ → ReplayEnd → Type 0
-IsPlayDue files content telling text ends.Done = TellsWorld files content telling text
+IsPlayDue files content telling text ends.Done = ReportsWorld files content telling text
 IsPlayDue files content telling text (ends.BadSchedule line why) =
     Refuses content.lines (outcome files content) line why × (text ≡ bad_schedule line why)
 IsPlayDue files content telling text _ = ⊥
@@ -72,6 +72,6 @@ WritesDue Due old new result =
     ((text : List ℕ) × (end : ReplayEnd) × Due text end × WritesEnd end ends.WriteFault old new text result) ⊎ IsShort old new result
 
 -- The line of a bad schedule was written, or memory ran out.
-abbrev pub TellsFault : ReadSchedule → SinkView → SinkView → ReplayEnd → Type 0
-TellsFault (Bad line why) old new result = WritesText (bad_schedule line why) (ends.BadSchedule line why) old new result
-TellsFault NoMemory old new result = IsShort old new result
+abbrev pub WritesFault : ReadSchedule → SinkView → SinkView → ReplayEnd → Type 0
+WritesFault (Bad line why) old new result = WritesText (bad_schedule line why) (ends.BadSchedule line why) old new result
+WritesFault NoMemory old new result = IsShort old new result

@@ -23,15 +23,15 @@ abbrev pub WroteDue : (List ℕ → ReplayEnd → Type 0) → WorkView → WorkV
 WroteDue Is old new end = (end ≡ ends.NoMemory) ⊎ ((text : List ℕ) × Is text end × Appends old.sink.written new.sink.written text)
 
 -- If no fault counter rose and no file is missing, a replay ends as is due.
-abbrev pub ReplayIsTold : Type 0
-ReplayIsTold =
+abbrev pub ReplayIsReported : Type 0
+ReplayIsReported =
     (site schedule : List ℕ) (show : Bool) (old new : WorkView) (end : ReplayEnd)
     → ReplayEnds site schedule show old new end → WorkUnfailed old new
     → ¬ (LacksEither site schedule old.shelf.held) → WroteDue (IsReplayText site schedule show old.shelf.held) old new end
 
 -- If no fault counter rose and the site is not missing, a load ends as is due.
-abbrev pub LoadIsTold : Type 0
-LoadIsTold =
+abbrev pub LoadIsReported : Type 0
+LoadIsReported =
     (site : List ℕ) (seed clients : ℕ) (old new : WorkView) (end : ReplayEnd)
     → LoadEnds site seed clients old new end → WorkUnfailed old new
     → ¬ (LacksFile (site_read site) old.shelf.held) → WroteDue (IsLoadText site seed clients old.shelf.held) old new end

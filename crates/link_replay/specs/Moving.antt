@@ -61,8 +61,8 @@ SinceBefore g before node P =
     → Represents g node (step m served n event).node (step m served n event).node.history → P (step m served n event)
 
 -- Clients and datagrams record the step of a node that sent this.
-abbrev pub TellsStep : {A S : Type 0} (g : Ghosts A S) → Before → Node A S → Option SocketPair → Option ℕ → Link → Link → Type 0
-TellsStep g before node to sent old new =
+abbrev pub ReportsStep : {A S : Type 0} (g : Ghosts A S) → Before → Node A S → Option SocketPair → Option ℕ → Link → Link → Type 0
+ReportsStep g before node to sent old new =
     (m : AppSpec) (served : ℕ → Bool) (w : World) (event : Event) → IsBefore before w.node
     → AreTo to (step m served w.node event).sent
     → Represents g node (step m served w.node event).node (step m served w.node event).node.history

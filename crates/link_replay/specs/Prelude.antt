@@ -1,16 +1,16 @@
 -- The names of the definitions of this crate that other files cite, passed on from one place. Declares nothing.
 pub use Rattle.link_replay.specs.Apart.{AbortAndCloseApart, ClosesInTime, is_at_end}
-pub use Rattle.link_replay.specs.Due.{HasReached, IsPlayDue, IsShort, IsTextDue, ServesHonest, TellsFault, WritesDue, WritesText, told_of}
+pub use Rattle.link_replay.specs.Due.{HasReached, IsPlayDue, IsShort, IsTextDue, ServesHonest, WritesFault, WritesDue, WritesText, told_of}
 pub use Rattle.link_replay.specs.Ending.{EndsWith, IsLoadText, IsReplayText, LacksEither, LoadEnds, ReplayEnds}
 pub use Rattle.link_replay.specs.Epochs.{IsAtLast, OnlyEpoch, buried, sockets_for}
 pub use Rattle.link_replay.specs.Hits.{HitsAreCounted, becomes_hit, hits_over, is_place, one_hits}
 pub use Rattle.link_replay.specs.Honest.{IsHonest, rounds_for}
 pub use Rattle.link_replay.specs.HonestPeers.{HonestWebPeer}
 pub use Rattle.link_replay.specs.Kinds.{column}
-pub use Rattle.link_replay.specs.Laws.{HonestReplay, LoadIsTold, OnlyFull, ReplayIsTold, WroteDue}
+pub use Rattle.link_replay.specs.Laws.{HonestReplay, LoadIsReported, OnlyFull, ReplayIsReported, WroteDue}
 pub use Rattle.link_replay.specs.Matched.{Matched}
 pub use Rattle.link_replay.specs.Moving.{Buries, ChangesAt, DoesAct, FromHere, HandsOver, KeepsLink, OfDatagram, OfLink}
-pub use Rattle.link_replay.specs.Moving.{OfWorld, PassesToNode, PostsBytes, PostsOfClient, PostsReply, TellsStep}
+pub use Rattle.link_replay.specs.Moving.{OfWorld, PassesToNode, PostsBytes, PostsOfClient, PostsReply, ReportsStep}
 pub use Rattle.link_replay.specs.Noting.{gone_pair, is_sent_again, lost, lost_at, or_pair, owner, owner_in, pair_at, resent, sockets_at}
 pub use Rattle.link_replay.specs.Opening.{AreFresh, IsFresh, opening_for, plan_from, planned, server}
 pub use Rattle.link_replay.specs.Outcome.{bad_schedule, outcome}

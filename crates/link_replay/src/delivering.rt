@@ -5,7 +5,7 @@ ghost use Rattle.uip_node.specs.Prelude.{tick, Periodic};
 ghost use Rattle.link_world.specs.Prelude.{client_acts, does, handles_all, changed, ping_from, OfPing, IsAct};
 ghost use Rattle.link_world.specs.World.{World as PlainWorld, node_handles, posts};
 ghost use Rattle.link_world.specs.declared.who.Who.TheVariants.{Pinger};
-ghost use Rattle.link_replay.specs.Prelude.{DoesAct, FromHere, HandsOver, KeepsLink, PassesToNode, TellsStep, WorldRepresents};
+ghost use Rattle.link_replay.specs.Prelude.{DoesAct, FromHere, HandsOver, KeepsLink, PassesToNode, ReportsStep, WorldRepresents};
 ghost use Rattle.link_replay.specs.Prelude.{client_told, own_step};
 
 use crate::acting::{act_alone, advertise_window, hear};
@@ -34,7 +34,7 @@ impl<A: App> WorldOf<A> {
         ensures mark { self.new.mark ≡ self.old.mark }
         ensures spent { self.new.spent ≡ self.old.spent }
         ensures kept { KeepsLink self.old.link self.new.link }
-        ensures told { OnOk result (TellsStep A.App before.now self.old.node to answer self.old.link self.new.link) }
+        ensures told { OnOk result (ReportsStep A.App before.now self.old.node to answer self.old.link self.new.link) }
     {
         tell(
             &self.node,

@@ -1,8 +1,8 @@
 //! The laws of the worlds of a replay; what the definitions of a report and of a summary give for worlds worked by hand; and
 //! how a replay ends if nothing disturbs it. Each law is the clause of a function without parameters.
 
-ghost use Rattle.link_replay.specs.Prelude.{AbortAndCloseApart, HitsAreCounted, HonestWebPeer, HonestReplay, LoadIsTold};
-ghost use Rattle.link_replay.specs.Prelude.{OnlyFull, ReplayIsTold, DamageLoses, AreWorkedReports, AreWorkedSummaries};
+ghost use Rattle.link_replay.specs.Prelude.{AbortAndCloseApart, HitsAreCounted, HonestWebPeer, HonestReplay, LoadIsReported};
+ghost use Rattle.link_replay.specs.Prelude.{OnlyFull, ReplayIsReported, DamageLoses, AreWorkedReports, AreWorkedSummaries};
 
 /// The definition gives the reports that were worked by hand.
 #[tactic(auto, using(crate::proofs::WorkedReports::worked))]
@@ -23,12 +23,12 @@ pub fn damage_loses()
 
 /// If no fault count rises and no file is missing, a replay ends as is due for the shelf's files, or memory ran out.
 pub fn replay_is_reported()
-    ensures { ReplayIsTold }
+    ensures { ReplayIsReported }
 {}
 
 /// If no fault count rises and the site is not missing, a load ends as is due for the shelf's files, or memory ran out.
 pub fn load_is_reported()
-    ensures { LoadIsTold }
+    ensures { LoadIsReported }
 {}
 
 /// Over a link that loses nothing, a schedule's client receives its whole page. Two rounds for each part of its request, two

@@ -2,7 +2,7 @@
 
 ghost use Rattle.std.specs.Prelude.{◌≡◌, ◌≤◌, List, OnOk, Option, Some, length};
 ghost use Rattle.uip_wire.specs.declared.addr.Addr.{Addr as Address};
-ghost use Rattle.link_replay.specs.Prelude.{Buries, PostsReply, TellsStep, IsLink, link_of, CodeSent};
+ghost use Rattle.link_replay.specs.Prelude.{Buries, PostsReply, ReportsStep, IsLink, link_of, CodeSent};
 
 use crate::before::Before;
 use crate::posting::post;
@@ -72,7 +72,7 @@ pub(crate) fn tell<A: App>(
     requires few { length sides.old.items ≤ 64 }
     ensures kept { (addr : Address) → IsLink addr (link_of sides.old.items sent.old.items)
         → IsLink addr (link_of sides.new.items sent.new.items) }
-    ensures told { OnOk result (TellsStep A.App before.now node.now to answer (link_of sides.old.items sent.old.items)
+    ensures told { OnOk result (ReportsStep A.App before.now node.now to answer (link_of sides.old.items sent.old.items)
         (link_of sides.new.items sent.new.items)) }
 {
     let again = before.again(node);

@@ -4,7 +4,7 @@ ghost use Rattle.std.specs.Prelude.{OnErr, OnOk};
 ghost use Rattle.std.specs.Io.KnownBytes.{Appends};
 ghost use Rattle.uip_edge.specs.Prelude.{HasCause, AppendsPrefix, WritesEnd, sink_view};
 ghost use Rattle.file_tree.specs.Prelude.{files_of};
-ghost use Rattle.link_replay.specs.Prelude.{OfWorld, WritesDue, IsPlayDue, IsTextDue, WritesText, TellsFault, told_of};
+ghost use Rattle.link_replay.specs.Prelude.{OfWorld, WritesDue, IsPlayDue, IsTextDue, WritesText, WritesFault, told_of};
 ghost use Rattle.link_replay.specs.Outcome.{bad_schedule as line_of};
 ghost use Rattle.link_replay.specs.declared.replay_end.ReplayEnd.TheVariants as ends;
 
@@ -83,7 +83,7 @@ fn write_world<A: App, K: Sink>(
 
 /// Writes the line of a bad schedule.
 fn refuse<K: Sink>(alloc: Global, fault: ReadSchedule, out: &mut K) -> ReplayEnd
-    ensures { TellsFault fault (sink_view K.Sink out.old) (sink_view K.Sink out.new) result }
+    ensures { WritesFault fault (sink_view K.Sink out.old) (sink_view K.Sink out.new) result }
 {
     match fault {
         ReadSchedule::Bad { line, why } => refuse_line(alloc, line, why, out),

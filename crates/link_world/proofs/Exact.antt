@@ -1,5 +1,5 @@
 -- One segment, and what is acknowledged, beside Prefix and whole and Same bytes.
-use Rattle.link_world.proofs.Prelude.{All, ◌≡◌, ℕ, ◌+◌, ◌<◌, ◌≤◌, Bool, true, false, not, ◌&&◌, inl, inr, List, [], ◌∷◌, ◌++◌, length, drop, refl, sym, ap, ◌∙◌, subst, arith, Option, Some, None, slice_get, eqb, ltb, length-append, length-take, if◌then◌else◌, wrap, Addr, PlainSegment, has_syn, has_fin, has_rst, has_ack, Snapshot, AppSpec, Pages, IsSnapshot, IsNow, IsU32, Now, State, Closed, SynRcvd, Established, CloseWait, FinWait1, FinWait2, Closing, TimeWait, LastAck, Sockets, Connection, closed, is_live, snd_una, occupies_sequence_space, is_plain_syn, is_again, syn_ack, Outcome, asked, accepted, is_acked, on_segment, on_tick, AbstractClient, ClientStep, has_closed, is_receiving, one_if, client_takes, client_opens, client_again, client_closes, client_aborts, advertises_window, ClientState, client_sockets, World, Side, Sent, PastConnection, becomes_opened, with_client, marked, is_clean, past_connection_of, era, Planned, IsPlan, initial_world, IsReached, IsReachedPlainly, IsInStep, OneSegment, server_side, and_true, eqb-eq, same_place, wrap_wrap, get_push, nothing_placed, not-true, older, newest, FitConn, FitOut, on_segment_fits, on_tick_fits, Safe, SafeState, IsDue, due, OutTold, segment_tells, tick_tells, Moves, asked_moves, segment_moves, tick_moves, DeliveredBytes, does, Act, HasBytes, IsSteady, asked_lens, on_segment_lens, on_tick_lens, stepped_fits, stepped_tells}
+use Rattle.link_world.proofs.Prelude.{All, ◌≡◌, ℕ, ◌+◌, ◌<◌, ◌≤◌, Bool, true, false, not, ◌&&◌, inl, inr, List, [], ◌∷◌, ◌++◌, length, drop, refl, sym, ap, ◌∙◌, subst, arith, Option, Some, None, slice_get, eqb, ltb, length-append, length-take, if◌then◌else◌, wrap, Addr, PlainSegment, has_syn, has_fin, has_rst, has_ack, Snapshot, AppSpec, Pages, IsSnapshot, IsNow, IsU32, Now, State, Closed, SynRcvd, Established, CloseWait, FinWait1, FinWait2, Closing, TimeWait, LastAck, Sockets, Connection, closed, is_live, snd_una, occupies_sequence_space, is_plain_syn, is_again, syn_ack, Outcome, asked, accepted, is_acked, on_segment, on_tick, AbstractClient, ClientStep, has_closed, is_receiving, one_if, client_takes, client_opens, client_again, client_closes, client_aborts, advertises_window, ClientState, client_sockets, World, Side, Sent, PastConnection, becomes_opened, with_client, marked, is_clean, past_connection_of, era, Planned, IsPlan, initial_world, IsReached, IsReachedPlainly, IsInStep, OneSegment, server_side, and_true, eqb-eq, same_place, wrap_wrap, get_push, nothing_placed, not-true, older, newest, FitConn, FitOut, on_segment_fits, on_tick_fits, Safe, SafeState, IsDue, due, OutReported, segment_tells, tick_tells, Moves, asked_moves, segment_moves, tick_moves, DeliveredBytes, does, Act, HasBytes, IsSteady, asked_lens, on_segment_lens, on_tick_lens, stepped_fits, stepped_tells}
 use Rattle.link_client.specs.declared.client_state.ClientState.TheVariants as Is
 use Rattle.link_world.proofs.Speaking.{Speaker}
 use Rattle.link_world.proofs.Good.{seg, segment_in, from, to, ToGood, ClientSaid, NodeSaid, OpenedGood, HasOpened, Good, is_unasked, unopened}
@@ -211,7 +211,7 @@ module _ (m : AppSpec) (ports : AtPorts m) where
   abbrev GoodSteps : World → Outcome → ℕ → Side → Type 0
   GoodSteps w o k side = Steps m (Prefix.G m ports) (Prefix.other m ports) (Prefix.reset m ports) (Prefix.evict m ports) (Prefix.mark m ports) w o k side
 
-  steps_by : (w : World) (old : Connection) (o : Outcome) (acked : Bool) (k : ℕ) (side : Side) → is_live old.state ≡ true → G k side old w.sent → FitConn o.connection → OutTold m steady Any_low (λ p f. tt) old o → Moves acked old o.connection →
+  steps_by : (w : World) (old : Connection) (o : Outcome) (acked : Bool) (k : ℕ) (side : Side) → is_live old.state ≡ true → G k side old w.sent → FitConn o.connection → OutReported m steady Any_low (λ p f. tt) old o → Moves acked old o.connection →
       ToldSteps w o k side → GoodSteps w o k side → (length w.sent ≤ 65535 → is_clean side ≡ true → (n : ℕ) → side.opened ≡ Some n → acked ≡ true → old.acked + old.len ≤ 1 + count side.client) → Steps m G other reset evict mark w o k side
   steps_by w old o acked k side lv g fit h mv t p a =
       let live : length w.sent ≤ 65535 → is_clean side ≡ true → ExactOpen k side.client side.history o.connection w.sent side.opened = λ r cl. live_exact k side.client side.history old o.connection acked w.sent side.opened lv mv (g.exact r cl) (a r cl) in
@@ -265,7 +265,7 @@ module _ (m : AppSpec) (ports : AtPorts m) where
       let o : Outcome = on_segment m old numbers (seg e) in
       let fo : FitOut o = on_segment_fits m steady old numbers (seg e) f n in
       let fit : FitConn (asked m now o).connection = stepped_fits m steady Any_low (λ p f. tt) now o is fo in
-      let h : OutTold m steady Any_low (λ p f. tt) old (asked m now o) = stepped_tells m steady Any_low (λ p f. tt) now old o is fo (segment_tells m steady Any_low (λ p f. tt) old numbers (seg e) (g.told.safe lv)) in
+      let h : OutReported m steady Any_low (λ p f. tt) old (asked m now o) = stepped_tells m steady Any_low (λ p f. tt) now old o is fo (segment_tells m steady Any_low (λ p f. tt) old numbers (seg e) (g.told.safe lv)) in
       steps_by w old (asked m now o) (not (has_rst (seg e).flags) && is_acked old (seg e)) k side lv g fit h (asked_moves m _ old now o (segment_moves m old numbers (seg e)))
       (Same.steps_by m steady w old (asked m now o) k side lv fit (asked_lens m now o (on_segment_lens m old numbers (seg e) g.told.lens))
       (near_by _ old (asked m now o).connection (asked_moves m _ old now o (segment_moves m old numbers (seg e)))) h g.told) (Prefix.segment m ports w old numbers now k j side e lv f n is sent who fresh g.good)
@@ -277,7 +277,7 @@ module _ (m : AppSpec) (ports : AtPorts m) where
       let o : Outcome = on_tick m old numbers in
       let fo : FitOut o = on_tick_fits m steady old numbers f n in
       let fit : FitConn (asked m now o).connection = stepped_fits m steady Any_low (λ p f. tt) now o is fo in
-      let h : OutTold m steady Any_low (λ p f. tt) old (asked m now o) = stepped_tells m steady Any_low (λ p f. tt) now old o is fo (tick_tells m steady Any_low (λ p f. tt) old numbers (g.told.safe lv)) in
+      let h : OutReported m steady Any_low (λ p f. tt) old (asked m now o) = stepped_tells m steady Any_low (λ p f. tt) now old o is fo (tick_tells m steady Any_low (λ p f. tt) old numbers (g.told.safe lv)) in
       steps_by w old (asked m now o) false k side lv g fit h (asked_moves m false old now o (tick_moves m old numbers))
       (Same.steps_by m steady w old (asked m now o) k side lv fit (asked_lens m now o (on_tick_lens m old numbers g.told.lens))
       (near_by _ old (asked m now o).connection (asked_moves m false old now o (tick_moves m old numbers))) h g.told) (Prefix.tick m ports w old numbers now k side lv f n is g.good) (λ r cl p q a. absurd (cc))

@@ -1,5 +1,5 @@
 -- Same bytes: a retransmission of what is outstanding is identical, and is marked.
-use Rattle.link_world.proofs.Prelude.{◌≡◌, ℕ, suc, ◌+◌, ◌*◌, length-append, ◌<◌, ◌≤◌, min, Bool, true, false, ◌⊎◌, inl, inr, List, [], ◌∷◌, ◌++◌, length, replicate, refl, sym, ap, ◌∙◌, subst, arith, Option, Some, None, slice_get, eqb, if◌then◌else◌, common_steps, wrap, Addr, OWN_MSS, PlainSegment, has_syn, has_fin, has_rst, AppSpec, Pages, Sockets, Connection, closed, is_live, segment_of, is_again, occupies_sequence_space, is_plain_syn, syn_ack, Outcome, asked, first_mss, accepted, on_segment, on_tick, State, Closed, SynRcvd, Established, CloseWait, FinWait1, FinWait2, Closing, TimeWait, LastAck, ClientStep, one_if, World, Side, Sent, Content, client_sockets, with_client, marked, is_clean, past_connection_of, OfSegment, OfPing, OfEcho, does, Act, serving, Alike, Planned, IsPlan, initial_world, IsReached, RepeatsSameBytes, MarksRepeats, SameBytes, SameBytesPlainly, AgainExactly, AgainExactlyPlainly, IsReachedPlainly, IsSteady, steady_of, choose, cut_length, zero_or_more, same_place, get_push, nothing_placed, only_some, older, newest, serving_free, none_serves, FitConn, FitOut, on_segment_fits, on_tick_fits, Safe, IsDue, Onto, SafeState, Still, Tells, StepTells, due, alike_trans, alike_sym, alike_refl, segment_tells, tick_tells, closed_fits, HasBytes, DeliveredBytes, stepped_fits, stepped_tells, Moves, asked_moves, segment_moves, tick_moves, Lens, closed_lens, accepted_lens, asked_lens, on_segment_lens, on_tick_lens}
+use Rattle.link_world.proofs.Prelude.{◌≡◌, ℕ, suc, ◌+◌, ◌*◌, length-append, ◌<◌, ◌≤◌, min, Bool, true, false, ◌⊎◌, inl, inr, List, [], ◌∷◌, ◌++◌, length, replicate, refl, sym, ap, ◌∙◌, subst, arith, Option, Some, None, slice_get, eqb, if◌then◌else◌, common_steps, wrap, Addr, OWN_MSS, PlainSegment, has_syn, has_fin, has_rst, AppSpec, Pages, Sockets, Connection, closed, is_live, segment_of, is_again, occupies_sequence_space, is_plain_syn, syn_ack, Outcome, asked, first_mss, accepted, on_segment, on_tick, State, Closed, SynRcvd, Established, CloseWait, FinWait1, FinWait2, Closing, TimeWait, LastAck, ClientStep, one_if, World, Side, Sent, Content, client_sockets, with_client, marked, is_clean, past_connection_of, OfSegment, OfPing, OfEcho, does, Act, serving, Alike, Planned, IsPlan, initial_world, IsReached, RepeatsSameBytes, MarksRepeats, SameBytes, SameBytesPlainly, AgainExactly, AgainExactlyPlainly, IsReachedPlainly, IsSteady, steady_of, choose, cut_length, zero_or_more, same_place, get_push, nothing_placed, only_some, older, newest, serving_free, none_serves, FitConn, FitOut, on_segment_fits, on_tick_fits, Safe, IsDue, Onto, SafeState, Still, Tells, StepReports, due, alike_trans, alike_sym, alike_refl, segment_tells, tick_tells, closed_fits, HasBytes, DeliveredBytes, stepped_fits, stepped_tells, Moves, asked_moves, segment_moves, tick_moves, Lens, closed_lens, accepted_lens, asked_lens, on_segment_lens, on_tick_lens}
 use Rattle.link_world.proofs.Good.{seg, segment_in, from, to}
 use Rattle.link_world.proofs.Views.{length_push}
 use Rattle.link_world.proofs.Prefix.{opening_apart}
@@ -313,7 +313,7 @@ module _ (m : AppSpec) (steady : IsSteady m) where
         ];
       }
 
-  pub steps_by : (w : World) (old : Connection) (o : Outcome) (k : ℕ) (side : Side) → is_live old.state ≡ true → FitConn o.connection → Lens o.connection → o.connection.acked ≤ old.acked + old.len → StepTells m steady Any_low (λ p f. tt) old o.connection (segment_of m o.connection o.step) (is_again o.step) → Told k side old w.sent → Steps m Told other reset evict mark w o k side
+  pub steps_by : (w : World) (old : Connection) (o : Outcome) (k : ℕ) (side : Side) → is_live old.state ≡ true → FitConn o.connection → Lens o.connection → o.connection.acked ≤ old.acked + old.len → StepReports m steady Any_low (λ p f. tt) old o.connection (segment_of m o.connection o.step) (is_again o.step) → Told k side old w.sent → Steps m Told other reset evict mark w o k side
   steps_by w old o k side live fit lens near h t = record {
     quiet = λ n l. moves k side old o.connection w.sent t live l (h.onto l) (h.safe l) fit lens near
         (λ z. elim (h.still l z) [

@@ -1,5 +1,5 @@
 -- A connection with something outstanding: when its timer expires, and how it ends.
-use Rattle.node_laws.proofs.Prelude.{All, list_any, ◌≡◌, ℕ, ◌+◌, ◌<◌, ◌≤◌, Bool, true, false, not, ◌==◌, ◌&&◌, ◌⊎◌, inl, inr, List, length, take, refl, sym, ap, ◌∙◌, subst, arith, Option, Some, None, eqb, ltb, if◌then◌else◌, eq-eqb, cases_lt, PlainSegment, has_syn, has_fin, has_rst, ages, beat_at, give_up_age, Beat, AppState, AppSpec, IsSnapshot, is_time_wait, Now, State, Closed, SynRcvd, Established, CloseWait, FinWait1, FinWait2, Closing, TimeWait, LastAck, Want, Nothing, Send, Close, Abort, Connection, is_live, segment_of, is_again, syn_ack, text_segment, fin_of, Outcome, leaves, closes, after_own_fin, peer_has_closed, idles, does_as_wanted, prepared, asked, first_mss, is_out_of_order, is_acked, rests, has_text, with_part, peer_closes, stays_established, in_established, fin_acked, fin_waits, by_state, on_segment, limit_of, outstanding, grows_older, by_beat, polls, ticks_established, waits_for_ack, on_tick, tick_by, Step, Alike, IsSteady, choose, cut_length, ltb-yes, zero_or_more, is_open, asked_by, fin_lives, is_ask, open_live, on_tick_by, SafeState, OutTells, due, sequence_length}
+use Rattle.node_laws.proofs.Prelude.{All, list_any, ◌≡◌, ℕ, ◌+◌, ◌<◌, ◌≤◌, Bool, true, false, not, ◌==◌, ◌&&◌, ◌⊎◌, inl, inr, List, length, take, refl, sym, ap, ◌∙◌, subst, arith, Option, Some, None, eqb, ltb, if◌then◌else◌, eq-eqb, cases_lt, PlainSegment, has_syn, has_fin, has_rst, ages, beat_at, give_up_age, Beat, AppState, AppSpec, IsSnapshot, is_time_wait, Now, State, Closed, SynRcvd, Established, CloseWait, FinWait1, FinWait2, Closing, TimeWait, LastAck, Want, Nothing, Send, Close, Abort, Connection, is_live, segment_of, is_again, syn_ack, text_segment, fin_of, Outcome, leaves, closes, after_own_fin, peer_has_closed, idles, does_as_wanted, prepared, asked, first_mss, is_out_of_order, is_acked, rests, has_text, with_part, peer_closes, stays_established, in_established, fin_acked, fin_waits, by_state, on_segment, limit_of, outstanding, grows_older, by_beat, polls, ticks_established, waits_for_ack, on_tick, tick_by, Step, Alike, IsSteady, choose, cut_length, ltb-yes, zero_or_more, is_open, asked_by, fin_lives, is_ask, open_live, on_tick_by, SafeState, OutReports, due, sequence_length}
 
 pub mss_some : (o : Option ℕ) → 0 < first_mss o
 mss_some None = omega arith
@@ -174,11 +174,11 @@ module _ (m : AppSpec) where
         choose LivesOrResets (peer_has_closed c.state) (leaves (closes c) numbers Step.Reset) (if fresh then leaves c numbers Step.Ack else leaves c numbers Step.Drop) (λ e. inr refl)
         (λ e. choose LivesOrResets fresh (leaves c numbers Step.Ack) (leaves c numbers Step.Drop) (λ f. inl (open_live c.state o)) (λ f. inl (open_live c.state o)))
 
-    pub ask_open : (c d : Connection) (s : Step) → OutTells m steady Low low_text c d s → is_ask s ≡ true → is_open d.state ≡ true
+    pub ask_open : (c d : Connection) (s : Step) → OutReports m steady Low low_text c d s → is_ask s ≡ true → is_open d.state ≡ true
     ask_open c d (Step.Ask fresh) t a = t.is_asked
     ask_open c d _ t a = absurd (cc)
 
-    pub asked_lives : (at : Connection → Now) (c : Connection) (o : Outcome) → OutTells m steady Low low_text c o.connection o.step → LivesOrResets o → LivesOrResets (asked m at o)
+    pub asked_lives : (at : Connection → Now) (c : Connection) (o : Outcome) → OutReports m steady Low low_text c o.connection o.step → LivesOrResets o → LivesOrResets (asked m at o)
     asked_lives at c o t l =
         asked_by m LivesOrResets at o (λ a fresh. (let b : Connection = prepared m (at o.connection) o.connection o.numbers in
         wanted_lives (m.want o.numbers b.part) fresh b o.numbers (ask_open c o.connection o.step t a))) l

@@ -1,6 +1,6 @@
 -- What is proved of an incarnation exchange by exchange, and the guarantee that follows.
 use Rattle.node_laws.proofs.Prelude.{All, ◌≡◌, ℕ, zero, suc, ◌<◌, ◌≤◌, Bool, true, false, List, [], ◌∷◌, length, drop, refl, Some, slice_get, PlainSegment, has_fin, has_rst, IsSnapshot, first_mss, occupies_sequence_space, Alike, append_nothing, prefix_refl, Exchange, sent_at, CarriesByte, IsReceived, Account, OutputModel, Begins, IsSelection, SendsSlice, Acknowledges, IsAcknowledged, IsExtendedBy}
-use Rattle.node_laws.proofs.Speaking.{IsTold}
+use Rattle.node_laws.proofs.Speaking.{IsReported}
 
 -- a FIN was sent
 pub record HasEnded (incarnation : List Exchange) : Type 0 where
@@ -29,7 +29,7 @@ pub record Kept (model : OutputModel) (incarnation : List Exchange) : Type 0 whe
       → slice_get incarnation j ≡ Some y → x.output ≡ Some s → y.output ≡ Some t → occupies_sequence_space s ≡ true → occupies_sequence_space t ≡ true → s.seq ≡ t.seq → Alike t s
   pub one : (i j : ℕ) (x y : Exchange) (s t : PlainSegment) → i < j → slice_get incarnation i ≡ Some x → slice_get incarnation j ≡ Some y
       → x.output ≡ Some s → y.output ≡ Some t → occupies_sequence_space s ≡ true → occupies_sequence_space t ≡ true → (s.seq ≡ t.seq → ⊥) → IsAcknowledged incarnation i j t
-  pub of_page : IsTold model (HasEnded incarnation) account.input account.snapshots account.stream
+  pub of_page : IsReported model (HasEnded incarnation) account.input account.snapshots account.stream
 
 pub grows_refl : (a : Account) → IsExtendedBy a a
 grows_refl a = record { irs = refl; iss = refl; peer_mss = refl; input = prefix_refl a.input; snapshots = ([], append_nothing a.snapshots); stream = prefix_refl a.stream }

@@ -1,6 +1,6 @@
 -- An incarnation of a connection, one exchange longer.
-use Rattle.node_laws.proofs.Prelude.{All, option_map_or, ◌≡◌, ℕ, zero, suc, ◌+◌, ◌<◌, ◌≤◌, min, Bool, true, false, not, ◌&&◌, ◌||◌, ◌⊎◌, inl, inr, List, [], ◌∷◌, ◌++◌, length, take, drop, refl, sym, ap, ◌∙◌, subst, arith, Option, Some, None, slice_get, eqb, ltb, if◌then◌else◌, common_steps, wrap, OWN_MSS, PlainSegment, has_syn, has_fin, has_rst, has_ack, SYN, AppState, Snapshot, AppSpec, IsPrefixOf, IsSnapshot, State, Closed, SynRcvd, Established, CloseWait, FinWait1, FinWait2, Closing, TimeWait, LastAck, Sockets, Connection, closed, is_live, snd_una, rcv_nxt, occupies_sequence_space, is_plain_syn, segment_of, is_again, syn_ack, text_segment, fin_of, reset_for_no_connection, Outcome, asked, first_mss, accepted, is_acked, on_segment, on_tick, Alike, IsSlice, choose, both_ways, only_some, same_place, append_nothing, IsPart, part_grows, prefix_refl, prefix_length, and_true, eqb-eq, FitConn, FitOut, all_nil, on_segment_fits, on_tick_fits, Moves, asked_moves, segment_moves, tick_moves, IsSteady, stepped_fits, stepped_tells, Safe, SafeState, IsDue, StepTells, due, alike_trans, alike_sym, alike_refl, segment_tells, tick_tells, Exchange, is_opening, Account, Begins, IsSelection, SendsSlice, Acknowledges, sequence_length, IsAcknowledged, IsExtendedBy, IsReceived, OutputModel, FollowsModelAt, Now, LensWithin, asked_within, on_segment_within, on_tick_within}
-use Rattle.node_laws.proofs.Speaking.{IsEnd, IsTold, prefix_size, prefix_trans, slice_prefix, told_end, told_on, told_starts, told_where}
+use Rattle.node_laws.proofs.Prelude.{All, option_map_or, ◌≡◌, ℕ, zero, suc, ◌+◌, ◌<◌, ◌≤◌, min, Bool, true, false, not, ◌&&◌, ◌||◌, ◌⊎◌, inl, inr, List, [], ◌∷◌, ◌++◌, length, take, drop, refl, sym, ap, ◌∙◌, subst, arith, Option, Some, None, slice_get, eqb, ltb, if◌then◌else◌, common_steps, wrap, OWN_MSS, PlainSegment, has_syn, has_fin, has_rst, has_ack, SYN, AppState, Snapshot, AppSpec, IsPrefixOf, IsSnapshot, State, Closed, SynRcvd, Established, CloseWait, FinWait1, FinWait2, Closing, TimeWait, LastAck, Sockets, Connection, closed, is_live, snd_una, rcv_nxt, occupies_sequence_space, is_plain_syn, segment_of, is_again, syn_ack, text_segment, fin_of, reset_for_no_connection, Outcome, asked, first_mss, accepted, is_acked, on_segment, on_tick, Alike, IsSlice, choose, both_ways, only_some, same_place, append_nothing, IsPart, part_grows, prefix_refl, prefix_length, and_true, eqb-eq, FitConn, FitOut, all_nil, on_segment_fits, on_tick_fits, Moves, asked_moves, segment_moves, tick_moves, IsSteady, stepped_fits, stepped_tells, Safe, SafeState, IsDue, StepReports, due, alike_trans, alike_sym, alike_refl, segment_tells, tick_tells, Exchange, is_opening, Account, Begins, IsSelection, SendsSlice, Acknowledges, sequence_length, IsAcknowledged, IsExtendedBy, IsReceived, OutputModel, FollowsModelAt, Now, LensWithin, asked_within, on_segment_within, on_tick_within}
+use Rattle.node_laws.proofs.Speaking.{IsEnd, IsReported, prefix_size, prefix_trans, slice_prefix, told_end, told_on, told_starts, told_where}
 use Rattle.node_laws.proofs.Texts.{get_append}
 use Rattle.node_laws.proofs.Texts.InBoth.{in_first, in_second}
 use Rattle.node_laws.proofs.Kept.{HasEnded, Kept, Unended, grows_refl, received_on}
@@ -149,7 +149,7 @@ module _ (m : AppSpec) (steady : IsSteady m) (port : ℕ) (model : OutputModel) 
       (acks : (s : PlainSegment) → x.output ≡ Some s → has_rst s.flags ≡ false → Acknowledges k.account.irs (x ∷ incarnation) now s)
       (same : length sent < 1073741824 → (s : PlainSegment) (j : ℕ) (y : Exchange) (t : PlainSegment) → x.output ≡ Some s → slice_get incarnation j ≡ Some y → y.output ≡ Some t → occupies_sequence_space s ≡ true → occupies_sequence_space t ≡ true → s.seq ≡ t.seq → Alike t s)
       (one : (s : PlainSegment) (j : ℕ) (y : Exchange) (t : PlainSegment) → x.output ≡ Some s → slice_get incarnation j ≡ Some y → y.output ≡ Some t → occupies_sequence_space s ≡ true → occupies_sequence_space t ≡ true → (s.seq ≡ t.seq → ⊥) → IsAcknowledged (x ∷ incarnation) 0 (suc j) t)
-      (of_page : IsTold model (HasEnded (x ∷ incarnation)) now captures sent) where
+      (of_page : IsReported model (HasEnded (x ∷ incarnation)) now captures sent) where
     said_is : (y : Exchange) (s : PlainSegment) → Some x ≡ Some y → y.output ≡ Some s → x.output ≡ Some s
     said_is y s g h = only_some (λ z. z.output ≡ Some s → x.output ≡ Some s) x y g (λ e. e) h
 
@@ -329,7 +329,7 @@ module _ (m : AppSpec) (steady : IsSteady m) (port : ℕ) (model : OutputModel) 
 
   module _ (c c' : Connection) (o : Outcome) (received : Option PlainSegment) (acked : Bool) (incarnation : List Exchange) (g : Good c incarnation) (alive : is_live c.state ≡ true) (fit : FitConn o.connection)
       (sp : Spoke m port model laws (Unended incarnation) received c g.kept.account.input g.kept.ended g.kept.account.stream o)
-      (tells : StepTells m steady AnyLength any_length c o.connection (segment_of m o.connection o.step) (is_again o.step))
+      (tells : StepReports m steady AnyLength any_length c o.connection (segment_of m o.connection o.step) (is_again o.step))
       (moves : Moves acked c o.connection)
       (hears_ack : acked ≡ true → Acks received c)
       (number : (s : PlainSegment) → segment_of m o.connection o.step ≡ Some s → s.ack ≡ rcv_nxt o.connection)
@@ -430,31 +430,31 @@ module _ (m : AppSpec) (steady : IsSteady m) (port : ℕ) (model : OutputModel) 
     -- ---- of its page
 
     -- as before, if this exchange has no FIN
-    told_before : ((s : PlainSegment) → sent ≡ Some s → has_fin s.flags ≡ true → ⊥) → IsTold model (HasEnded (x ∷ incarnation)) w.now d.part.snapshots sp.sent_now
+    told_before : ((s : PlainSegment) → sent ≡ Some s → has_fin s.flags ≡ true → ⊥) → IsReported model (HasEnded (x ∷ incarnation)) w.now d.part.snapshots sp.sent_now
     told_before none =
         let before : HasEnded (x ∷ incarnation) → HasEnded incarnation = λ h. elim (last_or_before x incarnation h) [ inl q ↦ absurd (none q.0 q.1 q.2) | inr old ↦ old ] in
         elim sp.adds [
-          | inl q ↦ subst (λ z. IsTold model (HasEnded (x ∷ incarnation)) w.now d.part.snapshots z) (sym q)
-              (subst (λ z. IsTold model (HasEnded (x ∷ incarnation)) w.now z a.stream) captures_on
-              (subst (λ z. IsTold model (HasEnded (x ∷ incarnation)) z (a.snapshots ++ w.more) a.stream) step_prefix.joined
+          | inl q ↦ subst (λ z. IsReported model (HasEnded (x ∷ incarnation)) w.now d.part.snapshots z) (sym q)
+              (subst (λ z. IsReported model (HasEnded (x ∷ incarnation)) w.now z a.stream) captures_on
+              (subst (λ z. IsReported model (HasEnded (x ∷ incarnation)) z (a.snapshots ++ w.more) a.stream) step_prefix.joined
               (told_where model (HasEnded incarnation) (HasEnded (x ∷ incarnation)) before (a.input ++ step_prefix.rest) (a.snapshots ++ w.more) a.stream
               (told_on m port model laws (HasEnded incarnation) a.input step_prefix.rest a.snapshots w.more a.stream g.kept.of_page))))
           | inr n ↦ told_where model ⊥ (HasEnded (x ∷ incarnation)) (λ h. n.unended (before h)) w.now d.part.snapshots sp.sent_now n.of_page
         ]
 
     -- and with a FIN the text is that of the end
-    told_with : (s : PlainSegment) → sent ≡ Some s → has_fin s.flags ≡ true → IsTold model (HasEnded (x ∷ incarnation)) w.now d.part.snapshots sp.sent_now
+    told_with : (s : PlainSegment) → sent ≡ Some s → has_fin s.flags ≡ true → IsReported model (HasEnded (x ∷ incarnation)) w.now d.part.snapshots sp.sent_now
     told_with s e f =
         let t = tells.output s e (fin_placed s f) in
         told_end model (HasEnded (x ∷ incarnation)) w.now d.part.snapshots sp.sent_now (end_due incarnation d d.state w.now w.over sp.sent_now s w.page.at t.due_now.alike f)
 
-    reported_by : (output : Option PlainSegment) → sent ≡ output → IsTold model (HasEnded (x ∷ incarnation)) w.now d.part.snapshots sp.sent_now
+    reported_by : (output : Option PlainSegment) → sent ≡ output → IsReported model (HasEnded (x ∷ incarnation)) w.now d.part.snapshots sp.sent_now
     reported_by None e = told_before (λ s q f. absurd (let z : None ≡ Some s = sym e ∙ q in cc))
     reported_by (Some s) e =
         both_ways (has_fin s.flags) (λ f. told_with s e f)
         (λ f. told_before (λ t q h. absurd (let z : has_fin t.flags ≡ false = only_some (λ y. has_fin y.flags ≡ false) s t (sym e ∙ q) f in cc)))
 
-    step_of_page : IsTold model (HasEnded (x ∷ incarnation)) w.now d.part.snapshots sp.sent_now
+    step_of_page : IsReported model (HasEnded (x ∷ incarnation)) w.now d.part.snapshots sp.sent_now
     step_of_page = reported_by sent refl
 
     still_unended : speaks d.state ≡ true → Unended incarnation → Unended (x ∷ incarnation)

@@ -44,18 +44,18 @@ IsEnd (Paged pages) text k sent = IsEndOf pages text k sent
 IsEnd (Interactive sessions) text k sent = (delivered : List ℕ) × IsPrefixOf delivered text × IsEndOf sessions delivered k sent
 IsEnd Free text k sent = Unit {0}
 
-abbrev pub IsTold : OutputModel → Type 0 → List ℕ → List Snapshot → List ℕ → Type 0
-IsTold (Paged pages) E text k sent = IsTextOf pages E text k sent
-IsTold (Interactive sessions) E text k sent = (delivered : List ℕ) × IsPrefixOf delivered text × IsTextOf sessions E delivered k sent
-IsTold Free E text k sent = Unit {0}
+abbrev pub IsReported : OutputModel → Type 0 → List ℕ → List Snapshot → List ℕ → Type 0
+IsReported (Paged pages) E text k sent = IsTextOf pages E text k sent
+IsReported (Interactive sessions) E text k sent = (delivered : List ℕ) × IsPrefixOf delivered text × IsTextOf sessions E delivered k sent
+IsReported Free E text k sent = Unit {0}
 
 -- nothing was sent
-pub told_starts : (model : OutputModel) (E : Type 0) → (E → ⊥) → IsTold model E [] [] []
+pub told_starts : (model : OutputModel) (E : Type 0) → (E → ⊥) → IsReported model E [] [] []
 told_starts (Paged pages) E none = (record { rest = pages.page [] []; joined = refl }, λ e. absurd (none e))
 told_starts (Interactive sessions) E none = ([], prefix_refl [], (record { rest = sessions.page [] []; joined = refl }, λ e. absurd (none e)))
 told_starts Free E none = tt
 
-pub told_where : (model : OutputModel) (E F : Type 0) → (F → E) → (text : List ℕ) (k : List Snapshot) (sent : List ℕ) → IsTold model E text k sent → IsTold model F text k sent
+pub told_where : (model : OutputModel) (E F : Type 0) → (F → E) → (text : List ℕ) (k : List Snapshot) (sent : List ℕ) → IsReported model E text k sent → IsReported model F text k sent
 told_where (Paged pages) E F to text k sent h = (h.0, λ f. h.1 (to f))
 told_where (Interactive sessions) E F to text k sent h = (h.0, h.1, (h.2.0, λ f. h.2.1 (to f)))
 told_where Free E F to text k sent h = tt
@@ -64,7 +64,7 @@ all_prefix : (xs ys : List ℕ) → xs ≡ ys → IsPrefixOf xs ys
 all_prefix xs ys e = subst (λ z. IsPrefixOf xs z) e (prefix_refl xs)
 
 -- the end of the page gives both
-pub told_end : (model : OutputModel) (E : Type 0) (text : List ℕ) (k : List Snapshot) (sent : List ℕ) → IsEnd model text k sent → IsTold model E text k sent
+pub told_end : (model : OutputModel) (E : Type 0) (text : List ℕ) (k : List Snapshot) (sent : List ℕ) → IsEnd model text k sent → IsReported model E text k sent
 told_end (Paged pages) E text k sent h = (all_prefix sent (pages.page text k) h.0, λ e. h)
 told_end (Interactive sessions) E text k sent h = (h.0, h.1, (all_prefix sent (sessions.page h.0 k) h.2.0, λ e. h.2))
 told_end Free E text k sent h = tt
@@ -145,7 +145,7 @@ module _ (m : AppSpec) (port : ℕ) where
   IsOpen (Interactive sessions) laws p text = HeardOf sessions laws p text
   IsOpen Free laws p text = Unit {0}
 
-  pub told_on : (model : OutputModel) → FollowsModelAt m port model → (E : Type 0) (text more : List ℕ) (k later : List Snapshot) (sent : List ℕ) → IsTold model E text k sent → IsTold model E (text ++ more) (k ++ later) sent
+  pub told_on : (model : OutputModel) → FollowsModelAt m port model → (E : Type 0) (text more : List ℕ) (k later : List Snapshot) (sent : List ℕ) → IsReported model E text k sent → IsReported model E (text ++ more) (k ++ later) sent
   told_on (Paged pages) laws E text more k later sent h = (let l : IsPagedAt m port pages = laws in text_on pages l.follows E text more k later sent h)
   told_on (Interactive sessions) laws E text more k later sent h =
       (let g : IsTextOf sessions E (h.0 ++ []) (k ++ later) sent = text_on sessions laws E h.0 [] k later sent h.2 in
@@ -203,7 +203,7 @@ module _ (m : AppSpec) (port : ℕ) where
 
   -- ---- what it sends
 
-  pub told_said : (model : OutputModel) (laws : FollowsModelAt m port model) (E : Type 0) → (E → ⊥) → (p : AppState) (text : List ℕ) (n : ℕ) → IsOpen model laws p text → IsTold model E text p.snapshots (take n (m.output p))
+  pub told_said : (model : OutputModel) (laws : FollowsModelAt m port model) (E : Type 0) → (E → ⊥) → (p : AppState) (text : List ℕ) (n : ℕ) → IsOpen model laws p text → IsReported model E text p.snapshots (take n (m.output p))
   told_said (Paged pages) laws E none p text n h =
       (let l : IsPagedAt m port pages = laws in
       subst (λ z. IsTextOf pages E z p.snapshots (take n (m.output p))) (heard_all pages l p text h) (text_said pages l.follows E none p n h.0))

@@ -1,5 +1,5 @@
 -- What is outstanding in the exchanges is outstanding at the node, and its timer expires.
-use Rattle.node_laws.proofs.Prelude.{All, option_map_or, option_map, ◌≡◌, ℕ, zero, suc, ◌+◌, ◌<◌, ◌≤◌, ◌==◌, Bool, true, false, not, ◌&&◌, inl, inr, List, [], ◌∷◌, ◌++◌, length, set, take, refl, sym, ap, ◌∙◌, subst, arith, Option, Some, None, slice_get, ltb, if◌then◌else◌, cases_lt, All-head, All-tail, wrap, Addr, PlainSegment, has_rst, has_ack, AppSpec, IsNow, is_time_wait, beat_at, Beat, Now, State, Closed, SynRcvd, Established, CloseWait, FinWait1, FinWait2, Closing, TimeWait, LastAck, Sockets, Connection, closed, is_live, serves, same_sockets, snd_una, occupies_sequence_space, segment_of, is_again, reset_for_no_connection, reset_of, syn_ack, Outcome, leaves, closes, asked, accepted, is_acked, on_segment, by_beat, grows_older, limit_of, on_tick, outstanding, Step, Event, called_by, IpRefused, IcmpRefused, TcpRefused, EchoAsked, Arrived, Overlong, Periodic, TcpReply, AbstractNode, NodeStep, snapshot, initial_node, step, serving, IsEvent, Alike, IsSteady, both_ways, and_true, eqb-eq, only_some, Single, get_set, get_set_same, is_served, serving_free, none_serves, here, there, served, free, FitConn, on_segment_fits, on_tick_fits, node_snapshot, Moves, asked_moves, segment_moves, tick_moves, on_segment_keeps, asked_keeps, on_tick_keeps, same_is, serves_dead, serves_yes, stepped_tells, IsDue, StepTells, OutTells, due, alike_trans, alike_sym, alike_refl, segment_tells, tick_tells, IsWithoutReset, sequence_length, Exchange, TraceEntry, sent_at, exchange, received_from, exchanges_onto, trace_of, calls_of, IsOutstanding, IsRetried, IsRetriedIn, RetransmitsOrResets, sent_again, given_up, IsOfLine}
+use Rattle.node_laws.proofs.Prelude.{All, option_map_or, option_map, ◌≡◌, ℕ, zero, suc, ◌+◌, ◌<◌, ◌≤◌, ◌==◌, Bool, true, false, not, ◌&&◌, inl, inr, List, [], ◌∷◌, ◌++◌, length, set, take, refl, sym, ap, ◌∙◌, subst, arith, Option, Some, None, slice_get, ltb, if◌then◌else◌, cases_lt, All-head, All-tail, wrap, Addr, PlainSegment, has_rst, has_ack, AppSpec, IsNow, is_time_wait, beat_at, Beat, Now, State, Closed, SynRcvd, Established, CloseWait, FinWait1, FinWait2, Closing, TimeWait, LastAck, Sockets, Connection, closed, is_live, serves, same_sockets, snd_una, occupies_sequence_space, segment_of, is_again, reset_for_no_connection, reset_of, syn_ack, Outcome, leaves, closes, asked, accepted, is_acked, on_segment, by_beat, grows_older, limit_of, on_tick, outstanding, Step, Event, called_by, IpRefused, IcmpRefused, TcpRefused, EchoAsked, Arrived, Overlong, Periodic, TcpReply, AbstractNode, NodeStep, snapshot, initial_node, step, serving, IsEvent, Alike, IsSteady, both_ways, and_true, eqb-eq, only_some, Single, get_set, get_set_same, is_served, serving_free, none_serves, here, there, served, free, FitConn, on_segment_fits, on_tick_fits, node_snapshot, Moves, asked_moves, segment_moves, tick_moves, on_segment_keeps, asked_keeps, on_tick_keeps, same_is, serves_dead, serves_yes, stepped_tells, IsDue, StepReports, OutReports, due, alike_trans, alike_sym, alike_refl, segment_tells, tick_tells, IsWithoutReset, sequence_length, Exchange, TraceEntry, sent_at, exchange, received_from, exchanges_onto, trace_of, calls_of, IsOutstanding, IsRetried, IsRetriedIn, RetransmitsOrResets, sent_again, given_up, IsOfLine}
 use Rattle.node_laws.proofs.HonestPeers.{calls_one}
 use Rattle.node_laws.proofs.Beating.{Young, asked_young, segment_young, tick_young, due_size, asked_lives, segment_lives, tick_lives, mss_some, no_wait, ticks_are, due_again, next_beat, SafeAt}
 use Rattle.node_laws.proofs.GoodNodes.{AnyLength, Good, SafeConn, first_is, good_on, good_start, low_text}
@@ -93,7 +93,7 @@ module _ (m : AppSpec) (steady : IsSteady m) (ports : ℕ → Bool) (p : Sockets
 
     -- what a step must be like
     record Stepped (c : Connection) (received : Option PlainSegment) (o : Outcome) (acked : Bool) : Type 0 where
-      tells : StepTells m steady AnyLength (low_text m) c o.connection (segment_of m o.connection o.step) (is_again o.step)
+      tells : StepReports m steady AnyLength (low_text m) c o.connection (segment_of m o.connection o.step) (is_again o.step)
       moves : Moves acked c o.connection
       acks : acked ≡ true → Acknowledged received c
       young : Young o.connection
@@ -263,7 +263,7 @@ module _ (m : AppSpec) (steady : IsSteady m) (ports : ℕ → Bool) (p : Sockets
     ended : (u : PlainSegment) → segment_of m o.connection o.step ≡ Some u → is_again o.step ≡ false → has_rst u.flags ≡ true → Beats c s b o
 
   -- it continues as it was
-  older_due : (c : Connection) (s : PlainSegment) → SafeConn m steady c → Due c s → (d : Connection) (sent : Option PlainSegment) (repeated : Bool) → d.iss ≡ c.iss → d.acked ≡ c.acked → StepTells m steady AnyLength (low_text m) c d sent repeated → is_live d.state ≡ true → Due d s
+  older_due : (c : Connection) (s : PlainSegment) → SafeConn m steady c → Due c s → (d : Connection) (sent : Option PlainSegment) (repeated : Bool) → d.iss ≡ c.iss → d.acked ≡ c.acked → StepReports m steady AnyLength (low_text m) c d sent repeated → is_live d.state ≡ true → Due d s
   older_due c s safe h d sent repeated iss same t l =
       let k = (t.onto l).kept h.len same in
       record { len = k.0; seq = h.seq ∙ ap wrap (let z : c.iss + c.acked ≡ d.iss + d.acked = omega (arith, iss, same) in z); alike = alike_trans s _ _ h.alike (alike_sym _ _ k.1) }
@@ -286,7 +286,7 @@ module _ (m : AppSpec) (steady : IsSteady m) (ports : ℕ → Bool) (p : Sockets
   older_safe : (c : Connection) → SafeConn m steady c → SafeConn m steady (grows_older c)
   older_safe c h = record { mss = h.mss; initial = h.initial; state = safe_same c.state c h.state }
 
-  beat_does : (at : Connection → Now) (b : Beat) (c : Connection) (s : PlainSegment) (numbers : List ℕ) → is_live c.state ≡ true → SafeConn m steady c → Due c s → (let o : Outcome = by_beat m b c numbers in OutTells m steady AnyLength (low_text m) c o.connection o.step → Beats c s b (asked m at o))
+  beat_does : (at : Connection → Now) (b : Beat) (c : Connection) (s : PlainSegment) (numbers : List ℕ) → is_live c.state ≡ true → SafeConn m steady c → Due c s → (let o : Outcome = by_beat m b c numbers in OutReports m steady AnyLength (low_text m) c o.connection o.step → Beats c s b (asked m at o))
   beat_does at Beat.Wait c s numbers l safe h t = older refl refl (t.safe l) (older_due c s safe h (grows_older c) None false refl refl t l)
   beat_does at Beat.Again c s numbers l safe h t =
       let d : Connection = grows_older c in
@@ -350,7 +350,7 @@ module _ (m : AppSpec) (steady : IsSteady m) (ports : ℕ → Bool) (p : Sockets
               let by : on_tick m c n.numbers ≡ by_beat m b c n.numbers = ticks_are m steady AnyLength (low_text m) c n.numbers w.safe.state w.due_now.len in
               let o : Outcome = asked m at_call (on_tick m c n.numbers) in
               let did : Beats c s b o = subst (λ (z : Outcome). Beats c s b (asked m at_call z)) (sym by)
-              (beat_does at_call b c s n.numbers (live_own c w.own) w.safe w.due_now (subst (λ (z : Outcome). OutTells m steady AnyLength (low_text m) c z.connection z.step) by (tick_tells m steady AnyLength (low_text m) c n.numbers w.safe))) in
+              (beat_does at_call b c s n.numbers (live_own c w.own) w.safe w.due_now (subst (λ (z : Outcome). OutReports m steady AnyLength (low_text m) c z.connection z.step) by (tick_tells m steady AnyLength (low_text m) c n.numbers w.safe))) in
               elim did [
                 | older waits_on same safe due_now ↦
                     (let not_yet : c.age + 1 ≡ at → ⊥ = λ z. w.beats (ap (beat_at (limit_of c.state)) (sym z) ∙ waits_on) in

@@ -1,6 +1,6 @@
 -- What a step of a connection accepts from its peer, and what its page is then.
 use Rattle.node_laws.proofs.Prelude.{◌≡◌, ℕ, ◌+◌, Bool, true, false, not, ◌&&◌, ◌||◌, ◌⊎◌, inl, inr, List, [], ◌∷◌, ◌++◌, length, refl, sym, ap, ◌∙◌, subst, arith, Option, Some, None, length-append, eqb, ltb, append_assoc, take, drop, length-drop, ◌≤◌, if◌then◌else◌, wrap, PlainSegment, has_fin, has_rst, has_syn, Beat, AppState, Snapshot, AppSpec, IsPrefixOf, CanSend, Now, State, Closed, SynRcvd, Established, CloseWait, FinWait1, FinWait2, Closing, TimeWait, LastAck, Want, Nothing, Send, Close, Abort, take-add, Connection, Sockets, is_live, rcv_nxt, occupies_sequence_space, segment_of, text_segment, Outcome, after_own_fin, closes, peer_has_closed, idles, does_as_wanted, prepared, asked, accepted, hears, is_out_of_order, is_acked, rests, has_text, in_state, takes, with_part, with_window, in_established, peer_closes, stays_established, fin_acked, fin_waits, by_state, on_segment, grows_older, by_beat, on_tick, Step, choose, both_ways, append_nothing, ltb-zero, and_false, eqb-eq, not-false, prefix_length, prefix_refl, is_open, asked_by, by_open, is_ask, no_ask_again, on_tick_by, open_live, segment_moves, tick_moves, IsSteady, OutputModel, FollowsModelAt}
-use Rattle.node_laws.proofs.Speaking.{IsEnd, IsTold, IsOpen, end_more, end_said, prefix_size, heard_is, open_acked, open_heard, open_new, open_polled, open_prepared, prepared_is, equal_prefix, told_said}
+use Rattle.node_laws.proofs.Speaking.{IsEnd, IsReported, IsOpen, end_more, end_said, prefix_size, heard_is, open_acked, open_heard, open_new, open_polled, open_prepared, prepared_is, equal_prefix, told_said}
 
 -- the numbers that a FIN or a SYN takes up
 abbrev pub numbers_for : Bool → ℕ
@@ -123,7 +123,7 @@ module _ (m : AppSpec) (port : ℕ) (model : OutputModel) (laws : FollowsModelAt
     pub joined : sent' ≡ sent ++ (text_segment m d).text
     pub acked : d.acked ≡ 1 + length sent
     pub unended : F
-    pub of_page : IsTold model ⊥ now d.part.snapshots sent'
+    pub of_page : IsReported model ⊥ now d.part.snapshots sent'
 
   -- what c becomes if its application was asked
   pub record Spoke (received : Option PlainSegment) (c : Connection) (text : List ℕ) (e : Bool) (sent : List ℕ) (o : Outcome) : Type 0 where
@@ -239,7 +239,7 @@ module _ (m : AppSpec) (port : ℕ) (model : OutputModel) (laws : FollowsModelAt
           joined = refl;
           acked = omega (arith, acked, g.count, size);
           unended = g.unended;
-          of_page = subst (λ z. IsTold model ⊥ text d.part.snapshots z) (sym q.sent_is) (told_said m port model laws ⊥ (λ none. none) d.part text (d.part.acked + d.len) q.opens);
+          of_page = subst (λ z. IsReported model ⊥ text d.part.snapshots z) (sym q.sent_is) (told_said m port model laws ⊥ (λ none. none) d.part text (d.part.acked + d.len) q.opens);
         }
 
     sends_page : (st : State) → is_open st ≡ true → AtPage st b text e sent → AtPage st d text e text_sent

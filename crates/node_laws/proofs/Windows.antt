@@ -1,5 +1,5 @@
 -- Every new text fits the window of the newest segment that was not out of order.
-use Rattle.node_laws.proofs.Prelude.{All, option_map_or, ◌≡◌, ℕ, zero, suc, ◌+◌, ◌<◌, ◌≤◌, ◌==◌, Bool, true, false, not, ◌&&◌, ◌||◌, inl, inr, List, [], ◌∷◌, ◌++◌, length, take, drop, refl, sym, ap, ◌∙◌, subst, arith, Option, Some, None, slice_get, eqb, ltb, length-take, if◌then◌else◌, eq-eqb, All-tail, wrap, Addr, SYN, PlainSegment, has_syn, has_fin, has_ack, AppSpec, IsU32, IsNow, Now, State, SynRcvd, Established, CloseWait, Sockets, Connection, closed, is_live, snd_una, rcv_nxt, occupies_sequence_space, segment_of, is_again, is_plain_syn, reset_for_no_connection, bare_ack, fin_of, reset_of, syn_ack, text_segment, Outcome, leaves, asked, accepted, is_out_of_order, is_acked, on_segment, on_tick, Step, Event, serving, IsEvent, Alike, AbstractNode, initial_node, step, IsSteady, both_ways, and_true, eqb-eq, ltb-yes, not-true, only_some, is_open, FitConn, on_segment_fits, on_tick_fits, stepped_tells, SafeState, StepTells, OutTells, due, segment_tells, tick_tells, Exchange, sent_at, exchange, is_opening, is_incarnation, is_empty, IsIncarnationIn, exchanges_onto, trace_of, IsPassedOver, FitsNewest, IsNewText, FitsWindows, WindowsAreRespected, IsOfLine}
+use Rattle.node_laws.proofs.Prelude.{All, option_map_or, ◌≡◌, ℕ, zero, suc, ◌+◌, ◌<◌, ◌≤◌, ◌==◌, Bool, true, false, not, ◌&&◌, ◌||◌, inl, inr, List, [], ◌∷◌, ◌++◌, length, take, drop, refl, sym, ap, ◌∙◌, subst, arith, Option, Some, None, slice_get, eqb, ltb, length-take, if◌then◌else◌, eq-eqb, All-tail, wrap, Addr, SYN, PlainSegment, has_syn, has_fin, has_ack, AppSpec, IsU32, IsNow, Now, State, SynRcvd, Established, CloseWait, Sockets, Connection, closed, is_live, snd_una, rcv_nxt, occupies_sequence_space, segment_of, is_again, is_plain_syn, reset_for_no_connection, bare_ack, fin_of, reset_of, syn_ack, text_segment, Outcome, leaves, asked, accepted, is_out_of_order, is_acked, on_segment, on_tick, Step, Event, serving, IsEvent, Alike, AbstractNode, initial_node, step, IsSteady, both_ways, and_true, eqb-eq, ltb-yes, not-true, only_some, is_open, FitConn, on_segment_fits, on_tick_fits, stepped_tells, SafeState, StepReports, OutReports, due, segment_tells, tick_tells, Exchange, sent_at, exchange, is_opening, is_incarnation, is_empty, IsIncarnationIn, exchanges_onto, trace_of, IsPassedOver, FitsNewest, IsNewText, FitsWindows, WindowsAreRespected, IsOfLine}
 use Rattle.node_laws.proofs.Beating.{ask_open, mss_some}
 use Rattle.node_laws.proofs.GoodNodes.{AnyLength, Good, SafeConn, first_is, good_on, good_start, low_text}
 use Rattle.node_laws.proofs.Lines.{OfMedium, Comes, comes, quiet, met, left_of}
@@ -98,7 +98,7 @@ module _ (m : AppSpec) (steady : IsSteady m) (ports : ℕ → Bool) (p : Sockets
 
   -- a step of a live connection
   module _ (c : Connection) (incarnation : List Exchange) (w : Windowed c incarnation) (alive : is_live c.state ≡ true) (received : Option PlainSegment) (r : Outcome)
-      (tells : StepTells m steady AnyLength (low_text m) c r.connection (segment_of m r.connection r.step) (is_again r.step)) (short : NewIsShort r)
+      (tells : StepReports m steady AnyLength (low_text m) c r.connection (segment_of m r.connection r.step) (is_again r.step)) (short : NewIsShort r)
       (within : (let x : Exchange = met received (segment_of m r.connection r.step) in is_open r.connection.state ≡ true → (size : ℕ) → size ≤ r.connection.mss → FitsNewest (x ∷ incarnation) size))
       (syn : (let x : Exchange = met received (segment_of m r.connection r.step) in r.connection.state ≡ SynRcvd → AtSyn (x ∷ incarnation) (wrap (snd_una r.connection + 1)))) where
     abbrev d : Connection
@@ -155,7 +155,7 @@ module _ (m : AppSpec) (steady : IsSteady m) (ports : ℕ → Bool) (p : Sockets
       abbrev y : Exchange
       y = met (Some s) (segment_of m r.connection r.step)
 
-      told : OutTells m steady AnyLength (low_text m) c o.connection o.step
+      told : OutReports m steady AnyLength (low_text m) c o.connection o.step
       told = segment_tells m steady AnyLength (low_text m) c numbers s now.safe
 
       is_passed : is_out_of_order c s ≡ true → o ≡ leaves c numbers Step.Ack → IsPassedOver y s
@@ -232,7 +232,7 @@ module _ (m : AppSpec) (steady : IsSteady m) (ports : ℕ → Bool) (p : Sockets
     abbrev z : Exchange
     z = met None (segment_of m rr.connection rr.step)
 
-    tick_told : OutTells m steady AnyLength (low_text m) c oo.connection oo.step
+    tick_told : OutReports m steady AnyLength (low_text m) c oo.connection oo.step
     tick_told = tick_tells m steady AnyLength (low_text m) c numbers now.safe
 
     ticked_within : is_open rr.connection.state ≡ true → (size : ℕ) → size ≤ rr.connection.mss → FitsNewest (z ∷ incarnation) size

@@ -8,7 +8,7 @@ unfoldable pub use Rattle.std.specs.Fmt.{digits}
 pub use Rattle.std.specs.Io.KnownBytes.{Appends}
 pub use Rattle.std.specs.List.{AllByRecursion, enumerate_from, flat_map}
 unfoldable pub use Rattle.tcp_segment.specs.Prelude.{segment_in}
-pub use Rattle.trace.specs.Prelude.{BadHeader, BadLength, BeginsWith, BrokeOff, BrokeWatch, Captured, Converts, EndsRead, HasLongRecord, HasNewFault, HasSeen, HoldsJust, InHeader, InRecord, IsAtFault, IsCaptured, IsCutRecord, IsFoundSoon, IsOpen, IsReadAs, IsReadSound, IsReadTo, IsSurely, IsWatched, Reading, Saw, Seen, SlipEndsBy, StopBy, Stopped, StopsAmong, StopsAt, StopsRead, TellsLine, Whole, WroteLine, capture_file, capture_header, captured_bytes, captured_in, cut_in, datagrams_in, datagrams_on, dump_line, dump_text, end_at, end_by_cut, fault_in, frame_record, frame_text, length_in, line_text, lines_of, order_of, seen_after, seen_at, seen_on, silences_of, text_after, texts_from}
+pub use Rattle.trace.specs.Prelude.{BadHeader, BadLength, BeginsWith, BrokeOff, BrokeWatch, Captured, Converts, EndsRead, HasLongRecord, HasNewFault, HasSeen, HoldsJust, InHeader, InRecord, IsAtFault, IsCaptured, IsCutRecord, IsFoundSoon, IsOpen, IsReadAs, IsReadSound, IsReadTo, IsSurely, IsWatched, Reading, Saw, Seen, SlipEndsBy, StopBy, Stopped, StopsAmong, StopsAt, StopsRead, ReportsLine, Whole, WroteLine, capture_file, capture_header, captured_bytes, captured_in, cut_in, datagrams_in, datagrams_on, dump_line, dump_text, end_at, end_by_cut, fault_in, frame_record, frame_text, length_in, line_text, lines_of, order_of, seen_after, seen_at, seen_on, silences_of, text_after, texts_from}
 pub use Rattle.trace.specs.declared.byte_order.ByteOrder.{ByteOrder}
 pub use Rattle.trace.specs.declared.byte_order.ByteOrder.TheVariants.{Big, Little}
 pub use Rattle.trace.specs.declared.form.Form.{Form}

@@ -1,5 +1,5 @@
 -- What was reported of a line, under another name and after a header.
-use Rattle.trace.proofs.Prelude.{◌≡◌, ℕ, ◌<◌, List, [], ◌++◌, Option, length, length-append, append-nil, sym, ap, ◌∙◌, arith, subst, Appends, Consumes, TookAll, Appends-then, appends_by, prefix_by, prefix_then, Item, ServeEnd, TellsLine, LineView, EndsBy, WrittenBy}
+use Rattle.trace.proofs.Prelude.{◌≡◌, ℕ, ◌<◌, List, [], ◌++◌, Option, length, length-append, append-nil, sym, ap, ◌∙◌, arith, subst, Appends, Consumes, TookAll, Appends-then, appends_by, prefix_by, prefix_then, Item, ServeEnd, ReportsLine, LineView, EndsBy, WrittenBy}
 use Rattle.uip_edge.specs.declared.serve_end.ServeEnd.TheVariants as ends
 
 -- the text was written whole, whatever the end
@@ -11,7 +11,7 @@ written_by a b text ends.WriteFault w = (text, [], sym (append-nil text), w)
 
 -- the same text under another name
 pub told_by_name : (text text' : List Item → List ℕ) (n : ℕ) (old new : LineView) (end : ServeEnd) → ((items : List Item) → text' items ≡ text items)
-    → TellsLine text n old new end → TellsLine text' n old new end
+    → ReportsLine text n old new end → ReportsLine text' n old new end
 told_by_name text text' n old new end same t =
     record {
       taken = t.taken;
@@ -37,7 +37,7 @@ ends_as n taken old mid new ends.WriteFault i l k t = (t.0, t.1 ∙ l, rw k at t
 -- a head was written before
 pub reported_after : (head : List ℕ) (text text' : List Item → List ℕ) (n : ℕ) (old mid new : LineView) (end : ServeEnd) → ((items : List Item) → text' items ≡ head ++ text items)
     → mid.link.coming ≡ old.link.coming → mid.link.faults ≡ old.link.faults → mid.sink.faults ≡ old.sink.faults → Appends old.sink.written mid.sink.written head
-    → TellsLine text n mid new end → TellsLine text' n old new end
+    → ReportsLine text n mid new end → ReportsLine text' n old new end
 reported_after head text text' n old mid new end same i l k w t = record {
   taken = t.taken;
   consumed = subst (λ (o : Option (List Item)). Consumes o new.link.coming t.taken) i t.consumed;

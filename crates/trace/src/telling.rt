@@ -1,7 +1,7 @@
 //! `dump` and `pcap`: what is written of a serial line.
 
 ghost use Rattle.std.specs.Prelude.{◌<◌, []};
-ghost use Rattle.trace.specs.Prelude.{capture_file, dump_text, TellsLine, text_after};
+ghost use Rattle.trace.specs.Prelude.{capture_file, dump_text, ReportsLine, text_after};
 ghost use Rattle.uip_edge.specs.Prelude.{line_view};
 
 use crate::form::Form;
@@ -13,7 +13,7 @@ use uip_edge::{Failed, Link, ServeEnd, Sink};
 /// Writes a line of text for each frame of a serial line. Consumes at most `items` items.
 #[inline(never)]
 pub fn dump<L: Link, K: Sink>(link: &mut L, sink: &mut K, items: u64) -> ServeEnd
-    ensures { TellsLine dump_text items
+    ensures { ReportsLine dump_text items
         (line_view L.Link K.Sink link.old sink.old)
         (line_view L.Link K.Sink link.new sink.new) result }
 {
@@ -23,7 +23,7 @@ pub fn dump<L: Link, K: Sink>(link: &mut L, sink: &mut K, items: u64) -> ServeEn
 /// Writes a capture file of the datagrams of a serial line. Consumes at most `items` items.
 #[inline(never)]
 pub fn pcap<L: Link, K: Sink>(link: &mut L, sink: &mut K, items: u64) -> ServeEnd
-    ensures { TellsLine capture_file items
+    ensures { ReportsLine capture_file items
         (line_view L.Link K.Sink link.old sink.old)
         (line_view L.Link K.Sink link.new sink.new) result }
 {
@@ -35,7 +35,7 @@ pub fn pcap<L: Link, K: Sink>(link: &mut L, sink: &mut K, items: u64) -> ServeEn
 
 /// Consumes items of a line, at most `items`.
 fn watch_line<L: Link, K: Sink>(form: Form, link: &mut L, sink: &mut K, items: u64) -> ServeEnd
-    ensures { TellsLine (text_after form []) items
+    ensures { ReportsLine (text_after form []) items
         (line_view L.Link K.Sink link.old sink.old)
         (line_view L.Link K.Sink link.new sink.new) result }
 {

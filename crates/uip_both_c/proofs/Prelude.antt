@@ -4,7 +4,7 @@ pub use Rattle.app_events.specs.declared.row.Row.{Row}
 pub use Rattle.app_pair.specs.Lemmas.NumberLaws.{first_back, first_kept, others_stay, own_u32, pair_u32, second_back, with_own_u32}
 pub use Rattle.app_pair.specs.PairNumbers.{change_own, numbers_of_first, pair_numbers, with_own, own_numbers}
 pub use Rattle.c_calls.specs.Prelude.{HasOne, flag_of}
-pub use Rattle.c_pages.specs.Prelude.{TellsRow}
+pub use Rattle.c_pages.specs.Prelude.{ReportsRow}
 pub use Rattle.device_values.specs.Prelude.{value_given, words, words_bytes, words_short}
 pub use Rattle.ethernet_arp.specs.Prelude.{Act}
 pub use Rattle.ethernet_arp.specs.declared.mac.Mac.{Mac}

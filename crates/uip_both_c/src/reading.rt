@@ -8,7 +8,7 @@ ghost use Rattle.uip_device.specs.Prelude.{ReadsQuery, connection_row, is_node_i
 ghost use Rattle.web_pages.specs.Prelude.{hits_of};
 ghost use Rattle.app_pair.specs.PairNumbers.{own_numbers};
 ghost use Rattle.c_calls.specs.Prelude.{HasOne, flag_of};
-ghost use Rattle.c_pages.specs.Prelude.{IsNoRow, TellsRow};
+ghost use Rattle.c_pages.specs.Prelude.{IsNoRow, ReportsRow};
 ghost use Rattle.uip_both_c.specs.Prelude.{BothEther, BothGives, HasAbstractNode};
 
 use crate::device::give;
@@ -104,7 +104,7 @@ pub extern "C" fn uip_query(
 #[unsafe(no_mangle)]
 pub extern "C" fn uip_connection(alloc: Global, device: &mut UipDevice, slot: usize) -> UipRow
     ensures known { (result.status ≡ OK) ⊎ (result.status ≡ NO_DEVICE) ⊎ (result.status ≡ BAD_ARGUMENT) }
-    ensures fine { result.status ≡ OK → HasAbstractNode (λ files n. TellsRow (connection_row slot n) result) device.old.held.device }
+    ensures fine { result.status ≡ OK → HasAbstractNode (λ files n. ReportsRow (connection_row slot n) result) device.old.held.device }
     ensures no_device { result.status ≡ NO_DEVICE → device.old.held.device ≡ None }
     ensures bad_call { (result.status == BAD_ARGUMENT) ≡ nat_le 10 slot }
     ensures unread { (result.status ≡ OK → ⊥) → IsNoRow result }

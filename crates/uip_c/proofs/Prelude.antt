@@ -2,7 +2,7 @@
 pub use Rattle.app_events.specs.Prelude.{IsAddr, IsByte}
 pub use Rattle.app_events.specs.declared.row.Row.{Row}
 pub use Rattle.c_calls.specs.Prelude.{flag_of}
-pub use Rattle.c_pages.specs.Prelude.{TellsRow}
+pub use Rattle.c_pages.specs.Prelude.{ReportsRow}
 pub use Rattle.device_values.specs.Prelude.{word_calls, words, words_bytes, words_short}
 pub use Rattle.ethernet_arp.specs.declared.mac.Mac.{Mac}
 pub use Rattle.file_tree.specs.Prelude.{HasSoundScripts, IsLoaded, SiteContent, files_of}

@@ -6,7 +6,7 @@ ghost use Rattle.uip_node.specs.Prelude.{counters, ticks_of};
 ghost use Rattle.uip_device.specs.Prelude.{ReadsQuery, connection_row, is_node_idle, query_of};
 ghost use Rattle.web_pages.specs.Prelude.{hits_of};
 ghost use Rattle.c_calls.specs.Prelude.{flag_of};
-ghost use Rattle.c_pages.specs.Prelude.{IsNoRow, TellsRow};
+ghost use Rattle.c_pages.specs.Prelude.{IsNoRow, ReportsRow};
 ghost use Rattle.uip_c.specs.Prelude.{HandleGives, HasAbstractNode, HasNode, NoDevice};
 
 use crate::handle::{UipDevice, give, node_of, put_in, take_out};
@@ -102,7 +102,7 @@ pub extern "C" fn uip_query(
 #[unsafe(no_mangle)]
 pub extern "C" fn uip_connection(alloc: Global, device: &mut UipDevice, slot: usize) -> UipRow
     ensures known { (result.status ≡ OK) ⊎ (result.status ≡ NO_DEVICE) ⊎ (result.status ≡ BAD_ARGUMENT) }
-    ensures fine { result.status ≡ OK → HasAbstractNode (λ files n. TellsRow (connection_row slot n) result) device.old.held.device }
+    ensures fine { result.status ≡ OK → HasAbstractNode (λ files n. ReportsRow (connection_row slot n) result) device.old.held.device }
     ensures no_device { result.status ≡ NO_DEVICE → device.old.held.device ≡ NoDevice }
     ensures bad_call { (result.status == BAD_ARGUMENT) ≡ nat_le 10 slot }
     ensures unread { (result.status ≡ OK → ⊥) → IsNoRow result }

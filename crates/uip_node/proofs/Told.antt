@@ -111,14 +111,14 @@ module _ (m : AppSpec) (steady : IsSteady m) (Low : ℕ → Type 0) (low_text : 
     pub is : sent ≡ Some output
     pub placed : occupies_sequence_space output ≡ true
 
-  pub record StepTells (c d : Connection) (sent : Option PlainSegment) (again : Bool) : Type 0 where
+  pub record StepReports (c d : Connection) (sent : Option PlainSegment) (again : Bool) : Type 0 where
     pub onto : is_live d.state ≡ true → Onto c d
     pub safe : is_live d.state ≡ true → Safe d
     pub output : (s : PlainSegment) → sent ≡ Some s → occupies_sequence_space s ≡ true → Tells c d again s
     pub marked : (s : PlainSegment) → sent ≡ Some s → again ≡ true → occupies_sequence_space s ≡ true
     pub still : is_live d.state ≡ true → 0 < d.len → Still c d ⊎ Anew sent
 
-  pub record AskTells (c d : Connection) : Type 0 where
+  pub record AskReports (c d : Connection) : Type 0 where
     pub onto : Onto c d
     pub is_asked : is_open d.state ≡ true
     pub idle : d.len ≡ 0
@@ -127,14 +127,14 @@ module _ (m : AppSpec) (steady : IsSteady m) (Low : ℕ → Type 0) (low_text : 
     pub text : TextSafe d
     pub new : 0 < c.len → c.acked < d.acked
 
-  abbrev pub OutTells : Connection → Connection → Step → Type 0
-  OutTells c d (Step.Ask fresh) = AskTells c d
-  OutTells c d Step.Drop = StepTells c d None false
-  OutTells c d Step.Ack = StepTells c d (Some (bare_ack d)) false
-  OutTells c d (Step.SynAck again) = StepTells c d (Some (syn_ack d)) again
-  OutTells c d (Step.Text again) = StepTells c d (Some (text_segment m d)) again
-  OutTells c d (Step.Fin again) = StepTells c d (Some (fin_of d)) again
-  OutTells c d Step.Reset = StepTells c d (Some (reset_of d)) false
+  abbrev pub OutReports : Connection → Connection → Step → Type 0
+  OutReports c d (Step.Ask fresh) = AskReports c d
+  OutReports c d Step.Drop = StepReports c d None false
+  OutReports c d Step.Ack = StepReports c d (Some (bare_ack d)) false
+  OutReports c d (Step.SynAck again) = StepReports c d (Some (syn_ack d)) again
+  OutReports c d (Step.Text again) = StepReports c d (Some (text_segment m d)) again
+  OutReports c d (Step.Fin again) = StepReports c d (Some (fin_of d)) again
+  OutReports c d Step.Reset = StepReports c d (Some (reset_of d)) false
 
   -- the same state: only text may differ
   alike_same : (st : State) (c d : Connection) → take d.len (drop d.part.acked (m.output d.part)) ≡ take c.len (drop c.part.acked (m.output c.part)) → Alike (due m st d) (due m st c)
@@ -163,20 +163,20 @@ module _ (m : AppSpec) (steady : IsSteady m) (Low : ℕ → Type 0) (low_text : 
   onto_idle : (c d : Connection) → d.iss ≡ c.iss → c.len ≡ 0 → d.acked ≡ c.acked → Onto c d
   onto_idle c d f z e = record { iss = f; grows = omega (arith, e); kept = λ x y. absurd (omega (arith, x, z)) }
 
-  silent_tells : (c d : Connection) → Onto c d → (is_live d.state ≡ true → Safe d) → (0 < d.len → Still c d) → StepTells c d None false
+  silent_tells : (c d : Connection) → Onto c d → (is_live d.state ≡ true → Safe d) → (0 < d.len → Still c d) → StepReports c d None false
   silent_tells c d o s k = record { onto = λ l. o; safe = s; output = λ x e p. absurd (cc); marked = λ x e p. absurd (cc); still = λ l z. inl (k z) }
 
-  ack_tells : (c d : Connection) → Onto c d → (is_live d.state ≡ true → Safe d) → (0 < d.len → Still c d) → StepTells c d (Some (bare_ack d)) false
+  ack_tells : (c d : Connection) → Onto c d → (is_live d.state ≡ true → Safe d) → (0 < d.len → Still c d) → StepReports c d (Some (bare_ack d)) false
   ack_tells c d o s k = record { still = λ l z. inl (k z); onto = λ l. o; safe = s; output = λ x e p. absurd (let z : occupies_sequence_space x ≡ false = only_some (λ y. occupies_sequence_space y ≡ false) (bare_ack d) x e refl in cc); marked = λ x e p. absurd (cc) }
 
-  reset_tells : (c b : Connection) → StepTells c (closes b) (Some (reset_of (closes b))) false
+  reset_tells : (c b : Connection) → StepReports c (closes b) (Some (reset_of (closes b))) false
   reset_tells c b = record { still = λ l z. absurd (cc); onto = λ l. absurd (cc); safe = λ l. absurd (cc); output = λ x e p. absurd (let z : occupies_sequence_space x ≡ false = only_some (λ y. occupies_sequence_space y ≡ false) (reset_of (closes b)) x e refl in cc); marked = λ x e p. absurd (cc) }
 
-  dead_tells : (c b : Connection) → StepTells c (closes b) None false
+  dead_tells : (c b : Connection) → StepReports c (closes b) None false
   dead_tells c b = record { still = λ l z. absurd (cc); onto = λ l. absurd (cc); safe = λ l. absurd (cc); output = λ x e p. absurd (cc); marked = λ x e p. absurd (cc) }
 
   -- something is sent for the first time
-  new_tells : (c d : Connection) (s : PlainSegment) → Onto c d → is_live d.state ≡ true → Safe d → IsDue d s → (0 < c.len → c.acked < d.acked) → occupies_sequence_space s ≡ true → StepTells c d (Some s) false
+  new_tells : (c d : Connection) (s : PlainSegment) → Onto c d → is_live d.state ≡ true → Safe d → IsDue d s → (0 < c.len → c.acked < d.acked) → occupies_sequence_space s ≡ true → StepReports c d (Some s) false
   new_tells c d s o l f n new placed = record {
     still = λ x z. inr record { output = s; is = refl; placed = placed };
     onto = λ x. o;
@@ -186,7 +186,7 @@ module _ (m : AppSpec) (steady : IsSteady m) (Low : ℕ → Type 0) (low_text : 
   }
 
   -- a step from b, to which c came by an acknowledgement of all that was outstanding
-  from_tells : (c b d : Connection) (sent : Option PlainSegment) → Onto c b → (0 < c.len → c.acked < b.acked) → b.len ≡ 0 → StepTells b d sent false → StepTells c d sent false
+  from_tells : (c b d : Connection) (sent : Option PlainSegment) → Onto c b → (0 < c.len → c.acked < b.acked) → b.len ≡ 0 → StepReports b d sent false → StepReports c d sent false
   from_tells c b d sent o new z t = record {
     still = λ l x. elim (t.still l x) [ inl y ↦ absurd (let p = y.some in omega (arith, p, z)) | inr y ↦ inr y ];
     onto = λ l. onto_then c b d o (t.onto l);
@@ -214,8 +214,8 @@ module _ (m : AppSpec) (steady : IsSteady m) (Low : ℕ → Type 0) (low_text : 
   idle_safe : (d : Connection) (st : State) → is_open st ≡ true → peer_has_closed st ≡ false → TextSafe d → SafeState d st
   idle_safe d st o p h = by_open (λ x. peer_has_closed x ≡ false → SafeState d x) (λ q. h) (λ q. absurd (cc)) st o p
 
-  abbrev pub OutTold : Connection → Outcome → Type 0
-  OutTold c o = StepTells c o.connection (segment_of m o.connection o.step) (is_again o.step)
+  abbrev pub OutReported : Connection → Outcome → Type 0
+  OutReported c o = StepReports c o.connection (segment_of m o.connection o.step) (is_again o.step)
 
   text_placed : (d : Connection) → TextSafe d → 0 < d.len → occupies_sequence_space (text_segment m d) ≡ true
   text_placed d h l =
@@ -223,7 +223,7 @@ module _ (m : AppSpec) (steady : IsSteady m) (Low : ℕ → Type 0) (low_text : 
       placed_by_length (text_segment m d) (omega (arith, e, l))
 
   wanted_tells : (w : Want) (fresh : Bool) (c : Connection) (numbers : List ℕ) → is_open c.state ≡ true → c.len ≡ 0 → 0 < c.mss → 0 < c.initial_mss → TextSafe c → All IsSnapshot c.part.snapshots → CanSend w (length (drop c.part.acked (m.output c.part))) →
-      OutTold c (does_as_wanted w fresh c numbers)
+      OutReported c (does_as_wanted w fresh c numbers)
   unfolding idles
   wanted_tells Abort fresh c numbers o z ms ini h fit w = reset_tells c c
   wanted_tells Close fresh c numbers o z ms ini h fit w =
@@ -239,9 +239,9 @@ module _ (m : AppSpec) (steady : IsSteady m) (Low : ℕ → Type 0) (low_text : 
       record { mss = ms; initial = ini; state = text_safe d c.state o t some }
       record { len = some; seq = refl; alike = text_due d c.state o } (λ x. absurd (omega (arith, x, z))) (text_placed d t some)
   wanted_tells Nothing fresh c numbers o z ms ini h fit w =
-      choose (λ (x : Outcome). OutTold c x) (peer_has_closed c.state) _ _ (λ e. reset_tells c c)
+      choose (λ (x : Outcome). OutReported c x) (peer_has_closed c.state) _ _ (λ e. reset_tells c c)
       (λ e. let f : Safe c = record { mss = ms; initial = ini; state = idle_safe c c.state o e h } in
-      choose (λ (x : Outcome). OutTold c x) fresh _ _ (λ g. ack_tells c c (onto_same c) (λ l. f) (λ z. record { some = z; same = refl })) (λ g. silent_tells c c (onto_same c) (λ l. f) (λ z. record { some = z; same = refl })))
+      choose (λ (x : Outcome). OutReported c x) fresh _ _ (λ g. ack_tells c c (onto_same c) (λ l. f) (λ z. record { some = z; same = refl })) (λ g. silent_tells c c (onto_same c) (λ l. f) (λ z. record { some = z; same = refl })))
 
   wanted_again : (w : Want) (fresh : Bool) (c : Connection) (numbers : List ℕ) → is_again (does_as_wanted w fresh c numbers).step ≡ false
   unfolding idles
@@ -250,7 +250,7 @@ module _ (m : AppSpec) (steady : IsSteady m) (Low : ℕ → Type 0) (low_text : 
   wanted_again (Send n) fresh c numbers = refl
   wanted_again Nothing fresh c numbers = choose (λ (x : Outcome). is_again x.step ≡ false) (peer_has_closed c.state) _ _ (λ e. refl) (λ e. choose (λ (x : Outcome). is_again x.step ≡ false) fresh _ _ (λ g. refl) (λ g. refl))
 
-  asking_tells : (c d : Connection) (now : Now) (fresh : Bool) (numbers : List ℕ) → AskTells c d → All IsSnapshot (m.prepare numbers d.part now).snapshots → OutTold c (ask m now fresh d numbers)
+  asking_tells : (c d : Connection) (now : Now) (fresh : Bool) (numbers : List ℕ) → AskReports c d → All IsSnapshot (m.prepare numbers d.part now).snapshots → OutReported c (ask m now fresh d numbers)
   asking_tells c d now fresh numbers a fit =
       let q : AppState = m.prepare numbers d.part now in
       let b : Connection = prepared m now d numbers in
@@ -259,17 +259,17 @@ module _ (m : AppSpec) (steady : IsSteady m) (Low : ℕ → Type 0) (low_text : 
       let h : TextSafe d = a.text in
       let t : TextSafe b = record { fits = omega (arith, more, h.fits, p.offset); count = omega (arith, h.count, p.offset) } in
       let o : Outcome = ask m now fresh d numbers in
-      let w : OutTold b o = wanted_tells (m.want numbers q) fresh b numbers a.is_asked a.idle a.mss a.initial t fit (steady.lawful.sends numbers q tt) in
+      let w : OutReported b o = wanted_tells (m.want numbers q) fresh b numbers a.is_asked a.idle a.mss a.initial t fit (steady.lawful.sends numbers q tt) in
       let n : is_again o.step ≡ false = wanted_again (m.want numbers q) fresh b numbers in
-      let w' : StepTells b o.connection (segment_of m o.connection o.step) false = subst (λ x. StepTells b o.connection (segment_of m o.connection o.step) x) n w in
-      subst (λ x. StepTells c o.connection (segment_of m o.connection o.step) x) (sym n)
+      let w' : StepReports b o.connection (segment_of m o.connection o.step) false = subst (λ x. StepReports b o.connection (segment_of m o.connection o.step) x) n w in
+      subst (λ x. StepReports c o.connection (segment_of m o.connection o.step) x) (sym n)
       (from_tells c b o.connection (segment_of m o.connection o.step) (onto_then c d b a.onto (onto_idle d b refl a.idle refl)) a.new a.idle w')
 
-  asked_for_tells : (snapshot : Connection → Now) (c d : Connection) (numbers : List ℕ) (s : Step) → ((now : Now) → now ≡ snapshot d → All IsSnapshot (m.prepare numbers d.part now).snapshots) → OutTells c d s → OutTold c (asked_for m snapshot (leaves d numbers s) s)
+  asked_for_tells : (snapshot : Connection → Now) (c d : Connection) (numbers : List ℕ) (s : Step) → ((now : Now) → now ≡ snapshot d → All IsSnapshot (m.prepare numbers d.part now).snapshots) → OutReports c d s → OutReported c (asked_for m snapshot (leaves d numbers s) s)
   asked_for_tells snapshot c d numbers (Step.Ask fresh) fit h = asking_tells c d (snapshot d) fresh numbers h (fit (snapshot d) refl)
   asked_for_tells snapshot c d numbers _ fit h = h
 
-  pub asked_tells : (snapshot : Connection → Now) (c : Connection) (o : Outcome) → ((now : Now) → now ≡ snapshot o.connection → All IsSnapshot (m.prepare o.numbers o.connection.part now).snapshots) → OutTells c o.connection o.step → OutTold c (asked m snapshot o)
+  pub asked_tells : (snapshot : Connection → Now) (c : Connection) (o : Outcome) → ((now : Now) → now ≡ snapshot o.connection → All IsSnapshot (m.prepare o.numbers o.connection.part now).snapshots) → OutReports c o.connection o.step → OutReported c (asked m snapshot o)
   asked_tells snapshot c o fit h = asked_for_tells snapshot c o.connection o.numbers o.step fit h
 
   -- text is delivered while something may be outstanding
@@ -301,7 +301,7 @@ module _ (m : AppSpec) (steady : IsSteady m) (Low : ℕ → Type 0) (low_text : 
     kept = λ l e. (omega (arith, l, el), open_due c d st o (heard_due c d h x el));
   }
 
-  closing_tells : (c : Connection) (numbers : List ℕ) (s : PlainSegment) → c.state ≡ Established → 0 < c.mss → 0 < c.initial_mss → TextSafe c → (let o : Outcome = peer_closes m c numbers s in OutTells c o.connection o.step)
+  closing_tells : (c : Connection) (numbers : List ℕ) (s : PlainSegment) → c.state ≡ Established → 0 < c.mss → 0 < c.initial_mss → TextSafe c → (let o : Outcome = peer_closes m c numbers s in OutReports c o.connection o.step)
   unfolding peer_closes
   closing_tells c numbers s st ms ini h =
       let x : Grows m c.part (hears m numbers c.part s.text).part = hears_grows numbers c.part s.text in
@@ -309,11 +309,11 @@ module _ (m : AppSpec) (steady : IsSteady m) (Low : ℕ → Type 0) (low_text : 
       let t : TextSafe d = heard_text c d h x refl refl in
       let o : Onto c d = heard_onto c d st refl h x refl refl refl in
       let w : 0 < d.mss = window_some c.initial_mss s.window ini in
-      choose (λ (y : Outcome). OutTells c y.connection y.step) (ltb 0 c.len) _ _
+      choose (λ (y : Outcome). OutReports c y.connection y.step) (ltb 0 c.len) _ _
       (λ e. ack_tells c d o (λ l. record { mss = w; initial = ini; state = record { text = t; some = ltb-lt 0 c.len e } }) (λ z. record { some = z; same = refl }))
       (λ e. record { onto = o; is_asked = refl; idle = ltb-zero c.len e; mss = w; initial = ini; text = t; new = λ y. absurd (omega (arith, y, ltb-zero c.len e)) })
 
-  going_tells : (acked : Bool) (c : Connection) (numbers : List ℕ) (s : PlainSegment) → c.state ≡ Established → 0 < c.mss → 0 < c.initial_mss → TextSafe c → (let o : Outcome = stays_established m acked c numbers s in OutTells c o.connection o.step)
+  going_tells : (acked : Bool) (c : Connection) (numbers : List ℕ) (s : PlainSegment) → c.state ≡ Established → 0 < c.mss → 0 < c.initial_mss → TextSafe c → (let o : Outcome = stays_established m acked c numbers s in OutReports c o.connection o.step)
   unfolding stays_established
   going_tells acked c numbers s st ms ini h =
       let x : Grows m c.part (hears m numbers c.part s.text).part = hears_grows numbers c.part s.text in
@@ -322,22 +322,22 @@ module _ (m : AppSpec) (steady : IsSteady m) (Low : ℕ → Type 0) (low_text : 
       let o : Onto c d = heard_onto c d st (ap is_open st) h x refl refl refl in
       let w : 0 < d.mss = window_some c.initial_mss s.window ini in
       let f : Safe d = record { mss = w; initial = ini; state = state_at d Established st t } in
-      choose (λ (y : Outcome). OutTells c y.connection y.step) (not acked && not (has_text s)) _ _ (λ e. silent_tells c d o (λ l. f) (λ z. record { some = z; same = refl }))
-      (λ e. choose (λ (y : Outcome). OutTells c y.connection y.step) (ltb 0 c.len) _ _ (λ i. ack_tells c d o (λ l. f) (λ z. record { some = z; same = refl }))
+      choose (λ (y : Outcome). OutReports c y.connection y.step) (not acked && not (has_text s)) _ _ (λ e. silent_tells c d o (λ l. f) (λ z. record { some = z; same = refl }))
+      (λ e. choose (λ (y : Outcome). OutReports c y.connection y.step) (ltb 0 c.len) _ _ (λ i. ack_tells c d o (λ l. f) (λ z. record { some = z; same = refl }))
       (λ i. record { onto = o; is_asked = ap is_open st; idle = ltb-zero c.len i; mss = w; initial = ini; text = t; new = λ y. absurd (omega (arith, y, ltb-zero c.len i)) }))
 
-  established_tells : (acked : Bool) (c : Connection) (numbers : List ℕ) (s : PlainSegment) → c.state ≡ Established → 0 < c.mss → 0 < c.initial_mss → TextSafe c → (let o : Outcome = in_established m acked c numbers s in OutTells c o.connection o.step)
+  established_tells : (acked : Bool) (c : Connection) (numbers : List ℕ) (s : PlainSegment) → c.state ≡ Established → 0 < c.mss → 0 < c.initial_mss → TextSafe c → (let o : Outcome = in_established m acked c numbers s in OutReports c o.connection o.step)
   unfolding in_established
   established_tells acked c numbers s st ms ini h =
-      choose (λ (y : Outcome). OutTells c y.connection y.step) (has_fin s.flags) _ _ (λ e. closing_tells c numbers s st ms ini h) (λ e. going_tells acked c numbers s st ms ini h)
+      choose (λ (y : Outcome). OutReports c y.connection y.step) (has_fin s.flags) _ _ (λ e. closing_tells c numbers s st ms ini h) (λ e. going_tells acked c numbers s st ms ini h)
 
-  out_from : (c b d : Connection) (s : Step) → is_again s ≡ false → Onto c b → (0 < c.len → c.acked < b.acked) → b.len ≡ 0 → OutTells b d s → OutTells c d s
+  out_from : (c b d : Connection) (s : Step) → is_again s ≡ false → Onto c b → (0 < c.len → c.acked < b.acked) → b.len ≡ 0 → OutReports b d s → OutReports c d s
   out_from c b d (Step.Ask fresh) n o new none h = record { onto = onto_then c b d o h.onto; is_asked = h.is_asked; idle = h.idle; mss = h.mss; initial = h.initial; text = h.text; new = λ y. (let g = h.onto.grows in omega (arith, new y, g)) }
   out_from c b d Step.Drop n o new none h = from_tells c b d None o new none h
   out_from c b d Step.Ack n o new none h = from_tells c b d (Some (bare_ack d)) o new none h
-  out_from c b d (Step.SynAck again) n o new none h = subst (λ x. StepTells c d (Some (syn_ack d)) x) (sym n) (from_tells c b d (Some (syn_ack d)) o new none (subst (λ x. StepTells b d (Some (syn_ack d)) x) n h))
-  out_from c b d (Step.Text again) n o new none h = subst (λ x. StepTells c d (Some (text_segment m d)) x) (sym n) (from_tells c b d (Some (text_segment m d)) o new none (subst (λ x. StepTells b d (Some (text_segment m d)) x) n h))
-  out_from c b d (Step.Fin again) n o new none h = subst (λ x. StepTells c d (Some (fin_of d)) x) (sym n) (from_tells c b d (Some (fin_of d)) o new none (subst (λ x. StepTells b d (Some (fin_of d)) x) n h))
+  out_from c b d (Step.SynAck again) n o new none h = subst (λ x. StepReports c d (Some (syn_ack d)) x) (sym n) (from_tells c b d (Some (syn_ack d)) o new none (subst (λ x. StepReports b d (Some (syn_ack d)) x) n h))
+  out_from c b d (Step.Text again) n o new none h = subst (λ x. StepReports c d (Some (text_segment m d)) x) (sym n) (from_tells c b d (Some (text_segment m d)) o new none (subst (λ x. StepReports b d (Some (text_segment m d)) x) n h))
+  out_from c b d (Step.Fin again) n o new none h = subst (λ x. StepReports c d (Some (fin_of d)) x) (sym n) (from_tells c b d (Some (fin_of d)) o new none (subst (λ x. StepReports b d (Some (fin_of d)) x) n h))
   out_from c b d Step.Reset n o new none h = from_tells c b d (Some (reset_of d)) o new none h
 
   established_again : (acked : Bool) (c : Connection) (numbers : List ℕ) (s : PlainSegment) → is_again (in_established m acked c numbers s).step ≡ false
@@ -369,7 +369,7 @@ module _ (m : AppSpec) (steady : IsSteady m) (Low : ℕ → Type 0) (low_text : 
   control_safe c d l a h = record { len = l ∙ h.len; low = near_same c d 1 a h.low }
 
   by_state_tells : (st : State) (acked : Bool) (c : Connection) (numbers : List ℕ) (s : PlainSegment) → c.state ≡ st → is_acked c s ≡ acked → 0 < c.mss → 0 < c.initial_mss → SafeState c st →
-      (let o : Outcome = by_state m st acked c numbers s in OutTells c o.connection o.step)
+      (let o : Outcome = by_state m st acked c numbers s in OutReports c o.connection o.step)
   unfolding fin_acked fin_waits
   by_state_tells Closed acked c numbers s e ac ms ini h = absurd h
   by_state_tells SynRcvd true c numbers s e ac ms ini h =
@@ -398,26 +398,26 @@ module _ (m : AppSpec) (steady : IsSteady m) (Low : ℕ → Type 0) (low_text : 
       silent_tells c d record { iss = refl; grows = omega arith; kept = λ l z. (l, alike_same c.state c d refl) }
       (λ l. record { mss = window_some c.initial_mss s.window ini; initial = ini; state = state_at d CloseWait e record { text = record { fits = h.text.fits; count = h.text.count }; some = h.some } }) (λ z. record { some = z; same = refl })
   by_state_tells FinWait1 true c numbers s e ac ms ini h =
-      choose (λ (y : Outcome). OutTells c y.connection y.step) (has_fin s.flags) _ _
+      choose (λ (y : Outcome). OutReports c y.connection y.step) (has_fin s.flags) _ _
       (λ f. let d : Connection = in_state TimeWait (takes (length s.text + 1) (rests c)) in
       ack_tells c d (onto_more c d refl (omega (arith, h.len))) (λ l. record { mss = ms; initial = ini; state = record { len = refl; low = near_more c d (omega (arith, h.len)) h.low } }) (λ z. absurd (omega arith)))
       (λ f. let d : Connection = in_state FinWait2 (takes (length s.text) (rests c)) in
       silent_tells c d (onto_more c d refl (omega (arith, h.len))) (λ l. record { mss = ms; initial = ini; state = record { len = refl; low = near_more c d (omega (arith, h.len)) h.low } }) (λ z. absurd (omega arith)))
   by_state_tells FinWait1 false c numbers s e ac ms ini h =
-      choose (λ (y : Outcome). OutTells c y.connection y.step) (has_fin s.flags) _ _
+      choose (λ (y : Outcome). OutReports c y.connection y.step) (has_fin s.flags) _ _
       (λ f. let d : Connection = in_state Closing (takes (length s.text + 1) c) in
       ack_tells c d record { iss = refl; grows = omega arith; kept = λ l z. (l, subst (λ x. Alike (fin_of d) (due m x c)) (sym e) (record { flags = refl; text = refl })) }
       (λ l. record { mss = ms; initial = ini; state = control_safe c d refl refl h }) (λ z. record { some = z; same = refl }))
-      (λ f. choose (λ (y : Outcome). OutTells c y.connection y.step) (has_text s) _ _
+      (λ f. choose (λ (y : Outcome). OutReports c y.connection y.step) (has_text s) _ _
       (λ i. let d : Connection = takes (length s.text) c in
       ack_tells c d record { iss = refl; grows = omega arith; kept = λ l z. (l, alike_same c.state c d refl) }
       (λ l. record { mss = ms; initial = ini; state = state_at d FinWait1 e (control_safe c d refl refl h) }) (λ z. record { some = z; same = refl }))
       (λ i. silent_tells c c (onto_same c) (λ l. record { mss = ms; initial = ini; state = state_at c FinWait1 e h }) (λ z. record { some = z; same = refl })))
   by_state_tells FinWait2 acked c numbers s e ac ms ini h =
-      choose (λ (y : Outcome). OutTells c y.connection y.step) (has_fin s.flags) _ _
+      choose (λ (y : Outcome). OutReports c y.connection y.step) (has_fin s.flags) _ _
       (λ f. let d : Connection = record (in_state TimeWait (takes (length s.text + 1) c)) { age = 0 } in
       ack_tells c d (onto_idle c d refl h.len refl) (λ l. record { mss = ms; initial = ini; state = record { len = h.len; low = h.low } }) (λ z. record { some = z; same = refl }))
-      (λ f. choose (λ (y : Outcome). OutTells c y.connection y.step) (has_text s) _ _
+      (λ f. choose (λ (y : Outcome). OutReports c y.connection y.step) (has_text s) _ _
       (λ i. let d : Connection = takes (length s.text) c in
       ack_tells c d (onto_idle c d refl h.len refl) (λ l. record { mss = ms; initial = ini; state = state_at d FinWait2 e record { len = h.len; low = h.low } }) (λ z. record { some = z; same = refl }))
       (λ i. silent_tells c c (onto_same c) (λ l. record { mss = ms; initial = ini; state = state_at c FinWait2 e h }) (λ z. record { some = z; same = refl })))
@@ -429,11 +429,11 @@ module _ (m : AppSpec) (steady : IsSteady m) (Low : ℕ → Type 0) (low_text : 
   by_state_tells LastAck false c numbers s e ac ms ini h = silent_tells c c (onto_same c) (λ l. record { mss = ms; initial = ini; state = state_at c LastAck e h }) (λ z. record { some = z; same = refl })
   by_state_tells TimeWait acked c numbers s e ac ms ini h = ack_tells c c (onto_same c) (λ l. record { mss = ms; initial = ini; state = state_at c TimeWait e h }) (λ z. record { some = z; same = refl })
 
-  pub segment_tells : (c : Connection) (numbers : List ℕ) (s : PlainSegment) → Safe c → (let o : Outcome = on_segment m c numbers s in OutTells c o.connection o.step)
+  pub segment_tells : (c : Connection) (numbers : List ℕ) (s : PlainSegment) → Safe c → (let o : Outcome = on_segment m c numbers s in OutReports c o.connection o.step)
   unfolding on_segment
   segment_tells c numbers s f =
-      choose (λ (y : Outcome). OutTells c y.connection y.step) (has_rst s.flags) _ _ (λ e. dead_tells c c) (λ e.
-      choose (λ (y : Outcome). OutTells c y.connection y.step) (is_out_of_order c s) _ _ (λ i. ack_tells c c (onto_same c) (λ l. f) (λ z. record { some = z; same = refl }))
+      choose (λ (y : Outcome). OutReports c y.connection y.step) (has_rst s.flags) _ _ (λ e. dead_tells c c) (λ e.
+      choose (λ (y : Outcome). OutReports c y.connection y.step) (is_out_of_order c s) _ _ (λ i. ack_tells c c (onto_same c) (λ l. f) (λ z. record { some = z; same = refl }))
       (λ i. by_state_tells c.state (is_acked c s) c numbers s refl refl f.mss f.initial f.state))
 
   -- the timer
@@ -451,7 +451,7 @@ module _ (m : AppSpec) (steady : IsSteady m) (Low : ℕ → Type 0) (low_text : 
   older_is_safe c f = record { mss = f.mss; initial = f.initial; state = older_safe c c.state f.state }
 
   -- what is outstanding is sent again
-  repeat_tells : (c : Connection) (s : PlainSegment) → is_live c.state ≡ true → Safe c → 0 < c.len → s.seq ≡ snd_una c → Alike s (due m c.state (grows_older c)) → occupies_sequence_space s ≡ true → StepTells c (grows_older c) (Some s) true
+  repeat_tells : (c : Connection) (s : PlainSegment) → is_live c.state ≡ true → Safe c → 0 < c.len → s.seq ≡ snd_una c → Alike s (due m c.state (grows_older c)) → occupies_sequence_space s ≡ true → StepReports c (grows_older c) (Some s) true
   repeat_tells c s l f some seq alike placed = record {
     still = λ x z. inl record { some = some; same = refl };
     onto = λ x. older_onto c;
@@ -463,7 +463,7 @@ module _ (m : AppSpec) (steady : IsSteady m) (Low : ℕ → Type 0) (low_text : 
   text_place : (c : Connection) → TextSafe c → 0 < c.len → occupies_sequence_space (text_segment m (grows_older c)) ≡ true
   text_place c h l = text_placed (grows_older c) record { fits = h.fits; count = h.count } l
 
-  again_tells : (c : Connection) (st : State) → c.state ≡ st → is_live st ≡ true → Safe c → SafeState c st → 0 < c.len → OutTells c (grows_older c) (outstanding true st)
+  again_tells : (c : Connection) (st : State) → c.state ≡ st → is_live st ≡ true → Safe c → SafeState c st → 0 < c.len → OutReports c (grows_older c) (outstanding true st)
   again_tells c Closed e l f h some = absurd (cc)
   again_tells c SynRcvd e l f h some = repeat_tells c (syn_ack (grows_older c)) (ap is_live e) f some refl (subst (λ x. Alike (syn_ack (grows_older c)) (due m x (grows_older c))) (sym e) (alike_refl (syn_ack (grows_older c)))) refl
   again_tells c Established e l f h some = repeat_tells c (text_segment m (grows_older c)) (ap is_live e) f some refl (subst (λ x. Alike (text_segment m (grows_older c)) (due m x (grows_older c))) (sym e) (alike_refl (text_segment m (grows_older c)))) (text_place c h some)
@@ -474,29 +474,29 @@ module _ (m : AppSpec) (steady : IsSteady m) (Low : ℕ → Type 0) (low_text : 
   again_tells c FinWait2 e l f h some = silent_tells c (grows_older c) (older_onto c) (λ x. older_is_safe c f) (λ z. record { some = z; same = refl })
   again_tells c TimeWait e l f h some = silent_tells c (grows_older c) (older_onto c) (λ x. older_is_safe c f) (λ z. record { some = z; same = refl })
 
-  by_beat_tells : (b : Beat) (c : Connection) (numbers : List ℕ) → is_live c.state ≡ true → Safe c → 0 < c.len → (let o : Outcome = by_beat m b c numbers in OutTells c o.connection o.step)
+  by_beat_tells : (b : Beat) (c : Connection) (numbers : List ℕ) → is_live c.state ≡ true → Safe c → 0 < c.len → (let o : Outcome = by_beat m b c numbers in OutReports c o.connection o.step)
   by_beat_tells Beat.Wait c numbers l f some = silent_tells c (grows_older c) (older_onto c) (λ x. older_is_safe c f) (λ z. record { some = z; same = refl })
   by_beat_tells Beat.Again c numbers l f some = again_tells c c.state refl l f f.state some
   by_beat_tells Beat.GiveUp c numbers l f some = reset_tells c c
 
-  waits_tell : (c : Connection) (numbers : List ℕ) → is_live c.state ≡ true → Safe c → 0 < c.len → (let o : Outcome = waits_for_ack m c numbers in OutTells c o.connection o.step)
+  waits_tell : (c : Connection) (numbers : List ℕ) → is_live c.state ≡ true → Safe c → 0 < c.len → (let o : Outcome = waits_for_ack m c numbers in OutReports c o.connection o.step)
   waits_tell c numbers l f some = by_beat_tells (beat_at (limit_of c.state) (c.age + 1)) c numbers l f some
 
-  rests_tell : (c : Connection) (numbers : List ℕ) → Safe c → (let o : Outcome = rests_on c numbers in OutTells c o.connection o.step)
+  rests_tell : (c : Connection) (numbers : List ℕ) → Safe c → (let o : Outcome = rests_on c numbers in OutReports c o.connection o.step)
   unfolding rests_on
-  rests_tell c numbers f = choose (λ (y : Outcome). OutTells c y.connection y.step) (eqb (c.age + 1) REST_TIME) _ _ (λ e. dead_tells c c) (λ e. silent_tells c (grows_older c) (older_onto c) (λ x. older_is_safe c f) (λ z. record { some = z; same = refl }))
+  rests_tell c numbers f = choose (λ (y : Outcome). OutReports c y.connection y.step) (eqb (c.age + 1) REST_TIME) _ _ (λ e. dead_tells c c) (λ e. silent_tells c (grows_older c) (older_onto c) (λ x. older_is_safe c f) (λ z. record { some = z; same = refl }))
 
-  polls_tell : (c : Connection) (numbers : List ℕ) → c.state ≡ Established → Safe c → TextSafe c → (let o : Outcome = ticks_established m c numbers in OutTells c o.connection o.step)
+  polls_tell : (c : Connection) (numbers : List ℕ) → c.state ≡ Established → Safe c → TextSafe c → (let o : Outcome = ticks_established m c numbers in OutReports c o.connection o.step)
   unfolding ticks_established
   polls_tell c numbers e f h =
-      choose (λ (y : Outcome). OutTells c y.connection y.step) (ltb 0 c.len) _ _ (λ i. waits_tell c numbers (ap is_live e) f (ltb-lt 0 c.len i))
+      choose (λ (y : Outcome). OutReports c y.connection y.step) (ltb 0 c.len) _ _ (λ i. waits_tell c numbers (ap is_live e) f (ltb-lt 0 c.len i))
       (λ i. let x = steady.lawful.polled_keeps numbers c.part tt in
       let d : Connection = with_part (m.polled numbers c.part).part c in
       let z : c.len ≡ 0 = ltb-zero c.len i in
       let q : length (m.output d.part) ≡ length (m.output c.part) = ap (λ t. length t) x.0 in
       record { onto = onto_idle c d refl z refl; is_asked = ap is_open e; idle = z; mss = f.mss; initial = f.initial; text = record { fits = omega (arith, q, h.fits, x.1); count = omega (arith, h.count, x.1) }; new = λ y. absurd (omega (arith, y, z)) })
 
-  tick_by_tells : (st : State) (c : Connection) (numbers : List ℕ) → c.state ≡ st → Safe c → SafeState c st → (let o : Outcome = tick_by m st c numbers in OutTells c o.connection o.step)
+  tick_by_tells : (st : State) (c : Connection) (numbers : List ℕ) → c.state ≡ st → Safe c → SafeState c st → (let o : Outcome = tick_by m st c numbers in OutReports c o.connection o.step)
   tick_by_tells Closed c numbers e f h = absurd h
   tick_by_tells SynRcvd c numbers e f h = waits_tell c numbers (ap is_live e) f (omega (arith, h.len))
   tick_by_tells Established c numbers e f h = polls_tell c numbers e f h
@@ -507,5 +507,5 @@ module _ (m : AppSpec) (steady : IsSteady m) (Low : ℕ → Type 0) (low_text : 
   tick_by_tells TimeWait c numbers e f h = rests_tell c numbers f
   tick_by_tells LastAck c numbers e f h = waits_tell c numbers (ap is_live e) f (omega (arith, h.len))
 
-  pub tick_tells : (c : Connection) (numbers : List ℕ) → Safe c → (let o : Outcome = on_tick m c numbers in OutTells c o.connection o.step)
+  pub tick_tells : (c : Connection) (numbers : List ℕ) → Safe c → (let o : Outcome = on_tick m c numbers in OutReports c o.connection o.step)
   tick_tells c numbers f = tick_by_tells c.state c numbers refl f f.state

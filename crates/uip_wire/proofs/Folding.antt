@@ -1,5 +1,5 @@
 -- Sums that differ by carries have the same folded value, and sums that differ by one byte have another.
-use Rattle.uip_wire.proofs.Prelude.{◌≡◌, ◌≢◌, ℕ, ◌+◌, ◌-◌, ◌*◌, ◌/◌, ◌%◌, ◌<◌, ◌≤◌, ◌⊎◌, inl, inr, List, [], ◌∷◌, ◌++◌, sym, ap, ◌∙◌, refl, arith, common_steps, checksum_of, folded, word_sum, OneByteTells}
+use Rattle.uip_wire.proofs.Prelude.{◌≡◌, ◌≢◌, ℕ, ◌+◌, ◌-◌, ◌*◌, ◌/◌, ◌%◌, ◌<◌, ◌≤◌, ◌⊎◌, inl, inr, List, [], ◌∷◌, ◌++◌, sym, ap, ◌∙◌, refl, arith, common_steps, checksum_of, folded, word_sum, OneByteDetected}
 
 pub folded_zero : folded 0 ≡ 0
 unfolding folded
@@ -68,7 +68,7 @@ place_sum (a ∷ b ∷ prefix) back =
 same_sum : (a b : List ℕ) → checksum_of a ≡ checksum_of b → folded (word_sum a) ≡ folded (word_sum b)
 same_sum a b e = omega (arith, folded_most (word_sum a), folded_most (word_sum b))
 
-pub one_byte : OneByteTells
+pub one_byte : OneByteDetected
 one_byte prefix back one other p q n e =
     let same = same_sum (prefix ++ one ∷ back) (prefix ++ other ∷ back) e in
     let base : ℕ = word_sum (prefix ++ 0 ∷ back) in

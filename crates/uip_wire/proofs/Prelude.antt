@@ -15,5 +15,5 @@ pub use Rattle.std.specs.Fmt.{decimal}
 pub use Rattle.std.specs.List.{list_all}
 pub use Rattle.std.specs.Prelude.{codes}
 pub use Rattle.std.specs.Str.Parse.{digits_value}
-pub use Rattle.uip_wire.specs.Prelude.{NumeralsPrint, OneByteTells, PartSum, bytes_of, checksum_of, is_numeral, leads_badly, long_bytes, numeral, sum_of, swapped_sum, word_bytes, word_sum, written}
+pub use Rattle.uip_wire.specs.Prelude.{NumeralsPrint, OneByteDetected, PartSum, bytes_of, checksum_of, is_numeral, leads_badly, long_bytes, numeral, sum_of, swapped_sum, word_bytes, word_sum, written}
 unfoldable pub use Rattle.uip_wire.specs.Prelude.{folded, quad_of}

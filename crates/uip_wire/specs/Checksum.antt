@@ -16,6 +16,6 @@ abbrev pub checksum_of : List ℕ → ℕ
 checksum_of bytes = 65535 - folded (word_sum bytes)
 
 -- Two lists of bytes of the same length that differ in exactly one byte have different checksums.
-abbrev pub OneByteTells : Type 0
-OneByteTells = (prefix back : List ℕ) (one other : ℕ) → one < 256 → other < 256 → one ≢ other
+abbrev pub OneByteDetected : Type 0
+OneByteDetected = (prefix back : List ℕ) (one other : ℕ) → one < 256 → other < 256 → one ≢ other
     → checksum_of (prefix ++ one ∷ back) ≢ checksum_of (prefix ++ other ∷ back)

@@ -1,7 +1,7 @@
 //! The checksum of RFC 791, computed eight bytes at a time (RFC 1071, section 2).
 
 ghost use Rattle.std.specs.Prelude.{◌≡◌, ◌+◌, ◌-◌, ◌*◌, ◌%◌, ◌^◌, ◌<◌, ◌≤◌, ◌++◌, ℕ, drop, length};
-ghost use Rattle.uip_wire.specs.Checksum.{OneByteTells, checksum_of, folded, word_sum};
+ghost use Rattle.uip_wire.specs.Checksum.{OneByteDetected, checksum_of, folded, word_sum};
 ghost use Rattle.uip_wire.specs.Sums.{swapped_sum};
 
 use byteorder::{ByteOrder, LittleEndian};
@@ -26,7 +26,7 @@ pub fn checksum_joined(first: &[u8], second: &[u8]) -> u16
 
 /// Two lists of bytes of the same length that differ in exactly one byte have different checksums.
 pub fn one_byte_tells()
-    ensures { OneByteTells }
+    ensures { OneByteDetected }
 {}
 
 /// Returns the one's complement sum of the words. It is that of the words with their bytes exchanged, with its own bytes exchanged, so no

@@ -1,6 +1,6 @@
 -- A run that nothing outside disturbs does what is due for its words.
 -- [add: command] The result of a command that nothing disturbs.
-use Rattle.uipd.proofs.Prelude.{◌≡◌, ℕ, ◌-◌, ◌^◌, ◌<◌, ◌≤◌, List, Option, None, Some, Ok, Err, refl, sym, ap, subst, ◌∙◌, inl, inr, arith, ◌⊎◌, ⊤, File, LoadFault, FailsToOpen, LacksFile, site_read, Due, Ends, SiteEnd, EndsWith, IsLoadText, IsReplayText, LacksEither, WroteDue, ReplayEnd, as_due, LineView, LineUnfailed, Outside, WorkView, WorkUnfailed, line_in, work_in, Converts, TellsLine, SlipEnd, Rose, Files, Item, ServeEnd, CaptureDone, Completes, ImageDone, LacksFor, LineDone, OrShort, ReplayDone, RunIsComplete, ServingDone, no_hits, app_spec_of, output_of, ports_of, TaskRuns, ServeRuns, ServesBy, IsUndisturbed, SiteServes, RunsAs, status_of_fault, status_of_replay, status_of_serving, status_of_site, status_of_slip, Task, Serves, Checks, Pages, Packs, Upgrades, Replays, Loads, Dumps, Captures, PlaysBack, ShowsText, task_of, ServedLine, Status}
+use Rattle.uipd.proofs.Prelude.{◌≡◌, ℕ, ◌-◌, ◌^◌, ◌<◌, ◌≤◌, List, Option, None, Some, Ok, Err, refl, sym, ap, subst, ◌∙◌, inl, inr, arith, ◌⊎◌, ⊤, File, LoadFault, FailsToOpen, LacksFile, site_read, Due, Ends, SiteEnd, EndsWith, IsLoadText, IsReplayText, LacksEither, WroteDue, ReplayEnd, as_due, LineView, LineUnfailed, Outside, WorkView, WorkUnfailed, line_in, work_in, Converts, ReportsLine, SlipEnd, Rose, Files, Item, ServeEnd, CaptureDone, Completes, ImageDone, LacksFor, LineDone, OrShort, ReplayDone, RunIsComplete, ServingDone, no_hits, app_spec_of, output_of, ports_of, TaskRuns, ServeRuns, ServesBy, IsUndisturbed, SiteServes, RunsAs, status_of_fault, status_of_replay, status_of_serving, status_of_site, status_of_slip, Task, Serves, Checks, Pages, Packs, Upgrades, Replays, Loads, Dumps, Captures, PlaysBack, ShowsText, task_of, ServedLine, Status}
 use Rattle.file_tree.specs.declared.load_fault.LoadFault.TheVariants as loads
 use Rattle.site_commands.specs.declared.site_end.SiteEnd.TheVariants as sites
 use Rattle.link_replay.specs.declared.replay_end.ReplayEnd.TheVariants as replays
@@ -17,7 +17,7 @@ calm old new u = record { shelf = u.shelf; sink = u.line.sink }
 
 -- ---- a line
 
-line_done : (text : List Item → List ℕ) (n : ℕ) (old new : LineView) (result : Status) (end : ServeEnd) → LineUnfailed old new → result ≡ status_of_serving end → TellsLine text n old new end → LineDone text n old new result
+line_done : (text : List Item → List ℕ) (n : ℕ) (old new : LineView) (result : Status) (end : ServeEnd) → LineUnfailed old new → result ≡ status_of_serving end → ReportsLine text n old new end → LineDone text n old new result
 line_done text n old new result serves.End u e t = record { taken = t.taken; consumed = t.consumed; written = t.wrote; ends = inl (e, t.ends.0, t.ends.1) }
 line_done text n old new result serves.Budget u e t = record { taken = t.taken; consumed = t.consumed; written = t.wrote; ends = inr (e, t.ends.0) }
 line_done text n old new result serves.LinkFault u e t = absurd (stayed old.link.faults new.link.faults u.link.same u.link.below t.ends.1)

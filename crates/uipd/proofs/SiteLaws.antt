@@ -3,11 +3,11 @@ use Rattle.uipd.proofs.Prelude.{◌≡◌, Option, ap, inl, inr, subst, sym, ◌
 use Rattle.site_commands.proofs.EndLaws.{as_due}
 use Rattle.uipd.specs.declared.status.Status.TheVariants as status
 
-abbrev pub IsTold : (Files → Option Due) → WorkView → Status → Type 0
-IsTold due old result = (result ≡ status.NoMemory) ⊎ ((made : Due) × FindsInFiles due old.shelf.held made × (result ≡ status_of_site (end_of made.fault)))
+abbrev pub IsReported : (Files → Option Due) → WorkView → Status → Type 0
+IsReported due old result = (result ≡ status.NoMemory) ⊎ ((made : Due) × FindsInFiles due old.shelf.held made × (result ≡ status_of_site (end_of made.fault)))
 
 told : (due : Files → Option Due) (old new : WorkView) (end : SiteEnd) → Ends due old new end → WorkUnfailed old new → ¬ (LacksFile due old.shelf.held)
-    → IsTold due old (status_of_site end)
+    → IsReported due old (status_of_site end)
 told due old new end e calm there =
     elim (as_due due old new end e calm there) [
       | inl short ↦ inl (ap status_of_site short)
@@ -15,5 +15,5 @@ told due old new end e calm there =
     ]
 
 pub site_told : (due : Files → Option Due) (old new : WorkView) (result : Status) → RunsAs status_of_site (Ends due old new) result → WorkUnfailed old new → ¬ (LacksFile due old.shelf.held)
-    → IsTold due old result
-site_told due old new result run calm there = subst (IsTold due old) (sym run.1) (told due old new run.0 run.2 calm there)
+    → IsReported due old result
+site_told due old new result run calm there = subst (IsReported due old) (sym run.1) (told due old new run.0 run.2 calm there)

@@ -1,6 +1,6 @@
 -- A run that nothing outside disturbs does what is due for its words, those of `resolve` too.
 -- [add: told-command] The result of a run that nothing disturbs.
-use Rattle.uipd.proofs.Prelude.{◌≡◌, ℕ, List, Option, None, Some, inl, inr, Resolves, Streams, StreamsUnfailed, Outside, ServeEnd, LacksFor, OrShort, Resolving, resolving_of, IsUndisturbed, status_of_serving, ResolvingDone, ToldCompletes, ToldIsComplete, ResolveRuns, ToldBy, questions_of, task_of, Status}
+use Rattle.uipd.proofs.Prelude.{◌≡◌, ℕ, List, Option, None, Some, inl, inr, Resolves, Streams, StreamsUnfailed, Outside, ServeEnd, LacksFor, OrShort, Resolving, resolving_of, IsUndisturbed, status_of_serving, ResolvingDone, ReportCompletes, ReportIsComplete, ResolveRuns, ReportedBy, questions_of, task_of, Status}
 use Rattle.uip_edge.specs.declared.serve_end.ServeEnd.TheVariants as ends
 use Rattle.uipd.proofs.Completing.{run_is_complete, stayed}
 
@@ -22,10 +22,10 @@ resolving r old new result u (inl run) = inr (resolved r old new result run.0 u 
 resolving r old new result u (inr short) = inl short.0
 
 by_words : (r : Option Resolving) (words : List (List ℕ)) (old new : Outside) (before after : Streams) (result : Status)
-    → ToldBy r words old new before after result → IsUndisturbed old new → StreamsUnfailed before after
-    → ¬ (LacksFor (task_of words) old.shelf.held) → ToldCompletes r words old new before after result
+    → ReportedBy r words old new before after result → IsUndisturbed old new → StreamsUnfailed before after
+    → ¬ (LacksFor (task_of words) old.shelf.held) → ReportCompletes r words old new before after result
 by_words None words old new before after result run u s there = run_is_complete words old new result run u there
 by_words (Some r) words old new before after result run u s there = resolving r before after result s run
 
-pub told_is_complete : ToldIsComplete
+pub told_is_complete : ReportIsComplete
 told_is_complete words old new before after result run u s there = by_words (resolving_of words) words old new before after result run u s there

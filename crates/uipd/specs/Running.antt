@@ -2,7 +2,7 @@
 use Rattle.std.specs.Prelude.{◌≡◌, ℕ, List, Option, None, Some}
 use Rattle.site_commands.specs.Prelude.{check_due, page_due, pack_due, upgrade_due, Ends}
 use Rattle.link_replay.specs.Prelude.{LoadEnds, ReplayEnds}
-use Rattle.trace.specs.Prelude.{capture_file, Converts, dump_text, TellsLine}
+use Rattle.trace.specs.Prelude.{capture_file, Converts, dump_text, ReportsLine}
 use Rattle.uipd.specs.declared.status.Status.{Status}
 use Rattle.uipd.specs.declared.status.Status.TheVariants.{BadWords}
 use Rattle.uipd.specs.Help.{Shows}
@@ -30,8 +30,8 @@ TaskRuns (Some (Upgrades site kinds)) old new result = FileWorks status_of_site 
 TaskRuns (Some (Pages site target)) old new result = FileWorks status_of_site (Ends (page_due site target)) old new result
 TaskRuns (Some (Replays site schedule show)) old new result = FileWorks status_of_replay (ReplayEnds site schedule show) old new result
 TaskRuns (Some (Loads site seed clients)) old new result = FileWorks status_of_replay (LoadEnds site seed clients) old new result
-TaskRuns (Some (Dumps n)) old new result = LineWorks status_of_serving (TellsLine dump_text n) old new result
-TaskRuns (Some (Captures n)) old new result = LineWorks status_of_serving (TellsLine capture_file n) old new result
+TaskRuns (Some (Dumps n)) old new result = LineWorks status_of_serving (ReportsLine dump_text n) old new result
+TaskRuns (Some (Captures n)) old new result = LineWorks status_of_serving (ReportsLine capture_file n) old new result
 TaskRuns (Some (PlaysBack n)) old new result = LineWorks status_of_slip (Converts n) old new result
 TaskRuns (Some (ShowsText text)) old new result = Shows text old.sink new.sink result × (new.shelf ≡ old.shelf) × (new.link ≡ old.link)
 

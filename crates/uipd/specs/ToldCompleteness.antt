@@ -22,13 +22,13 @@ pub record ResolvingDone (r : Resolving) (old new : Streams) (result : Status) :
   pub answer : result ≡ status_of_serving end
 
 -- What is due for the words was done.
-abbrev pub ToldCompletes : Option Resolving → List (List ℕ) → Outside → Outside → Streams → Streams → Status → Type 0
-ToldCompletes None words old new before after result = Completes (task_of words) old new result
-ToldCompletes (Some r) words old new before after result = OrShort result (ResolvingDone r before after result)
+abbrev pub ReportCompletes : Option Resolving → List (List ℕ) → Outside → Outside → Streams → Streams → Status → Type 0
+ReportCompletes None words old new before after result = Completes (task_of words) old new result
+ReportCompletes (Some r) words old new before after result = OrShort result (ResolvingDone r before after result)
 
 -- A run is complete for any words: if no fault counter rose and no file is missing, what is due was done.
-abbrev pub ToldIsComplete : Type 0
-ToldIsComplete =
+abbrev pub ReportIsComplete : Type 0
+ReportIsComplete =
     (words : List (List ℕ)) (old new : Outside) (before after : Streams) (result : Status)
     → ToldRuns words old new before after result → IsUndisturbed old new → StreamsUnfailed before after
-    → ¬ (LacksFor (task_of words) old.shelf.held) → ToldCompletes (resolving_of words) words old new before after result
+    → ¬ (LacksFor (task_of words) old.shelf.held) → ReportCompletes (resolving_of words) words old new before after result

@@ -19,9 +19,9 @@ ResolveRuns r old new result =
     RunsAs status_of_serving (Resolves (questions_of r) r.items old new) result ⊎ ((result ≡ NoMemory) × (new ≡ old))
 
 -- The words of `resolve` are carried out here, and all others as `run` does.
-abbrev pub ToldBy : Option Resolving → List (List ℕ) → Outside → Outside → Streams → Streams → Status → Type 0
-ToldBy None words old new before after result = Runs words old new result
-ToldBy (Some r) words old new before after result = ResolveRuns r before after result
+abbrev pub ReportedBy : Option Resolving → List (List ℕ) → Outside → Outside → Streams → Streams → Status → Type 0
+ReportedBy None words old new before after result = Runs words old new result
+ReportedBy (Some r) words old new before after result = ResolveRuns r before after result
 
 abbrev pub ToldRuns : List (List ℕ) → Outside → Outside → Streams → Streams → Status → Type 0
-ToldRuns words old new before after result = ToldBy (resolving_of words) words old new before after result
+ToldRuns words old new before after result = ReportedBy (resolving_of words) words old new before after result

@@ -3,7 +3,7 @@
 ghost use Rattle.std.specs.Prelude.{◌≡◌, None, map, string_bytes};
 ghost use Rattle.udp_resolver.specs.Prelude.{streams};
 ghost use Rattle.uipd.specs.ResolveWords.{resolving_of};
-ghost use Rattle.uipd.specs.ToldCompleteness.{ToldIsComplete};
+ghost use Rattle.uipd.specs.ToldCompleteness.{ReportIsComplete};
 ghost use Rattle.uipd.specs.ToldRunning.{ResolveRuns, ToldRuns};
 ghost use Rattle.uipd.specs.declared.status.Status.TheVariants.{BadWords};
 ghost use Rattle.uip_edge.specs.Prelude.{outside};
@@ -75,5 +75,5 @@ fn resolve_names<L: Link, K: Sink, T: Sink>(
 /// If no fault count rises and no file is missing, what is due for the words was done, those of `resolve` included, or memory
 /// ran out.
 pub fn run_told_is_complete()
-    ensures { ToldIsComplete }
+    ensures { ReportIsComplete }
 {}

@@ -20,8 +20,8 @@ told_so_far method target =
 
 -- The two words determine what a request names, however it is split and whatever follows its method. Exception: the name in its target is
 -- longer than what is kept.
-abbrev pub ToldInPieces : Type 0
-ToldInPieces =
+abbrev pub ReportedInPieces : Type 0
+ReportedInPieces =
     (pieces later : List (List ℕ)) → after_method (concat pieces) ≡ concat later
     → (fold after (fresh SpaceOrLine) later).over ≡ false
     → wanted (concat pieces) ≡ told_so_far (fold after (fresh Space) pieces) (fold after (fresh SpaceOrLine) later)

@@ -2,7 +2,7 @@
 
 ghost use Rattle.web_pages.specs.Prelude.{DecisionStays, KeepsPageLaws, KeepsPageLawsBy, IsAtMostGreatest};
 ghost use Rattle.web_pages.specs.Prelude.{IsAtMostGreatestBy, IsMadeOfBytes, IsMadeOfBytesBy, UpgradeKeepsPages};
-ghost use Rattle.web_pages.specs.Prelude.{ToldInPieces, LongNames, AreWorkedRequests, AreWorkedPages, ConstantValues};
+ghost use Rattle.web_pages.specs.Prelude.{ReportedInPieces, LongNames, AreWorkedRequests, AreWorkedPages, ConstantValues};
 ghost use Rattle.generators.specs.Prelude.{gives};
 
 use generators::Record;
@@ -50,7 +50,7 @@ pub fn decisions_stay()
 /// longer than any file's.
 #[tactic(auto, using(crate::proofs::WordLaws::told_in_pieces, crate::proofs::WordLaws::long_names))]
 pub fn told_by_words()
-    ensures told { ToldInPieces }
+    ensures told { ReportedInPieces }
     ensures long { LongNames }
 {}
 
