@@ -110,10 +110,10 @@ pub(crate) fn desk(value: &Desk) {
 fn shell(value: &Shell) {
     let Shell {
         line: _,
+        capture: record,
         over: _,
         iac: _,
         queue: _,
-        capture: record,
         lost: _,
         done: _,
         at: _,

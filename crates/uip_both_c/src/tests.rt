@@ -275,16 +275,15 @@ fn a_page_is_served(rt: HostRuntime) {
     close(&rt, alloc, device);
 }
 
-/// A SYN is dropped until its port is open. A line is read and answered, once. It counts no hit.
 #[test]
-fn a_line_is_answered(rt: HostRuntime) {
+fn a_line_is_answered_once_its_port_is_open(rt: HostRuntime) {
     let alloc = rt.alloc();
     let mut device = opened(&rt, alloc);
-    let mut line = [b'.'; 8];
     check_datagram(&rt, alloc, &mut device, CONSOLE_SYN, 0);
     assert_eq!(rt; uip_listen(alloc, &mut device, 5025), OK);
     check_datagram(&rt, alloc, &mut device, CONSOLE_SYN, 58);
     check_datagram(&rt, alloc, &mut device, LINE, 54);
+    let mut line = [b'.'; 8];
     assert_eq!(rt;
         uip_read(alloc, &mut device, 0, &mut line),
         received(1, 5025, 4)
