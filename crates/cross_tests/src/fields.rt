@@ -103,21 +103,18 @@ fn capture(value: &Capture) {
 pub(crate) fn desk(value: &Desk) {
     match value {
         Desk::Web(web) => httpd(web),
-        Desk::Shell(session) => shell(session),
+        Desk::Shell(
+            Shell {
+                line: _,
+                over: _,
+                iac: _,
+                queue: _,
+                lost: _,
+                done: _,
+                capture: record,
+                at: _,
+                polls: _,
+            },
+        ) => capture(record),
     }
-}
-
-fn shell(value: &Shell) {
-    let Shell {
-        line: _,
-        capture: record,
-        over: _,
-        iac: _,
-        queue: _,
-        lost: _,
-        done: _,
-        at: _,
-        polls: _,
-    } = value;
-    capture(record);
 }
