@@ -111,7 +111,7 @@ typedef struct uip_app { unsigned is_open; void *at; } uip_app;
 
 /*
  * The heap of one device, in bytes: three blocks, of 1500, 4720 and 592 bytes (ten connections have 4720), each rounded
- * up to a multiple of 16. Measured on x86-64, m4, rv32 and wasm: the same blocks. See THE HEAP of uip.h.
+ * up to a multiple of 16. Measured on x86-64, m4, rv32 and wasm: the same blocks. See HEAP of uip.h.
  */
 #define UIP_APP_MEMORY 6816
 

@@ -90,7 +90,7 @@ extern "C" {
 /*
  * The heap of one device, in bytes, for an image of `files` files (1 or more): the six blocks of uip_open_ether, with
  * 4800 bytes in the place of 1600 and 1288 in the place of 976, each rounded up to a multiple of 16. Measured on
- * x86-64, and the same blocks on every target of ports. See THE HEAP of uip.h. UIP_BOTH_MEMORY(6) is 7,824.
+ * x86-64, and the same blocks on every target of ports. See HEAP of uip.h. UIP_BOTH_MEMORY(6) is 7,824.
  */
 #define UIP_BOTH_MEMORY(files) (UIP_MEMORY_ETHER(files) + 3520)
 
