@@ -5,8 +5,8 @@
  *
  * The library is precompiled, for Cortex-M0, M0+, M4, M7 and M33, RISC-V, aarch64, x86_64 and WebAssembly. Its source
  * is in Rattle (Rust with contracts), and proved. On a Cortex-M4 it takes 24 kB of flash, and 8 to 14 kB of RAM with
- * heap, stack and buffers. It was tested on PCs and on emulated boards (on Ethernet: one PC and one Cortex-M4). It never
- * ran on a real board, under an RTOS, or with data caches.
+ * heap, stack and buffers. It was tested on PCs and on emulated boards (on Ethernet: on x86_64 and a Cortex-M4). It
+ * never ran on a real board, under an RTOS, or with data caches.
  *
  * It has no UDP, IPv6, DHCP, TLS, authentication or POST, and opens no connection. Use it only on a network that you
  * control: its sequence numbers are predictable, and ten SYNs that are never acknowledged occupy it for 51 s.
@@ -188,7 +188,7 @@ typedef char uip_needs_unsigned_of_32_bits[sizeof(unsigned) == 4 ? 1 : -1];
  *        - An inline function is one call. While it runs, only its sink may use the device, as uip_sink states.
  *        - Make no call in an interrupt.
  *        - Under an RTOS let one task make all calls, or hold a mutex over each. A sink runs with the mutex held, and
- *          does not lock it again. Calls are allowed before the scheduler starts: open there, to save stack in the task.
+ *          does not lock it again. Calls are allowed before the scheduler starts: open there, and the task needs less.
  *        - Let each call and each sink return: no longjmp, no exception, no deleted task.
  *
  *   4. POINTERS. Only `to` may be null. Each area can be read over its length: `own`, `mask` and `router` have 4 bytes,
