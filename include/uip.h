@@ -179,8 +179,8 @@ typedef char uip_needs_unsigned_of_32_bits[sizeof(unsigned) == 4 ? 1 : -1];
  * The library cannot check these ten rules. If you break one, the behaviour is undefined. Every other mistake is
  * reported, or harmless to memory. The guide explains each rule in "The ten rules".
  *
- *   1. INIT. Before its first call a device is UIP_INIT, or all 0. If RAM keeps its contents over a reset, the program
- *      sets each device to 0 at the reset, and heap_used and heap_blocks of heap.c too.
+ *   1. INIT. Before its first call a device is UIP_INIT, or all 0. Start-up code that sets .data and .bss at each reset
+ *      does this. Without it, set each device to 0, and heap_used and heap_blocks of heap.c.
  *
  *   2. DEVICE. While a device is open, your program never copies it, nor writes its members.
  *
@@ -207,7 +207,8 @@ typedef char uip_needs_unsigned_of_32_bits[sizeof(unsigned) == 4 ? 1 : -1];
  *
  *   9. STACK. There is room for each call that you make, and for your interrupts. Below its caller a call needs at most
  *      these bytes on Cortex-M, RISC-V and aarch64, computed from the linked code with heap.c. Another heap may need
- *      more in opening and closing. The guide, "Targets", has each target; x86_64 and WebAssembly are not known.
+ *      more in opening and closing. The guide, "Targets", has each target. Those of x86_64 and WebAssembly are not
+ *      known.
  *                                    uip_open    uip_open_ether    uip_close    any other call
  *          libuip_c.a                   2,208                 -        2,832             2,208
  *          libuip_c_ether.a             6,656             5,616        3,568             2,288
@@ -236,8 +237,8 @@ typedef char uip_needs_unsigned_of_32_bits[sizeof(unsigned) == 4 ? 1 : -1];
  *   - Each call lists its statuses in the order in which it looks for them.
  *   - No contents of what arrives cause an error; only its length can. Discard a datagram of 0 bytes or of more than
  *     UIP_MAX_DATAGRAM. The two programs above see only UIP_OK after opening.
- *   - Treat a later status as a failed assertion: record it and reset. Exception: after
- *     UIP_OUTPUT_PENDING call uip_drain until `pending` is 0, and then make the refused call again.
+ *   - Treat a later status as a failed assertion: record it and reset. Exception: after UIP_OUTPUT_PENDING call uip_drain
+ *     until `pending` is 0, and then make the refused call again.
  */
 
 enum uip_status {
@@ -499,8 +500,8 @@ UIP_INLINE unsigned uip_tick_datagrams(uip_device *device, unsigned char *out, s
  * at the other end has an address of the same network, for example 10.0.0.2/24. Your driver does this:
  *   - It passes frames to `mac` and broadcasts. It drops frames that are damaged, or longer than `room`.
  *   - It pads what it sends to 60 bytes, and adds the check sequence. `len` never counts the check sequence.
- *   - It inserts no checksum of IP, ICMP or TCP (on an STM32: CIC 0), as the library has done so. It may check received
- *     ones.
+ *   - It inserts no checksum of IP, ICMP or TCP: the library has done so (on an STM32 set CIC to 0). It may check those
+ *     of received frames.
  *   - DMA: no DMA writes to `frame` during a call. mac_send, as a sink, waits for the end of its DMA, or copies.
  *   - If the link is down, it discards the frame. The library needs no call.
  * The guide, "The Ethernet controller", has rings of buffers, caches, barriers, and sending without waiting.
@@ -577,8 +578,8 @@ uip_number uip_hits(uip_device *device, const void *name, size_t len);
 
 /* Copies the query that the device keeps for a file: "lamp=on" of GET /set.shtml?lamp=on.
  *   name, len    the name of the file as the image has it
- *   out, room    where the text goes, without a 0 at its end; `room` is UIP_MAX_QUERY or more. The bytes
- *                of `out` after the text are not changed
+ *   out, room    where the text goes, without a 0 at its end; `room` is UIP_MAX_QUERY or more. The call does not change
+ *                the bytes of `out` after the text
  * Status: UIP_BAD_ARGUMENT, UIP_NO_DEVICE, UIP_OK.
  *
  * The device keeps one query: the last acceptable one, of whatever file, so ?1764547200000 of a link replaces it too. A
@@ -636,7 +637,8 @@ uip_block rattle_realloc(void *block, size_t kept, size_t len, size_t align);
 void rattle_dealloc(void *block);
 
 /* The heap of one device, in bytes, for an image of `files` files (1 or more), on every target. For several devices add
- * theirs. Add what your allocator needs for each of the six blocks (heap.c: nothing). Do not use these in #if.
+ * theirs. Add what your allocator needs for each of the six blocks (heap.c: nothing). Do not use these in #if. For six
+ * files they are 5,728 and 4,304.
  */
 #define UIP_ROUNDED(len) (((size_t)(len) + 15) / 16 * 16)
 #define UIP_MEMORY(files) \
