@@ -237,8 +237,8 @@ typedef char uip_needs_unsigned_of_32_bits[sizeof(unsigned) == 4 ? 1 : -1];
  *   - Each call lists its statuses in the order in which it looks for them.
  *   - No contents of what arrives cause an error; only its length can. Discard a datagram of 0 bytes or of more than
  *     UIP_MAX_DATAGRAM. The two programs above see only UIP_OK after opening.
- *   - Treat a later status as a failed assertion: record it and reset. Exception: after UIP_OUTPUT_PENDING call uip_drain
- *     until `pending` is 0, and then make the refused call again.
+ *   - Treat a later status as a failed assertion: record it and reset. Exception: after UIP_OUTPUT_PENDING call
+ *     uip_drain until `pending` is 0, and then make the refused call again.
  */
 
 enum uip_status {
