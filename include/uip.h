@@ -4,9 +4,11 @@
  * button, and a form sends a setting. If your program answers TCP connections itself, see uip_app.h and uip_both.h.
  *
  * The library is precompiled, for Cortex-M0, M0+, M4, M7 and M33, RISC-V, aarch64, x86_64 and WebAssembly. Its source
- * is in Rattle (Rust with contracts), and proved. On a Cortex-M4 it takes 24 kB of flash, and 8 to 14 kB of RAM with
- * heap, stack and buffers. It was tested on PCs and on emulated boards (on Ethernet: on x86_64 and a Cortex-M4). It
- * never ran on a real board, under an RTOS, or with data caches.
+ * is in Rattle (Rust with contracts), and proved. It was tested on PCs and on emulated boards (on Ethernet: on x86_64
+ * and a Cortex-M4). It never ran on a real board or under an RTOS.
+ *
+ * On a Cortex-M4 it takes 24 kB of flash (M0+: 29, rv32: 37), and in kB of RAM, with heap and stack: on a serial line 8
+ * with a ring of 512 bytes, or 14 with step.c and a ring of 6,004; on Ethernet 11 and the buffers of the driver.
  *
  * It has no UDP, IPv6, DHCP, TLS, authentication or POST, and opens no connection. Use it only on a network that you
  * control: its sequence numbers are predictable, and ten SYNs that are never acknowledged occupy it for 51 s.
@@ -36,8 +38,8 @@
 extern "C" {
 #endif
 
-/* The version. Compile your program anew for each, as sizes such as UIP_MEMORY may change. UIP_INTERFACE counts by
- * itself: it rises if a program may have to change. To notice that, write #if UIP_INTERFACE != 3 and #error.
+/* The version. Compile your program anew for each one, as sizes such as UIP_MEMORY may change. UIP_INTERFACE is counted
+ * separately: it rises if a program may have to change. To notice that, write #if UIP_INTERFACE != 3 and #error.
  */
 #define UIP_VERSION_MAJOR 1
 #define UIP_VERSION_MINOR 1
@@ -50,7 +52,7 @@ extern "C" {
  *     #include "uip.h"
  *     #include "site.c"             // made by tools/pack.py: site_image[], SITE_IMAGE_LEN and SITE_IMAGE_FILES
  *     #define UIP_HEAP_SIZE UIP_MEMORY(SITE_IMAGE_FILES)
- *     #include "heap.c"             // examples/heap.c, in C11: the heap, with the names area, block_of, heap_..
+ *     #include "heap.c"             // examples/heap.c, in C11; it defines area, block_of, heap_used, heap_blocks
  *
  *     size_t read_serial(unsigned char *bytes, size_t room);    // moves what your interrupt has stored; may return 0
  *     void write_serial(void *to, const unsigned char *bytes, size_t len);    // sends all; it may wait
@@ -93,10 +95,12 @@ extern "C" {
  *         reset();
  *     }
  *
- * ON ETHERNET all of it stays but the heap, which is UIP_MEMORY_ETHER, the two functions of the port, and `main`:
+ * ON ETHERNET write UIP_MEMORY_ETHER in place of UIP_MEMORY. These two functions replace read_serial and write_serial,
+ * and this `main` the other one. All else stays.
  *
  *     size_t mac_receive(unsigned char *frame, size_t room);    // copies a received frame; its length, or 0 if none
- *     void mac_send(void *to, const unsigned char *frame, size_t len);        // pads to 60 bytes and sends; may wait
+ *     void mac_send(void *to, const unsigned char *frame, size_t len);        // pads to 60 bytes, and sends: when it
+ *                                                          // returns, no DMA uses `frame`
  *
  *     int main(void) {
  *         static const unsigned char own[4] = {10, 0, 0, 1}, mac[6] = {2, 0, 0, 0, 0, 1};
@@ -134,16 +138,16 @@ extern "C" {
  *     arm-none-eabi-gcc -mcpu=cortex-m4 -mthumb -mfloat-abi=soft -Os -nostartfiles -Wl,--gc-sections -Iinclude \
  *         -Iexamples -T board.ld startup.c drivers.c main.c ports/out/m4/libuip_c.a -lc -lgcc -o firmware.elf
  *     python3 examples/browse.py --line /dev/ttyUSB0 115200        # at the other end: Linux
- * Other targets: m0 with -mcpu=cortex-m0plus (M0+ and M0), m7, m33, rv32, rv64, aarch64, x86_64. The guide, "Link the
- * library", has their flags, hard float, and a build without a C library.
- * A trial on a PC: sh examples/linux-c/run.sh (with the kit), and then
- * python3 examples/browse.py examples/linux-c/out/uip_serve
+ * Other targets: m0 (M0+ and M0, -mcpu=cortex-m0plus), m7, m33, rv32, rv64. For aarch64 and x86_64 `rt lib` in
+ * crates/uip_c makes crates/uip_c/out/libuip_c.a. The guide, "Link the library", has all flags, hard float, and a build
+ * without a C library. A trial on a PC: sh examples/linux-c/run.sh (with the kit), and then
+ *     python3 examples/browse.py examples/linux-c/out/uip_serve
  *
  *     LINK                  open            what arrives     each half second    library
  *     serial line           uip_open        uip_feed_all     uip_tick_all        libuip_c.a
  *     datagrams (a tunnel)  uip_open        uip_input        uip_tick_datagrams  libuip_c.a
  *     Ethernet              uip_open_ether  uip_input_frame  uip_tick_frames     libuip_c_ether.a, which has all calls
- * On aarch64 and x86_64 libuip_c.a has all calls, and there is no libuip_c_ether.a.
+ * The libuip_c.a of `rt lib` has all calls, too.
  */
 
 /* Refuses big-endian targets, sizes and ABIs that no library has. It does not refuse every processor without a library,
@@ -153,7 +157,7 @@ extern "C" {
 #error "there is no library for big-endian targets"
 #endif
 #if defined(__ARM_PCS_VFP) && !defined(UIP_HARD_FLOAT)
-#error "the library is soft-float: use -mfloat-abi=softfp, or one made for hard float with UIP_HARD_FLOAT (FIRMWARE.md)"
+#error "the library is soft-float: compile with -mfloat-abi=softfp, or see UIP_HARD_FLOAT in FIRMWARE.md"
 #endif
 #if defined(__riscv_float_abi_single) || defined(__riscv_float_abi_double) || defined(__riscv_abi_rve)
 #error "the library has the ABI ilp32 or lp64"
@@ -174,7 +178,8 @@ typedef char uip_needs_unsigned_of_32_bits[sizeof(unsigned) == 4 ? 1 : -1];
  *
  * CONNECTIONS. Each file takes one of the ten connections, and the node closes it. At most one segment is outstanding.
  * A SYN that finds no slot in CLOSED takes the one that was longest in TIME_WAIT. An ESTABLISHED connection is reset
- * after 20 ticks in which nothing is outstanding and nothing arrives.
+ * after 20 ticks in which nothing is outstanding and no data arrives. A segment that is not acknowledged is given up
+ * after 249 ticks, a SYN-ACK after 102. FIN_WAIT_2 and TIME_WAIT end after 120.
  *
  * The library cannot check these ten rules. If you break one, the behaviour is undefined. Every other mistake is
  * reported, or harmless to memory. The guide explains each rule in "The ten rules".
@@ -206,13 +211,12 @@ typedef char uip_needs_unsigned_of_32_bits[sizeof(unsigned) == 4 ? 1 : -1];
  *      and on 32 bits it links libgcc or compiler-rt. Header and library are of one release.
  *
  *   9. STACK. There is room for each call that you make, and for your interrupts. Below its caller a call needs at most
- *      these bytes on Cortex-M, RISC-V and aarch64, computed from the linked code with heap.c. Another heap may need
- *      more in opening and closing. The guide, "Targets", has each target. Those of x86_64 and WebAssembly are not
- *      known.
- *                                    uip_open    uip_open_ether    uip_close    any other call
- *          libuip_c.a                   2,208                 -        2,832             2,208
- *          libuip_c_ether.a             6,656             5,616        3,568             2,288
- *          aarch64, for speed           1,776             2,144           96             1,856
+ *      these bytes, computed from the linked code with heap.c. An inline function adds its own frame. Another heap may
+ *      need more in opening and closing. Those of x86_64 and WebAssembly are not known.
+ *          the greatest of Cortex-M and RISC-V    uip_open    uip_open_ether    uip_close    any other call
+ *          libuip_c.a                                2,208                 -        2,832             2,208
+ *          libuip_c_ether.a                          6,656             5,616        3,568             2,288
+ *      The guide, "Targets", has each target.
  *      A sink runs after the library has returned. Take the greater of its depth and these, not their sum. If the sink
  *      makes a call, its own frame adds to the depth of that call.
  *
@@ -224,9 +228,10 @@ typedef char uip_needs_unsigned_of_32_bits[sizeof(unsigned) == 4 ? 1 : -1];
  *          that is not cached has TEX 1, C 0, B 0 on ARMv7-M: TEX 0, C 0 is Device or Strongly ordered.
  *        - aarch64: all of it is Normal memory. SIMD registers are on, and interrupt handlers save those that they use.
  *
- * No call waits, masks interrupts or needs privilege, and none but opening allocates memory. An inline function waits
- * as long as its sink does. Opening reads the whole image. Every other call handles at most one datagram. No bound of
- * its time is known: a ping of 84 bytes takes 4,716 instructions on a Cortex-M4 (measured).
+ * TIME. No call waits, masks interrupts or needs privilege, and none but opening allocates memory. An inline function
+ * waits as long as its sink does. Opening reads the whole image. Every other call handles at most one datagram. No
+ * bound of its time is known: a ping of 84 bytes takes 4,716 instructions on a Cortex-M4 (measured). Feed a watchdog
+ * before opening, in each pass, and in a sink that waits.
  */
 
 /* ---- RESULTS
@@ -235,10 +240,10 @@ typedef char uip_needs_unsigned_of_32_bits[sizeof(unsigned) == 4 ? 1 : -1];
  *   - If the status is not UIP_OK, the call changed nothing, wrote nothing, called no sink, and the other fields are 0.
  *     Exceptions: uip_opened names a fault, and uip_drain_all has sent `done`.
  *   - Each call lists its statuses in the order in which it looks for them.
- *   - No contents of what arrives cause an error; only its length can. Discard a datagram of 0 bytes or of more than
- *     UIP_MAX_DATAGRAM. The two programs above see only UIP_OK after opening.
- *   - Treat a later status as a failed assertion: record it and reset. Exception: after UIP_OUTPUT_PENDING call
- *     uip_drain until `pending` is 0, and then make the refused call again.
+ *   - No contents of what arrives cause an error. After opening, the two programs above see only UIP_OK. (On a link of
+ *     datagrams discard one of 0 bytes or of more than UIP_MAX_DATAGRAM: its length would be refused.)
+ *   - After opening, treat any other status as a failed assertion: record it and reset. Exception: after
+ *     UIP_OUTPUT_PENDING call uip_drain until `pending` is 0, and then make the refused call again.
  */
 
 enum uip_status {
@@ -268,7 +273,7 @@ enum uip_status {
 /* The counters, by the numbers of uip_counter. Each counts modulo 2^32. */
 enum uip_counter_id {
     UIP_DATAGRAMS_IN = 1,      /* reached IP, later drops included. What Ethernet or ARP drops has no counter */
-    UIP_DATAGRAMS_OUT = 2,
+    UIP_DATAGRAMS_OUT = 2,     /* sent, also again */
     UIP_OVERLONG_FRAMES = 3,   /* SLIP frames of more than 1500 bytes after decoding, dropped */
     UIP_IP_SHORT = 4,          /* dropped by IP, as 5 to 10: shorter than a header */
     UIP_IP_VERSION = 5,        /* another version, or with options */
@@ -282,7 +287,7 @@ enum uip_counter_id {
     UIP_ICMP_DROPPED = 13,     /* too short, or no echo request */
     UIP_ICMP_CHECKSUM = 14,    /* dropped: a wrong checksum */
     UIP_TCP_IN = 15,           /* received, also those that are dropped */
-    UIP_TCP_OUT = 16,
+    UIP_TCP_OUT = 16,          /* sent, also again, resets too */
     UIP_TCP_DROPPED = 17,      /* too short, or a wrong data offset */
     UIP_TCP_CHECKSUM = 18,     /* dropped: a wrong checksum */
     UIP_RETRANSMISSIONS = 19,  /* SYN-ACKs, data and FINs that the timer sent again */
@@ -317,8 +322,8 @@ typedef struct uip_result { unsigned status, pending; size_t consumed, written; 
 typedef struct uip_number { unsigned status; unsigned number; } uip_number;
 
 /* The result of uip_query.
- *   hit    0 if no query of this file is kept. Else what uip_hits was after the request that brought it: another `hit`
- *          is another request, even with the same text
+ *   hit    0 if no query of this file is kept. Else a number that is another one for each query that is kept: what
+ *          uip_hits was after its request
  *   len    the length of the text in bytes; it may be 0
  */
 typedef struct uip_query_text { unsigned status; unsigned hit; size_t len; } uip_query_text;
@@ -327,7 +332,7 @@ typedef struct uip_query_text { unsigned status; unsigned hit; size_t len; } uip
  *   state         an enum uip_state
  *   peer, port    the address, first byte first, and the TCP port of the peer (a number, not in network byte order)
  *   tries         how often the outstanding segment was sent again; 0 if none is outstanding
- *   count         if a segment is outstanding: the ticks left before the one that sends it again or resets the
+ *   count         if a segment is outstanding: the ticks left before the tick that sends it again or resets the
  *                 connection. In FIN_WAIT_2 and TIME_WAIT: the ticks spent there, of 120. Else 0
  *   waiting       1 if a segment is outstanding, else 0
  */
@@ -387,18 +392,18 @@ unsigned uip_close(uip_device *device);
 
 /* ---- SERIAL LINE
  * SLIP (RFC 1055) at any rate, full duplex: 8 data bits, no parity, no XON and XOFF. After an overrun or a framing
- * error feed on: the damaged frame is dropped, and TCP sends it again. A line has two ends: never join two nodes to
+ * error feed on: a damaged frame is dropped, and TCP sends its data again. A line has two ends: never join two nodes to
  * each other, nor put two on one bus, since they can answer each other for ever.
  *
- * While the program writes, let an interrupt or a DMA store what arrives: the longest frame takes 0.26 s at 115,200
- * bits a second. One pass of PROGRAM may write 13 frames, together 36,024 bytes, in 3.1 s. If the store overflows, a
- * frame is lost, and a page comes late.
+ * THE RING. While the program writes, let an interrupt or a DMA store what arrives. PROGRAM may write for 3.1 s in one
+ * pass, at 115,200 bits a second. For a trial 512 bytes do: what overflows is lost, and TCP sends it again. If a
+ * circular DMA can overtake the reader, do not pass its buffer (rule 7): copy up to 64 bytes, and feed the copy.
  *
- * For a product take examples/step.c. Its loop never waits for the port: it sends by DMA or interrupts, and runs `work`
- * meanwhile. If there is nothing to do it sleeps by wfi, with interrupts held back, so that no wake-up is lost.
- *   - Compile it beside main.c. `device`, half_a_second_passed and `work` stay as in PROGRAM. After uip_open `main`
- *     calls serve(), which never returns. The head of step.c lists what you define in place of the rest.
- *   - Take a ring of 8,192 bytes. If 6,004 of them are free when the loop begins to write, nothing is lost.
+ * FOR A PRODUCT take examples/step.c. Its loop never waits for the port, and calls `work` before each frame. If there
+ * is nothing to do, it sleeps by wfi, and loses no wake-up. Compile it beside main.c. `device`, `work` and
+ * half_a_second_passed stay, `main` calls serve() in place of its loop, and step.h declares what else you define.
+ * Take a ring of 6,004 bytes or more: while that much is free, nothing is lost.
+ *
  * The guide, "Connect it to a PC", has other peers than browse.py.
  */
 
@@ -424,7 +429,7 @@ uip_result uip_periodic(uip_device *device, size_t slot, unsigned char *out, siz
  */
 uip_result uip_drain(uip_device *device, unsigned char *out, size_t room);
 
-/* Feeds all bytes, and passes all output to `sink`: at most one frame for each frame that ends in `bytes`.
+/* Feeds all bytes, and passes all output to `sink`: at most one frame for each received one whose end is in `bytes`.
  *   bytes, len    the bytes, cut in any way; if `len` is 0, it does nothing, checks nothing and returns UIP_OK
  *   out, room     an area for the pieces of the output; `room` is UIP_MIN_OUT or more, and more makes longer pieces
  *   sink, to      called with each piece, and with `to`
@@ -498,13 +503,15 @@ UIP_INLINE unsigned uip_tick_datagrams(uip_device *device, unsigned char *out, s
 /* ---- ETHERNET
  * Frames of RFC 894 with ARP (RFC 826), from the destination address on, without preamble and check sequence. The host
  * at the other end has an address of the same network, for example 10.0.0.2/24. Your driver does this:
- *   - It passes frames to `mac` and broadcasts. It drops frames that are damaged, or longer than `room`.
+ *   - It passes frames to `mac` and broadcasts. (The node drops all others, so the filter need not be exact.) It drops
+ *     frames that are damaged, or longer than `room`.
  *   - It pads what it sends to 60 bytes, and adds the check sequence. `len` never counts the check sequence.
- *   - It inserts no checksum of IP, ICMP or TCP: the library has done so (on an STM32 set CIC to 0). It may check those
- *     of received frames.
- *   - DMA: no DMA writes to `frame` during a call. mac_send, as a sink, waits for the end of its DMA, or copies.
+ *   - It inserts no checksum of IP, ICMP or TCP, as the library has done so. (STM32: CIC 0. NXP ENET: TACC 0, and no
+ *     SHIFT16.) It may check those of received frames.
+ *   - No DMA uses `frame` during a call, or when mac_receive and mac_send return: they wait for its end, or copy.
  *   - If the link is down, it discards the frame. The library needs no call.
- * The guide, "The Ethernet controller", has rings of buffers, caches, barriers, and sending without waiting.
+ * The guide, "The Ethernet controller", has rings of buffers and of descriptors, caches, barriers, and sending without
+ * waiting.
  */
 
 /* Receives one frame, and writes the frame to send over it, if there is one.
@@ -526,7 +533,7 @@ uip_result uip_input_frame(uip_device *device, unsigned char *frame, size_t room
 uip_result uip_periodic_frame(uip_device *device, size_t slot, unsigned char *frame, size_t room);
 
 /* Makes one tick, and passes each frame to `sink`, with `to`: at most ten. Area and status: as of uip_periodic_frame.
- * Under a mutex rather call that for each slot, and send without the mutex.
+ * Under a mutex call uip_periodic_frame for each slot instead, and send without the mutex.
  */
 UIP_INLINE unsigned uip_tick_frames(uip_device *device, unsigned char *frame, size_t room, uip_sink sink, void *to) {
     uip_result done = {UIP_OK, 0, 0, 0};
@@ -541,14 +548,20 @@ UIP_INLINE unsigned uip_tick_frames(uip_device *device, unsigned char *frame, si
 /* ---- VALUES
  * These calls may be made on any link, also while output is pending, and in a sink.
  *
- * A file whose name ends in .shtml can show values: "%! value-html 3" shows value 3. This directive reaches to the end
- * of its line, the newline too, and the value replaces all of it. value-html escapes &, <, > and both quotes, and
- * value-json escapes for a string of JSON. `value` escapes nothing: use it only for texts that nobody else influences.
- * / shows /index.html, which is no .shtml and shows no value, but may lead to a page that does.
+ * A file whose name ends in .shtml may contain directives. One reaches from "%!" to the end of its line, the newline
+ * too, and its text replaces all of it. / shows /index.html, which is no .shtml, but may lead to one.
+ *     %! value-html 3      value 3, with &, <, > and both quotes escaped
+ *     %! value-json 3      value 3, escaped for a string of JSON
+ *     %! value 3           value 3 as it is: only for texts that nobody else influences
+ *     %! net-stats         the twenty counters, one a line
+ *     %! ticks             the number of uip_ticks
+ *     %! file-stats /x     the number of uip_hits for /x
+ *     %! tcp-connections   rows of a table, one for each open connection
+ *     %!: /footer.html     that file
  *
  * No reply has a header for caches, so a browser may show a stored copy and request nothing. Give each link to a
  * button or to a page with values, and each form, a query that is new each time, as the site of PROGRAM does. The
- * guide, "Values and clicks", does so without JavaScript. docs/FORMATS.md has the whole server.
+ * guide, "Values and clicks", does so without JavaScript. docs/FORMATS.md specifies server and directives.
  */
 
 /* A string literal as two arguments, without its 0. For anything else pass pointer and length. */
@@ -559,9 +572,9 @@ UIP_INLINE unsigned uip_tick_frames(uip_device *device, unsigned char *frame, si
  *   text, len    any bytes, which are copied; `len` is 0 to UIP_MAX_VALUE
  * Status: UIP_BAD_ARGUMENT (nothing is cut, the old value stays), UIP_NO_DEVICE, UIP_OK.
  *
- * The node reads a value when the peer has acknowledged all before it. So each value of a page costs a round trip, and
- * two of them may be of two moments: make one value of what belongs together. A segment that is sent again has the same
- * bytes, whatever was set since.
+ * The node reads a value when the peer has acknowledged all of the reply before it. So each value of a page costs a
+ * round trip, often 40 to 200 ms, as peers delay acknowledgements. Two values may be of two moments: make one value of
+ * what belongs together. A segment that is sent again has the same bytes, whatever was set since.
  */
 unsigned uip_set_value(uip_device *device, size_t number, const void *text, size_t len);
 
@@ -570,9 +583,9 @@ unsigned uip_set_value(uip_device *device, size_t number, const void *text, size
  * Status: UIP_NO_DEVICE, UIP_OK.
  *
  * A request for / counts for /index.html. A query in the request does not matter. A segment that the browser sends
- * again counts once. But a browser may follow a link by itself, or twice: let it set a state, and not toggle one.
- * Two counts do not show which link came last. For "on" and "off" compare both after each uip_feed, uip_input or
- * uip_input_frame, as step.c does, or in the sink of uip_feed_all.
+ * again counts once. But a reload counts, and a browser may follow a link by itself: let it set a state, and not toggle
+ * one. Two counts do not show which link came last. For "on" and "off" compare both after each uip_feed, uip_input or
+ * uip_input_frame, as `work` of step.c and of the program on Ethernet can, or in the sink of uip_feed_all.
  */
 uip_number uip_hits(uip_device *device, const void *name, size_t len);
 
@@ -582,21 +595,22 @@ uip_number uip_hits(uip_device *device, const void *name, size_t len);
  *                the bytes of `out` after the text
  * Status: UIP_BAD_ARGUMENT, UIP_NO_DEVICE, UIP_OK.
  *
- * The device keeps one query: the last acceptable one, of whatever file, so ?1764547200000 of a link replaces it too. A
- * query is acceptable if it has at most 64 bytes, each a letter, a digit or one of -_.~%&=+, and if the whole target
- * arrives in the first segment with data. Any other request leaves text and `hit` as they were. Nothing is decoded.
- * Anyone who reaches the device can send a query: check it before use. A form sends one to a file of the site:
+ * The device keeps one query: the last acceptable one, of whatever file, so that which a link got from Date.now()
+ * replaces it too. A query is acceptable if it has at most 64 bytes, each a letter, a digit or one of -_.~%&=+, and if
+ * the whole target arrives in the first segment with data. Any other request leaves text and `hit` as they were.
+ * Nothing is decoded: a browser sends most other bytes as %XX. Anyone who reaches the device can send a query: check it
+ * before use. A form sends one to a file of the site. Here 42 bytes are left for the level:
  *     <form action="/set.html" onsubmit="this.n.value = Date.now()"><input name="level"><input type="hidden" name="n">
  *     <button>Set</button></form>
  *
  *     static unsigned last;
  *     unsigned char text[UIP_MAX_QUERY];
  *     uip_query_text got = uip_query(&device, UIP_TEXT("/set.html"), text, sizeof text);
- *     if (got.hit != 0 && got.hit != last) use(text, got.len);    // new: level=21&n=..; `use` is yours
+ *     if (got.hit != 0 && got.hit != last) use(text, got.len);    // new: level=21&n=..
  *     last = got.hit;
- * To miss no query, call this after each uip_feed, uip_input or uip_input_frame, as `work` of step.c can. With
- * uip_feed_all call it in the sink, which has the reply to each request before the next one is handled. If you do, the
- * action may be an .shtml that shows the setting: its values are read later.
+ * To miss no query, call this after each uip_feed, uip_input or uip_input_frame, as `work` of step.c and of the program
+ * on Ethernet can. With uip_feed_all call it in the sink, which has the reply to each request before the next one is
+ * handled. Then the action may also be an .shtml that shows the setting: the node reads its values later.
  */
 uip_query_text uip_query(uip_device *device, const void *name, size_t len, void *out, size_t room);
 
@@ -608,9 +622,9 @@ uip_query_text uip_query(uip_device *device, const void *name, size_t len, void 
 uip_number uip_ticks(uip_device *device);
 
 /* Returns 1 if all connections are CLOSED, else 0. Status: UIP_NO_DEVICE, UIP_OK.
- * If it is 1 and nothing is pending, you may leave out ticks and sleep until something arrives (the guide, "Sleep",
- * also for step.c). It is 0 for 60 s after a page (TIME_WAIT), unless the peer closed first. While it is 0, a sleep
- * delays every timer.
+ * While it is 1 and nothing is pending, a tick sends nothing: leave ticks out, and sleep until something arrives. In
+ * step.c half_a_second_passed returns 0 then, and nothing is pending if dma_is_busy is 0 in wfi. It is 0 for 60 s after
+ * a page (TIME_WAIT), unless the peer closed first. Ticks that you leave out prolong that. See "Sleep" of the guide.
  */
 uip_number uip_is_idle(uip_device *device);
 
