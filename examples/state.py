@@ -7,7 +7,7 @@
 PAGES is the number of pages to fetch, 1000 if none is given. The device sets its values again before each tick, by a rule that is known
 here: the board's level rises and falls with the ticks, and the C program shows the load of this machine. Each value of a page belongs
 to a tick between that of the page's seconds and that of the next page's. After every 50th page the lamp is switched by its link, which
-is requested twice. Then another alarm level is set, by the address that the form of /now.shtml leads to; the page that answers shows it,
+is requested twice. Then another alarm level is set, by an address to which the form of /now.shtml leads; the page that answers shows it,
 and so does each later page. Bad texts follow, which must change nothing. The status is 0 if all is as it should be, else 1.
 """
 import html
@@ -26,7 +26,8 @@ PATIENCE = 10
 LIMITS = [42, 0, 100, 7, 60, 1, 99, 10]    # alarm levels, one after another
 SETS_NOTHING = ["", "?", *("?" + text for text in (
     "limit=", "limit=abc", "limit=5x", "limit=101", "limit=1000", "limit=0005", "limit=4294967301", "limit=-5", "limit=+5", "limit=5.0",
-    "limit=%35", "limit=5&a=6", "a=6&limit=5", "Limit=5", "level=5", "limits=5", "limit5", "5",
+    "limit=%35", "limit=&n=6", "limit=5x&n=6", "limit=101&n=6", "limit=0005&n=6", "n=6&limit=5", "Limit=5", "level=5", "limits=5",
+    "limit5", "5",
     "limit=" + 58 * "5", "limit=" + 59 * "5", 60 * "0" + "limit"))]    # the last two are longer than a device keeps
 
 
@@ -153,7 +154,7 @@ class Visit:
         """Sets the next alarm level by the form, and then requests what sets nothing."""
         self.look()
         self.limit = str(LIMITS[self.settings % len(LIMITS)])
-        self.see_setting(f"?limit={self.limit}")
+        self.see_setting(f"?limit={self.limit}&n={time.time_ns() // 10**6}")
         self.page = Page()    # the page before had the other alarm level
         for query in SETS_NOTHING:
             self.see_setting(query)
@@ -164,7 +165,8 @@ class Visit:
     def see_html(self):
         """In a page of HTML the quotes and the ampersand of the name are character references."""
         body = fetch("/now.shtml")[1].decode()
-        for part in (f"<h1>{html.escape(self.page.name)}</h1>", '<form action="/alarm.shtml">', f' value="{self.limit}"></label>'):
+        form = '<form action="/alarm.shtml" onsubmit="this.n.value = Date.now()">'
+        for part in (f"<h1>{html.escape(self.page.name)}</h1>", form, f' value="{self.limit}"></label>'):
             self.see(part in body, f"the page /now.shtml has no {part}: {body}")
 
 

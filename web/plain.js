@@ -78,9 +78,10 @@ export class PlainFrame {
     const base = new URL(target, "http://node/"), { type, bytes } = await this.#whole(base);
     const page = new DOMParser().parseFromString(htmlOf(type, bytes), "text/html");
     await Promise.all([...page.querySelectorAll(NAMED)].map(it => this.#putIn(it, base)));
-    const script = page.createElement("script");
+    const script = page.createElement("script"), own = page.createElement("base");
     script.textContent = `(${inFrame})();`;
-    page.head.prepend(script);
+    own.href = base.href;   // else a link that a handler changes leads to where this page lies
+    page.head.prepend(own, script);
     this.#refreshLater(page, base);
     this.element.setAttribute("sandbox", "allow-scripts allow-forms");
     this.element.srcdoc = `<!DOCTYPE html>${page.documentElement.outerHTML}`;

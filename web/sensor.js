@@ -5,9 +5,9 @@ const NAME = 0, SECONDS = 1, LEVEL = 2, NOTE = 3, LAMP = 4, LIMIT = 5, ALARM = 6
 
 export const NAMES = ["name", "seconds", "level", "note", "lamp", "limit", "alarm"];
 
-// The alarm level that a query sets, from 0 to 100, or undefined if it sets none.
+// The alarm level that a query sets, from 0 to 100, or undefined if it sets none. After it the query ends or "&" follows.
 function limitIn(query) {
-  const limit = /^limit=(\d{1,3})$/.exec(query)?.[1];
+  const limit = /^limit=(\d{1,3})(&|$)/.exec(query)?.[1];
   return limit <= 100 ? `${+limit}` : undefined;
 }
 

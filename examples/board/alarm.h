@@ -7,19 +7,20 @@
 
 enum { MOST_LIMIT = 100, NO_LIMIT };
 
-// Returns the number of "limit=N", or NO_LIMIT for any other text. N is one to three digits, and at most 100.
+// Returns the number of "limit=N", after which the text ends or "&" follows, or NO_LIMIT for any other text. N is one to three digits, and
+// at most 100.
 static unsigned limit_in(const unsigned char *query, size_t len) {
     static const char field[] = "limit=";
-    size_t at = sizeof field - 1;
+    size_t first = sizeof field - 1, at = first;
     unsigned limit = 0;
-    if (len <= at || len > at + 3) return NO_LIMIT;
-    for (size_t sign = 0; sign < at; sign++)
+    if (len <= first) return NO_LIMIT;
+    for (size_t sign = 0; sign < first; sign++)
         if (query[sign] != field[sign]) return NO_LIMIT;
-    for (; at < len; at++) {
-        if (query[at] < '0' || query[at] > '9') return NO_LIMIT;
+    for (; at < len && query[at] != '&'; at++) {
+        if (query[at] < '0' || query[at] > '9' || at == first + 3) return NO_LIMIT;
         limit = limit * 10 + (query[at] - '0');
     }
-    return limit <= MOST_LIMIT ? limit : NO_LIMIT;
+    return at > first && limit <= MOST_LIMIT ? limit : NO_LIMIT;
 }
 
 // Reads a form that arrived after the last call, and sets `limit` if its text is good. It is for one device.

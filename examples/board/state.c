@@ -100,8 +100,8 @@ int main(void) {
         status = uip_feed_all(&device, came.at, came.len, out, sizeof out, send_piece, 0);
         port_taken(came.len);
         if (status == UIP_OK && limit != limit_shown) status = give_alarm();
-        if (status != UIP_OK || ticks == clock_ticks()) continue;
-        status = give_all(++ticks);
+        if (status != UIP_OK || !tick_is_due(&ticks)) continue;
+        status = give_all(ticks);
         if (status == UIP_OK) status = uip_tick_all(&device, out, sizeof out, port_send, 0);
     }
     return (int)status;

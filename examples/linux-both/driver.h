@@ -7,7 +7,7 @@ size_t mac_receive(unsigned char *frame, size_t room);
 // Sends a frame of `len` bytes: a uip_sink. `to` is not used.
 void mac_send(void *to, const unsigned char *frame, size_t len);
 
-// Whether half a second has passed since this was last true, or since the start.
+// Whether a tick is due: if two are due, it is true twice, and if more are due, after a stall, once.
 int half_a_second_passed(void);
 
 // Waits until a frame has arrived, or half a second has passed. It may return earlier: a firmware may sleep here, or return at once.

@@ -14,7 +14,7 @@
 
 unsigned long received, sent;
 static int tap;
-static double due;    // when half a second will have passed
+static double due;    // when the next tick is due
 static volatile sig_atomic_t is_stopped;    // a signal came
 
 static void stop(int number) {
@@ -76,7 +76,8 @@ void mac_send(void *to, const unsigned char *frame, size_t len) {
 }
 
 int half_a_second_passed(void) {
-    if (seconds_now() < due) return 0;
-    due += 0.5;
+    double now = seconds_now();
+    if (now < due) return 0;
+    due = (now < due + 1 ? due : now) + 0.5;    // three or more are due after a stall: only one is made
     return 1;
 }

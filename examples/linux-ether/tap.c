@@ -93,8 +93,9 @@ int main(int argc, char **argv) {
     double tick = seconds() + 0.5, end = seconds() + atof(argv[3]);
     while (!is_stopped && seconds() < end) {
         receive_until(tick);
-        if (seconds() < tick) continue;
-        tick += 0.5;
+        double now = seconds();
+        if (now < tick) continue;
+        tick = (now < tick + 1 ? tick : now) + 0.5;    // three or more are due after a stall: only one is made
         expect_ok(uip_tick_frames(&device, frame, sizeof frame, send_frame, 0));
     }
     unsigned again = uip_counter(&device, UIP_RETRANSMISSIONS).number;

@@ -98,8 +98,8 @@ test("a form sets the alarm level, and the page that answers shows it; other tex
   try {
     assert.deepEqual(await shown(""), ["80", "42 is not above 80"]);
     for (const [limit, words] of [["41", "42 is above 41"], ["42", "42 is not above 42"], ["100", "42 is not above 100"], ["0", "42 is above 0"]]) {
-      assert.deepEqual(await shown(`?limit=${limit}`), [limit, words]);
-      for (const query of ["", "?", ...["limit=", "limit=abc", "limit=101", "limit=0005", "limit=-5", "limit=%35", "limit=5&a=6", "Limit=5", "5"].map(it => `?${it}`),
+      assert.deepEqual(await shown(`?limit=${limit}&n=1764547200000`), [limit, words]);
+      for (const query of ["", "?", ...["limit=", "limit=abc", "limit=101", "limit=0005", "limit=-5", "limit=%35", "limit=&n=6", "limit=5x&n=6", "n=6&limit=5", "Limit=5", "5"].map(it => `?${it}`),
         `?limit=${"5".repeat(58)}`, `?limit=${"5".repeat(59)}`])
         assert.deepEqual(await shown(query), [limit, words], query);
     }

@@ -220,10 +220,11 @@ inEach("values are sliders and fields, hits are lamps, the last query and the sl
   assert.deepEqual(seen, { name: "A pump", seconds: 61, level: 73, note: "73 of 100", lamp: "on", limit: 70, alarm: "73 is above 70" });
   const lamp = `[...document.querySelectorAll(".lamp")].find(it => it.innerText.includes("/lamp-on.html"))`;
   assert.equal(await tab.run(`return ${lamp}.querySelector("b").innerText`), "0");
-  await tab.run(`frames[0].document.querySelector('a[href="/lamp-on.html"]').click()`);
-  await tab.until(`${lamp}.querySelector("b").innerText === "1"`);
   const query = `document.querySelector("[data-panel=query]").innerText`;
   assert.equal(await tab.run(`return ${query}`), "");
+  await tab.run(`frames[0].document.querySelector('a[href="/lamp-on.html"]').click()`);
+  await tab.until(`${lamp}.querySelector("b").innerText === "1"`);
+  await tab.until(`/^last query: \\/lamp-on\\.html\\?\\d{13}$/.test(${query})`);
   await tab.run(`await node.session.whole("/lamp-off.html?by=7")`);
   await tab.until(`${query} === "last query: /lamp-off.html?by=7"`);
   await tab.run(`self.held = node.session.host.connect()`);
@@ -347,17 +348,21 @@ for (const browser of browsers)
     });
   });
 
-// The page presses its own button, since no test reaches into a frame of no origin.
-const FORM = `<title>a form</title><form action="/set.html?c=9"><input name="a" value="1 &amp;"><button name="b" value="x">Set</button></form>
+// Each page presses its own button or link, since no test reaches into a frame of no origin.
+const FORM = `<title>a form</title><form action="/set.html?c=9" onsubmit="this.n.value = 7"><input name="a" value="1 &amp;">
+<button name="b" value="x">Set</button><input type="hidden" name="n"></form>
 <script>addEventListener("load", () => document.querySelector("button").click())</script>`;
-for (const isApart of [false, true])
-  inEach(`a form sends its query${isApart ? " from the sandbox" : ""}`, {}, async tab => {
-    const files = [["/index.html", FORM], ["/set.html", "<title>it is set</title>"]].map(([name, bytes]) => ({ name, bytes: Buffer.from(bytes) }));
+const LINK = `<title>a link</title><a href="/set.html" onclick="this.search = 7">Set</a>
+<script>addEventListener("load", () => document.querySelector("a").click())</script>`;
+const QUERIES = [["a form sends its query", FORM, "a=1+%26&b=x&n=7"], ["a link sends the query that its handler makes", LINK, "7"]];
+for (const [what, page, query, isApart] of QUERIES.flatMap(it => [[...it, false], [...it, true]]))
+  inEach(`${what}${isApart ? " from the sandbox" : ""}`, {}, async tab => {
+    const files = [["/index.html", page], ["/set.html", "<title>it is set</title>"]].map(([name, bytes]) => ({ name, bytes: Buffer.from(bytes) }));
     const image = Buffer.from(pack(files)).toString("base64");
     if (isApart) await tab.run(`document.getElementById("apart").click()`);
     await tab.run(`await node.openOwn([new File([Uint8Array.from(atob("${image}"), it => it.charCodeAt(0))], "form.img")])`);
-    await tab.until(`document.getElementById("target").value === "/set.html?a=1+%26&b=x"`);
-    assert.deepEqual(await tab.run(`return node.session.device.query("/set.html")`), { text: "a=1+%26&b=x", hit: 1 });
+    await tab.until(`document.getElementById("target").value === "/set.html?${query}"`);
+    assert.deepEqual(await tab.run(`return node.session.device.query("/set.html")`), { text: query, hit: 1 });
     await tab.until(isApart ? `document.getElementById("frame").srcdoc.includes("it is set")` : shows("it is set"));
   });
 

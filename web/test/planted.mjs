@@ -201,6 +201,8 @@ const FAULTS = {
   "sensor.js": [
     [`limit <= 100`, `limit <= 101`, "inside", "a form sets"],
     [`(\\d{1,3})`, `(\\d*)`, "inside", "a form sets"],
+    [`(&|$)`, "", "inside", "a form sets"],
+    [`(&|$)`, "$", "inside", "a form sets"],
     [`level > limit`, `level >= limit`, "inside", "a form sets"],
     [`.slice(0, MOST_BYTES)`, `.padEnd(MOST_BYTES + 1)`, "inside", "a form sets"],
     [`    showAlarm();\n  }\n  function beat`, `  }\n  function beat`, "inside", "a form sets"],
@@ -263,6 +265,7 @@ const FAULTS = {
     [`window.fetch = what =>`, `window.fetched = what =>`, "browser", "the page as one file"],
     [`    ask({ visit: link.getAttribute("href") });`, "", "browser", "the page as one file"],
     [`    this.#refreshLater(page, base);`, "", "page", "Chromium: one file"],
+    [`    own.href = base.href;`, "", "page", "Chromium: a link sends"],
     [`new FormData(form, event.submitter)`, `new FormData(form)`, "page", "Chromium: a form sends"],
     [`.split(/[?#]/)`, `.split(/#/)`, "page", "Chromium: a form sends"],
     [` allow-forms"`, `"`, "page", "Chromium: a form sends"],
