@@ -31,7 +31,7 @@ void reset_step(void);                                    /* between uip_close a
 
 /* You define all that follows. `device`, `work` and half_a_second_passed are those of uip.h. */
 extern uip_device device;                                 /* open when `serve` is called */
-extern volatile unsigned events;                          /* the interrupts of receiver, sender and a 0.5 s timer add 1 */
+extern volatile unsigned events;                          /* receiver, sender and a 0.5 s timer add 1 by interrupt */
 void work(void);                                          /* sets values, reads hits and queries */
 int half_a_second_passed(void);                           /* 1 if a tick is due */
 int dma_is_busy(void);                                    /* 1 while the port sends */
