@@ -7,8 +7,11 @@
  * is in Rattle (Rust with contracts), and proved. It was tested on PCs and on emulated boards (on Ethernet: on x86_64
  * and a Cortex-M4). It never ran on a real board or under an RTOS.
  *
- * On a Cortex-M4 it takes 24 kB of flash (M0+: 29, rv32: 37), and in kB of RAM, with heap and stack: on a serial line 8
- * with a ring of 512 bytes, or 14 with step.c and a ring of 6,004; on Ethernet 11 and the buffers of the driver.
+ * On a Cortex-M4, in bytes       flash without a site    RAM with heap and stack, for six files
+ *     serial line, PROGRAM                     24,221     8,432    with a ring of 512 bytes
+ *     serial line, step.c              about the same    14,096    with a ring of 6,004 bytes
+ *     Ethernet                                 24,029    11,232    without the buffers of the driver
+ * An M7 and an M33 need as much. On an M0+ flash is 29,149, on rv32 37,405.
  *
  * It has no UDP, IPv6, DHCP, TLS, authentication or POST, and opens no connection. Use it only on a network that you
  * control: its sequence numbers are predictable, and ten SYNs that are never acknowledged occupy it for 51 s.
@@ -71,17 +74,21 @@ extern "C" {
  *         return 1;
  *     }
  *
- *     void work(void) {
- *         static unsigned seen;
- *         unsigned hits = uip_hits(&device, UIP_TEXT("/lamp-on.html")).number;
- *         if (hits != seen) lamp(1);                       // a browser requested the file: the link to it is a button
- *         seen = hits;
+ *     void work(void) {                                    // a link to a file is a button: requests are counted
+ *         static unsigned on, off;                         // the counts at the last call
+ *         unsigned now_on = uip_hits(&device, UIP_TEXT("/on.html")).number;
+ *         unsigned now_off = uip_hits(&device, UIP_TEXT("/off.html")).number;
+ *         if (now_on != on) lamp(1);
+ *         if (now_off != off) lamp(0);
+ *         on = now_on;
+ *         off = now_off;
  *         uip_set_value(&device, 3, UIP_TEXT("21.5"));     // what `value-html 3` shows
  *     }
  *
  *     int main(void) {
  *         static const unsigned char own[4] = {10, 0, 0, 1};
  *         static unsigned char bytes[64], out[32];         // small areas will do: frames pass through in pieces
+ *         // start clock and port here
  *         uip_opened opened = uip_open(&device, site_image, SITE_IMAGE_LEN, own);
  *         unsigned status = opened.status;
  *         if (status != UIP_OK) fail(status, opened.entry, opened.word);      // a bad image, or too small a heap
@@ -90,7 +97,7 @@ extern "C" {
  *             status = uip_feed_all(&device, bytes, len, out, sizeof out, write_serial, NULL);
  *             if (status == UIP_OK && half_a_second_passed())
  *                 status = uip_tick_all(&device, out, sizeof out, write_serial, NULL);
- *             work();
+ *             if (status == UIP_OK) work();
  *         }
  *         reset();
  *     }
@@ -98,7 +105,8 @@ extern "C" {
  * ON ETHERNET write UIP_MEMORY_ETHER in place of UIP_MEMORY. These two functions replace read_serial and write_serial,
  * and this `main` the other one. All else stays.
  *
- *     size_t mac_receive(unsigned char *frame, size_t room);    // copies a received frame; its length, or 0 if none
+ *     size_t mac_receive(unsigned char *frame, size_t room);    // copies a received frame; its length, or 0 if none.
+ *                                                          // It may wait for one, up to 20 ms
  *     void mac_send(void *to, const unsigned char *frame, size_t len);        // pads to 60 bytes, and sends: when it
  *                                                          // returns, no DMA uses `frame`
  *
@@ -106,6 +114,7 @@ extern "C" {
  *         static const unsigned char own[4] = {10, 0, 0, 1}, mac[6] = {2, 0, 0, 0, 0, 1};
  *         static const unsigned char mask[4] = {255, 255, 255, 0}, router[4] = {10, 0, 0, 254};
  *         static unsigned char frame[UIP_MAX_FRAME];       // the received frame, and in its place the reply
+ *         // start clock and controller here
  *         uip_opened opened = uip_open_ether(&device, site_image, SITE_IMAGE_LEN, own, mac, mask, router);
  *         unsigned status = opened.status;
  *         if (status != UIP_OK) fail(status, opened.entry, opened.word);
@@ -118,17 +127,19 @@ extern "C" {
  *             }
  *             if (status == UIP_OK && half_a_second_passed())
  *                 status = uip_tick_frames(&device, frame, sizeof frame, mac_send, NULL);
- *             work();
+ *             if (status == UIP_OK) work();
  *         }
  *         reset();
  *     }
  *
- * THE SITE of both is a folder of three files. Each address gets a new query, so that no browser shows a stored copy.
+ * THE SITE of both is a folder of four files. Each address gets a new query, so that no browser shows a stored copy.
  *
  *     index.html      <script>location.replace("/now.shtml?" + Date.now())</script>
  *     now.shtml       <p>Now %! value-html 3
- *                     &deg;C. <a href="/lamp-on.html" onclick="this.search = Date.now()">Lamp on</a>
- *     lamp-on.html    <p>The lamp turns on. <a href="/now.shtml" onclick="this.search = Date.now()">Back</a>
+ *                     &deg;C. Lamp <a href="/on.html" onclick="this.search = Date.now()">on</a>
+ *                     <a href="/off.html" onclick="this.search = Date.now()">off</a>
+ *     on.html         <p>The lamp turns on. <a href="/now.shtml" onclick="this.search = Date.now()">Back</a>
+ *     off.html        <p>The lamp turns off. <a href="/now.shtml" onclick="this.search = Date.now()">Back</a>
  */
 
 /* ---- BUILD
@@ -138,10 +149,14 @@ extern "C" {
  *     arm-none-eabi-gcc -mcpu=cortex-m4 -mthumb -mfloat-abi=soft -Os -nostartfiles -Wl,--gc-sections -Iinclude \
  *         -Iexamples -T board.ld startup.c drivers.c main.c ports/out/m4/libuip_c.a -lc -lgcc -o firmware.elf
  *     python3 examples/browse.py --line /dev/ttyUSB0 115200        # at the other end: Linux
- * Other targets: m0 (M0+ and M0, -mcpu=cortex-m0plus), m7, m33, rv32, rv64. For aarch64 and x86_64 `rt lib` in
- * crates/uip_c makes crates/uip_c/out/libuip_c.a. The guide, "Link the library", has all flags, hard float, and a build
- * without a C library. A trial on a PC: sh examples/linux-c/run.sh (with the kit), and then
- *     python3 examples/browse.py examples/linux-c/out/uip_serve
+ *     m0 (M0+, M0)    m0 and -mcpu=cortex-m0plus in place of m4 and -mcpu=cortex-m4. m7 and m33 likewise
+ *     rv32, rv64      the guide, "Link the library", has the flags
+ *     x86_64          `rt lib` in crates/uip_c makes crates/uip_c/out/libuip_c.a. For aarch64 it takes
+ *                     --target aarch64-unknown-linux-gnu
+ *     an FPU          the Cortex-M libraries use no FPU register, and link with -mfloat-abi=soft and softfp. For hard
+ *                     make one with FLOAT, and define UIP_HARD_FLOAT (the guide)
+ *     a trial on PC   sh examples/linux-c/run.sh (with the kit), and then
+ *                     python3 examples/browse.py examples/linux-c/out/uip_serve
  *
  *     LINK                  open            what arrives     each half second    library
  *     serial line           uip_open        uip_feed_all     uip_tick_all        libuip_c.a
@@ -176,10 +191,11 @@ typedef char uip_needs_unsigned_of_32_bits[sizeof(unsigned) == 4 ? 1 : -1];
  * make both. If more are due, after a stall or a sleep, make one and forget the others: a burst would time out live
  * connections. Without ticks nothing is sent again and nothing times out.
  *
- * CONNECTIONS. Each file takes one of the ten connections, and the node closes it. At most one segment is outstanding.
- * A SYN that finds no slot in CLOSED takes the one that was longest in TIME_WAIT. An ESTABLISHED connection is reset
- * after 20 ticks in which nothing is outstanding and no data arrives. A segment that is not acknowledged is given up
- * after 249 ticks, a SYN-ACK after 102. FIN_WAIT_2 and TIME_WAIT end after 120.
+ * CONNECTIONS. Each file takes one of the ten connections, and the node closes it. Each has at most one segment
+ * outstanding. A SYN that finds no slot in CLOSED takes the one that was longest in TIME_WAIT: so a page that polls
+ * each second is served. An ESTABLISHED connection is reset after 20 ticks in which nothing is outstanding and no data
+ * arrives. A segment that is not acknowledged is given up after 249 ticks, a SYN-ACK after 102. FIN_WAIT_2 and
+ * TIME_WAIT end after 120.
  *
  * The library cannot check these ten rules. If you break one, the behaviour is undefined. Every other mistake is
  * reported, or harmless to memory. The guide explains each rule in "The ten rules".
@@ -190,18 +206,19 @@ typedef char uip_needs_unsigned_of_32_bits[sizeof(unsigned) == 4 ? 1 : -1];
  *   2. DEVICE. While a device is open, your program never copies it, nor writes its members.
  *
  *   3. ONE CALL AT A TIME. Calls with one device never overlap. This holds for calls that only read, too.
- *        - An inline function is one call. While it runs, only its sink may use the device, as uip_sink states.
+ *        - For this rule an inline function is one call. While it runs, only its sink may use the device (uip_sink).
  *        - Make no call in an interrupt.
  *        - Under an RTOS let one task make all calls, or hold a mutex over each. A sink runs with the mutex held, and
- *          does not lock it again. Calls are allowed before the scheduler starts: open there, and the task needs less.
+ *          does not lock it again. Calls are allowed before the scheduler starts: if you open there, and never close,
+ *          the task needs less stack.
  *        - Let each call and each sink return: no longjmp, no exception, no deleted task.
  *
  *   4. POINTERS. Only `to` may be null. Each area can be read over its length: `own`, `mask` and `router` have 4 bytes,
  *      `mac` 6. For a length of 0 pass any valid address. Any alignment will do. On 32 bits a length is below 2^31.
  *
  *   5. OUTPUT. `out` and `frame` can be written over the whole of `room`. They overlap no other argument, and not the
- *      device. Until the call returns, nothing else uses them. Exception: a sink, and a DMA that ends before the sink
- *      returns, may read the piece.
+ *      device. Until the call returns, nothing else uses them. Exception: a sink may, and a DMA that ends before the
+ *      sink returns.
  *
  *   6. IMAGE. It stays at its address, unchanged, until uip_close: the library reads it in place.
  *
@@ -210,13 +227,13 @@ typedef char uip_needs_unsigned_of_32_bits[sizeof(unsigned) == 4 ? 1 : -1];
  *   8. LINK. The program defines the three functions of HEAP. It or its C library supplies memcpy, memmove and memset,
  *      and on 32 bits it links libgcc or compiler-rt. Header and library are of one release.
  *
- *   9. STACK. There is room for each call that you make, and for your interrupts. Below its caller a call needs at most
- *      these bytes, computed from the linked code with heap.c. An inline function adds its own frame. Another heap may
- *      need more in opening and closing. Those of x86_64 and WebAssembly are not known.
- *          the greatest of Cortex-M and RISC-V    uip_open    uip_open_ether    uip_close    any other call
- *          libuip_c.a                                2,208                 -        2,832             2,208
- *          libuip_c_ether.a                          6,656             5,616        3,568             2,288
- *      The guide, "Targets", has each target.
+ *   9. STACK. There is room for each call that you make, and for your interrupts; under an RTOS in each task that makes
+ *      a call. Below its caller a call needs at most these bytes on Cortex-M and RISC-V, computed from the linked code
+ *      with heap.c. The guide, "Targets", has each target. Those of x86_64 and WebAssembly are not known.
+ *          library             uip_open    uip_open_ether    uip_close    any other call
+ *          libuip_c.a             2,208                 -        2,832             2,208
+ *          libuip_c_ether.a       6,656             5,616        3,568             2,288
+ *      An inline function adds its own frame. Another heap may need more in opening and closing.
  *      A sink runs after the library has returned. Take the greater of its depth and these, not their sum. If the sink
  *      makes a call, its own frame adds to the depth of that call.
  *
@@ -224,14 +241,15 @@ typedef char uip_needs_unsigned_of_32_bits[sizeof(unsigned) == 4 ? 1 : -1];
  *        - m0: nothing. x86_64: level v2 (SSE4.2).
  *        - rv32, rv64: sp is set, and gp too if the linker defines __global_pointer$.
  *        - m4, m7, m33: CCR.UNALIGN_TRP is 0, and all memory that the library uses is Normal memory, never Device.
- *          By default that is so below 0xA0000000, outside the peripherals. For SDRAM above that set the MPU. Memory
- *          that is not cached has TEX 1, C 0, B 0 on ARMv7-M: TEX 0, C 0 is Device or Strongly ordered.
+ *          By default that is so below 0xA0000000, outside the peripherals. For SDRAM above that set the MPU. For
+ *          memory that is not cached use TEX 1, C 0, B 0 on ARMv7-M (TEX 0, C 0 is Device or Strongly ordered), and
+ *          attribute 0x44 on ARMv8-M.
  *        - aarch64: all of it is Normal memory. SIMD registers are on, and interrupt handlers save those that they use.
  *
  * TIME. No call waits, masks interrupts or needs privilege, and none but opening allocates memory. An inline function
- * waits as long as its sink does. Opening reads the whole image. Every other call handles at most one datagram. No
- * bound of its time is known: a ping of 84 bytes takes 4,716 instructions on a Cortex-M4 (measured). Feed a watchdog
- * before opening, in each pass, and in a sink that waits.
+ * waits as long as its sink does. Opening reads the whole image. Every other function of the library handles at most
+ * one datagram. No bound of its time is known: a ping of 84 bytes takes 4,716 instructions on a Cortex-M4 (measured).
+ * Feed a watchdog before opening, in each pass, and in a sink that waits.
  */
 
 /* ---- RESULTS
@@ -322,8 +340,8 @@ typedef struct uip_result { unsigned status, pending; size_t consumed, written; 
 typedef struct uip_number { unsigned status; unsigned number; } uip_number;
 
 /* The result of uip_query.
- *   hit    0 if no query of this file is kept. Else a number that is another one for each query that is kept: what
- *          uip_hits was after its request
+ *   hit    0 if no query of this file is kept. Else what uip_hits was after the request that brought it. It
+ *          differs for each request, also if the text is the same
  *   len    the length of the text in bytes; it may be 0
  */
 typedef struct uip_query_text { unsigned status; unsigned hit; size_t len; } uip_query_text;
@@ -332,8 +350,8 @@ typedef struct uip_query_text { unsigned status; unsigned hit; size_t len; } uip
  *   state         an enum uip_state
  *   peer, port    the address, first byte first, and the TCP port of the peer (a number, not in network byte order)
  *   tries         how often the outstanding segment was sent again; 0 if none is outstanding
- *   count         if a segment is outstanding: the ticks left before the tick that sends it again or resets the
- *                 connection. In FIN_WAIT_2 and TIME_WAIT: the ticks spent there, of 120. Else 0
+ *   count         if a segment is outstanding: 0 if the next tick sends it again or resets the connection, 1 if the one
+ *                 after that does, and so on. In FIN_WAIT_2 and TIME_WAIT: the ticks spent there, of 120. Else 0
  *   waiting       1 if a segment is outstanding, else 0
  */
 typedef struct uip_row { unsigned status, state; unsigned char peer[4]; unsigned port, tries, count, waiting; } uip_row;
@@ -343,9 +361,10 @@ typedef struct uip_row { unsigned status, state; unsigned char peer[4]; unsigned
  *   bytes, len    on a serial line a piece of the output, 1 byte or more; on the other links a whole datagram or frame.
  *                 It lies in `out` or `frame`, and is valid until the sink returns
  *
- * It must return. It waits until there is room for the piece, or discards it whole: TCP sends it again. If it starts a
- * DMA, it waits for its end, or copies first. Of the calls with this device it may make uip_set_value, uip_hits,
- * uip_query, uip_ticks, uip_is_idle, uip_counter and uip_connection, and no other.
+ * It must return. It waits until there is room for the piece, or discards it. (On a serial line the frame is then
+ * damaged. TCP sends it again, a ping stays without a reply.) If it starts a DMA, it waits for its end, or copies
+ * first. Of the calls with this device it may make uip_set_value, uip_hits, uip_query, uip_ticks, uip_is_idle,
+ * uip_counter and uip_connection, and no other.
  */
 typedef void (*uip_sink)(void *to, const unsigned char *bytes, size_t len);
 
@@ -365,14 +384,15 @@ typedef void (*uip_sink)(void *to, const unsigned char *bytes, size_t len);
 /* Opens a closed device with a site, at an address, for a serial line or a link of datagrams. Allocates all memory of
  * the device; if it fails, it has freed it. It sends nothing.
  *   image, len    the image of the site (rule 6)
- *   own           the IPv4 address, first byte first: {10, 0, 0, 1}; it is copied and not checked
+ *   own           the IPv4 address, first byte first: {10, 0, 0, 1}; it is copied and not checked. Do not pass 0.0.0.0,
+ *                 127.x.x.x, or 224.0.0.0 and above
  * Status: UIP_HAS_DEVICE; UIP_BAD_IMAGE or UIP_NO_MEMORY, whichever is found first; UIP_OK.
  */
 uip_opened uip_open(uip_device *device, const unsigned char *image, size_t len, const unsigned char own[4]);
 
 /* Opens a closed device on Ethernet, as uip_open does. The addresses are copied and not checked.
  *   image, len, own    as for uip_open
- *   mac                the hardware address, 6 bytes
+ *   mac                the hardware address, 6 bytes, of one station: its first byte is even
  *   mask               the address mask: {255, 255, 255, 0}. An address is on the link if (address & mask) is
  *                      (own & mask); the mask need not be contiguous
  *   router             the address of the router. A frame to an address that is not on the link goes to the router.
@@ -380,31 +400,36 @@ uip_opened uip_open(uip_device *device, const unsigned char *image, size_t len, 
  * Status: as of uip_open.
  *
  * The node learns hardware addresses by ARP and remembers eight. A ninth replaces the one that was learned longest ago.
- * Each is forgotten 2,400 ticks after it was last learned.
+ * Each is forgotten 2,400 ticks after it was last learned. The node does not announce its own address.
  */
 uip_opened uip_open_ether(uip_device *device, const unsigned char *image, size_t len, const unsigned char own[4],
                           const unsigned char mac[6], const unsigned char mask[4], const unsigned char router[4]);
 
-/* Closes the device and frees its memory. Sends nothing: connections, pending output, values and hits are lost. Set to
- * 0 what you remember of hits and `hit`, and call reset_step of step.c. Status: UIP_NO_DEVICE, UIP_OK.
+/* Closes the device and frees its memory. Sends nothing: connections, pending output, values and hits are lost.
+ * Status: UIP_NO_DEVICE, UIP_OK.
+ *
+ * To change the address or the site, close the device, open it again, and set all values again. Set to 0 what you
+ * remember of hits and `hit`. With step.c also call reset_step. Under an RTOS hold the mutex all the while: otherwise
+ * another task gets UIP_NO_DEVICE.
  */
 unsigned uip_close(uip_device *device);
 
-/* ---- SERIAL LINE
- * SLIP (RFC 1055) at any rate, full duplex: 8 data bits, no parity, no XON and XOFF. After an overrun or a framing
- * error feed on: a damaged frame is dropped, and TCP sends its data again. A line has two ends: never join two nodes to
- * each other, nor put two on one bus, since they can answer each other for ever.
+/* ---- SERIAL LINE SLIP (RFC 1055) at any rate, full duplex: 8 data bits, no parity, one stop bit, no XON and XOFF.
+ * After an overrun or a framing error feed on: a damaged frame is dropped, and TCP sends its data again. A line has two
+ * ends: never join two nodes to each other, nor put two on one bus, since they can answer each other for ever. The
+ * guide, "Connect it to a PC", has other peers than browse.py.
  *
  * THE RING. While the program writes, let an interrupt or a DMA store what arrives. PROGRAM may write for 3.1 s in one
  * pass, at 115,200 bits a second. For a trial 512 bytes do: what overflows is lost, and TCP sends it again. If a
  * circular DMA can overtake the reader, do not pass its buffer (rule 7): copy up to 64 bytes, and feed the copy.
  *
- * FOR A PRODUCT take examples/step.c. Its loop never waits for the port, and calls `work` before each frame. If there
- * is nothing to do, it sleeps by wfi, and loses no wake-up. Compile it beside main.c. `device`, `work` and
- * half_a_second_passed stay, `main` calls serve() in place of its loop, and step.h declares what else you define.
- * Take a ring of 6,004 bytes or more: while that much is free, nothing is lost.
- *
- * The guide, "Connect it to a PC", has other peers than browse.py.
+ * BEYOND A TRIAL compile examples/step.c beside your program. Its loop never waits for the port. It calls `work` before
+ * each frame, and sleeps if there is nothing to do. In PROGRAM read_serial, write_serial and the loop go:
+ *     #include "step.h"            // declares what you define: received, discard, dma_is_busy, dma_send, wfi ..
+ *     volatile unsigned events;    // the interrupts of receiver and sender, and of a timer of 0.5 s, add 1
+ *     int main(void) { .. if (status != UIP_OK) fail(..); serve(); }         // serve never returns
+ * dma_send starts a DMA or a transmit interrupt, or waits until all is sent. Two frames, 6,004 bytes, can arrive while
+ * the loop sends two. Add what arrives during your longest `work`. If that much of the ring is free, nothing is lost.
  */
 
 /* Feeds received bytes up to the end of the first complete frame, handles that frame, and writes the reply as SLIP.
@@ -429,7 +454,7 @@ uip_result uip_periodic(uip_device *device, size_t slot, unsigned char *out, siz
  */
 uip_result uip_drain(uip_device *device, unsigned char *out, size_t room);
 
-/* Feeds all bytes, and passes all output to `sink`: at most one frame for each received one whose end is in `bytes`.
+/* Feeds all bytes, and passes all output to `sink`: at most one frame for each frame that ends in `bytes`.
  *   bytes, len    the bytes, cut in any way; if `len` is 0, it does nothing, checks nothing and returns UIP_OK
  *   out, room     an area for the pieces of the output; `room` is UIP_MIN_OUT or more, and more makes longer pieces
  *   sink, to      called with each piece, and with `to`
@@ -461,7 +486,7 @@ UIP_INLINE unsigned uip_tick_all(uip_device *device, unsigned char *out, size_t 
 /* Passes to `sink` the output of a uip_feed or uip_periodic that you have called, and then all that is pending.
  *   done                   the result of that call; if done.consumed is less than the input, feed the rest afterwards
  *   out, room, sink, to    as for uip_feed_all; `out` and `room` are the area of that call
- * Status: done.status if it is not UIP_OK. Else as of uip_drain: if that is refused, the output of `done` was sent.
+ * Status: done.status if it is not UIP_OK. Else that of the last uip_drain. The output of `done` was sent before it.
  */
 UIP_INLINE unsigned uip_drain_all(uip_device *device, uip_result done, unsigned char *out, size_t room, uip_sink sink,
                                   void *to) {
@@ -505,9 +530,11 @@ UIP_INLINE unsigned uip_tick_datagrams(uip_device *device, unsigned char *out, s
  * at the other end has an address of the same network, for example 10.0.0.2/24. Your driver does this:
  *   - It passes frames to `mac` and broadcasts. (The node drops all others, so the filter need not be exact.) It drops
  *     frames that are damaged, or longer than `room`.
- *   - It pads what it sends to 60 bytes, and adds the check sequence. `len` never counts the check sequence.
- *   - It inserts no checksum of IP, ICMP or TCP, as the library has done so. (STM32: CIC 0. NXP ENET: TACC 0, and no
- *     SHIFT16.) It may check those of received frames.
+ *   - The frame begins at the first byte of `frame`, and `len` does not count the check sequence. (SAM GMAC: RXBUFO 0,
+ *     RFCS 1. NXP ENET: RACC.SHIFT16 0.)
+ *   - It pads what it sends to 60 bytes, and adds the check sequence.
+ *   - It inserts no checksum of IP, ICMP or TCP, as the library has done so. (STM32: CIC 0. NXP ENET: TACC 0. SAM GMAC:
+ *     TXCOEN 0.) It may check those of received frames.
  *   - No DMA uses `frame` during a call, or when mac_receive and mac_send return: they wait for its end, or copy.
  *   - If the link is down, it discards the frame. The library needs no call.
  * The guide, "The Ethernet controller", has rings of buffers and of descriptors, caches, barriers, and sending without
@@ -516,7 +543,7 @@ UIP_INLINE unsigned uip_tick_datagrams(uip_device *device, unsigned char *out, s
 
 /* Receives one frame, and writes the frame to send over it, if there is one.
  *   frame, room    a buffer with the received frame at its start; `room` is UIP_MAX_FRAME or more
- *   len            the last argument: the length of the received frame, 0 to `room`. It may be padded
+ *   len            NOTE: after `room`. The length of the received frame, 0 to `room`; it may be padded
  * Result: `consumed` is `len`; `pending` is 0. Status: UIP_BAD_ARGUMENT, UIP_NO_DEVICE, UIP_WRONG_LINK, UIP_OK.
  *
  * If the hardware address of the next hop is not known, the call writes an ARP request in place of the reply. The reply
@@ -549,19 +576,23 @@ UIP_INLINE unsigned uip_tick_frames(uip_device *device, unsigned char *frame, si
  * These calls may be made on any link, also while output is pending, and in a sink.
  *
  * A file whose name ends in .shtml may contain directives. One reaches from "%!" to the end of its line, the newline
- * too, and its text replaces all of it. / shows /index.html, which is no .shtml, but may lead to one.
+ * too, and its text replaces all of it. tools/pack.py warns of words that are lost so.
  *     %! value-html 3      value 3, with &, <, > and both quotes escaped
- *     %! value-json 3      value 3, escaped for a string of JSON
+ *     %! value-json 3      value 3, escaped for a string of JSON, without the quotes around it
  *     %! value 3           value 3 as it is: only for texts that nobody else influences
  *     %! net-stats         the twenty counters, one a line
  *     %! ticks             the number of uip_ticks
  *     %! file-stats /x     the number of uip_hits for /x
  *     %! tcp-connections   rows of a table, one for each open connection
  *     %!: /footer.html     that file
+ * A request of / gets /index.html. It is no .shtml, but may lead to one. A missing file gets status 404. The type of a
+ * file is that of its name, or that which pack.py is given: /v.shtml=application/json makes JSON of a script.
  *
- * No reply has a header for caches, so a browser may show a stored copy and request nothing. Give each link to a
- * button or to a page with values, and each form, a query that is new each time, as the site of PROGRAM does. The
- * guide, "Values and clicks", does so without JavaScript. docs/FORMATS.md specifies server and directives.
+ * CACHES. No reply has a header for caches, so a browser may show a stored copy and request nothing. Give each link to
+ * a button or to a page with values, and each form, a query that is new each time, as the site of PROGRAM does. A
+ * script that polls calls fetch(name, {cache: "no-store"}), and needs none. The guide, "Values and clicks", does
+ * without JavaScript. examples/state is a whole site with buttons, a form, and a script that polls JSON.
+ * docs/FORMATS.md specifies server and directives.
  */
 
 /* A string literal as two arguments, without its 0. For anything else pass pointer and length. */
@@ -573,8 +604,9 @@ UIP_INLINE unsigned uip_tick_frames(uip_device *device, unsigned char *frame, si
  * Status: UIP_BAD_ARGUMENT (nothing is cut, the old value stays), UIP_NO_DEVICE, UIP_OK.
  *
  * The node reads a value when the peer has acknowledged all of the reply before it. So each value of a page costs a
- * round trip, often 40 to 200 ms, as peers delay acknowledgements. Two values may be of two moments: make one value of
- * what belongs together. A segment that is sent again has the same bytes, whatever was set since.
+ * round trip, often 40 to 200 ms, as peers delay acknowledgements. Two values may be of two moments. Make one value of
+ * what belongs together: three measured ones fit into 32 bytes, as 21.5,45.0,1013.2 for a script that splits it. A
+ * segment that is sent again has the same bytes, whatever was set since.
  */
 unsigned uip_set_value(uip_device *device, size_t number, const void *text, size_t len);
 
@@ -584,22 +616,25 @@ unsigned uip_set_value(uip_device *device, size_t number, const void *text, size
  *
  * A request for / counts for /index.html. A query in the request does not matter. A segment that the browser sends
  * again counts once. But a reload counts, and a browser may follow a link by itself: let it set a state, and not toggle
- * one. Two counts do not show which link came last. For "on" and "off" compare both after each uip_feed, uip_input or
- * uip_input_frame, as `work` of step.c and of the program on Ethernet can, or in the sink of uip_feed_all.
+ * one. For an action that must not be repeated take a form (uip_query).
+ *
+ * Two counts do not show which link came last. So compare them after each request, as `work` does in step.c and in the
+ * programs above: 64 bytes have at most one request of a browser. With longer pieces compare them in the sink of
+ * uip_feed_all. The file of a button may be an .shtml that shows the new state: the node reads its values later.
  */
 uip_number uip_hits(uip_device *device, const void *name, size_t len);
 
-/* Copies the query that the device keeps for a file: "lamp=on" of GET /set.shtml?lamp=on.
+/* Copies the kept query, if it was for this file: "lamp=on" of GET /set.html?lamp=on.
  *   name, len    the name of the file as the image has it
  *   out, room    where the text goes, without a 0 at its end; `room` is UIP_MAX_QUERY or more. The call does not change
  *                the bytes of `out` after the text
  * Status: UIP_BAD_ARGUMENT, UIP_NO_DEVICE, UIP_OK.
  *
- * The device keeps one query: the last acceptable one, of whatever file, so that which a link got from Date.now()
- * replaces it too. A query is acceptable if it has at most 64 bytes, each a letter, a digit or one of -_.~%&=+, and if
- * the whole target arrives in the first segment with data. Any other request leaves text and `hit` as they were.
- * Nothing is decoded: a browser sends most other bytes as %XX. Anyone who reaches the device can send a query: check it
- * before use. A form sends one to a file of the site. Here 42 bytes are left for the level:
+ * The device keeps one query in all: the last acceptable one. A query is acceptable if it has at most 64 bytes, each a
+ * letter, a digit or one of -_.~%&=+, and if the whole target arrives in the first segment with data. Any other request
+ * leaves text and `hit` as they were. The query that a link gets from Date.now() replaces that of a form, too. Nothing
+ * is decoded: a browser sends most other bytes as %XX. Anyone who reaches the device can send a query: check it before
+ * use. A form sends its fields in their order to a file of the site. Here 42 bytes are left for the level:
  *     <form action="/set.html" onsubmit="this.n.value = Date.now()"><input name="level"><input type="hidden" name="n">
  *     <button>Set</button></form>
  *
@@ -608,9 +643,12 @@ uip_number uip_hits(uip_device *device, const void *name, size_t len);
  *     uip_query_text got = uip_query(&device, UIP_TEXT("/set.html"), text, sizeof text);
  *     if (got.hit != 0 && got.hit != last) use(text, got.len);    // new: level=21&n=..
  *     last = got.hit;
- * To miss no query, call this after each uip_feed, uip_input or uip_input_frame, as `work` of step.c and of the program
- * on Ethernet can. With uip_feed_all call it in the sink, which has the reply to each request before the next one is
- * handled. Then the action may also be an .shtml that shows the setting: the node reads its values later.
+ * A reload sends the same query again, with another `hit`. For an action that must not be repeated compare the text
+ * with the last one, too: n differs for each press.
+ *
+ * To miss no query, call this after each request, as `work` does in step.c and in the programs above. With longer
+ * pieces call it in the sink of uip_feed_all: the sink has the reply to each request before the next request is
+ * handled. The action may be an .shtml that shows the setting: the node reads its values later.
  */
 uip_query_text uip_query(uip_device *device, const void *name, size_t len, void *out, size_t room);
 
@@ -622,9 +660,10 @@ uip_query_text uip_query(uip_device *device, const void *name, size_t len, void 
 uip_number uip_ticks(uip_device *device);
 
 /* Returns 1 if all connections are CLOSED, else 0. Status: UIP_NO_DEVICE, UIP_OK.
- * While it is 1 and nothing is pending, a tick sends nothing: leave ticks out, and sleep until something arrives. In
- * step.c half_a_second_passed returns 0 then, and nothing is pending if dma_is_busy is 0 in wfi. It is 0 for 60 s after
- * a page (TIME_WAIT), unless the peer closed first. Ticks that you leave out prolong that. See "Sleep" of the guide.
+ *
+ * While the number is 1 and nothing is pending, a tick sends nothing: you may leave out ticks, and sleep until
+ * something arrives. With step.c write half_a_second_passed so that it returns 0 then. After a page the number is 0 for
+ * 60 s (TIME_WAIT), unless the peer closed first. The guide, "Sleep", has more: which clocks you may stop, and when.
  */
 uip_number uip_is_idle(uip_device *device);
 
@@ -651,8 +690,8 @@ uip_block rattle_realloc(void *block, size_t kept, size_t len, size_t align);
 void rattle_dealloc(void *block);
 
 /* The heap of one device, in bytes, for an image of `files` files (1 or more), on every target. For several devices add
- * theirs. Add what your allocator needs for each of the six blocks (heap.c: nothing). Do not use these in #if. For six
- * files they are 5,728 and 4,304.
+ * theirs; heap.c frees its array only when all are closed. Add what your allocator needs for each block (heap.c:
+ * nothing). Do not use these in #if. For six files they are 5,728 and 4,304.
  */
 #define UIP_ROUNDED(len) (((size_t)(len) + 15) / 16 * 16)
 #define UIP_MEMORY(files) \
