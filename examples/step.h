@@ -16,7 +16,7 @@
  *     bytes wait                             uip_feed; during a tick it alternates with uip_periodic
  *     a tick is due or under way             uip_periodic of the next slot
  * So `work` sees each request before the next one is handled. Between two feeds the loop writes at most two frames, in
- * which 2 * UIP_MAX_OUT bytes can arrive. Add what arrives during your longest `work`, and in the gap before each piece.
+ * which 2 * UIP_MAX_OUT bytes can arrive. Add what arrives during your longest `work`, and in the gaps between pieces.
  * If that much of your ring is free at each feed, it never overflows.
  *
  * SPDX-License-Identifier: MIT OR Apache-2.0
