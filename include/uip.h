@@ -3,18 +3,21 @@
  * or on any link that carries IPv4 datagrams. Its pages show values that your program sets. A link of a page is a
  * button, and a form sends a setting. If your program answers TCP connections itself, see uip_app.h and uip_both.h.
  *
- * The library is precompiled, for Cortex-M0, M0+, M4, M7 and M33, RISC-V, aarch64, x86_64 and WebAssembly. Its source
- * is in Rattle (Rust with contracts), and proved. It was tested on PCs and on emulated boards (on Ethernet: on x86_64
- * and a Cortex-M4). It never ran on a real board or under an RTOS.
+ * You link it as a binary, for Cortex-M0, M0+, M4, M7 and M33, rv32imac and rv32imc (ilp32), rv64imac (lp64), aarch64,
+ * x86_64 and WebAssembly. Its source is in Rattle (Rust with contracts). Memory safety and the exact output of each
+ * call are proved of the source; machine code, stack, heap, time and the inline functions are not. It was tested on PCs
+ * and on emulated boards (on Ethernet: on x86_64 and a Cortex-M4). It never ran on a real board or under an RTOS.
  *
  * On a Cortex-M4, in bytes       flash without a site    RAM with heap and stack, for six files
  *     serial line, PROGRAM                     24,221     8,432    with a ring of 512 bytes
- *     serial line, step.c              about the same    14,096    with a ring of 6,004 bytes
+ *     serial line, step.c              about the same    14,168    with a ring of 6,004 bytes
  *     Ethernet                                 24,029    11,232    without the buffers of the driver
- * An M7 and an M33 need as much. On an M0+ flash is 29,149, on rv32 37,405.
+ * Flash includes the driver of our emulated board. An M7 needs up to 480 bytes more of it, an M33 up to 130, an M0+
+ * 6,000, rv32 14,000. Their RAM differs by at most 150 bytes. The guide, "Targets", has all figures.
  *
  * It has no UDP, IPv6, DHCP, TLS, authentication or POST, and opens no connection. Use it only on a network that you
- * control: its sequence numbers are predictable, and ten SYNs that are never acknowledged occupy it for 51 s.
+ * control: its sequence numbers are predictable, and ten SYNs whose SYN-ACKs are never acknowledged
+ * occupy it for 51 s.
  *
  * This header is the reference. docs/FIRMWARE.md, called the guide below, has the figures of each target, and explains
  * DMA, caches, RTOS, sleep, forms and several devices. docs/LIMITS.md lists what the node does not do.
@@ -106,7 +109,7 @@ extern "C" {
  * and this `main` the other one. All else stays.
  *
  *     size_t mac_receive(unsigned char *frame, size_t room);    // copies a received frame; its length, or 0 if none.
- *                                                          // It may wait for one, up to 20 ms
+ *                                                          // It may wait for one, until the next tick is due
  *     void mac_send(void *to, const unsigned char *frame, size_t len);        // pads to 60 bytes, and sends: when it
  *                                                          // returns, no DMA uses `frame`
  *
@@ -132,6 +135,10 @@ extern "C" {
  *         reset();
  *     }
  *
+ * UNDER AN RTOS open in `main`, before the scheduler starts. One task receives, makes the ticks and sends. It holds a
+ * mutex over each uip_input_frame and uip_periodic_frame (or uip_feed, uip_drain and uip_periodic), and sends without
+ * it. Another task holds the mutex over its uip_set_value. Or it makes no call, and passes its values by a queue.
+ *
  * THE SITE of both is a folder of four files. Each address gets a new query, so that no browser shows a stored copy.
  *
  *     index.html      <script>location.replace("/now.shtml?" + Date.now())</script>
@@ -148,9 +155,12 @@ extern "C" {
  *     python3 tools/pack.py FOLDER site.c
  *     arm-none-eabi-gcc -mcpu=cortex-m4 -mthumb -mfloat-abi=soft -Os -nostartfiles -Wl,--gc-sections -Iinclude \
  *         -Iexamples -T board.ld startup.c drivers.c main.c ports/out/m4/libuip_c.a -lc -lgcc -o firmware.elf
- *     python3 examples/browse.py --line /dev/ttyUSB0 115200        # at the other end: Linux
+ *     # on Ethernet link libuip_c_ether.a in its place
+ *     python3 examples/browse.py --line /dev/ttyUSB0 115200     # at the other end: Linux, which is 10.0.0.2
  *     m0 (M0+, M0)    m0 and -mcpu=cortex-m0plus in place of m4 and -mcpu=cortex-m4. m7 and m33 likewise
- *     rv32, rv64      the guide, "Link the library", has the flags
+ *     rv32            riscv64-unknown-elf-gcc -march=rv32imac_zicsr -mabi=ilp32, and rv32 in place of m4
+ *     rv64            riscv64-unknown-elf-gcc -march=rv64imac_zicsr -mabi=lp64 -mcmodel=medany, and rv64
+ *     no C library    examples/board/runtime.c, and -ffreestanding -nostdlib in place of -lc
  *     x86_64          `rt lib` in crates/uip_c makes crates/uip_c/out/libuip_c.a. For aarch64 it takes
  *                     --target aarch64-unknown-linux-gnu
  *     an FPU          the Cortex-M libraries use no FPU register, and link with -mfloat-abi=soft and softfp. For hard
@@ -227,9 +237,11 @@ typedef char uip_needs_unsigned_of_32_bits[sizeof(unsigned) == 4 ? 1 : -1];
  *   8. LINK. The program defines the three functions of HEAP. It or its C library supplies memcpy, memmove and memset,
  *      and on 32 bits it links libgcc or compiler-rt. Header and library are of one release.
  *
- *   9. STACK. There is room for each call that you make, and for your interrupts; under an RTOS in each task that makes
- *      a call. Below its caller a call needs at most these bytes on Cortex-M and RISC-V, computed from the linked code
- *      with heap.c. The guide, "Targets", has each target. Those of x86_64 and WebAssembly are not known.
+ *   9. STACK. There is room for each call that you make, under an RTOS in each task that makes one. (Add your
+ *      functions, the context, and interrupts where they use this stack: under FreeRTOS on a Cortex-M they use the main
+ *      one, as `main` does for opening.) Below its caller a call needs at most these bytes on Cortex-M and RISC-V,
+ *      computed from the linked code with heap.c. The guide, "Targets", has each target. Those of x86_64 and
+ *      WebAssembly are not known.
  *          library             uip_open    uip_open_ether    uip_close    any other call
  *          libuip_c.a             2,208                 -        2,832             2,208
  *          libuip_c_ether.a       6,656             5,616        3,568             2,288
@@ -256,7 +268,7 @@ typedef char uip_needs_unsigned_of_32_bits[sizeof(unsigned) == 4 ? 1 : -1];
  * uip_set_value, uip_close and the inline functions return a status. Every other call returns a struct by value with a
  * status in it: uip_number n = uip_is_idle(&device); if (n.status == UIP_OK && n.number) ..
  *   - If the status is not UIP_OK, the call changed nothing, wrote nothing, called no sink, and the other fields are 0.
- *     Exceptions: uip_opened names a fault, and uip_drain_all has sent `done`.
+ *     Exceptions: uip_opened names a fault, and uip_drain_all sends the output of the call before it.
  *   - Each call lists its statuses in the order in which it looks for them.
  *   - No contents of what arrives cause an error. After opening, the two programs above see only UIP_OK. (On a link of
  *     datagrams discard one of 0 bytes or of more than UIP_MAX_DATAGRAM: its length would be refused.)
@@ -277,7 +289,10 @@ enum uip_status {
     UIP_WRONG_LINK = 7         /* the device is on Ethernet and the call is for another link, or the other way round */
 };
 
-/* ---- CONSTANTS: sizes and counts. Nothing can be configured. */
+/* ---- CONSTANTS
+ * Nothing can be configured. A site has at most 1,024 files and 16,777,216 bytes, a name 64 bytes. MSS and window are
+ * 1460.
+ */
 #define UIP_MAX_OUT 3002        /* bytes of the longest frame as SLIP encodes it: with this room none is ever pending */
 #define UIP_MIN_OUT 2           /* the least room of a call for a serial line, in bytes */
 #define UIP_MAX_DATAGRAM 1500   /* bytes of the longest datagram, and the least room of a call for datagrams */
@@ -318,7 +333,9 @@ enum uip_state {
     UIP_CLOSING = 6, UIP_TIME_WAIT = 7, UIP_LAST_ACK = 8
 };
 
-/* ---- TYPES. A device: its members are private, so do not read them either. */
+/* ---- TYPES */
+
+/* A device. Its members are private. */
 typedef struct uip_device { unsigned is_open; void *at; } uip_device;
 #define UIP_INIT {0, NULL}
 
@@ -414,22 +431,22 @@ uip_opened uip_open_ether(uip_device *device, const unsigned char *image, size_t
  */
 unsigned uip_close(uip_device *device);
 
-/* ---- SERIAL LINE SLIP (RFC 1055) at any rate, full duplex: 8 data bits, no parity, one stop bit, no XON and XOFF.
- * After an overrun or a framing error feed on: a damaged frame is dropped, and TCP sends its data again. A line has two
- * ends: never join two nodes to each other, nor put two on one bus, since they can answer each other for ever. The
- * guide, "Connect it to a PC", has other peers than browse.py.
+/* ---- SERIAL LINE
+ * SLIP (RFC 1055) at any rate, full duplex: 8 data bits, no parity, one stop bit, no XON and XOFF. After an overrun or
+ * a framing error feed on: a damaged frame is dropped, and TCP sends its data again. A line has two ends: never join
+ * two nodes to each other, nor put two on one bus, since they can answer each other for ever. The guide, "Connect it to
+ * a PC", has other peers than browse.py.
  *
  * THE RING. While the program writes, let an interrupt or a DMA store what arrives. PROGRAM may write for 3.1 s in one
- * pass, at 115,200 bits a second. For a trial 512 bytes do: what overflows is lost, and TCP sends it again. If a
- * circular DMA can overtake the reader, do not pass its buffer (rule 7): copy up to 64 bytes, and feed the copy.
+ * pass, at 115,200 bits a second. For a trial 512 bytes do: what overflows is lost, and TCP sends it again.
  *
- * BEYOND A TRIAL compile examples/step.c beside your program. Its loop never waits for the port. It calls `work` before
- * each frame, and sleeps if there is nothing to do. In PROGRAM read_serial, write_serial and the loop go:
- *     #include "step.h"            // declares what you define: received, discard, dma_is_busy, dma_send, wfi ..
- *     volatile unsigned events;    // the interrupts of receiver and sender, and of a timer of 0.5 s, add 1
- *     int main(void) { .. if (status != UIP_OK) fail(..); serve(); }         // serve never returns
- * dma_send starts a DMA or a transmit interrupt, or waits until all is sent. Two frames, 6,004 bytes, can arrive while
- * the loop sends two. Add what arrives during your longest `work`. If that much of the ring is free, nothing is lost.
+ * BEYOND A TRIAL compile examples/step.c beside your program, and include step.h. `serve` replaces the loop of PROGRAM,
+ * and dma_send replaces write_serial. All else stays:
+ *     if (status == UIP_OK) serve();               // returns only if a call failed
+ * It never waits for the port. In each pass it calls `work` and makes at most one call of the library, and it sleeps if
+ * there is nothing to do. So keep `work` short. step.h states what you define besides: dma_send (DMA, interrupts, or
+ * polled), dma_is_busy, interrupts_off, interrupts_on, wfi and `events`, and which ring never overflows: 8,192 bytes
+ * suit most.
  */
 
 /* Feeds received bytes up to the end of the first complete frame, handles that frame, and writes the reply as SLIP.
@@ -486,7 +503,7 @@ UIP_INLINE unsigned uip_tick_all(uip_device *device, unsigned char *out, size_t 
 /* Passes to `sink` the output of a uip_feed or uip_periodic that you have called, and then all that is pending.
  *   done                   the result of that call; if done.consumed is less than the input, feed the rest afterwards
  *   out, room, sink, to    as for uip_feed_all; `out` and `room` are the area of that call
- * Status: done.status if it is not UIP_OK. Else that of the last uip_drain. The output of `done` was sent before it.
+ * Status: done.status if it is not UIP_OK; then nothing is sent. Else UIP_OK, or that of a uip_drain that is refused.
  */
 UIP_INLINE unsigned uip_drain_all(uip_device *device, uip_result done, unsigned char *out, size_t room, uip_sink sink,
                                   void *to) {
@@ -530,13 +547,15 @@ UIP_INLINE unsigned uip_tick_datagrams(uip_device *device, unsigned char *out, s
  * at the other end has an address of the same network, for example 10.0.0.2/24. Your driver does this:
  *   - It passes frames to `mac` and broadcasts. (The node drops all others, so the filter need not be exact.) It drops
  *     frames that are damaged, or longer than `room`.
- *   - The frame begins at the first byte of `frame`, and `len` does not count the check sequence. (SAM GMAC: RXBUFO 0,
- *     RFCS 1. NXP ENET: RACC.SHIFT16 0.)
+ *   - The frame begins at the first byte of `frame`, and `len` does not count the check sequence. (STM32: FL of
+ *     the descriptor counts it, unless CSTF strips it. SAM GMAC: RXBUFO 0, RFCS 1. NXP ENET: RACC.SHIFT16 0.)
  *   - It pads what it sends to 60 bytes, and adds the check sequence.
  *   - It inserts no checksum of IP, ICMP or TCP, as the library has done so. (STM32: CIC 0. NXP ENET: TACC 0. SAM GMAC:
  *     TXCOEN 0.) It may check those of received frames.
  *   - No DMA uses `frame` during a call, or when mac_receive and mac_send return: they wait for its end, or copy.
  *   - If the link is down, it discards the frame. The library needs no call.
+ *   - It has any number of buffers. What finds none free is lost, and TCP sends it again. A tick sends up to ten
+ *     frames.
  * The guide, "The Ethernet controller", has rings of buffers and of descriptors, caches, barriers, and sending without
  * waiting.
  */
@@ -580,18 +599,21 @@ UIP_INLINE unsigned uip_tick_frames(uip_device *device, unsigned char *frame, si
  *     %! value-html 3      value 3, with &, <, > and both quotes escaped
  *     %! value-json 3      value 3, escaped for a string of JSON, without the quotes around it
  *     %! value 3           value 3 as it is: only for texts that nobody else influences
- *     %! net-stats         the twenty counters, one a line
- *     %! ticks             the number of uip_ticks
- *     %! file-stats /x     the number of uip_hits for /x
- *     %! tcp-connections   rows of a table, one for each open connection
- *     %!: /footer.html     that file
- * A request of / gets /index.html. It is no .shtml, but may lead to one. A missing file gets status 404. The type of a
- * file is that of its name, or that which pack.py is given: /v.shtml=application/json makes JSON of a script.
+ *     %! net-stats         the counters 1 to 20, each right-aligned in 10 places and on a line: put it into <pre>
+ *     %! ticks             the number of uip_ticks, in 10 places
+ *     %! file-stats /x     the number of uip_hits for /x, in 10 places
+ *     %! tcp-connections   a <tr> for each connection that is not CLOSED, with a <td> for slot, peer, state, tries,
+ *                          count, and * if it waits; you write the <table>
+ *     %!: /footer.html     the bytes of that file, whose directives are not executed
+ * A request of / gets /index.html. It is no .shtml, but may lead to one. A missing file gets status 404. Content types
+ * are known for .html, .shtml, .txt, .css, .png, .gif and .jpg; others are application/octet-stream. A script may be
+ * JSON: {"t": "%! value-json 3 and, in the next line, "} in a file v.shtml that is packed with
+ *     python3 tools/pack.py FOLDER site.c /v.shtml=application/json
  *
  * CACHES. No reply has a header for caches, so a browser may show a stored copy and request nothing. Give each link to
  * a button or to a page with values, and each form, a query that is new each time, as the site of PROGRAM does. A
- * script that polls calls fetch(name, {cache: "no-store"}), and needs none. The guide, "Values and clicks", does
- * without JavaScript. examples/state is a whole site with buttons, a form, and a script that polls JSON.
+ * script that polls, or is a button, calls fetch(name, {cache: "no-store"}), and needs none. The guide, "Values and
+ * clicks", does without JavaScript. examples/state is a whole site with buttons, a form, and a script that polls JSON.
  * docs/FORMATS.md specifies server and directives.
  */
 
@@ -603,11 +625,12 @@ UIP_INLINE unsigned uip_tick_frames(uip_device *device, unsigned char *frame, si
  *   text, len    any bytes, which are copied; `len` is 0 to UIP_MAX_VALUE
  * Status: UIP_BAD_ARGUMENT (nothing is cut, the old value stays), UIP_NO_DEVICE, UIP_OK.
  *
- * The node reads a value when the peer has acknowledged all of the reply before it. So each value of a page costs a
- * round trip, often 40 to 200 ms, as peers delay acknowledgements. Two values may be of two moments. Make one value of
- * what belongs together: three measured ones fit into 32 bytes, as 21.5,45.0,1013.2 for a script that splits it. A
- * segment that is sent again has the same bytes, whatever was set since.
- */
+ * The node ends a segment before each value, and reads the value when that segment is acknowledged. So each value costs
+ * a round trip, often 40 to 200 ms, as peers delay acknowledgements; so does any other directive but an include. Two
+ * values may be of two moments. Make one value of what belongs together: three measured ones fit into 32 bytes, as
+ * 21.5,45.0,1013.2 for a script that splits it. A segment that is sent again has the same bytes, whatever was set
+ * since.
+*/
 unsigned uip_set_value(uip_device *device, size_t number, const void *text, size_t len);
 
 /* Returns how often a file was requested since the device was opened, modulo 2^32; 0 if no file has that name.
@@ -618,38 +641,41 @@ unsigned uip_set_value(uip_device *device, size_t number, const void *text, size
  * again counts once. But a reload counts, and a browser may follow a link by itself: let it set a state, and not toggle
  * one. For an action that must not be repeated take a form (uip_query).
  *
- * Two counts do not show which link came last. So compare them after each request, as `work` does in step.c and in the
- * programs above: 64 bytes have at most one request of a browser. With longer pieces compare them in the sink of
- * uip_feed_all. The file of a button may be an .shtml that shows the new state: the node reads its values later.
+ * Two counts do not show which link came last. So compare them after each request. A frame has at most one, and so have
+ * 64 bytes from a browser: so `work` of the programs above sees each, also under step.c. With longer pieces compare
+ * them in the sink of uip_feed_all. The file of a button may be an .shtml that shows the new state: the node reads its
+ * values later.
  */
 uip_number uip_hits(uip_device *device, const void *name, size_t len);
 
-/* Copies the kept query, if it was for this file: "lamp=on" of GET /set.html?lamp=on.
+/* Copies the kept query, if it was for this file: "lamp=on" of GET /set.html?lamp=on. Else `hit` is 0.
  *   name, len    the name of the file as the image has it
  *   out, room    where the text goes, without a 0 at its end; `room` is UIP_MAX_QUERY or more. The call does not change
  *                the bytes of `out` after the text
  * Status: UIP_BAD_ARGUMENT, UIP_NO_DEVICE, UIP_OK.
  *
- * The device keeps one query in all: the last acceptable one. A query is acceptable if it has at most 64 bytes, each a
- * letter, a digit or one of -_.~%&=+, and if the whole target arrives in the first segment with data. Any other request
- * leaves text and `hit` as they were. The query that a link gets from Date.now() replaces that of a form, too. Nothing
- * is decoded: a browser sends most other bytes as %XX. Anyone who reaches the device can send a query: check it before
- * use. A form sends its fields in their order to a file of the site. Here 42 bytes are left for the level:
+ * The device keeps one query in all: the last acceptable one. A query is acceptable if a file has the name, if it has
+ * at most 64 bytes, each a letter, a digit or one of -_.~%&=+, and if the whole target arrives in the first segment
+ * with data. Any other request leaves text and `hit` as they were. The query that a link gets from Date.now() replaces
+ * that of a form, too. Nothing is decoded: a browser sends most other bytes as %XX. Anyone who reaches the device can
+ * send a query: check it before use. A form sends its fields in their order to a file of the site. Here 42 bytes are
+ * left for the level:
  *     <form action="/set.html" onsubmit="this.n.value = Date.now()"><input name="level"><input type="hidden" name="n">
  *     <button>Set</button></form>
  *
  *     static unsigned last;
  *     unsigned char text[UIP_MAX_QUERY];
  *     uip_query_text got = uip_query(&device, UIP_TEXT("/set.html"), text, sizeof text);
- *     if (got.hit != 0 && got.hit != last) use(text, got.len);    // new: level=21&n=..
+ *     if (got.hit != 0 && got.hit != last) use(text, got.len);        // new: level=21&n=..; alarm.h reads such
  *     last = got.hit;
- * A reload sends the same query again, with another `hit`. For an action that must not be repeated compare the text
- * with the last one, too: n differs for each press.
+ * A reload sends the same query again, with another `hit`. So the form of an action that must happen once has a token,
+ * in an .shtml file: <input type="hidden" name="n" value="%! value-html 5 and, in the next line, ">. Act only if the
+ * text is n= and value 5, and set another token at once: the guide, "Settings from a browser", has one.
  *
- * To miss no query, call this after each request, as `work` does in step.c and in the programs above. With longer
- * pieces call it in the sink of uip_feed_all: the sink has the reply to each request before the next request is
- * handled. The action may be an .shtml that shows the setting: the node reads its values later.
- */
+ * To miss no query, call this after each request, as `work` can (uip_hits). With longer pieces call it in the sink of
+ * uip_feed_all: the sink has the reply to each request before the next request is handled. The action may be an .shtml
+ * that shows the setting: the node reads its values later.
+*/
 uip_query_text uip_query(uip_device *device, const void *name, size_t len, void *out, size_t room);
 
 /* ---- STATE
@@ -662,8 +688,9 @@ uip_number uip_ticks(uip_device *device);
 /* Returns 1 if all connections are CLOSED, else 0. Status: UIP_NO_DEVICE, UIP_OK.
  *
  * While the number is 1 and nothing is pending, a tick sends nothing: you may leave out ticks, and sleep until
- * something arrives. With step.c write half_a_second_passed so that it returns 0 then. After a page the number is 0 for
- * 60 s (TIME_WAIT), unless the peer closed first. The guide, "Sleep", has more: which clocks you may stop, and when.
+ * something arrives. With step.c let half_a_second_passed return 0 then; in wfi nothing is pending if dma_is_busy
+ * returns 0. After a page the number is 0 for 60 s (TIME_WAIT), unless the peer closed first. A watchdog needs a timer
+ * that ends the sleep. The guide, "Sleep", has more: what you may stop, and when.
  */
 uip_number uip_is_idle(uip_device *device);
 
@@ -680,7 +707,7 @@ uip_row uip_connection(uip_device *device, size_t slot);
  *   rattle_alloc      returns a block of `len` bytes, or of `align` bytes if `len` is 0, at a multiple of `align` (1,
  *                     2, 4 or 8), with `ok` 1. It need not be zeroed. If there is no room, `ok` is 0, and `block` any
  *                     address BUT NULL, for example of a static byte: a null block is undefined behaviour
- *   rattle_realloc    returns `ok` 0 and any address but null. The linker needs it; nothing calls it
+ *   rattle_realloc    the linker needs it, and nothing calls it. It may return `ok` 0 and any address but null
  *   rattle_dealloc    frees a block
  * Blocks overlap nothing else in use, and the functions call nothing of the library.
  */

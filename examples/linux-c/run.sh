@@ -42,6 +42,7 @@ compiles "$cc" c c90 gnu90 c99 c11 c17
 build() { "$cc" -O2 -Wall -Wextra -I"$top/include" $4 "$here/$1.c" "$2" "$library" -o "$here/out/$3" || fail "$3 was not built"; }
 build serve "$here/heap.c" uip_serve
 build state "$here/heap.c" uip_state
+build step "$here/heap.c" uip_step "$top/examples/step.c"
 build each_call "$here/heap.c" uip_each_call
 build each_call "$top/examples/heap.c" uip_each_call_array "-DUIP_HEAP_SIZE=UIP_MEMORY(1)"
 "$here/out/uip_each_call" || fail "a call has an unexpected result"
@@ -79,6 +80,13 @@ compare() {
 compare "$top/examples/ping.slip"
 # [add: counter] fetch.slip: the page that it fetches has all counters
 compare "$top/examples/fetch.slip"
+# The loop of examples/step.c, with pieces of random sizes, and a port that is busy for a random time.
+"$uipd" serve "$site" 10.0.0.1 <"$top/examples/fetch.slip" >"$here/out/by_uipd" || fail "uipd failed on fetch.slip"
+for seed in 1 2 3 4 5 6 7 8 9; do
+    "$here/out/uip_step" serve "$site" 10.0.0.1 $seed <"$top/examples/fetch.slip" >"$here/out/by_c" || fail "uip_step failed on fetch.slip"
+    cmp "$here/out/by_uipd" "$here/out/by_c" || fail "uip_step writes other bytes than uipd for fetch.slip, with seed $seed"
+done
+echo "the same bytes by the loop of step.c"
 compare "$top/examples/fetch.slip" pace 97
 compare "$top/examples/fetch.slip" pace 1
 echo "The site by the C program: python3 examples/browse.py examples/linux-c/out/uip_serve -- python3 examples/fetch.py"
