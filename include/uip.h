@@ -630,11 +630,11 @@ UIP_INLINE unsigned uip_tick_frames(uip_device *device, unsigned char *frame, si
  * values may be of two moments. Make one value of what belongs together: three measured ones fit into 32 bytes, as
  * 21.5,45.0,1013.2 for a script that splits it. A segment that is sent again has the same bytes, whatever was set
  * since.
-*/
+ */
 unsigned uip_set_value(uip_device *device, size_t number, const void *text, size_t len);
 
 /* Returns how often a file was requested since the device was opened, modulo 2^32; 0 if no file has that name.
- *   name, len    the name as the image has it, with its slash: UIP_TEXT("/lamp-on.html")
+ *   name, len    the name as the image has it, with its slash: UIP_TEXT("/on.html")
  * Status: UIP_NO_DEVICE, UIP_OK.
  *
  * A request for / counts for /index.html. A query in the request does not matter. A segment that the browser sends
@@ -675,7 +675,7 @@ uip_number uip_hits(uip_device *device, const void *name, size_t len);
  * To miss no query, call this after each request, as `work` can (uip_hits). With longer pieces call it in the sink of
  * uip_feed_all: the sink has the reply to each request before the next request is handled. The action may be an .shtml
  * that shows the setting: the node reads its values later.
-*/
+ */
 uip_query_text uip_query(uip_device *device, const void *name, size_t len, void *out, size_t room);
 
 /* ---- STATE
