@@ -10,6 +10,7 @@ and ends with its status. Else it prints how to open the pages, and waits for Ct
 privilege. In the second form the node is a board: the command starts qemu (`qemu-system-arm -M mps2-an386 -kernel FIRMWARE`).
 
     --line DEVICE RATE   starts no server: the node is at the other end of a serial port, for example /dev/ttyUSB0 115200
+    --silent             with --line: that node has a clock of its own, as a firmware has, so the line is not filled (see below)
     --ether              Ethernet frames over a TAP interface, with Linux's own ARP, in place of SLIP (`UIPD ether`)
     --desk               a shell at port 23 beside the pages (`UIPD desk`)
     --host               no namespace: the interface is one of this machine, so its usual browser opens the pages. This needs root,
@@ -32,7 +33,7 @@ privilege. In the second form the node is a board: the command starts qemu (`qem
 
 The line has a rate, as a real one has (20,000 bytes a second, or that of the port). Its silence is filled with bytes that mean
 nothing, so the server's `pace` is a clock of half seconds, however busy the line is. A board has a clock of its own, and its line
-is not filled.
+is not filled, nor is that of a firmware with --silent.
 """
 import contextlib
 import ctypes
@@ -432,7 +433,7 @@ def percent(text):
 
 # Each option: its field, and what reads each of its words.
 OPTIONS = {
-    "--ether": ("ether", ()), "--desk": ("desk", ()), "--host": ("host", ()),
+    "--ether": ("ether", ()), "--desk": ("desk", ()), "--host": ("host", ()), "--silent": ("silent", ()),
     "--line": ("line", (str, number)), "--board": ("board", (str,)), "--machine": ("machine", (str.split,)), "--qemu": ("qemu", (str.split,)),
     "--baud": ("baud", (number,)), "--memory": ("memory", (str,)), "--memory-at": ("memory_at", (number,)),
     "--loss": ("loss", (percent,)), "--dup": ("dup", (percent,)), "--reorder": ("reorder", (percent,)), "--damage": ("damage", (percent,)),
@@ -442,7 +443,7 @@ OPTIONS = {
 
 class Words:
     """What the command line asks for."""
-    ether = desk = host = False
+    ether = desk = host = silent = False
     line = board = machine = baud = memory = record = None
     loss = dup = reorder = damage = 0
     memory_at, seed = BOARD_MEMORY[0], 1
@@ -486,6 +487,8 @@ class Words:
         return words[len(readers):]
 
     def check(self):
+        if self.silent and self.line is None:
+            fail("--silent goes with --line")
         if self.ether and self.desk:
             fail("--desk is served over a serial line: omit --ether")
         if not shutil.which("ip"):
@@ -552,11 +555,12 @@ class Node:
             self.output = to_node
         elif port is not None:
             to_node = self.output = port
-            print(f"On the other end: stty -F PORT {words.line[1]} raw -echo min 0 time 5; "
-                  f"uipd {words.kind()} SITE 10.0.0.1 pace {words.rate() // 2} tty <PORT >PORT")
+            if not words.silent:
+                print(f"On the other end: stty -F PORT {words.line[1]} raw -echo min 0 time 5; "
+                      f"uipd {words.kind()} SITE 10.0.0.1 pace {words.rate() // 2} tty <PORT >PORT")
         else:
             self.server, to_node, self.output = start_server(words.server_words())
-        self.line = Line(to_node, form, words.rate(), not words.is_board)
+        self.line = Line(to_node, form, words.rate(), not words.is_board and not words.silent)
 
     def end(self, words):
         if words.baud:

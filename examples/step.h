@@ -20,8 +20,9 @@
  * before the next one is handled. Keep `work` short: it runs before each piece of at most 256 bytes.
  *
  * Between two feeds the loop writes at most two frames, in which 2 * UIP_MAX_OUT bytes can arrive. They go out in 24
- * pieces. Add what arrives in 24 times your longest `work`. If that much of your ring is free at each feed, it never
- * overflows, at any rate.
+ * pieces. Add what arrives in 24 times your longest `work`. With a circular DMA add what arrives before an interrupt:
+ * half the ring, or that of half a second, if it is less. If so much of your ring is free at each feed, it never
+ * overflows. With an interrupt for each byte 8,192 bytes suit most; with a circular DMA 16,384 at 115,200 bits a second.
  *
  * SPDX-License-Identifier: MIT OR Apache-2.0
  * Copyright 2026 The Lowunbisa authors
@@ -43,7 +44,9 @@ size_t read_serial(unsigned char *bytes, size_t room);    /* moves what has arri
 /* And these: */
 extern volatile unsigned events;                          /* not static. An interrupt adds 1 if bytes arrived (with a DMA: line
                                                              idle, half full, full), when the port has sent, each 0.5 s */
-int dma_is_busy(void);                                    /* 1 while the port sends */
+int dma_is_busy(void);                                    /* 1 while the port sends: a variable that dma_send sets, and that the
+                                                             interrupt clears which adds to `events`. If you stop the port's
+                                                             clock, take the interrupt of the last bit, not of the DMA */
 void dma_send(const unsigned char *bytes, size_t len);    /* begins to send by DMA or interrupt; `bytes` stay meanwhile. For a
                                                              polled port it waits, and dma_is_busy returns 0 */
 void interrupts_off(void);

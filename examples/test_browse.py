@@ -72,7 +72,7 @@ def words(trial):
     trial.see(browse.machine_words(own.machine, own.board) == ["qemu-x", "-kernel", "f.bin"] and own.qemu == ["-d", "cpu"], "a machine with {}")
     rates = browse.Words(["--loss", "1", "--dup", "2", "--reorder", "3", "--damage", "4.5"]).rates
     trial.see(rates == {"loss": 1, "dup": 2, "reorder": 3, "damage": 4.5}, f"the rates of the faults: {rates}")
-    for bad in (["--loss", "101"], ["--loss"], ["--frob"], ["a", "b", "c"], ["--line", "x"]):
+    for bad in (["--loss", "101"], ["--loss"], ["--frob"], ["a", "b", "c"], ["--line", "x"], ["--silent"]):
         done = subprocess.run([sys.executable, os.path.join(HERE, "browse.py"), *bad], capture_output=True, text=True, check=False)
         trial.see(done.returncode == 1 and done.stderr.startswith("browse.py: "), f"{bad}: {done.stderr}")
 

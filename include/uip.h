@@ -6,14 +6,16 @@
  * You link it as a binary, for Cortex-M0, M0+, M4, M7 and M33, rv32imac and rv32imc (ilp32), rv64imac (lp64), aarch64,
  * x86_64 and WebAssembly. Its source is in Rattle (Rust with contracts). Memory safety and the exact output of each
  * call are proved of the source; machine code, stack, heap, time and the inline functions are not. It was tested on PCs
- * and on emulated boards (on Ethernet: on x86_64 and a Cortex-M4). It never ran on a real board or under an RTOS.
+ * and on emulated boards; not tried were M0, M0+ and rv32imc, and Ethernet but on x86_64 and M4. It never ran on a real
+ * board or under an RTOS.
  *
  * On a Cortex-M4, in bytes       flash without a site    RAM with heap and stack, for six files
  *     serial line, PROGRAM                     24,221     8,432    with a ring of 512 bytes
  *     serial line, step.c              about the same    14,168    with a ring of 6,004 bytes
  *     Ethernet                                 24,029    11,232    without the buffers of the driver
- * Flash includes the driver of our emulated board. An M7 needs up to 480 bytes more of it, an M33 up to 130, an M0+
- * 6,000, rv32 14,000. Their RAM differs by at most 150 bytes. The guide, "Targets", has all figures.
+ * Flash is that of examples/board with its driver, which sets no values. More flash than an M4 need, in kB: M7 0.5, M33
+ * 0.1, M0+ 5 to 6, rv32 13 to 14, rv64 8 to 9. RAM includes `frame` and small areas of the program. Add your functions,
+ * your interrupts and, under an RTOS, the stack of each further task that makes calls.
  *
  * It has no UDP, IPv6, DHCP, TLS, authentication or POST, and opens no connection. Use it only on a network that you
  * control: its sequence numbers are predictable, and ten SYNs whose SYN-ACKs are never acknowledged
@@ -60,7 +62,7 @@ extern "C" {
  *     #define UIP_HEAP_SIZE UIP_MEMORY(SITE_IMAGE_FILES)
  *     #include "heap.c"             // examples/heap.c, in C11; it defines area, block_of, heap_used, heap_blocks
  *
- *     size_t read_serial(unsigned char *bytes, size_t room);    // moves what your interrupt has stored; may return 0
+ *     size_t read_serial(unsigned char *bytes, size_t room);    // moves what has arrived, or returns 0
  *     void write_serial(void *to, const unsigned char *bytes, size_t len);    // sends all; it may wait
  *     unsigned milliseconds(void);                                            // modulo 2^32
  *     void lamp(int is_on);
@@ -109,7 +111,7 @@ extern "C" {
  * and this `main` the other one. All else stays.
  *
  *     size_t mac_receive(unsigned char *frame, size_t room);    // copies a received frame; its length, or 0 if none.
- *                                                          // It may wait for one, until the next tick is due
+ *                                                          // It may wait for one, at most 20 ms
  *     void mac_send(void *to, const unsigned char *frame, size_t len);        // pads to 60 bytes, and sends: when it
  *                                                          // returns, no DMA uses `frame`
  *
@@ -135,9 +137,10 @@ extern "C" {
  *         reset();
  *     }
  *
- * UNDER AN RTOS open in `main`, before the scheduler starts. One task receives, makes the ticks and sends. It holds a
- * mutex over each uip_input_frame and uip_periodic_frame (or uip_feed, uip_drain and uip_periodic), and sends without
- * it. Another task holds the mutex over its uip_set_value. Or it makes no call, and passes its values by a queue.
+ * UNDER AN RTOS open in `main`, before the scheduler starts. One task runs the loop. It holds a mutex over each of its
+ * calls, those of `work` too, and sends without it. (So it calls uip_periodic_frame for each slot in place of
+ * uip_tick_frames, and uip_feed, uip_drain and uip_periodic in place of the inline functions.) Another task holds the
+ * mutex over its uip_set_value. Or it makes no call, and passes its values by a queue.
  *
  * THE SITE of both is a folder of four files. Each address gets a new query, so that no browser shows a stored copy.
  *
@@ -147,6 +150,8 @@ extern "C" {
  *                     <a href="/off.html" onclick="this.search = Date.now()">off</a>
  *     on.html         <p>The lamp turns on. <a href="/now.shtml" onclick="this.search = Date.now()">Back</a>
  *     off.html        <p>The lamp turns off. <a href="/now.shtml" onclick="this.search = Date.now()">Back</a>
+ *
+ * Put <link rel="icon" href="data:,"> into each page: it spares the request for an icon.
  */
 
 /* ---- BUILD
@@ -156,15 +161,16 @@ extern "C" {
  *     arm-none-eabi-gcc -mcpu=cortex-m4 -mthumb -mfloat-abi=soft -Os -nostartfiles -Wl,--gc-sections -Iinclude \
  *         -Iexamples -T board.ld startup.c drivers.c main.c ports/out/m4/libuip_c.a -lc -lgcc -o firmware.elf
  *     # on Ethernet link libuip_c_ether.a in its place
- *     python3 examples/browse.py --line /dev/ttyUSB0 115200     # at the other end: Linux, which is 10.0.0.2
+ *     python3 examples/browse.py --line /dev/ttyUSB0 115200 --silent   # at the other end: Linux. `own` is 10.0.0.1
+ *     # with step.c add examples/step.c after main.c
  *     m0 (M0+, M0)    m0 and -mcpu=cortex-m0plus in place of m4 and -mcpu=cortex-m4. m7 and m33 likewise
  *     rv32            riscv64-unknown-elf-gcc -march=rv32imac_zicsr -mabi=ilp32, and rv32 in place of m4
  *     rv64            riscv64-unknown-elf-gcc -march=rv64imac_zicsr -mabi=lp64 -mcmodel=medany, and rv64
  *     no C library    examples/board/runtime.c, and -ffreestanding -nostdlib in place of -lc
  *     x86_64          `rt lib` in crates/uip_c makes crates/uip_c/out/libuip_c.a. For aarch64 it takes
  *                     --target aarch64-unknown-linux-gnu
- *     an FPU          the Cortex-M libraries use no FPU register, and link with -mfloat-abi=soft and softfp. For hard
- *                     make one with FLOAT, and define UIP_HARD_FLOAT (the guide)
+ *     an FPU          -mfloat-abi=softfp -mfpu=fpv4-sp-d16 (M4) or fpv5-d16 (M7), as FreeRTOS's ports with FPU need.
+ *                     The library uses no FPU register. For -mfloat-abi=hard make another library (the guide)
  *     a trial on PC   sh examples/linux-c/run.sh (with the kit), and then
  *                     python3 examples/browse.py examples/linux-c/out/uip_serve
  *
@@ -199,7 +205,8 @@ typedef char uip_needs_unsigned_of_32_bits[sizeof(unsigned) == 4 ? 1 : -1];
  *
  * TICKS are the only clock of the library. Make one each half second, by the function of your link. If two are due,
  * make both. If more are due, after a stall or a sleep, make one and forget the others: a burst would time out live
- * connections. Without ticks nothing is sent again and nothing times out.
+ * connections. A late tick only delays the timers. Without
+ * ticks nothing is sent again and nothing times out.
  *
  * CONNECTIONS. Each file takes one of the ten connections, and the node closes it. Each has at most one segment
  * outstanding. A SYN that finds no slot in CLOSED takes the one that was longest in TIME_WAIT: so a page that polls
@@ -227,8 +234,8 @@ typedef char uip_needs_unsigned_of_32_bits[sizeof(unsigned) == 4 ? 1 : -1];
  *      `mac` 6. For a length of 0 pass any valid address. Any alignment will do. On 32 bits a length is below 2^31.
  *
  *   5. OUTPUT. `out` and `frame` can be written over the whole of `room`. They overlap no other argument, and not the
- *      device. Until the call returns, nothing else uses them. Exception: a sink may, and a DMA that ends before the
- *      sink returns.
+ *      device. Until the call returns, nothing else uses them. Exception: the sink of an inline function may use them,
+ *      and so may a DMA that has ended when the sink returns.
  *
  *   6. IMAGE. It stays at its address, unchanged, until uip_close: the library reads it in place.
  *
@@ -237,17 +244,18 @@ typedef char uip_needs_unsigned_of_32_bits[sizeof(unsigned) == 4 ? 1 : -1];
  *   8. LINK. The program defines the three functions of HEAP. It or its C library supplies memcpy, memmove and memset,
  *      and on 32 bits it links libgcc or compiler-rt. Header and library are of one release.
  *
- *   9. STACK. There is room for each call that you make, under an RTOS in each task that makes one. (Add your
- *      functions, the context, and interrupts where they use this stack: under FreeRTOS on a Cortex-M they use the main
- *      one, as `main` does for opening.) Below its caller a call needs at most these bytes on Cortex-M and RISC-V,
- *      computed from the linked code with heap.c. The guide, "Targets", has each target. Those of x86_64 and
- *      WebAssembly are not known.
- *          library             uip_open    uip_open_ether    uip_close    any other call
- *          libuip_c.a             2,208                 -        2,832             2,208
- *          libuip_c_ether.a       6,656             5,616        3,568             2,288
- *      An inline function adds its own frame. Another heap may need more in opening and closing.
- *      A sink runs after the library has returned. Take the greater of its depth and these, not their sum. If the sink
- *      makes a call, its own frame adds to the depth of that call.
+ *   9. STACK. There is room for each call that you make. Below its caller a call needs at most these bytes, computed
+ *      from the linked code with heap.c. The guide, "Targets", has each target. Those of x86_64 and WebAssembly are not
+ *      known.
+ *          library                           uip_open    uip_open_ether    uip_close    any other call
+ *          libuip_c.a                           2,208                 -        2,832             2,208
+ *          libuip_c_ether.a                     6,656             5,616        3,568             2,288
+ *          the same, on M4, M7 and M33          6,656             5,280        3,272             1,872
+ *        - Add your functions, and the frame of an inline function. Another heap may need more in opening and closing.
+ *        - A sink runs after the library has returned. Count the deeper of the two: the call, or the sink with the
+ *          calls that it makes.
+ *        - Under FreeRTOS on a Cortex-M each task that makes a call needs this and its context. Interrupts, and `main`
+ *          when it opens, use the main stack.
  *
  *  10. PROCESSOR. The stack is aligned as the ABI demands. In addition:
  *        - m0: nothing. x86_64: level v2 (SSE4.2).
@@ -260,7 +268,8 @@ typedef char uip_needs_unsigned_of_32_bits[sizeof(unsigned) == 4 ? 1 : -1];
  *
  * TIME. No call waits, masks interrupts or needs privilege, and none but opening allocates memory. An inline function
  * waits as long as its sink does. Opening reads the whole image. Every other function of the library handles at most
- * one datagram. No bound of its time is known: a ping of 84 bytes takes 4,716 instructions on a Cortex-M4 (measured).
+ * one datagram. No bound of its time is known, and the longest call was not measured. On a Cortex-M4 a ping of 84 bytes
+ * takes 4,716 instructions, and a file of one byte 28,223 in all its calls (measured).
  * Feed a watchdog before opening, in each pass, and in a sink that waits.
  */
 
@@ -268,7 +277,7 @@ typedef char uip_needs_unsigned_of_32_bits[sizeof(unsigned) == 4 ? 1 : -1];
  * uip_set_value, uip_close and the inline functions return a status. Every other call returns a struct by value with a
  * status in it: uip_number n = uip_is_idle(&device); if (n.status == UIP_OK && n.number) ..
  *   - If the status is not UIP_OK, the call changed nothing, wrote nothing, called no sink, and the other fields are 0.
- *     Exceptions: uip_opened names a fault, and uip_drain_all sends the output of the call before it.
+ *     Exceptions: uip_opened names a fault, and uip_drain_all may call the sink before a uip_drain is refused.
  *   - Each call lists its statuses in the order in which it looks for them.
  *   - No contents of what arrives cause an error. After opening, the two programs above see only UIP_OK. (On a link of
  *     datagrams discard one of 0 bytes or of more than UIP_MAX_DATAGRAM: its length would be refused.)
@@ -437,16 +446,20 @@ unsigned uip_close(uip_device *device);
  * two nodes to each other, nor put two on one bus, since they can answer each other for ever. The guide, "Connect it to
  * a PC", has other peers than browse.py.
  *
- * THE RING. While the program writes, let an interrupt or a DMA store what arrives. PROGRAM may write for 3.1 s in one
- * pass, at 115,200 bits a second. For a trial 512 bytes do: what overflows is lost, and TCP sends it again.
+ * THE RING. While the program writes, let an interrupt or a DMA store what arrives. PROGRAM may write 36,024 bytes in
+ * one pass: 3.1 s at 115,200 bits a second. For a trial a ring of 512 bytes does: what overflows is lost, and TCP sends
+ * it again. With a circular DMA read_serial copies up to the DMA's counter. If the DMA has lapped it, drop all that
+ * waits.
  *
- * BEYOND A TRIAL compile examples/step.c beside your program, and include step.h. `serve` replaces the loop of PROGRAM,
- * and dma_send replaces write_serial. All else stays:
- *     if (status == UIP_OK) serve();               // returns only if a call failed
- * It never waits for the port. In each pass it calls `work` and makes at most one call of the library, and it sleeps if
- * there is nothing to do. So keep `work` short. step.h states what you define besides: dma_send (DMA, interrupts, or
- * polled), dma_is_busy, interrupts_off, interrupts_on, wfi and `events`, and which ring never overflows: 8,192 bytes
- * suit most.
+ * BEYOND A TRIAL compile examples/step.c beside your program, and include step.h. In PROGRAM delete write_serial,
+ * `bytes`, `out` and the loop, and write
+ *     volatile unsigned events;                    // your interrupts add 1 (step.h)
+ *     ..
+ *     if (status == UIP_OK) status = serve();      // in `main`; returns only if a call failed
+ * You also define dma_send, dma_is_busy, interrupts_off, interrupts_on and wfi (step.h). A pass calls `work`, makes at
+ * most one call that may send, and sleeps if there is nothing to do. So keep `work` short. A port that sends by DMA or
+ * by interrupts is never waited for, a polled one for at most 256 bytes at a time. If each byte has an interrupt, a
+ * ring of 8,192 bytes suits most; step.h has how to compute it.
  */
 
 /* Feeds received bytes up to the end of the first complete frame, handles that frame, and writes the reply as SLIP.
@@ -547,15 +560,15 @@ UIP_INLINE unsigned uip_tick_datagrams(uip_device *device, unsigned char *out, s
  * at the other end has an address of the same network, for example 10.0.0.2/24. Your driver does this:
  *   - It passes frames to `mac` and broadcasts. (The node drops all others, so the filter need not be exact.) It drops
  *     frames that are damaged, or longer than `room`.
- *   - The frame begins at the first byte of `frame`, and `len` does not count the check sequence. (STM32: FL of
- *     the descriptor counts it, unless CSTF strips it. SAM GMAC: RXBUFO 0, RFCS 1. NXP ENET: RACC.SHIFT16 0.)
+ *   - The frame begins at the first byte of `frame`, and `len` does not count the check sequence. (STM32F4, F7: the
+ *     length of the descriptor counts it; ST's HAL subtracts it. SAM GMAC: RXBUFO 0, RFCS 1. NXP ENET: RACC.SHIFT16 0.)
  *   - It pads what it sends to 60 bytes, and adds the check sequence.
  *   - It inserts no checksum of IP, ICMP or TCP, as the library has done so. (STM32: CIC 0. NXP ENET: TACC 0. SAM GMAC:
  *     TXCOEN 0.) It may check those of received frames.
- *   - No DMA uses `frame` during a call, or when mac_receive and mac_send return: they wait for its end, or copy.
- *   - If the link is down, it discards the frame. The library needs no call.
- *   - It has any number of buffers. What finds none free is lost, and TCP sends it again. A tick sends up to ten
- *     frames.
+ *   - No DMA uses `frame` during a call, or after mac_receive or mac_send returns: each waits for the end of its DMA,
+ *     or copies. If both copy, `frame` may be cached, and only the driver's own buffers are cleaned and invalidated.
+ *   - It may have any number of buffers, and discard a frame that finds none free: TCP sends it again, a ping stays
+ *     without a reply. It discards also if the link is down. The library needs no call. A tick sends up to ten frames.
  * The guide, "The Ethernet controller", has rings of buffers and of descriptors, caches, barriers, and sending without
  * waiting.
  */
@@ -607,14 +620,16 @@ UIP_INLINE unsigned uip_tick_frames(uip_device *device, unsigned char *frame, si
  *     %!: /footer.html     the bytes of that file, whose directives are not executed
  * A request of / gets /index.html. It is no .shtml, but may lead to one. A missing file gets status 404. Content types
  * are known for .html, .shtml, .txt, .css, .png, .gif and .jpg; others are application/octet-stream. A script may be
- * JSON: {"t": "%! value-json 3 and, in the next line, "} in a file v.shtml that is packed with
- *     python3 tools/pack.py FOLDER site.c /v.shtml=application/json
+ * JSON. A number of it is `value` without quotes; set it before the first request, as an empty one is no JSON:
+ *     {"limit": %! value 3
+ *     , "name": "%! value-json 4
+ *     "}                          packed by python3 tools/pack.py FOLDER site.c /v.shtml=application/json
  *
  * CACHES. No reply has a header for caches, so a browser may show a stored copy and request nothing. Give each link to
  * a button or to a page with values, and each form, a query that is new each time, as the site of PROGRAM does. A
- * script that polls, or is a button, calls fetch(name, {cache: "no-store"}), and needs none. The guide, "Values and
- * clicks", does without JavaScript. examples/state is a whole site with buttons, a form, and a script that polls JSON.
- * docs/FORMATS.md specifies server and directives.
+ * script that polls a file or requests that of a button calls fetch(name, {cache: "no-store"}), without a query. The
+ * guide, "Values and clicks", does without JavaScript. examples/state is a whole site with buttons, a form, and a
+ * script that polls JSON. docs/FORMATS.md specifies server and directives.
  */
 
 /* A string literal as two arguments, without its 0. For anything else pass pointer and length. */
@@ -642,9 +657,9 @@ unsigned uip_set_value(uip_device *device, size_t number, const void *text, size
  * one. For an action that must not be repeated take a form (uip_query).
  *
  * Two counts do not show which link came last. So compare them after each request. A frame has at most one, and so have
- * 64 bytes from a browser: so `work` of the programs above sees each, also under step.c. With longer pieces compare
- * them in the sink of uip_feed_all. The file of a button may be an .shtml that shows the new state: the node reads its
- * values later.
+ * 64 bytes from a browser: `work` of the programs above sees each request, with step.c too. If you feed longer pieces,
+ * compare them in the sink of uip_feed_all. The file of a button may be an .shtml that shows the new state: the node
+ * reads its values when the browser has acknowledged the head of the reply, and `work` has run by then.
  */
 uip_number uip_hits(uip_device *device, const void *name, size_t len);
 
@@ -656,25 +671,30 @@ uip_number uip_hits(uip_device *device, const void *name, size_t len);
  *
  * The device keeps one query in all: the last acceptable one. A query is acceptable if a file has the name, if it has
  * at most 64 bytes, each a letter, a digit or one of -_.~%&=+, and if the whole target arrives in the first segment
- * with data. Any other request leaves text and `hit` as they were. The query that a link gets from Date.now() replaces
- * that of a form, too. Nothing is decoded: a browser sends most other bytes as %XX. Anyone who reaches the device can
- * send a query: check it before use. A form sends its fields in their order to a file of the site. Here 42 bytes are
- * left for the level:
- *     <form action="/set.html" onsubmit="this.n.value = Date.now()"><input name="level"><input type="hidden" name="n">
+ * with data. Any other request, such as a poll without a query, leaves text and `hit` as they were. The query that a
+ * link gets from Date.now() replaces that of a form, too. Nothing is decoded: a browser sends most other bytes as %XX.
+ * Anyone who reaches the device can send a query: check it before use. A form sends its fields in their order to a file
+ * of the site. Here 42 bytes are left for the limit:
+ *     <form action="/set.html" onsubmit="this.n.value = Date.now()"><input name="limit"><input type="hidden" name="n">
  *     <button>Set</button></form>
  *
  *     static unsigned last;
  *     unsigned char text[UIP_MAX_QUERY];
  *     uip_query_text got = uip_query(&device, UIP_TEXT("/set.html"), text, sizeof text);
- *     if (got.hit != 0 && got.hit != last) use(text, got.len);        // new: level=21&n=..; alarm.h reads such
- *     last = got.hit;
- * A reload sends the same query again, with another `hit`. So the form of an action that must happen once has a token,
- * in an .shtml file: <input type="hidden" name="n" value="%! value-html 5 and, in the next line, ">. Act only if the
- * text is n= and value 5, and set another token at once: the guide, "Settings from a browser", has one.
+ *     if (got.hit != 0 && got.hit != last) {
+ *         last = got.hit;
+ *         use(text, got.len);                  // yours: limit=21&n=.. (examples/board/alarm.h reads such a text)
+ *     }
+ * To miss no query, call this after each request, as `work` can (uip_hits). If you feed longer pieces, call it in the
+ * sink of uip_feed_all: the sink has the reply to each request before the next request is handled.
  *
- * To miss no query, call this after each request, as `work` can (uip_hits). With longer pieces call it in the sink of
- * uip_feed_all: the sink has the reply to each request before the next request is handled. The action may be an .shtml
- * that shows the setting: the node reads its values later.
+ * AN ACTION ONCE. A reload sends the same query again, with another `hit`. So an action that must happen once takes a
+ * token, in an .shtml file:
+ *     <form action="/restart.html"><input type="hidden" name="n" value="%! value-html 5
+ *     "><button>Restart</button></form>
+ * Act only if the text is n= and value 5, and set another token at once. Never use a token twice, also not after a
+ * reset: make it of a number of the start, counted in flash or random, and a count of the actions. Do not reset in
+ * `work`, but some seconds later, so that the reply is delivered.
  */
 uip_query_text uip_query(uip_device *device, const void *name, size_t len, void *out, size_t room);
 
@@ -688,9 +708,10 @@ uip_number uip_ticks(uip_device *device);
 /* Returns 1 if all connections are CLOSED, else 0. Status: UIP_NO_DEVICE, UIP_OK.
  *
  * While the number is 1 and nothing is pending, a tick sends nothing: you may leave out ticks, and sleep until
- * something arrives. With step.c let half_a_second_passed return 0 then; in wfi nothing is pending if dma_is_busy
- * returns 0. After a page the number is 0 for 60 s (TIME_WAIT), unless the peer closed first. A watchdog needs a timer
- * that ends the sleep. The guide, "Sleep", has more: what you may stop, and when.
+ * something arrives. With step.c half_a_second_passed then returns 0, and nothing is pending in wfi if dma_is_busy
+ * returns 0: you may stop the timer of half a second, and start it in the interrupt of the receiver. After a page the
+ * number is 0 for 60 s (TIME_WAIT), unless the peer closed first. The guide, "Sleep", has more. A watchdog needs a
+ * timer that ends the sleep.
  */
 uip_number uip_is_idle(uip_device *device);
 
