@@ -21,7 +21,7 @@
  *
  * Between two feeds the loop writes at most two frames, in which 2 * UIP_MAX_OUT bytes can arrive. They go out in 24
  * pieces. Add what arrives in 24 times your longest `work`. With a circular DMA add what arrives before an interrupt:
- * half the ring, or that of half a second, if it is less. If so much of your ring is free at each feed, it never
+ * half the ring, or that of half a second, if it is less. If this sum is free in your ring at each feed, it never
  * overflows. With an interrupt for each byte 8,192 bytes suit most; with a circular DMA 16,384 at 115,200 bits a second.
  *
  * SPDX-License-Identifier: MIT OR Apache-2.0
