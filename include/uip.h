@@ -6,26 +6,29 @@
  * You link it as a binary, for Cortex-M0, M0+, M4, M7 and M33, rv32imac and rv32imc (ilp32), rv64imac (lp64), aarch64,
  * x86_64 and WebAssembly. Its source is in Rattle (Rust with contracts). Memory safety and the exact output of each
  * call are proved of the source; machine code, stack, heap, time and the inline functions are not. It was tested on PCs
- * and on emulated boards; not tried were M0, M0+ and rv32imc, and Ethernet but on x86_64 and M4. It never ran on a real
- * board or under an RTOS.
+ * and on emulated boards: that of M0 on an M4, M33 in the secure state alone, Ethernet on x86_64 and M4 alone. Not
+ * tried: rv32imc, a real board, an RTOS.
  *
  * On a Cortex-M4, in bytes       flash without a site    RAM with heap and stack, for six files
  *     serial line, PROGRAM                     24,221     8,432    with a ring of 512 bytes
- *     serial line, step.c              about the same    14,168    with a ring of 6,004 bytes
+ *     serial line, step.c              about the same    16,356    with a ring of 8,192 bytes
  *     Ethernet                                 24,029    11,232    without the buffers of the driver
- * Flash is that of examples/board with its driver, which sets no values. More flash than an M4 need, in kB: M7 0.5, M33
- * 0.1, M0+ 5 to 6, rv32 13 to 14, rv64 8 to 9. RAM includes `frame` and small areas of the program. Add your functions,
- * your interrupts and, under an RTOS, the stack of each further task that makes calls.
+ * Flash is that of examples/board (main.c and ether.c, which set no values) with a driver. Other targets need more of
+ * it than an M4, in kB: M7 0.5, M33 0.1, M0+ 5 to 6, rv32 13 to 14, rv64 8 to 9. RAM has the heap (serial line 5,728,
+ * Ethernet 4,304), the stack (2,064 and 5,392, on an M0+ 2,180 and 5,504), `frame`, and small areas of the program. Add
+ * your functions, your interrupts and, under an RTOS, the stack of each further task that makes calls.
+ *
  *
  * It has no UDP, IPv6, DHCP, TLS, authentication or POST, and opens no connection. Use it only on a network that you
- * control: its sequence numbers are predictable, and ten SYNs whose SYN-ACKs are never acknowledged
- * occupy it for 51 s.
+ * control: its sequence numbers are predictable, and ten SYNs whose SYN-ACKs are
+ * never acknowledged occupy it for 51 s.
  *
  * This header is the reference. docs/FIRMWARE.md, called the guide below, has the figures of each target, and explains
  * DMA, caches, RTOS, sleep, forms and several devices. docs/LIMITS.md lists what the node does not do.
  *
  * Sections: PROGRAM, BUILD, RULES, RESULTS, CONSTANTS, TYPES, OPEN AND CLOSE, SERIAL LINE, DATAGRAMS, ETHERNET, VALUES,
- * STATE, HEAP.
+ * STATE, HEAP. Rings and a loop that sleeps are in SERIAL LINE, DMA in ETHERNET too, buttons at uip_hits, forms at
+ * uip_query, sleep and watchdog at uip_is_idle.
  *
  * SPDX-License-Identifier: MIT OR Apache-2.0
  * Copyright 2026 The Lowunbisa authors. Each binary contains the run-time library of Rattle, which has no stated
@@ -67,7 +70,7 @@ extern "C" {
  *     unsigned milliseconds(void);                                            // modulo 2^32
  *     void lamp(int is_on);
  *     void fail(unsigned status, unsigned entry, const char *word);           // shows these, and never returns
- *     void reset(void);                                                       // resets the processor
+ *     void stop(unsigned status);                                             // records it, and resets the processor
  *
  *     uip_device device = UIP_INIT;
  *
@@ -79,9 +82,10 @@ extern "C" {
  *         return 1;
  *     }
  *
- *     void work(void) {                                    // a link to a file is a button: requests are counted
- *         static unsigned on, off;                         // the counts at the last call
- *         unsigned now_on = uip_hits(&device, UIP_TEXT("/on.html")).number;
+ *     unsigned on, off;                                    // counts of requests: 0 also if you open again
+ *
+ *     void work(void) {                                    // each status is UIP_OK: open device, arguments in range
+ *         unsigned now_on = uip_hits(&device, UIP_TEXT("/on.html")).number;      // a link to a file is a button
  *         unsigned now_off = uip_hits(&device, UIP_TEXT("/off.html")).number;
  *         if (now_on != on) lamp(1);
  *         if (now_off != off) lamp(0);
@@ -104,7 +108,7 @@ extern "C" {
  *                 status = uip_tick_all(&device, out, sizeof out, write_serial, NULL);
  *             if (status == UIP_OK) work();
  *         }
- *         reset();
+ *         stop(status);
  *     }
  *
  * ON ETHERNET write UIP_MEMORY_ETHER in place of UIP_MEMORY. These two functions replace read_serial and write_serial,
@@ -134,13 +138,22 @@ extern "C" {
  *                 status = uip_tick_frames(&device, frame, sizeof frame, mac_send, NULL);
  *             if (status == UIP_OK) work();
  *         }
- *         reset();
+ *         stop(status);
  *     }
  *
- * UNDER AN RTOS open in `main`, before the scheduler starts. One task runs the loop. It holds a mutex over each of its
- * calls, those of `work` too, and sends without it. (So it calls uip_periodic_frame for each slot in place of
- * uip_tick_frames, and uip_feed, uip_drain and uip_periodic in place of the inline functions.) Another task holds the
- * mutex over its uip_set_value. Or it makes no call, and passes its values by a queue.
+ * UNDER AN RTOS open in `main`, before the scheduler starts, on the main stack (rule 9). One task runs the loop. It
+ * holds a mutex over each of its calls, those of `work` too, and sends without it: in place of uip_tick_frames
+ *
+ *     for (slot = 0; status == UIP_OK && slot < UIP_SLOTS; slot++) {
+ *         lock();
+ *         done = uip_periodic_frame(&device, slot, frame, sizeof frame);
+ *         unlock();
+ *         if (done.written > 0) mac_send(NULL, frame, done.written);
+ *         status = done.status;
+ *     }
+ *
+ * Another task holds the mutex over its uip_set_value. Or it makes no call, and passes its values by a queue. On a
+ * serial line do so with uip_feed, uip_drain and uip_periodic, or keep all calls in the one task.
  *
  * THE SITE of both is a folder of four files. Each address gets a new query, so that no browser shows a stored copy.
  *
@@ -164,15 +177,17 @@ extern "C" {
  *     python3 examples/browse.py --line /dev/ttyUSB0 115200 --silent   # at the other end: Linux. `own` is 10.0.0.1
  *     # with step.c add examples/step.c after main.c
  *     m0 (M0+, M0)    m0 and -mcpu=cortex-m0plus in place of m4 and -mcpu=cortex-m4. m7 and m33 likewise
- *     rv32            riscv64-unknown-elf-gcc -march=rv32imac_zicsr -mabi=ilp32, and rv32 in place of m4
+ *     rv32 (also C)   riscv64-unknown-elf-gcc -march=rv32imac_zicsr -mabi=ilp32, and rv32 in place of m4
  *     rv64            riscv64-unknown-elf-gcc -march=rv64imac_zicsr -mabi=lp64 -mcmodel=medany, and rv64
  *     no C library    examples/board/runtime.c, and -ffreestanding -nostdlib in place of -lc
  *     x86_64          `rt lib` in crates/uip_c makes crates/uip_c/out/libuip_c.a. For aarch64 it takes
  *                     --target aarch64-unknown-linux-gnu
- *     an FPU          -mfloat-abi=softfp -mfpu=fpv4-sp-d16 (M4) or fpv5-d16 (M7), as FreeRTOS's ports with FPU need.
+ *     an FPU          -mfloat-abi=softfp -mfpu=fpv4-sp-d16 (M4), fpv5-sp-d16 (M33) or fpv5-d16 (M7).
  *                     The library uses no FPU register. For -mfloat-abi=hard make another library (the guide)
  *     a trial on PC   sh examples/linux-c/run.sh (with the kit), and then
  *                     python3 examples/browse.py examples/linux-c/out/uip_serve
+ *                     on Ethernet, as root: sh examples/linux-ether/run.sh
+
  *
  *     LINK                  open            what arrives     each half second    library
  *     serial line           uip_open        uip_feed_all     uip_tick_all        libuip_c.a
@@ -204,14 +219,13 @@ typedef char uip_needs_unsigned_of_32_bits[sizeof(unsigned) == 4 ? 1 : -1];
  * did not fit into `out`.
  *
  * TICKS are the only clock of the library. Make one each half second, by the function of your link. If two are due,
- * make both. If more are due, after a stall or a sleep, make one and forget the others: a burst would time out live
- * connections. A late tick only delays the timers. Without
- * ticks nothing is sent again and nothing times out.
+ * make both. If more are due, after a stall, make one and forget the others: a burst would time out live
+ * connections. A late tick only delays the timers. Without ticks nothing is sent again and nothing times out.
  *
- * CONNECTIONS. Each file takes one of the ten connections, and the node closes it. Each has at most one segment
- * outstanding. A SYN that finds no slot in CLOSED takes the one that was longest in TIME_WAIT: so a page that polls
- * each second is served. An ESTABLISHED connection is reset after 20 ticks in which nothing is outstanding and no data
- * arrives. A segment that is not acknowledged is given up after 249 ticks, a SYN-ACK after 102. FIN_WAIT_2 and
+ * CONNECTIONS. Each file takes one of the ten connections, and the node closes it. Each connection has at most one
+ * segment outstanding. A SYN that finds no slot in CLOSED takes the one that was longest in TIME_WAIT: so a page that
+ * polls each second is served. An ESTABLISHED connection is reset after 20 ticks in which nothing is outstanding and no
+ * data arrives. A segment that is not acknowledged is given up after 249 ticks, a SYN-ACK after 102. FIN_WAIT_2 and
  * TIME_WAIT end after 120.
  *
  * The library cannot check these ten rules. If you break one, the behaviour is undefined. Every other mistake is
@@ -225,9 +239,10 @@ typedef char uip_needs_unsigned_of_32_bits[sizeof(unsigned) == 4 ? 1 : -1];
  *   3. ONE CALL AT A TIME. Calls with one device never overlap. This holds for calls that only read, too.
  *        - For this rule an inline function is one call. While it runs, only its sink may use the device (uip_sink).
  *        - Make no call in an interrupt.
- *        - Under an RTOS let one task make all calls, or hold a mutex over each. A sink runs with the mutex held, and
- *          does not lock it again. Calls are allowed before the scheduler starts: if you open there, and never close,
- *          the task needs less stack.
+ *        - Under an RTOS let one task make all calls, or hold a mutex over each. If you hold it over an inline
+ *          function, its sink runs with the mutex held, and must not lock it; other tasks wait while it sends.
+ *          Calls are allowed before the scheduler starts: if you open there, and never close, no task needs the stack
+ *          of opening and closing.
  *        - Let each call and each sink return: no longjmp, no exception, no deleted task.
  *
  *   4. POINTERS. Only `to` may be null. Each area can be read over its length: `own`, `mask` and `router` have 4 bytes,
@@ -241,35 +256,38 @@ typedef char uip_needs_unsigned_of_32_bits[sizeof(unsigned) == 4 ? 1 : -1];
  *
  *   7. INPUT. All else that you pass stays unchanged until the call returns. Later the library does not use it.
  *
- *   8. LINK. The program defines the three functions of HEAP. It or its C library supplies memcpy, memmove and memset,
- *      and on 32 bits it links libgcc or compiler-rt. Header and library are of one release.
+ *   8. LINK. The program defines the three functions of HEAP, and they do what HEAP states. It or its C library
+ *      supplies memcpy, memmove and memset, and on 32 bits it links libgcc or compiler-rt. Header and library are of
+ *      one release. It is not compiled with -fpcc-struct-return or -freg-struct-return.
  *
  *   9. STACK. There is room for each call that you make. Below its caller a call needs at most these bytes, computed
  *      from the linked code with heap.c. The guide, "Targets", has each target. Those of x86_64 and WebAssembly are not
  *      known.
  *          library                           uip_open    uip_open_ether    uip_close    any other call
- *          libuip_c.a                           2,208                 -        2,832             2,208
- *          libuip_c_ether.a                     6,656             5,616        3,568             2,288
+ *          libuip_c.a of ports                  2,208                 -        2,832             2,208
+ *          libuip_c_ether.a, or of `rt lib`     6,656             5,616        3,568             2,288
  *          the same, on M4, M7 and M33          6,656             5,280        3,272             1,872
- *        - Add your functions, and the frame of an inline function. Another heap may need more in opening and closing.
+ *        - Add the stack frames of your functions, and that of an inline function. Another heap may need more in
+ *          opening and closing.
  *        - A sink runs after the library has returned. Count the deeper of the two: the call, or the sink with the
  *          calls that it makes.
- *        - Under FreeRTOS on a Cortex-M each task that makes a call needs this and its context. Interrupts, and `main`
+ *        - Under FreeRTOS on a Cortex-M each task that makes a call needs this, uip_set_value too, and its
+ *          context (on an M33 72 bytes, with FPU 208). Interrupts, and `main`
  *          when it opens, use the main stack.
  *
  *  10. PROCESSOR. The stack is aligned as the ABI demands. In addition:
  *        - m0: nothing. x86_64: level v2 (SSE4.2).
  *        - rv32, rv64: sp is set, and gp too if the linker defines __global_pointer$.
- *        - m4, m7, m33: CCR.UNALIGN_TRP is 0, and all memory that the library uses is Normal memory, never Device.
- *          By default that is so below 0xA0000000, outside the peripherals. For SDRAM above that set the MPU. For
+ *        - m4, m7, m33: CCR.UNALIGN_TRP is 0, as after reset. All memory that the library uses is Normal memory, never
+ *          Device: by default, all below 0xA0000000 outside the peripherals. For SDRAM above that set the MPU. For
  *          memory that is not cached use TEX 1, C 0, B 0 on ARMv7-M (TEX 0, C 0 is Device or Strongly ordered), and
  *          attribute 0x44 on ARMv8-M.
  *        - aarch64: all of it is Normal memory. SIMD registers are on, and interrupt handlers save those that they use.
  *
  * TIME. No call waits, masks interrupts or needs privilege, and none but opening allocates memory. An inline function
  * waits as long as its sink does. Opening reads the whole image. Every other function of the library handles at most
- * one datagram. No bound of its time is known, and the longest call was not measured. On a Cortex-M4 a ping of 84 bytes
- * takes 4,716 instructions, and a file of one byte 28,223 in all its calls (measured).
+ * one datagram. No bound of its time is known, and the longest call was not measured. On a Cortex-M4
+ * and a serial line a ping of 84 bytes takes 4,716 instructions, and a file of one byte 28,223 in all its calls.
  * Feed a watchdog before opening, in each pass, and in a sink that waits.
  */
 
@@ -435,8 +453,10 @@ uip_opened uip_open_ether(uip_device *device, const unsigned char *image, size_t
  * Status: UIP_NO_DEVICE, UIP_OK.
  *
  * To change the address or the site, close the device, open it again, and set all values again. Set to 0 what you
- * remember of hits and `hit`. With step.c also call reset_step. Under an RTOS hold the mutex all the while: otherwise
- * another task gets UIP_NO_DEVICE.
+ * remember of hits and `hit`: otherwise the next comparison takes the new count for a click. With step.c also call
+ * reset_step. Under an RTOS hold the mutex all the while: otherwise another task gets UIP_NO_DEVICE. The node informs
+ * no peer: an open connection ends by its own time limit. A host that knows the hardware address does not ask for it
+ * again, so on Ethernet the first reply to it is lost, and TCP sends it again.
  */
 unsigned uip_close(uip_device *device);
 
@@ -453,13 +473,17 @@ unsigned uip_close(uip_device *device);
  *
  * BEYOND A TRIAL compile examples/step.c beside your program, and include step.h. In PROGRAM delete write_serial,
  * `bytes`, `out` and the loop, and write
- *     volatile unsigned events;                    // your interrupts add 1 (step.h)
+ *     volatile unsigned events;                    // add 1 if bytes arrived, if the port has sent, and each 0.5 s
  *     ..
  *     if (status == UIP_OK) status = serve();      // in `main`; returns only if a call failed
- * You also define dma_send, dma_is_busy, interrupts_off, interrupts_on and wfi (step.h). A pass calls `work`, makes at
- * most one call that may send, and sleeps if there is nothing to do. So keep `work` short. A port that sends by DMA or
- * by interrupts is never waited for, a polled one for at most 256 bytes at a time. If each byte has an interrupt, a
- * ring of 8,192 bytes suits most; step.h has how to compute it.
+ * You define these, which step.h explains:
+ *     void dma_send(const unsigned char *bytes, size_t len);    // begins to send
+ *     int dma_is_busy(void);                                    // 1 while the port sends
+ *     void interrupts_off(void), interrupts_on(void), wfi(void);
+ * A pass calls `work`, makes at most one call that may send, and sleeps if there is nothing to do. So keep `work`
+ * short. A port that sends by DMA or by interrupts is never waited for, a polled one for at most 256 bytes at a time.
+ * 6,004 bytes of the ring are for two frames, that can arrive while the loop sends two; 8,192 leave room for `work`, if
+ * each byte has an interrupt. step.h has how to compute it.
  */
 
 /* Feeds received bytes up to the end of the first complete frame, handles that frame, and writes the reply as SLIP.
@@ -556,19 +580,22 @@ UIP_INLINE unsigned uip_tick_datagrams(uip_device *device, unsigned char *out, s
 }
 
 /* ---- ETHERNET
- * Frames of RFC 894 with ARP (RFC 826), from the destination address on, without preamble and check sequence. The host
- * at the other end has an address of the same network, for example 10.0.0.2/24. Your driver does this:
+ * Frames of RFC 894 with ARP (RFC 826), from the destination address on, without preamble and check sequence. For a
+ * trial give the host an address of the same network, as 10.0.0.2/24. Your driver does this:
  *   - It passes frames to `mac` and broadcasts. (The node drops all others, so the filter need not be exact.) It drops
  *     frames that are damaged, or longer than `room`.
- *   - The frame begins at the first byte of `frame`, and `len` does not count the check sequence. (STM32F4, F7: the
- *     length of the descriptor counts it; ST's HAL subtracts it. SAM GMAC: RXBUFO 0, RFCS 1. NXP ENET: RACC.SHIFT16 0.)
+ *   - The frame begins at the first byte of `frame`, and `len` does not count the check sequence. (STM32: the length of
+ *     the descriptor counts it on F4 and F7; ST's HAL subtracts or strips it. SAM GMAC: RXBUFO 0, RFCS 1. NXP ENET:
+ *     RACC.SHIFT16 0.)
  *   - It pads what it sends to 60 bytes, and adds the check sequence.
- *   - It inserts no checksum of IP, ICMP or TCP, as the library has done so. (STM32: CIC 0. NXP ENET: TACC 0. SAM GMAC:
+ *   - It inserts no checksum of IP, ICMP or TCP, as the library has done so. (STM32: CIC 0, in
+ *     ST's HAL ETH_CHECKSUM_DISABLE. NXP ENET: TACC 0. SAM GMAC:
  *     TXCOEN 0.) It may check those of received frames.
- *   - No DMA uses `frame` during a call, or after mac_receive or mac_send returns: each waits for the end of its DMA,
- *     or copies. If both copy, `frame` may be cached, and only the driver's own buffers are cleaned and invalidated.
- *   - It may have any number of buffers, and discard a frame that finds none free: TCP sends it again, a ping stays
- *     without a reply. It discards also if the link is down. The library needs no call. A tick sends up to ten frames.
+ *   - With one `frame`, as in the program above, no DMA uses it during a call, or after mac_receive or mac_send
+ *     returns: each waits for the end of its DMA, or copies. If both copy, `frame` may be cached. With rings of your
+ *     own pass their buffers in turn: then this holds for each buffer during its call.
+ *   - It may discard a frame that finds no buffer free, or no link: TCP sends it again 4 ticks later, a ping stays
+ *     without a reply. A tick may send ten frames after a reply, so eleven buffers suffice for sending.
  * The guide, "The Ethernet controller", has rings of buffers and of descriptors, caches, barriers, and sending without
  * waiting.
  */
@@ -608,28 +635,34 @@ UIP_INLINE unsigned uip_tick_frames(uip_device *device, unsigned char *frame, si
  * These calls may be made on any link, also while output is pending, and in a sink.
  *
  * A file whose name ends in .shtml may contain directives. One reaches from "%!" to the end of its line, the newline
- * too, and its text replaces all of it. tools/pack.py warns of words that are lost so.
+ * too (LF, or CR LF), and what it gives replaces all of it. tools/pack.py warns of
+ * further words in that line, which are lost, and of an unknown directive, which gives nothing.
  *     %! value-html 3      value 3, with &, <, > and both quotes escaped
  *     %! value-json 3      value 3, escaped for a string of JSON, without the quotes around it
  *     %! value 3           value 3 as it is: only for texts that nobody else influences
- *     %! net-stats         the counters 1 to 20, each right-aligned in 10 places and on a line: put it into <pre>
+ *     %! net-stats         the counters 1 to 20 (uip_counter_id), each in 10 places and on a line, without names: see
+ *                          examples/site/stats.shtml
  *     %! ticks             the number of uip_ticks, in 10 places
  *     %! file-stats /x     the number of uip_hits for /x, in 10 places
  *     %! tcp-connections   a <tr> for each connection that is not CLOSED, with a <td> for slot, peer, state, tries,
  *                          count, and * if it waits; you write the <table>
  *     %!: /footer.html     the bytes of that file, whose directives are not executed
- * A request of / gets /index.html. It is no .shtml, but may lead to one. A missing file gets status 404. Content types
- * are known for .html, .shtml, .txt, .css, .png, .gif and .jpg; others are application/octet-stream. A script may be
- * JSON. A number of it is `value` without quotes; set it before the first request, as an empty one is no JSON:
+ * A request of / gets /index.html. It is no .shtml, but may lead to one. A missing file gets status 404, and /404.html
+ * if the site has it. Content types are known for .html, .shtml, .txt, .css, .png, .gif and .jpg; others are
+ * application/octet-stream. An .shtml file may be JSON. A number is `value` without quotes; set it before the first
+ * request, as an empty one is no JSON:
  *     {"limit": %! value 3
  *     , "name": "%! value-json 4
  *     "}                          packed by python3 tools/pack.py FOLDER site.c /v.shtml=application/json
  *
  * CACHES. No reply has a header for caches, so a browser may show a stored copy and request nothing. Give each link to
- * a button or to a page with values, and each form, a query that is new each time, as the site of PROGRAM does. A
- * script that polls a file or requests that of a button calls fetch(name, {cache: "no-store"}), without a query. The
- * guide, "Values and clicks", does without JavaScript. examples/state is a whole site with buttons, a form, and a
- * script that polls JSON. docs/FORMATS.md specifies server and directives.
+ * a button or to a page with values, and each form, a query that is new each time, as the site of PROGRAM does. In
+ * JavaScript fetch(name, {cache: "no-store"}) needs no query, and so leaves the one of uip_query alone. A page that
+ * refreshes itself, from a file v.shtml whose one line is %! value 3, has
+ *     <p id="v"><script>(async function look() { v.textContent = await (await fetch("/v.shtml", {cache: "no-store"}))
+ *     .text(); setTimeout(look, 1000) })()</script>
+ * The guide, "Values and clicks", shows links and forms without JavaScript. examples/state is a whole site, with
+ * buttons, a form, and JSON that is polled. docs/FORMATS.md specifies server and directives.
  */
 
 /* A string literal as two arguments, without its 0. For anything else pass pointer and length. */
@@ -643,8 +676,10 @@ UIP_INLINE unsigned uip_tick_frames(uip_device *device, unsigned char *frame, si
  * The node ends a segment before each value, and reads the value when that segment is acknowledged. So each value costs
  * a round trip, often 40 to 200 ms, as peers delay acknowledgements; so does any other directive but an include. Two
  * values may be of two moments. Make one value of what belongs together: three measured ones fit into 32 bytes, as
- * 21.5,45.0,1013.2 for a script that splits it. A segment that is sent again has the same bytes, whatever was set
+ * 21.5,45.0,1013.2 for JavaScript that splits it. A segment that is sent again has the same bytes, whatever was set
  * since.
+ *     char text[12];                         // from a number; without stdio take `decimal` of the guide
+ *     uip_set_value(&device, 3, text, (size_t)sprintf(text, "%u.%u", t / 10, t % 10));
  */
 unsigned uip_set_value(uip_device *device, size_t number, const void *text, size_t len);
 
@@ -654,12 +689,14 @@ unsigned uip_set_value(uip_device *device, size_t number, const void *text, size
  *
  * A request for / counts for /index.html. A query in the request does not matter. A segment that the browser sends
  * again counts once. But a reload counts, and a browser may follow a link by itself: let it set a state, and not toggle
- * one. For an action that must not be repeated take a form (uip_query).
+ * one. If an action must not happen by itself, or twice, take a form with a token
+ * (uip_query). A name that no file has is not reported.
  *
- * Two counts do not show which link came last. So compare them after each request. A frame has at most one, and so have
- * 64 bytes from a browser: `work` of the programs above sees each request, with step.c too. If you feed longer pieces,
- * compare them in the sink of uip_feed_all. The file of a button may be an .shtml that shows the new state: the node
- * reads its values when the browser has acknowledged the head of the reply, and `work` has run by then.
+ * Two counts do not show which link came last. So compare them after each request. One frame brings at most one, and 64
+ * bytes of a serial line complete at most one from a browser: `work` of the programs above sees each request, with
+ * step.c too. If you feed longer pieces, compare them in the sink of uip_feed_all. The file of a button may be an
+ * .shtml that shows the new state: the node reads its values when the browser has acknowledged the head of the reply,
+ * and `work` has run by then.
  */
 uip_number uip_hits(uip_device *device, const void *name, size_t len);
 
@@ -669,21 +706,21 @@ uip_number uip_hits(uip_device *device, const void *name, size_t len);
  *                the bytes of `out` after the text
  * Status: UIP_BAD_ARGUMENT, UIP_NO_DEVICE, UIP_OK.
  *
- * The device keeps one query in all: the last acceptable one. A query is acceptable if a file has the name, if it has
- * at most 64 bytes, each a letter, a digit or one of -_.~%&=+, and if the whole target arrives in the first segment
- * with data. Any other request, such as a poll without a query, leaves text and `hit` as they were. The query that a
- * link gets from Date.now() replaces that of a form, too. Nothing is decoded: a browser sends most other bytes as %XX.
- * Anyone who reaches the device can send a query: check it before use. A form sends its fields in their order to a file
- * of the site. Here 42 bytes are left for the limit:
+ * The device keeps one query in all: the last acceptable one. A query is acceptable if a file has the requested name,
+ * if the text after the ? has at most 64 bytes, each a letter, a digit or one of -_.~%&=+, and if the whole target
+ * arrives in the first segment with data. Any other request, such as a poll without a query, leaves text and `hit` as
+ * they were. The query that a link gets from Date.now() replaces that of a form, too. Nothing is decoded: a browser
+ * sends most other bytes as %XX. Anyone who reaches the device can send a query: check it before use. A form sends its
+ * fields in their order to a file of the site. Here 42 bytes are left for the limit:
  *     <form action="/set.html" onsubmit="this.n.value = Date.now()"><input name="limit"><input type="hidden" name="n">
  *     <button>Set</button></form>
- *
- *     static unsigned last;
+  *     static unsigned last;                    // at file scope, if you open again
+
  *     unsigned char text[UIP_MAX_QUERY];
  *     uip_query_text got = uip_query(&device, UIP_TEXT("/set.html"), text, sizeof text);
  *     if (got.hit != 0 && got.hit != last) {
  *         last = got.hit;
- *         use(text, got.len);                  // yours: limit=21&n=.. (examples/board/alarm.h reads such a text)
+ *         use(text, got.len);                  // yours: limit=21&n=.. (examples/board/alarm.h shows how)
  *     }
  * To miss no query, call this after each request, as `work` can (uip_hits). If you feed longer pieces, call it in the
  * sink of uip_feed_all: the sink has the reply to each request before the next request is handled.
@@ -708,10 +745,13 @@ uip_number uip_ticks(uip_device *device);
 /* Returns 1 if all connections are CLOSED, else 0. Status: UIP_NO_DEVICE, UIP_OK.
  *
  * While the number is 1 and nothing is pending, a tick sends nothing: you may leave out ticks, and sleep until
- * something arrives. With step.c half_a_second_passed then returns 0, and nothing is pending in wfi if dma_is_busy
- * returns 0: you may stop the timer of half a second, and start it in the interrupt of the receiver. After a page the
- * number is 0 for 60 s (TIME_WAIT), unless the peer closed first. The guide, "Sleep", has more. A watchdog needs a
- * timer that ends the sleep.
+ * something arrives. With step.c write half_a_second_passed so:
+ *     is_idle = (int)uip_is_idle(&device).number;
+ *     if (is_idle) { last = milliseconds(); return 0; }        // the rest as in PROGRAM
+ * In wfi, if is_idle is 1 and dma_is_busy returns 0, nothing is pending: you may stop the timer of half a second, and
+ * start it in the interrupt of the receiver. With a watchdog do not stop it: let the timer end the sleep before the
+ * watchdog does, and feed that in `work`. After a page the number is 0 for 60 s (TIME_WAIT), unless the peer closed
+ * first. The guide, "Sleep", has more.
  */
 uip_number uip_is_idle(uip_device *device);
 
