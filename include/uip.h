@@ -18,10 +18,8 @@
  * Ethernet 4,304), the stack (2,064 and 5,392, on an M0+ 2,180 and 5,504), `frame`, and small areas of the program. Add
  * your functions, your interrupts and, under an RTOS, the stack of each further task that makes calls.
  *
- *
  * It has no UDP, IPv6, DHCP, TLS, authentication or POST, and opens no connection. Use it only on a network that you
- * control: its sequence numbers are predictable, and ten SYNs whose SYN-ACKs are
- * never acknowledged occupy it for 51 s.
+ * control: its sequence numbers are predictable, and ten SYNs whose SYN-ACKs are never acknowledged occupy it for 51 s.
  *
  * This header is the reference. docs/FIRMWARE.md, called the guide below, has the figures of each target, and explains
  * DMA, caches, RTOS, sleep, forms and several devices. docs/LIMITS.md lists what the node does not do.
@@ -187,7 +185,6 @@ extern "C" {
  *     a trial on PC   sh examples/linux-c/run.sh (with the kit), and then
  *                     python3 examples/browse.py examples/linux-c/out/uip_serve
  *                     on Ethernet, as root: sh examples/linux-ether/run.sh
-
  *
  *     LINK                  open            what arrives     each half second    library
  *     serial line           uip_open        uip_feed_all     uip_tick_all        libuip_c.a
@@ -219,8 +216,8 @@ typedef char uip_needs_unsigned_of_32_bits[sizeof(unsigned) == 4 ? 1 : -1];
  * did not fit into `out`.
  *
  * TICKS are the only clock of the library. Make one each half second, by the function of your link. If two are due,
- * make both. If more are due, after a stall, make one and forget the others: a burst would time out live
- * connections. A late tick only delays the timers. Without ticks nothing is sent again and nothing times out.
+ * make both. If more are due, after a stall, make one and forget the others: a burst would time out live connections. A
+ * late tick only delays the timers. Without ticks nothing is sent again and nothing times out.
  *
  * CONNECTIONS. Each file takes one of the ten connections, and the node closes it. Each connection has at most one
  * segment outstanding. A SYN that finds no slot in CLOSED takes the one that was longest in TIME_WAIT: so a page that
@@ -240,9 +237,9 @@ typedef char uip_needs_unsigned_of_32_bits[sizeof(unsigned) == 4 ? 1 : -1];
  *        - For this rule an inline function is one call. While it runs, only its sink may use the device (uip_sink).
  *        - Make no call in an interrupt.
  *        - Under an RTOS let one task make all calls, or hold a mutex over each. If you hold it over an inline
- *          function, its sink runs with the mutex held, and must not lock it; other tasks wait while it sends.
- *          Calls are allowed before the scheduler starts: if you open there, and never close, no task needs the stack
- *          of opening and closing.
+ *          function, its sink runs with the mutex held, and must not lock it; other tasks wait while it sends. Calls
+ *          are allowed before the scheduler starts: if you open there, and never close, no task needs the stack of
+ *          opening and closing.
  *        - Let each call and each sink return: no longjmp, no exception, no deleted task.
  *
  *   4. POINTERS. Only `to` may be null. Each area can be read over its length: `own`, `mask` and `router` have 4 bytes,
@@ -271,9 +268,8 @@ typedef char uip_needs_unsigned_of_32_bits[sizeof(unsigned) == 4 ? 1 : -1];
  *          opening and closing.
  *        - A sink runs after the library has returned. Count the deeper of the two: the call, or the sink with the
  *          calls that it makes.
- *        - Under FreeRTOS on a Cortex-M each task that makes a call needs this, uip_set_value too, and its
- *          context (on an M33 72 bytes, with FPU 208). Interrupts, and `main`
- *          when it opens, use the main stack.
+ *        - Under FreeRTOS on a Cortex-M each task that makes a call needs this, also for uip_set_value alone, and its
+ *          context (on an M33 72 bytes, with FPU 208). Interrupts, and `main` when it opens, use the main stack.
  *
  *  10. PROCESSOR. The stack is aligned as the ABI demands. In addition:
  *        - m0: nothing. x86_64: level v2 (SSE4.2).
@@ -286,9 +282,9 @@ typedef char uip_needs_unsigned_of_32_bits[sizeof(unsigned) == 4 ? 1 : -1];
  *
  * TIME. No call waits, masks interrupts or needs privilege, and none but opening allocates memory. An inline function
  * waits as long as its sink does. Opening reads the whole image. Every other function of the library handles at most
- * one datagram. No bound of its time is known, and the longest call was not measured. On a Cortex-M4
- * and a serial line a ping of 84 bytes takes 4,716 instructions, and a file of one byte 28,223 in all its calls.
- * Feed a watchdog before opening, in each pass, and in a sink that waits.
+ * one datagram. No bound of its time is known, and the longest call was not measured. On a Cortex-M4 and a serial line
+ * a ping of 84 bytes takes 4,716 instructions, and a file of one byte 28,223 in all its calls. Feed a watchdog before
+ * opening, in each pass, and in a sink that waits.
  */
 
 /* ---- RESULTS
@@ -588,9 +584,8 @@ UIP_INLINE unsigned uip_tick_datagrams(uip_device *device, unsigned char *out, s
  *     the descriptor counts it on F4 and F7; ST's HAL subtracts or strips it. SAM GMAC: RXBUFO 0, RFCS 1. NXP ENET:
  *     RACC.SHIFT16 0.)
  *   - It pads what it sends to 60 bytes, and adds the check sequence.
- *   - It inserts no checksum of IP, ICMP or TCP, as the library has done so. (STM32: CIC 0, in
- *     ST's HAL ETH_CHECKSUM_DISABLE. NXP ENET: TACC 0. SAM GMAC:
- *     TXCOEN 0.) It may check those of received frames.
+ *   - It inserts no checksum of IP, ICMP or TCP, as the library has done so. (STM32: CIC 0, in ST's HAL
+ *     ETH_CHECKSUM_DISABLE. NXP ENET: TACC 0. SAM GMAC: TXCOEN 0.) It may check those of received frames.
  *   - With one `frame`, as in the program above, no DMA uses it during a call, or after mac_receive or mac_send
  *     returns: each waits for the end of its DMA, or copies. If both copy, `frame` may be cached. With rings of your
  *     own pass their buffers in turn: then this holds for each buffer during its call.
@@ -635,8 +630,8 @@ UIP_INLINE unsigned uip_tick_frames(uip_device *device, unsigned char *frame, si
  * These calls may be made on any link, also while output is pending, and in a sink.
  *
  * A file whose name ends in .shtml may contain directives. One reaches from "%!" to the end of its line, the newline
- * too (LF, or CR LF), and what it gives replaces all of it. tools/pack.py warns of
- * further words in that line, which are lost, and of an unknown directive, which gives nothing.
+ * too (LF, or CR LF), and what it gives replaces all of it. tools/pack.py warns of further words in that line, which
+ * are lost, and of an unknown directive, which gives nothing.
  *     %! value-html 3      value 3, with &, <, > and both quotes escaped
  *     %! value-json 3      value 3, escaped for a string of JSON, without the quotes around it
  *     %! value 3           value 3 as it is: only for texts that nobody else influences
@@ -689,8 +684,8 @@ unsigned uip_set_value(uip_device *device, size_t number, const void *text, size
  *
  * A request for / counts for /index.html. A query in the request does not matter. A segment that the browser sends
  * again counts once. But a reload counts, and a browser may follow a link by itself: let it set a state, and not toggle
- * one. If an action must not happen by itself, or twice, take a form with a token
- * (uip_query). A name that no file has is not reported.
+ * one. If an action must not happen by itself, or twice, take a form with a token (uip_query). A name that no file has
+ * is not reported.
  *
  * Two counts do not show which link came last. So compare them after each request. One frame brings at most one, and 64
  * bytes of a serial line complete at most one from a browser: `work` of the programs above sees each request, with
@@ -714,8 +709,7 @@ uip_number uip_hits(uip_device *device, const void *name, size_t len);
  * fields in their order to a file of the site. Here 42 bytes are left for the limit:
  *     <form action="/set.html" onsubmit="this.n.value = Date.now()"><input name="limit"><input type="hidden" name="n">
  *     <button>Set</button></form>
-  *     static unsigned last;                    // at file scope, if you open again
-
+ *     static unsigned last;                    // at file scope, if you open again
  *     unsigned char text[UIP_MAX_QUERY];
  *     uip_query_text got = uip_query(&device, UIP_TEXT("/set.html"), text, sizeof text);
  *     if (got.hit != 0 && got.hit != last) {
