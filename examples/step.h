@@ -6,8 +6,8 @@
  *     volatile unsigned events;
  *     int main(void) {
  *         ..                                  // opens the device
- *         if (status == UIP_OK) serve();
- *         reset();
+ *         if (status == UIP_OK) status = serve();
+ *         stop(status);
  *     }
  *
  * Each pass runs `work`, also while output is pending, and then the first of these that applies:

@@ -6,17 +6,18 @@
  * You link it as a binary, for Cortex-M0, M0+, M4, M7 and M33, rv32imac and rv32imc (ilp32), rv64imac (lp64), aarch64,
  * x86_64 and WebAssembly. Its source is in Rattle (Rust with contracts). Memory safety and the exact output of each
  * call are proved of the source; machine code, stack, heap, time and the inline functions are not. It was tested on PCs
- * and on emulated boards: that of M0 on an M4, M33 in the secure state alone, Ethernet on x86_64 and M4 alone. Not
- * tried: rv32imc, a real board, an RTOS.
+ * and on emulated boards. The library for M0 ran on an emulated M4, M33 only in the secure state, Ethernet only on
+ * x86_64 and M4. Not tried: an M3 (it takes that of M0), rv32imc, a real board, an RTOS.
  *
  * On a Cortex-M4, in bytes       flash without a site    RAM with heap and stack, for six files
- *     serial line, PROGRAM                     24,221     8,432    with a ring of 512 bytes
+ *     serial line, a loop that waits           24,221     8,432    with a ring of 512 bytes
  *     serial line, step.c              about the same    16,356    with a ring of 8,192 bytes
  *     Ethernet                                 24,029    11,232    without the buffers of the driver
- * Flash is that of examples/board (main.c and ether.c, which set no values) with a driver. Other targets need more of
- * it than an M4, in kB: M7 0.5, M33 0.1, M0+ 5 to 6, rv32 13 to 14, rv64 8 to 9. RAM has the heap (serial line 5,728,
- * Ethernet 4,304), the stack (2,064 and 5,392, on an M0+ 2,180 and 5,504), `frame`, and small areas of the program. Add
- * your functions, your interrupts and, under an RTOS, the stack of each further task that makes calls.
+ * Flash is that of examples/board (main.c and ether.c, which set no values and read no hits) with a driver. Other
+ * targets need more of it than an M4, in kB: M7 0.5, M33 0.1, M0+ 5 to 6, rv32 13 to 14, rv64 8 to 9. RAM has the heap
+ * (serial line 5,728, Ethernet 4,304), the stack from reset (2,064 and 5,392, on an M0+ 2,180 and 5,504; without
+ * interrupts and uip_close), `frame`, and small areas of the program. Add your functions, your interrupts and, under an
+ * RTOS, the stack of each task that makes calls.
  *
  * It has no UDP, IPv6, DHCP, TLS, authentication or POST, and opens no connection. Use it only on a network that you
  * control: its sequence numbers are predictable, and ten SYNs whose SYN-ACKs are never acknowledged occupy it for 51 s.
@@ -80,9 +81,10 @@ extern "C" {
  *         return 1;
  *     }
  *
- *     unsigned on, off;                                    // counts of requests: 0 also if you open again
+ *     unsigned on, off;                                    // the counts at the last pass: 0 again if you open again
  *
- *     void work(void) {                                    // each status is UIP_OK: open device, arguments in range
+ *     void work(void) {                                    // no status is checked: each is UIP_OK, as the device is
+ *                                                          // open, and the arguments are in range
  *         unsigned now_on = uip_hits(&device, UIP_TEXT("/on.html")).number;      // a link to a file is a button
  *         unsigned now_off = uip_hits(&device, UIP_TEXT("/off.html")).number;
  *         if (now_on != on) lamp(1);
@@ -140,8 +142,16 @@ extern "C" {
  *     }
  *
  * UNDER AN RTOS open in `main`, before the scheduler starts, on the main stack (rule 9). One task runs the loop. It
- * holds a mutex over each of its calls, those of `work` too, and sends without it: in place of uip_tick_frames
+ * holds a mutex over each of its calls, those of `work` too, and sends without it, with a loop in place of
+ * uip_tick_frames:
  *
+ *     void lock(void), unlock(void);                       // yours: a mutex of the RTOS
+ *
+ *     lock();
+ *     done = uip_input_frame(&device, frame, sizeof frame, len);
+ *     unlock();
+ *     if (done.written > 0) mac_send(NULL, frame, done.written);
+ *     ..
  *     for (slot = 0; status == UIP_OK && slot < UIP_SLOTS; slot++) {
  *         lock();
  *         done = uip_periodic_frame(&device, slot, frame, sizeof frame);
@@ -151,7 +161,7 @@ extern "C" {
  *     }
  *
  * Another task holds the mutex over its uip_set_value. Or it makes no call, and passes its values by a queue. On a
- * serial line do so with uip_feed, uip_drain and uip_periodic, or keep all calls in the one task.
+ * serial line hold the mutex over each uip_feed, uip_drain and uip_periodic, and send without it.
  *
  * THE SITE of both is a folder of four files. Each address gets a new query, so that no browser shows a stored copy.
  *
@@ -172,7 +182,8 @@ extern "C" {
  *     arm-none-eabi-gcc -mcpu=cortex-m4 -mthumb -mfloat-abi=soft -Os -nostartfiles -Wl,--gc-sections -Iinclude \
  *         -Iexamples -T board.ld startup.c drivers.c main.c ports/out/m4/libuip_c.a -lc -lgcc -o firmware.elf
  *     # on Ethernet link libuip_c_ether.a in its place
- *     python3 examples/browse.py --line /dev/ttyUSB0 115200 --silent   # at the other end: Linux. `own` is 10.0.0.1
+ *     python3 examples/browse.py --line /dev/ttyUSB0 115200 --silent   # at the other end: Linux. It needs `own`
+ *     # 10.0.0.1, and fills no silence of the line with END
  *     # with step.c add examples/step.c after main.c
  *     m0 (M0+, M0)    m0 and -mcpu=cortex-m0plus in place of m4 and -mcpu=cortex-m4. m7 and m33 likewise
  *     rv32 (also C)   riscv64-unknown-elf-gcc -march=rv32imac_zicsr -mabi=ilp32, and rv32 in place of m4
@@ -242,12 +253,13 @@ typedef char uip_needs_unsigned_of_32_bits[sizeof(unsigned) == 4 ? 1 : -1];
  *          opening and closing.
  *        - Let each call and each sink return: no longjmp, no exception, no deleted task.
  *
- *   4. POINTERS. Only `to` may be null. Each area can be read over its length: `own`, `mask` and `router` have 4 bytes,
- *      `mac` 6. For a length of 0 pass any valid address. Any alignment will do. On 32 bits a length is below 2^31.
+ *   4. POINTERS. Only `to` may be null. The library may read each area over its whole length: `own`, `mask` and
+ *      `router` have 4 bytes, `mac` 6. For a length of 0 pass any valid address. Any alignment will do. On 32 bits a
+ *      length is below 2^31.
  *
- *   5. OUTPUT. `out` and `frame` can be written over the whole of `room`. They overlap no other argument, and not the
- *      device. Until the call returns, nothing else uses them. Exception: the sink of an inline function may use them,
- *      and so may a DMA that has ended when the sink returns.
+ *   5. OUTPUT. The library may write any byte of `room` in `out` and `frame`, also if `written` is 0. They overlap no
+ *      other argument, and not the device. Until the call returns, nothing else uses them. Exception: the sink of an
+ *      inline function may use them, and so may a DMA that has ended when the sink returns.
  *
  *   6. IMAGE. It stays at its address, unchanged, until uip_close: the library reads it in place.
  *
@@ -261,15 +273,16 @@ typedef char uip_needs_unsigned_of_32_bits[sizeof(unsigned) == 4 ? 1 : -1];
  *      from the linked code with heap.c. The guide, "Targets", has each target. Those of x86_64 and WebAssembly are not
  *      known.
  *          library                           uip_open    uip_open_ether    uip_close    any other call
- *          libuip_c.a of ports                  2,208                 -        2,832             2,208
- *          libuip_c_ether.a, or of `rt lib`     6,656             5,616        3,568             2,288
- *          the same, on M4, M7 and M33          6,656             5,280        3,272             1,872
+ *          ports/out/TARGET/libuip_c.a          2,208                 -        2,832             2,208
+ *            on M4, M7 and M33                  1,976                 -        2,480             1,976
+ *          libuip_c_ether.a there               6,656             5,616        3,568             2,288
+ *            on M4, M7 and M33                  6,656             5,280        3,272             1,872
  *        - Add the stack frames of your functions, and that of an inline function. Another heap may need more in
  *          opening and closing.
  *        - A sink runs after the library has returned. Count the deeper of the two: the call, or the sink with the
  *          calls that it makes.
  *        - Under FreeRTOS on a Cortex-M each task that makes a call needs this, also for uip_set_value alone, and its
- *          context (on an M33 72 bytes, with FPU 208). Interrupts, and `main` when it opens, use the main stack.
+ *          context (at most 72 bytes, with FPU 208). Interrupts, and `main` when it opens, use the main stack.
  *
  *  10. PROCESSOR. The stack is aligned as the ABI demands. In addition:
  *        - m0: nothing. x86_64: level v2 (SSE4.2).
@@ -283,8 +296,8 @@ typedef char uip_needs_unsigned_of_32_bits[sizeof(unsigned) == 4 ? 1 : -1];
  * TIME. No call waits, masks interrupts or needs privilege, and none but opening allocates memory. An inline function
  * waits as long as its sink does. Opening reads the whole image. Every other function of the library handles at most
  * one datagram. No bound of its time is known, and the longest call was not measured. On a Cortex-M4 and a serial line
- * a ping of 84 bytes takes 4,716 instructions, and a file of one byte 28,223 in all its calls. Feed a watchdog before
- * opening, in each pass, and in a sink that waits.
+ * a ping of 84 bytes takes 4,716 instructions, and a file of one byte 28,223 in all its calls (on an M0+ 8,442 and
+ * 68,331). Feed a watchdog before opening, in each pass, and in a sink that waits.
  */
 
 /* ---- RESULTS
@@ -331,7 +344,8 @@ enum uip_counter_id {
     UIP_DATAGRAMS_IN = 1,      /* reached IP, later drops included. What Ethernet or ARP drops has no counter */
     UIP_DATAGRAMS_OUT = 2,     /* sent, also again */
     UIP_OVERLONG_FRAMES = 3,   /* SLIP frames of more than 1500 bytes after decoding, dropped */
-    UIP_IP_SHORT = 4,          /* dropped by IP, as 5 to 10: shorter than a header */
+    /* 4 to 10: dropped by IP */
+    UIP_IP_SHORT = 4,          /* shorter than a header */
     UIP_IP_VERSION = 5,        /* another version, or with options */
     UIP_IP_LENGTH = 6,         /* a wrong length */
     UIP_IP_FRAGMENT = 7,       /* a fragment */
@@ -380,8 +394,8 @@ typedef struct uip_result { unsigned status, pending; size_t consumed, written; 
 typedef struct uip_number { unsigned status; unsigned number; } uip_number;
 
 /* The result of uip_query.
- *   hit    0 if no query of this file is kept. Else what uip_hits was after the request that brought it. It
- *          differs for each request, also if the text is the same
+ *   hit    0 if no query of this file is kept. Else what uip_hits was after its request: it differs for
+ *          each request of one file, also if the text is the same. Keep what you remember of it for each file
  *   len    the length of the text in bytes; it may be 0
  */
 typedef struct uip_query_text { unsigned status; unsigned hit; size_t len; } uip_query_text;
@@ -457,29 +471,42 @@ uip_opened uip_open_ether(uip_device *device, const unsigned char *image, size_t
 unsigned uip_close(uip_device *device);
 
 /* ---- SERIAL LINE
- * SLIP (RFC 1055) at any rate, full duplex: 8 data bits, no parity, one stop bit, no XON and XOFF. After an overrun or
- * a framing error feed on: a damaged frame is dropped, and TCP sends its data again. A line has two ends: never join
- * two nodes to each other, nor put two on one bus, since they can answer each other for ever. The guide, "Connect it to
- * a PC", has other peers than browse.py.
+ * SLIP (RFC 1055, no CSLIP) at any rate, full duplex: 8 data bits, no parity, one stop bit, no XON and XOFF. After an
+ * overrun or a framing error feed on: a damaged frame is dropped, and TCP sends its data again. A line has two ends:
+ * never join two nodes to each other, nor put two on one bus, since they can answer each other for ever. The guide,
+ * "Connect it to a PC", has other peers than browse.py.
  *
  * THE RING. While the program writes, let an interrupt or a DMA store what arrives. PROGRAM may write 36,024 bytes in
  * one pass: 3.1 s at 115,200 bits a second. For a trial a ring of 512 bytes does: what overflows is lost, and TCP sends
- * it again. With a circular DMA read_serial copies up to the DMA's counter. If the DMA has lapped it, drop all that
- * waits.
+ * it again. Here is one:
+ *     static unsigned char ring[8192];             // a power of two
+ *     static volatile unsigned in;
+ *     static unsigned gone;
+ *     void receiver(void) {                        // the interrupt
+ *         unsigned char byte = port_read();        // yours
+ *         if (in - gone < sizeof ring) ring[in++ % sizeof ring] = byte;
+ *     }
+ *     size_t read_serial(unsigned char *bytes, size_t room) {
+ *         size_t len = 0;
+ *         while (len < room && gone != in) bytes[len++] = ring[gone++ % sizeof ring];
+ *         return len;
+ *     }
+ * With a circular DMA read_serial copies up to the DMA's counter. If the DMA has lapped it, drop all that waits.
  *
  * BEYOND A TRIAL compile examples/step.c beside your program, and include step.h. In PROGRAM delete write_serial,
  * `bytes`, `out` and the loop, and write
- *     volatile unsigned events;                    // add 1 if bytes arrived, if the port has sent, and each 0.5 s
+ *     volatile unsigned events;                    // add 1 in the interrupts: a byte, all sent, each 0.5 s
  *     ..
  *     if (status == UIP_OK) status = serve();      // in `main`; returns only if a call failed
  * You define these, which step.h explains:
- *     void dma_send(const unsigned char *bytes, size_t len);    // begins to send
- *     int dma_is_busy(void);                                    // 1 while the port sends
+ *     void dma_send(const unsigned char *bytes, size_t len);    // begins to send; a polled port: sends all
+ *     int dma_is_busy(void);                                    // 1 while the port sends; a polled port: 0
  *     void interrupts_off(void), interrupts_on(void), wfi(void);
  * A pass calls `work`, makes at most one call that may send, and sleeps if there is nothing to do. So keep `work`
  * short. A port that sends by DMA or by interrupts is never waited for, a polled one for at most 256 bytes at a time.
- * 6,004 bytes of the ring are for two frames, that can arrive while the loop sends two; 8,192 leave room for `work`, if
- * each byte has an interrupt. step.h has how to compute it.
+ * 6,004 bytes of the ring are for two frames that can arrive while the loop sends two. The rest is for what arrives in
+ * 24 runs of `work`: 8,192 bytes allow 7 ms each at 115,200 bits a second, if each byte has an interrupt (step.h has
+ * more).
  */
 
 /* Feeds received bytes up to the end of the first complete frame, handles that frame, and writes the reply as SLIP.
@@ -587,10 +614,12 @@ UIP_INLINE unsigned uip_tick_datagrams(uip_device *device, unsigned char *out, s
  *   - It inserts no checksum of IP, ICMP or TCP, as the library has done so. (STM32: CIC 0, in ST's HAL
  *     ETH_CHECKSUM_DISABLE. NXP ENET: TACC 0. SAM GMAC: TXCOEN 0.) It may check those of received frames.
  *   - With one `frame`, as in the program above, no DMA uses it during a call, or after mac_receive or mac_send
- *     returns: each waits for the end of its DMA, or copies. If both copy, `frame` may be cached. With rings of your
- *     own pass their buffers in turn: then this holds for each buffer during its call.
- *   - It may discard a frame that finds no buffer free, or no link: TCP sends it again 4 ticks later, a ping stays
- *     without a reply. A tick may send ten frames after a reply, so eleven buffers suffice for sending.
+ *     returns: each waits for the end of its DMA, or copies. If both copy, `frame` may be cached without more; if a DMA
+ *     uses it, see the guide. With a ring pass its buffers in turn, and then this holds for each during its call. A
+ *     buffer that became a reply is sent, and another one takes its place in the ring.
+ *   - It may discard a frame that finds no buffer free, or no link. The node sends lost data again after 4 ticks, then
+ *     after longer times, and the peer by its own clock. A ping, a reply of ARP or a RST is not sent again. A tick may
+ *     send ten frames after a reply, so eleven buffers suffice for sending.
  * The guide, "The Ethernet controller", has rings of buffers and of descriptors, caches, barriers, and sending without
  * waiting.
  */
@@ -627,11 +656,12 @@ UIP_INLINE unsigned uip_tick_frames(uip_device *device, unsigned char *frame, si
 }
 
 /* ---- VALUES
- * These calls may be made on any link, also while output is pending, and in a sink.
+ * These calls may be made on any link, also while output is pending, and in a sink. Rule 3 holds for them too.
  *
- * A file whose name ends in .shtml may contain directives. One reaches from "%!" to the end of its line, the newline
- * too (LF, or CR LF), and what it gives replaces all of it. tools/pack.py warns of further words in that line, which
- * are lost, and of an unknown directive, which gives nothing.
+ * A file whose name ends in .shtml may contain directives. One reaches from "%!" to the end of its line or of the file,
+ * the newline too (LF, or CR LF), and what it gives replaces all of it. Spaces separate its words: in "%! value-html
+ * 3</p>" the number would be 3</p>, which gives nothing. tools/pack.py warns of that, and of further words, which are
+ * lost.
  *     %! value-html 3      value 3, with &, <, > and both quotes escaped
  *     %! value-json 3      value 3, escaped for a string of JSON, without the quotes around it
  *     %! value 3           value 3 as it is: only for texts that nobody else influences
@@ -654,10 +684,11 @@ UIP_INLINE unsigned uip_tick_frames(uip_device *device, unsigned char *frame, si
  * a button or to a page with values, and each form, a query that is new each time, as the site of PROGRAM does. In
  * JavaScript fetch(name, {cache: "no-store"}) needs no query, and so leaves the one of uip_query alone. A page that
  * refreshes itself, from a file v.shtml whose one line is %! value 3, has
- *     <p id="v"><script>(async function look() { v.textContent = await (await fetch("/v.shtml", {cache: "no-store"}))
- *     .text(); setTimeout(look, 1000) })()</script>
- * The guide, "Values and clicks", shows links and forms without JavaScript. examples/state is a whole site, with
- * buttons, a form, and JSON that is polled. docs/FORMATS.md specifies server and directives.
+ *     <p id="v"><script>(async function look() {
+ *       try { v.textContent = await (await fetch("/v.shtml", {cache: "no-store"})).text() } catch { v.textContent = "?"
+ *       } setTimeout(look, 1000) })()</script>
+ * The guide shows links ("Values and clicks") and forms ("Settings from a browser") without JavaScript. examples/state
+ * is a whole site, with buttons, a form, and JSON that is polled. docs/FORMATS.md specifies server and directives.
  */
 
 /* A string literal as two arguments, without its 0. For anything else pass pointer and length. */
@@ -673,7 +704,7 @@ UIP_INLINE unsigned uip_tick_frames(uip_device *device, unsigned char *frame, si
  * values may be of two moments. Make one value of what belongs together: three measured ones fit into 32 bytes, as
  * 21.5,45.0,1013.2 for JavaScript that splits it. A segment that is sent again has the same bytes, whatever was set
  * since.
- *     char text[12];                         // from a number; without stdio take `decimal` of the guide
+ *     char text[12];                         // unsigned t, in tenths; without stdio see `decimal` of the guide
  *     uip_set_value(&device, 3, text, (size_t)sprintf(text, "%u.%u", t / 10, t % 10));
  */
 unsigned uip_set_value(uip_device *device, size_t number, const void *text, size_t len);
@@ -684,18 +715,19 @@ unsigned uip_set_value(uip_device *device, size_t number, const void *text, size
  *
  * A request for / counts for /index.html. A query in the request does not matter. A segment that the browser sends
  * again counts once. But a reload counts, and a browser may follow a link by itself: let it set a state, and not toggle
- * one. If an action must not happen by itself, or twice, take a form with a token (uip_query). A name that no file has
- * is not reported.
+ * one. What must not happen by itself or twice, as to move a valve or to clear a counter, takes a form with a token
+ * (uip_query). A name that no file has is not reported.
  *
- * Two counts do not show which link came last. So compare them after each request. One frame brings at most one, and 64
- * bytes of a serial line complete at most one from a browser: `work` of the programs above sees each request, with
- * step.c too. If you feed longer pieces, compare them in the sink of uip_feed_all. The file of a button may be an
- * .shtml that shows the new state: the node reads its values when the browser has acknowledged the head of the reply,
- * and `work` has run by then.
+ * If two counts rose since you looked, you cannot tell which link came last. So look after each request. One frame
+ * brings at most one request, and 64 bytes of a serial line complete at most one from a browser: so `work` of the
+ * programs above sees them one by one, with step.c too. If you feed longer pieces, look in the sink of uip_feed_all.
+ *
+ * The file of a button may be an .shtml that shows the new state: the node reads its values when the browser has
+ * acknowledged the head of the reply, and `work` has run by then.
  */
 uip_number uip_hits(uip_device *device, const void *name, size_t len);
 
-/* Copies the kept query, if it was for this file: "lamp=on" of GET /set.html?lamp=on. Else `hit` is 0.
+/* Copies the kept query, if it was for this file: "lamp=on" of GET /set.html?lamp=on. Else `hit` and `len` are 0.
  *   name, len    the name of the file as the image has it
  *   out, room    where the text goes, without a 0 at its end; `room` is UIP_MAX_QUERY or more. The call does not change
  *                the bytes of `out` after the text
@@ -709,12 +741,12 @@ uip_number uip_hits(uip_device *device, const void *name, size_t len);
  * fields in their order to a file of the site. Here 42 bytes are left for the limit:
  *     <form action="/set.html" onsubmit="this.n.value = Date.now()"><input name="limit"><input type="hidden" name="n">
  *     <button>Set</button></form>
- *     static unsigned last;                    // at file scope, if you open again
+ *     static unsigned last;                    // one for each file; 0 again if you open again
  *     unsigned char text[UIP_MAX_QUERY];
  *     uip_query_text got = uip_query(&device, UIP_TEXT("/set.html"), text, sizeof text);
  *     if (got.hit != 0 && got.hit != last) {
  *         last = got.hit;
- *         use(text, got.len);                  // yours: limit=21&n=.. (examples/board/alarm.h shows how)
+ *         use(text, got.len);                  // yours: limit=21&n=.. (copy limit_in of examples/board/alarm.h)
  *     }
  * To miss no query, call this after each request, as `work` can (uip_hits). If you feed longer pieces, call it in the
  * sink of uip_feed_all: the sink has the reply to each request before the next request is handled.
@@ -724,8 +756,9 @@ uip_number uip_hits(uip_device *device, const void *name, size_t len);
  *     <form action="/restart.html"><input type="hidden" name="n" value="%! value-html 5
  *     "><button>Restart</button></form>
  * Act only if the text is n= and value 5, and set another token at once. Never use a token twice, also not after a
- * reset: make it of a number of the start, counted in flash or random, and a count of the actions. Do not reset in
- * `work`, but some seconds later, so that the reply is delivered.
+ * reset: make it of a number of the start, counted in flash or random, and a count of the actions, in digits, letters
+ * and -_ alone. Let the file of the action link to a page that shows what was done: an old page's token does nothing.
+ * Do not reset in `work`, but some seconds later, so that the reply is delivered.
  */
 uip_query_text uip_query(uip_device *device, const void *name, size_t len, void *out, size_t room);
 
@@ -739,13 +772,20 @@ uip_number uip_ticks(uip_device *device);
 /* Returns 1 if all connections are CLOSED, else 0. Status: UIP_NO_DEVICE, UIP_OK.
  *
  * While the number is 1 and nothing is pending, a tick sends nothing: you may leave out ticks, and sleep until
- * something arrives. With step.c write half_a_second_passed so:
- *     is_idle = (int)uip_is_idle(&device).number;
- *     if (is_idle) { last = milliseconds(); return 0; }        // the rest as in PROGRAM
- * In wfi, if is_idle is 1 and dma_is_busy returns 0, nothing is pending: you may stop the timer of half a second, and
- * start it in the interrupt of the receiver. With a watchdog do not stop it: let the timer end the sleep before the
- * watchdog does, and feed that in `work`. After a page the number is 0 for 60 s (TIME_WAIT), unless the peer closed
- * first. The guide, "Sleep", has more.
+ * something arrives. With step.c write half_a_second_passed so (a clock of milliseconds would end each sleep):
+ *     volatile unsigned halves;                    // the interrupt of a timer: halves++, events++, each half second
+ *     static int is_idle;
+ *     int half_a_second_passed(void) {
+ *         static unsigned last;
+ *         unsigned now = halves, due = now - last;
+ *         is_idle = (int)uip_is_idle(&device).number;
+ *         if (due == 0) return 0;
+ *         last = is_idle || due > 2 ? now : last + 1;
+ *         return !is_idle;
+ *     }
+ * In wfi, if is_idle is 1 and dma_is_busy returns 0, nothing is pending: you may stop that timer, and start it in the
+ * interrupt of the receiver. Do not, if `work` must set values meanwhile, or feed a watchdog. After a page the number
+ * is 0 for 60 s (TIME_WAIT), unless the peer closed first. The guide, "Sleep", has more.
  */
 uip_number uip_is_idle(uip_device *device);
 

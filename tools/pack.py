@@ -119,7 +119,13 @@ def warning_of(part):
         ignored = words[1 + ARGUMENTS[words[0]]:]
     else:
         return f"no function is named {shown(words[0])}: the directive gives nothing"
+    if not is_include and words[0].startswith(b"value") and not is_value_number(words[1:2]):
+        return f"\"{shown(b' '.join(words[1:2]))}\" is no number from 0 to 15: the directive gives nothing"
     return f"ignored, since a directive takes the rest of its line: {shown(b' '.join(ignored))}" if ignored else ""
+
+
+def is_value_number(words):
+    return bool(words) and words[0] in {b"%d" % number for number in range(16)}
 
 
 def shown(text):

@@ -103,6 +103,8 @@ WARNINGS = [    # the lines with a warning, each with what it must name
     ((b"/a.shtml", b"<p>\n%! ticks\n%!net-stats\n%!  tcp-connections \n%! file-stats /x\n%!: /x\n"), []),
     ((b"/a.shtml", b"%! value 3\r\n%! value-html 3\n%!value-json  15 \r\n%!\n%! "), []),
     ((b"/a.shtml", b"It is %! value 3 &deg;C\nand %! temperature\n"), [(1, "&deg;C"), (2, "temperature")]),
+    ((b"/a.shtml", b"%! value-html 3</p>\n%! value 16\n%! value-json\n%! value 00\n%! value 0 x"),
+     [(1, "\"3</p>\""), (2, "\"16\""), (3, "\"\""), (4, "\"00\""), (5, "x")]),
     ((b"/a.shtml", b"\n%! ticks half seconds\n\n%!:/x of it\r\n%! file-stats /x </b>"), [(2, "half seconds"), (4, "of it"), (5, "</b>")]),
     ((b"/a.shtml", b"%! Ticks\n%!value3\n%! : /x\n%! file-stats\t/x"), [(1, "Ticks"), (2, "value3"), (3, ":"), (4, "file-stats\t/x")]),
     ((b"/a.html", b"100%\n!\n% !\n"), []), ((b"/a.html", b"a\nb%! ticks\n%! ticks\n"), [(2, ".shtml")]), ((b"/a.txt", b"%! ticks x\n"), []),
@@ -237,7 +239,7 @@ PLANTS = [    # a text of pack.py, and the text that replaces it
     ("length += sum(CALLS", "length -= sum(CALLS"), ("1 <= length <= LONGEST_NAME", "2 <= length <= LONGEST_NAME"), ("enumerate(files, 1)", "enumerate(files, 2)"),
     ('require(size <= LONGEST_IMAGE, "long")', "pass"), ('require(len(files) <= MOST_FILES, "many")', "pass"),
     ('b"value": 1', 'b"value": 2'), ('b"net-stats": 0, b"ticks": 0', 'b"net-stats": 0, b"ticks": 2'), ("ignored = words[1:]", "ignored = []"),
-    ("words[1 + ARGUMENTS", "words[2 + ARGUMENTS"), ("1 + file.content.count", "file.content.count"), ("if not words:", "if False:"),
+    ("words[1 + ARGUMENTS", "words[2 + ARGUMENTS"), ("1 + file.content.count", "file.content.count"), ("if not words:", "if False:"), ("range(16)}", "range(17)}"),
     ('endswith(b".html") and', 'endswith(b"html") and'), ("image[8:10]", "image[9:10]"),
 ]
 
