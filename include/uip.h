@@ -7,14 +7,14 @@
  * x86_64 and WebAssembly. Its source is in Rattle (Rust with contracts). Memory safety and the exact output of each
  * call are proved of the source; machine code, stack, heap, time and the inline functions are not. It was tested on PCs
  * and on emulated boards. The library for M0 ran on an emulated M4, M33 only in the secure state, Ethernet only on
- * x86_64 and M4. Not tried: an M3 (it takes that of M0), rv32imc, a real board, an RTOS.
+ * x86_64 and M4. Not tried: an M3 (link the library for M0), rv32imc, a real board, an RTOS.
  *
  * On a Cortex-M4, in bytes       flash without a site    RAM with heap and stack, for six files
  *     serial line, a loop that waits           24,221     8,432    with a ring of 512 bytes
  *     serial line, step.c              about the same    16,356    with a ring of 8,192 bytes
  *     Ethernet                                 24,029    11,232    without the buffers of the driver
  * Flash is that of examples/board (main.c and ether.c, which set no values and read no hits) with a driver. Other
- * targets need more of it than an M4, in kB: M7 0.5, M33 0.1, M0+ 5 to 6, rv32 13 to 14, rv64 8 to 9. RAM has the heap
+ * targets need more flash than an M4, in kB: M7 0.5, M33 0.1, M0+ 5 to 6, rv32 13 to 14, rv64 8 to 9. RAM has the heap
  * (serial line 5,728, Ethernet 4,304), the stack from reset (2,064 and 5,392, on an M0+ 2,180 and 5,504; without
  * interrupts and uip_close), `frame`, and small areas of the program. Add your functions, your interrupts and, under an
  * RTOS, the stack of each task that makes calls.
@@ -26,8 +26,8 @@
  * DMA, caches, RTOS, sleep, forms and several devices. docs/LIMITS.md lists what the node does not do.
  *
  * Sections: PROGRAM, BUILD, RULES, RESULTS, CONSTANTS, TYPES, OPEN AND CLOSE, SERIAL LINE, DATAGRAMS, ETHERNET, VALUES,
- * STATE, HEAP. Rings and a loop that sleeps are in SERIAL LINE, DMA in ETHERNET too, buttons at uip_hits, forms at
- * uip_query, sleep and watchdog at uip_is_idle.
+ * STATE, HEAP. A ring, DMA and a loop that sleeps are in SERIAL LINE, buttons at uip_hits, forms at uip_query, deep
+ * sleep at uip_is_idle, watchdog and time at the end of RULES. RTOS: the task in PROGRAM, rules 3 and 9, uip_close.
  *
  * SPDX-License-Identifier: MIT OR Apache-2.0
  * Copyright 2026 The Lowunbisa authors. Each binary contains the run-time library of Rattle, which has no stated
@@ -115,7 +115,8 @@ extern "C" {
  * and this `main` the other one. All else stays.
  *
  *     size_t mac_receive(unsigned char *frame, size_t room);    // copies a received frame; its length, or 0 if none.
- *                                                          // It may wait for one, at most 20 ms
+ *                                                          // It may wait for one, at most 20 ms,
+ *                                                          // so that ticks and `work` are not late
  *     void mac_send(void *to, const unsigned char *frame, size_t len);        // pads to 60 bytes, and sends: when it
  *                                                          // returns, no DMA uses `frame`
  *
@@ -141,29 +142,42 @@ extern "C" {
  *         stop(status);
  *     }
  *
- * UNDER AN RTOS open in `main`, before the scheduler starts, on the main stack (rule 9). One task runs the loop. It
- * holds a mutex over each of its calls, those of `work` too, and sends without it, with a loop in place of
- * uip_tick_frames:
+ * UNDER AN RTOS open in `main`, before the scheduler starts, on the main stack (rule 9). One task makes all calls but
+ * uip_set_value, and sends without the mutex:
  *
- *     void lock(void), unlock(void);                       // yours: a mutex of the RTOS
+ *     void lock(void), unlock(void);                       // yours: a mutex
  *
- *     lock();
- *     done = uip_input_frame(&device, frame, sizeof frame, len);
- *     unlock();
- *     if (done.written > 0) mac_send(NULL, frame, done.written);
- *     ..
- *     for (slot = 0; status == UIP_OK && slot < UIP_SLOTS; slot++) {
- *         lock();
- *         done = uip_periodic_frame(&device, slot, frame, sizeof frame);
- *         unlock();
- *         if (done.written > 0) mac_send(NULL, frame, done.written);
- *         status = done.status;
+ *     void network(void *unused) {                         // the task; `frame` is static at file scope
+ *         unsigned status = UIP_OK;
+ *         while (status == UIP_OK) {
+ *             uip_result done = {UIP_OK, 0, 0, 0};
+ *             size_t slot, len = mac_receive(frame, sizeof frame);
+ *             if (len > 0) {
+ *                 lock();
+ *                 done = uip_input_frame(&device, frame, sizeof frame, len);
+ *                 unlock();
+ *                 if (done.written > 0) mac_send(NULL, frame, done.written);
+ *             }
+ *             if (done.status == UIP_OK && half_a_second_passed())
+ *                 for (slot = 0; done.status == UIP_OK && slot < UIP_SLOTS; slot++) {
+ *                     lock();
+ *                     done = uip_periodic_frame(&device, slot, frame, sizeof frame);
+ *                     unlock();
+ *                     if (done.written > 0) mac_send(NULL, frame, done.written);
+ *                 }
+ *             status = done.status;
+ *             lock();
+ *             if (status == UIP_OK) work();
+ *             unlock();
+ *         }
+ *         stop(status);
  *     }
  *
- * Another task holds the mutex over its uip_set_value. Or it makes no call, and passes its values by a queue. On a
- * serial line hold the mutex over each uip_feed, uip_drain and uip_periodic, and send without it.
+ * Another task locks around its uip_set_value. Or it makes no call, and passes its values by a queue, which saves it
+ * the stack of a call. On a serial line lock around each uip_feed, uip_drain and uip_periodic likewise.
  *
- * THE SITE of both is a folder of four files. Each address gets a new query, so that no browser shows a stored copy.
+ * THE SITE of both programs is a folder of four files. Each address gets a new query, so that no browser shows a stored
+ * copy.
  *
  *     index.html      <script>location.replace("/now.shtml?" + Date.now())</script>
  *     now.shtml       <p>Now %! value-html 3
@@ -186,7 +200,7 @@ extern "C" {
  *     # 10.0.0.1, and fills no silence of the line with END
  *     # with step.c add examples/step.c after main.c
  *     m0 (M0+, M0)    m0 and -mcpu=cortex-m0plus in place of m4 and -mcpu=cortex-m4. m7 and m33 likewise
- *     rv32 (also C)   riscv64-unknown-elf-gcc -march=rv32imac_zicsr -mabi=ilp32, and rv32 in place of m4
+ *     rv32 (imac, imc) riscv64-unknown-elf-gcc -march=rv32imac_zicsr -mabi=ilp32, and rv32 in place of m4
  *     rv64            riscv64-unknown-elf-gcc -march=rv64imac_zicsr -mabi=lp64 -mcmodel=medany, and rv64
  *     no C library    examples/board/runtime.c, and -ffreestanding -nostdlib in place of -lc
  *     x86_64          `rt lib` in crates/uip_c makes crates/uip_c/out/libuip_c.a. For aarch64 it takes
@@ -231,10 +245,10 @@ typedef char uip_needs_unsigned_of_32_bits[sizeof(unsigned) == 4 ? 1 : -1];
  * late tick only delays the timers. Without ticks nothing is sent again and nothing times out.
  *
  * CONNECTIONS. Each file takes one of the ten connections, and the node closes it. Each connection has at most one
- * segment outstanding. A SYN that finds no slot in CLOSED takes the one that was longest in TIME_WAIT: so a page that
- * polls each second is served. An ESTABLISHED connection is reset after 20 ticks in which nothing is outstanding and no
- * data arrives. A segment that is not acknowledged is given up after 249 ticks, a SYN-ACK after 102. FIN_WAIT_2 and
- * TIME_WAIT end after 120.
+ * segment outstanding. A SYN that finds no slot in CLOSED takes the one that was longest in TIME_WAIT, so a page that
+ * polls each second is served. If there is none, it is dropped, and the peer sends it again. An ESTABLISHED connection
+ * is reset after 20 ticks in which nothing is outstanding and no data arrives. A segment that is not acknowledged is
+ * given up after 249 ticks, a SYN-ACK after 102. FIN_WAIT_2 and TIME_WAIT end after 120.
  *
  * The library cannot check these ten rules. If you break one, the behaviour is undefined. Every other mistake is
  * reported, or harmless to memory. The guide explains each rule in "The ten rules".
@@ -272,17 +286,17 @@ typedef char uip_needs_unsigned_of_32_bits[sizeof(unsigned) == 4 ? 1 : -1];
  *   9. STACK. There is room for each call that you make. Below its caller a call needs at most these bytes, computed
  *      from the linked code with heap.c. The guide, "Targets", has each target. Those of x86_64 and WebAssembly are not
  *      known.
- *          library                           uip_open    uip_open_ether    uip_close    any other call
- *          ports/out/TARGET/libuip_c.a          2,208                 -        2,832             2,208
- *            on M4, M7 and M33                  1,976                 -        2,480             1,976
- *          libuip_c_ether.a there               6,656             5,616        3,568             2,288
- *            on M4, M7 and M33                  6,656             5,280        3,272             1,872
+ *          library, target                        uip_open    uip_open_ether    uip_close    any other call
+ *          libuip_c.a, any                           2,208                 -        2,832             2,208
+ *          libuip_c.a, M4, M7, M33                   1,976                 -        2,480             1,976
+ *          libuip_c_ether.a, any                     6,656             5,616        3,568             2,288
+ *          libuip_c_ether.a, M4, M7, M33             6,656             5,280        3,272             1,872
  *        - Add the stack frames of your functions, and that of an inline function. Another heap may need more in
  *          opening and closing.
  *        - A sink runs after the library has returned. Count the deeper of the two: the call, or the sink with the
  *          calls that it makes.
  *        - Under FreeRTOS on a Cortex-M each task that makes a call needs this, also for uip_set_value alone, and its
- *          context (at most 72 bytes, with FPU 208). Interrupts, and `main` when it opens, use the main stack.
+ *          context (at most 80 bytes, with FPU 216). Interrupts, and `main` when it opens, use the main stack.
  *
  *  10. PROCESSOR. The stack is aligned as the ABI demands. In addition:
  *        - m0: nothing. x86_64: level v2 (SSE4.2).
@@ -297,7 +311,7 @@ typedef char uip_needs_unsigned_of_32_bits[sizeof(unsigned) == 4 ? 1 : -1];
  * waits as long as its sink does. Opening reads the whole image. Every other function of the library handles at most
  * one datagram. No bound of its time is known, and the longest call was not measured. On a Cortex-M4 and a serial line
  * a ping of 84 bytes takes 4,716 instructions, and a file of one byte 28,223 in all its calls (on an M0+ 8,442 and
- * 68,331). Feed a watchdog before opening, in each pass, and in a sink that waits.
+ * 68,331). Feed a watchdog before opening, in each pass (with step.c in `work`), and in a sink that waits.
  */
 
 /* ---- RESULTS
@@ -454,7 +468,9 @@ uip_opened uip_open(uip_device *device, const unsigned char *image, size_t len, 
  * Status: as of uip_open.
  *
  * The node learns hardware addresses by ARP and remembers eight. A ninth replaces the one that was learned longest ago.
- * Each is forgotten 2,400 ticks after it was last learned. The node does not announce its own address.
+ * Each is forgotten 2,400 ticks after it was last learned. The node does not announce its own address: after a reset,
+ * too, a host that knows the hardware address does not ask for it. The first reply to it is lost, and TCP sends it
+ * again.
  */
 uip_opened uip_open_ether(uip_device *device, const unsigned char *image, size_t len, const unsigned char own[4],
                           const unsigned char mac[6], const unsigned char mask[4], const unsigned char router[4]);
@@ -465,8 +481,7 @@ uip_opened uip_open_ether(uip_device *device, const unsigned char *image, size_t
  * To change the address or the site, close the device, open it again, and set all values again. Set to 0 what you
  * remember of hits and `hit`: otherwise the next comparison takes the new count for a click. With step.c also call
  * reset_step. Under an RTOS hold the mutex all the while: otherwise another task gets UIP_NO_DEVICE. The node informs
- * no peer: an open connection ends by its own time limit. A host that knows the hardware address does not ask for it
- * again, so on Ethernet the first reply to it is lost, and TCP sends it again.
+ * no peer: an open connection ends by its own time limit. 
  */
 unsigned uip_close(uip_device *device);
 
@@ -480,11 +495,10 @@ unsigned uip_close(uip_device *device);
  * one pass: 3.1 s at 115,200 bits a second. For a trial a ring of 512 bytes does: what overflows is lost, and TCP sends
  * it again. Here is one:
  *     static unsigned char ring[8192];             // a power of two
- *     static volatile unsigned in;
- *     static unsigned gone;
+ *     static volatile unsigned in, gone;
  *     void receiver(void) {                        // the interrupt
  *         unsigned char byte = port_read();        // yours
- *         if (in - gone < sizeof ring) ring[in++ % sizeof ring] = byte;
+ *         if (in - gone < sizeof ring) ring[in++ % sizeof ring] = byte;      // with step.c also: events++
  *     }
  *     size_t read_serial(unsigned char *bytes, size_t room) {
  *         size_t len = 0;
@@ -502,11 +516,11 @@ unsigned uip_close(uip_device *device);
  *     void dma_send(const unsigned char *bytes, size_t len);    // begins to send; a polled port: sends all
  *     int dma_is_busy(void);                                    // 1 while the port sends; a polled port: 0
  *     void interrupts_off(void), interrupts_on(void), wfi(void);
- * A pass calls `work`, makes at most one call that may send, and sleeps if there is nothing to do. So keep `work`
- * short. A port that sends by DMA or by interrupts is never waited for, a polled one for at most 256 bytes at a time.
- * 6,004 bytes of the ring are for two frames that can arrive while the loop sends two. The rest is for what arrives in
- * 24 runs of `work`: 8,192 bytes allow 7 ms each at 115,200 bits a second, if each byte has an interrupt (step.h has
- * more).
+ * A pass calls `work`, makes at most one call that may send, and sleeps if there is nothing to do. It makes a pass
+ * after each interrupt, too: keep `work` short, and measure on a clock. A port that sends by DMA or by interrupts is
+ * never waited for, a polled one for at most 256 bytes at a time. 6,004 bytes of the ring are for two frames that can
+ * arrive while the loop sends two. The rest is for what arrives in 24 runs of `work`: 8,192 bytes allow 7 ms each at
+ * 115,200 bits a second, if each byte has an interrupt (step.h has more).
  */
 
 /* Feeds received bytes up to the end of the first complete frame, handles that frame, and writes the reply as SLIP.
@@ -610,16 +624,17 @@ UIP_INLINE unsigned uip_tick_datagrams(uip_device *device, unsigned char *out, s
  *   - The frame begins at the first byte of `frame`, and `len` does not count the check sequence. (STM32: the length of
  *     the descriptor counts it on F4 and F7; ST's HAL subtracts or strips it. SAM GMAC: RXBUFO 0, RFCS 1. NXP ENET:
  *     RACC.SHIFT16 0.)
- *   - It pads what it sends to 60 bytes, and adds the check sequence.
+ *   - It pads what it sends to 60 bytes, and adds the check sequence (ST's HAL: ETH_CRC_PAD_INSERT).
  *   - It inserts no checksum of IP, ICMP or TCP, as the library has done so. (STM32: CIC 0, in ST's HAL
  *     ETH_CHECKSUM_DISABLE. NXP ENET: TACC 0. SAM GMAC: TXCOEN 0.) It may check those of received frames.
  *   - With one `frame`, as in the program above, no DMA uses it during a call, or after mac_receive or mac_send
  *     returns: each waits for the end of its DMA, or copies. If both copy, `frame` may be cached without more; if a DMA
  *     uses it, see the guide. With a ring pass its buffers in turn, and then this holds for each during its call. A
  *     buffer that became a reply is sent, and another one takes its place in the ring.
- *   - It may discard a frame that finds no buffer free, or no link. The node sends lost data again after 4 ticks, then
- *     after longer times, and the peer by its own clock. A ping, a reply of ARP or a RST is not sent again. A tick may
- *     send ten frames after a reply, so eleven buffers suffice for sending.
+ *   - It may discard a frame that finds no buffer free, or no link; the library needs no call when the link changes.
+ *     The node sends lost data again after 4 ticks, then after longer times, and the peer by its own clock. A ping, a
+ *     reply of ARP or a RST is not sent again. A tick may send ten frames after a reply, so eleven buffers suffice for
+ *     sending.
  * The guide, "The Ethernet controller", has rings of buffers and of descriptors, caches, barriers, and sending without
  * waiting.
  */
@@ -674,19 +689,20 @@ UIP_INLINE unsigned uip_tick_frames(uip_device *device, unsigned char *frame, si
  *     %!: /footer.html     the bytes of that file, whose directives are not executed
  * A request of / gets /index.html. It is no .shtml, but may lead to one. A missing file gets status 404, and /404.html
  * if the site has it. Content types are known for .html, .shtml, .txt, .css, .png, .gif and .jpg; others are
- * application/octet-stream. An .shtml file may be JSON. A number is `value` without quotes; set it before the first
- * request, as an empty one is no JSON:
+ * application/octet-stream. An .shtml file may be JSON. A number is `value` without quotes; set it before the loop, as
+ * an empty one is no JSON:
  *     {"limit": %! value 3
  *     , "name": "%! value-json 4
  *     "}                          packed by python3 tools/pack.py FOLDER site.c /v.shtml=application/json
  *
  * CACHES. No reply has a header for caches, so a browser may show a stored copy and request nothing. Give each link to
- * a button or to a page with values, and each form, a query that is new each time, as the site of PROGRAM does. In
- * JavaScript fetch(name, {cache: "no-store"}) needs no query, and so leaves the one of uip_query alone. A page that
- * refreshes itself, from a file v.shtml whose one line is %! value 3, has
+ * a button or to a page with values, and each form, a query that is new each time, as the links of PROGRAM and the form
+ * at uip_query do. In JavaScript fetch(name, {cache: "no-store"}) needs no query, and so leaves the one of uip_query
+ * alone. A page that refreshes itself, from a file v.shtml whose one line is %! value 3, has
  *     <p id="v"><script>(async function look() {
- *       try { v.textContent = await (await fetch("/v.shtml", {cache: "no-store"})).text() } catch { v.textContent = "?"
- *       } setTimeout(look, 1000) })()</script>
+ *         try { v.textContent = await (await fetch("/v.shtml", {cache: "no-store"})).text() }
+ *         catch { v.textContent = "?" }
+ *         setTimeout(look, 1000) })()</script>
  * The guide shows links ("Values and clicks") and forms ("Settings from a browser") without JavaScript. examples/state
  * is a whole site, with buttons, a form, and JSON that is polled. docs/FORMATS.md specifies server and directives.
  */
@@ -702,28 +718,29 @@ UIP_INLINE unsigned uip_tick_frames(uip_device *device, unsigned char *frame, si
  * The node ends a segment before each value, and reads the value when that segment is acknowledged. So each value costs
  * a round trip, often 40 to 200 ms, as peers delay acknowledgements; so does any other directive but an include. Two
  * values may be of two moments. Make one value of what belongs together: three measured ones fit into 32 bytes, as
- * 21.5,45.0,1013.2 for JavaScript that splits it. A segment that is sent again has the same bytes, whatever was set
- * since.
- *     char text[12];                         // unsigned t, in tenths; without stdio see `decimal` of the guide
- *     uip_set_value(&device, 3, text, (size_t)sprintf(text, "%u.%u", t / 10, t % 10));
+ * 21.5,45.0,1013.2, which [%! value 3 and, in the next line, ] make an array of JSON. A segment that is sent again has
+ * the same bytes, whatever was set since.
+ *     #include "text.h"                      // examples/text.h: numbers and fields, without the C library
+ *     char text[UIP_MAX_VALUE];
+ *     uip_set_value(&device, 3, text, tenths_text(text, -55));        // -5.5
  */
 unsigned uip_set_value(uip_device *device, size_t number, const void *text, size_t len);
 
-/* Returns how often a file was requested since the device was opened, modulo 2^32; 0 if no file has that name.
+/* Returns how often a file was requested since the device was opened, modulo 2^32. A misspelt name gives 0, and UIP_OK.
  *   name, len    the name as the image has it, with its slash: UIP_TEXT("/on.html")
  * Status: UIP_NO_DEVICE, UIP_OK.
  *
  * A request for / counts for /index.html. A query in the request does not matter. A segment that the browser sends
  * again counts once. But a reload counts, and a browser may follow a link by itself: let it set a state, and not toggle
  * one. What must not happen by itself or twice, as to move a valve or to clear a counter, takes a form with a token
- * (uip_query). A name that no file has is not reported.
+ * (uip_query).
  *
  * If two counts rose since you looked, you cannot tell which link came last. So look after each request. One frame
  * brings at most one request, and 64 bytes of a serial line complete at most one from a browser: so `work` of the
  * programs above sees them one by one, with step.c too. If you feed longer pieces, look in the sink of uip_feed_all.
  *
  * The file of a button may be an .shtml that shows the new state: the node reads its values when the browser has
- * acknowledged the head of the reply, and `work` has run by then.
+ * acknowledged the head of the reply, and `work` has run by then. (If another task acts on it, that must be as fast.)
  */
 uip_number uip_hits(uip_device *device, const void *name, size_t len);
 
@@ -738,7 +755,8 @@ uip_number uip_hits(uip_device *device, const void *name, size_t len);
  * arrives in the first segment with data. Any other request, such as a poll without a query, leaves text and `hit` as
  * they were. The query that a link gets from Date.now() replaces that of a form, too. Nothing is decoded: a browser
  * sends most other bytes as %XX. Anyone who reaches the device can send a query: check it before use. A form sends its
- * fields in their order to a file of the site. Here 42 bytes are left for the limit:
+ * fields in their order to a file of the site. Here 42 bytes are left for the limit, of which each escaped one takes
+ * three (write maxlength). A longer query is ignored, and the page shows the old setting.
  *     <form action="/set.html" onsubmit="this.n.value = Date.now()"><input name="limit"><input type="hidden" name="n">
  *     <button>Set</button></form>
  *     static unsigned last;                    // one for each file; 0 again if you open again
@@ -746,19 +764,28 @@ uip_number uip_hits(uip_device *device, const void *name, size_t len);
  *     uip_query_text got = uip_query(&device, UIP_TEXT("/set.html"), text, sizeof text);
  *     if (got.hit != 0 && got.hit != last) {
  *         last = got.hit;
- *         use(text, got.len);                  // yours: limit=21&n=.. (copy limit_in of examples/board/alarm.h)
+ *         unsigned limit;                      // number_in and, for a text, text_in are of examples/text.h
+ *         if (number_in(text, got.len, "limit", &limit) && limit <= 100) set_limit(limit);
  *     }
- * To miss no query, call this after each request, as `work` can (uip_hits). If you feed longer pieces, call it in the
- * sink of uip_feed_all: the sink has the reply to each request before the next request is handled.
+ * To miss no query, call this after each request: `work` of the programs above is early enough (uip_hits). The file of
+ * a form, too, may be an .shtml that shows the new setting. If you feed longer pieces, call it in the sink of
+ * uip_feed_all: the sink has the reply to each request before the next request is handled.
  *
  * AN ACTION ONCE. A reload sends the same query again, with another `hit`. So an action that must happen once takes a
  * token, in an .shtml file:
  *     <form action="/restart.html"><input type="hidden" name="n" value="%! value-html 5
  *     "><button>Restart</button></form>
- * Act only if the text is n= and value 5, and set another token at once. Never use a token twice, also not after a
- * reset: make it of a number of the start, counted in flash or random, and a count of the actions, in digits, letters
- * and -_ alone. Let the file of the action link to a page that shows what was done: an old page's token does nothing.
- * Do not reset in `work`, but some seconds later, so that the reply is delivered.
+ * Never use a token twice, also not after a reset: make it of a number of the start, counted in flash or random, and a
+ * count of the actions, in digits, letters and -_ alone. In `work`, with token and token_len, which value 5 shows:
+ *     if (got.hit != 0 && got.hit != last) {                       // got is of /restart.html
+ *         last = got.hit;
+ *         if (got.len == 2 + token_len && !memcmp(text, "n=", 2) && !memcmp(text + 2, token, token_len)) {
+ *             new_token();                                         // yours: changes the token, and sets value 5
+ *             is_asked = 1, asked_at = milliseconds();
+ *         }
+ *     }
+ *     if (is_asked && milliseconds() - asked_at > 3000) stop(UIP_OK);        // later, so that the reply is delivered
+ * The token of an old page does nothing: let the file of the action lead to a page that shows what was done.
  */
 uip_query_text uip_query(uip_device *device, const void *name, size_t len, void *out, size_t room);
 
@@ -772,7 +799,8 @@ uip_number uip_ticks(uip_device *device);
 /* Returns 1 if all connections are CLOSED, else 0. Status: UIP_NO_DEVICE, UIP_OK.
  *
  * While the number is 1 and nothing is pending, a tick sends nothing: you may leave out ticks, and sleep until
- * something arrives. With step.c write half_a_second_passed so (a clock of milliseconds would end each sleep):
+ * something arrives. step.c sleeps in each pass without work, and wakes each half second. To save that wake-up too,
+ * write half_a_second_passed so (a clock of milliseconds would end each sleep):
  *     volatile unsigned halves;                    // the interrupt of a timer: halves++, events++, each half second
  *     static int is_idle;
  *     int half_a_second_passed(void) {
@@ -783,9 +811,10 @@ uip_number uip_ticks(uip_device *device);
  *         last = is_idle || due > 2 ? now : last + 1;
  *         return !is_idle;
  *     }
- * In wfi, if is_idle is 1 and dma_is_busy returns 0, nothing is pending: you may stop that timer, and start it in the
- * interrupt of the receiver. Do not, if `work` must set values meanwhile, or feed a watchdog. After a page the number
- * is 0 for 60 s (TIME_WAIT), unless the peer closed first. The guide, "Sleep", has more.
+ * In wfi, if is_idle is 1 and dma_is_busy returns 0, nothing is pending: you may stop that timer there, and start it in
+ * the interrupt of the receiver. (`work` runs when a byte ends the sleep, before a value is read, so it may measure
+ * then.) Keep the timer, if a watchdog or something else needs `work`. After a page the number is 0 for 60 s
+ * (TIME_WAIT), unless the peer closed first. The guide, "Sleep", has more.
  */
 uip_number uip_is_idle(uip_device *device);
 

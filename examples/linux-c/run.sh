@@ -42,6 +42,7 @@ compiles "$cc" c c90 gnu90 c99 c11 c17
 build() { "$cc" -O2 -Wall -Wextra -I"$top/include" $4 "$here/$1.c" "$2" "$library" -o "$here/out/$3" || fail "$3 was not built"; }
 build serve "$here/heap.c" uip_serve
 build state "$here/heap.c" uip_state
+"$cc" -O2 -Wall -Wextra -I"$top/include" "$here/text_test.c" -o "$here/out/text_test" && "$here/out/text_test" || fail "examples/text.h does not do what it states"
 build step "$here/heap.c" uip_step "$top/examples/step.c"
 build each_call "$here/heap.c" uip_each_call
 build each_call "$top/examples/heap.c" uip_each_call_array "-DUIP_HEAP_SIZE=UIP_MEMORY(1)"

@@ -1,0 +1,46 @@
+// Tries examples/text.h: each line has what was expected, by hand.
+#include <limits.h>
+#include <stdio.h>
+#include <string.h>
+#include "../text.h"
+
+static int wrong;
+
+static void see(int is_so, const char *what) {
+    if (is_so) return;
+    fprintf(stderr, "text_test: %s\n", what);
+    wrong = 1;
+}
+
+static void see_tenths(int tenths, const char *expected) {
+    char text[12];
+    size_t len = tenths_text(text, tenths);
+    see(len == strlen(expected) && !memcmp(text, expected, len), expected);
+}
+
+static void see_number(const char *query, int is_there, unsigned expected) {
+    unsigned number = 7;
+    int found = number_in((const unsigned char *)query, strlen(query), "limit", &number);
+    see(found == is_there && number == (is_there ? expected : 7), query);
+}
+
+static void see_text(const char *query, size_t room, const char *expected) {
+    char text[16];
+    size_t size = 99;
+    int found = text_in((const unsigned char *)query, strlen(query), "name", text, room, &size);
+    see(found == !!expected && (found ? size == strlen(expected) && !memcmp(text, expected, size) : size == 99), query);
+}
+
+int main(void) {
+    see_tenths(0, "0.0"), see_tenths(-5, "-0.5"), see_tenths(-55, "-5.5"), see_tenths(215, "21.5");
+    see_tenths(INT_MAX, "214748364.7"), see_tenths(INT_MIN, "-214748364.8");
+    see_number("limit=21", 1, 21), see_number("limit=0&n=5", 1, 0), see_number("n=5&limit=100", 1, 100);
+    see_number("limit=999999999", 1, 999999999);
+    see_number("", 0, 0), see_number("limit", 0, 0), see_number("limit=", 0, 0), see_number("limits=3", 0, 0), see_number("xlimit=3", 0, 0);
+    see_number("limit=1234567890", 0, 0), see_number("limit=-1", 0, 0), see_number("limit=1a", 0, 0), see_number("&limit=3", 1, 3);
+    see_text("name=a", 16, "a"), see_text("n=1&name=caf%C3%A9+x&b=2", 16, "caf\xC3\xA9 x"), see_text("name=", 16, "");
+    see_text("name=%41%62", 2, "Ab");
+    see_text("name=%4", 16, NULL), see_text("name=%", 16, NULL), see_text("name=%4g", 16, NULL), see_text("name=abc", 2, NULL);
+    see_text("nam=abc", 16, NULL);
+    return wrong;
+}

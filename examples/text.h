@@ -1,0 +1,99 @@
+/*
+ * Numbers as texts for uip_set_value, and the fields of a query (uip_query), without the C library.
+ *
+ *     char text[UIP_MAX_VALUE];
+ *     uip_set_value(&device, 3, text, tenths_text(text, -55));                  // -5.5
+ *
+ *     // got of uip_query, with `query`: limit=21&name=caf%C3%A9&n=1764547200000
+ *     unsigned limit;
+ *     size_t len;
+ *     char name[16];
+ *     if (number_in(query, got.len, "limit", &limit) && limit <= 100) ..        // 21
+ *     if (text_in(query, got.len, "name", name, sizeof name, &len)) ..          // 5 bytes of UTF-8
+ *
+ * SPDX-License-Identifier: MIT OR Apache-2.0
+ * Copyright 2026 The Lowunbisa authors
+ */
+#ifndef TEXT_H
+#define TEXT_H
+
+#include "uip.h"
+
+/* Writes a number in decimal, 10 bytes at most, without a 0 at its end. Returns their number. */
+UIP_INLINE size_t decimal(char *to, unsigned number) {
+    char digits[10];
+    size_t count = 0, len = 0;
+    do digits[count++] = (char)('0' + number % 10); while (number /= 10);
+    while (count) to[len++] = digits[--count];
+    return len;
+}
+
+/* Writes a number of tenths: -55 as -5.5. 12 bytes at most, without a 0 at their end. Returns their number. */
+UIP_INLINE size_t tenths_text(char *to, int tenths) {
+    unsigned magnitude = tenths < 0 ? 0u - (unsigned)tenths : (unsigned)tenths;
+    size_t len = 0;
+    if (tenths < 0) to[len++] = '-';
+    len += decimal(to + len, magnitude / 10);
+    to[len++] = '.';
+    return len + decimal(to + len, magnitude % 10);
+}
+
+/* The value of a hexadecimal digit, or 16. */
+UIP_INLINE unsigned digit_of(unsigned char byte) {
+    if (byte >= '0' && byte <= '9') return byte - '0';
+    if (byte >= 'A' && byte <= 'F') return byte - 'A' + 10;
+    if (byte >= 'a' && byte <= 'f') return byte - 'a' + 10;
+    return 16;
+}
+
+/* Finds the field NAME=.. of a query: its bytes, as they came, and their number. Returns null if there is none. */
+UIP_INLINE const unsigned char *field_in(const unsigned char *query, size_t len, const char *name, size_t *size) {
+    size_t at = 0, end, k;
+    while (at < len) {
+        for (end = at; end < len && query[end] != '&'; end++) continue;
+        for (k = 0; name[k] && at + k < end && query[at + k] == (unsigned char)name[k]; k++) continue;
+        if (!name[k] && at + k < end && query[at + k] == '=') {
+            *size = end - at - k - 1;
+            return query + at + k + 1;
+        }
+        at = end + 1;
+    }
+    return NULL;
+}
+
+/* Reads the field NAME=DIGITS, of one to nine digits. Returns 0, and changes nothing, if there is none such. */
+UIP_INLINE int number_in(const unsigned char *query, size_t len, const char *name, unsigned *number) {
+    size_t size, k;
+    unsigned sum = 0;
+    const unsigned char *field = field_in(query, len, name, &size);
+    if (!field || size < 1 || size > 9) return 0;
+    for (k = 0; k < size; k++) {
+        if (digit_of(field[k]) > 9) return 0;
+        sum = sum * 10 + digit_of(field[k]);
+    }
+    *number = sum;
+    return 1;
+}
+
+/* Copies the text of the field NAME=TEXT, with + as a space, and %XX as a byte, without a 0 at its end. Returns 0 if there
+ * is none, if it has more than `room` bytes, or if a % has no two digits; then `to` may be changed, and `size` is not.
+ */
+UIP_INLINE int text_in(const unsigned char *query, size_t len, const char *name, char *to, size_t room, size_t *size) {
+    size_t count, k, done = 0;
+    const unsigned char *field = field_in(query, len, name, &count);
+    if (!field) return 0;
+    for (k = 0; k < count; k++) {
+        unsigned byte = field[k] == '+' ? ' ' : field[k];
+        if (byte == '%') {
+            if (count - k < 3 || digit_of(field[k + 1]) > 15 || digit_of(field[k + 2]) > 15) return 0;
+            byte = digit_of(field[k + 1]) * 16 + digit_of(field[k + 2]);
+            k += 2;
+        }
+        if (done == room) return 0;
+        to[done++] = (char)byte;
+    }
+    *size = done;
+    return 1;
+}
+
+#endif
