@@ -81,7 +81,7 @@ extern "C" {
  *         return 1;
  *     }
  *
- *     unsigned on, off;                                    // the counts at the last pass: 0 again if you open again
+ *     unsigned on, off;                                    // counts at the last pass: set to 0 if you open again
  *
  *     void work(void) {                                    // no status is checked: each is UIP_OK, as the device is
  *                                                          // open, and the arguments are in range
@@ -149,6 +149,7 @@ extern "C" {
  *
  *     void network(void *unused) {                         // the task; `frame` is static at file scope
  *         unsigned status = UIP_OK;
+ *         (void)unused;
  *         while (status == UIP_OK) {
  *             uip_result done = {UIP_OK, 0, 0, 0};
  *             size_t slot, len = mac_receive(frame, sizeof frame);
@@ -173,10 +174,12 @@ extern "C" {
  *         stop(status);
  *     }
  *
- * Another task locks around its uip_set_value. Or it makes no call, and passes its values by a queue, which saves it
- * the stack of a call. On a serial line lock around each uip_feed, uip_drain and uip_periodic likewise.
+ * Here mac_receive waits for the interrupt of the receiver. `work` runs with the mutex held: it does not lock it again,
+ * and does not wait. Another task locks around its uip_set_value (which `work` leaves out). Or it makes no call, and
+ * passes its values by a queue, which saves it the stack of a call. On a serial line lock likewise around each
+ * uip_feed, uip_drain and uip_periodic, and `work`; step.c locks nothing, so copy it and add that.
  *
- * THE SITE of both programs is a folder of four files. Each address gets a new query, so that no browser shows a stored
+ * THE SITE of all three is a folder of four files. Each address gets a new query, so that no browser shows a stored
  * copy.
  *
  *     index.html      <script>location.replace("/now.shtml?" + Date.now())</script>
@@ -186,7 +189,8 @@ extern "C" {
  *     on.html         <p>The lamp turns on. <a href="/now.shtml" onclick="this.search = Date.now()">Back</a>
  *     off.html        <p>The lamp turns off. <a href="/now.shtml" onclick="this.search = Date.now()">Back</a>
  *
- * Put <link rel="icon" href="data:,"> into each page: it spares the request for an icon.
+ * Put <link rel="icon" href="data:,"> into each page, which spares the request for an icon, and <meta charset="utf-8">,
+ * as no reply names a character set, and a form sends in that of its page.
  */
 
 /* ---- BUILD
@@ -196,8 +200,8 @@ extern "C" {
  *     arm-none-eabi-gcc -mcpu=cortex-m4 -mthumb -mfloat-abi=soft -Os -nostartfiles -Wl,--gc-sections -Iinclude \
  *         -Iexamples -T board.ld startup.c drivers.c main.c ports/out/m4/libuip_c.a -lc -lgcc -o firmware.elf
  *     # on Ethernet link libuip_c_ether.a in its place
- *     python3 examples/browse.py --line /dev/ttyUSB0 115200 --silent   # at the other end: Linux. It needs `own`
- *     # 10.0.0.1, and fills no silence of the line with END
+ *     python3 examples/browse.py --line /dev/ttyUSB0 115200 --silent   # at the other end: Linux. `own` is 10.0.0.1
+ *     # (--silent: the node has a clock of its own)
  *     # with step.c add examples/step.c after main.c
  *     m0 (M0+, M0)    m0 and -mcpu=cortex-m0plus in place of m4 and -mcpu=cortex-m4. m7 and m33 likewise
  *     rv32 (imac, imc) riscv64-unknown-elf-gcc -march=rv32imac_zicsr -mabi=ilp32, and rv32 in place of m4
@@ -205,8 +209,8 @@ extern "C" {
  *     no C library    examples/board/runtime.c, and -ffreestanding -nostdlib in place of -lc
  *     x86_64          `rt lib` in crates/uip_c makes crates/uip_c/out/libuip_c.a. For aarch64 it takes
  *                     --target aarch64-unknown-linux-gnu
- *     an FPU          -mfloat-abi=softfp -mfpu=fpv4-sp-d16 (M4), fpv5-sp-d16 (M33) or fpv5-d16 (M7).
- *                     The library uses no FPU register. For -mfloat-abi=hard make another library (the guide)
+ *     an FPU          -mfloat-abi=softfp -mfpu=fpv4-sp-d16 (M4), fpv5-sp-d16 (M33, M7) or fpv5-d16 (M7 with double
+ *                     precision). The library uses no FPU register. For -mfloat-abi=hard make another (the guide)
  *     a trial on PC   sh examples/linux-c/run.sh (with the kit), and then
  *                     python3 examples/browse.py examples/linux-c/out/uip_serve
  *                     on Ethernet, as root: sh examples/linux-ether/run.sh
@@ -287,9 +291,9 @@ typedef char uip_needs_unsigned_of_32_bits[sizeof(unsigned) == 4 ? 1 : -1];
  *      from the linked code with heap.c. The guide, "Targets", has each target. Those of x86_64 and WebAssembly are not
  *      known.
  *          library, target                        uip_open    uip_open_ether    uip_close    any other call
- *          libuip_c.a, any                           2,208                 -        2,832             2,208
+ *          libuip_c.a, the greatest                  2,208                 -        2,832             2,208
  *          libuip_c.a, M4, M7, M33                   1,976                 -        2,480             1,976
- *          libuip_c_ether.a, any                     6,656             5,616        3,568             2,288
+ *          libuip_c_ether.a, the greatest            6,656             5,616        3,568             2,288
  *          libuip_c_ether.a, M4, M7, M33             6,656             5,280        3,272             1,872
  *        - Add the stack frames of your functions, and that of an inline function. Another heap may need more in
  *          opening and closing.
@@ -320,7 +324,7 @@ typedef char uip_needs_unsigned_of_32_bits[sizeof(unsigned) == 4 ? 1 : -1];
  *   - If the status is not UIP_OK, the call changed nothing, wrote nothing, called no sink, and the other fields are 0.
  *     Exceptions: uip_opened names a fault, and uip_drain_all may call the sink before a uip_drain is refused.
  *   - Each call lists its statuses in the order in which it looks for them.
- *   - No contents of what arrives cause an error. After opening, the two programs above see only UIP_OK. (On a link of
+ *   - No contents of what arrives cause an error. After opening, the programs above see only UIP_OK. (On a link of
  *     datagrams discard one of 0 bytes or of more than UIP_MAX_DATAGRAM: its length would be refused.)
  *   - After opening, treat any other status as a failed assertion: record it and reset. Exception: after
  *     UIP_OUTPUT_PENDING call uip_drain until `pending` is 0, and then make the refused call again.
@@ -468,9 +472,9 @@ uip_opened uip_open(uip_device *device, const unsigned char *image, size_t len, 
  * Status: as of uip_open.
  *
  * The node learns hardware addresses by ARP and remembers eight. A ninth replaces the one that was learned longest ago.
- * Each is forgotten 2,400 ticks after it was last learned. The node does not announce its own address: after a reset,
- * too, a host that knows the hardware address does not ask for it. The first reply to it is lost, and TCP sends it
- * again.
+ * Each is forgotten 2,400 ticks after it was last learned. The node does not announce its own address. After a reset
+ * its table is empty, but a host may still know the node, and not ask. In place of its first reply to that host the
+ * node then sends a request of ARP, and TCP sends the reply again.
  */
 uip_opened uip_open_ether(uip_device *device, const unsigned char *image, size_t len, const unsigned char own[4],
                           const unsigned char mac[6], const unsigned char mask[4], const unsigned char router[4]);
@@ -481,7 +485,7 @@ uip_opened uip_open_ether(uip_device *device, const unsigned char *image, size_t
  * To change the address or the site, close the device, open it again, and set all values again. Set to 0 what you
  * remember of hits and `hit`: otherwise the next comparison takes the new count for a click. With step.c also call
  * reset_step. Under an RTOS hold the mutex all the while: otherwise another task gets UIP_NO_DEVICE. The node informs
- * no peer: an open connection ends by its own time limit. 
+ * no peer: an open connection ends by its own time limit.
  */
 unsigned uip_close(uip_device *device);
 
@@ -492,8 +496,8 @@ unsigned uip_close(uip_device *device);
  * "Connect it to a PC", has other peers than browse.py.
  *
  * THE RING. While the program writes, let an interrupt or a DMA store what arrives. PROGRAM may write 36,024 bytes in
- * one pass: 3.1 s at 115,200 bits a second. For a trial a ring of 512 bytes does: what overflows is lost, and TCP sends
- * it again. Here is one:
+ * one pass, ten frames for a tick and up to three for its 64 bytes: 3.1 s at 115,200 bits a second. For a trial a ring
+ * of 512 bytes does: what overflows is lost, and TCP sends it again. Here is one:
  *     static unsigned char ring[8192];             // a power of two
  *     static volatile unsigned in, gone;
  *     void receiver(void) {                        // the interrupt
@@ -689,11 +693,12 @@ UIP_INLINE unsigned uip_tick_frames(uip_device *device, unsigned char *frame, si
  *     %!: /footer.html     the bytes of that file, whose directives are not executed
  * A request of / gets /index.html. It is no .shtml, but may lead to one. A missing file gets status 404, and /404.html
  * if the site has it. Content types are known for .html, .shtml, .txt, .css, .png, .gif and .jpg; others are
- * application/octet-stream. An .shtml file may be JSON. A number is `value` without quotes; set it before the loop, as
- * an empty one is no JSON:
+ * application/octet-stream. An .shtml file may be JSON, if pack.py is given its type: python3 tools/pack.py FOLDER
+ * site.c /v.shtml=application/json. A number is `value` without quotes. Set it before the loop: an empty one is no
+ * JSON.
  *     {"limit": %! value 3
  *     , "name": "%! value-json 4
- *     "}                          packed by python3 tools/pack.py FOLDER site.c /v.shtml=application/json
+ *     "}
  *
  * CACHES. No reply has a header for caches, so a browser may show a stored copy and request nothing. Give each link to
  * a button or to a page with values, and each form, a query that is new each time, as the links of PROGRAM and the form
@@ -718,8 +723,8 @@ UIP_INLINE unsigned uip_tick_frames(uip_device *device, unsigned char *frame, si
  * The node ends a segment before each value, and reads the value when that segment is acknowledged. So each value costs
  * a round trip, often 40 to 200 ms, as peers delay acknowledgements; so does any other directive but an include. Two
  * values may be of two moments. Make one value of what belongs together: three measured ones fit into 32 bytes, as
- * 21.5,45.0,1013.2, which [%! value 3 and, in the next line, ] make an array of JSON. A segment that is sent again has
- * the same bytes, whatever was set since.
+ * 21.5,45.0,1013.2, an array of JSON between [ and ]. A segment that is sent again has the same bytes, whatever was set
+ * since.
  *     #include "text.h"                      // examples/text.h: numbers and fields, without the C library
  *     char text[UIP_MAX_VALUE];
  *     uip_set_value(&device, 3, text, tenths_text(text, -55));        // -5.5
@@ -735,12 +740,13 @@ unsigned uip_set_value(uip_device *device, size_t number, const void *text, size
  * one. What must not happen by itself or twice, as to move a valve or to clear a counter, takes a form with a token
  * (uip_query).
  *
- * If two counts rose since you looked, you cannot tell which link came last. So look after each request. One frame
+ * If two counts rose since you looked, you do not know which link came last. So look after each request. One frame
  * brings at most one request, and 64 bytes of a serial line complete at most one from a browser: so `work` of the
  * programs above sees them one by one, with step.c too. If you feed longer pieces, look in the sink of uip_feed_all.
  *
  * The file of a button may be an .shtml that shows the new state: the node reads its values when the browser has
- * acknowledged the head of the reply, and `work` has run by then. (If another task acts on it, that must be as fast.)
+ * acknowledged the head of the reply, and `work` has run by then. If another task acts on the click, let it link to a
+ * page that is loaded later.
  */
 uip_number uip_hits(uip_device *device, const void *name, size_t len);
 
@@ -755,11 +761,12 @@ uip_number uip_hits(uip_device *device, const void *name, size_t len);
  * arrives in the first segment with data. Any other request, such as a poll without a query, leaves text and `hit` as
  * they were. The query that a link gets from Date.now() replaces that of a form, too. Nothing is decoded: a browser
  * sends most other bytes as %XX. Anyone who reaches the device can send a query: check it before use. A form sends its
- * fields in their order to a file of the site. Here 42 bytes are left for the limit, of which each escaped one takes
- * three (write maxlength). A longer query is ignored, and the page shows the old setting.
+ * fields in their order to a file of the site. In the form below 64 bytes less `limit=`, `&n=` and 13 digits leave 42
+ * for the value. Each escaped byte takes three, and a letter beyond ASCII six or more: write maxlength. A longer query
+ * is ignored.
  *     <form action="/set.html" onsubmit="this.n.value = Date.now()"><input name="limit"><input type="hidden" name="n">
  *     <button>Set</button></form>
- *     static unsigned last;                    // one for each file; 0 again if you open again
+ *     static unsigned last;                    // one for each file; set it to 0 if you open again
  *     unsigned char text[UIP_MAX_QUERY];
  *     uip_query_text got = uip_query(&device, UIP_TEXT("/set.html"), text, sizeof text);
  *     if (got.hit != 0 && got.hit != last) {
@@ -776,7 +783,8 @@ uip_number uip_hits(uip_device *device, const void *name, size_t len);
  *     <form action="/restart.html"><input type="hidden" name="n" value="%! value-html 5
  *     "><button>Restart</button></form>
  * Never use a token twice, also not after a reset: make it of a number of the start, counted in flash or random, and a
- * count of the actions, in digits, letters and -_ alone. In `work`, with token and token_len, which value 5 shows:
+ * count of the actions, in digits, letters and -_ alone. In `work`, with <string.h>, and token and token_len, which
+ * value 5 shows:
  *     if (got.hit != 0 && got.hit != last) {                       // got is of /restart.html
  *         last = got.hit;
  *         if (got.len == 2 + token_len && !memcmp(text, "n=", 2) && !memcmp(text + 2, token, token_len)) {
