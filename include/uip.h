@@ -11,7 +11,7 @@
  *
  * On a Cortex-M4, in bytes       flash without a site    RAM with heap and stack, for six files
  *     serial line, a loop that waits           24,221     8,432    with a ring of 512 bytes
- *     serial line, step.c              about the same    16,356    with a ring of 8,192 bytes
+ *     serial line, examples/step.c     about the same    16,356    with a ring of 8,192 bytes
  *     Ethernet                                 24,029    11,232    without the buffers of the driver
  * Flash is that of examples/board (main.c and ether.c, which set no values and read no hits) with a driver. Other
  * targets need more flash than an M4, in kB: M7 0.5, M33 0.1, M0+ 5 to 6, rv32 13 to 14, rv64 8 to 9. RAM has the heap
@@ -57,6 +57,11 @@ extern "C" {
 #define UIP_INTERFACE 3
 
 /* ---- PROGRAM
+ * A device is one node: its address, connections and values. A site is a folder of pages, and its image the array that
+ * tools/pack.py makes of it. A slot is one of the ten places for a connection. A periodic call runs the timers of one
+ * slot, and a tick is one such call for each slot. A sink is your function that takes output. Output is pending if it
+ * did not fit into `out`.
+ *
  * A complete program for a serial line. The six functions that it declares are yours: the drivers of a board.
  *
  *     #include "uip.h"
@@ -142,8 +147,8 @@ extern "C" {
  *         stop(status);
  *     }
  *
- * UNDER AN RTOS open in `main`, before the scheduler starts, on the main stack (rule 9). One task makes all calls but
- * uip_set_value, and sends without the mutex:
+ * UNDER AN RTOS open in `main`, before the scheduler starts, on the main stack (rule 9). One task makes all calls, and
+ * sends without the mutex. Another task may call uip_set_value, under it:
  *
  *     void lock(void), unlock(void);                       // yours: a mutex
  *
@@ -239,11 +244,6 @@ typedef char uip_needs_32_or_64_bits[
 typedef char uip_needs_unsigned_of_32_bits[sizeof(unsigned) == 4 ? 1 : -1];
 
 /* ---- RULES
- * A device is one node: its address, connections and values. A site is a folder of pages, and its image the array that
- * tools/pack.py makes of it. A slot is one of the ten places for a connection. A periodic call runs the timers of one
- * slot, and a tick is one such call for each slot. A sink is your function that takes output. Output is pending if it
- * did not fit into `out`.
- *
  * TICKS are the only clock of the library. Make one each half second, by the function of your link. If two are due,
  * make both. If more are due, after a stall, make one and forget the others: a burst would time out live connections. A
  * late tick only delays the timers. Without ticks nothing is sent again and nothing times out.
@@ -275,9 +275,9 @@ typedef char uip_needs_unsigned_of_32_bits[sizeof(unsigned) == 4 ? 1 : -1];
  *      `router` have 4 bytes, `mac` 6. For a length of 0 pass any valid address. Any alignment will do. On 32 bits a
  *      length is below 2^31.
  *
- *   5. OUTPUT. The library may write any byte of `room` in `out` and `frame`, also if `written` is 0. They overlap no
- *      other argument, and not the device. Until the call returns, nothing else uses them. Exception: the sink of an
- *      inline function may use them, and so may a DMA that has ended when the sink returns.
+ *   5. OUTPUT. The library may write any byte of `room` in `out` and `frame`, also if `written` is 0 (but see
+ *      uip_query). They overlap no other argument, and not the device. Until the call returns, nothing else uses them.
+ *      Exception: the sink of an inline function may use them, and so may a DMA that has ended when the sink returns.
  *
  *   6. IMAGE. It stays at its address, unchanged, until uip_close: the library reads it in place.
  *
@@ -285,7 +285,7 @@ typedef char uip_needs_unsigned_of_32_bits[sizeof(unsigned) == 4 ? 1 : -1];
  *
  *   8. LINK. The program defines the three functions of HEAP, and they do what HEAP states. It or its C library
  *      supplies memcpy, memmove and memset, and on 32 bits it links libgcc or compiler-rt. Header and library are of
- *      one release. It is not compiled with -fpcc-struct-return or -freg-struct-return.
+ *      one release. The program is not compiled with -fpcc-struct-return or -freg-struct-return.
  *
  *   9. STACK. There is room for each call that you make. Below its caller a call needs at most these bytes, computed
  *      from the linked code with heap.c. The guide, "Targets", has each target. Those of x86_64 and WebAssembly are not
@@ -293,6 +293,7 @@ typedef char uip_needs_unsigned_of_32_bits[sizeof(unsigned) == 4 ? 1 : -1];
  *          library, target                        uip_open    uip_open_ether    uip_close    any other call
  *          libuip_c.a, the greatest                  2,208                 -        2,832             2,208
  *          libuip_c.a, M4, M7, M33                   1,976                 -        2,480             1,976
+ *          libuip_c.a, M0+, M0                       2,084                 -        2,600             2,084
  *          libuip_c_ether.a, the greatest            6,656             5,616        3,568             2,288
  *          libuip_c_ether.a, M4, M7, M33             6,656             5,280        3,272             1,872
  *        - Add the stack frames of your functions, and that of an inline function. Another heap may need more in
@@ -496,35 +497,56 @@ unsigned uip_close(uip_device *device);
  * "Connect it to a PC", has other peers than browse.py.
  *
  * THE RING. While the program writes, let an interrupt or a DMA store what arrives. PROGRAM may write 36,024 bytes in
- * one pass, ten frames for a tick and up to three for its 64 bytes: 3.1 s at 115,200 bits a second. For a trial a ring
- * of 512 bytes does: what overflows is lost, and TCP sends it again. Here is one:
- *     static unsigned char ring[8192];             // a power of two
+ * one pass, ten frames for a tick and up to three for its 64 bytes: 3.1 s at 115,200 bits a second. What overflows is
+ * lost, and TCP sends it again: for a trial 512 bytes do.
+ *     static volatile unsigned char ring[8192];    // a power of two
  *     static volatile unsigned in, gone;
  *     void receiver(void) {                        // the interrupt
  *         unsigned char byte = port_read();        // yours
- *         if (in - gone < sizeof ring) ring[in++ % sizeof ring] = byte;      // with step.c also: events++
+ *         if (in - gone < sizeof ring) {
+ *             ring[in % sizeof ring] = byte;
+ *             in++;
+ *         }
+ *         events++;                                // for step.c, see below
  *     }
  *     size_t read_serial(unsigned char *bytes, size_t room) {
  *         size_t len = 0;
- *         while (len < room && gone != in) bytes[len++] = ring[gone++ % sizeof ring];
+ *         for (; len < room && gone != in; gone++) bytes[len++] = ring[gone % sizeof ring];    // reads, then releases
  *         return len;
  *     }
  * With a circular DMA read_serial copies up to the DMA's counter. If the DMA has lapped it, drop all that waits.
  *
  * BEYOND A TRIAL compile examples/step.c beside your program, and include step.h. In PROGRAM delete write_serial,
- * `bytes`, `out` and the loop, and write
- *     volatile unsigned events;                    // add 1 in the interrupts: a byte, all sent, each 0.5 s
+ * `bytes`, `out` and the loop. Take the ticks from a timer of half a second, as a clock of milliseconds would end each
+ * sleep:
+ *     volatile unsigned events;                    // changes if bytes arrived, if all is sent, and each half second
+ *     static volatile unsigned halves;             // the interrupt of that timer: halves++, events++
+ *     int half_a_second_passed(void) {
+ *         static unsigned last;
+ *         unsigned now = halves, due = now - last;
+ *         if (due == 0) return 0;
+ *         last = due > 2 ? now : last + 1;
+ *         return 1;
+ *     }
+ *     static volatile int is_sending;
+ *     int dma_is_busy(void) { return is_sending; }
+ *     void dma_send(const unsigned char *bytes, size_t len) {
+ *         is_sending = 1;                          // first, as the next line may end at once
+ *         port_start(bytes, len);                  // yours. If it is polled: sends all, is_sending = 0
+ *     }
+ *     void sent(void) {                            // the interrupt of the last bit
+ *         is_sending = 0;
+ *         events++;
+ *     }
+ *     void interrupts_off(void), interrupts_on(void), wfi(void);    // cpsid i, cpsie i (no BASEPRI); dsb, wfi
  *     ..
  *     if (status == UIP_OK) status = serve();      // in `main`; returns only if a call failed
- * You define these, which step.h explains:
- *     void dma_send(const unsigned char *bytes, size_t len);    // begins to send; a polled port: sends all
- *     int dma_is_busy(void);                                    // 1 while the port sends; a polled port: 0
- *     void interrupts_off(void), interrupts_on(void), wfi(void);
- * A pass calls `work`, makes at most one call that may send, and sleeps if there is nothing to do. It makes a pass
- * after each interrupt, too: keep `work` short, and measure on a clock. A port that sends by DMA or by interrupts is
- * never waited for, a polled one for at most 256 bytes at a time. 6,004 bytes of the ring are for two frames that can
- * arrive while the loop sends two. The rest is for what arrives in 24 runs of `work`: 8,192 bytes allow 7 ms each at
- * 115,200 bits a second, if each byte has an interrupt (step.h has more).
+ * Each pass runs `work`, and then makes at most one call that may send. If there was none to make, the loop sleeps
+ * until an interrupt, of each byte too: so keep `work` short, and let it read sensors only if its time has come.
+ *
+ * Two frames can arrive while the loop sends two, 6,004 bytes at any rate. They go out in 24 pieces, and `work` runs
+ * before each: the other 2,188 bytes of the ring are for what arrives meanwhile, 7 ms of `work` at 115,200 bits a
+ * second, 15 ms at 57,600. A smaller ring may lose frames, and pages come late. step.h has more.
  */
 
 /* Feeds received bytes up to the end of the first complete frame, handles that frame, and writes the reply as SLIP.
@@ -693,19 +715,19 @@ UIP_INLINE unsigned uip_tick_frames(uip_device *device, unsigned char *frame, si
  *     %!: /footer.html     the bytes of that file, whose directives are not executed
  * A request of / gets /index.html. It is no .shtml, but may lead to one. A missing file gets status 404, and /404.html
  * if the site has it. Content types are known for .html, .shtml, .txt, .css, .png, .gif and .jpg; others are
- * application/octet-stream. An .shtml file may be JSON, if pack.py is given its type: python3 tools/pack.py FOLDER
- * site.c /v.shtml=application/json. A number is `value` without quotes. Set it before the loop: an empty one is no
- * JSON.
- *     {"limit": %! value 3
- *     , "name": "%! value-json 4
+ * application/octet-stream. An .shtml file may be JSON. Here value 3, 21.5,45.0, gives an array of two numbers, in one
+ * round trip (uip_set_value). Set it before the loop, as an empty one is no JSON:
+ *     {"measured": [%! value 3
+ *     ], "name": "%! value-json 4
  *     "}
+ * For its type pack it by python3 tools/pack.py FOLDER site.c /v.shtml=application/json; fetch(..).json() needs none.
  *
  * CACHES. No reply has a header for caches, so a browser may show a stored copy and request nothing. Give each link to
  * a button or to a page with values, and each form, a query that is new each time, as the links of PROGRAM and the form
  * at uip_query do. In JavaScript fetch(name, {cache: "no-store"}) needs no query, and so leaves the one of uip_query
- * alone. A page that refreshes itself, from a file v.shtml whose one line is %! value 3, has
- *     <p id="v"><script>(async function look() {
- *         try { v.textContent = await (await fetch("/v.shtml", {cache: "no-store"})).text() }
+ * alone. A page that refreshes itself, from a file t.shtml whose one line is %! value 3, has
+ *     <p id="v"></p><script>(async function look() {
+ *         try { v.textContent = await (await fetch("/t.shtml", {cache: "no-store"})).text() }
  *         catch { v.textContent = "?" }
  *         setTimeout(look, 1000) })()</script>
  * The guide shows links ("Values and clicks") and forms ("Settings from a browser") without JavaScript. examples/state
@@ -722,12 +744,11 @@ UIP_INLINE unsigned uip_tick_frames(uip_device *device, unsigned char *frame, si
  *
  * The node ends a segment before each value, and reads the value when that segment is acknowledged. So each value costs
  * a round trip, often 40 to 200 ms, as peers delay acknowledgements; so does any other directive but an include. Two
- * values may be of two moments. Make one value of what belongs together: three measured ones fit into 32 bytes, as
- * 21.5,45.0,1013.2, an array of JSON between [ and ]. A segment that is sent again has the same bytes, whatever was set
- * since.
+ * values may be of two moments. Make one value of what belongs together, as 21.5,45.0,1013.2. A segment that is sent
+ * again has the same bytes, whatever was set since.
  *     #include "text.h"                      // examples/text.h: numbers and fields, without the C library
- *     char text[UIP_MAX_VALUE];
- *     uip_set_value(&device, 3, text, tenths_text(text, -55));        // -5.5
+ *     char number[UIP_MAX_VALUE];
+ *     uip_set_value(&device, 3, number, tenths_text(number, -55));    // -5.5
  */
 unsigned uip_set_value(uip_device *device, size_t number, const void *text, size_t len);
 
@@ -759,21 +780,24 @@ uip_number uip_hits(uip_device *device, const void *name, size_t len);
  * The device keeps one query in all: the last acceptable one. A query is acceptable if a file has the requested name,
  * if the text after the ? has at most 64 bytes, each a letter, a digit or one of -_.~%&=+, and if the whole target
  * arrives in the first segment with data. Any other request, such as a poll without a query, leaves text and `hit` as
- * they were. The query that a link gets from Date.now() replaces that of a form, too. Nothing is decoded: a browser
- * sends most other bytes as %XX. Anyone who reaches the device can send a query: check it before use. A form sends its
- * fields in their order to a file of the site. In the form below 64 bytes less `limit=`, `&n=` and 13 digits leave 42
- * for the value. Each escaped byte takes three, and a letter beyond ASCII six or more: write maxlength. A longer query
- * is ignored.
- *     <form action="/set.html" onsubmit="this.n.value = Date.now()"><input name="limit"><input type="hidden" name="n">
- *     <button>Set</button></form>
- *     static unsigned last;                    // one for each file; set it to 0 if you open again
- *     unsigned char text[UIP_MAX_QUERY];
- *     uip_query_text got = uip_query(&device, UIP_TEXT("/set.html"), text, sizeof text);
- *     if (got.hit != 0 && got.hit != last) {
- *         last = got.hit;
- *         unsigned limit;                      // number_in and, for a text, text_in are of examples/text.h
- *         if (number_in(text, got.len, "limit", &limit) && limit <= 100) set_limit(limit);
+ * they were. A link's query by Date.now() replaces that of a form, too. Nothing is decoded: a browser sends
+ * most other bytes as %XX. Anyone who reaches the device can send a query: check it before use. A form sends its fields
+ * in their order to a file of the site:
+ *     <form action="/set.html" onsubmit="this.n.value = Date.now()">
+ *     <input name="limit" type="number" min="0" max="100" required>
+ *     <input type="hidden" name="n"><button>Set</button></form>
+ *
+ *     static unsigned last_set;                // one for each file; set it to 0 if you open again
+ *     unsigned char query[UIP_MAX_QUERY];
+ *     unsigned limit;
+ *     uip_query_text got = uip_query(&device, UIP_TEXT("/set.html"), query, sizeof query);
+ *     if (got.hit != 0 && got.hit != last_set) {
+ *         last_set = got.hit;                  // number_in and, for a text, text_in are of examples/text.h
+ *         if (number_in(query, got.len, "limit", &limit) && limit <= 100) set_limit(limit);
  *     }
+ * `limit=`, `&n=` and 13 digits leave 42 bytes for the value. In a text each escaped byte takes three, and a letter
+ * beyond ASCII six or more: write maxlength. A longer query is ignored.
+ *
  * To miss no query, call this after each request: `work` of the programs above is early enough (uip_hits). The file of
  * a form, too, may be an .shtml that shows the new setting. If you feed longer pieces, call it in the sink of
  * uip_feed_all: the sink has the reply to each request before the next request is handled.
@@ -783,17 +807,20 @@ uip_number uip_hits(uip_device *device, const void *name, size_t len);
  *     <form action="/restart.html"><input type="hidden" name="n" value="%! value-html 5
  *     "><button>Restart</button></form>
  * Never use a token twice, also not after a reset: make it of a number of the start, counted in flash or random, and a
- * count of the actions, in digits, letters and -_ alone. In `work`, with <string.h>, and token and token_len, which
- * value 5 shows:
- *     if (got.hit != 0 && got.hit != last) {                       // got is of /restart.html
- *         last = got.hit;
- *         if (got.len == 2 + token_len && !memcmp(text, "n=", 2) && !memcmp(text + 2, token, token_len)) {
- *             new_token();                                         // yours: changes the token, and sets value 5
+ * count of the actions, in digits, letters and -_ alone. Call new_token before the loop too. In `work`:
+ *     static unsigned last_restart, asked_at;
+ *     static int is_asked;
+ *     got = uip_query(&device, UIP_TEXT("/restart.html"), query, sizeof query);
+ *     if (got.hit != 0 && got.hit != last_restart) {
+ *         last_restart = got.hit;
+ *         if (is_token(query, got.len)) {              // yours: whether the text is n= and the token
+ *             new_token();                             // yours: changes the token, and sets value 5
  *             is_asked = 1, asked_at = milliseconds();
  *         }
  *     }
  *     if (is_asked && milliseconds() - asked_at > 3000) stop(UIP_OK);        // later, so that the reply is delivered
- * The token of an old page does nothing: let the file of the action lead to a page that shows what was done.
+ * The token of an old page does nothing: let the file of the action lead, after some seconds, to a page that shows the
+ * number of the start.
  */
 uip_query_text uip_query(uip_device *device, const void *name, size_t len, void *out, size_t room);
 
@@ -807,22 +834,15 @@ uip_number uip_ticks(uip_device *device);
 /* Returns 1 if all connections are CLOSED, else 0. Status: UIP_NO_DEVICE, UIP_OK.
  *
  * While the number is 1 and nothing is pending, a tick sends nothing: you may leave out ticks, and sleep until
- * something arrives. step.c sleeps in each pass without work, and wakes each half second. To save that wake-up too,
- * write half_a_second_passed so (a clock of milliseconds would end each sleep):
- *     volatile unsigned halves;                    // the interrupt of a timer: halves++, events++, each half second
- *     static int is_idle;
- *     int half_a_second_passed(void) {
- *         static unsigned last;
- *         unsigned now = halves, due = now - last;
- *         is_idle = (int)uip_is_idle(&device).number;
- *         if (due == 0) return 0;
- *         last = is_idle || due > 2 ? now : last + 1;
- *         return !is_idle;
- *     }
- * In wfi, if is_idle is 1 and dma_is_busy returns 0, nothing is pending: you may stop that timer there, and start it in
- * the interrupt of the receiver. (`work` runs when a byte ends the sleep, before a value is read, so it may measure
- * then.) Keep the timer, if a watchdog or something else needs `work`. After a page the number is 0 for 60 s
- * (TIME_WAIT), unless the peer closed first. The guide, "Sleep", has more.
+ * something arrives. With step.c change half_a_second_passed (SERIAL LINE) so:
+ *     is_idle = (int)uip_is_idle(&device).number;  // static int is_idle;
+ *     if (due == 0) return 0;
+ *     last = is_idle || due > 2 ? now : last + 1;
+ *     return !is_idle;
+ * In wfi, if is_idle is 1 and is_sending is 0, nothing is pending: you may stop that timer there, and start it in the
+ * interrupt of the receiver. (`work` runs when a byte ends the sleep, before a value is read, so it may measure then.)
+ * Keep the timer, if a watchdog or something else needs `work`. After a page the number is 0 for 60 s (TIME_WAIT),
+ * unless the peer closed first. The guide, "Sleep", has more.
  */
 uip_number uip_is_idle(uip_device *device);
 
