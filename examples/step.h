@@ -1,6 +1,6 @@
 /*
- * A loop that never waits for the port of a serial line. Compile step.c beside your program. The functions that PROGRAM
- * of uip.h declares or has stay, but write_serial and the loop, which these replace:
+ * A loop that never waits for the port of a serial line. Compile step.c beside your program. Of PROGRAM in uip.h
+ * write_serial, `bytes`, `out` and the loop go, and the clock of milliseconds, if the program sleeps (SERIAL LINE there):
  *
  *     #include "step.h"
  *     volatile unsigned events;

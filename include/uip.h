@@ -147,8 +147,8 @@ extern "C" {
  *         stop(status);
  *     }
  *
- * UNDER AN RTOS open in `main`, before the scheduler starts, on the main stack (rule 9). One task makes all calls, and
- * sends without the mutex. Another task may call uip_set_value, under it:
+ * UNDER AN RTOS open in `main`, before the scheduler starts, on the main stack (rule 9). One task runs the loop, and
+ * sends without the mutex. Another task may call uip_set_value, with the mutex held:
  *
  *     void lock(void), unlock(void);                       // yours: a mutex
  *
@@ -179,10 +179,10 @@ extern "C" {
  *         stop(status);
  *     }
  *
- * Here mac_receive waits for the interrupt of the receiver. `work` runs with the mutex held: it does not lock it again,
- * and does not wait. Another task locks around its uip_set_value (which `work` leaves out). Or it makes no call, and
- * passes its values by a queue, which saves it the stack of a call. On a serial line lock likewise around each
- * uip_feed, uip_drain and uip_periodic, and `work`; step.c locks nothing, so copy it and add that.
+ * Here mac_receive waits for the interrupt of the receiver, at most 20 ms. `work` runs with the mutex held: it does not
+ * lock it again, and does not wait. Another task locks around its uip_set_value (which `work` leaves out). Or it makes
+ * no call, and passes its values by a queue, which saves it the stack of a call. On a serial line lock likewise around
+ * each uip_feed, uip_drain and uip_periodic, and `work`; step.c locks nothing, so copy it and add that.
  *
  * THE SITE of all three is a folder of four files. Each address gets a new query, so that no browser shows a stored
  * copy.
@@ -250,9 +250,9 @@ typedef char uip_needs_unsigned_of_32_bits[sizeof(unsigned) == 4 ? 1 : -1];
  *
  * CONNECTIONS. Each file takes one of the ten connections, and the node closes it. Each connection has at most one
  * segment outstanding. A SYN that finds no slot in CLOSED takes the one that was longest in TIME_WAIT, so a page that
- * polls each second is served. If there is none, it is dropped, and the peer sends it again. An ESTABLISHED connection
- * is reset after 20 ticks in which nothing is outstanding and no data arrives. A segment that is not acknowledged is
- * given up after 249 ticks, a SYN-ACK after 102. FIN_WAIT_2 and TIME_WAIT end after 120.
+ * polls each second is served. If no slot is in CLOSED or TIME_WAIT, the SYN is dropped, and the peer sends it again.
+ * An ESTABLISHED connection is reset after 20 ticks in which nothing is outstanding and no data arrives. A segment that
+ * is not acknowledged is given up after 249 ticks, a SYN-ACK after 102. FIN_WAIT_2 and TIME_WAIT end after 120.
  *
  * The library cannot check these ten rules. If you break one, the behaviour is undefined. Every other mistake is
  * reported, or harmless to memory. The guide explains each rule in "The ten rules".
@@ -275,9 +275,10 @@ typedef char uip_needs_unsigned_of_32_bits[sizeof(unsigned) == 4 ? 1 : -1];
  *      `router` have 4 bytes, `mac` 6. For a length of 0 pass any valid address. Any alignment will do. On 32 bits a
  *      length is below 2^31.
  *
- *   5. OUTPUT. The library may write any byte of `room` in `out` and `frame`, also if `written` is 0 (but see
- *      uip_query). They overlap no other argument, and not the device. Until the call returns, nothing else uses them.
- *      Exception: the sink of an inline function may use them, and so may a DMA that has ended when the sink returns.
+ *   5. OUTPUT. The library may write any byte of `room` in `out` and `frame`, also if `written` is 0. (uip_query leaves
+ *      the bytes after its text unchanged.) They overlap no other argument, and not the device. Until the call returns,
+ *      nothing else uses them. Exception: the sink of an inline function may use them, and so may a DMA that has ended
+ *      when the sink returns.
  *
  *   6. IMAGE. It stays at its address, unchanged, until uip_close: the library reads it in place.
  *
@@ -492,12 +493,12 @@ unsigned uip_close(uip_device *device);
 
 /* ---- SERIAL LINE
  * SLIP (RFC 1055, no CSLIP) at any rate, full duplex: 8 data bits, no parity, one stop bit, no XON and XOFF. After an
- * overrun or a framing error feed on: a damaged frame is dropped, and TCP sends its data again. A line has two ends:
- * never join two nodes to each other, nor put two on one bus, since they can answer each other for ever. The guide,
- * "Connect it to a PC", has other peers than browse.py.
+ * overrun or a framing error clear the port's flag, and feed on: a damaged frame is dropped, and TCP sends its data
+ * again. A line has two ends: never join two nodes to each other, nor put two on one bus, since they can answer each
+ * other for ever. The guide, "Connect it to a PC", has other peers than browse.py.
  *
  * THE RING. While the program writes, let an interrupt or a DMA store what arrives. PROGRAM may write 36,024 bytes in
- * one pass, ten frames for a tick and up to three for its 64 bytes: 3.1 s at 115,200 bits a second. What overflows is
+ * one pass, ten longest frames for a tick and two for its 64 bytes: 3.1 s at 115,200 bits a second. What overflows is
  * lost, and TCP sends it again: for a trial 512 bytes do.
  *     static volatile unsigned char ring[8192];    // a power of two
  *     static volatile unsigned in, gone;
@@ -507,7 +508,7 @@ unsigned uip_close(uip_device *device);
  *             ring[in % sizeof ring] = byte;
  *             in++;
  *         }
- *         events++;                                // for step.c, see below
+ *         events++;                                // with step.c, which follows
  *     }
  *     size_t read_serial(unsigned char *bytes, size_t room) {
  *         size_t len = 0;
@@ -517,8 +518,8 @@ unsigned uip_close(uip_device *device);
  * With a circular DMA read_serial copies up to the DMA's counter. If the DMA has lapped it, drop all that waits.
  *
  * BEYOND A TRIAL compile examples/step.c beside your program, and include step.h. In PROGRAM delete write_serial,
- * `bytes`, `out` and the loop. Take the ticks from a timer of half a second, as a clock of milliseconds would end each
- * sleep:
+ * milliseconds, half_a_second_passed, `bytes`, `out` and the loop. A clock of milliseconds would end each sleep, so the
+ * ticks come from a timer of half a second:
  *     volatile unsigned events;                    // changes if bytes arrived, if all is sent, and each half second
  *     static volatile unsigned halves;             // the interrupt of that timer: halves++, events++
  *     int half_a_second_passed(void) {
@@ -534,7 +535,7 @@ unsigned uip_close(uip_device *device);
  *         is_sending = 1;                          // first, as the next line may end at once
  *         port_start(bytes, len);                  // yours. If it is polled: sends all, is_sending = 0
  *     }
- *     void sent(void) {                            // the interrupt of the last bit
+ *     void sent(void) {                            // the interrupt at its end (if a sleep stops the port: the last bit)
  *         is_sending = 0;
  *         events++;
  *     }
@@ -542,11 +543,12 @@ unsigned uip_close(uip_device *device);
  *     ..
  *     if (status == UIP_OK) status = serve();      // in `main`; returns only if a call failed
  * Each pass runs `work`, and then makes at most one call that may send. If there was none to make, the loop sleeps
- * until an interrupt, of each byte too: so keep `work` short, and let it read sensors only if its time has come.
+ * until an interrupt. That of a byte ends the sleep, too, and `work` runs: keep it short, and let it read sensors only
+ * if `halves` has changed.
  *
- * Two frames can arrive while the loop sends two, 6,004 bytes at any rate. They go out in 24 pieces, and `work` runs
- * before each: the other 2,188 bytes of the ring are for what arrives meanwhile, 7 ms of `work` at 115,200 bits a
- * second, 15 ms at 57,600. A smaller ring may lose frames, and pages come late. step.h has more.
+ * While the loop sends two frames as many bytes can arrive, 6,004 at any rate. The frames go out in 24 pieces, and
+ * `work` runs before each. The other 2,188 bytes of the ring allow it 7 ms at 115,200 bits a second, and 15 ms at
+ * 57,600. A smaller ring may lose frames, and pages come late. step.h has more.
  */
 
 /* Feeds received bytes up to the end of the first complete frame, handles that frame, and writes the reply as SLIP.
@@ -706,8 +708,8 @@ UIP_INLINE unsigned uip_tick_frames(uip_device *device, unsigned char *frame, si
  *     %! value-html 3      value 3, with &, <, > and both quotes escaped
  *     %! value-json 3      value 3, escaped for a string of JSON, without the quotes around it
  *     %! value 3           value 3 as it is: only for texts that nobody else influences
- *     %! net-stats         the counters 1 to 20 (uip_counter_id), each in 10 places and on a line, without names: see
- *                          examples/site/stats.shtml
+ *     %! net-stats         the counters 1 to 20 (uip_counter_id), each right-aligned in 10 places and on a line, without
+ *                          names: see examples/site/stats.shtml
  *     %! ticks             the number of uip_ticks, in 10 places
  *     %! file-stats /x     the number of uip_hits for /x, in 10 places
  *     %! tcp-connections   a <tr> for each connection that is not CLOSED, with a <td> for slot, peer, state, tries,
@@ -749,6 +751,7 @@ UIP_INLINE unsigned uip_tick_frames(uip_device *device, unsigned char *frame, si
  *     #include "text.h"                      // examples/text.h: numbers and fields, without the C library
  *     char number[UIP_MAX_VALUE];
  *     uip_set_value(&device, 3, number, tenths_text(number, -55));    // -5.5
+ *     uip_set_value(&device, 4, number, decimal(number, 42));
  */
 unsigned uip_set_value(uip_device *device, size_t number, const void *text, size_t len);
 
@@ -766,8 +769,8 @@ unsigned uip_set_value(uip_device *device, size_t number, const void *text, size
  * programs above sees them one by one, with step.c too. If you feed longer pieces, look in the sink of uip_feed_all.
  *
  * The file of a button may be an .shtml that shows the new state: the node reads its values when the browser has
- * acknowledged the head of the reply, and `work` has run by then. If another task acts on the click, let it link to a
- * page that is loaded later.
+ * acknowledged the head of the reply, and `work` has run by then. If another task acts on the click, let that file only
+ * link to the page that shows the state.
  */
 uip_number uip_hits(uip_device *device, const void *name, size_t len);
 
@@ -780,9 +783,9 @@ uip_number uip_hits(uip_device *device, const void *name, size_t len);
  * The device keeps one query in all: the last acceptable one. A query is acceptable if a file has the requested name,
  * if the text after the ? has at most 64 bytes, each a letter, a digit or one of -_.~%&=+, and if the whole target
  * arrives in the first segment with data. Any other request, such as a poll without a query, leaves text and `hit` as
- * they were. A link's query by Date.now() replaces that of a form, too. Nothing is decoded: a browser sends
- * most other bytes as %XX. Anyone who reaches the device can send a query: check it before use. A form sends its fields
- * in their order to a file of the site:
+ * they were. A link's query by Date.now() replaces that of a form, too. Nothing is decoded: a browser sends most other
+ * bytes as %XX. Anyone who reaches the device can send a query: check it before use. A form sends its fields in their
+ * order to a file of the site:
  *     <form action="/set.html" onsubmit="this.n.value = Date.now()">
  *     <input name="limit" type="number" min="0" max="100" required>
  *     <input type="hidden" name="n"><button>Set</button></form>
@@ -815,7 +818,7 @@ uip_number uip_hits(uip_device *device, const void *name, size_t len);
  *         last_restart = got.hit;
  *         if (is_token(query, got.len)) {              // yours: whether the text is n= and the token
  *             new_token();                             // yours: changes the token, and sets value 5
- *             is_asked = 1, asked_at = milliseconds();
+ *             is_asked = 1, asked_at = milliseconds();       // with step.c: halves, and 6 in place of 3000
  *         }
  *     }
  *     if (is_asked && milliseconds() - asked_at > 3000) stop(UIP_OK);        // later, so that the reply is delivered
@@ -835,7 +838,7 @@ uip_number uip_ticks(uip_device *device);
  *
  * While the number is 1 and nothing is pending, a tick sends nothing: you may leave out ticks, and sleep until
  * something arrives. With step.c change half_a_second_passed (SERIAL LINE) so:
- *     is_idle = (int)uip_is_idle(&device).number;  // static int is_idle;
+ *     is_idle = (int)uip_is_idle(&device).number;  // at file scope: static int is_idle;
  *     if (due == 0) return 0;
  *     last = is_idle || due > 2 ? now : last + 1;
  *     return !is_idle;
