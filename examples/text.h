@@ -96,4 +96,12 @@ UIP_INLINE int text_in(const unsigned char *query, size_t len, const char *name,
     return 1;
 }
 
+/* Whether a query is n= and this token, and nothing else. */
+UIP_INLINE int is_token(const unsigned char *query, size_t len, const char *token, size_t token_len) {
+    size_t k;
+    if (token_len == 0 || len != token_len + 2 || query[0] != 'n' || query[1] != '=') return 0;
+    for (k = 0; k < token_len && query[k + 2] == (unsigned char)token[k]; k++) continue;
+    return k == token_len;
+}
+
 #endif

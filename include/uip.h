@@ -6,8 +6,9 @@
  * You link it as a binary, for Cortex-M0, M0+, M4, M7 and M33, rv32imac and rv32imc (ilp32), rv64imac (lp64), aarch64,
  * x86_64 and WebAssembly. Its source is in Rattle (Rust with contracts). Memory safety and the exact output of each
  * call are proved of the source; machine code, stack, heap, time and the inline functions are not. It was tested on PCs
- * and on emulated boards. The library for M0 ran on an emulated M4, M33 only in the secure state, Ethernet only on
- * x86_64 and M4. Not tried: an M3 (link the library for M0), rv32imc, a real board, an RTOS.
+ * and on emulated boards. The library for M0 ran on an emulated M4, M33 only in the secure state (not tried:
+ * non-secure), Ethernet only on x86_64 and M4. Not tried: an M3 (link the library for M0), rv32imc, a real board, an
+ * RTOS.
  *
  * On a Cortex-M4, in bytes       flash without a site    RAM with heap and stack, for six files
  *     serial line, a loop that waits           24,221     8,432    with a ring of 512 bytes
@@ -106,6 +107,7 @@ extern "C" {
  *         uip_opened opened = uip_open(&device, site_image, SITE_IMAGE_LEN, own);
  *         unsigned status = opened.status;
  *         if (status != UIP_OK) fail(status, opened.entry, opened.word);      // a bad image, or too small a heap
+ *         // set first values here
  *         while (status == UIP_OK) {                       // nothing that arrives ends it
  *             size_t len = read_serial(bytes, sizeof bytes);
  *             status = uip_feed_all(&device, bytes, len, out, sizeof out, write_serial, NULL);
@@ -215,7 +217,8 @@ extern "C" {
  *     x86_64          `rt lib` in crates/uip_c makes crates/uip_c/out/libuip_c.a. For aarch64 it takes
  *                     --target aarch64-unknown-linux-gnu
  *     an FPU          -mfloat-abi=softfp -mfpu=fpv4-sp-d16 (M4), fpv5-sp-d16 (M33, M7) or fpv5-d16 (M7 with double
- *                     precision). The library uses no FPU register. For -mfloat-abi=hard make another (the guide)
+ *                     precision). The library uses no FPU register, and on m33 no DSP instruction. For -mfloat-abi=hard
+ *                     make another (the guide)
  *     a trial on PC   sh examples/linux-c/run.sh (with the kit), and then
  *                     python3 examples/browse.py examples/linux-c/out/uip_serve
  *                     on Ethernet, as root: sh examples/linux-ether/run.sh
@@ -535,7 +538,7 @@ unsigned uip_close(uip_device *device);
  *         is_sending = 1;                          // first, as the next line may end at once
  *         port_start(bytes, len);                  // yours. If it is polled: sends all, is_sending = 0
  *     }
- *     void sent(void) {                            // the interrupt at its end (if a sleep stops the port: the last bit)
+ *     void sent(void) {                            // the interrupt at its end (of the last bit, if a sleep stops it)
  *         is_sending = 0;
  *         events++;
  *     }
@@ -656,9 +659,9 @@ UIP_INLINE unsigned uip_tick_datagrams(uip_device *device, unsigned char *out, s
  *   - It inserts no checksum of IP, ICMP or TCP, as the library has done so. (STM32: CIC 0, in ST's HAL
  *     ETH_CHECKSUM_DISABLE. NXP ENET: TACC 0. SAM GMAC: TXCOEN 0.) It may check those of received frames.
  *   - With one `frame`, as in the program above, no DMA uses it during a call, or after mac_receive or mac_send
- *     returns: each waits for the end of its DMA, or copies. If both copy, `frame` may be cached without more; if a DMA
- *     uses it, see the guide. With a ring pass its buffers in turn, and then this holds for each during its call. A
- *     buffer that became a reply is sent, and another one takes its place in the ring.
+ *     returns: each waits for the end of its DMA, or copies. If both copy, `frame` needs no alignment, and no call for
+ *     a cache; if a DMA uses it, see the guide. With a ring pass its buffers in turn: during its call no DMA uses a
+ *     buffer. A buffer that became a reply is sent, and another one takes its place in the ring.
  *   - It may discard a frame that finds no buffer free, or no link; the library needs no call when the link changes.
  *     The node sends lost data again after 4 ticks, then after longer times, and the peer by its own clock. A ping, a
  *     reply of ARP or a RST is not sent again. A tick may send ten frames after a reply, so eleven buffers suffice for
@@ -708,8 +711,8 @@ UIP_INLINE unsigned uip_tick_frames(uip_device *device, unsigned char *frame, si
  *     %! value-html 3      value 3, with &, <, > and both quotes escaped
  *     %! value-json 3      value 3, escaped for a string of JSON, without the quotes around it
  *     %! value 3           value 3 as it is: only for texts that nobody else influences
- *     %! net-stats         the counters 1 to 20 (uip_counter_id), each right-aligned in 10 places and on a line, without
- *                          names: see examples/site/stats.shtml
+ *     %! net-stats         the counters 1 to 20 (uip_counter_id), each right-aligned in 10 places and on a line,
+ *                          without names: see examples/site/stats.shtml
  *     %! ticks             the number of uip_ticks, in 10 places
  *     %! file-stats /x     the number of uip_hits for /x, in 10 places
  *     %! tcp-connections   a <tr> for each connection that is not CLOSED, with a <td> for slot, peer, state, tries,
@@ -717,23 +720,26 @@ UIP_INLINE unsigned uip_tick_frames(uip_device *device, unsigned char *frame, si
  *     %!: /footer.html     the bytes of that file, whose directives are not executed
  * A request of / gets /index.html. It is no .shtml, but may lead to one. A missing file gets status 404, and /404.html
  * if the site has it. Content types are known for .html, .shtml, .txt, .css, .png, .gif and .jpg; others are
- * application/octet-stream. An .shtml file may be JSON. Here value 3, 21.5,45.0, gives an array of two numbers, in one
- * round trip (uip_set_value). Set it before the loop, as an empty one is no JSON:
- *     {"measured": [%! value 3
+ * application/octet-stream. An .shtml file may be JSON. Here value 2, 21.5,45.0, gives an array of two numbers in one
+ * round trip, and value 4 costs another (uip_set_value). Set both after opening, before the loop: a bare number that is
+ * empty is no JSON.
+ *     {"measured": [%! value 2
  *     ], "name": "%! value-json 4
  *     "}
- * For its type pack it by python3 tools/pack.py FOLDER site.c /v.shtml=application/json; fetch(..).json() needs none.
+ * For its type pack it by python3 tools/pack.py FOLDER site.c /v.shtml=application/json. In JavaScript (await
+ * fetch("/v.shtml", {cache: "no-store"})).json() works without the type, too.
  *
  * CACHES. No reply has a header for caches, so a browser may show a stored copy and request nothing. Give each link to
  * a button or to a page with values, and each form, a query that is new each time, as the links of PROGRAM and the form
- * at uip_query do. In JavaScript fetch(name, {cache: "no-store"}) needs no query, and so leaves the one of uip_query
- * alone. A page that refreshes itself, from a file t.shtml whose one line is %! value 3, has
+ * at uip_query do. In JavaScript fetch(name, {cache: "no-store"}) needs no query, and does not replace that which
+ * uip_query reads. A page that refreshes itself, from a file t.shtml whose one line is %! value 3, has
  *     <p id="v"></p><script>(async function look() {
  *         try { v.textContent = await (await fetch("/t.shtml", {cache: "no-store"})).text() }
  *         catch { v.textContent = "?" }
  *         setTimeout(look, 1000) })()</script>
  * The guide shows links ("Values and clicks") and forms ("Settings from a browser") without JavaScript. examples/state
- * is a whole site, with buttons, a form, and JSON that is polled. docs/FORMATS.md specifies server and directives.
+ * is a whole site, with buttons, a form, and JSON that is polled, and examples/board/state.c its program (it looks at
+ * hits once a tick). docs/FORMATS.md specifies server and directives.
  */
 
 /* A string literal as two arguments, without its 0. For anything else pass pointer and length. */
@@ -810,20 +816,30 @@ uip_number uip_hits(uip_device *device, const void *name, size_t len);
  *     <form action="/restart.html"><input type="hidden" name="n" value="%! value-html 5
  *     "><button>Restart</button></form>
  * Never use a token twice, also not after a reset: make it of a number of the start, counted in flash or random, and a
- * count of the actions, in digits, letters and -_ alone. Call new_token before the loop too. In `work`:
+ * count of the actions, in digits, letters and -_ alone. Call new_token after opening, too. With examples/text.h:
+ *     static char token[UIP_MAX_VALUE];
+ *     static size_t token_len;
  *     static unsigned last_restart, asked_at;
  *     static int is_asked;
+ *     void new_token(void) {
+ *         static unsigned count;
+ *         token_len = decimal(token, start_number());          // yours
+ *         token[token_len++] = '-';
+ *         token_len += decimal(token + token_len, count++);
+ *         uip_set_value(&device, 5, token, token_len);
+ *     }
+ * In `work`, with `query` and `got` as above:
  *     got = uip_query(&device, UIP_TEXT("/restart.html"), query, sizeof query);
  *     if (got.hit != 0 && got.hit != last_restart) {
  *         last_restart = got.hit;
- *         if (is_token(query, got.len)) {              // yours: whether the text is n= and the token
- *             new_token();                             // yours: changes the token, and sets value 5
+ *         if (is_token(query, got.len, token, token_len)) {
+ *             new_token();
  *             is_asked = 1, asked_at = milliseconds();       // with step.c: halves, and 6 in place of 3000
  *         }
  *     }
  *     if (is_asked && milliseconds() - asked_at > 3000) stop(UIP_OK);        // later, so that the reply is delivered
- * The token of an old page does nothing: let the file of the action lead, after some seconds, to a page that shows the
- * number of the start.
+ * The token of an old page does nothing: let the file of the action lead, after ten seconds and with a new query, to
+ * the page of the form, which shows the number of the start.
  */
 uip_query_text uip_query(uip_device *device, const void *name, size_t len, void *out, size_t room);
 

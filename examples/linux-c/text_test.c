@@ -31,6 +31,10 @@ static void see_text(const char *query, size_t room, const char *expected) {
     see(found == !!expected && (found ? size == strlen(expected) && !memcmp(text, expected, size) : size == 99), query);
 }
 
+static void see_token(const char *query, const char *token, int expected) {
+    see(is_token((const unsigned char *)query, strlen(query), token, strlen(token)) == expected, query);
+}
+
 int main(void) {
     see_tenths(0, "0.0"), see_tenths(-5, "-0.5"), see_tenths(-55, "-5.5"), see_tenths(215, "21.5");
     see_tenths(INT_MAX, "214748364.7"), see_tenths(INT_MIN, "-214748364.8");
@@ -42,5 +46,7 @@ int main(void) {
     see_text("name=%41%62", 2, "Ab");
     see_text("name=%4", 16, NULL), see_text("name=%", 16, NULL), see_text("name=%4g", 16, NULL), see_text("name=abc", 2, NULL);
     see_text("nam=abc", 16, NULL);
+    see_token("n=17-3", "17-3", 1), see_token("n=17-3", "17-4", 0), see_token("n=17-31", "17-3", 0), see_token("n=17-", "17-3", 0);
+    see_token("n=", "", 0), see_token("", "", 0), see_token("m=1", "1", 0), see_token("n=1&a=2", "1", 0);
     return wrong;
 }
