@@ -44,7 +44,7 @@ int main(void) {
     for (unsigned ticks = 0; status == UIP_OK; board_sleep(ticks)) {
         size_t len = mac_receive(frame, sizeof frame);
         if (len) status = sent(uip_app_input_frame(&device, frame, sizeof frame, len));
-        if (status == UIP_OK && ticks != clock_ticks()) ticks++, status = tick();
+        if (status == UIP_OK && tick_is_due(&ticks)) status = tick();
         if (status == UIP_OK) status = serve();
     }
     return (int)status;

@@ -16,8 +16,7 @@ int main(void) {
         port_bytes came = port_waiting();
         status = uip_feed_all(&device, came.at, came.len, out, sizeof out, port_send, 0);
         port_taken(came.len);
-        if (status != UIP_OK || ticks == clock_ticks()) continue;
-        ticks++;
+        if (status != UIP_OK || !tick_is_due(&ticks)) continue;
         status = uip_tick_all(&device, out, sizeof out, port_send, 0);
     }
     return (int)status;
