@@ -11,12 +11,12 @@
  * RTOS.
  *
  * On a Cortex-M4, in bytes       flash without a site    RAM with heap and stack, for six files
- *     serial line, a loop that waits           24,221     8,432    with a ring of 512 bytes
+ *     serial line, a loop that waits           24,229     8,432    with a ring of 512 bytes
  *     serial line, examples/step.c     about the same    16,356    with a ring of 8,192 bytes
- *     Ethernet                                 24,029    11,232    without the buffers of the driver
+ *     Ethernet                                 24,037    11,232    without the buffers of the driver
  * Flash is that of examples/board (main.c and ether.c, which set no values and read no hits) with a driver. Other
  * targets need more flash than an M4, in kB: M7 0.5, M33 0.1, M0+ 5 to 6, rv32 13 to 14, rv64 8 to 9. RAM has the heap
- * (serial line 5,728, Ethernet 4,304), the stack from reset (2,064 and 5,392, on an M0+ 2,180 and 5,504; without
+ * (serial line 5,728, Ethernet 4,304), the stack from reset (2,064 and 5,392, on an M0+ 2,180 and 5,512; without
  * interrupts and uip_close), `frame`, and small areas of the program. Add your functions, your interrupts and, under an
  * RTOS, the stack of each task that makes calls.
  *
@@ -299,7 +299,8 @@ typedef char uip_needs_unsigned_of_32_bits[sizeof(unsigned) == 4 ? 1 : -1];
  *          libuip_c.a, M4, M7, M33                   1,976                 -        2,480             1,976
  *          libuip_c.a, M0+, M0                       2,084                 -        2,600             2,084
  *          libuip_c_ether.a, the greatest            6,656             5,616        3,568             2,288
- *          libuip_c_ether.a, M4, M7, M33             6,656             5,280        3,272             1,872
+ *          libuip_c_ether.a, M4, M7, M33             6,400             5,280        3,272             1,872
+ *          libuip_c_ether.a, M0+, M0                 6,536             5,408        3,392             2,020
  *        - Add the stack frames of your functions, and that of an inline function. Another heap may need more in
  *          opening and closing.
  *        - A sink runs after the library has returned. Count the deeper of the two: the call, or the sink with the
