@@ -4,11 +4,11 @@
  * button, and a form sends a setting. If your program answers TCP connections itself, see uip_app.h and uip_both.h.
  *
  * You link it as a binary, for Cortex-M0, M0+, M4, M7 and M33, rv32imac and rv32imc (ilp32), rv64imac (lp64), aarch64,
- * x86_64 and WebAssembly. Its source is in Rattle (Rust with contracts). Memory safety and the exact output of each
- * call are proved of the source; machine code, stack, heap, time and the inline functions are not. It was tested on PCs
- * and on emulated boards. The library for M0 ran on an emulated M4, M33 only in the secure state (not tried:
- * non-secure), Ethernet only on x86_64 and M4. Not tried: an M3 (link the library for M0), rv32imc, a real board, an
- * RTOS.
+ * x86_64 and WebAssembly. Its source is in Rattle (Rust with contracts). Proved of the source, if you keep the ten
+ * rules: memory safety, and the exact output of each call. Not proved: machine code, stack, heap, time, and the inline
+ * functions. It was tested on PCs and on emulated boards. The library for M0 ran on an emulated M4, M33 only in the
+ * secure state, Ethernet only on x86_64 and M4. Not tried: a real board, an RTOS, rv32imc, and an M3 (link the library
+ * for M0).
  *
  * On a Cortex-M4, in bytes       flash without a site    RAM with heap and stack, for six files
  *     serial line, a loop that waits           24,229     8,432    with a ring of 512 bytes
@@ -306,7 +306,8 @@ typedef char uip_needs_unsigned_of_32_bits[sizeof(unsigned) == 4 ? 1 : -1];
  *        - A sink runs after the library has returned. Count the deeper of the two: the call, or the sink with the
  *          calls that it makes.
  *        - Under FreeRTOS on a Cortex-M each task that makes a call needs this, also for uip_set_value alone, and its
- *          context (at most 80 bytes, with FPU 216). Interrupts, and `main` when it opens, use the main stack.
+ *          context (some 80 bytes, with FPU some 216: not tried). Interrupts, and `main` when it opens, use the main
+ *          stack.
  *
  *  10. PROCESSOR. The stack is aligned as the ABI demands. In addition:
  *        - m0: nothing. x86_64: level v2 (SSE4.2).
@@ -317,11 +318,11 @@ typedef char uip_needs_unsigned_of_32_bits[sizeof(unsigned) == 4 ? 1 : -1];
  *          attribute 0x44 on ARMv8-M.
  *        - aarch64: all of it is Normal memory. SIMD registers are on, and interrupt handlers save those that they use.
  *
- * TIME. No call waits, masks interrupts or needs privilege, and none but opening allocates memory. An inline function
- * waits as long as its sink does. Opening reads the whole image. Every other function of the library handles at most
- * one datagram. No bound of its time is known, and the longest call was not measured. On a Cortex-M4 and a serial line
- * a ping of 84 bytes takes 4,716 instructions, and a file of one byte 28,223 in all its calls (on an M0+ 8,442 and
- * 68,331). Feed a watchdog before opening, in each pass (with step.c in `work`), and in a sink that waits.
+ * TIME. No call waits, masks interrupts or needs privilege. None but opening allocates memory (tested). An inline
+ * function waits as long as its sink does. Opening reads the whole image. Every other function of the library handles
+ * at most one datagram. No bound of its time is known, and the longest call was not measured. On a Cortex-M4 and a
+ * serial line a ping of 84 bytes takes 4,716 instructions, and a file of one byte 28,223 in all its calls (on an M0+
+ * 8,442 and 68,331). Feed a watchdog before opening, in each pass (with step.c in `work`), and in a sink that waits.
  */
 
 /* ---- RESULTS
@@ -667,8 +668,8 @@ UIP_INLINE unsigned uip_tick_datagrams(uip_device *device, unsigned char *out, s
  *     The node sends lost data again after 4 ticks, then after longer times, and the peer by its own clock. A ping, a
  *     reply of ARP or a RST is not sent again. A tick may send ten frames after a reply, so eleven buffers suffice for
  *     sending.
- * The guide, "The Ethernet controller", has rings of buffers and of descriptors, caches, barriers, and sending without
- * waiting.
+ * Not tried: the controllers in brackets. Look the names up in the manual of yours. The guide, "The Ethernet
+ * controller", has rings of buffers and of descriptors, caches, barriers, and sending without waiting.
  */
 
 /* Receives one frame, and writes the frame to send over it, if there is one.
