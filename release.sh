@@ -69,13 +69,15 @@ page() {
 }
 
 examples() {
-    put examples examples/browse.py
+    put examples examples/browse.py examples/heap.c examples/step.c examples/step.h examples/text.h examples/ticks.h
     put tools tools/pack.py
     put examples/site examples/site/*
+    put examples/firmware examples/firmware/*.[ch]
+    put examples/firmware/site examples/firmware/site/*
     put examples/common examples/board/main.c examples/board/state.c examples/board/ether.c examples/board/app.c examples/board/both.c \
         examples/board/answer.c examples/board/answer.h examples/board/alarm.h examples/board/board.h examples/board/ring.h \
-        examples/board/ring.c examples/board/runtime.c examples/board/site.S examples/board/link.ld examples/heap.c \
-        examples/step.c examples/step.h examples/text.h examples/linux-app/console.c examples/linux-app/modbus.c ports/boards/start.h
+        examples/board/ring.c examples/board/runtime.c examples/board/site.S examples/board/link.ld \
+        examples/linux-app/console.c examples/linux-app/modbus.c ports/boards/start.h
     put examples/common/fallback examples/board/fallback/string.h
     put examples/m4 ports/archive/m4/Makefile ports/boards/mps2.c ports/boards/lan9118.c ports/boards/cortex_m.h
     put examples/rv32 ports/archive/rv32/Makefile ports/boards/riscv.c

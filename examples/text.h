@@ -96,12 +96,13 @@ UIP_INLINE int text_in(const unsigned char *query, size_t len, const char *name,
     return 1;
 }
 
-/* Whether a query is n= and this token, and nothing else. */
-UIP_INLINE int is_token(const unsigned char *query, size_t len, const char *token, size_t token_len) {
-    size_t k;
-    if (token_len == 0 || len != token_len + 2 || query[0] != 'n' || query[1] != '=') return 0;
-    for (k = 0; k < token_len && query[k + 2] == (unsigned char)token[k]; k++) continue;
-    return k == token_len;
+/* Whether the field NAME=.. is this token, of one byte or more. */
+UIP_INLINE int token_in(const unsigned char *query, size_t len, const char *name, const char *token, size_t token_len) {
+    size_t size, k;
+    const unsigned char *field = field_in(query, len, name, &size);
+    if (!field || token_len == 0 || size != token_len) return 0;
+    for (k = 0; k < size && field[k] == (unsigned char)token[k]; k++) continue;
+    return k == size;
 }
 
 #endif

@@ -21,9 +21,9 @@
  *     #define UIP_HEAP_SIZE UIP_APP_MEMORY
  *     #include "heap.c"                                   // examples/heap.c: the heap as one array
  *
- *     size_t mac_receive(unsigned char *frame, size_t room);    // these three as in uip.h; mac_send has no `to`
+ *     size_t mac_receive(unsigned char *frame, size_t room);    // these two as in uip.h; mac_send has no `to`
  *     void mac_send(const unsigned char *frame, size_t len);
- *     int half_a_second_passed(void);
+ *     int half_a_second_passed(void);                     // 1 if a tick is due: see examples/ticks.h
  *     size_t answer(const char *line, size_t len, char *reply, unsigned *last);    // yours: at most 260 bytes
  *
  *     static uip_app device = UIP_APP_INIT;

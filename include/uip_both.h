@@ -24,9 +24,9 @@
  *     #define UIP_HEAP_SIZE UIP_BOTH_MEMORY(SITE_IMAGE_FILES)
  *     #include "heap.c"                                    // examples/heap.c: the heap as one array
  *
- *     size_t mac_receive(unsigned char *frame, size_t room);    // these three as in uip.h
+ *     size_t mac_receive(unsigned char *frame, size_t room);    // these two as in uip.h
  *     void mac_send(void *to, const unsigned char *frame, size_t len);
- *     int half_a_second_passed(void);
+ *     int half_a_second_passed(void);                      // 1 if a tick is due: see examples/ticks.h
  *     size_t answer(const char *line, size_t len, char *reply, unsigned *last);    // as in uip_app.h
  *
  *     static uip_device device = UIP_INIT;

@@ -32,7 +32,7 @@ static void see_text(const char *query, size_t room, const char *expected) {
 }
 
 static void see_token(const char *query, const char *token, int expected) {
-    see(is_token((const unsigned char *)query, strlen(query), token, strlen(token)) == expected, query);
+    see(token_in((const unsigned char *)query, strlen(query), "n", token, strlen(token)) == expected, query);
 }
 
 int main(void) {
@@ -47,6 +47,6 @@ int main(void) {
     see_text("name=%4", 16, NULL), see_text("name=%", 16, NULL), see_text("name=%4g", 16, NULL), see_text("name=abc", 2, NULL);
     see_text("nam=abc", 16, NULL);
     see_token("n=17-3", "17-3", 1), see_token("n=17-3", "17-4", 0), see_token("n=17-31", "17-3", 0), see_token("n=17-", "17-3", 0);
-    see_token("n=", "", 0), see_token("", "", 0), see_token("m=1", "1", 0), see_token("n=1&a=2", "1", 0);
+    see_token("n=", "", 0), see_token("", "", 0), see_token("m=1", "1", 0), see_token("n=1&a=2", "1", 1), see_token("a=2&n=1", "1", 1), see_token("an=1", "1", 0);
     return wrong;
 }

@@ -1,0 +1,68 @@
+#!/usr/bin/env python3
+"""Uses the pages of a program of this folder at 10.0.0.1, as a browser would: run.sh runs it. The status is 0 if all is as it should be.
+
+    python3 examples/firmware/client.py NOTE      NOTE is 1 if another task sets a value (rtos.c, rtos_serial.c), else 0
+
+At the end it restarts the device.
+"""
+import re
+import socket
+import sys
+import time
+
+count = 0
+
+
+def page(name, tries=20):
+    """The body of the reply to a request."""
+    for left in reversed(range(tries)):
+        try:
+            reply = b""
+            with socket.create_connection(("10.0.0.1", 80), timeout=30) as connection:
+                connection.sendall(f"GET {name} HTTP/1.0\r\nHost: 10.0.0.1\r\n\r\n".encode())
+                while piece := connection.recv(4096):
+                    reply += piece
+            head, _, body = reply.partition(b"\r\n\r\n")
+            return head.split()[1].decode() + " " + body.decode()
+        except OSError:
+            if not left:
+                raise
+            time.sleep(0.5)
+
+
+def expect(what, pattern, name):
+    global count
+    text = page(name)
+    if not re.search(pattern, text, re.S):
+        sys.exit(f"client.py: {what}: {name} gave\n{text}")
+    count += 1
+
+
+def main(note):
+    expect("the first page", r"^200 .*The device", "/")
+    expect("a missing page", r"^404 ", "/no.html")
+    expect("values at the start", r"It is -5\.5&deg;C\. The lamp is off: ", "/now.shtml?1")
+    expect("a button", r"turns on", "/on.html?2")
+    expect("the lamp is on", r"The lamp is on: ", "/now.shtml?3")
+    expect("the other button", r"turns off", "/off.html?4")
+    expect("the lamp is off", r"The lamp is off: ", "/now.shtml?5")
+    expect("a setting", r"brightness is 42\.", "/set.shtml?level=42&n=6")
+    expect("a setting that is too large", r"brightness is 42\.", "/set.shtml?level=101&n=7")
+    expect("a setting that is no number", r"brightness is 42\.", "/set.shtml?level=4x&n=8")
+    expect("a setting without its field", r"brightness is 42\.", "/set.shtml?n=9")
+    expect("the setting in the form", r'required value="42">', "/now.shtml?10")
+    expect("the first button again", r"turns on", "/on.html?11")
+    expect("the lamp is on again", r"The lamp is on: ", "/now.shtml?12")
+    if note == "1":
+        expect("the value of the other task", r"<p>[0-9]+</p>\s*$", "/now.shtml?14")
+    token = re.search(r'name="n" value="([0-9]+-0)"', page("/now.shtml?15"))
+    if not token:
+        sys.exit("client.py: there is no token")
+    expect("a wrong token", r"The page was old", f"/restart.shtml?n={token.group(1)}1")
+    time.sleep(4)
+    expect("no restart by a wrong token", r"^200 ", "/now.shtml?13")
+    expect("the token", r"The device starts again", f"/restart.shtml?n={token.group(1)}")
+    print(f"{count} pages are as they should be")
+
+
+main(sys.argv[1] if len(sys.argv) > 1 else "0")

@@ -1,0 +1,36 @@
+/*
+ * A device on Ethernet. One area has the received frame, and in its place the reply.
+ *
+ * SPDX-License-Identifier: MIT OR Apache-2.0
+ * Copyright 2026 The Lowunbisa authors
+ */
+#include "pages.h"
+#include "site.c"                              /* python3 tools/pack.py examples/firmware/site site.c */
+#define UIP_HEAP_SIZE UIP_MEMORY_ETHER(SITE_IMAGE_FILES)
+#include "../heap.c"
+#include "../ticks.h"
+#include "drivers.h"
+
+uip_device device = UIP_INIT;
+
+int main(void) {
+    static const unsigned char own[4] = {10, 0, 0, 1}, mask[4] = {255, 255, 255, 0}, router[4] = {10, 0, 0, 254};
+    static unsigned char frame[UIP_MAX_FRAME];
+    uip_opened opened = uip_open_ether(&device, site_image, SITE_IMAGE_LEN, own, mac, mask, router);
+    unsigned status = opened.status;
+    if (status != UIP_OK) fail(status, opened.entry, opened.word);
+    board_start();
+    pages_start();
+    while (status == UIP_OK) {                 /* nothing that arrives ends this loop */
+        size_t len = mac_receive(frame, sizeof frame);
+        if (len > 0) {
+            uip_result done = uip_input_frame(&device, frame, sizeof frame, len);
+            if (done.written > 0) mac_send(NULL, frame, done.written);
+            status = done.status;
+        }
+        if (status == UIP_OK && tick_is_due_at(milliseconds()))
+            status = uip_tick_frames(&device, frame, sizeof frame, mac_send, NULL);
+        if (status == UIP_OK) pages_work();
+    }
+    stop(status);
+}

@@ -1,0 +1,109 @@
+/*
+ * What the device does with its pages (the folder site). Two links are the buttons of a lamp, values show the lamp, its
+ * brightness and the temperature, a form sets the brightness, and a form with a token restarts the device.
+ *
+ * No status is checked here: each call returns UIP_OK, since the device is open and the arguments are in range.
+ *
+ * SPDX-License-Identifier: MIT OR Apache-2.0
+ * Copyright 2026 The Lowunbisa authors
+ */
+#include "pages.h"
+#include "drivers.h"
+#include "../text.h"
+
+enum { TEMPERATURE = 3, LAMP = 4, BRIGHTNESS = 5, TOKEN = 6, RESTART = 8 };    /* values: `%! value-html 3` in a page shows the temperature */
+
+static unsigned hits_on, hits_off;                 /* how often the two buttons had been pressed at the last look */
+static int is_on;
+static unsigned brightness = 100;                  /* of the lamp that is on, 0 to 100 */
+static unsigned last_set, last_restart;            /* the `hit` of the last query of each form */
+static char token[UIP_MAX_VALUE];
+static size_t token_len;
+static int is_restarting;
+static unsigned restart_at;                        /* a number of ticks */
+
+static void switch_lamp(int on) {
+    char text[UIP_MAX_VALUE];
+    is_on = on;
+    lamp(on ? brightness : 0);
+    uip_set_value(&device, LAMP, on ? "on" : "off", on ? 2 : 3);
+    uip_set_value(&device, BRIGHTNESS, text, decimal(text, brightness));
+}
+
+/* A token is the number of the start and a count, so that none is ever used twice. */
+static void new_token(void) {
+    static unsigned count;
+    token_len = decimal(token, start_number());
+    token[token_len++] = '-';
+    token_len += decimal(token + token_len, count++);
+    uip_set_value(&device, TOKEN, token, token_len);
+}
+
+/* A link is a button: its file was requested if the count of its hits has risen. */
+static void look_at_buttons(void) {
+    unsigned on = uip_hits(&device, UIP_TEXT("/on.html")).number;
+    unsigned off = uip_hits(&device, UIP_TEXT("/off.html")).number;
+    if (on != hits_on) switch_lamp(1);
+    if (off != hits_off) switch_lamp(0);
+    hits_on = on;
+    hits_off = off;
+}
+
+/* The form of /set.shtml: level=21&n=.. What is no number from 0 to 100 changes nothing. */
+static void look_at_brightness(void) {
+    unsigned char text[UIP_MAX_QUERY];
+    unsigned number;
+    uip_query_text query = uip_query(&device, UIP_TEXT("/set.shtml"), text, sizeof text);
+    if (query.hit == 0 || query.hit == last_set) return;
+    last_set = query.hit;
+    if (!number_in(text, query.len, "level", &number) || number > 100) return;
+    brightness = number;
+    switch_lamp(is_on);
+}
+
+/* The form of /restart.shtml: n=TOKEN. A page that is loaded again has an old token, and does nothing; the reply shows which it is.
+ * So that the reply is delivered, the restart comes when it is, or after six ticks.
+ */
+static void look_at_restart(void) {
+    unsigned char text[UIP_MAX_QUERY];
+    unsigned ticks = uip_ticks(&device).number;
+    uip_query_text query = uip_query(&device, UIP_TEXT("/restart.shtml"), text, sizeof text);
+    if (query.hit != 0 && query.hit != last_restart) {
+        last_restart = query.hit;
+        if (token_in(text, query.len, "n", token, token_len)) {
+            new_token();
+            is_restarting = 1;
+            restart_at = ticks + 6;
+            uip_set_value(&device, RESTART, UIP_TEXT("The device starts again."));
+        } else if (!is_restarting) {
+            uip_set_value(&device, RESTART, UIP_TEXT("The page was old."));
+        }
+    }
+    if (is_restarting && (ticks == restart_at || is_quiet())) stop(UIP_OK);
+}
+
+int is_quiet(void) {
+    for (size_t slot = 0; slot < UIP_SLOTS; slot++) {
+        unsigned state = uip_connection(&device, slot).state;
+        if (state != UIP_CLOSED && state != UIP_TIME_WAIT) return 0;
+    }
+    return 1;
+}
+
+static void look_at_temperature(void) {
+    char text[UIP_MAX_VALUE];
+    uip_set_value(&device, TEMPERATURE, text, tenths_text(text, temperature()));
+}
+
+void pages_start(void) {
+    switch_lamp(0);
+    new_token();
+    look_at_temperature();
+}
+
+void pages_work(void) {
+    look_at_buttons();
+    look_at_brightness();
+    look_at_restart();
+    look_at_temperature();
+}

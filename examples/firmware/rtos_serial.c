@@ -1,0 +1,76 @@
+/*
+ * A device on a serial line under an RTOS. The task `network` runs the loop of ../step.c with the port of port.c, and makes all calls,
+ * so there is no mutex. If the loop has nothing to do, it waits for a semaphore. Each interrupt gives it, and so does the other task,
+ * which passes its value in a variable.
+ *
+ * SPDX-License-Identifier: MIT OR Apache-2.0
+ * Copyright 2026 The Lowunbisa authors
+ */
+#include "pages.h"
+#include "../step.h"
+#include "site.c"                              /* python3 tools/pack.py examples/firmware/site site.c */
+#define UIP_HEAP_SIZE UIP_MEMORY(SITE_IMAGE_FILES)
+#include "../heap.c"
+#include "../text.h"
+#include "../ticks.h"
+#include "drivers.h"
+#include "port.h"
+#include "rtos.h"
+
+uip_device device = UIP_INIT;
+static volatile unsigned seconds;              /* the value of the other task */
+
+void interrupt_received(void);
+void interrupt_sent(void);
+
+void interrupt_received(void) {
+    on_received();
+    give_from_interrupt();
+}
+
+void interrupt_sent(void) {
+    on_sent();
+    give_from_interrupt();
+}
+
+/* The semaphore remembers an interrupt that comes before the wait. So nothing has to hold interrupts back. */
+void interrupts_off(void) {}
+void interrupts_on(void) {}
+void wfi(void) { take_for_100_ms(); }
+
+int half_a_second_passed(void) { return tick_is_due_at(milliseconds()); }
+
+/* The loop calls it in each pass: sets the value of the other task, and does what the pages need. */
+void work(void) {
+    static unsigned shown;
+    unsigned now = seconds;
+    if (now != shown) {
+        char text[UIP_MAX_VALUE];
+        uip_set_value(&device, 7, text, decimal(text, now));
+        shown = now;
+    }
+    pages_work();
+}
+
+void network(void *unused) {
+    (void)unused;
+    stop(serve());                             /* the loop. It returns only if a call was refused */
+}
+
+void count_seconds(void *unused) {
+    (void)unused;
+    for (;;) {
+        sleep_one_second();
+        seconds++;
+        give();
+    }
+}
+
+int main(void) {
+    static const unsigned char own[4] = {10, 0, 0, 1};
+    uip_opened opened = uip_open(&device, site_image, SITE_IMAGE_LEN, own);
+    if (opened.status != UIP_OK) fail(opened.status, opened.entry, opened.word);
+    board_start();
+    pages_start();
+    start_tasks(network, count_seconds);
+}

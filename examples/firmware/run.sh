@@ -1,0 +1,72 @@
+#!/bin/sh
+# Builds the programs of this folder for this machine, with its input and output in the place of a board's (pc.c), and uses their pages
+# by Linux's own TCP: buttons, a form and a restart.
+#
+#     sh examples/firmware/run.sh
+#
+# It needs a C compiler, python3, `ip`, `unshare` and /dev/net/tun, and the library that `rt lib` builds in crates/uip_c. What the machine
+# does not have is skipped, with a line. CC names another compiler, LIBRARY another library.
+case "$1" in -h|--help) sed -n '2,8s/^# \{0,1\}//p' "$0"; exit 0;; esac
+here=$(cd "$(dirname "$0")" && pwd)
+top=$(cd "$here/../.." && pwd)
+library=${LIBRARY:-$top/crates/uip_c/out/libuip_c.a}
+out=$here/out
+cc=${CC:-cc}
+fail() { echo "firmware: $1" >&2; exit 1; }
+skip() { echo "skipped: the programs of examples/firmware, since there is no $1"; exit 0; }
+
+# In a network namespace: the program on an interface, tap0 or tun0, and a client.
+if [ "$1" = inside ]; then
+    kind=tap; [ "$2" != datagrams ] || kind=tun
+    ip link set lo up && ip tuntap add dev ${kind}0 mode $kind && ip link set ${kind}0 up && ip addr add 10.0.0.2/24 dev ${kind}0 ||
+        fail "no ${kind}0 was made"
+    "$out/$2" 2>"$out/$2.log" &
+    python3 "$here/client.py" "$3" || exit 1
+    wait $! || fail "$2 did not end with 0: $(tail -1 "$out/$2.log")"
+    exit 0
+fi
+
+command -v "$cc" >/dev/null || fail "there is no C compiler $cc"
+command -v python3 >/dev/null || skip "python3"
+mkdir -p "$out"
+python3 "$top/tools/pack.py" "$here/site" "$out/site.c" || fail "the site was not packed"
+strict="-std=c11 -pedantic -Wall -Wextra -Wconversion -Werror"
+for name in serial sleep rtos_serial datagrams ether rtos pages port; do
+    "$cc" $strict -fsyntax-only -I"$top/include" -I"$out" "$here/$name.c" || fail "$name.c does not compile"
+done
+[ -f "$library" ] || skip "library at $library: run rt lib in crates/uip_c"
+# build NAME KIND WORDS: a program of this folder, with further files.
+build() {
+    "$cc" -std=gnu11 -O2 -Wall -Wextra -Werror -D"$2" -pthread -I"$top/include" -I"$out" "$here/$1.c" "$here/pages.c" "$here/pc.c" $3 \
+        "$library" -o "$out/$1" || fail "$1 was not built"
+}
+build serial PC_SERIAL
+build sleep PC_SLEEP "$here/port.c $top/examples/step.c"
+build rtos_serial PC_RTOS_SERIAL "$here/port.c $top/examples/step.c"
+build datagrams PC_DATAGRAMS
+build ether PC_ETHER
+build rtos PC_RTOS
+
+for command in ip unshare; do command -v $command >/dev/null || skip "command $command"; done
+[ -w /dev/net/tun ] || skip "/dev/net/tun that can be opened"
+# lamps NAME: what a program did with its lamp, and that it restarted.
+lamps() {
+    [ "$(sed -n 's/^lamp //p' "$out/$1.log" | tr '\n' ' ')" = "0 100 0 0 42 " ] || fail "$1 switched its lamp otherwise"
+    grep -q '^stopped 0$' "$out/$1.log" || fail "$1 did not restart"
+}
+for name in serial sleep rtos_serial; do
+    note=0; [ $name != rtos_serial ] || note=1
+    # browse.py reports the end of the program, which is the restart; the pages have been used before.
+    printf '#!/bin/sh\nexec "%s" 2>"%s"\n' "$out/$name" "$out/$name.log" >"$out/$name.sh" && chmod +x "$out/$name.sh"
+    python3 "$top/examples/browse.py" "$out/$name.sh" -- sh -c "python3 '$here/client.py' $note && sleep 4" >"$out/$name.told" 2>&1
+    grep -q "pages are as they should be" "$out/$name.told" || fail "$name: $(cat "$out/$name.told")"
+    lamps $name
+    [ $name != sleep ] || grep -q '^the timer stopped' "$out/sleep.log" || fail "sleep did not stop its timer"
+    echo "$name: $(grep 'pages are' "$out/$name.told")"
+done
+for name in datagrams ether rtos; do
+    note=0; [ $name != rtos ] || note=1
+    unshare -rn sh "$0" inside $name $note >"$out/$name.told" 2>&1 || fail "$name: $(cat "$out/$name.told")"
+    lamps $name
+    echo "$name: $(grep 'pages are' "$out/$name.told")"
+done
