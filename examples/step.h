@@ -38,7 +38,8 @@ size_t read_serial(unsigned char *bytes, size_t room);    /* moves what has arri
 
 extern volatile unsigned events;                          /* not static. An interrupt adds 1 if it gives the loop or `work`
                                                              something to do: bytes arrived (with a DMA: line idle, half full,
-                                                             full), the port has sent, half a second passed, or one of yours */
+                                                             full), the port has sent, half a second passed, or one of yours.
+                                                             A task that has something to do for `work` only ends wfi */
 int dma_is_busy(void);                                    /* 1 while the port sends: a variable that dma_send sets, and that the
                                                              interrupt clears which adds to `events`. If you stop the port's
                                                              clock, take the interrupt of the last bit, not of the DMA */

@@ -8,7 +8,7 @@
  *     unsigned limit;
  *     size_t len;
  *     char name[16];
- *     if (number_in(query, got.len, "limit", &limit) && limit <= 100) ..        // 21
+ *     if (number_in(query, got.len, "limit", &limit) && limit <= 100) ..        // 21; tenths_in reads 21.5 as 215
  *     if (text_in(query, got.len, "name", name, sizeof name, &len)) ..          // 5 bytes of UTF-8
  *
  * SPDX-License-Identifier: MIT OR Apache-2.0
@@ -72,6 +72,32 @@ UIP_INLINE int number_in(const unsigned char *query, size_t len, const char *nam
         sum = sum * 10 + digit_of(field[k]);
     }
     *number = sum;
+    return 1;
+}
+
+/* Reads the field NAME=NUMBER in tenths, of one to eight digits: 12.5 is 125, as is 12.50; 12 is 120, and .5 is 5. Returns 0, and
+ * changes nothing, if there is none such, or if it is no whole number of tenths.
+ */
+UIP_INLINE int tenths_in(const unsigned char *query, size_t len, const char *name, unsigned *tenths) {
+    size_t size, k, digits = 0, decimals = 0;
+    unsigned sum = 0;
+    int is_after_point = 0;
+    const unsigned char *field = field_in(query, len, name, &size);
+    if (!field) return 0;
+    for (k = 0; k < size; k++) {
+        if (field[k] == '.' && !is_after_point) {
+            is_after_point = 1;
+        } else if (digit_of(field[k]) > 9) {
+            return 0;
+        } else if (is_after_point && decimals++ > 0) {
+            if (field[k] != '0') return 0;
+        } else {
+            if (digits++ == 8) return 0;
+            sum = sum * 10 + digit_of(field[k]);
+        }
+    }
+    if (digits == 0) return 0;
+    *tenths = decimals ? sum : sum * 10;
     return 1;
 }
 

@@ -171,9 +171,9 @@ typedef char uip_needs_unsigned_of_32_bits[sizeof(unsigned) == 4 ? 1 : -1];
  * The library cannot check these ten rules. If you break one, the behaviour is undefined. Other
  * mistakes are refused with a status. "The ten rules" in the guide explains each rule.
  *
- *  1 INIT         Before its first call a device is UIP_INIT, or all 0. If your RAM keeps its
- *                 contents over a reset, set each device to 0 first, and heap_used and heap_blocks
- *                 of heap.c.
+ *  1 INIT         Before its first call a device is UIP_INIT, or all 0. If your start-up code does
+ *                 not initialise .data and .bss at each reset, set each device to 0 first, and
+ *                 heap_used and heap_blocks of heap.c.
  *
  *  2 DEVICE       While a device is open, do not copy it, and do not write its members.
  *
@@ -417,17 +417,20 @@ unsigned uip_close(uip_device *device);
 
 /* ---- 7 Serial line -----------------------------------------------------------------------------
  *
- * The line carries SLIP (RFC 1055, not CSLIP): 8 data bits, no parity, one stop bit, no XON and If
- * bytes are lost or damaged, clear the flag of the port and go on: TCP repairs it. A line has two
- * ends: do not connect two nodes to each other. The other end is Linux, for example by
- * examples/browse.py, or another host that speaks SLIP with an MTU of 1,500 or less ("Connect it to
- * a PC" in the guide).
+ * The line carries SLIP (RFC 1055, not CSLIP): 8 data bits, no parity, one stop bit, no XON and
+ * XOFF. It is full duplex: both ends send at any time, so not two wires of RS-485. RTS and CTS are
+ * not needed. If bytes are lost or damaged, clear the flag of the port and go on: TCP repairs it.
+ *
+ * THE OTHER END is a host such as Linux (examples/browse.py), or a gateway to other networks: the
+ * node answers every address. It has an MTU of at most 1,500. A gateway with a smaller one clamps
+ * the MSS of TCP to its MTU less 40, both ways. Do not connect two nodes to each other, nor put two
+ * on one line. "Connect it to a PC" in the guide has more.
  *
  * SLOW LINES. Any rate will do. The node sends a segment again if it is not acknowledged after 4
  * ticks. At 9,600 bits a second a datagram of 1,500 bytes takes 1.6 s, and up to twice that if its
  * bytes are escaped; and the connections share the line. What takes longer than the 4 ticks goes
- * out twice. So on a slow line keep pages short and let a page make one request at a time, or give
- * the other end a smaller MTU, which bounds the segments of the node.
+ * out twice. So on a slow line keep pages short, let a page make one request at a time, or choose a
+ * smaller MTU for the host.
  *
  * RECEIVE WHILE YOU SEND. No call reads the port. While write_serial waits, an interrupt or a DMA
  * stores in a ring what arrives. The program of section 1 may send twelve of the longest frames in
@@ -436,11 +439,13 @@ unsigned uip_close(uip_device *device);
  * 512 bytes will do.
  *
  * NEVER WAIT. The loop of examples/step.c sends by DMA or interrupt, feeds bytes between the frames
- * of a tick, calls your function `work` in each pass, and sleeps if there is nothing to do.
- * examples/firmware/sleep.c is a program with it, and rtos_serial.c one under an RTOS. While the
- * loop sends two frames, 6,004 bytes can arrive, and some more while `work` runs: step.h has the
- * sum. We recommend a ring of 8,192 bytes. A smaller one is allowed: if it overflows, a page comes
- * some seconds later. Measured: 512 bytes were enough for two clients at 19,200 bits a second.
+ * of a tick, calls your function `work` in each pass, and sleeps if there is nothing to do. Two
+ * programs in examples/firmware have it: sleep.c, and rtos_serial.c under an RTOS, both with the
+ * ring and the sender of port.c. While the loop sends two frames, 6,004 bytes can arrive, and some
+ * more in 24 runs of `work`: step.h has the sum. So 8,192 bytes are enough if `work` takes at most
+ * 7 ms at 115,200 bits a second, and 6,400 if it takes 2 ms at 57,600. A smaller ring is allowed:
+ * if it overflows, a page comes some seconds later. Measured: 512 bytes were enough for two clients
+ * at 19,200 bits a second.
  */
 
 /* Feeds all bytes to the device, and passes all output to `sink`.
@@ -634,9 +639,18 @@ UIP_INLINE unsigned uip_tick_frames(uip_device *device, unsigned char *frame, si
  *     %! value 3         value 3 as it is: only if nobody else influences its text
  *     %!: /footer.html   the file /footer.html
  *
- * "Values and clicks" in the guide has the others: counters, ticks, hits and connections. A request
- * of / gets /index.html, which is no .shtml: let it lead to one. No reply names a character set:
- * write <meta charset="utf-8"> into each page.
+ * A request of / gets /index.html, which is no .shtml: let it lead to one. No reply names a
+ * character set: write <meta charset="utf-8"> into each page. "Values and clicks" in the guide has
+ * the other directives: counters, ticks, hits and connections.
+ *
+ * JSON. An .shtml may be JSON. A value that is a number goes in as it is: set it before the first
+ * request, since an empty one is no JSON. In JavaScript (await fetch("/v.shtml", {cache:
+ * "no-store"})).json() reads it. For its content type pack it by: python3 tools/pack.py FOLDER
+ * site.c /v.shtml=application/json
+ *
+ *     {"speed": %! value 2
+ *     , "place": "%! value-json 3
+ *     "}
  *
  * CACHES. A browser may show a stored copy of a page, and send no request. So give each link to a
  * button or to a page with values, and each form, a query that is new each time:
@@ -660,10 +674,10 @@ UIP_INLINE unsigned uip_tick_frames(uip_device *device, unsigned char *frame, si
  *
  * WHEN TO LOOK at hits and queries: after each request. A later query replaces the one before, and
  * if the counts of two buttons rose since you looked, you do not know which was pressed last. A
- * frame or a datagram brings at most one request; so do 64 bytes of a serial line, if a browser
- * sends them. So it suffices to look once in each pass of the loops in sections 1 and 9, and in
- * `work` of step.c. If your loop passes more at a time, look after each uip_feed, uip_input or
- * uip_input_frame, or in the sink of uip_feed_all.
+ * frame or a datagram brings at most one request; so do 64 bytes of a serial line, as the request
+ * of a browser is longer. So it suffices to look once in each pass of the loops in sections 1 and
+ * 9, and in `work` of step.c. If your loop passes more at a time, look after each uip_feed,
+ * uip_input or uip_input_frame, or in the sink of uip_feed_all.
  *
  * The file of a button or a form may be an .shtml that shows the new state: the node reads a value
  * when the peer has acknowledged all of the reply before it, the HTTP header included. By then your
@@ -714,23 +728,24 @@ uip_number uip_hits(uip_device *device, const void *name, size_t len);
  *             there is none
  *   Status    UIP_BAD_ARGUMENT; UIP_NO_DEVICE; UIP_OK
  *
- * Each request of the file that brings a query has another `hit`, also if the text is the same:
+ * If the last request of the file brought the query, `hit` is what uip_hits returns:
  *
- *     static unsigned last;                    // set it to 0 if you open again
+ *     static unsigned seen;                    // set it to 0 if you open again
  *     unsigned char text[UIP_MAX_QUERY];
- *     unsigned level;
- *     uip_query_text query = uip_query(&device, UIP_TEXT("/set.html"), text, sizeof text);
- *     if (query.hit != 0 && query.hit != last) {
- *         last = query.hit;
- *         // number_in and, for a text, text_in are in examples/text.h
- *         if (number_in(text, query.len, "level", &level) && level <= 100) set_level(level);
+ *     unsigned level, hits = uip_hits(&device, UIP_TEXT("/set.html")).number;
+ *     if (hits != seen) {                      // the file was requested
+ *         uip_query_text query = uip_query(&device, UIP_TEXT("/set.html"), text, sizeof text);
+ *         seen = hits;
+ *         // number_in, tenths_in and text_in are in examples/text.h
+ *         if (query.hit == hits && number_in(text, query.len, "level", &level) && level <= 100)
+ *             set_level(level);
+ *         else ..                              // no query, one that was ignored, or no such level
  *     }
  *
  * WHAT IS KEPT. The device keeps one query in all, of whatever file. It keeps a query if the site
  * has that file, if the query has at most 64 bytes, each a letter, a digit or one of -_.~%&=+, and
  * if it arrives in the first segment of the request. It ignores any other one, and the one before
- * it stays. The request is served and counted all the same. So when uip_hits of a file has risen,
- * compare it with `hit`: if they are not equal, that request had no query, or one that was ignored.
+ * it stays. The request is served and counted all the same.
  *
  * LONG TEXTS. The names of fields count, too: level=, &n= and 13 digits leave 42 bytes for the
  * text. Nothing is decoded. A browser sends most bytes but letters and digits as %XX, so a letter
@@ -739,14 +754,16 @@ uip_number uip_hits(uip_device *device, const void *name, size_t len);
  * query: check it.
  *
  * ONCE. A page that is loaded again sends its query again, with another `hit`. What must not happen
- * twice takes a token in an .shtml file, which also makes the query new (so leave Date.now() out):
+ * twice takes a token. The page with the form is an .shtml, and the token is its value 6. It also
+ * makes the query new, so leave Date.now() out:
  *
  *     <form action="/restart.shtml"><input type="hidden" name="n" value="%! value-html 6
  *     "><button>Restart</button></form>
  *
- * Your program acts only if the query has the token, which is value 6, and sets another one at
- * once. Never use a token twice, also not after a reset. examples/firmware/pages.c has this
- * restart; token_in is in examples/text.h.
+ * (As a link: <a href="/restart.shtml?n=%! value-html 6 and, in the next line, ">Restart</a>.) Your
+ * program acts only if the query has the token, and sets another one at once. Never use a token
+ * twice, also not after a reset. examples/firmware/pages.c has this restart; token_in is in
+ * examples/text.h.
  */
 uip_query_text uip_query(uip_device *device, const void *name, size_t len, void *out, size_t room);
 

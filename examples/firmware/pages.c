@@ -16,7 +16,7 @@ enum { TEMPERATURE = 3, LAMP = 4, BRIGHTNESS = 5, TOKEN = 6, RESTART = 8 };    /
 static unsigned hits_on, hits_off;                 /* how often the two buttons had been pressed at the last look */
 static int is_on;
 static unsigned brightness = 100;                  /* of the lamp that is on, 0 to 100 */
-static unsigned last_set, last_restart;            /* the `hit` of the last query of each form */
+static unsigned hits_set, hits_restart;            /* how often each form had been sent at the last look */
 static char token[UIP_MAX_VALUE];
 static size_t token_len;
 static int is_restarting;
@@ -52,11 +52,11 @@ static void look_at_buttons(void) {
 /* The form of /set.shtml: level=21&n=.. What is no number from 0 to 100 changes nothing. */
 static void look_at_brightness(void) {
     unsigned char text[UIP_MAX_QUERY];
-    unsigned number;
+    unsigned number, hits = uip_hits(&device, UIP_TEXT("/set.shtml")).number;
+    if (hits == hits_set) return;
     uip_query_text query = uip_query(&device, UIP_TEXT("/set.shtml"), text, sizeof text);
-    if (query.hit == 0 || query.hit == last_set) return;
-    last_set = query.hit;
-    if (!number_in(text, query.len, "level", &number) || number > 100) return;
+    hits_set = hits;
+    if (query.hit != hits || !number_in(text, query.len, "level", &number) || number > 100) return;
     brightness = number;
     switch_lamp(is_on);
 }
@@ -66,11 +66,11 @@ static void look_at_brightness(void) {
  */
 static void look_at_restart(void) {
     unsigned char text[UIP_MAX_QUERY];
-    unsigned ticks = uip_ticks(&device).number;
-    uip_query_text query = uip_query(&device, UIP_TEXT("/restart.shtml"), text, sizeof text);
-    if (query.hit != 0 && query.hit != last_restart) {
-        last_restart = query.hit;
-        if (token_in(text, query.len, "n", token, token_len)) {
+    unsigned ticks = uip_ticks(&device).number, hits = uip_hits(&device, UIP_TEXT("/restart.shtml")).number;
+    if (hits != hits_restart) {
+        uip_query_text query = uip_query(&device, UIP_TEXT("/restart.shtml"), text, sizeof text);
+        hits_restart = hits;
+        if (query.hit == hits && token_in(text, query.len, "n", token, token_len)) {
             new_token();
             is_restarting = 1;
             restart_at = ticks + 6;

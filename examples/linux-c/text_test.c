@@ -31,6 +31,12 @@ static void see_text(const char *query, size_t room, const char *expected) {
     see(found == !!expected && (found ? size == strlen(expected) && !memcmp(text, expected, size) : size == 99), query);
 }
 
+static void see_tenths_in(const char *query, int found, unsigned expected) {
+    unsigned tenths = 7;
+    int is_found = tenths_in((const unsigned char *)query, strlen(query), "dose", &tenths);
+    see(is_found == found && tenths == (found ? expected : 7), query);
+}
+
 static void see_token(const char *query, const char *token, int expected) {
     see(token_in((const unsigned char *)query, strlen(query), "n", token, strlen(token)) == expected, query);
 }
@@ -42,6 +48,11 @@ int main(void) {
     see_number("limit=999999999", 1, 999999999);
     see_number("", 0, 0), see_number("limit", 0, 0), see_number("limit=", 0, 0), see_number("limits=3", 0, 0), see_number("xlimit=3", 0, 0);
     see_number("limit=1234567890", 0, 0), see_number("limit=-1", 0, 0), see_number("limit=1a", 0, 0), see_number("&limit=3", 1, 3);
+    see_tenths_in("dose=12.5", 1, 125), see_tenths_in("dose=12.50&n=1", 1, 125), see_tenths_in("dose=12", 1, 120);
+    see_tenths_in("dose=.5", 1, 5), see_tenths_in("dose=5.", 1, 50), see_tenths_in("n=1&dose=0", 1, 0), see_tenths_in("dose=99999999", 1, 999999990);
+    see_tenths_in("dose=1234567.8", 1, 12345678), see_tenths_in("dose=123456789", 0, 0), see_tenths_in("dose=12345678.9", 0, 0);
+    see_tenths_in("dose=12.55", 0, 0), see_tenths_in("dose=", 0, 0), see_tenths_in("dose=.", 0, 0), see_tenths_in("dose=1.2.3", 0, 0);
+    see_tenths_in("dose=-1", 0, 0), see_tenths_in("dose=1e2", 0, 0), see_tenths_in("", 0, 0);
     see_text("name=a", 16, "a"), see_text("n=1&name=caf%C3%A9+x&b=2", 16, "caf\xC3\xA9 x"), see_text("name=", 16, "");
     see_text("name=%41%62", 2, "Ab");
     see_text("name=%4", 16, NULL), see_text("name=%", 16, NULL), see_text("name=%4g", 16, NULL), see_text("name=abc", 2, NULL);
