@@ -30,16 +30,17 @@
 unsigned serve(void);                                     /* the loop. Returns the status of a call that failed, if one does */
 void reset_step(void);                                    /* between uip_close and the next uip_open */
 
-/* You define these, as firmware/sleep.c and pages.c do. */
+/* You define these, as firmware/sleep.c and port.c do. */
 extern uip_device device;                                 /* not static; open when `serve` is called */
 void work(void);                                          /* sets values, reads hits and queries */
-int half_a_second_passed(void);                           /* 1 if a tick is due */
+int half_a_second_passed(void);                           /* 1 if a tick is due, once for each tick. Asked between ticks, if the port
+                                                             does not send. It returns 0 to leave ticks out */
 size_t read_serial(unsigned char *bytes, size_t room);    /* moves what has arrived, 0 if nothing. It does not wait */
 
 extern volatile unsigned events;                          /* not static. An interrupt adds 1 if it gives the loop or `work`
                                                              something to do: bytes arrived (with a DMA: line idle, half full,
                                                              full), the port has sent, half a second passed, or one of yours.
-                                                             A task that has something to do for `work` only ends wfi */
+                                                             A task of an RTOS need not add: it ends wfi */
 int dma_is_busy(void);                                    /* 1 while the port sends: a variable that dma_send sets, and that the
                                                              interrupt clears which adds to `events`. If you stop the port's
                                                              clock, take the interrupt of the last bit, not of the DMA */

@@ -29,14 +29,16 @@
  *
  *   Costs       In bytes, for a site of six files. Flash is with start-up code and, on a serial
  *               line, a driver; RAM is heap, stack and buffers. Not included: your site, your
- *               functions, your interrupts, the driver of Ethernet, and the stack of uip_close:
+ *               functions, your interrupts, other drivers, and the stack of uip_close:
  *                                           Cortex-M4         Cortex-M0+        rv32imac
  *                                        flash     RAM     flash     RAM     flash     RAM
  *                   serial, section 1   24,229   7,920    29,165   8,036    37,421   7,952
  *                   serial, step.c      24,389   8,184    29,173   8,284    37,509   8,240
+ *                   datagrams           21,301  10,688    26,021  10,780    33,669  10,688
  *                   Ethernet            23,909  11,232    29,845  11,352    37,765  11,296
- *               On a serial line add a ring in RAM for received bytes: 512 for a trial, 8,192
- *               recommended, others possible (section 7). "Targets" in the guide has all targets.
+ *               On a serial line add a ring for received bytes: 512 for a trial, 6,400 to 8,192
+ *               with step.c (section 7). Under an RTOS add the stack of the task that makes the
+ *               calls (rule 9). "Targets" in the guide has all targets.
  *
  *   Leaves out  UDP, IPv6, DHCP, TLS, passwords, POST, and connections that the node opens.
  *
@@ -441,11 +443,17 @@ unsigned uip_close(uip_device *device);
  * NEVER WAIT. The loop of examples/step.c sends by DMA or interrupt, feeds bytes between the frames
  * of a tick, calls your function `work` in each pass, and sleeps if there is nothing to do. Two
  * programs in examples/firmware have it: sleep.c, and rtos_serial.c under an RTOS, both with the
- * ring and the sender of port.c. While the loop sends two frames, 6,004 bytes can arrive, and some
- * more in 24 runs of `work`: step.h has the sum. So 8,192 bytes are enough if `work` takes at most
- * 7 ms at 115,200 bits a second, and 6,400 if it takes 2 ms at 57,600. A smaller ring is allowed:
- * if it overflows, a page comes some seconds later. Measured: 512 bytes were enough for two clients
- * at 19,200 bits a second.
+ * ring and the sender of port.c. Between two feeds the loop sends at most two frames, in 24 pieces:
+ *
+ *     ring = 6,004 + 24 * (bytes that arrive in one run of `work`) + 1
+ *
+ *     the longest `work`       at 19,200    at 38,400    at 57,600    at 115,200 bits a second
+ *     with 6,400 bytes              8 ms         4 ms       2.8 ms        1.4 ms
+ *     with 8,192 bytes             47 ms        23 ms        15 ms          7 ms
+ *
+ * Such a ring overflows only if the peers send faster than the line carries the replies. Then, and
+ * with a smaller ring, bytes are lost, and a page comes some seconds later. Measured: 512 bytes
+ * were enough for two clients at 19,200 bits a second.
  */
 
 /* Feeds all bytes to the device, and passes all output to `sink`.
@@ -515,18 +523,38 @@ UIP_INLINE unsigned uip_drain_all(uip_device *device, uip_result done, unsigned 
 /* ---- 8 Datagrams -------------------------------------------------------------------------------
  *
  * For a link that carries IPv4 datagrams, such as a tunnel, or a PPP of yours (none is included).
- * The loop is that of Ethernet (section 9) with other calls: examples/firmware/datagrams.c. Your
- * driver
+ * Input and output are two areas:
  *
- *   - drops datagrams of 0 bytes, or of more than UIP_MAX_DATAGRAM: the call would refuse them
- *   - passes each one whole, and without compressed headers (VJ)
- *   - carries datagrams of up to 1,500 bytes both ways. If the link cannot, its other end sets the
- *     MSS of TCP to the MTU less 40 in all SYNs. The node drops fragments, and does not set DF
- *   - may lose datagrams. While the link is down, go on with ticks, and drop what is to be sent: so
- *     connections end by their time limits. If the address changes, close the device and open it
- *     again.
+ *     size_t datagram_receive(unsigned char *bytes, size_t room);      // its length, or 0 if there is none
+ *     void datagram_send(void *to, const unsigned char *bytes, size_t len);
  *
- * One device may have such a link and a serial line ("Two links of one device" in the guide).
+ *     static unsigned char in[UIP_MAX_DATAGRAM], out[UIP_MAX_DATAGRAM];
+ *     while (status == UIP_OK) {
+ *         size_t len = datagram_receive(in, sizeof in);
+ *         if (len > 0) {
+ *             uip_result done = uip_input(&device, in, len, out, sizeof out);
+ *             if (done.written > 0) datagram_send(NULL, out, done.written);
+ *             status = done.status;
+ *         }
+ *         if (status == UIP_OK && tick_is_due_at(milliseconds()))
+ *             status = uip_tick_datagrams(&device, out, sizeof out, datagram_send, NULL);
+ *         ..                                  // values, buttons and forms
+ *     }
+ *
+ * examples/firmware/datagrams.c is the whole program, with a link that goes down, and comes up with
+ * another address. Your driver
+ *
+ *   - passes each datagram whole, and without compressed headers (VJ)
+ *   - drops one of 0 bytes, or of more than UIP_MAX_DATAGRAM: the call would refuse it
+ *   - may lose datagrams. While the link is down, go on with ticks and drop what is to be sent, so
+ *     that connections end by their time limits; or close the device, as datagrams.c does.
+ *
+ * THE MTU is 1,500. If that of the link is smaller, the MSS in the SYNs of both directions must be
+ * at most the MTU less 40. The other end of the link can set it; or your driver does, and corrects
+ * the checksum of TCP. The node drops fragments, and does not set DF.
+ *
+ * "SLOW LINES" in section 7 holds here too. One device may have such a link and a serial line ("Two
+ * links of one device" in the guide).
  */
 
 /* Receives one datagram, and writes the datagram of the reply, if there is one.
@@ -541,9 +569,10 @@ UIP_INLINE unsigned uip_drain_all(uip_device *device, uip_result done, unsigned 
  */
 uip_result uip_input(uip_device *device, const unsigned char *datagram, size_t len, unsigned char *out, size_t room);
 
-/* Runs the timers of one slot, and may write a datagram.
+/* Runs the timers of one slot, and may write a datagram. A tick is one call for each slot, in any
+ * order. Other calls may come between them.
  *
- *   slot         0 to 9, in any order; a tick is one call for each slot
+ *   slot         0 to 9
  *   out, room    as for uip_input
  *
  *   Result    `consumed` and `pending` are 0
@@ -559,11 +588,13 @@ UIP_INLINE unsigned uip_tick_datagrams(uip_device *device, unsigned char *out, s
 
 /* ---- 9 Ethernet --------------------------------------------------------------------------------
  *
- * The loop, with one area for the received frame and the reply. examples/firmware/ether.c is the
- * whole program, rtos.c that with two tasks and a mutex.
+ * The loop has one area for the received frame and the reply. examples/firmware/ether.c is the
+ * whole program, and rtos.c that under an RTOS.
  *
- *     size_t mac_receive(unsigned char *frame, size_t room);    // copies a received frame; its length, or 0 if none
- *     void mac_send(void *to, const unsigned char *frame, size_t len);    // sends it: when it returns, `frame` is free
+ *     // Copies a received frame. Returns its length, or 0 if there is none. It may wait, at most 20 ms.
+ *     size_t mac_receive(unsigned char *frame, size_t room);
+ *     // Sends a frame. When it returns, no DMA uses `frame`.
+ *     void mac_send(void *to, const unsigned char *frame, size_t len);
  *
  *     static unsigned char frame[UIP_MAX_FRAME];
  *     while (status == UIP_OK) {
@@ -598,8 +629,8 @@ UIP_INLINE unsigned uip_tick_datagrams(uip_device *device, unsigned char *out, s
 /* Receives one frame, and writes the frame to send in its place, if there is one.
  *
  *   frame, room    the area with the received frame at its start; `room` is UIP_MAX_FRAME or more
- *   len            the length of the received frame, 0 to `room`. (This argument comes after
- *                  `room`.)
+ *   len            the length of the received frame, 0 to `room`; it may have padding. NOTE: after
+ *                  `room`
  *
  *   Result    `consumed` is `len`; `pending` is 0
  *   Status    UIP_BAD_ARGUMENT; UIP_NO_DEVICE; UIP_WRONG_LINK; UIP_OK
@@ -610,9 +641,10 @@ UIP_INLINE unsigned uip_tick_datagrams(uip_device *device, unsigned char *out, s
  */
 uip_result uip_input_frame(uip_device *device, unsigned char *frame, size_t room, size_t len);
 
-/* Runs the timers of one slot, and may write a frame.
+/* Runs the timers of one slot, and may write a frame. A tick is one call for each slot, in any
+ * order. Other calls may come between them.
  *
- *   slot           0 to 9, in any order; a tick is one call for each slot
+ *   slot           0 to 9
  *   frame, room    where the frame goes; `room` is UIP_MAX_FRAME or more
  *
  *   Result    `consumed` and `pending` are 0
@@ -644,9 +676,9 @@ UIP_INLINE unsigned uip_tick_frames(uip_device *device, unsigned char *frame, si
  * the other directives: counters, ticks, hits and connections.
  *
  * JSON. An .shtml may be JSON. A value that is a number goes in as it is: set it before the first
- * request, since an empty one is no JSON. In JavaScript (await fetch("/v.shtml", {cache:
- * "no-store"})).json() reads it. For its content type pack it by: python3 tools/pack.py FOLDER
- * site.c /v.shtml=application/json
+ * request, since an empty one is no JSON. For its content type pack it by: python3 tools/pack.py
+ * FOLDER site.c /v.shtml=application/json. In JavaScript read it by await (await fetch("/v.shtml",
+ * {cache: "no-store"})).json().
  *
  *     {"speed": %! value 2
  *     , "place": "%! value-json 3
@@ -656,8 +688,12 @@ UIP_INLINE unsigned uip_tick_frames(uip_device *device, unsigned char *frame, si
  * button or to a page with values, and each form, a query that is new each time:
  *
  *     <a href="/on.html" onclick="this.search = Date.now()">on</a>
+ *     <a href="/set.html" onclick="this.search = 'level=5&n=' + Date.now()">5</a>
  *     <form action="/set.html" onsubmit="this.n.value = Date.now()">
  *     <input name="level"> <input type="hidden" name="n"> <button>Set</button></form>
+ *
+ * The first is read by uip_hits, the others by uip_query. A browser may follow a link by itself
+ * (prefetch). The second link then brings no query, and does nothing.
  *
  * POLLING. This page shows value 3, and asks for it again a second after each reply. The file
  * v.shtml has one line, %! value-html 3. By no-store the request needs no new query.
@@ -699,9 +735,9 @@ UIP_INLINE unsigned uip_tick_frames(uip_device *device, unsigned char *frame, si
  *
  * Each value of a page costs one round trip, often 40 to 200 ms, and two values may be of two
  * moments. So make one value of what belongs together, as "21.5,45.0"; if it is longer than a
- * value, begin each part with the same serial number, which rises with each change, so that a
- * script can compare. If the node sends a segment again, it has the same bytes, also if the value
- * has changed. examples/text.h writes numbers as text, without the C library.
+ * value, begin each part with the same serial number, so that a script can compare, and change both
+ * seldom. If the node sends a segment again, it has the same bytes, also if the value has changed.
+ * examples/text.h writes numbers as text, without the C library.
  */
 unsigned uip_set_value(uip_device *device, size_t number, const void *text, size_t len);
 
@@ -713,9 +749,9 @@ unsigned uip_set_value(uip_device *device, size_t number, const void *text, size
  *   Status    UIP_NO_DEVICE; UIP_OK
  *
  * A request for / counts for /index.html. A segment that is sent again counts once. But a browser
- * may follow a link by itself (prefetch) or twice, and a user may load a page again. So let a link
- * set a state ("on"), and not change it ("toggle"). What must not happen by itself or twice takes a
- * form with a token (uip_query, ONCE).
+ * may follow a link by itself or twice, and a user may load a page again. So let a link set a state
+ * ("on"), and not change it ("toggle"). See CACHES for what must not happen by itself, and ONCE at
+ * uip_query for what must not happen twice.
  */
 uip_number uip_hits(uip_device *device, const void *name, size_t len);
 
@@ -754,16 +790,17 @@ uip_number uip_hits(uip_device *device, const void *name, size_t len);
  * query: check it.
  *
  * ONCE. A page that is loaded again sends its query again, with another `hit`. What must not happen
- * twice takes a token. The page with the form is an .shtml, and the token is its value 6. It also
- * makes the query new, so leave Date.now() out:
+ * twice takes a token, here value 6, in a form or in a link of an .shtml. It also makes the query
+ * new, so leave Date.now() out:
  *
  *     <form action="/restart.shtml"><input type="hidden" name="n" value="%! value-html 6
  *     "><button>Restart</button></form>
+ *     <a href="/restart.shtml" onclick="this.search = 'n=%! value-html 6
+ *     '">Restart</a>
  *
- * (As a link: <a href="/restart.shtml?n=%! value-html 6 and, in the next line, ">Restart</a>.) Your
- * program acts only if the query has the token, and sets another one at once. Never use a token
- * twice, also not after a reset. examples/firmware/pages.c has this restart; token_in is in
- * examples/text.h.
+ * Your program acts only if the query has the token, and sets another one at once. Never use a
+ * token twice, also not after a reset: make it of a number of the start (counted in flash, or
+ * random) and a count. examples/firmware/pages.c has this restart; token_in is in examples/text.h.
  */
 uip_query_text uip_query(uip_device *device, const void *name, size_t len, void *out, size_t room);
 
@@ -779,13 +816,18 @@ uip_number uip_ticks(uip_device *device);
  *
  *   Status    UIP_NO_DEVICE; UIP_OK
  *
- * While it is 1 and no output is pending, ticks send nothing: you may leave them out, and sleep
- * until something arrives. After a page it stays 0 for 60 s (TIME_WAIT), unless the peer closed
- * first. But you may also leave out ticks while each connection is CLOSED or in TIME_WAIT
- * (uip_connection): that only prolongs TIME_WAIT. examples/firmware/sleep.c does so, and stops its
- * timer.
+ * After a page it stays 0 for 60 s (TIME_WAIT), unless the peer closed first.
  */
 uip_number uip_is_idle(uip_device *device);
+
+/* Returns 0 if each connection of an open device is CLOSED or in TIME_WAIT, else 1.
+ *
+ * While it is 0 and no output is pending, you may leave out ticks, and sleep until something
+ * arrives: that only prolongs TIME_WAIT, and a new connection takes a slot that is in it. With
+ * step.c no output is pending in `wfi` if the port does not send. examples/firmware/sleep.c stops
+ * its timer so. "Sleep" in the guide has more.
+ */
+UIP_INLINE int uip_needs_ticks(uip_device *device);
 
 /* Returns a counter.
  *
@@ -886,6 +928,15 @@ UIP_INLINE unsigned uip_tick_frames(uip_device *device, unsigned char *frame, si
         if (done.written) sink(to, frame, done.written);
     }
     return done.status;
+}
+
+UIP_INLINE int uip_needs_ticks(uip_device *device) {
+    size_t slot;
+    for (slot = 0; slot < UIP_SLOTS; slot++) {
+        unsigned state = uip_connection(device, slot).state;
+        if (state != UIP_CLOSED && state != UIP_TIME_WAIT) return 1;
+    }
+    return 0;
 }
 
 #ifdef __cplusplus

@@ -38,6 +38,13 @@ def expect(what, pattern, name):
     count += 1
 
 
+def token_now(name):
+    token = re.search(r'name="n" value="([0-9]+-[0-9]+)"', page(name))
+    if not token:
+        sys.exit("client.py: there is no token")
+    return token.group(1)
+
+
 def main(note):
     expect("the first page", r"^200 .*The device", "/")
     expect("a missing page", r"^404 ", "/no.html")
@@ -55,13 +62,11 @@ def main(note):
     expect("the lamp is on again", r"The lamp is on: ", "/now.shtml?12")
     if note == "1":
         expect("the value of the other task", r"<p>[0-9]+</p>\s*$", "/now.shtml?14")
-    token = re.search(r'name="n" value="([0-9]+-0)"', page("/now.shtml?15"))
-    if not token:
-        sys.exit("client.py: there is no token")
-    expect("a wrong token", r"The page was old", f"/restart.shtml?n={token.group(1)}1")
-    time.sleep(4)
+    token = token_now("/now.shtml?15")
+    expect("a wrong token", r"The page was old", f"/restart.shtml?n={token}1")
+    time.sleep(4)    # meanwhile datagrams.c closes its device, and opens it again
     expect("no restart by a wrong token", r"^200 ", "/now.shtml?13")
-    expect("the token", r"The device starts again", f"/restart.shtml?n={token.group(1)}")
+    expect("the token", r"The device starts again", f"/restart.shtml?n={token_now('/now.shtml?16')}")
     print(f"{count} pages are as they should be")
 
 

@@ -26,6 +26,8 @@ size_t read_serial(unsigned char *bytes, size_t room);    /* takes what has arri
 void write_serial(void *to, const unsigned char *bytes, size_t len);    /* sends all bytes; it may wait */
 
 /* datagrams.c */
+void link_wait(unsigned char own[4]);                     /* waits until the link is up, and returns the address that it has given */
+int link_is_up(void);
 size_t datagram_receive(unsigned char *bytes, size_t room);    /* copies a received datagram, and returns its length, or 0 if there
                                                                   is none. It drops a longer one. It may wait, at most 20 ms */
 void datagram_send(void *to, const unsigned char *bytes, size_t len);    /* sends a datagram; it may wait, or drop it */

@@ -79,15 +79,7 @@ static void look_at_restart(void) {
             uip_set_value(&device, RESTART, UIP_TEXT("The page was old."));
         }
     }
-    if (is_restarting && (ticks == restart_at || is_quiet())) stop(UIP_OK);
-}
-
-int is_quiet(void) {
-    for (size_t slot = 0; slot < UIP_SLOTS; slot++) {
-        unsigned state = uip_connection(&device, slot).state;
-        if (state != UIP_CLOSED && state != UIP_TIME_WAIT) return 0;
-    }
-    return 1;
+    if (is_restarting && (ticks == restart_at || !uip_needs_ticks(&device))) stop(UIP_OK);
 }
 
 static void look_at_temperature(void) {
@@ -96,7 +88,9 @@ static void look_at_temperature(void) {
 }
 
 void pages_start(void) {
-    switch_lamp(0);
+    hits_on = hits_off = hits_set = hits_restart = 0;
+    is_restarting = 0;
+    switch_lamp(is_on);
     new_token();
     look_at_temperature();
 }

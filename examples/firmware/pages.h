@@ -6,8 +6,7 @@
 
 extern uip_device device;
 
-void pages_start(void);   /* once, after the device was opened: sets all values */
-int is_quiet(void);       /* 1 if each connection is CLOSED or in TIME_WAIT: each page that was begun is delivered or given up */
+void pages_start(void);   /* after the device was opened, also if it is opened again: sets all values */
 void pages_work(void);    /* in each pass of the main loop: sets values, and handles clicks and forms. It does not wait */
 
 #endif

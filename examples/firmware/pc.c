@@ -204,6 +204,25 @@ const unsigned char mac[6] = {2, 0, 0, 0, 0, 1};
 
 static int interface;
 
+#ifdef PC_DATAGRAMS
+
+static unsigned last_received, downs;
+
+void link_wait(unsigned char own[4]) {
+    static const unsigned char address[4] = {10, 0, 0, 1};
+    memcpy(own, address, sizeof address);
+}
+
+/* The link goes down once, after three seconds without a datagram. */
+int link_is_up(void) {
+    if (!last_received || downs || milliseconds() - last_received < 3000) return 1;
+    downs++;
+    report("the link was down", downs);
+    return 0;
+}
+
+#endif
+
 void board_start(void) {
     struct ifreq request;
     interface = open("/dev/net/tun", O_RDWR);
@@ -219,6 +238,9 @@ void board_start(void) {
 size_t RECEIVE(unsigned char *bytes, size_t room) {
     if (!has_input(interface, 20)) return 0;
     ssize_t len = read(interface, bytes, room);
+#ifdef PC_DATAGRAMS
+    last_received = milliseconds();
+#endif
     return len > 0 ? (size_t)len : 0;
 }
 
@@ -232,11 +254,8 @@ void SEND(void *to, const unsigned char *bytes, size_t len) {
 
 #include "rtos.h"
 
-static pthread_mutex_t mutex = PTHREAD_MUTEX_INITIALIZER;
 static void (*second_task)(void *);
 
-void lock(void) { pthread_mutex_lock(&mutex); }
-void unlock(void) { pthread_mutex_unlock(&mutex); }
 void sleep_one_second(void) { sleep(1); }
 
 static void *run_second(void *unused) {

@@ -11,10 +11,6 @@ void count_seconds(void *);
 void start_tasks(void (*first)(void *), void (*second)(void *));    /* creates both tasks, and starts the scheduler */
 void sleep_one_second(void);
 
-/* rtos.c */
-void lock(void);                       /* a mutex */
-void unlock(void);
-
 /* rtos_serial.c: a binary semaphore, or the notification of the task `network` */
 void take_for_100_ms(void);            /* waits until it is given, at most 100 ms */
 void give(void);

@@ -72,5 +72,6 @@ int main(void) {
     if (opened.status != UIP_OK) fail(opened.status, opened.entry, opened.word);
     board_start();
     pages_start();
+    uip_set_value(&device, 7, UIP_TEXT("0"));
     start_tasks(network, count_seconds);
 }

@@ -49,9 +49,9 @@ build rtos PC_RTOS
 
 for command in ip unshare; do command -v $command >/dev/null || skip "command $command"; done
 [ -w /dev/net/tun ] || skip "/dev/net/tun that can be opened"
-# lamps NAME: what a program did with its lamp, and that it restarted.
+# lamps NAME: what a program did with its lamp (datagrams.c also when it opens again), and that it restarted.
 lamps() {
-    [ "$(sed -n 's/^lamp //p' "$out/$1.log" | tr '\n' ' ')" = "0 100 0 0 42 " ] || fail "$1 switched its lamp otherwise"
+    [ "$(sed -n 's/^lamp //p' "$out/$1.log" | uniq | tr '\n' ' ')" = "0 100 0 42 " ] || fail "$1 switched its lamp otherwise"
     grep -q '^stopped 0$' "$out/$1.log" || fail "$1 did not restart"
 }
 for name in serial sleep rtos_serial; do
@@ -67,6 +67,7 @@ done
 for name in datagrams ether rtos; do
     note=0; [ $name != rtos ] || note=1
     unshare -rn sh "$0" inside $name $note >"$out/$name.told" 2>&1 || fail "$name: $(cat "$out/$name.told")"
+    [ $name != datagrams ] || grep -q '^the link was down 1$' "$out/$name.log" || fail "datagrams was not opened again"
     lamps $name
     echo "$name: $(grep 'pages are' "$out/$name.told")"
 done

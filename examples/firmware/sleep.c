@@ -15,7 +15,7 @@
 uip_device device = UIP_INIT;
 
 static volatile unsigned halves;               /* half seconds */
-static int needs_no_tick;                      /* ticks may be left out, as no connection is open: is_quiet of pages.c */
+static int needs_ticks;                        /* whether the device needs ticks, at the last look */
 
 void work(void) { pages_work(); }
 
@@ -27,22 +27,22 @@ void on_half_second(void) {
     events++;
 }
 
-/* Returns 1 if a tick is due. While the device is quiet, none is. If three or more are due, only one is made. */
+/* Returns 1 if a tick is due. While the device needs none, none is. If three or more are due, only one is made. */
 int half_a_second_passed(void) {
     static unsigned last;
     unsigned now = halves, due = now - last;
-    needs_no_tick = is_quiet();
+    needs_ticks = uip_needs_ticks(&device);
     if (due == 0) return 0;
-    last = due > 2 || needs_no_tick ? now : last + 1;
-    return !needs_no_tick;
+    last = due > 2 || !needs_ticks ? now : last + 1;
+    return needs_ticks;
 }
 
 /* Sleeps until an interrupt. The loop calls it with interrupts held back, in a pass that had nothing to do. If the port does not
- * send, that pass has asked half_a_second_passed, no output is pending, and needs_no_tick is still right: then the timer stops too,
+ * send, that pass has asked half_a_second_passed, no output is pending, and needs_ticks is still right: then the timer stops too,
  * and only a received byte ends the sleep. If something of yours has to be done at its time, let the timer run.
  */
 void wfi(void) {
-    int is_deep = needs_no_tick && !dma_is_busy();
+    int is_deep = !needs_ticks && !dma_is_busy();
     if (is_deep) timer_stop();
     sleep_until_interrupt();
     if (is_deep) timer_start();
