@@ -52,22 +52,22 @@ for command in ip unshare; do command -v $command >/dev/null || skip "command $c
 # lamps NAME: what a program did with its lamp (datagrams.c also when it opens again), and that it restarted.
 lamps() {
     [ "$(sed -n 's/^lamp //p' "$out/$1.log" | uniq | tr '\n' ' ')" = "0 100 0 42 " ] || fail "$1 switched its lamp otherwise"
-    grep -q '^stopped 0$' "$out/$1.log" || fail "$1 did not restart"
+    grep -aq '^stopped 0$' "$out/$1.log" || fail "$1 did not restart"
 }
 for name in serial sleep rtos_serial; do
     note=0; [ $name != rtos_serial ] || note=1
     # browse.py reports the end of the program, which is the restart; the pages have been used before.
     printf '#!/bin/sh\nexec "%s" 2>"%s"\n' "$out/$name" "$out/$name.log" >"$out/$name.sh" && chmod +x "$out/$name.sh"
     python3 "$top/examples/browse.py" "$out/$name.sh" -- sh -c "python3 '$here/client.py' $note && sleep 4" >"$out/$name.told" 2>&1
-    grep -q "pages are as they should be" "$out/$name.told" || fail "$name: $(cat "$out/$name.told")"
+    grep -aq "pages are as they should be" "$out/$name.told" || fail "$name: $(cat "$out/$name.told")"
     lamps $name
-    [ $name != sleep ] || grep -q '^the timer stopped' "$out/sleep.log" || fail "sleep did not stop its timer"
-    echo "$name: $(grep 'pages are' "$out/$name.told")"
+    [ $name != sleep ] || grep -aq '^the timer stopped' "$out/sleep.log" || fail "sleep did not stop its timer"
+    echo "$name: $(grep -a 'pages are' "$out/$name.told")"
 done
 for name in datagrams ether rtos; do
     note=0; [ $name != rtos ] || note=1
     unshare -rn sh "$0" inside $name $note >"$out/$name.told" 2>&1 || fail "$name: $(cat "$out/$name.told")"
-    [ $name != datagrams ] || grep -q '^the link was down 1$' "$out/$name.log" || fail "datagrams was not opened again"
+    [ $name != datagrams ] || grep -aq '^the link was down 1$' "$out/$name.log" || fail "datagrams was not opened again"
     lamps $name
-    echo "$name: $(grep 'pages are' "$out/$name.told")"
+    echo "$name: $(grep -a 'pages are' "$out/$name.told")"
 done
