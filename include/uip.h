@@ -21,11 +21,12 @@
  *               docs/LIMITS.md           what the node does not do
  *               uip_app.h, uip_both.h    for TCP connections that your program answers itself
  *
- *   Runs on     Cortex-M4, M7 and M33, rv32imac (ilp32), rv64imac (lp64) and aarch64, all tried
- *               under qemu; x86-64 and WebAssembly, tried on a PC. Expected to work: Cortex-M0 and
- *               M0+ (their library ran on an emulated M4), M3 (it takes that library), and rv32imc.
- *               Ethernet was tried on an emulated M4 and on x86-64, datagrams on x86-64. Not tried:
- *               a real board, and an RTOS. The header is C90 or later, or C++.
+ *   Runs on     Cortex-M4, M7 and M33 (secure state), rv32imac (ilp32), rv64imac (lp64) and
+ *               aarch64, all tried under qemu; x86-64 and WebAssembly, tried on a PC. Expected to
+ *               work: Cortex-M0 and M0+ (their library ran on an emulated M4), M3 (it takes that
+ *               library), and rv32imc. Ethernet was tried on an emulated M4 and on x86-64,
+ *               datagrams on x86-64. Not tried: a real board, and an RTOS. The header is C90 or
+ *               later, or C++.
  *
  *   Costs       In bytes, for a site of six files. Flash is with start-up code and, on a serial
  *               line, a driver; RAM is heap, stack and buffers. Not included: your site, your
@@ -93,7 +94,7 @@ extern "C" {
  *   pending    output is pending if it did not fit into the area `out` of the call
  *
  * This program serves a site on a serial line. A link to /on.html is a button that turns a lamp on.
- * You write the five functions that it declares.
+ * You write the six functions that it declares.
  *
  *     #include "uip.h"
  *     #include "site.c"       // made by tools/pack.py: site_image, SITE_IMAGE_LEN, SITE_IMAGE_FILES
@@ -107,15 +108,18 @@ extern "C" {
  *     void write_serial(void *to, const unsigned char *bytes, size_t len);
  *     unsigned milliseconds(void);             // since the start, modulo 2^32
  *     void lamp(int is_on);
- *     void fail(unsigned status);              // records the status, and resets the processor
+ *     void fail(unsigned status, unsigned entry, const char *word);   // shows why, and never returns
+ *     void stop(unsigned status);              // records the status, and resets the processor
  *
- *     static uip_device device = UIP_INIT;
+ *     uip_device device = UIP_INIT;
  *
  *     int main(void) {
  *         static const unsigned char own[4] = {10, 0, 0, 1};          // the address 10.0.0.1
  *         static unsigned char in[64], out[32];                       // 64: at most one request a pass
  *         unsigned hits, seen = 0;
- *         unsigned status = uip_open(&device, site_image, SITE_IMAGE_LEN, own).status;
+ *         uip_opened opened = uip_open(&device, site_image, SITE_IMAGE_LEN, own);
+ *         unsigned status = opened.status;
+ *         if (status != UIP_OK) fail(status, opened.entry, opened.word);    // bad image, or small heap
  *         while (status == UIP_OK) {                                  // nothing that arrives ends it
  *             size_t len = read_serial(in, sizeof in);
  *             status = uip_feed_all(&device, in, len, out, sizeof out, write_serial, NULL);
@@ -127,7 +131,7 @@ extern "C" {
  *             if (hits != seen) lamp(1);
  *             seen = hits;
  *         }
- *         fail(status);
+ *         stop(status);
  *     }
  *
  * This loop waits while it sends, and never sleeps. On a serial line we recommend that of
@@ -430,10 +434,11 @@ unsigned uip_close(uip_device *device);
  * on one line. "Connect it to a PC" in the guide has more.
  *
  * SLOW LINES. Any rate will do. The node sends a segment again if it is not acknowledged after 4
- * ticks. At 9,600 bits a second a datagram of 1,500 bytes takes 1.6 s, and up to twice that if its
- * bytes are escaped; and the connections share the line. What takes longer than the 4 ticks goes
- * out twice. So on a slow line keep pages short, let a page make one request at a time, or choose a
- * smaller MTU for the host.
+ * ticks, and all connections share the line. A datagram of 1,500 bytes takes 0.8 s at 19,200 bits a
+ * second, and 1.6 s at 9,600; up to twice that if its bytes are escaped. What takes longer than the
+ * 4 ticks goes out twice. So on a slow line keep pages short, let a page make one request at a
+ * time, or give the host a smaller MTU, such as 576: the node sends no segment that is longer than
+ * the MSS which the host announces.
  *
  * RECEIVE WHILE YOU SEND. No call reads the port. While write_serial waits, an interrupt or a DMA
  * stores in a ring what arrives. The program of section 1 may send twelve of the longest frames in
@@ -441,19 +446,33 @@ unsigned uip_close(uip_device *device);
  * overflows, bytes are lost, and TCP sends their data again, after seconds. For a trial a ring of
  * 512 bytes will do.
  *
- * NEVER WAIT. The loop of examples/step.c sends by DMA or interrupt, feeds bytes between the frames
- * of a tick, calls your function `work` in each pass, and sleeps if there is nothing to do. Two
- * programs in examples/firmware have it: sleep.c, and rtos_serial.c under an RTOS, both with the
- * ring and the sender of port.c. Between two feeds the loop sends at most two frames, in 24 pieces:
+ * NEVER WAIT. We recommend the loop of examples/step.c. It sends by DMA or interrupt, feeds bytes
+ * between the frames of a tick, and sleeps if there is nothing to do. Your program opens `device`,
+ * calls serve(), and defines what step.h declares:
  *
- *     ring = 6,004 + 24 * (bytes that arrive in one run of `work`) + 1
+ *     void work(void);                      // in each pass: sets values, reads hits and queries
+ *     int half_a_second_passed(void);       // 1 if a tick is due
+ *     size_t read_serial(..);               // as above
+ *     void dma_send(const unsigned char *bytes, size_t len);     // begins to send
+ *     int dma_is_busy(void);                // 1 while the port sends
+ *     volatile unsigned events;             // an interrupt adds 1 if it gives the loop something to do
+ *     void interrupts_off(void), interrupts_on(void), wfi(void);
  *
- *     the longest `work`       at 19,200    at 38,400    at 57,600    at 115,200 bits a second
+ * Two programs in examples/firmware have all of this: sleep.c, and rtos_serial.c under an RTOS,
+ * both with the ring and the sender of port.c (-DRING=6400 sets the size of its ring).
+ *
+ * THE RING. Between two feeds step.c sends at most two frames, in 24 pieces of 256 bytes. In each
+ * gap `work` runs, and one call is made (a uip_drain of 256 bytes: 4,910 instructions on an M4,
+ * 6,107 on an M0+).
+ *
+ *     ring = 6,005 + 24 * (bytes that arrive in one gap)
+ *
+ *     the longest gap          at 19,200    at 38,400    at 57,600    at 115,200 bits a second
  *     with 6,400 bytes              8 ms         4 ms       2.8 ms        1.4 ms
  *     with 8,192 bytes             47 ms        23 ms        15 ms          7 ms
  *
- * Such a ring overflows only if the peers send faster than the line carries the replies. Then, and
- * with a smaller ring, bytes are lost, and a page comes some seconds later. Measured: 512 bytes
+ * Such a ring overflows if the peers go on sending faster than the line carries the replies. Then,
+ * and with a smaller ring, bytes are lost, and a page comes some seconds later. Measured: 512 bytes
  * were enough for two clients at 19,200 bits a second.
  */
 
@@ -672,13 +691,22 @@ UIP_INLINE unsigned uip_tick_frames(uip_device *device, unsigned char *frame, si
  *     %! value 3         value 3 as it is: only if nobody else influences its text
  *     %!: /footer.html   the file /footer.html
  *
- * A request of / gets /index.html, which is no .shtml: let it lead to one. No reply names a
- * character set: write <meta charset="utf-8"> into each page. "Values and clicks" in the guide has
- * the other directives: counters, ticks, hits and connections.
+ * A request of / gets /index.html, which is no .shtml: let it lead to one, as
+ * <script>location.replace("/now.shtml?" + Date.now())</script> does. Write into each page <meta
+ * charset="utf-8">, as no reply names a character set, and <link rel="icon" href="data:,">, which
+ * spares a request. "Values and clicks" in the guide has the other directives: counters, ticks,
+ * hits and connections.
+ *
+ * BUTTONS. A link or a form sends a request, and your program looks for it:
+ *
+ *     it may be repeated, as "lamp on"           a link to a file of its own; uip_hits
+ *     it has a text, as "level 5", or must not   a link or form with a query; uip_query
+ *     come by itself
+ *     it must not happen twice, as "next step"   the same, and a token: ONCE at uip_query
  *
  * JSON. An .shtml may be JSON. A value that is a number goes in as it is: set it before the first
  * request, since an empty one is no JSON. For its content type pack it by: python3 tools/pack.py
- * FOLDER site.c /v.shtml=application/json. In JavaScript read it by await (await fetch("/v.shtml",
+ * FOLDER site.c /j.shtml=application/json. In JavaScript read it by await (await fetch("/j.shtml",
  * {cache: "no-store"})).json().
  *
  *     {"speed": %! value 2
@@ -693,8 +721,9 @@ UIP_INLINE unsigned uip_tick_frames(uip_device *device, unsigned char *frame, si
  *     <form action="/set.html" onsubmit="this.n.value = Date.now()">
  *     <input name="level"> <input type="hidden" name="n"> <button>Set</button></form>
  *
- * The first is read by uip_hits, the others by uip_query. A browser may follow a link by itself
- * (prefetch). The second link then brings no query, and does nothing.
+ * uip_hits reads the first link, and uip_query the others. A browser may follow a link by itself
+ * (prefetch), and then does not run onclick: so it presses the first link, but not the second,
+ * which has no query then.
  *
  * POLLING. This page shows value 3, and asks for it again a second after each reply. The file
  * v.shtml has one line, %! value-html 3. By no-store the request needs no new query.
@@ -712,13 +741,14 @@ UIP_INLINE unsigned uip_tick_frames(uip_device *device, unsigned char *frame, si
  * WHEN TO LOOK at hits and queries: after each request. A later query replaces the one before, and
  * if the counts of two buttons rose since you looked, you do not know which was pressed last. A
  * frame or a datagram brings at most one request; so do 64 bytes of a serial line, as the request
- * of a browser is longer. So it suffices to look once in each pass of the loops in sections 1 and
- * 9, and in `work` of step.c. If your loop passes more at a time, look after each uip_feed,
- * uip_input or uip_input_frame, or in the sink of uip_feed_all.
+ * of a browser is longer. So it suffices to look once in each pass of the loops in sections 1, 8
+ * and 9. With step.c `work` runs between any two requests. If your loop passes more at a time, look
+ * after each uip_feed, uip_input or uip_input_frame, or in the sink of uip_feed_all.
  *
  * The file of a button or a form may be an .shtml that shows the new state: the node reads a value
  * when the peer has acknowledged all of the reply before it, the HTTP header included. By then your
- * program has looked at the request, and has set the value.
+ * program has looked at the request, and has set the value. If a value takes longer to measure,
+ * begin when a connection opens (uip_needs_ticks becomes 1): its request comes a round trip later.
  *
  * If a segment of a request is lost, the click comes later, by a second or more: a link is no
  * emergency stop.
@@ -799,9 +829,11 @@ uip_number uip_hits(uip_device *device, const void *name, size_t len);
  *     <a href="/restart.shtml" onclick="this.search = 'n=%! value-html 6
  *     '">Restart</a>
  *
- * Your program acts only if the query has the token, and sets another one at once. Never use a
- * token twice, also not after a reset: make it of a number of the start (counted in flash, or
- * random) and a count. examples/firmware/pages.c has this restart; token_in is in examples/text.h.
+ * Your program acts only if the query has the token, and sets another one at once. Put the token
+ * before the state that the page shows: so a press never acts on a state that has changed since.
+ * Never use a token twice, also not after a reset: make it of a number of the start (counted in
+ * flash, or random) and a count. examples/firmware/pages.c has this restart; token_in is in
+ * examples/text.h.
  */
 uip_query_text uip_query(uip_device *device, const void *name, size_t len, void *out, size_t room);
 
@@ -821,12 +853,13 @@ uip_number uip_ticks(uip_device *device);
  */
 uip_number uip_is_idle(uip_device *device);
 
-/* Returns 0 if each connection of an open device is CLOSED or in TIME_WAIT, else 1.
+/* Returns 1 if a connection needs ticks: one that is neither CLOSED nor in TIME_WAIT. Else it
+ * returns 0, also if the device is not open.
  *
- * While it is 0 and no output is pending, you may leave out ticks, and sleep until something
- * arrives: that only prolongs TIME_WAIT, and a new connection takes a slot that is in it. With
- * step.c no output is pending in `wfi` if the port does not send. examples/firmware/sleep.c stops
- * its timer so. "Sleep" in the guide has more.
+ * While it returns 0 and no output is pending, you may leave out ticks, and sleep until something
+ * arrives. That prolongs TIME_WAIT, and new connections have the same initial sequence number,
+ * until the next tick. With step.c no output is pending in your `wfi` if dma_is_busy() is 0.
+ * examples/firmware/sleep.c stops its timer so. "Sleep" in the guide has more.
  */
 UIP_INLINE int uip_needs_ticks(uip_device *device);
 
