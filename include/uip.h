@@ -24,9 +24,9 @@
  *   Runs on     Cortex-M4, M7 and M33 (secure state), rv32imac (ilp32), rv64imac (lp64) and
  *               aarch64, all tried under qemu; x86-64 and WebAssembly, tried on a PC. Expected to
  *               work: Cortex-M0 and M0+ (their library ran on an emulated M4), M3 (it takes that
- *               library), and rv32imc. Ethernet was tried on an emulated M4 and on x86-64,
- *               datagrams on x86-64. Not tried: a real board, and an RTOS. The header is C90 or
- *               later, or C++.
+ *               library), M33 in its non-secure state, and rv32imc. Ethernet was tried on an
+ *               emulated M4 and on x86-64, datagrams on x86-64. Not tried: a real board, and an
+ *               RTOS. The header is C90 or later, or C++.
  *
  *   Costs       In bytes, for a site of six files. Flash is with start-up code and, on a serial
  *               line, a driver; RAM is heap, stack and buffers. Not included: your site, your
@@ -44,8 +44,9 @@
  *   Leaves out  UDP, IPv6, DHCP, TLS, passwords, POST, and connections that the node opens.
  *
  *   Security    Whoever reaches the node can read its pages, press its buttons, and occupy its ten
- *               connections. Its sequence numbers are predictable. Use it only on a network that
- *               you control.
+ *               connections. So can a page of another site in a browser that reaches it: against
+ *               that a token helps (ONCE, at uip_query). The sequence numbers are predictable. Use
+ *               the node only on a network that you control.
  *
  *   Proved      Of the source, if you keep the rules of section 2: memory safety, and the exact
  *               output of each call. The source is Rattle, which is Rust with contracts.
@@ -152,7 +153,9 @@ extern "C" {
  *     python3 tools/pack.py FOLDER site.c
  *     arm-none-eabi-gcc -mcpu=cortex-m4 -mthumb -Os -nostartfiles -Iinclude -Iexamples -T board.ld \
  *         startup.c drivers.c main.c ports/out/m4/libuip_c.a -lc -lgcc -o firmware.elf
- *     python3 examples/browse.py --line /dev/ttyUSB0 115200 --silent      # on the PC: Linux
+ *     python3 examples/browse.py --line /dev/ttyUSB0 115200 --silent    # on the PC, Linux; --silent, as
+ *                                                                       # the node has a clock of
+ *                                                                       its own
  *
  * startup.c, drivers.c and board.ld are yours. main.c includes site.c and heap.c: do not compile
  * these two by themselves. "Link the library" in the guide has the flags of each processor, also
@@ -232,11 +235,20 @@ typedef char uip_needs_unsigned_of_32_bits[sizeof(unsigned) == 4 ? 1 : -1];
  * TIME. No call waits, masks interrupts, needs privilege or, except opening, allocates memory. An
  * inline function waits if its sink waits. Opening reads the whole image. Each other call handles
  * at most one datagram. No bound on the time of a call is known. Counted, in instructions on an M4
- * and on an M0+ (by qemu, on a serial line): a ping 4,716 and 8,442; a file of one byte, all calls
- * together, 28,223 and 68,331; a tick that sends nothing 2,041 and 3,848; uip_connection 1,231 and
- * 1,496; uip_query, uip_hits and uip_set_value less than 900. If there is a watchdog, feed it in
- * each pass, and in a sink that waits. A task with a deadline makes no call, and takes no mutex of
- * the device: it passes its values to the task that makes the calls.
+ * and on an M0+ (by qemu, on a serial line):
+ *
+ *     a ping of 84 bytes, in all its calls                     4,716     8,442
+ *     a file of one byte, in all its calls                    28,223    68,331
+ *     a uip_feed that takes a ping of 1,500 bytes             10,522    19,814
+ *     a uip_drain of 256 bytes                                 4,910     6,107
+ *     a tick that sends nothing                                2,041     3,848
+ *     uip_needs_ticks, at most                                12,310    14,960
+ *     uip_connection                                           1,231     1,496
+ *     uip_query, uip_hits, uip_set_value                   565, 532, 219    869, 827, 324
+ *
+ * If there is a watchdog, feed it in each pass, and in a sink that waits. A task with a deadline
+ * makes no call, and takes no mutex of the device: it passes its values to the task that makes the
+ * calls.
  */
 
 /* ---- 3 Statuses --------------------------------------------------------------------------------
@@ -252,8 +264,8 @@ typedef char uip_needs_unsigned_of_32_bits[sizeof(unsigned) == 4 ? 1 : -1];
  * sink.)
  *
  * Nothing that arrives causes an error. So after opening treat any status but UIP_OK as a failed
- * assertion: record it and reset. Each call lists its statuses in the order in which it checks for
- * them.
+ * assertion: record it, and reset or make no more calls. Each call lists its statuses in the order
+ * in which it checks for them.
  */
 enum uip_status {
     UIP_OK = 0,
@@ -341,8 +353,8 @@ typedef struct uip_result { unsigned status, pending; size_t consumed, written; 
 typedef struct uip_number { unsigned status; unsigned number; } uip_number;
 
 /* The result of uip_query.
- *   hit    a number that differs for each request of a file: what uip_hits was after the request
- *          that brought the query. 0 if there is no query
+ *   hit    if the last request of the file brought the query, the number that uip_hits returns. If
+ *          an earlier one did, a smaller number. 0 if there is no query
  *   len    the length of its text in bytes; it may be 0
  */
 typedef struct uip_query_text { unsigned status; unsigned hit; size_t len; } uip_query_text;
@@ -428,10 +440,11 @@ unsigned uip_close(uip_device *device);
  * XOFF. It is full duplex: both ends send at any time, so not two wires of RS-485. RTS and CTS are
  * not needed. If bytes are lost or damaged, clear the flag of the port and go on: TCP repairs it.
  *
- * THE OTHER END is a host such as Linux (examples/browse.py), or a gateway to other networks: the
- * node answers every address. It has an MTU of at most 1,500. A gateway with a smaller one clamps
- * the MSS of TCP to its MTU less 40, both ways. Do not connect two nodes to each other, nor put two
- * on one line. "Connect it to a PC" in the guide has more.
+ * THE OTHER END is a host, or a gateway to other networks: the node answers every address. For a
+ * trial examples/browse.py connects Linux; Linux's own SLIP (slattach) was not tried. The other end
+ * has an MTU of at most 1,500. A gateway with a smaller one clamps the MSS of TCP to its MTU less
+ * 40, both ways. Do not connect two nodes to each other, nor put two on one line. "Connect it to a
+ * PC" in the guide has more.
  *
  * SLOW LINES. Any rate will do. The node sends a segment again if it is not acknowledged after 4
  * ticks, and all connections share the line. A datagram of 1,500 bytes takes 0.8 s at 19,200 bits a
@@ -447,23 +460,24 @@ unsigned uip_close(uip_device *device);
  * 512 bytes will do.
  *
  * NEVER WAIT. We recommend the loop of examples/step.c. It sends by DMA or interrupt, feeds bytes
- * between the frames of a tick, and sleeps if there is nothing to do. Your program opens `device`,
- * calls serve(), and defines what step.h declares:
+ * between the frames of a tick, and sleeps if there is nothing to do. Include step.h, call serve()
+ * in place of a loop of your own, and compile examples/step.c and examples/firmware/port.c beside
+ * your program. port.c has the ring and the sender (-DRING=6400 sets the size of the ring). You
+ * write:
  *
  *     void work(void);                      // in each pass: sets values, reads hits and queries
- *     int half_a_second_passed(void);       // 1 if a tick is due
- *     size_t read_serial(..);               // as above
- *     void dma_send(const unsigned char *bytes, size_t len);     // begins to send
- *     int dma_is_busy(void);                // 1 while the port sends
- *     volatile unsigned events;             // an interrupt adds 1 if it gives the loop something to do
- *     void interrupts_off(void), interrupts_on(void), wfi(void);
+ *     int half_a_second_passed(void);       // 1 if a tick is due, once for each tick
+ *     unsigned char port_read(void);        // the byte that has arrived
+ *     void port_start(const unsigned char *bytes, size_t len);    // begins to send by DMA or interrupt
+ *     void interrupts_off(void), interrupts_on(void);
+ *     void wfi(void);                       // sleeps until an interrupt, also one that is held back
  *
- * Two programs in examples/firmware have all of this: sleep.c, and rtos_serial.c under an RTOS,
- * both with the ring and the sender of port.c (-DRING=6400 sets the size of its ring).
+ * and three interrupts: that of the receiver calls on_received(), that at the end of sending
+ * on_sent(), and that of a timer of half a second adds 1 to `events`, which ends the sleep. sleep.c
+ * in examples/firmware is such a program, and rtos_serial.c one under an RTOS. step.h has more.
  *
- * THE RING. Between two feeds step.c sends at most two frames, in 24 pieces of 256 bytes. In each
- * gap `work` runs, and one call is made (a uip_drain of 256 bytes: 4,910 instructions on an M4,
- * 6,107 on an M0+).
+ * THE RING. Between two feeds step.c sends at most two frames, in 24 pieces of 256 bytes. A gap is
+ * the time between two pieces: `work` runs, half_a_second_passed, and one call.
  *
  *     ring = 6,005 + 24 * (bytes that arrive in one gap)
  *
@@ -611,7 +625,8 @@ UIP_INLINE unsigned uip_tick_datagrams(uip_device *device, unsigned char *out, s
  * The loop has one area for the received frame and the reply. examples/firmware/ether.c is the
  * whole program, and rtos.c that under an RTOS.
  *
- *     // Copies a received frame. Returns its length, or 0 if there is none. It may wait, at most 20 ms.
+ *     // Copies a received frame. Returns its length, or 0 if there is none. It may wait some time for
+ *     // one, as 20 ms: ticks and values are late by that.
  *     size_t mac_receive(unsigned char *frame, size_t room);
  *     // Sends a frame. When it returns, no DMA uses `frame`.
  *     void mac_send(void *to, const unsigned char *frame, size_t len);
@@ -697,21 +712,24 @@ UIP_INLINE unsigned uip_tick_frames(uip_device *device, unsigned char *frame, si
  * spares a request. "Values and clicks" in the guide has the other directives: counters, ticks,
  * hits and connections.
  *
- * BUTTONS. A link or a form sends a request, and your program looks for it:
+ * JSON. An .shtml may be JSON. Here value 2 is 21.5,45.0: two numbers of one moment
+ * (uip_set_value). Set it before the first request.
  *
- *     it may be repeated, as "lamp on"           a link to a file of its own; uip_hits
- *     it has a text, as "level 5", or must not   a link or form with a query; uip_query
- *     come by itself
- *     it must not happen twice, as "next step"   the same, and a token: ONCE at uip_query
- *
- * JSON. An .shtml may be JSON. A value that is a number goes in as it is: set it before the first
- * request, since an empty one is no JSON. For its content type pack it by: python3 tools/pack.py
- * FOLDER site.c /j.shtml=application/json. In JavaScript read it by await (await fetch("/j.shtml",
- * {cache: "no-store"})).json().
- *
- *     {"speed": %! value 2
- *     , "place": "%! value-json 3
+ *     {"measured": [%! value 2
+ *     ], "place": "%! value-json 3
  *     "}
+ *
+ * For its content type pack it by: python3 tools/pack.py FOLDER site.c /j.shtml=application/json.
+ * In JavaScript read it by await (await fetch("/j.shtml", {cache: "no-store"})).json().
+ *
+ * BUTTONS. A link or a form sends a request, and your program looks for it. It takes
+ *
+ *     it may come by itself, and again (lamp on)          a link to a file of its own; uip_hits
+ *     it must not come by itself (level 5)                a link or a form with a query; uip_query
+ *     it must not come again (next step, or disarm)       the same with a token; ONCE at uip_query
+ *
+ * By itself: a browser may follow a link before it is clicked. Again: a user may load a page again,
+ * and a browser may restore its pages after days.
  *
  * CACHES. A browser may show a stored copy of a page, and send no request. So give each link to a
  * button or to a page with values, and each form, a query that is new each time:
@@ -721,9 +739,8 @@ UIP_INLINE unsigned uip_tick_frames(uip_device *device, unsigned char *frame, si
  *     <form action="/set.html" onsubmit="this.n.value = Date.now()">
  *     <input name="level"> <input type="hidden" name="n"> <button>Set</button></form>
  *
- * uip_hits reads the first link, and uip_query the others. A browser may follow a link by itself
- * (prefetch), and then does not run onclick: so it presses the first link, but not the second,
- * which has no query then.
+ * uip_hits reads the first link, and uip_query the others. A browser that follows a link by itself
+ * does not run onclick: so it presses the first link, but not the second, which has no query then.
  *
  * POLLING. This page shows value 3, and asks for it again a second after each reply. The file
  * v.shtml has one line, %! value-html 3. By no-store the request needs no new query.
@@ -765,10 +782,10 @@ UIP_INLINE unsigned uip_tick_frames(uip_device *device, unsigned char *frame, si
  *   Status    UIP_BAD_ARGUMENT (the old value stays); UIP_NO_DEVICE; UIP_OK
  *
  * Each value of a page costs one round trip, often 40 to 200 ms, and two values may be of two
- * moments. So make one value of what belongs together, as "21.5,45.0"; if it is longer than a
- * value, begin each part with the same serial number, so that a script can compare, and change both
- * seldom. If the node sends a segment again, it has the same bytes, also if the value has changed.
- * examples/text.h writes numbers as text, without the C library.
+ * moments. So make one value of what belongs together, as "21.5,45.0", or digits without commas. If
+ * it is longer than a value, begin each part with the same serial number, so that a script can
+ * compare, and change both seldom. If the node sends a segment again, it has the same bytes, also
+ * if the value has changed. examples/text.h writes numbers as text, without the C library.
  */
 unsigned uip_set_value(uip_device *device, size_t number, const void *text, size_t len);
 
@@ -780,9 +797,8 @@ unsigned uip_set_value(uip_device *device, size_t number, const void *text, size
  *   Status    UIP_NO_DEVICE; UIP_OK
  *
  * A request for / counts for /index.html. A segment that is sent again counts once. But a browser
- * may follow a link by itself or twice, and a user may load a page again. So let a link set a state
- * ("on"), and not change it ("toggle"). See CACHES for what must not happen by itself, and ONCE at
- * uip_query for what must not happen twice.
+ * may follow a link by itself or twice, and a user may load a page again (BUTTONS). So let a link
+ * set a state ("on"), and not change it ("toggle").
  */
 uip_number uip_hits(uip_device *device, const void *name, size_t len);
 
@@ -795,7 +811,8 @@ uip_number uip_hits(uip_device *device, const void *name, size_t len);
  *             there is none
  *   Status    UIP_BAD_ARGUMENT; UIP_NO_DEVICE; UIP_OK
  *
- * If the last request of the file brought the query, `hit` is what uip_hits returns:
+ * If the last request of the file brought the query, `hit` is what uip_hits returns. That alone is
+ * a press; if the query has a text, read it:
  *
  *     static unsigned seen;                    // set it to 0 if you open again
  *     unsigned char text[UIP_MAX_QUERY];
@@ -820,8 +837,8 @@ uip_number uip_hits(uip_device *device, const void *name, size_t len);
  * pattern of what you accept: pattern="[A-Za-z0-9 ]{1,20}". Anyone who reaches the node can send a
  * query: check it.
  *
- * ONCE. A page that is loaded again sends its query again, with another `hit`. What must not happen
- * twice takes a token, here value 6, in a form or in a link of an .shtml. It also makes the query
+ * ONCE. A page that is loaded again sends its query again, with another `hit`. What must not come
+ * again takes a token, here value 6, in a form or in a link of an .shtml. It also makes the query
  * new, so leave Date.now() out:
  *
  *     <form action="/restart.shtml"><input type="hidden" name="n" value="%! value-html 6
@@ -830,10 +847,10 @@ uip_number uip_hits(uip_device *device, const void *name, size_t len);
  *     '">Restart</a>
  *
  * Your program acts only if the query has the token, and sets another one at once. Put the token
- * before the state that the page shows: so a press never acts on a state that has changed since.
- * Never use a token twice, also not after a reset: make it of a number of the start (counted in
- * flash, or random) and a count. examples/firmware/pages.c has this restart; token_in is in
- * examples/text.h.
+ * into the page before the state that it shows, as its values are read in this order: so a press
+ * never acts on a state that has changed since. Never use a token twice, also not after a reset:
+ * make it of a number of the start (counted in flash, or random) and a count.
+ * examples/firmware/pages.c has this restart; token_in is in examples/text.h.
  */
 uip_query_text uip_query(uip_device *device, const void *name, size_t len, void *out, size_t room);
 
@@ -858,8 +875,9 @@ uip_number uip_is_idle(uip_device *device);
  *
  * While it returns 0 and no output is pending, you may leave out ticks, and sleep until something
  * arrives. That prolongs TIME_WAIT, and new connections have the same initial sequence number,
- * until the next tick. With step.c no output is pending in your `wfi` if dma_is_busy() is 0.
- * examples/firmware/sleep.c stops its timer so. "Sleep" in the guide has more.
+ * until the next tick. With step.c no output is pending in your `wfi` if dma_is_busy() is 0. If the
+ * receiver is off in the sleep, see "Sleep" in the guide. examples/firmware/sleep.c stops its timer
+ * so.
  */
 UIP_INLINE int uip_needs_ticks(uip_device *device);
 

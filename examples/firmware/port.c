@@ -10,6 +10,7 @@
 #include "drivers.h"
 
 volatile unsigned events;                      /* an interrupt that gives the loop something to do adds 1 */
+volatile unsigned bytes_received;
 
 /* The size of the ring: ../step.h has how to compute it. One byte of it stays free. */
 #ifndef RING
@@ -28,6 +29,7 @@ void on_received(void) {
         ring[received] = byte;
         received = next;
     }
+    bytes_received++;
     events++;
 }
 

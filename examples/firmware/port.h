@@ -1,8 +1,13 @@
-/* The interrupts of port.c. */
+/* The interrupts of port.c, and its count.
+ *
+ * SPDX-License-Identifier: MIT OR Apache-2.0
+ * Copyright 2026 The Lowunbisa authors
+ */
 #ifndef PORT_H
 #define PORT_H
 
-void on_received(void);    /* the port has received a byte */
-void on_sent(void);        /* the port has sent the last bit of what port_start began */
+void on_received(void);                        /* the port has received a byte */
+void on_sent(void);                            /* the port has sent the last bit of what port_start began */
+extern volatile unsigned bytes_received;       /* modulo 2^32 */
 
 #endif

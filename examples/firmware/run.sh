@@ -56,10 +56,7 @@ lamps() {
 }
 for name in serial sleep rtos_serial; do
     note=0; [ $name != rtos_serial ] || note=1
-    # browse.py reports the end of the program, which is the restart; the pages have been used before.
-    printf '#!/bin/sh\nexec "%s" 2>"%s"\n' "$out/$name" "$out/$name.log" >"$out/$name.sh" && chmod +x "$out/$name.sh"
-    python3 "$top/examples/browse.py" "$out/$name.sh" -- sh -c "python3 '$here/client.py' $note && sleep 4" >"$out/$name.told" 2>&1
-    grep -aq "pages are as they should be" "$out/$name.told" || fail "$name: $(cat "$out/$name.told")"
+    python3 "$here/line.py" "$out/$name" "$out/$name.log" $note >"$out/$name.told" 2>&1 || fail "$name: $(cat "$out/$name.told")"
     lamps $name
     [ $name != sleep ] || grep -aq '^the timer stopped' "$out/sleep.log" || fail "sleep did not stop its timer"
     echo "$name: $(grep -a 'pages are' "$out/$name.told")"

@@ -11,11 +11,13 @@
 #define UIP_HEAP_SIZE UIP_MEMORY(SITE_IMAGE_FILES)
 #include "../heap.c"
 #include "drivers.h"
+#include "port.h"
 
 uip_device device = UIP_INIT;
 
 static volatile unsigned halves;               /* half seconds */
-static int needs_ticks;                        /* whether the device needs ticks, at the last look */
+static int needs_ticks = 1;                    /* uip_needs_ticks at the last check, and `halves` and bytes_received then */
+static unsigned halves_checked, bytes_checked;
 
 void work(void) { pages_work(); }
 
@@ -27,22 +29,33 @@ void on_half_second(void) {
     events++;
 }
 
-/* Returns 1 if a tick is due. While the device needs none, none is. If three or more are due, only one is made. */
+/* Whether ticks may be left out: the device needed none at the last check, and has received nothing since. */
+static int is_quiet(void) { return !needs_ticks && bytes_received == bytes_checked; }
+
+/* Returns 1 if a tick is due. If three or more are due, only one is made. */
 int half_a_second_passed(void) {
     static unsigned last;
     unsigned now = halves, due = now - last;
-    needs_ticks = uip_needs_ticks(&device);
     if (due == 0) return 0;
-    last = due > 2 || !needs_ticks ? now : last + 1;
-    return needs_ticks;
+    last = due > 2 || is_quiet() ? now : last + 1;
+    return !is_quiet();
 }
 
-/* Sleeps until an interrupt. The loop calls it with interrupts held back, in a pass that had nothing to do. If the port does not
- * send, that pass has asked half_a_second_passed, no output is pending, and needs_ticks is still right: then the timer stops too,
- * and only a received byte ends the sleep. If something of yours has to be done at its time, let the timer run.
+/* Sleeps until an interrupt. The loop calls it with interrupts held back, in a pass that had nothing to do. Each half second it looks
+ * whether the device needs ticks, with interrupts on, since that takes some time; the loop then makes another pass. If it needs none
+ * and the port does not send, no output is pending either, and the timer stops: then only a received byte ends the sleep. If something
+ * of yours has to be done at its time, let the timer run.
  */
 void wfi(void) {
-    int is_deep = !needs_ticks && !dma_is_busy();
+    int is_deep = is_quiet() && !dma_is_busy();
+    if (halves != halves_checked && !dma_is_busy()) {
+        halves_checked = halves;
+        bytes_checked = bytes_received;
+        interrupts_on();
+        needs_ticks = uip_needs_ticks(&device);
+        interrupts_off();
+        return;
+    }
     if (is_deep) timer_stop();
     sleep_until_interrupt();
     if (is_deep) timer_start();
