@@ -14,10 +14,10 @@
  * before the next one is handled. Keep `work` short: it runs before each piece of at most 256 bytes.
  *
  * The ring. Between two feeds the loop sends at most two frames, in 24 pieces. Meanwhile at most 2 * UIP_MAX_OUT = 6,004
- * bytes arrive, and what the line brings in 24 gaps, in each of which `work` and half_a_second_passed run, and one call is made. With a circular DMA add what can wait before it interrupts:
- * half the ring, or the bytes of half a second, if they are less. If this sum is free at each feed, no byte is
- * lost. So 8,192 bytes suit most, and 16,384 with a circular DMA at 115,200 bits a second. A smaller ring is allowed: if
- * it overflows, TCP sends the lost data again, after seconds.
+ * bytes arrive, and what the line brings in 24 gaps: in a gap `work` and half_a_second_passed run, and one call is made.
+ * With a circular DMA add what can wait before it interrupts: half the ring, or the bytes of half a second, if they are
+ * less. If this sum is free at each feed, no byte is lost. So 8,192 bytes suit most, and 16,384 with a circular DMA at
+ * 115,200 bits a second. A smaller ring is allowed: if it overflows, TCP sends the lost data again, after seconds.
  *
  * SPDX-License-Identifier: MIT OR Apache-2.0
  * Copyright 2026 The Lowunbisa authors

@@ -353,8 +353,8 @@ typedef struct uip_result { unsigned status, pending; size_t consumed, written; 
 typedef struct uip_number { unsigned status; unsigned number; } uip_number;
 
 /* The result of uip_query.
- *   hit    if the last request of the file brought the query, the number that uip_hits returns. If
- *          an earlier one did, a smaller number. 0 if there is no query
+ *   hit    what uip_hits was just after the request that brought the query: so it equals uip_hits
+ *          if the file was not requested since. 0 if there is no query
  *   len    the length of its text in bytes; it may be 0
  */
 typedef struct uip_query_text { unsigned status; unsigned hit; size_t len; } uip_query_text;
@@ -460,24 +460,27 @@ unsigned uip_close(uip_device *device);
  * 512 bytes will do.
  *
  * NEVER WAIT. We recommend the loop of examples/step.c. It sends by DMA or interrupt, feeds bytes
- * between the frames of a tick, and sleeps if there is nothing to do. Include step.h, call serve()
- * in place of a loop of your own, and compile examples/step.c and examples/firmware/port.c beside
- * your program. port.c has the ring and the sender (-DRING=6400 sets the size of the ring). You
- * write:
+ * between the frames of a tick, and sleeps if there is nothing to do. Include step.h and
+ * firmware/port.h, call serve() in place of a loop of your own, and compile examples/step.c and
+ * examples/firmware/port.c beside your program. port.c has the ring and the sender (-DRING=6400
+ * sets the size of the ring). You write:
  *
  *     void work(void);                      // in each pass: sets values, reads hits and queries
  *     int half_a_second_passed(void);       // 1 if a tick is due, once for each tick
  *     unsigned char port_read(void);        // the byte that has arrived
  *     void port_start(const unsigned char *bytes, size_t len);    // begins to send by DMA or interrupt
  *     void interrupts_off(void), interrupts_on(void);
- *     void wfi(void);                       // sleeps until an interrupt, also one that is held back
+ *     void wfi(void);     // sleeps until an interrupt, also one that is pending while they are off
  *
  * and three interrupts: that of the receiver calls on_received(), that at the end of sending
- * on_sent(), and that of a timer of half a second adds 1 to `events`, which ends the sleep. sleep.c
- * in examples/firmware is such a program, and rtos_serial.c one under an RTOS. step.h has more.
+ * on_sent(), and that of a timer of half a second adds 1 to `events`, a counter of port.c, which
+ * ends the sleep. `device` is a global variable of this name. sleep.c in examples/firmware is such
+ * a program: copy its half_a_second_passed and wfi, which stop the timer if the node needs no
+ * ticks. rtos_serial.c is one under an RTOS. step.h has more.
  *
- * THE RING. Between two feeds step.c sends at most two frames, in 24 pieces of 256 bytes. A gap is
- * the time between two pieces: `work` runs, half_a_second_passed, and one call.
+ * THE RING. Between two feeds step.c sends at most two frames of 3,002 bytes, in 24 pieces. A gap
+ * is the time between two pieces: `work` runs, half_a_second_passed, and one call. One byte of the
+ * ring stays free.
  *
  *     ring = 6,005 + 24 * (bytes that arrive in one gap)
  *
@@ -485,9 +488,10 @@ unsigned uip_close(uip_device *device);
  *     with 6,400 bytes              8 ms         4 ms       2.8 ms        1.4 ms
  *     with 8,192 bytes             47 ms        23 ms        15 ms          7 ms
  *
- * Such a ring overflows if the peers go on sending faster than the line carries the replies. Then,
- * and with a smaller ring, bytes are lost, and a page comes some seconds later. Measured: 512 bytes
- * were enough for two clients at 19,200 bits a second.
+ * If the ring is empty at each feed, it does not overflow. It is not, if the peers go on sending
+ * faster than the line carries the replies. Then, and with a smaller ring, bytes are lost, and a
+ * page comes some seconds later. Measured: 512 bytes were enough for two clients at 19,200 bits a
+ * second.
  */
 
 /* Feeds all bytes to the device, and passes all output to `sink`.
@@ -722,14 +726,15 @@ UIP_INLINE unsigned uip_tick_frames(uip_device *device, unsigned char *frame, si
  * For its content type pack it by: python3 tools/pack.py FOLDER site.c /j.shtml=application/json.
  * In JavaScript read it by await (await fetch("/j.shtml", {cache: "no-store"})).json().
  *
- * BUTTONS. A link or a form sends a request, and your program looks for it. It takes
+ * BUTTONS. A link or a form sends a request, and your program looks for it. But a browser may
+ * follow a link before it is clicked. A page that is loaded again, or restored after days, sends
+ * its request again. So take for an action that
  *
- *     it may come by itself, and again (lamp on)          a link to a file of its own; uip_hits
- *     it must not come by itself (level 5)                a link or a form with a query; uip_query
- *     it must not come again (next step, or disarm)       the same with a token; ONCE at uip_query
+ *     is harmless at any time (lamp on)             a link to a file of its own, and uip_hits
+ *     needs a click (set the level to 5)            a link or a form with a query, and uip_query
+ *     must happen only once, or only now (open)     the same with a token: ONCE at uip_query
  *
- * By itself: a browser may follow a link before it is clicked. Again: a user may load a page again,
- * and a browser may restore its pages after days.
+ * A restored page also sets an old level again: if that matters, take a token there, too.
  *
  * CACHES. A browser may show a stored copy of a page, and send no request. So give each link to a
  * button or to a page with values, and each form, a query that is new each time:
@@ -764,8 +769,9 @@ UIP_INLINE unsigned uip_tick_frames(uip_device *device, unsigned char *frame, si
  *
  * The file of a button or a form may be an .shtml that shows the new state: the node reads a value
  * when the peer has acknowledged all of the reply before it, the HTTP header included. By then your
- * program has looked at the request, and has set the value. If a value takes longer to measure,
- * begin when a connection opens (uip_needs_ticks becomes 1): its request comes a round trip later.
+ * program has looked at the request, and has set the value. The reply does not wait for a value
+ * that takes time to measure: begin when bytes arrive after a sleep, and let the page ask again
+ * (POLLING).
  *
  * If a segment of a request is lost, the click comes later, by a second or more: a link is no
  * emergency stop.
@@ -782,10 +788,11 @@ UIP_INLINE unsigned uip_tick_frames(uip_device *device, unsigned char *frame, si
  *   Status    UIP_BAD_ARGUMENT (the old value stays); UIP_NO_DEVICE; UIP_OK
  *
  * Each value of a page costs one round trip, often 40 to 200 ms, and two values may be of two
- * moments. So make one value of what belongs together, as "21.5,45.0", or digits without commas. If
- * it is longer than a value, begin each part with the same serial number, so that a script can
- * compare, and change both seldom. If the node sends a segment again, it has the same bytes, also
- * if the value has changed. examples/text.h writes numbers as text, without the C library.
+ * moments. So make one value of what belongs together, as "21.5,45.0". If that is longer than a
+ * value, take two, and begin each with the same number: "7,21.5,22.0" and "7,45.0,46.1". Then a
+ * script sees whether they are of one moment; change them less often than a page takes. If the node
+ * sends a segment again, it has the same bytes, also if the value has changed. examples/text.h
+ * writes numbers as text, without the C library.
  */
 unsigned uip_set_value(uip_device *device, size_t number, const void *text, size_t len);
 
@@ -838,19 +845,23 @@ uip_number uip_hits(uip_device *device, const void *name, size_t len);
  * query: check it.
  *
  * ONCE. A page that is loaded again sends its query again, with another `hit`. What must not come
- * again takes a token, here value 6, in a form or in a link of an .shtml. It also makes the query
- * new, so leave Date.now() out:
+ * again takes a token, here value 6, in a form or in a link of an .shtml:
  *
- *     <form action="/restart.shtml"><input type="hidden" name="n" value="%! value-html 6
- *     "><button>Restart</button></form>
- *     <a href="/restart.shtml" onclick="this.search = 'n=%! value-html 6
+ *     <form action="/restart.shtml" onsubmit="this.d.value = Date.now()">
+ *     <input type="hidden" name="n" value="%! value-html 6
+ *     "><input type="hidden" name="d"><button>Restart</button></form>
+ *     <a href="/restart.shtml" onclick="this.search = 'd=' + Date.now() + '&n=%! value-html 6
  *     '">Restart</a>
  *
- * Your program acts only if the query has the token, and sets another one at once. Put the token
- * into the page before the state that it shows, as its values are read in this order: so a press
- * never acts on a state that has changed since. Never use a token twice, also not after a reset:
- * make it of a number of the start (counted in flash, or random) and a count.
- * examples/firmware/pages.c has this restart; token_in is in examples/text.h.
+ * Your program acts only if the query has the token. It sets another one after each action, and
+ * each time that the state changes which the page shows. Put the token into the page before that
+ * state, as values are read in this order: then a press never acts on another state than the one
+ * that was shown. A page that polls its state gets the token with it, and a script puts it into the
+ * form.
+ *
+ * Never use a token twice, also not after a reset: make it of a number of the start (counted in
+ * flash, or random) and a count. examples/firmware/pages.c has this restart; token_in is in
+ * examples/text.h.
  */
 uip_query_text uip_query(uip_device *device, const void *name, size_t len, void *out, size_t room);
 

@@ -63,10 +63,10 @@ def main(note):
     if note == "1":
         expect("the value of the other task", r"<p>[0-9]+</p>\s*$", "/now.shtml?14")
     token = token_now("/now.shtml?15")
-    expect("a wrong token", r"The page was old", f"/restart.shtml?n={token}1")
+    expect("a wrong token", r"The page was old", f"/restart.shtml?n={token}1&d=1")
     time.sleep(4)    # meanwhile datagrams.c closes its device, and opens it again
     expect("no restart by a wrong token", r"^200 ", "/now.shtml?13")
-    expect("the token", r"The device starts again", f"/restart.shtml?n={token_now('/now.shtml?16')}")
+    expect("the token", r"The device starts again", f"/restart.shtml?n={token_now('/now.shtml?16')}&d=2")
     print(f"{count} pages are as they should be")
 
 

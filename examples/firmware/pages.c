@@ -61,7 +61,7 @@ static void look_at_brightness(void) {
     switch_lamp(is_on);
 }
 
-/* The form of /restart.shtml: n=TOKEN. A page that is loaded again has an old token, and does nothing; the reply shows which it is.
+/* The form of /restart.shtml: n=TOKEN&d=.. A page that is loaded again has an old token, and does nothing; the reply shows which it is.
  * So that the reply is delivered, the restart comes when it is, or after six ticks.
  */
 static void look_at_restart(void) {
