@@ -153,9 +153,8 @@ extern "C" {
  *     python3 tools/pack.py FOLDER site.c
  *     arm-none-eabi-gcc -mcpu=cortex-m4 -mthumb -Os -nostartfiles -Iinclude -Iexamples -T board.ld \
  *         startup.c drivers.c main.c ports/out/m4/libuip_c.a -lc -lgcc -o firmware.elf
- *     python3 examples/browse.py --line /dev/ttyUSB0 115200 --silent    # on the PC, Linux; --silent, as
- *                                                                       # the node has a clock of
- *                                                                       its own
+ *     # on the PC, Linux. (Without --silent it fills the line with bytes, for a node without a clock.)
+ *     python3 examples/browse.py --line /dev/ttyUSB0 115200 --silent
  *
  * startup.c, drivers.c and board.ld are yours. main.c includes site.c and heap.c: do not compile
  * these two by themselves. "Link the library" in the guide has the flags of each processor, also
@@ -488,9 +487,9 @@ unsigned uip_close(uip_device *device);
  *     with 6,400 bytes              8 ms         4 ms       2.8 ms        1.4 ms
  *     with 8,192 bytes             47 ms        23 ms        15 ms          7 ms
  *
- * If the ring is empty at each feed, it does not overflow. It is not, if the peers go on sending
- * faster than the line carries the replies. Then, and with a smaller ring, bytes are lost, and a
- * page comes some seconds later. Measured: 512 bytes were enough for two clients at 19,200 bits a
+ * If the ring is empty at each feed, it does not overflow. If the peers go on sending faster than
+ * the line carries the replies, it is not empty. Then, and with a smaller ring, bytes are lost, and
+ * a page comes some seconds later. Measured: 512 bytes were enough for two clients at 19,200 bits a
  * second.
  */
 
@@ -744,8 +743,9 @@ UIP_INLINE unsigned uip_tick_frames(uip_device *device, unsigned char *frame, si
  *     <form action="/set.html" onsubmit="this.n.value = Date.now()">
  *     <input name="level"> <input type="hidden" name="n"> <button>Set</button></form>
  *
- * uip_hits reads the first link, and uip_query the others. A browser that follows a link by itself
- * does not run onclick: so it presses the first link, but not the second, which has no query then.
+ * uip_hits counts the first link, also if the request has no query; uip_query reads the others. A
+ * browser that follows a link before it is clicked does not run onclick, so it brings no query: it
+ * presses the first link, but not the second.
  *
  * POLLING. This page shows value 3, and asks for it again a second after each reply. The file
  * v.shtml has one line, %! value-html 3. By no-store the request needs no new query.
@@ -761,17 +761,14 @@ UIP_INLINE unsigned uip_tick_frames(uip_device *device, unsigned char *frame, si
  * longest.
  *
  * WHEN TO LOOK at hits and queries: after each request. A later query replaces the one before, and
- * if the counts of two buttons rose since you looked, you do not know which was pressed last. A
- * frame or a datagram brings at most one request; so do 64 bytes of a serial line, as the request
- * of a browser is longer. So it suffices to look once in each pass of the loops in sections 1, 8
- * and 9. With step.c `work` runs between any two requests. If your loop passes more at a time, look
- * after each uip_feed, uip_input or uip_input_frame, or in the sink of uip_feed_all.
+ * if the counts of two buttons rose since you looked, you do not know which was pressed last. With
+ * step.c `work` runs between any two requests. In the loops of sections 1, 8 and 9 look once in
+ * each pass: a frame or a datagram brings at most one request, and 64 bytes of a serial line bring
+ * the end of at most one, as the request of a browser is longer. If your loop passes more at a
+ * time, look after each uip_feed, uip_input or uip_input_frame, or in the sink of uip_feed_all.
  *
- * The file of a button or a form may be an .shtml that shows the new state: the node reads a value
- * when the peer has acknowledged all of the reply before it, the HTTP header included. By then your
- * program has looked at the request, and has set the value. The reply does not wait for a value
- * that takes time to measure: begin when bytes arrive after a sleep, and let the page ask again
- * (POLLING).
+ * The file of a button or a form may be an .shtml that shows the new state, if your program sets
+ * the value as soon as it sees the request (uip_set_value).
  *
  * If a segment of a request is lost, the click comes later, by a second or more: a link is no
  * emergency stop.
@@ -787,12 +784,17 @@ UIP_INLINE unsigned uip_tick_frames(uip_device *device, unsigned char *frame, si
  *
  *   Status    UIP_BAD_ARGUMENT (the old value stays); UIP_NO_DEVICE; UIP_OK
  *
+ * WHEN IT IS READ. The node reads a value when the peer has acknowledged all of the reply before
+ * it, the HTTP header included. So the loops of this header can set it when they see the request. A
+ * measurement of some milliseconds can be made then, when uip_hits of the page has risen. A longer
+ * one begins then, and the page asks again (POLLING). If the node sends a segment again, it has the
+ * same bytes, also if the value has changed.
+ *
  * Each value of a page costs one round trip, often 40 to 200 ms, and two values may be of two
  * moments. So make one value of what belongs together, as "21.5,45.0". If that is longer than a
  * value, take two, and begin each with the same number: "7,21.5,22.0" and "7,45.0,46.1". Then a
- * script sees whether they are of one moment; change them less often than a page takes. If the node
- * sends a segment again, it has the same bytes, also if the value has changed. examples/text.h
- * writes numbers as text, without the C library.
+ * script sees whether they are of one moment; change them less often than a page takes.
+ * examples/text.h writes numbers as text, without the C library.
  */
 unsigned uip_set_value(uip_device *device, size_t number, const void *text, size_t len);
 
@@ -818,8 +820,8 @@ uip_number uip_hits(uip_device *device, const void *name, size_t len);
  *             there is none
  *   Status    UIP_BAD_ARGUMENT; UIP_NO_DEVICE; UIP_OK
  *
- * If the last request of the file brought the query, `hit` is what uip_hits returns. That alone is
- * a press; if the query has a text, read it:
+ * If the count of the file has risen, and `hit` is equal to it, that request brought the query. For
+ * a mere button this is all; else read the text:
  *
  *     static unsigned seen;                    // set it to 0 if you open again
  *     unsigned char text[UIP_MAX_QUERY];
@@ -853,15 +855,17 @@ uip_number uip_hits(uip_device *device, const void *name, size_t len);
  *     <a href="/restart.shtml" onclick="this.search = 'd=' + Date.now() + '&n=%! value-html 6
  *     '">Restart</a>
  *
- * Your program acts only if the query has the token. It sets another one after each action, and
- * each time that the state changes which the page shows. Put the token into the page before that
- * state, as values are read in this order: then a press never acts on another state than the one
- * that was shown. A page that polls its state gets the token with it, and a script puts it into the
- * form.
+ * Your program first sets the values of the state, and then looks at the query. It acts only if the
+ * query has the token. It sets another token after each action, and each time that the state
+ * changes on which the action depends: another alarm, another step; not each measured value. Put
+ * the token into the page before that state, as values are read in this order. Then a press acts
+ * only on the state that was shown. If another task keeps that state, send it the number of the
+ * state with the command, and let it compare. A page that polls gets the token with the state, and
+ * a script puts it into the form: live.html in examples/firmware/site.
  *
- * Never use a token twice, also not after a reset: make it of a number of the start (counted in
- * flash, or random) and a count. examples/firmware/pages.c has this restart; token_in is in
- * examples/text.h.
+ * Never use a token twice, also not after a reset: a number of the start and a count will do.
+ * Against a page of another site, which can guess, take a random number of 64 bits or more in its
+ * place. examples/firmware/pages.c has this restart; token_in is in examples/text.h.
  */
 uip_query_text uip_query(uip_device *device, const void *name, size_t len, void *out, size_t room);
 
@@ -886,9 +890,9 @@ uip_number uip_is_idle(uip_device *device);
  *
  * While it returns 0 and no output is pending, you may leave out ticks, and sleep until something
  * arrives. That prolongs TIME_WAIT, and new connections have the same initial sequence number,
- * until the next tick. With step.c no output is pending in your `wfi` if dma_is_busy() is 0. If the
- * receiver is off in the sleep, see "Sleep" in the guide. examples/firmware/sleep.c stops its timer
- * so.
+ * until the next tick. With step.c no output is pending in your `wfi` if dma_is_busy() is 0.
+ * "Sleep" in the guide has more, as of a receiver that is off, and of what Linux sends unasked.
+ * examples/firmware/sleep.c stops its timer so.
  */
 UIP_INLINE int uip_needs_ticks(uip_device *device);
 

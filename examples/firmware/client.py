@@ -5,6 +5,7 @@
 
 At the end it restarts the device.
 """
+import json
 import re
 import socket
 import sys
@@ -60,6 +61,9 @@ def main(note):
     expect("the setting in the form", r'required value="42">', "/now.shtml?10")
     expect("the first button again", r"turns on", "/on.html?11")
     expect("the lamp is on again", r"The lamp is on: ", "/now.shtml?12")
+    state = json.loads(page("/state.shtml").split(" ", 1)[1])
+    if state["temperature"] != -5.5 or state["lamp"] != "on" or state["n"] != token_now("/now.shtml?13"):
+        sys.exit(f"client.py: the state as JSON is {state}")
     if note == "1":
         expect("the value of the other task", r"<p>[0-9]+</p>\s*$", "/now.shtml?14")
     token = token_now("/now.shtml?15")

@@ -48,6 +48,7 @@ void timer_start(void);                                   /* the timer of half a
 void timer_stop(void);
 void interrupts_off(void);                                /* Cortex-M: cpsid i, not BASEPRI; RISC-V: csrci mstatus, 8 */
 void interrupts_on(void);                                 /* cpsie i; csrsi mstatus, 8 */
-void sleep_until_interrupt(void);                         /* dsb, wfi; an interrupt ends it that is held back, too */
+void sleep_until_interrupt(int is_deep);                  /* dsb, wfi; an interrupt ends it that is held back, too. If it is deep,
+                                                             all clocks may stop but that of the receiver */
 
 #endif

@@ -96,8 +96,8 @@ void pages_start(void) {
 }
 
 void pages_work(void) {
+    look_at_temperature();
     look_at_buttons();
     look_at_brightness();
     look_at_restart();
-    look_at_temperature();
 }

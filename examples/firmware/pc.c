@@ -110,7 +110,11 @@ static unsigned deep_sleeps;
 void timer_start(void) { timer_runs = 1; }
 void interrupts_off(void) { pthread_mutex_lock(&interrupts); }
 void interrupts_on(void) { pthread_mutex_unlock(&interrupts); }
-void sleep_until_interrupt(void) { pthread_cond_wait(&interrupt, &interrupts); }
+void sleep_until_interrupt(int is_deep) {
+    (void)is_deep;
+    pthread_cond_wait(&interrupt, &interrupts);
+}
+
 
 void timer_stop(void) {
     timer_runs = 0;

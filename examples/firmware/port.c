@@ -22,8 +22,9 @@ static volatile int is_sending;
 
 static unsigned after(unsigned place) { return place + 1 < sizeof ring ? place + 1 : 0; }
 
-void on_received(void) {
-    unsigned char byte = port_read();
+void on_received(void) { port_put(port_read()); }
+
+void port_put(unsigned char byte) {
     unsigned next = after(received);
     if (next != taken) {                       /* else the byte is lost: TCP sends the data again */
         ring[received] = byte;

@@ -57,7 +57,7 @@ void wfi(void) {
         return;
     }
     if (is_deep) timer_stop();
-    sleep_until_interrupt();
+    sleep_until_interrupt(is_deep);
     if (is_deep) timer_start();
 }
 
