@@ -45,8 +45,8 @@
  *
  *   Security    Whoever reaches the node can read its pages, press its buttons, and occupy its ten
  *               connections. So can a page of another site in a browser that reaches it: against
- *               that a token helps (ONCE, at uip_query). The sequence numbers are predictable. Use
- *               the node only on a network that you control.
+ *               that a random token helps (ONCE, at uip_query). The sequence numbers are
+ *               predictable. Use the node only on a network that you control.
  *
  *   Proved      Of the source, if you keep the rules of section 2: memory safety, and the exact
  *               output of each call. The source is Rattle, which is Rust with contracts.
@@ -216,9 +216,9 @@ typedef char uip_needs_unsigned_of_32_bits[sizeof(unsigned) == 4 ? 1 : -1];
  *                     libuip_c_ether.a       6,656           5,616      3,568           2,288
  *                 Those of x86-64 and WebAssembly are not known. A sink runs after the library has
  *                 returned, so its stack does not add to that of the library. On Ethernet under an
- *                 RTOS open before the scheduler starts: then no task needs the stack of opening. A
- *                 task that makes only uip_set_value, uip_hits, uip_query, uip_ticks or uip_counter
- *                 needs 296.
+ *                 RTOS open before the scheduler starts: then the main stack needs that of opening,
+ *                 and no task does. A task that makes only uip_set_value, uip_hits, uip_query,
+ *                 uip_ticks or uip_counter needs 296.
  *
  * 10 PROCESSOR    The stack is aligned as the ABI demands. In addition:
  *                     m4, m7, m33    CCR.UNALIGN_TRP is 0, as after reset. All memory that the
@@ -247,13 +247,13 @@ typedef char uip_needs_unsigned_of_32_bits[sizeof(unsigned) == 4 ? 1 : -1];
  *
  * If there is a watchdog, feed it in each pass, and in a sink that waits. A task with a deadline
  * makes no call, and takes no mutex of the device: it passes its values to the task that makes the
- * calls.
+ * calls, and gets commands from it, by queues.
  */
 
 /* ---- 3 Statuses --------------------------------------------------------------------------------
  *
- * uip_set_value, uip_close and the inline functions but uip_needs_ticks return a status. Each other
- * call returns a struct with a status in it, for example:
+ * uip_set_value, uip_close and the inline functions return a status. (Only uip_needs_ticks returns
+ * 0 or 1.) Each other call returns a struct with a status in it, for example:
  *
  *     uip_number ticks = uip_ticks(&device);
  *     if (ticks.status == UIP_OK) show(ticks.number);
@@ -459,10 +459,10 @@ unsigned uip_close(uip_device *device);
  * 512 bytes will do.
  *
  * NEVER WAIT. We recommend the loop of examples/step.c. It sends by DMA or interrupt, feeds bytes
- * between the frames of a tick, and sleeps if there is nothing to do. Include step.h and
- * firmware/port.h, call serve() in place of a loop of your own, and compile examples/step.c and
- * examples/firmware/port.c beside your program. port.c has the ring and the sender (-DRING=6400
- * sets the size of the ring). You write:
+ * between the frames of a tick, and sleeps if there is nothing to do. Compile examples/step.c and
+ * examples/firmware/port.c beside your program, include step.h and firmware/port.h, and call
+ * serve() in place of a loop of your own. port.c has the ring (-DRING=6400 sets its size) and the
+ * sender. `device` is a global variable of this name. You write, besides:
  *
  *     void work(void);                      // in each pass: sets values, reads hits and queries
  *     int half_a_second_passed(void);       // 1 if a tick is due, once for each tick
@@ -473,9 +473,12 @@ unsigned uip_close(uip_device *device);
  *
  * and three interrupts: that of the receiver calls on_received(), that at the end of sending
  * on_sent(), and that of a timer of half a second adds 1 to `events`, a counter of port.c, which
- * ends the sleep. `device` is a global variable of this name. sleep.c in examples/firmware is such
- * a program: copy its half_a_second_passed and wfi, which stop the timer if the node needs no
- * ticks. rtos_serial.c is one under an RTOS. step.h has more.
+ * ends the sleep. If a clock of milliseconds ends the sleep anyway, half_a_second_passed may be
+ * tick_is_due_at(milliseconds()).
+ *
+ * In examples/firmware rtos_serial.c is such a program, under an RTOS. sleep.c is one for a
+ * battery. It stops its timer while the node needs no ticks, so it suits a device that has nothing
+ * else to do then: take all of it but `work` and main. step.h has more.
  *
  * THE RING. Between two feeds step.c sends at most two frames of 3,002 bytes, in 24 pieces. A gap
  * is the time between two pieces: `work` runs, half_a_second_passed, and one call. One byte of the
