@@ -144,6 +144,10 @@ extern "C" {
  *     datagrams                  uip_open        uip_input        uip_tick_datagrams  libuip_c.a
  *     Ethernet                   uip_open_ether  uip_input_frame  uip_tick_frames     libuip_c_ether.a
  *
+ * On any link uip_set_value, uip_hits and uip_query serve the pages (section 10), uip_close closes
+ * the device (6), and uip_ticks, uip_is_idle, uip_needs_ticks, uip_counter and uip_connection
+ * report its state (11).
+ *
  * TICKS. If one or two ticks are due, make them. If more are due, after a stall, make only one: a
  * burst of ticks would time out live connections. A late tick does no harm. Without ticks, nothing
  * is sent again and no connection times out.
@@ -176,8 +180,10 @@ typedef char uip_needs_unsigned_of_32_bits[sizeof(unsigned) == 4 ? 1 : -1];
 
 /* ---- 2 Rules -----------------------------------------------------------------------------------
  *
- * The library cannot check these ten rules. If you break one, the behaviour is undefined. Other
- * mistakes are refused with a status. "The ten rules" in the guide explains each rule.
+ * The library cannot check these ten rules. If you break one, the behaviour is undefined. A bad
+ * argument, or a call in a wrong state, is refused with a status. An unknown name of a file, a
+ * wrong address and a wrong rate of ticks are not noticed, and do no harm to memory. "The ten
+ * rules" in the guide explains each rule.
  *
  *  1 INIT         Before its first call a device is UIP_INIT, or all 0. If your start-up code does
  *                 not initialise .data and .bss at each reset, set each device to 0 first, and
@@ -216,9 +222,9 @@ typedef char uip_needs_unsigned_of_32_bits[sizeof(unsigned) == 4 ? 1 : -1];
  *                     libuip_c_ether.a       6,656           5,616      3,568           2,288
  *                 Those of x86-64 and WebAssembly are not known. A sink runs after the library has
  *                 returned, so its stack does not add to that of the library. On Ethernet under an
- *                 RTOS open before the scheduler starts: then the main stack needs that of opening,
- *                 and no task does. A task that makes only uip_set_value, uip_hits, uip_query,
- *                 uip_ticks or uip_counter needs 296.
+ *                 RTOS open before the scheduler starts: then only the main stack has room for
+ *                 opening. A task that makes only uip_set_value, uip_hits, uip_query, uip_ticks or
+ *                 uip_counter needs 296.
  *
  * 10 PROCESSOR    The stack is aligned as the ABI demands. In addition:
  *                     m4, m7, m33    CCR.UNALIGN_TRP is 0, as after reset. All memory that the
@@ -243,6 +249,7 @@ typedef char uip_needs_unsigned_of_32_bits[sizeof(unsigned) == 4 ? 1 : -1];
  *     a tick that sends nothing                                2,041     3,848
  *     uip_needs_ticks, at most                                12,310    14,960
  *     uip_connection                                           1,231     1,496
+ *     a uip_feed of one byte                                     306       499
  *     uip_query, uip_hits, uip_set_value                   565, 532, 219    869, 827, 324
  *
  * If there is a watchdog, feed it in each pass, and in a sink that waits. A task with a deadline
@@ -282,8 +289,8 @@ enum uip_status {
 /* ---- 4 Constants -------------------------------------------------------------------------------
  *
  * Nothing can be configured. A site has at most 1,024 files and 16,777,216 bytes, and a name 64
- * bytes. MSS and window are 1460 bytes. "Sizes and timers" in the guide has all limits and
- * time-outs.
+ * bytes. MSS and window are 1460 bytes. A connection has at most one segment outstanding: each 1460
+ * bytes of a file cost a round trip. "Sizes and timers" in the guide has all limits and time-outs.
  */
 #define UIP_MAX_OUT 3002        /* bytes of the longest frame in SLIP: with this room nothing is ever pending */
 #define UIP_MIN_OUT 2           /* the least room of a call for a serial line */
@@ -352,8 +359,8 @@ typedef struct uip_result { unsigned status, pending; size_t consumed, written; 
 typedef struct uip_number { unsigned status; unsigned number; } uip_number;
 
 /* The result of uip_query.
- *   hit    what uip_hits was just after the request that brought the query: so it equals uip_hits
- *          if the file was not requested since. 0 if there is no query
+ *   hit    what uip_hits was just after the request that brought the query: so if it equals
+ *          uip_hits, the latest request of the file brought this query. 0 if there is no query
  *   len    the length of its text in bytes; it may be 0
  */
 typedef struct uip_query_text { unsigned status; unsigned hit; size_t len; } uip_query_text;
@@ -474,15 +481,18 @@ unsigned uip_close(uip_device *device);
  * and three interrupts: that of the receiver calls on_received(), that at the end of sending
  * on_sent(), and that of a timer of half a second adds 1 to `events`, a counter of port.c, which
  * ends the sleep. If a clock of milliseconds ends the sleep anyway, half_a_second_passed may be
- * tick_is_due_at(milliseconds()).
+ * tick_is_due_at(milliseconds()). An idle loop makes a pass for each byte that arrives, so let
+ * `work` look at something cheap first.
  *
- * In examples/firmware rtos_serial.c is such a program, under an RTOS. sleep.c is one for a
- * battery. It stops its timer while the node needs no ticks, so it suits a device that has nothing
- * else to do then: take all of it but `work` and main. step.h has more.
+ * Under an RTOS interrupts_off and interrupts_on are empty, and wfi waits for a semaphore, which
+ * each interrupt gives: rtos_serial.c in examples/firmware. There a gap also has what preempts the
+ * task. sleep.c is a program for a battery. It stops its timer while the node needs no ticks, so it
+ * suits a device that has nothing else to do then: take all of it but `work` and main. step.h has
+ * more.
  *
  * THE RING. Between two feeds step.c sends at most two frames of 3,002 bytes, in 24 pieces. A gap
  * is the time between two pieces: `work` runs, half_a_second_passed, and one call. One byte of the
- * ring stays free.
+ * ring stays free. So if the ring is empty when a feed is due, this size suffices:
  *
  *     ring = 6,005 + 24 * (bytes that arrive in one gap)
  *
@@ -490,10 +500,9 @@ unsigned uip_close(uip_device *device);
  *     with 6,400 bytes              8 ms         4 ms       2.8 ms        1.4 ms
  *     with 8,192 bytes             47 ms        23 ms        15 ms          7 ms
  *
- * If the ring is empty at each feed, it does not overflow. If the peers go on sending faster than
- * the line carries the replies, it is not empty. Then, and with a smaller ring, bytes are lost, and
- * a page comes some seconds later. Measured: 512 bytes were enough for two clients at 19,200 bits a
- * second.
+ * It is not empty if the peers go on sending faster than the line carries the replies. Then, and
+ * with a smaller ring, bytes are lost, and a page comes some seconds later. Measured: 512 bytes
+ * were enough for two clients at 19,200 bits a second.
  */
 
 /* Feeds all bytes to the device, and passes all output to `sink`.
@@ -631,8 +640,8 @@ UIP_INLINE unsigned uip_tick_datagrams(uip_device *device, unsigned char *out, s
  * The loop has one area for the received frame and the reply. examples/firmware/ether.c is the
  * whole program, and rtos.c that under an RTOS.
  *
- *     // Copies a received frame. Returns its length, or 0 if there is none. It may wait some time for
- *     // one, as 20 ms: ticks and values are late by that.
+ *     // Copies a received frame. Returns its length, or 0 if there is none. It may wait for
+ *     // one, for example 20 ms: ticks and values are then late by as much.
  *     size_t mac_receive(unsigned char *frame, size_t room);
  *     // Sends a frame. When it returns, no DMA uses `frame`.
  *     void mac_send(void *to, const unsigned char *frame, size_t len);
@@ -670,8 +679,8 @@ UIP_INLINE unsigned uip_tick_datagrams(uip_device *device, unsigned char *out, s
 /* Receives one frame, and writes the frame to send in its place, if there is one.
  *
  *   frame, room    the area with the received frame at its start; `room` is UIP_MAX_FRAME or more
- *   len            the length of the received frame, 0 to `room`; it may have padding. NOTE: after
- *                  `room`
+ *   len            the length of the received frame, 0 to `room`; it may have padding. NOTE the
+ *                  order: `room` comes before `len`
  *
  *   Result    `consumed` is `len`; `pending` is 0
  *   Status    UIP_BAD_ARGUMENT; UIP_NO_DEVICE; UIP_WRONG_LINK; UIP_OK
@@ -712,7 +721,8 @@ UIP_INLINE unsigned uip_tick_frames(uip_device *device, unsigned char *frame, si
  *     %! value 3         value 3 as it is: only if nobody else influences its text
  *     %!: /footer.html   the file /footer.html
  *
- * A request of / gets /index.html, which is no .shtml: let it lead to one, as
+ * Each value costs a round trip, often 40 to 200 ms (uip_set_value): take few for a page. A request
+ * of / gets /index.html, which is no .shtml: let it lead to one, as
  * <script>location.replace("/now.shtml?" + Date.now())</script> does. Write into each page <meta
  * charset="utf-8">, as no reply names a character set, and <link rel="icon" href="data:,">, which
  * spares a request. "Values and clicks" in the guide has the other directives: counters, ticks,
@@ -732,9 +742,10 @@ UIP_INLINE unsigned uip_tick_frames(uip_device *device, unsigned char *frame, si
  * follow a link before it is clicked. A page that is loaded again, or restored after days, sends
  * its request again. So take for an action that
  *
- *     is harmless at any time (lamp on)             a link to a file of its own, and uip_hits
- *     needs a click (set the level to 5)            a link or a form with a query, and uip_query
- *     must happen only once, or only now (open)     the same with a token: ONCE at uip_query
+ *     is harmless at any time (lamp on)           a link to a file of its own, and uip_hits
+ *     needs a click (set the level to 5)          a link or a form with a query, and uip_query
+ *     must happen only once (next step), or       the same with a token: ONCE at uip_query
+ *     only now (open the gate)
  *
  * A restored page also sets an old level again: if that matters, take a token there, too.
  *
@@ -742,13 +753,13 @@ UIP_INLINE unsigned uip_tick_frames(uip_device *device, unsigned char *frame, si
  * button or to a page with values, and each form, a query that is new each time:
  *
  *     <a href="/on.html" onclick="this.search = Date.now()">on</a>
- *     <a href="/set.html" onclick="this.search = 'level=5&n=' + Date.now()">5</a>
- *     <form action="/set.html" onsubmit="this.n.value = Date.now()">
- *     <input name="level"> <input type="hidden" name="n"> <button>Set</button></form>
+ *     <a href="/set.html" onclick="this.search = 'level=5&d=' + Date.now()">5</a>
+ *     <form action="/set.html" onsubmit="this.d.value = Date.now()">
+ *     <input name="level"> <input type="hidden" name="d"> <button>Set</button></form>
  *
  * uip_hits counts the first link, also if the request has no query; uip_query reads the others. A
  * browser that follows a link before it is clicked does not run onclick, so it brings no query: it
- * presses the first link, but not the second.
+ * presses /on.html, but not /set.html.
  *
  * POLLING. This page shows value 3, and asks for it again a second after each reply. The file
  * v.shtml has one line, %! value-html 3. By no-store the request needs no new query.
@@ -788,10 +799,10 @@ UIP_INLINE unsigned uip_tick_frames(uip_device *device, unsigned char *frame, si
  *   Status    UIP_BAD_ARGUMENT (the old value stays); UIP_NO_DEVICE; UIP_OK
  *
  * WHEN IT IS READ. The node reads a value when the peer has acknowledged all of the reply before
- * it, the HTTP header included. So the loops of this header can set it when they see the request. A
- * measurement of some milliseconds can be made then, when uip_hits of the page has risen. A longer
- * one begins then, and the page asks again (POLLING). If the node sends a segment again, it has the
- * same bytes, also if the value has changed.
+ * it, the HTTP header included. So the loops of this header can set it when they see the request.
+ * So if uip_hits of the page has risen, make a short measurement at once. Begin a longer one, and
+ * let the page ask again (POLLING). If the node sends a segment again, it has the same bytes, also
+ * if the value has changed.
  *
  * Each value of a page costs one round trip, often 40 to 200 ms, and two values may be of two
  * moments. So make one value of what belongs together, as "21.5,45.0". If that is longer than a
@@ -843,7 +854,7 @@ uip_number uip_hits(uip_device *device, const void *name, size_t len);
  * if it arrives in the first segment of the request. It ignores any other one, and the one before
  * it stays. The request is served and counted all the same.
  *
- * LONG TEXTS. The names of fields count, too: level=, &n= and 13 digits leave 42 bytes for the
+ * LONG TEXTS. The names of fields count, too: level=, &d= and 13 digits leave 42 bytes for the
  * text. Nothing is decoded. A browser sends most bytes but letters and digits as %XX, so a letter
  * beyond ASCII takes six or more, and it sends * as it is, which is not kept. So give the field a
  * pattern of what you accept: pattern="[A-Za-z0-9 ]{1,20}". Anyone who reaches the node can send a
@@ -858,17 +869,31 @@ uip_number uip_hits(uip_device *device, const void *name, size_t len);
  *     <a href="/restart.shtml" onclick="this.search = 'd=' + Date.now() + '&n=%! value-html 6
  *     '">Restart</a>
  *
- * Your program first sets the values of the state, and then looks at the query. It acts only if the
- * query has the token. It sets another token after each action, and each time that the state
- * changes on which the action depends: another alarm, another step; not each measured value. Put
- * the token into the page before that state, as values are read in this order. Then a press acts
- * only on the state that was shown. If another task keeps that state, send it the number of the
- * state with the command, and let it compare. A page that polls gets the token with the state, and
- * a script puts it into the form: live.html in examples/firmware/site.
+ * In the file, write the directive of the token above those of the state on which the action
+ * depends (another alarm, another step): they are read in this order. In each pass your program
+ * then does this:
+ *
+ *     if (state != shown) {                    // sets the values of the state first, and a new token
+ *         shown = state;
+ *         set_state_values();
+ *         new_token();
+ *     }
+ *     if (hits != seen) {                      // then it looks, as above
+ *         seen = hits;
+ *         if (query.hit == hits && token_in(text, query.len, "n", token, token_len)) {
+ *             act();                           // only on the state that was shown
+ *             new_token();
+ *         }
+ *     }
+ *
+ * If another task keeps the state, let it count the changes, and send it the count that was shown
+ * with the command. A page that polls gets the token with the state, and a script puts it into the
+ * form: live.html in examples/firmware/site.
  *
  * Never use a token twice, also not after a reset: a number of the start and a count will do.
  * Against a page of another site, which can guess, take a random number of 64 bits or more in its
- * place. examples/firmware/pages.c has this restart; token_in is in examples/text.h.
+ * place. (The node does not look at Host, so this does not help against DNS rebinding.)
+ * examples/firmware/pages.c has new_token; token_in is in examples/text.h.
  */
 uip_query_text uip_query(uip_device *device, const void *name, size_t len, void *out, size_t room);
 
@@ -880,7 +905,7 @@ uip_query_text uip_query(uip_device *device, const void *name, size_t len, void 
  */
 uip_number uip_ticks(uip_device *device);
 
-/* Returns 1 if each connection is CLOSED, else 0.
+/* Returns whether each connection is CLOSED: `number` is 1 if so, else 0.
  *
  *   Status    UIP_NO_DEVICE; UIP_OK
  *
@@ -894,7 +919,7 @@ uip_number uip_is_idle(uip_device *device);
  * While it returns 0 and no output is pending, you may leave out ticks, and sleep until something
  * arrives. That prolongs TIME_WAIT, and new connections have the same initial sequence number,
  * until the next tick. With step.c no output is pending in your `wfi` if dma_is_busy() is 0.
- * "Sleep" in the guide has more, as of a receiver that is off, and of what Linux sends unasked.
+ * "Sleep" in the guide has more: a receiver that is off, and what Linux sends unasked.
  * examples/firmware/sleep.c stops its timer so.
  */
 UIP_INLINE int uip_needs_ticks(uip_device *device);

@@ -49,7 +49,7 @@ static void look_at_buttons(void) {
     hits_off = off;
 }
 
-/* The form of /set.shtml: level=21&n=.. What is no number from 0 to 100 changes nothing. */
+/* The form of /set.shtml: level=21&d=.. What is no number from 0 to 100 changes nothing. */
 static void look_at_brightness(void) {
     unsigned char text[UIP_MAX_QUERY];
     unsigned number, hits = uip_hits(&device, UIP_TEXT("/set.shtml")).number;
