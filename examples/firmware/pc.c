@@ -217,9 +217,9 @@ void link_wait(unsigned char own[4]) {
     memcpy(own, address, sizeof address);
 }
 
-/* The link goes down once, after three seconds without a datagram. */
+/* The link goes down once, after two seconds without a datagram of IPv4. */
 int link_is_up(void) {
-    if (!last_received || downs || milliseconds() - last_received < 3000) return 1;
+    if (!last_received || downs || milliseconds() - last_received < 2000) return 1;
     downs++;
     report("the link was down", downs);
     return 0;
@@ -243,7 +243,7 @@ size_t RECEIVE(unsigned char *bytes, size_t room) {
     if (!has_input(interface, 20)) return 0;
     ssize_t len = read(interface, bytes, room);
 #ifdef PC_DATAGRAMS
-    last_received = milliseconds();
+    if (len > 0 && bytes[0] >> 4 == 4) last_received = milliseconds();    /* Linux sends IPv6 of its own */
 #endif
     return len > 0 ? (size_t)len : 0;
 }
