@@ -157,7 +157,7 @@ extern "C" {
  *     python3 tools/pack.py FOLDER site.c
  *     arm-none-eabi-gcc -mcpu=cortex-m4 -mthumb -Os -nostartfiles -Iinclude -Iexamples -T board.ld \
  *         startup.c drivers.c main.c ports/out/m4/libuip_c.a -lc -lgcc -o firmware.elf
- *     # on the PC, Linux. (Without --silent it fills the line with bytes, for a node without a clock.)
+ *     # on the PC, Linux. A firmware needs --silent: else the script fills the line with bytes
  *     python3 examples/browse.py --line /dev/ttyUSB0 115200 --silent
  *
  * startup.c, drivers.c and board.ld are yours. main.c includes site.c and heap.c: do not compile
@@ -222,8 +222,8 @@ typedef char uip_needs_unsigned_of_32_bits[sizeof(unsigned) == 4 ? 1 : -1];
  *                     libuip_c_ether.a       6,656           5,616      3,568           2,288
  *                 Those of x86-64 and WebAssembly are not known. A sink runs after the library has
  *                 returned, so its stack does not add to that of the library. On Ethernet under an
- *                 RTOS open before the scheduler starts: then only the main stack has room for
- *                 opening. A task that makes only uip_set_value, uip_hits, uip_query, uip_ticks or
+ *                 RTOS open before the scheduler starts: then only the main stack needs room for
+ *                 it. A task that makes only uip_set_value, uip_hits, uip_query, uip_ticks or
  *                 uip_counter needs 296.
  *
  * 10 PROCESSOR    The stack is aligned as the ABI demands. In addition:
@@ -238,9 +238,9 @@ typedef char uip_needs_unsigned_of_32_bits[sizeof(unsigned) == 4 ? 1 : -1];
  *                     x86-64         The processor has level v2 (SSE4.2).
  *
  * TIME. No call waits, masks interrupts, needs privilege or, except opening, allocates memory. An
- * inline function waits if its sink waits. Opening reads the whole image. Each other call handles
- * at most one datagram. No bound on the time of a call is known. Counted, in instructions on an M4
- * and on an M0+ (by qemu, on a serial line):
+ * inline function waits if its sink waits. Opening reads the whole image. Each other call of the
+ * library handles at most one datagram. No bound on the time of a call is known. Counted, in
+ * instructions on an M4 and on an M0+ (by qemu, on a serial line):
  *
  *     a ping of 84 bytes, in all its calls                     4,716     8,442
  *     a file of one byte, in all its calls                    28,223    68,331
@@ -250,6 +250,7 @@ typedef char uip_needs_unsigned_of_32_bits[sizeof(unsigned) == 4 ? 1 : -1];
  *     uip_needs_ticks, at most                                12,310    14,960
  *     uip_connection                                           1,231     1,496
  *     a uip_feed of one byte                                     306       499
+ *     uip_counter                                                 65       131
  *     uip_query, uip_hits, uip_set_value                   565, 532, 219    869, 827, 324
  *
  * If there is a watchdog, feed it in each pass, and in a sink that waits. A task with a deadline
@@ -468,8 +469,9 @@ unsigned uip_close(uip_device *device);
  * NEVER WAIT. We recommend the loop of examples/step.c. It sends by DMA or interrupt, feeds bytes
  * between the frames of a tick, and sleeps if there is nothing to do. Compile examples/step.c and
  * examples/firmware/port.c beside your program, include step.h and firmware/port.h, and call
- * serve() in place of a loop of your own. port.c has the ring (-DRING=6400 sets its size) and the
- * sender. `device` is a global variable of this name. You write, besides:
+ * serve() in place of a loop of your own. port.c has the ring (8,192 bytes; -DRING=6400 sets
+ * another size) and the sender. It receives a byte for each interrupt; with a circular DMA write
+ * its functions yourself (step.h). `device` is a global variable of this name. You write, besides:
  *
  *     void work(void);                      // in each pass: sets values, reads hits and queries
  *     int half_a_second_passed(void);       // 1 if a tick is due, once for each tick
@@ -481,18 +483,19 @@ unsigned uip_close(uip_device *device);
  * and three interrupts: that of the receiver calls on_received(), that at the end of sending
  * on_sent(), and that of a timer of half a second adds 1 to `events`, a counter of port.c, which
  * ends the sleep. If a clock of milliseconds ends the sleep anyway, half_a_second_passed may be
- * tick_is_due_at(milliseconds()). An idle loop makes a pass for each byte that arrives, so let
- * `work` look at something cheap first.
+ * tick_is_due_at(milliseconds()). An idle loop makes a pass for each byte that arrives. So let
+ * `work` first compare uip_counter(&device, UIP_TCP_IN): if it has not risen, no request has come.
  *
  * Under an RTOS interrupts_off and interrupts_on are empty, and wfi waits for a semaphore, which
- * each interrupt gives: rtos_serial.c in examples/firmware. There a gap also has what preempts the
- * task. sleep.c is a program for a battery. It stops its timer while the node needs no ticks, so it
- * suits a device that has nothing else to do then: take all of it but `work` and main. step.h has
- * more.
+ * each interrupt gives: rtos_serial.c in examples/firmware. Without a timer give the wait a limit,
+ * such as 100 ms. Under an RTOS a gap includes the time for which other tasks preempt this one.
+ * sleep.c is a program for a battery. It stops its timer while the node needs no ticks, so it suits
+ * a device that has nothing else to do then: take all of it but `work` and main. step.h has more.
  *
  * THE RING. Between two feeds step.c sends at most two frames of 3,002 bytes, in 24 pieces. A gap
  * is the time between two pieces: `work` runs, half_a_second_passed, and one call. One byte of the
- * ring stays free. So if the ring is empty when a feed is due, this size suffices:
+ * ring stays free. So if the ring is empty when a feed is due, this size suffices. (A circular DMA
+ * needs more: 16,384 at 115,200 bits a second.)
  *
  *     ring = 6,005 + 24 * (bytes that arrive in one gap)
  *
@@ -878,7 +881,9 @@ uip_number uip_hits(uip_device *device, const void *name, size_t len);
  *         set_state_values();
  *         new_token();
  *     }
- *     if (hits != seen) {                      // then it looks, as above
+ *     hits = uip_hits(&device, UIP_TEXT("/restart.shtml")).number;
+ *     if (hits != seen) {                      // then it looks
+ *         query = uip_query(&device, UIP_TEXT("/restart.shtml"), text, sizeof text);
  *         seen = hits;
  *         if (query.hit == hits && token_in(text, query.len, "n", token, token_len)) {
  *             act();                           // only on the state that was shown
