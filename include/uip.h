@@ -386,8 +386,8 @@ typedef struct uip_row { unsigned status, state; unsigned char peer[4]; unsigned
  *
  * A sink may wait. If it starts a DMA, it waits for the end of it, or copies the piece first. If it
  * cannot send, it drops the piece: TCP sends the data again. With this device it may call
- * uip_set_value, uip_hits, uip_query, uip_ticks, uip_is_idle, uip_counter and uip_connection, and
- * nothing else.
+ * uip_set_value, uip_hits, uip_query, uip_ticks, uip_is_idle, uip_needs_ticks, uip_counter and
+ * uip_connection, and nothing else.
  */
 typedef void (*uip_sink)(void *to, const unsigned char *bytes, size_t len);
 
@@ -437,7 +437,10 @@ uip_opened uip_open_ether(uip_device *device, const unsigned char *image, size_t
  *   Status    UIP_NO_DEVICE; UIP_OK
  *
  * To change the address or the site, close the device, and open it again. Then set all values
- * again, and set to 0 what your program remembers of uip_hits and uip_query.
+ * again, and set to 0 what your program remembers of uip_hits and uip_query. On Ethernet under an
+ * RTOS rather store the address and reset: the task would need the stack of opening (rule 9). If a
+ * click asks for that, first wait until uip_needs_ticks is 0, or for six ticks, so that the reply
+ * is delivered.
  */
 unsigned uip_close(uip_device *device);
 
@@ -745,10 +748,9 @@ UIP_INLINE unsigned uip_tick_frames(uip_device *device, unsigned char *frame, si
  * follow a link before it is clicked. A page that is loaded again, or restored after days, sends
  * its request again. So take for an action that
  *
- *     is harmless at any time (lamp on)           a link to a file of its own, and uip_hits
- *     needs a click (set the level to 5)          a link or a form with a query, and uip_query
- *     must happen only once (next step), or       the same with a token: ONCE at uip_query
- *     only now (open the gate)
+ *     is harmless at any time (lamp on)                 a link to a file of its own, and uip_hits
+ *     needs a click (set the level to 5)                a link or a form with a query, and uip_query
+ *     must happen once, or now (next step, open gate)   the same with a token: ONCE at uip_query
  *
  * A restored page also sets an old level again: if that matters, take a token there, too.
  *
@@ -876,7 +878,7 @@ uip_number uip_hits(uip_device *device, const void *name, size_t len);
  * depends (another alarm, another step): they are read in this order. In each pass your program
  * then does this:
  *
- *     if (state != shown) {                    // sets the values of the state first, and a new token
+ *     if (state != shown) {                    // first: the state has changed
  *         shown = state;
  *         set_state_values();
  *         new_token();
@@ -891,9 +893,10 @@ uip_number uip_hits(uip_device *device, const void *name, size_t len);
  *         }
  *     }
  *
- * If another task keeps the state, let it count the changes, and send it the count that was shown
- * with the command. A page that polls gets the token with the state, and a script puts it into the
- * form: live.html in examples/firmware/site.
+ * If another task keeps the state, let that task count the changes of the state. Your command to it
+ * carries the count of the state that was shown; if the count is another by then, the task refuses
+ * the command. A page that polls gets the token with the state, and a script puts it into the form:
+ * live.html in examples/firmware/site.
  *
  * Never use a token twice, also not after a reset: a number of the start and a count will do.
  * Against a page of another site, which can guess, take a random number of 64 bits or more in its
