@@ -152,12 +152,16 @@ extern "C" {
  * burst of ticks would time out live connections. A late tick does no harm. Without ticks, nothing
  * is sent again and no connection times out.
  *
- * BUILD. `sh ports/run.sh m4 library` makes the libraries for a Cortex-M4, with the Rattle kit:
+ * BUILD, for a Cortex-M4:
  *
+ *     sh ports/run.sh m4 library               # makes the libraries, with the Rattle kit
  *     python3 tools/pack.py FOLDER site.c
  *     arm-none-eabi-gcc -mcpu=cortex-m4 -mthumb -Os -nostartfiles -Iinclude -Iexamples -T board.ld \
  *         startup.c drivers.c main.c ports/out/m4/libuip_c.a -lc -lgcc -o firmware.elf
- *     # on the PC, Linux. A firmware needs --silent: else the script fills the line with bytes
+ *
+ * TRY IT from a PC with Linux. A firmware needs --silent: else the script fills the line with
+ * bytes.
+ *
  *     python3 examples/browse.py --line /dev/ttyUSB0 115200 --silent
  *
  * startup.c, drivers.c and board.ld are yours. main.c includes site.c and heap.c: do not compile
@@ -222,9 +226,9 @@ typedef char uip_needs_unsigned_of_32_bits[sizeof(unsigned) == 4 ? 1 : -1];
  *                     libuip_c_ether.a       6,656           5,616      3,568           2,288
  *                 Those of x86-64 and WebAssembly are not known. A sink runs after the library has
  *                 returned, so its stack does not add to that of the library. On Ethernet under an
- *                 RTOS open before the scheduler starts: then only the main stack needs room for
- *                 it. A task that makes only uip_set_value, uip_hits, uip_query, uip_ticks or
- *                 uip_counter needs 296.
+ *                 RTOS open before the scheduler starts: then the main stack must be that large
+ *                 (raise it in your linker script), and no task. A task that makes only
+ *                 uip_set_value, uip_hits, uip_query, uip_ticks or uip_counter needs 296.
  *
  * 10 PROCESSOR    The stack is aligned as the ABI demands. In addition:
  *                     m4, m7, m33    CCR.UNALIGN_TRP is 0, as after reset. All memory that the
@@ -716,6 +720,9 @@ UIP_INLINE unsigned uip_tick_frames(uip_device *device, unsigned char *frame, si
 
 /* ---- 10 Values, buttons, forms -----------------------------------------------------------------
  *
+ * examples/firmware/pages.c and its folder site have all of this section in one place: values,
+ * buttons, a form, a token, a live page.
+ *
  * A file whose name ends in .shtml may contain directives. A directive reaches from %! to the end
  * of its line, the newline included. Its output replaces all of that:
  *
@@ -875,8 +882,8 @@ uip_number uip_hits(uip_device *device, const void *name, size_t len);
  *     '">Restart</a>
  *
  * In the file, write the directive of the token above those of the state on which the action
- * depends (another alarm, another step): they are read in this order. In each pass your program
- * then does this:
+ * depends, such as the alarm or the step. They are read in this order: if the state changes in
+ * between, the page has an old token, which is refused. In each pass your program does this:
  *
  *     if (state != shown) {                    // first: the state has changed
  *         shown = state;
