@@ -93,6 +93,8 @@ extern "C" {
  *   tick       one periodic call for each of the ten slots
  *   sink       a function of yours that sends output
  *   pending    output is pending if it did not fit into the area `out` of the call
+ *   inline     the inline functions are uip_feed_all, uip_tick_all, uip_drain_all,
+ *              uip_tick_datagrams, uip_tick_frames and uip_needs_ticks
  *
  * This program serves a site on a serial line. A link to /on.html is a button that turns a lamp on.
  * You write the six functions that it declares.
@@ -220,7 +222,8 @@ typedef char uip_needs_unsigned_of_32_bits[sizeof(unsigned) == 4 ? 1 : -1];
  *                 -freg-struct-return.
  *
  *  9 STACK        There is room for the stack of each call, below that of its caller. The most on
- *                 any target, in bytes ("Targets" in the guide has each one):
+ *                 any target, in bytes ("Targets" in the guide has each one, and "RTOS" what a task
+ *                 needs besides):
  *                                         uip_open  uip_open_ether  uip_close  any other call
  *                     libuip_c.a             2,208               -      2,832           2,208
  *                     libuip_c_ether.a       6,656           5,616      3,568           2,288
@@ -811,10 +814,11 @@ UIP_INLINE unsigned uip_tick_frames(uip_device *device, unsigned char *frame, si
  *   Status    UIP_BAD_ARGUMENT (the old value stays); UIP_NO_DEVICE; UIP_OK
  *
  * WHEN IT IS READ. The node reads a value when the peer has acknowledged all of the reply before
- * it, the HTTP header included. So the loops of this header can set it when they see the request.
- * So if uip_hits of the page has risen, make a short measurement at once. Begin a longer one, and
- * let the page ask again (POLLING). If the node sends a segment again, it has the same bytes, also
- * if the value has changed.
+ * it, the HTTP header included. So the call that takes the request writes at most what comes before
+ * the first value, and what you set right after that call is in this reply. If uip_hits of the page
+ * has risen, make a short measurement at once. Begin a longer one, and let the page ask again
+ * (POLLING). If the node sends a segment again, it has the same bytes, also if the value has
+ * changed.
  *
  * Each value of a page costs one round trip, often 40 to 200 ms, and two values may be of two
  * moments. So make one value of what belongs together, as "21.5,45.0". If that is longer than a
@@ -873,7 +877,8 @@ uip_number uip_hits(uip_device *device, const void *name, size_t len);
  * query: check it.
  *
  * ONCE. A page that is loaded again sends its query again, with another `hit`. What must not come
- * again takes a token, here value 6, in a form or in a link of an .shtml:
+ * again takes a token, here value 6, in a form or in a link of an .shtml. (`d` is there as a
+ * browser may have stored the reply to an old page.)
  *
  *     <form action="/restart.shtml" onsubmit="this.d.value = Date.now()">
  *     <input type="hidden" name="n" value="%! value-html 6
@@ -900,10 +905,10 @@ uip_number uip_hits(uip_device *device, const void *name, size_t len);
  *         }
  *     }
  *
- * If another task keeps the state, let that task count the changes of the state. Your command to it
- * carries the count of the state that was shown; if the count is another by then, the task refuses
- * the command. A page that polls gets the token with the state, and a script puts it into the form:
- * live.html in examples/firmware/site.
+ * If another task keeps the state, it counts its changes, and sends the count with the state: that
+ * is `state` here. act() sends a command with `shown`, and the task refuses it if its count is
+ * another by then. A page that polls gets the token with the state, and a script puts it into the
+ * form: live.html in examples/firmware/site.
  *
  * Never use a token twice, also not after a reset: a number of the start and a count will do.
  * Against a page of another site, which can guess, take a random number of 64 bits or more in its
