@@ -38,8 +38,9 @@
  *                   datagrams           21,301  10,688    26,021  10,780    33,669  10,688
  *                   Ethernet            23,909  11,232    29,845  11,352    37,765  11,296
  *               On a serial line add a ring for received bytes: 512 for a trial, 6,400 to 8,192
- *               with step.c (section 7). Under an RTOS add the stack of the task that makes the
- *               calls (rule 9). "Targets" in the guide has all targets.
+ *               with step.c (section 7). RAM has one stack (M4: 2,064, with datagrams 1,920, on
+ *               Ethernet 5,392); under an RTOS count main stack and task in its place (rule 9).
+ *               "Targets" in the guide has all targets.
  *
  *   Leaves out  UDP, IPv6, DHCP, TLS, passwords, POST, and connections that the node opens.
  *
@@ -146,9 +147,9 @@ extern "C" {
  *     datagrams                  uip_open        uip_input        uip_tick_datagrams  libuip_c.a
  *     Ethernet                   uip_open_ether  uip_input_frame  uip_tick_frames     libuip_c_ether.a
  *
- * On any link uip_set_value, uip_hits and uip_query serve the pages (section 10), uip_close closes
- * the device (6), and uip_ticks, uip_is_idle, uip_needs_ticks, uip_counter and uip_connection
- * report its state (11).
+ * libuip_c_ether.a has all calls. On any link uip_set_value, uip_hits and uip_query serve the pages
+ * (section 10), uip_close closes the device (6), and uip_ticks, uip_is_idle, uip_needs_ticks,
+ * uip_counter and uip_connection report its state (11).
  *
  * TICKS. If one or two ticks are due, make them. If more are due, after a stall, make only one: a
  * burst of ticks would time out live connections. A late tick does no harm. Without ticks, nothing
@@ -229,9 +230,10 @@ typedef char uip_needs_unsigned_of_32_bits[sizeof(unsigned) == 4 ? 1 : -1];
  *                     libuip_c_ether.a       6,656           5,616      3,568           2,288
  *                 Those of x86-64 and WebAssembly are not known. A sink runs after the library has
  *                 returned, so its stack does not add to that of the library. On Ethernet under an
- *                 RTOS open before the scheduler starts: then the main stack must be that large
- *                 (raise it in your linker script), and no task. A task that makes only
- *                 uip_set_value, uip_hits, uip_query, uip_ticks or uip_counter needs 296.
+ *                 RTOS open before the scheduler starts: then only the main stack needs 5,616 bytes
+ *                 (raise it in your linker script), and the task 2,288. On a serial line open
+ *                 anywhere. A task that makes only uip_set_value, uip_hits, uip_query, uip_ticks or
+ *                 uip_counter needs 296.
  *
  * 10 PROCESSOR    The stack is aligned as the ABI demands. In addition:
  *                     m4, m7, m33    CCR.UNALIGN_TRP is 0, as after reset. All memory that the
@@ -444,10 +446,10 @@ uip_opened uip_open_ether(uip_device *device, const unsigned char *image, size_t
  *   Status    UIP_NO_DEVICE; UIP_OK
  *
  * To change the address or the site, close the device, and open it again. Then set all values
- * again, and set to 0 what your program remembers of uip_hits and uip_query. On Ethernet under an
- * RTOS rather store the address and reset: the task would need the stack of opening (rule 9). If a
- * click asks for that, first wait until uip_needs_ticks is 0, or for six ticks, so that the reply
- * is delivered.
+ * again, and set to 0 what your program remembers of uip_hits and uip_query; with step.c call
+ * reset_step. On Ethernet under an RTOS rather store the address and reset: the task would need the
+ * stack of opening (rule 9). If a click asks for that, first wait until uip_needs_ticks is 0, or
+ * for six ticks, so that the reply is delivered.
  */
 unsigned uip_close(uip_device *device);
 
@@ -481,7 +483,8 @@ unsigned uip_close(uip_device *device);
  * examples/firmware/port.c beside your program, include step.h and firmware/port.h, and call
  * serve() in place of a loop of your own. port.c has the ring (8,192 bytes; -DRING=6400 sets
  * another size) and the sender. It receives a byte for each interrupt; with a circular DMA write
- * its functions yourself (step.h). `device` is a global variable of this name. You write, besides:
+ * read_serial, dma_send, dma_is_busy and `events` yourself (step.h). `device` is a global variable
+ * of this name. You write, besides:
  *
  *     void work(void);                      // in each pass: sets values, reads hits and queries
  *     int half_a_second_passed(void);       // 1 if a tick is due, once for each tick
@@ -494,18 +497,19 @@ unsigned uip_close(uip_device *device);
  * on_sent(), and that of a timer of half a second adds 1 to `events`, a counter of port.c, which
  * ends the sleep. If a clock of milliseconds ends the sleep anyway, half_a_second_passed may be
  * tick_is_due_at(milliseconds()). An idle loop makes a pass for each byte that arrives. So let
- * `work` first compare uip_counter(&device, UIP_TCP_IN): if it has not risen, no request has come.
+ * `work` look at hits and queries only if uip_counter(&device, UIP_TCP_IN) has risen: else no
+ * request has come.
  *
  * Under an RTOS interrupts_off and interrupts_on are empty, and wfi waits for a semaphore, which
  * each interrupt gives: rtos_serial.c in examples/firmware. Without a timer give the wait a limit,
- * such as 100 ms. Under an RTOS a gap includes the time for which other tasks preempt this one.
- * sleep.c is a program for a battery. It stops its timer while the node needs no ticks, so it suits
- * a device that has nothing else to do then: take all of it but `work` and main. step.h has more.
+ * such as 100 ms. sleep.c is a program for a battery. It stops its timer while the node needs no
+ * ticks, so it suits a device that has nothing else to do then: take all of it but `work` and main.
+ * step.h has more.
  *
  * THE RING. Between two feeds step.c sends at most two frames of 3,002 bytes, in 24 pieces. A gap
- * is the time between two pieces: `work` runs, half_a_second_passed, and one call. One byte of the
- * ring stays free. So if the ring is empty when a feed is due, this size suffices. (A circular DMA
- * needs more: 16,384 at 115,200 bits a second.)
+ * is the time between two pieces: `work` runs, half_a_second_passed, and one call; under an RTOS
+ * other tasks may preempt them. One byte of the ring stays free. So if the ring is empty when a
+ * feed is due, this size suffices. (A circular DMA needs more: 16,384 at 115,200 bits a second.)
  *
  *     ring = 6,005 + 24 * (bytes that arrive in one gap)
  *
@@ -878,7 +882,8 @@ uip_number uip_hits(uip_device *device, const void *name, size_t len);
  *
  * ONCE. A page that is loaded again sends its query again, with another `hit`. What must not come
  * again takes a token, here value 6, in a form or in a link of an .shtml. (`d` is there as a
- * browser may have stored the reply to an old page.)
+ * browser may have stored the reply to an old page. With a token of 16 digits both take 34 of the
+ * 64 bytes; `d` may be left out.)
  *
  *     <form action="/restart.shtml" onsubmit="this.d.value = Date.now()">
  *     <input type="hidden" name="n" value="%! value-html 6
@@ -906,9 +911,10 @@ uip_number uip_hits(uip_device *device, const void *name, size_t len);
  *     }
  *
  * If another task keeps the state, it counts its changes, and sends the count with the state: that
- * is `state` here. act() sends a command with `shown`, and the task refuses it if its count is
- * another by then. A page that polls gets the token with the state, and a script puts it into the
- * form: live.html in examples/firmware/site.
+ * is `state` here. act() sends a command with `shown`, as the right token proves that the page
+ * showed it. The task refuses the command if its count is another by then. A page that polls gets
+ * the token with the state, and a script puts it into the form: live.html in
+ * examples/firmware/site.
  *
  * Never use a token twice, also not after a reset: a number of the start and a count will do.
  * Against a page of another site, which can guess, take a random number of 64 bits or more in its
