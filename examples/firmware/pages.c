@@ -13,6 +13,7 @@
 
 enum { TEMPERATURE = 3, LAMP = 4, BRIGHTNESS = 5, TOKEN = 6, RESTART = 8 };    /* values: `%! value-html 3` in a page shows the temperature */
 
+static unsigned segments_seen;                     /* how many TCP segments had come at the last look */
 static unsigned hits_on, hits_off;                 /* how often the two buttons had been pressed at the last look */
 static int is_on;
 static unsigned brightness = 100;                  /* of the lamp that is on, 0 to 100 */
@@ -66,20 +67,23 @@ static void look_at_brightness(void) {
  */
 static void look_at_restart(void) {
     unsigned char text[UIP_MAX_QUERY];
-    unsigned ticks = uip_ticks(&device).number, hits = uip_hits(&device, UIP_TEXT("/restart.shtml")).number;
-    if (hits != hits_restart) {
-        uip_query_text query = uip_query(&device, UIP_TEXT("/restart.shtml"), text, sizeof text);
-        hits_restart = hits;
-        if (query.hit == hits && token_in(text, query.len, "n", token, token_len)) {
-            new_token();
-            is_restarting = 1;
-            restart_at = ticks + 6;
-            uip_set_value(&device, RESTART, UIP_TEXT("The device starts again."));
-        } else if (!is_restarting) {
-            uip_set_value(&device, RESTART, UIP_TEXT("The page was old."));
-        }
+    unsigned hits = uip_hits(&device, UIP_TEXT("/restart.shtml")).number;
+    if (hits == hits_restart) return;
+    uip_query_text query = uip_query(&device, UIP_TEXT("/restart.shtml"), text, sizeof text);
+    hits_restart = hits;
+    if (query.hit == hits && token_in(text, query.len, "n", token, token_len)) {
+        new_token();
+        is_restarting = 1;
+        restart_at = uip_ticks(&device).number + 6;
+        uip_set_value(&device, RESTART, UIP_TEXT("The device starts again."));
+    } else if (!is_restarting) {
+        uip_set_value(&device, RESTART, UIP_TEXT("The page was old."));
     }
-    if (is_restarting && (ticks == restart_at || !uip_needs_ticks(&device))) stop(UIP_OK);
+}
+
+static void restart_if_due(void) {
+    if (!is_restarting) return;
+    if (uip_ticks(&device).number == restart_at || !uip_needs_ticks(&device)) stop(UIP_OK);
 }
 
 static void look_at_temperature(void) {
@@ -88,7 +92,7 @@ static void look_at_temperature(void) {
 }
 
 void pages_start(void) {
-    hits_on = hits_off = hits_set = hits_restart = 0;
+    segments_seen = hits_on = hits_off = hits_set = hits_restart = 0;
     is_restarting = 0;
     switch_lamp(is_on);
     new_token();
@@ -96,8 +100,13 @@ void pages_start(void) {
 }
 
 void pages_work(void) {
+    unsigned segments = uip_counter(&device, UIP_TCP_IN).number;
     look_at_temperature();
-    look_at_buttons();
-    look_at_brightness();
-    look_at_restart();
+    if (segments != segments_seen) {               /* else no request has come */
+        segments_seen = segments;
+        look_at_buttons();
+        look_at_brightness();
+        look_at_restart();
+    }
+    restart_if_due();
 }
