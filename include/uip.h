@@ -38,9 +38,9 @@
  *                   datagrams           21,301  10,688    26,021  10,780    33,669  10,688
  *                   Ethernet            23,909  11,232    29,845  11,352    37,765  11,296
  *               On a serial line add a ring for received bytes: 512 for a trial, 6,400 to 8,192
- *               with step.c (section 7). RAM has one stack (M4: 2,064, with datagrams 1,920, on
- *               Ethernet 5,392); under an RTOS count main stack and task in its place (rule 9).
- *               "Targets" in the guide has all targets.
+ *               with step.c, and up to 16,384 with a circular DMA (section 7). RAM has one stack
+ *               (M4: 2,064, with datagrams 1,920, on Ethernet 5,392); under an RTOS count main
+ *               stack and task in its place (rule 9). "Targets" in the guide has all targets.
  *
  *   Leaves out  UDP, IPv6, DHCP, TLS, passwords, POST, and connections that the node opens.
  *
@@ -448,8 +448,8 @@ uip_opened uip_open_ether(uip_device *device, const unsigned char *image, size_t
  * To change the address or the site, close the device, and open it again. Then set all values
  * again, and set to 0 what your program remembers of uip_hits and uip_query; with step.c call
  * reset_step. On Ethernet under an RTOS rather store the address and reset: the task would need the
- * stack of opening (rule 9). If a click asks for that, first wait until uip_needs_ticks is 0, or
- * for six ticks, so that the reply is delivered.
+ * stack of opening (rule 9). If a click asks for that, first wait until uip_needs_ticks is 0, but
+ * at most six ticks, so that the reply is delivered.
  */
 unsigned uip_close(uip_device *device);
 
@@ -479,37 +479,33 @@ unsigned uip_close(uip_device *device);
  * 512 bytes will do.
  *
  * NEVER WAIT. We recommend the loop of examples/step.c. It sends by DMA or interrupt, feeds bytes
- * between the frames of a tick, and sleeps if there is nothing to do. Compile examples/step.c and
- * examples/firmware/port.c beside your program, include step.h and firmware/port.h, and call
- * serve() in place of a loop of your own. port.c has the ring (8,192 bytes; -DRING=6400 sets
- * another size) and the sender. It receives a byte for each interrupt; with a circular DMA write
- * read_serial, dma_send, dma_is_busy and `events` yourself (step.h). `device` is a global variable
- * of this name. You write, besides:
+ * between the frames of a tick, and sleeps if there is nothing to do. Compile examples/step.c
+ * beside your program, include step.h, and call serve() in place of a loop of your own. `device` is
+ * a global variable of this name. You write:
  *
  *     void work(void);                      // in each pass: sets values, reads hits and queries
  *     int half_a_second_passed(void);       // 1 if a tick is due, once for each tick
- *     unsigned char port_read(void);        // the byte that has arrived
- *     void port_start(const unsigned char *bytes, size_t len);    // begins to send by DMA or interrupt
  *     void interrupts_off(void), interrupts_on(void);
  *     void wfi(void);     // sleeps until an interrupt, also one that is pending while they are off
  *
- * and three interrupts: that of the receiver calls on_received(), that at the end of sending
- * on_sent(), and that of a timer of half a second adds 1 to `events`, a counter of port.c, which
- * ends the sleep. If a clock of milliseconds ends the sleep anyway, half_a_second_passed may be
- * tick_is_due_at(milliseconds()). An idle loop makes a pass for each byte that arrives. So let
- * `work` look at hits and queries only if uip_counter(&device, UIP_TCP_IN) has risen: else no
- * request has come.
+ * examples/firmware has the rest twice, with the ring and the sender: compile one of them, too.
  *
- * Under an RTOS interrupts_off and interrupts_on are empty, and wfi waits for a semaphore, which
- * each interrupt gives: rtos_serial.c in examples/firmware. Without a timer give the wait a limit,
- * such as 100 ms. sleep.c is a program for a battery. It stops its timer while the node needs no
- * ticks, so it suits a device that has nothing else to do then: take all of it but `work` and main.
- * step.h has more.
+ *     port.c        an interrupt for each byte. It calls on_received(), and port_read() returns the byte
+ *     port_dma.c    a circular DMA. Its interrupts (line idle, half, end) call on_dma(); dma_place()
+ *                   returns where it writes
+ *     both          port_start(bytes, len) begins to send. The interrupt at its end calls on_sent()
+ *
+ * A timer of half a second adds 1 to `events` in its interrupt, which ends the sleep. If a clock of
+ * milliseconds ends it anyway, half_a_second_passed may be tick_is_due_at(milliseconds()). Under an
+ * RTOS interrupts_off and interrupts_on are empty, and wfi waits for a semaphore, which each
+ * interrupt gives, but at most some 100 ms: rtos_serial.c. sleep.c is a program for a battery. It
+ * stops its timer while the node needs no ticks, so it suits a device that has nothing else to do
+ * then: take all of it but `work` and main. step.h has more.
  *
  * THE RING. Between two feeds step.c sends at most two frames of 3,002 bytes, in 24 pieces. A gap
  * is the time between two pieces: `work` runs, half_a_second_passed, and one call; under an RTOS
  * other tasks may preempt them. One byte of the ring stays free. So if the ring is empty when a
- * feed is due, this size suffices. (A circular DMA needs more: 16,384 at 115,200 bits a second.)
+ * feed is due, this size suffices:
  *
  *     ring = 6,005 + 24 * (bytes that arrive in one gap)
  *
@@ -517,8 +513,12 @@ unsigned uip_close(uip_device *device);
  *     with 6,400 bytes              8 ms         4 ms       2.8 ms        1.4 ms
  *     with 8,192 bytes             47 ms        23 ms        15 ms          7 ms
  *
- * It is not empty if the peers go on sending faster than the line carries the replies. Then, and
- * with a smaller ring, bytes are lost, and a page comes some seconds later. Measured: 512 bytes
+ * With a circular DMA add what may wait before the loop wakes: half the ring, or what arrives in
+ * the longest sleep, if that is less. At 115,200 bits a second that is 5,760 bytes in half a second
+ * (a ring of 16,384), and 1,152 in 100 ms (8,192, with gaps of at most 3 ms).
+ *
+ * The ring is not empty if the peers go on sending faster than the line carries the replies. Then,
+ * and with a smaller ring, bytes are lost, and a page comes some seconds later. Measured: 512 bytes
  * were enough for two clients at 19,200 bits a second.
  */
 
@@ -799,6 +799,7 @@ UIP_INLINE unsigned uip_tick_frames(uip_device *device, unsigned char *frame, si
  * each pass: a frame or a datagram brings at most one request, and 64 bytes of a serial line bring
  * the end of at most one, as the request of a browser is longer. If your loop passes more at a
  * time, look after each uip_feed, uip_input or uip_input_frame, or in the sink of uip_feed_all.
+ * While uip_counter(&device, UIP_TCP_IN) does not rise, no request has come, and you need not look.
  *
  * The file of a button or a form may be an .shtml that shows the new state, if your program sets
  * the value as soon as it sees the request (uip_set_value).
@@ -819,10 +820,11 @@ UIP_INLINE unsigned uip_tick_frames(uip_device *device, unsigned char *frame, si
  *
  * WHEN IT IS READ. The node reads a value when the peer has acknowledged all of the reply before
  * it, the HTTP header included. So the call that takes the request writes at most what comes before
- * the first value, and what you set right after that call is in this reply. If uip_hits of the page
- * has risen, make a short measurement at once. Begin a longer one, and let the page ask again
- * (POLLING). If the node sends a segment again, it has the same bytes, also if the value has
- * changed.
+ * the first value, and what you set right after that call is in this reply. (A value belongs to the
+ * device: if a second browser makes the program set it again before it is read, both see the same.)
+ * If uip_hits of the page has risen, make a short measurement at once. Begin a longer one, and let
+ * the page ask again (POLLING). If the node sends a segment again, it has the same bytes, also if
+ * the value has changed.
  *
  * Each value of a page costs one round trip, often 40 to 200 ms, and two values may be of two
  * moments. So make one value of what belongs together, as "21.5,45.0". If that is longer than a
@@ -881,9 +883,9 @@ uip_number uip_hits(uip_device *device, const void *name, size_t len);
  * query: check it.
  *
  * ONCE. A page that is loaded again sends its query again, with another `hit`. What must not come
- * again takes a token, here value 6, in a form or in a link of an .shtml. (`d` is there as a
- * browser may have stored the reply to an old page. With a token of 16 digits both take 34 of the
- * 64 bytes; `d` may be left out.)
+ * again takes a token, here value 6, in a form or in a link of an .shtml. (Without `d` a browser
+ * may show the stored reply to an old page, and not ask the device; nothing happens twice. With a
+ * token of 16 digits both take 34 of the 64 bytes.)
  *
  *     <form action="/restart.shtml" onsubmit="this.d.value = Date.now()">
  *     <input type="hidden" name="n" value="%! value-html 6
@@ -895,25 +897,31 @@ uip_number uip_hits(uip_device *device, const void *name, size_t len);
  * depends, such as the alarm or the step. They are read in this order: if the state changes in
  * between, the page has an old token, which is refused. In each pass your program does this:
  *
- *     if (state != shown) {                    // first: the state has changed
- *         shown = state;
+ *     if (changes != shown) {                  // `changes` counts the changes of the state
+ *         shown = changes;
  *         set_state_values();
- *         new_token();
+ *         new_token();                         // also once after opening
  *     }
  *     hits = uip_hits(&device, UIP_TEXT("/restart.shtml")).number;
  *     if (hits != seen) {                      // then it looks
  *         query = uip_query(&device, UIP_TEXT("/restart.shtml"), text, sizeof text);
  *         seen = hits;
  *         if (query.hit == hits && token_in(text, query.len, "n", token, token_len)) {
- *             act();                           // only on the state that was shown
+ *             act();                           // only on the state that was shown. To reset: see uip_close
  *             new_token();
  *         }
  *     }
  *
- * If another task keeps the state, it counts its changes, and sends the count with the state: that
- * is `state` here. act() sends a command with `shown`, as the right token proves that the page
- * showed it. The task refuses the command if its count is another by then. A page that polls gets
- * the token with the state, and a script puts it into the form: live.html in
+ * If another task keeps the state, it sends {state, changes} by a queue, and act() sends it
+ * {command, shown} by another, as the right token proves that the page showed that state. That task
+ * does:
+ *
+ *     if (command.shown == changes) {          // else the state is another by now: refuse
+ *         do_it(command);
+ *         changes++;
+ *     }
+ *
+ * A page that polls gets the token with the state, and a script puts it into the form: live.html in
  * examples/firmware/site.
  *
  * Never use a token twice, also not after a reset: a number of the start and a count will do.

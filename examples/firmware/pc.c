@@ -133,7 +133,9 @@ void interrupt_received(void);
 void interrupt_sent(void);
 
 static sem_t semaphore;
+#ifndef PC_DMA
 static void on_received(void) { interrupt_received(); }
+#endif
 static void on_sent(void) { interrupt_sent(); }
 void give(void) { sem_post(&semaphore); }
 void give_from_interrupt(void) { sem_post(&semaphore); }
@@ -149,11 +151,48 @@ void take_for_100_ms(void) {
 
 #endif
 
+#ifdef PC_DMA
+
+#include "port_dma.h"
+
+static volatile unsigned place;
+
+unsigned dma_place(void) { return place; }
+
+static void on_end(void) {
+    place = 0;
+    on_dma(1);
+    give_from_interrupt();
+}
+
+static void on_idle(void) {
+    on_dma(0);
+    give_from_interrupt();
+}
+
+static void *receiver(void *unused) {
+    ssize_t count;
+    while ((count = read(0, dma_ring + place, RING - place)) > 0) {
+        if (place + (unsigned)count == RING) {
+            interrupt_by(on_end);
+        } else {
+            place += (unsigned)count;
+            interrupt_by(on_idle);
+        }
+    }
+    (void)unused;
+    exit(2);
+}
+
+#else
+
 static void *receiver(void *unused) {
     while (read(0, &byte, 1) == 1) interrupt_by(on_received);
     (void)unused;
     exit(2);
 }
+
+#endif
 
 static void *sender(void *unused) {
     for (;;) {

@@ -23,10 +23,12 @@ static volatile unsigned seconds;              /* the value of the other task */
 void interrupt_received(void);
 void interrupt_sent(void);
 
+#ifndef PC_DMA                                 /* with port_dma.c its interrupts call on_dma and give_from_interrupt */
 void interrupt_received(void) {
     on_received();
     give_from_interrupt();
 }
+#endif
 
 void interrupt_sent(void) {
     on_sent();

@@ -31,7 +31,7 @@ command -v python3 >/dev/null || skip "python3"
 mkdir -p "$out"
 python3 "$top/tools/pack.py" "$here/site" "$out/site.c" || fail "the site was not packed"
 strict="-std=c11 -pedantic -Wall -Wextra -Wconversion -Werror"
-for name in serial sleep rtos_serial datagrams ether rtos pages port; do
+for name in serial sleep rtos_serial datagrams ether rtos pages port port_dma; do
     "$cc" $strict -fsyntax-only -I"$top/include" -I"$out" "$here/$name.c" || fail "$name.c does not compile"
 done
 [ -f "$library" ] || skip "library at $library: run rt lib in crates/uip_c"
@@ -43,6 +43,8 @@ build() {
 build serial PC_SERIAL
 build sleep PC_SLEEP "$here/port.c $top/examples/step.c"
 build rtos_serial PC_RTOS_SERIAL "$here/port.c $top/examples/step.c"
+"$cc" -std=gnu11 -O2 -Wall -Wextra -Werror -DPC_RTOS_SERIAL -DPC_DMA -DRING=2048 -pthread -I"$top/include" -I"$out" "$here/rtos_serial.c" \
+    "$here/pages.c" "$here/pc.c" "$here/port_dma.c" "$top/examples/step.c" "$library" -o "$out/rtos_dma" || fail "rtos_dma was not built"
 build datagrams PC_DATAGRAMS
 build ether PC_ETHER
 build rtos PC_RTOS
@@ -54,8 +56,8 @@ lamps() {
     [ "$(sed -n 's/^lamp //p' "$out/$1.log" | uniq | tr '\n' ' ')" = "0 100 0 42 " ] || fail "$1 switched its lamp otherwise"
     grep -aq '^stopped 0$' "$out/$1.log" || fail "$1 did not restart"
 }
-for name in serial sleep rtos_serial; do
-    note=0; [ $name != rtos_serial ] || note=1
+for name in serial sleep rtos_serial rtos_dma; do
+    note=0; case $name in rtos_*) note=1;; esac
     python3 "$here/line.py" "$out/$name" "$out/$name.log" $note >"$out/$name.told" 2>&1 || fail "$name: $(cat "$out/$name.told")"
     lamps $name
     [ $name != sleep ] || grep -aq '^the timer stopped' "$out/sleep.log" || fail "sleep did not stop its timer"

@@ -1,0 +1,54 @@
+/*
+ * The port of a serial line whose receiver is a circular DMA: in the place of port.c. The DMA writes dma_ring over and over, and
+ * interrupts when the line falls idle, when half of the ring is written, and at its end.
+ *
+ * SPDX-License-Identifier: MIT OR Apache-2.0
+ * Copyright 2026 The Lowunbisa authors
+ */
+#include "port_dma.h"
+#include "../step.h"
+#include "drivers.h"
+#include "port.h"
+
+volatile unsigned events;                      /* an interrupt that gives the loop something to do adds 1 */
+volatile unsigned bytes_received;              /* at the last interrupt of the receiver */
+
+unsigned char dma_ring[RING];
+static volatile unsigned laps;                 /* how often the DMA reached the end of the ring */
+static unsigned taken;                         /* how many bytes were taken, modulo 2^32 */
+static volatile int is_sending;
+
+/* How many bytes the DMA has written since the start. */
+static unsigned written(void) {
+    unsigned before, place;
+    do {
+        before = laps;
+        place = dma_place();
+    } while (before != laps);                  /* the DMA reached the end in between */
+    return before * RING + place;
+}
+
+void on_dma(int is_end) {
+    if (is_end) laps++;
+    bytes_received = written();
+    events++;
+}
+
+void on_sent(void) {
+    is_sending = 0;
+    events++;
+}
+
+size_t read_serial(unsigned char *bytes, size_t room) {
+    size_t len = 0;
+    if (written() - taken > RING) taken = written();    /* the DMA has overtaken: all is lost, and TCP sends it again */
+    for (; len < room && taken != written(); taken++) bytes[len++] = dma_ring[taken % RING];
+    return len;
+}
+
+int dma_is_busy(void) { return is_sending; }
+
+void dma_send(const unsigned char *bytes, size_t len) {
+    is_sending = 1;                            /* first: the port may end at once */
+    port_start(bytes, len);
+}

@@ -1,0 +1,17 @@
+/* The ring and the interrupt of port_dma.c, and what it needs.
+ *
+ * SPDX-License-Identifier: MIT OR Apache-2.0
+ * Copyright 2026 The Lowunbisa authors
+ */
+#ifndef PORT_DMA_H
+#define PORT_DMA_H
+
+#ifndef RING
+#define RING 16384                             /* a power of two; ../step.h has how to compute it */
+#endif
+
+extern unsigned char dma_ring[RING];           /* the DMA writes it. On a core with a data cache it is not cached */
+void on_dma(int is_end);                       /* the interrupts of the receiver; `is_end` at the end of the ring, else 0 */
+unsigned dma_place(void);                      /* yours: where the DMA writes next, 0 to RING - 1 (on an STM32 RING - NDTR) */
+
+#endif
