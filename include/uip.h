@@ -448,8 +448,8 @@ uip_opened uip_open_ether(uip_device *device, const unsigned char *image, size_t
  * To change the address or the site, close the device, and open it again. Then set all values
  * again, and set to 0 what your program remembers of uip_hits and uip_query; with step.c call
  * reset_step. On Ethernet under an RTOS rather store the address and reset: the task would need the
- * stack of opening (rule 9). If a click asks for that, first wait until uip_needs_ticks is 0, but
- * at most six ticks, so that the reply is delivered.
+ * stack of opening (rule 9). If a click asks for that, go on with the loop until uip_needs_ticks is
+ * 0, or for six ticks if it is not by then, so that the reply is delivered.
  */
 unsigned uip_close(uip_device *device);
 
@@ -479,28 +479,33 @@ unsigned uip_close(uip_device *device);
  * 512 bytes will do.
  *
  * NEVER WAIT. We recommend the loop of examples/step.c. It sends by DMA or interrupt, feeds bytes
- * between the frames of a tick, and sleeps if there is nothing to do. Compile examples/step.c
- * beside your program, include step.h, and call serve() in place of a loop of your own. `device` is
- * a global variable of this name. You write:
+ * between the frames of a tick, and sleeps if there is nothing to do. Call serve() in place of a
+ * loop of your own. `device` is a global variable of this name. Compile beside your program
+ * examples/step.c, and from examples/firmware port.c (an interrupt for each byte) or port_dma.c (a
+ * circular DMA), which have the ring and the sender. -DRING=6400 for all files sets the size of the
+ * ring; with port_dma.c it is a power of two.
  *
+ *     // Yours (step.h)
  *     void work(void);                      // in each pass: sets values, reads hits and queries
  *     int half_a_second_passed(void);       // 1 if a tick is due, once for each tick
  *     void interrupts_off(void), interrupts_on(void);
  *     void wfi(void);     // sleeps until an interrupt, also one that is pending while they are off
+ *     // Yours (firmware/drivers.h and port_dma.h)
+ *     unsigned char port_read(void);        // port.c: the byte that has arrived
+ *     unsigned dma_place(void);             // port_dma.c: where the DMA writes next, 0 to RING - 1
+ *     void port_start(const unsigned char *bytes, size_t len);    // begins to send
+ *     // Theirs, for your interrupts (firmware/port.h and port_dma.h)
+ *     void on_received(void);               // port.c: a byte has arrived
+ *     void on_dma(int is_end);              // port_dma.c: 1 at the end of the ring; 0 at its half, and
+ *                                           // if the line falls idle
+ *     void on_sent(void);                   // what port_start began is sent
+ *     extern volatile unsigned events;      // a timer of half a second, and others of yours, add 1
  *
- * examples/firmware has the rest twice, with the ring and the sender: compile one of them, too.
- *
- *     port.c        an interrupt for each byte. It calls on_received(), and port_read() returns the byte
- *     port_dma.c    a circular DMA. Its interrupts (line idle, half, end) call on_dma(); dma_place()
- *                   returns where it writes
- *     both          port_start(bytes, len) begins to send. The interrupt at its end calls on_sent()
- *
- * A timer of half a second adds 1 to `events` in its interrupt, which ends the sleep. If a clock of
- * milliseconds ends it anyway, half_a_second_passed may be tick_is_due_at(milliseconds()). Under an
- * RTOS interrupts_off and interrupts_on are empty, and wfi waits for a semaphore, which each
- * interrupt gives, but at most some 100 ms: rtos_serial.c. sleep.c is a program for a battery. It
- * stops its timer while the node needs no ticks, so it suits a device that has nothing else to do
- * then: take all of it but `work` and main. step.h has more.
+ * If a clock of milliseconds ends the sleep anyway, half_a_second_passed may be
+ * tick_is_due_at(milliseconds()). Under an RTOS interrupts_off and interrupts_on are empty, and wfi
+ * waits for a semaphore, which each interrupt gives, but at most some 100 ms: rtos_serial.c.
+ * sleep.c is a program for a battery. It stops its timer while the node needs no ticks, so it suits
+ * a device that has nothing else to do then: take all of it but `work` and main. step.h has more.
  *
  * THE RING. Between two feeds step.c sends at most two frames of 3,002 bytes, in 24 pieces. A gap
  * is the time between two pieces: `work` runs, half_a_second_passed, and one call; under an RTOS
@@ -513,9 +518,10 @@ unsigned uip_close(uip_device *device);
  *     with 6,400 bytes              8 ms         4 ms       2.8 ms        1.4 ms
  *     with 8,192 bytes             47 ms        23 ms        15 ms          7 ms
  *
- * With a circular DMA add what may wait before the loop wakes: half the ring, or what arrives in
- * the longest sleep, if that is less. At 115,200 bits a second that is 5,760 bytes in half a second
- * (a ring of 16,384), and 1,152 in 100 ms (8,192, with gaps of at most 3 ms).
+ * A circular DMA also needs room for what waits until the loop wakes: at most half the ring, or
+ * what arrives in the longest sleep. At 115,200 bits a second that is 5,760 bytes if the loop may
+ * sleep for half a second (take 16,384), and 1,152 if it sleeps for 100 ms at most (8,192, with
+ * gaps of at most 3 ms).
  *
  * The ring is not empty if the peers go on sending faster than the line carries the replies. Then,
  * and with a smaller ring, bytes are lost, and a page comes some seconds later. Measured: 512 bytes
@@ -883,15 +889,16 @@ uip_number uip_hits(uip_device *device, const void *name, size_t len);
  * query: check it.
  *
  * ONCE. A page that is loaded again sends its query again, with another `hit`. What must not come
- * again takes a token, here value 6, in a form or in a link of an .shtml. (Without `d` a browser
- * may show the stored reply to an old page, and not ask the device; nothing happens twice. With a
- * token of 16 digits both take 34 of the 64 bytes.)
+ * again takes a token, here value 6, in a form or in a link of an .shtml:
  *
  *     <form action="/restart.shtml" onsubmit="this.d.value = Date.now()">
  *     <input type="hidden" name="n" value="%! value-html 6
  *     "><input type="hidden" name="d"><button>Restart</button></form>
  *     <a href="/restart.shtml" onclick="this.search = 'd=' + Date.now() + '&n=%! value-html 6
  *     '">Restart</a>
+ *
+ * With a token of 16 digits `n` and `d` take 34 of the 64 bytes. Without `d` a browser may show the
+ * stored reply to an old page, and not ask the device.
  *
  * In the file, write the directive of the token above those of the state on which the action
  * depends, such as the alarm or the step. They are read in this order: if the state changes in

@@ -10,6 +10,10 @@
 #define RING 16384                             /* a power of two; ../step.h has how to compute it */
 #endif
 
+#if (RING) & ((RING) - 1)
+#error "RING is not a power of two"
+#endif
+
 extern unsigned char dma_ring[RING];           /* the DMA writes it. On a core with a data cache it is not cached */
 void on_dma(int is_end);                       /* the interrupts of the receiver; `is_end` at the end of the ring, else 0 */
 unsigned dma_place(void);                      /* yours: where the DMA writes next, 0 to RING - 1 (on an STM32 RING - NDTR) */
