@@ -231,7 +231,7 @@ typedef char uip_needs_unsigned_of_32_bits[sizeof(unsigned) == 4 ? 1 : -1];
  *                 Those of x86-64 and WebAssembly are not known. A sink runs after the library has
  *                 returned, so its stack does not add to that of the library. On Ethernet under an
  *                 RTOS open before the scheduler starts: then only the main stack needs 5,616 bytes
- *                 (raise it in your linker script), and the task 2,288. On a serial line open
+ *                 (raise it in your linker script), and the task 2,288. With libuip_c.a open
  *                 anywhere. A task that makes only uip_set_value, uip_hits, uip_query, uip_ticks or
  *                 uip_counter needs 296.
  *
@@ -929,7 +929,8 @@ uip_number uip_hits(uip_device *device, const void *name, size_t len);
  *     }
  *
  * A page that polls gets the token with the state, and a script puts it into the form: live.html in
- * examples/firmware/site.
+ * examples/firmware/site. Or the script sends the command by fetch with no-store, without `d`, to
+ * an .shtml of JSON that has the result and the next token.
  *
  * Never use a token twice, also not after a reset: a number of the start and a count will do.
  * Against a page of another site, which can guess, take a random number of 64 bits or more in its
