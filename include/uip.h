@@ -39,8 +39,9 @@
  *                   Ethernet            23,909  11,232    29,845  11,352    37,765  11,296
  *               On a serial line add a ring for received bytes: 512 for a trial, 6,400 to 8,192
  *               with step.c, and up to 16,384 with a circular DMA (section 7). RAM has one stack
- *               (M4: 2,064, with datagrams 1,920, on Ethernet 5,392); under an RTOS count main
- *               stack and task in its place (rule 9). "Targets" in the guide has all targets.
+ *               (M4: 2,064, with datagrams 1,920, on Ethernet 5,392). Under an RTOS it is the main
+ *               stack, which opens; add that of the task: on an M4 1,968, on Ethernet 1,872, with
+ *               your own functions and its context. "Targets" in the guide has all targets.
  *
  *   Leaves out  UDP, IPv6, DHCP, TLS, passwords, POST, and connections that the node opens.
  *
@@ -223,8 +224,8 @@ typedef char uip_needs_unsigned_of_32_bits[sizeof(unsigned) == 4 ? 1 : -1];
  *                 -freg-struct-return.
  *
  *  9 STACK        There is room for the stack of each call, below that of its caller. The most on
- *                 any target, in bytes ("Targets" in the guide has each one, and "RTOS" what a task
- *                 needs besides):
+ *                 any target, in bytes, with examples/heap.c ("Targets" in the guide has each one,
+ *                 and "RTOS" what a task needs besides):
  *                                         uip_open  uip_open_ether  uip_close  any other call
  *                     libuip_c.a             2,208               -      2,832           2,208
  *                     libuip_c_ether.a       6,656           5,616      3,568           2,288
@@ -249,7 +250,8 @@ typedef char uip_needs_unsigned_of_32_bits[sizeof(unsigned) == 4 ? 1 : -1];
  * TIME. No call waits, masks interrupts, needs privilege or, except opening, allocates memory. An
  * inline function waits if its sink waits. Opening reads the whole image. Each other call of the
  * library handles at most one datagram. No bound on the time of a call is known. Counted, in
- * instructions on an M4 and on an M0+ (by qemu, on a serial line):
+ * instructions on an M4 and on an M0+ (by qemu, on a serial line; the calls for frames were not
+ * counted):
  *
  *     a ping of 84 bytes, in all its calls                     4,716     8,442
  *     a file of one byte, in all its calls                    28,223    68,331
@@ -733,7 +735,7 @@ UIP_INLINE unsigned uip_tick_frames(uip_device *device, unsigned char *frame, si
 
 /* ---- 10 Values, buttons, forms -----------------------------------------------------------------
  *
- * examples/firmware/pages.c and its folder site have all of this section in one place: values,
+ * examples/firmware/pages.c and its folder site have most of this section in one place: values,
  * buttons, a form, a token, a live page.
  *
  * A file whose name ends in .shtml may contain directives. A directive reaches from %! to the end
@@ -770,7 +772,7 @@ UIP_INLINE unsigned uip_tick_frames(uip_device *device, unsigned char *frame, si
  *
  *     is harmless at any time (lamp on)                 a link to a file of its own, and uip_hits
  *     needs a click (set the level to 5)                a link or a form with a query, and uip_query
- *     must happen once, or now (next step, open gate)   the same with a token: ONCE at uip_query
+ *     must happen once, or not late (step, open gate) the same with a token: ONCE at uip_query
  *
  * A restored page also sets an old level again: if that matters, take a token there, too.
  *
@@ -897,8 +899,8 @@ uip_number uip_hits(uip_device *device, const void *name, size_t len);
  *     <a href="/restart.shtml" onclick="this.search = 'd=' + Date.now() + '&n=%! value-html 6
  *     '">Restart</a>
  *
- * With a token of 16 digits `n` and `d` take 34 of the 64 bytes. Without `d` a browser may show the
- * stored reply to an old page, and not ask the device.
+ * With a token of 16 digits `n` and `d` take 34 of the 64 bytes. You may leave `d` out where a
+ * token is: then a browser may show the stored reply to an old page, and not ask the device.
  *
  * In the file, write the directive of the token above those of the state on which the action
  * depends, such as the alarm or the step. They are read in this order: if the state changes in
@@ -910,7 +912,7 @@ uip_number uip_hits(uip_device *device, const void *name, size_t len);
  *         new_token();                         // also once after opening
  *     }
  *     hits = uip_hits(&device, UIP_TEXT("/restart.shtml")).number;
- *     if (hits != seen) {                      // then it looks
+ *     if (hits != seen) {                      // only then: so the token of an older state is refused
  *         query = uip_query(&device, UIP_TEXT("/restart.shtml"), text, sizeof text);
  *         seen = hits;
  *         if (query.hit == hits && token_in(text, query.len, "n", token, token_len)) {
@@ -919,9 +921,9 @@ uip_number uip_hits(uip_device *device, const void *name, size_t len);
  *         }
  *     }
  *
- * If another task keeps the state, it sends {state, changes} by a queue, and act() sends it
- * {command, shown} by another, as the right token proves that the page showed that state. That task
- * does:
+ * If another task keeps the state, that task counts the changes, and sends {state, changes} by a
+ * queue. act() sends {command, shown} by another queue: the right token proves that the page showed
+ * this state. The task does:
  *
  *     if (command.shown == changes) {          // else the state is another by now: refuse
  *         do_it(command);
