@@ -772,7 +772,7 @@ UIP_INLINE unsigned uip_tick_frames(uip_device *device, unsigned char *frame, si
  *
  *     is harmless at any time (lamp on)                 a link to a file of its own, and uip_hits
  *     needs a click (set the level to 5)                a link or a form with a query, and uip_query
- *     must happen once, or not late (step, open gate) the same with a token: ONCE at uip_query
+ *     must happen once, or not late (open the gate)     the same with a token: ONCE at uip_query
  *
  * A restored page also sets an old level again: if that matters, take a token there, too.
  *
