@@ -40,8 +40,9 @@
  *               On a serial line add a ring for received bytes: 512 for a trial, 6,400 to 8,192
  *               with step.c, and up to 16,384 with a circular DMA (section 7). RAM has one stack
  *               (M4: 2,064, with datagrams 1,920, on Ethernet 5,392). Under an RTOS it is the main
- *               stack, which opens; add that of the task: on an M4 1,968, on Ethernet 1,872, with
- *               your own functions and its context. "Targets" in the guide has all targets.
+ *               stack, which opens; add that of the task: on an M4 1,968 (on Ethernet 1,872), plus
+ *               your own functions, plus its context (FreeRTOS: some 80 bytes, with FPU 216).
+ *               "Targets" in the guide has all targets.
  *
  *   Leaves out  UDP, IPv6, DHCP, TLS, passwords, POST, and connections that the node opens.
  *
@@ -231,10 +232,10 @@ typedef char uip_needs_unsigned_of_32_bits[sizeof(unsigned) == 4 ? 1 : -1];
  *                     libuip_c_ether.a       6,656           5,616      3,568           2,288
  *                 Those of x86-64 and WebAssembly are not known. A sink runs after the library has
  *                 returned, so its stack does not add to that of the library. On Ethernet under an
- *                 RTOS open before the scheduler starts: then only the main stack needs 5,616 bytes
- *                 (raise it in your linker script), and the task 2,288. With libuip_c.a open
- *                 anywhere. A task that makes only uip_set_value, uip_hits, uip_query, uip_ticks or
- *                 uip_counter needs 296.
+ *                 RTOS open before the scheduler starts: then only the main stack needs 5,616
+ *                 bytes, plus `main` and your interrupts (raise it in your linker script), and the
+ *                 task 2,288. With libuip_c.a open anywhere. A task that makes only uip_set_value,
+ *                 uip_hits, uip_query, uip_ticks or uip_counter needs 296.
  *
  * 10 PROCESSOR    The stack is aligned as the ABI demands. In addition:
  *                     m4, m7, m33    CCR.UNALIGN_TRP is 0, as after reset. All memory that the
@@ -906,10 +907,11 @@ uip_number uip_hits(uip_device *device, const void *name, size_t len);
  * depends, such as the alarm or the step. They are read in this order: if the state changes in
  * between, the page has an old token, which is refused. In each pass your program does this:
  *
- *     if (changes != shown) {                  // `changes` counts the changes of the state
- *         shown = changes;
+ *     set_measured_values();                   // these change no token
+ *     if (changes != shown || is_new) {        // `changes` counts the changes of the state; `is_new` is 1
+ *         shown = changes;                     // once after opening
  *         set_state_values();
- *         new_token();                         // also once after opening
+ *         new_token();
  *     }
  *     hits = uip_hits(&device, UIP_TEXT("/restart.shtml")).number;
  *     if (hits != seen) {                      // only then: so the token of an older state is refused
@@ -921,13 +923,14 @@ uip_number uip_hits(uip_device *device, const void *name, size_t len);
  *         }
  *     }
  *
- * If another task keeps the state, that task counts the changes, and sends {state, changes} by a
- * queue. act() sends {command, shown} by another queue: the right token proves that the page showed
- * this state. The task does:
+ * If another task keeps the state, that task counts the changes in `own_changes`, and sends {state,
+ * own_changes} by a queue: `changes` is what came last. act() sends {command, shown} by another
+ * queue, as the right token proves that the page showed this state. The reply can say only "sent".
+ * The task does:
  *
- *     if (command.shown == changes) {          // else the state is another by now: refuse
+ *     if (command.shown == own_changes) {      // else the state is another by now: refuse
  *         do_it(command);
- *         changes++;
+ *         own_changes++;
  *     }
  *
  * A page that polls gets the token with the state, and a script puts it into the form: live.html in
