@@ -861,8 +861,9 @@ uip_number uip_hits(uip_device *device, const void *name, size_t len);
  *   name, len    the name of the file, with its slash
  *   out, room    where the text goes, without a 0 at its end; `room` is UIP_MAX_QUERY or more
  *
- *   Result    `hit` and `len` (section 5); both are 0 if the last query was for another file, or
- *             there is none
+ *   Result    `hit` and `len` (section 5); both are 0 if the last query that was kept is of another
+ *             file, or none was kept. A request without a query leaves the one before it: so
+ *             compare `hit`, not `len`
  *   Status    UIP_BAD_ARGUMENT; UIP_NO_DEVICE; UIP_OK
  *
  * If the count of the file has risen, and `hit` is equal to it, that request brought the query. For
@@ -914,7 +915,7 @@ uip_number uip_hits(uip_device *device, const void *name, size_t len);
  *         new_token();
  *     }
  *     hits = uip_hits(&device, UIP_TEXT("/restart.shtml")).number;
- *     if (hits != seen) {                      // only then: so the token of an older state is refused
+ *     if (hits != seen) {                      // after that block: so an older token is refused
  *         query = uip_query(&device, UIP_TEXT("/restart.shtml"), text, sizeof text);
  *         seen = hits;
  *         if (query.hit == hits && token_in(text, query.len, "n", token, token_len)) {
@@ -925,7 +926,7 @@ uip_number uip_hits(uip_device *device, const void *name, size_t len);
  *
  * If another task keeps the state, that task counts the changes in `own_changes`, and sends {state,
  * own_changes} by a queue: `changes` is what came last. act() sends {command, shown} by another
- * queue, as the right token proves that the page showed this state. The reply can say only "sent".
+ * queue, as the right token proves that the page showed this state. The reply can show only "sent".
  * The task does:
  *
  *     if (command.shown == own_changes) {      // else the state is another by now: refuse
