@@ -234,8 +234,9 @@ typedef char uip_needs_unsigned_of_32_bits[sizeof(unsigned) == 4 ? 1 : -1];
  *                 returned, so its stack does not add to that of the library. On Ethernet under an
  *                 RTOS open before the scheduler starts: then only the main stack needs 5,616
  *                 bytes, plus `main` and your interrupts (raise it in your linker script), and the
- *                 task 2,288. With libuip_c.a open anywhere. A task that makes only uip_set_value,
- *                 uip_hits, uip_query, uip_ticks or uip_counter needs 296.
+ *                 task 2,288. With libuip_c.a you may open in `main` or in the task. A task that
+ *                 makes only uip_set_value, uip_hits, uip_query, uip_ticks or uip_counter needs
+ *                 296.
  *
  * 10 PROCESSOR    The stack is aligned as the ABI demands. In addition:
  *                     m4, m7, m33    CCR.UNALIGN_TRP is 0, as after reset. All memory that the
@@ -506,9 +507,10 @@ unsigned uip_close(uip_device *device);
  *
  * If a clock of milliseconds ends the sleep anyway, half_a_second_passed may be
  * tick_is_due_at(milliseconds()). Under an RTOS interrupts_off and interrupts_on are empty, and wfi
- * waits for a semaphore, which each interrupt gives, but at most some 100 ms: rtos_serial.c.
- * sleep.c is a program for a battery. It stops its timer while the node needs no ticks, so it suits
- * a device that has nothing else to do then: take all of it but `work` and main. step.h has more.
+ * waits for a semaphore, which each interrupt gives, but at most some 100 ms: rtos_serial.c. Make
+ * the semaphore before those interrupts are on. sleep.c is a program for a battery. It stops its
+ * timer while the node needs no ticks, so it suits a device that has nothing else to do then: take
+ * all of it but `work` and main. step.h has more.
  *
  * THE RING. Between two feeds step.c sends at most two frames of 3,002 bytes, in 24 pieces. A gap
  * is the time between two pieces: `work` runs, half_a_second_passed, and one call; under an RTOS

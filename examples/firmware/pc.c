@@ -133,6 +133,7 @@ void interrupt_received(void);
 void interrupt_sent(void);
 
 static sem_t semaphore;
+void make_semaphore(void) { sem_init(&semaphore, 0, 0); }
 #ifndef PC_DMA
 static void on_received(void) { interrupt_received(); }
 #endif
@@ -222,8 +223,6 @@ static void begin(void *work(void *)) {
 void board_start(void) {
 #ifdef PC_SLEEP
     begin(timer);
-#else
-    sem_init(&semaphore, 0, 0);
 #endif
     begin(receiver);
     begin(sender);

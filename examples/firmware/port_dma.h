@@ -15,7 +15,8 @@
 #endif
 
 extern unsigned char dma_ring[RING];           /* the DMA writes it. On a core with a data cache it is not cached */
-void on_dma(int is_end);                       /* the interrupts of the receiver; `is_end` at the end of the ring, else 0 */
+void on_dma(int is_end);                       /* the interrupts of the receiver; `is_end` at the end of the ring, else 0. They and
+                                                  on_sent may preempt one another: a lost count of `events` does no harm */
 unsigned dma_place(void);                      /* yours: where the DMA writes next, 0 to RING - 1 (on an STM32 RING - NDTR) */
 
 #endif

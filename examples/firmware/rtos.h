@@ -11,7 +11,8 @@ void count_seconds(void *);
 void start_tasks(void (*first)(void *), void (*second)(void *));    /* creates both tasks, and starts the scheduler */
 void sleep_one_second(void);
 
-/* rtos_serial.c: a binary semaphore, or the notification of the task `network` */
+/* rtos_serial.c: a binary semaphore */
+void make_semaphore(void);             /* before the interrupts of the port are on, which give it */
 void take_for_100_ms(void);            /* waits until it is given, at most 100 ms */
 void give(void);
 void give_from_interrupt(void);

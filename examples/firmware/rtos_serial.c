@@ -72,6 +72,7 @@ int main(void) {
     static const unsigned char own[4] = {10, 0, 0, 1};
     uip_opened opened = uip_open(&device, site_image, SITE_IMAGE_LEN, own);
     if (opened.status != UIP_OK) fail(opened.status, opened.entry, opened.word);
+    make_semaphore();
     board_start();
     pages_start();
     uip_set_value(&device, 7, UIP_TEXT("0"));
