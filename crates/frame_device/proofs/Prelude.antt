@@ -6,7 +6,7 @@ pub use Rattle.frame_device.specs.Prelude.{AllHandOut, AllHome, AnsweredFrame, A
 pub use Rattle.frame_device.specs.declared.device.FrameDevice.{FrameDevice}
 pub use Rattle.frame_device.specs.declared.network.Network.{Network}
 pub use Rattle.line_medium.specs.Prelude.{Datagram, MediumInput, MediumSpec, Overlong, Own, acts_among, all_said}
-pub use Rattle.line_promise.specs.Prelude.{events_among, text_in}
+pub use Rattle.line_laws.specs.Prelude.{events_among, text_in}
 pub use Rattle.node_laws.proofs.EveryTraceConforms.{every_step, paged_everywhere}
 pub use Rattle.node_laws.proofs.TurnRuns.{turn_events}
 pub use Rattle.node_laws.specs.Prelude.{HasOutputModel, IsOfLine, IsDecoded, OutputModel, TraceConforms, TraceEntry, at_every_port, of_bytes, of_call, of_overlong, trace_of, Account, AccountHolds, Exchange, IncarnationConforms, IsExtendedBy, TextConforms, exchange, exchanges_onto, exchanges_with, is_empty, is_incarnation, is_opening}

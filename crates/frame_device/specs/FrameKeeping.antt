@@ -5,7 +5,7 @@ use Rattle.app_events.specs.Prelude.{IsByte, IsU32}
 use Rattle.uip_wire.specs.declared.addr.Addr.{Addr}
 use Rattle.node_laws.specs.Prelude.{OutputModel, TraceConforms, TraceEntry, IsDecoded}
 use Rattle.serve_loop.specs.Prelude.{StationEvent, OfMedium, OfNode}
-use Rattle.line_promise.specs.Prelude.{events_among, text_in}
+use Rattle.line_laws.specs.Prelude.{events_among, text_in}
 use Rattle.frame_device.specs.FrameCalls.{AnsweredFrame, FrameMove, Gives, InputsFrame, Makes, Writing, station_events_of_move}
 use Rattle.frame_device.specs.FrameSpecs.{FrameSpec, as_medium}
 

@@ -91,7 +91,7 @@ pub use Rattle.std.specs.Prelude.{IfSome, IsSomeAnd, MatchResult, OnErr, OnOk, c
 pub use Rattle.std.specs.Str.{bytes_eq}
 pub use Rattle.std.specs.Vec.{with_items}
 pub use Rattle.tcp_machine.specs.Prelude.{ConnRepresents, Connection, Outcome, Sockets, accept, accepted, after_own_fin, asked, asked_for, by_beat, by_state, closed, closes, does_as_wanted, first_mss, grows_older, has_text, hears, in_state, is_acked, is_again, is_live, is_out_of_order, is_plain_syn, limit_of, on_tick, outstanding, peer_has_closed, prepared, reset_for_no_connection, rests, rows_from, same_sockets, segment_of, serves, takes, tick_by, told_end, with_part, with_window}
-pub use Rattle.text_room.specs.Prelude.{word_if}
+pub use Rattle.text_buffer.specs.Prelude.{word_if}
 pub use Rattle.uip_edge.proofs.Told.{Appends-none, Appends-then, appends_by, on_err, prefix_by, prefix_more, prefix_then}
 pub use Rattle.uip_edge.specs.Prelude.{AppendsPrefix, Files, SinkView, WorkUnfailed, WorkView, WritesAll, WritesEnd, sink_view, work_view}
 pub use Rattle.uip_node.proofs.Basics.{and_true, append_nothing, both_ways, choose, eqb-eq, get_push, ltb-zero, not-true, prefix_length, wrap_wrap}

@@ -2,7 +2,7 @@
 use Rattle.std.specs.Option.{option_map_or}
 use Rattle.std.specs.Prelude.{ℕ, ◌+◌, Bool, List, [], ◌∷◌, ◌++◌, length, map, Option, codes, decimal}
 use Rattle.hex.specs.Hex.{encode_lower}
-use Rattle.text_room.specs.Prelude.{word_if}
+use Rattle.text_buffer.specs.Prelude.{word_if}
 use Rattle.tcp_segment.specs.Prelude.{PlainSegment, flag_letters}
 use Rattle.uip_node.specs.Prelude.{ticks_of}
 use Rattle.link_client.specs.declared.client_state.ClientState.{ClientState}

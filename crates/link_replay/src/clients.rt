@@ -2,7 +2,7 @@
 
 ghost use Rattle.std.specs.Prelude.{map};
 ghost use Rattle.uip_edge.specs.Prelude.{HasCause};
-ghost use Rattle.text_room.specs.Prelude.{word_if};
+ghost use Rattle.text_buffer.specs.Prelude.{word_if};
 ghost use Rattle.link_replay.specs.Prelude.{lines_of_client, numbered_texts, text_line, code_side_shown, Wrote};
 
 use crate::client_lines::client_line;

@@ -3,7 +3,7 @@
 ghost use Rattle.std.specs.Prelude.{OnOk, true};
 ghost use Rattle.uip_edge.specs.Prelude.{HasCause};
 ghost use Rattle.link_replay.specs.Prelude.{OfDatagram, OfLink, link_of, line_of_datagram, numbered_texts, AppendsShown, Wrote};
-ghost use Rattle.text_room.specs.Prelude.{word_if};
+ghost use Rattle.text_buffer.specs.Prelude.{word_if};
 
 use crate::datagram_line::datagram_line;
 use crate::kinds::kind_of;

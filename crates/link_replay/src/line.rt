@@ -1,6 +1,6 @@
 //! Lines of text, complete before they are written.
 
-use text_room::Text;
+use text_buffer::Text;
 
 /// The greatest length of a line, in bytes.
 const LONGEST_LINE: usize = 256;

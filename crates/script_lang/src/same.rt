@@ -19,7 +19,7 @@ fn four_at(text: &[u8], at: usize) -> u32
 /// Returns whether the four bytes from one offset on are those of the other text from its offset on.
 #[inline(always)]
 fn same_four(text: &[u8], at: usize, other: &[u8], from: usize) -> bool
-    requires text_room { at + 4 ≤ length text.now }
+    requires text_fits { at + 4 ≤ length text.now }
     requires other_room { from + 4 ≤ length other.now }
     ensures { Decides result ((k : ℕ) → k < 4 → slice_index text.now (at + k) ≡ slice_index other.now (from + k)) }
 {

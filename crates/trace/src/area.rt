@@ -1,6 +1,6 @@
 //! The buffer in which a line or a record is made.
 
-use text_room::Text;
+use text_buffer::Text;
 use uip_wire::LARGEST_DATAGRAM;
 
 /// The greatest length of a record in bytes: its four numbers, and the longest datagram. A line of a dump is far shorter.

@@ -10,7 +10,7 @@ ghost use Rattle.udp_resolver.specs.Steps.{lines_by};
 
 use crate::fate::Fate;
 use dns_message::{Answer, LONGEST_NAME, Name};
-use text_room::Text;
+use text_buffer::Text;
 use uip_edge::{Failed, Sink};
 
 /// The most bytes of a fate: those of an address.

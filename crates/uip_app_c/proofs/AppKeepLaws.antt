@@ -1,7 +1,7 @@
 -- Calls on a handle, one after the other, keep the promise.
 use Rattle.uip_app_c.proofs.Prelude.{◌≡◌, ◌∙◌, ℕ, ◌+◌, ◌<◌, Bool, if◌then◌else◌, List, [], ◌∷◌, ◌++◌, length, refl, sym, ap, subst, arith, IsPrefixOf, Snapshot, Act, Mac, CallsSlot, DoesNothing, FrameCall, FrameSpec, InputsFrame, IsFrameOfBytes, Makes, acts_before, ether_brings_bytes, interface_at, station_events_by, Network, DidInTurn, program_calls, IsOfLine, call_few, each_by, each_with, events_of_call, program_goes_home, node_of_call, periodic_events, program_conforms, is_own_port, messages_text, no_message, numbers_of, own_output_model, own_spec, HasCaptured, next_message, with_change, Station, All, IsAddr, is_for_closed_port, AnsweredCall, AppCall, AppCallsConform, AppTraceConforms, Calls, Captures, CouldWrite, IsCallOfBytes, Kept, Listens, OfEachCall, OpensOwn, Writes, app_program, call_at, change_by, connection_after, first_station, link_of, ports_after_call, station_after_call, station_after_calls, text_in_call, undropped, choose, AbstractNode, Event, Periodic, connection_in, run, Addr}
 use Rattle.std.proofs.lemmas.List.{length-map}
-use Rattle.line_promise.specs.Prelude.{events_among}
+use Rattle.line_laws.specs.Prelude.{events_among}
 use Rattle.frame_device.specs.Newest.{NewestConforms}
 use Rattle.node_laws.specs.Prelude.{Exchange}
 use Rattle.frame_device.proofs.Newest.{newest_text}

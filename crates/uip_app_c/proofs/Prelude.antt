@@ -8,7 +8,7 @@ pub use Rattle.frame_device.specs.Prelude.{CallsSlot, DoesNothing, FrameCall, In
 pub use Rattle.frame_device.specs.ProgramCalls.{DidInTurn, program_calls, before_program_call, program_frame}
 pub use Rattle.frame_device.specs.declared.ether.Ethernet.{Ethernet}
 pub use Rattle.frame_device.specs.declared.network.Network.{Network}
-pub use Rattle.loose_box.proofs.Moving.{Opened, opens_well, HeapRow, makes_null_well, gives_parts_well, takes_parts_well}
+pub use Rattle.raw_box.proofs.Moving.{Opened, opens_well, HeapRow, makes_null_well, gives_parts_well, takes_parts_well}
 pub use Rattle.own_app.specs.Prelude.{PlainMessage, is_own_port, own_spec, with_port, with_written, messages_text, no_message, numbers_of, own_output_model, is_open_port}
 pub use Rattle.own_node.specs.Prelude.{is_for_closed_port, HasCaptured, next_message, with_change, AreAtOpenPorts}
 pub use Rattle.serve_loop.specs.Prelude.{Station}

@@ -5,7 +5,7 @@ ghost use Rattle.std.specs.Option.{is_some};
 ghost use Rattle.std.specs.declared.option.Option.TheVariants.{None, Some};
 
 use crate::held::{Held, OwnEther};
-use loose_box::BoxParts;
+use raw_box::BoxParts;
 use std::alloc::Global;
 use std::mem::replace;
 

@@ -4,8 +4,8 @@ ghost use Rattle.std.specs.declared.option.Option.TheVariants.{None, Some};
 ghost use Rattle.uip_app_c.specs.Kept.{Kept as AnyKept};
 
 use frame_device::{Ethernet, FrameDevice};
-use loose_box::BoxParts;
 use own_app::OwnApp;
+use raw_box::BoxParts;
 use std::alloc::Global;
 use std::marker::Model;
 use std::ptr::null_mut;

@@ -2,7 +2,7 @@
 use Rattle.uip_both_c.proofs.Prelude.{All, ◌≡◌, ◌∙◌, ℕ, ◌+◌, ◌<◌, Bool, true, false, if◌then◌else◌, List, [], ◌∷◌, ◌++◌, length, map, sym, ap, subst, arith, length-map, AppSpec, IsAddr, IsPrefixOf, IsU32, Snapshot, others_stay, own_u32, pair_u32, second_back, with_own_u32, change_own, own_numbers, Act, Mac, files_of, words, words_bytes, words_short, CallsSlot, DoesNothing, FrameCall, FrameSpec, InputsFrame, IsFrameOfBytes, Makes, acts_before, ether_brings_bytes, interface_at, station_events_by, Network, DidInTurn, program_calls, IsOfLine, at_end, call_few, each_by, each_with, events_of_call, program_goes_home, node_of_call, periodic_events, program_conforms, PlainMessage, is_own_port, messages_text, no_message, numbers_of, own_output_model, own_spec, write_message, HasCaptured, next_message_at, own_connection, with_change, Station, File, AnsweredCall, BothCall, BothCallsConform, BothTraceConforms, Calls, Captures, CouldWrite, Gives, IsCallOfBytes, Kept, Listens, OfEachCall, OpensBoth, Writes, both_model, both_program, both_spec, call_at, change_by, connection_after, first_both_numbers, first_station, is_both_port, is_dropped, link_of, own_in, ports_after_call, station_after_call, station_after_calls, text_in_call, undropped, choose, first_numbers, value_pages, value_spec, write_value, first_words, written_words, AbstractNode, Event, Periodic, connection_in, run, Addr}
 use Rattle.std.proofs.lemmas.List.Elements.{All-cons, All-head, All-nil, All-tail}
 use Rattle.app_pair.specs.PairSpec.{CanBePaired, own_snapshot}
-use Rattle.line_promise.specs.Prelude.{events_among}
+use Rattle.line_laws.specs.Prelude.{events_among}
 use Rattle.frame_device.specs.Newest.{NewestConforms}
 use Rattle.node_laws.specs.Prelude.{Exchange, OutputModel, TextConforms, at_every_port}
 use Rattle.node_laws.proofs.EveryTraceConforms.{paged_everywhere}

@@ -17,7 +17,7 @@ pub use Rattle.frame_device.specs.declared.ether.Ethernet.{Ethernet}
 pub use Rattle.frame_device.specs.declared.network.Network.{Network}
 pub use Rattle.httpd.proofs.Finding.{found_place}
 pub use Rattle.httpd.specs.Web.{WebContent}
-pub use Rattle.loose_box.proofs.Moving.{Opened, opens_well, HeapRow, makes_null_well, gives_parts_well, takes_parts_well}
+pub use Rattle.raw_box.proofs.Moving.{Opened, opens_well, HeapRow, makes_null_well, gives_parts_well, takes_parts_well}
 pub use Rattle.own_app.specs.Prelude.{with_port, write_message, PlainMessage, is_own_port, messages_text, no_message, numbers_of, own_output_model, own_spec, is_open_port, message_of}
 pub use Rattle.own_app.specs.declared.shared.OwnShared.{OwnShared}
 pub use Rattle.own_node.specs.Prelude.{with_change, HasCaptured, next_message_at, own_connection, AreAtOpenPorts}

@@ -5,8 +5,8 @@ ghost use Rattle.uip_both_c.specs.Kept.{Kept as AnyKept};
 
 use app_pair::AppPair;
 use frame_device::{Ethernet, FrameDevice};
-use loose_box::BoxParts;
 use own_app::OwnApp;
+use raw_box::BoxParts;
 use std::alloc::Global;
 use std::marker::Model;
 use std::ptr::null_mut;

@@ -10,7 +10,7 @@ pub use Rattle.frame_device.proofs.KeepLaws.{keeps_frames}
 pub use Rattle.frame_device.proofs.MoveLaws.{device_stands, frames_exact, same_kept}
 pub use Rattle.frame_device.specs.Prelude.{AnsweredFrame, AnswersAllFrames, AnswersFrame, AnswersFrameMove, CallsSlot, ChangesNumbers, DoesNothing, FrameCall, FrameMove, FramesConform, Gives, InputsFrame, Interface, IsFrameOfBytes, IsFreshFrameDevice, Makes, ether_brings_bytes, ether_frames, frame_moves_of, handed_of, interface_at}
 pub use Rattle.frame_device.specs.declared.network.Network.{Network}
-pub use Rattle.loose_box.proofs.Moving.{Opened, opens_well, gives_parts_well, HeapRow, makes_null_well, takes_parts_well, PartsRow, converts_well, parts_opened}
+pub use Rattle.raw_box.proofs.Moving.{Opened, opens_well, gives_parts_well, HeapRow, makes_null_well, takes_parts_well, PartsRow, converts_well, parts_opened}
 pub use Rattle.node_laws.specs.Prelude.{at_every_port}
 pub use Rattle.serve_loop.specs.Prelude.{initial_station}
 pub use Rattle.site_image.specs.Prelude.{File}

@@ -8,7 +8,7 @@ ghost use Rattle.uip_c.specs.Taking.{IsSoundAny, TakesEther, TakesIdle, TakesLin
 
 use crate::held::{EtherWeb, Held};
 use c_calls::{NO_DEVICE, OUTPUT_PENDING, WRONG_LINK};
-use loose_box::BoxParts;
+use raw_box::BoxParts;
 use std::alloc::Global;
 use std::mem::replace;
 use uip_device::{ValuePages, WebDevice, set_node_value};

@@ -2,7 +2,7 @@ ghost use Rattle.std.specs.Prelude.{◌≡◌, true};
 ghost use Rattle.uip_c.specs.Kept.{Kept as AnyKept};
 
 use frame_device::{Ethernet, FrameDevice};
-use loose_box::BoxParts;
+use raw_box::BoxParts;
 use std::alloc::Global;
 use std::marker::Model;
 use std::ptr::null_mut;

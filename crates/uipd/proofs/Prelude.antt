@@ -8,7 +8,7 @@ pub use Rattle.ethernet_arp.specs.declared.mac.Mac.{Mac}
 pub use Rattle.file_tree.specs.Prelude.{FailsToOpen, FindsInFiles, IsLoaded, KindContent, LacksFile, SiteContent, files_of, site_read}
 pub use Rattle.file_tree.specs.declared.load_fault.LoadFault.{LoadFault}
 pub use Rattle.line_medium.specs.Prelude.{MediumSpec}
-pub use Rattle.line_promise.proofs.Lines.{every_line}
+pub use Rattle.line_laws.proofs.Lines.{every_line}
 pub use Rattle.link_replay.proofs.Undisturbed.{as_due}
 pub use Rattle.link_replay.specs.Prelude.{EndsWith, IsLoadText, IsReplayText, LacksEither, WroteDue}
 pub use Rattle.link_replay.specs.declared.replay_end.ReplayEnd.{ReplayEnd}

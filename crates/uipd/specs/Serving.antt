@@ -10,7 +10,7 @@ use Rattle.uip_edge.specs.declared.serve_end.ServeEnd.TheVariants.{WriteFault}
 use Rattle.uip_edge.specs.Prelude.{Consumes, LineView, EndsBy, WrittenBy}
 use Rattle.line_medium.specs.Prelude.{MediumSpec}
 use Rattle.serve_loop.specs.Prelude.{IsItem, station_events_of_line, slip_medium}
-use Rattle.line_promise.specs.Prelude.{LineConformsRead}
+use Rattle.line_laws.specs.Prelude.{LineConformsRead}
 use Rattle.ethernet_arp.specs.Prelude.{ether_medium}
 use Rattle.uipd.specs.declared.status.Status.{Status}
 use Rattle.uipd.specs.declared.status.Status.TheVariants.{NoMemory}

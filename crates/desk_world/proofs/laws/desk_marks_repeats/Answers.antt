@@ -1,5 +1,0 @@
-use Rattle.desk_world.proofs.DeskWorlds.{marks_repeats}
-use Rattle.desk_world.proofs.laws.desk_marks_repeats.Goals as goal
-
-pub returns : goal.returns
-returns c = marks_repeats

@@ -1,5 +1,0 @@
-use Rattle.desk_world.proofs.DeskWorlds.{one_segment}
-use Rattle.desk_world.proofs.laws.desk_one_segment.Goals as goal
-
-pub returns : goal.returns
-returns c = one_segment

@@ -1,5 +1,0 @@
-use Rattle.desk_world.proofs.DeskWorlds.{repeats_same_bytes}
-use Rattle.desk_world.proofs.laws.desk_repeats_same_bytes.Goals as goal
-
-pub returns : goal.returns
-returns c = repeats_same_bytes

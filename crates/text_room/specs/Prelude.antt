@@ -1,2 +1,0 @@
--- The names of the definitions of this crate that other files cite, passed on from one place. Declares nothing.
-pub use Rattle.text_room.specs.Words.{word_if}
