@@ -2,7 +2,8 @@
 use Rattle.std.specs.Prelude.{ℕ, Bool, true, List, [], codes, flat_map, take, if◌then◌else◌}
 use Rattle.std.specs.Str.{bytes_eq}
 use Rattle.script_lang.specs.Prelude.{Calling, function_named, length_at_most, takes_capture}
-use Rattle.generators.specs.Prelude.{Giving, Said, gives, uip_said, rows_in, counter_line, in_ten_places, row_text}
+use Rattle.generators.specs.Prelude.{ScriptFunctions, CallText, script_functions, uip_call_text, rows_in, counter_line, in_ten_places}
+use Rattle.generators.specs.Prelude.{row_text}
 use Rattle.device_values.specs.declared.spelling.Spelling.TheVariants.{Plain, Json, Html}
 use Rattle.device_values.specs.declared.word.Word.{Word}
 use Rattle.device_values.specs.declared.word.Word.TheVariants as word
@@ -33,13 +34,13 @@ abbrev pub word_calls : Calling Word
 word_calls = record { named = word_named; takes_capture = word_takes; length_at_most = word_at_most }
 
 -- The text of a value when its call is reached.
-abbrev pub word_said : Said Word
-word_said (word.Uip function) argument hits own now = uip_said function argument hits [] now
-word_said (word.Value spelling) argument hits own now = spelled spelling (value_named own argument)
+abbrev pub word_call_text : CallText Word
+word_call_text (word.Uip function) argument hits own now = uip_call_text function argument hits [] now
+word_call_text (word.Value spelling) argument hits own now = spelled spelling (value_named own argument)
 
 -- What the scripts of a device call.
-abbrev pub words : Giving Word
-words = gives word_calls word_said
+abbrev pub words : ScriptFunctions Word
+words = script_functions word_calls word_call_text
 
 -- [add: function] The arm of its record.
 abbrev pub record_text : ValueCapture → List ℕ

@@ -11,8 +11,8 @@ use crate::values::{Values, kept_value};
 use crate::word::Word;
 use app_events::Now;
 use generators::{
-    PackedRows, Record, counters_len, fill_counters, fill_number, fill_rows, number_len, pack_rows,
-    rows_len,
+    CallRecord, PackedRows, counters_len, fill_counters, fill_number, fill_rows, number_len,
+    pack_rows, rows_len,
 };
 use script_lang::Function;
 use uip_wire::copy_bytes;
@@ -66,15 +66,15 @@ fn fill_value(spelling: Spelling, kept: &Kept, at: usize, out: &mut [u8])
     copy_bytes(out, &text.as_slice()[at..end]);
 }
 
-impl Record for ValueCapture {
-    ghost use Rattle.device_values.specs.Words.{record_text, word_said};
+impl CallRecord for ValueCapture {
+    ghost use Rattle.device_values.specs.Words.{record_text, word_call_text};
     ghost use Rattle.device_values.specs.Lemmas.Laws.{words_short, words_bytes};
 
     type Function = Word;
 
     type Own = Values;
 
-    ghost output = { word_said };
+    ghost output = { word_call_text };
 
     ghost text = { record_text };
 

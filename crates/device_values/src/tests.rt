@@ -1,7 +1,7 @@
 use crate::{Spelling, ValueCapture, Values, Word};
 use app_events::{Now, RowList};
 use arrayvec::ArrayVec;
-use generators::Record;
+use generators::CallRecord;
 use script_lang::{Calls, Function};
 
 /// A snapshot with an empty history.

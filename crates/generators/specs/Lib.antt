@@ -3,6 +3,6 @@ pub mod Parts
 pub mod Short
 pub mod Text
 pub mod Packed
-pub mod Giving
+pub mod ScriptFunctions
 pub mod Lemmas
 pub mod Prelude

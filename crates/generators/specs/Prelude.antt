@@ -1,6 +1,6 @@
 -- The names of the definitions of this crate that other files cite, passed on from one place. Declares nothing.
 pub use Rattle.generators.specs.Captures.{capture_of}
-pub use Rattle.generators.specs.Giving.{AreBytes, AreShort, Giving, Said, gives, uip, uip_said}
+pub use Rattle.generators.specs.ScriptFunctions.{AreBytes, AreShort, ScriptFunctions, CallText, script_functions, uip, uip_call_text}
 pub use Rattle.generators.specs.Lemmas.Bytes.{capture_bytes, either_bytes, literal_bytes, texts_bytes}
 pub use Rattle.generators.specs.Lemmas.Lengths.{in_ten, line_long, one_digit, row_long, texts_short, three_digits, two_digits}
 pub use Rattle.generators.specs.Packed.{row_in, rows_in}

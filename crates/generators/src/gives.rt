@@ -1,6 +1,6 @@
 ghost use Rattle.std.specs.Prelude.{◌≡◌, ℕ, ◌+◌, ◌≤◌, List, [], length, take, drop};
 ghost use Rattle.app_events.specs.declared.now.Now.{Now as Snapshot};
-ghost use Rattle.generators.specs.Giving.{AreBytes, AreShort, gives};
+ghost use Rattle.generators.specs.ScriptFunctions.{AreBytes, AreShort, script_functions};
 
 use app_events::Now;
 use script_lang::Calls;
@@ -9,7 +9,7 @@ use script_lang::Calls;
 ///
 /// `output` is the text of a call: a function of its argument, the hits of the file that the argument names, the own state and
 /// the snapshot. A record is captured once, and its text depends on it alone.
-pub trait Record: Drop {
+pub trait CallRecord: Drop {
     /// The functions that a script can call.
     type Function: Calls;
 
@@ -49,7 +49,7 @@ pub trait Record: Drop {
         ensures { out.new ≡ take (length out.old) (drop at (text self.now)) };
 
     /// No text is longer than its function's greatest length.
-    ghost short: { AreShort (gives Self.Function.calling output) };
+    ghost short: { AreShort (script_functions Self.Function.calling output) };
 
     /// Each text is bytes.
     ghost bytes: { AreBytes output };

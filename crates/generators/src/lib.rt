@@ -17,7 +17,7 @@ mod uip;
 mod written;
 
 pub use capture::{Capture, take};
-pub use gives::Record;
+pub use gives::CallRecord;
 pub use laws::texts_are_short;
 pub use packed::pack_rows;
 pub use packed_rows::{PackedRow, PackedRows};

@@ -1,13 +1,13 @@
 use crate::capture::{Capture, take};
-use crate::gives::Record;
+use crate::gives::CallRecord;
 use crate::text::{fill_at, text_len};
 use app_events::Now;
 use script_lang::Function;
 
-impl Record for Capture {
+impl CallRecord for Capture {
     ghost use Rattle.std.specs.Prelude.{[]};
     ghost use Rattle.generators.specs.Text.{capture_text};
-    ghost use Rattle.generators.specs.Giving.{uip_said};
+    ghost use Rattle.generators.specs.ScriptFunctions.{uip_call_text};
     ghost use Rattle.generators.specs.Lemmas.Lengths.{texts_short};
     ghost use Rattle.generators.specs.Lemmas.Bytes.{texts_bytes};
 
@@ -15,7 +15,7 @@ impl Record for Capture {
 
     type Own = ();
 
-    ghost output = { uip_said };
+    ghost output = { uip_call_text };
 
     ghost text = { capture_text };
 

@@ -1,5 +1,5 @@
 -- The states of compact pages, after each call.
-use Rattle.httpd.proofs.Prelude.{◌≡◌, ◌≤◌, ℕ, Bool, true, false, List, [], ◌∷◌, ◌++◌, Option, length, take, refl, sym, ap, subst, arith, AppState, CanSay, IsRepresented, File, FileId, SiteContent, files_of, Giving, Line, wanted, NotYet, Refused, method_open, target_open, CompactPages, Heard, Stage, Thread, Head, CompactRepresent, HearsWord, pages_kept, word_stage, HearsTo, IsFileAsked, PagesRepresent, SaysNothing, Fits, IsFound, left_from, reply_by, left_text}
+use Rattle.httpd.proofs.Prelude.{◌≡◌, ◌≤◌, ℕ, Bool, true, false, List, [], ◌∷◌, ◌++◌, Option, length, take, refl, sym, ap, subst, arith, AppState, CanSay, IsRepresented, File, FileId, SiteContent, files_of, ScriptFunctions, Line, wanted, NotYet, Refused, method_open, target_open, CompactPages, Heard, Stage, Thread, Head, CompactRepresent, HearsWord, pages_kept, word_stage, HearsTo, IsFileAsked, PagesRepresent, SaysNothing, Fits, IsFound, left_from, reply_by, left_text}
 use Rattle.httpd.specs.declared.compact.CompactPages.TheVariants as compact
 use Rattle.httpd.specs.declared.stage.Stage.TheVariants as stage
 use Rattle.httpd.proofs.Standing.{can_say, means, reply_fits, reply_found, some_part}
@@ -11,7 +11,7 @@ pub heard_as : (d e : Heard) (l m : Line) (request : List ℕ) → d ≡ e → l
 heard_as d e l m request same_d same_l is = subst (λ x. HearsTo x l request) (sym same_d) (subst (λ x. HearsTo e x request) (sym same_l) is)
 
 -- while a word is received it is kept, and nothing was sent
-pub word_heard : {F R : Type 0} (g : Giving F) (text : R → List ℕ) (site : SiteContent) (p : AppState) (polls : ℕ) (target : Bool) (line : Line)
+pub word_heard : {F R : Type 0} (g : ScriptFunctions F) (text : R → List ℕ) (site : SiteContent) (p : AppState) (polls : ℕ) (target : Bool) (line : Line)
     → CompactRepresent g text (compact.Receiving polls target line) site p → HearsWord target line p.input × SaysNothing p
 word_heard g text site p polls true line s = s.stands
 word_heard g text site p polls false line s = s.stands
@@ -28,16 +28,16 @@ word_quiet false found e = cc
 still_nothing : (p : AppState) (piece : List ℕ) → SaysNothing p → SaysNothing (with_more p piece)
 still_nothing p piece none = record { snapshots = none.snapshots; acked = none.acked }
 
-pub enters_word : {F R : Type 0} (g : Giving F) (text : R → List ℕ) (site : SiteContent) (p : AppState) (piece : List ℕ) (target : Bool) (line : Line)
+pub enters_word : {F R : Type 0} (g : ScriptFunctions F) (text : R → List ℕ) (site : SiteContent) (p : AppState) (piece : List ℕ) (target : Bool) (line : Line)
     → SaysNothing p → HearsWord target line (p.input ++ piece) → CompactRepresent g text (compact.Receiving 0 target line) site (with_more p piece)
 enters_word g text site p piece true line quiet is = record { polls = refl; stands = (is, still_nothing p piece quiet) }
 enters_word g text site p piece false line quiet is = record { polls = refl; stands = (is, still_nothing p piece quiet) }
 
-pub enters_refused : {F R : Type 0} (g : Giving F) (text : R → List ℕ) (site : SiteContent) (p : AppState) (piece : List ℕ)
+pub enters_refused : {F R : Type 0} (g : ScriptFunctions F) (text : R → List ℕ) (site : SiteContent) (p : AppState) (piece : List ℕ)
     → SaysNothing p → wanted (p.input ++ piece) ≡ Refused → CompactRepresent g text (compact.Refused 0) site (with_more p piece)
 enters_refused g text site p piece quiet is = record { polls = refl; stands = (is, still_nothing p piece quiet) }
 
-pub enters_reply : {F R : Type 0} (g : Giving F) (text : R → List ℕ) (site : SiteContent) (p : AppState) (piece : List ℕ) (found : Option FileId) (none : R)
+pub enters_reply : {F R : Type 0} (g : ScriptFunctions F) (text : R → List ℕ) (site : SiteContent) (p : AppState) (piece : List ℕ) (found : Option FileId) (none : R)
     → SaysNothing p → IsFileAsked (files_of site) (wanted (p.input ++ piece)) found → CompactRepresent g text (compact.Replying 0 found (Head 0) none) site (with_more p piece)
 enters_reply g text site p piece found none quiet is = record {
   polls = refl;
@@ -46,7 +46,7 @@ enters_reply g text site p piece found none quiet is = record {
 
 -- ---- while a reply is sent
 
-module _ {F R : Type 0} (g : Giving F) (text : R → List ℕ) (site : SiteContent) (a : CompactPages R) (polls : ℕ) (found : Option FileId) (thread : Thread) (capture : R) (e : a ≡ compact.Replying polls found thread capture) where
+module _ {F R : Type 0} (g : ScriptFunctions F) (text : R → List ℕ) (site : SiteContent) (a : CompactPages R) (polls : ℕ) (found : Option FileId) (thread : Thread) (capture : R) (e : a ≡ compact.Replying polls found thread capture) where
   pub sent_found : IsRepresented (CompactRepresent g text) a site → IsFound (files_of site) found
   sent_found has =
       reply_found g (λ made. made) (pages_kept text (compact.Replying polls found thread capture)) site found refl (subst (λ v. IsRepresented (CompactRepresent g text) v site) e has)

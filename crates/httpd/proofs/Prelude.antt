@@ -5,7 +5,7 @@ pub use Rattle.app_events.specs.declared.want.Want.TheVariants.{Abort, Close, No
 pub use Rattle.file_tree.proofs.NamedLemmas.{named-nowhere}
 pub use Rattle.file_tree.specs.Prelude.{AreApart, IsLoaded, SiteContent, files_of}
 pub use Rattle.file_tree.specs.declared.file_id.FileId.{FileId}
-pub use Rattle.generators.specs.Prelude.{Giving, capture_of, capture_text, gives, uip}
+pub use Rattle.generators.specs.Prelude.{ScriptFunctions, capture_of, capture_text, script_functions, uip}
 pub use Rattle.generators.specs.declared.capture.Capture.{Capture}
 pub use Rattle.generators.specs.declared.capture.Capture.TheVariants.{Empty}
 pub use Rattle.httpd.specs.Compact.{CompactRepresent, HearsWord, is_target_stage, pages_kept, word_stage}

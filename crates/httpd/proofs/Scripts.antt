@@ -28,11 +28,11 @@ body_place r at is = record { within = is.0; between = λ script opened. between
 pub inner_place : {F : Type 0} (r : FileReply F) (at : ℕ) → is_scripted r.file ≡ true → IsPlace (body r) at → IsInner r at
 inner_place r at script is = record { script = script; goes_on = body_place r at is }
 
-pub script_from : {F : Type 0} (r : FileReply F) (a : ℕ) → is_scripted r.file ≡ true → body_from r a ≡ map (λ found. says r.files (body r) found.piece) (pieces_by r.gives.calling.named (body r) a)
-script_from r a e = ap (λ b. if b then map (λ found. says r.files (body r) found.piece) (pieces_by r.gives.calling.named (body r) a) else Plain (drop a (body r)) ∷ []) e
+pub script_from : {F : Type 0} (r : FileReply F) (a : ℕ) → is_scripted r.file ≡ true → body_from r a ≡ map (λ found. says r.files (body r) found.piece) (pieces_by r.functions.function_table.named (body r) a)
+script_from r a e = ap (λ b. if b then map (λ found. says r.files (body r) found.piece) (pieces_by r.functions.function_table.named (body r) a) else Plain (drop a (body r)) ∷ []) e
 
 -- the first piece and the further ones
-pub script_step : {F : Type 0} (r : FileReply F) (at : ℕ) (found : FoundOf F) → is_scripted r.file ≡ true → pieces_by r.gives.calling.named (body r) at ≡ found ∷ pieces_by r.gives.calling.named (body r) found.next
+pub script_step : {F : Type 0} (r : FileReply F) (at : ℕ) (found : FoundOf F) → is_scripted r.file ≡ true → pieces_by r.functions.function_table.named (body r) at ≡ found ∷ pieces_by r.functions.function_table.named (body r) found.next
     → left_from r (Body at) ≡ says r.files (body r) found.piece ∷ body_from r found.next
 unfolding left_from
 script_step r at found script e =
@@ -40,7 +40,7 @@ script_step r at found script e =
     ∙ ap (λ ps. map (λ f. says r.files (body r) f.piece) ps) e
     ∙ ap (λ more. says r.files (body r) found.piece ∷ more) (sym (script_from r found.next script))
 
-pub script_end : {F : Type 0} (r : FileReply F) (at : ℕ) → is_scripted r.file ≡ true → pieces_by r.gives.calling.named (body r) at ≡ [] → left_from r (Body at) ≡ []
+pub script_end : {F : Type 0} (r : FileReply F) (at : ℕ) → is_scripted r.file ≡ true → pieces_by r.functions.function_table.named (body r) at ≡ [] → left_from r (Body at) ≡ []
 unfolding left_from
 script_end r at script e = script_from r at script ∙ ap (λ ps. map (λ f. says r.files (body r) f.piece) ps) e
 
@@ -109,7 +109,7 @@ run_further : {F : Type 0} (r : FileReply F) (at n : ℕ) → is_scripted r.file
 unfolding left_from Fits
 run_further r at n script short closed within inside =
     let there = run-inside (body r) at (at + n) closed (omega arith) inside within in
-    let rest = run-rest r.gives.calling.named (body r) at (at + n) closed (omega arith) inside within in
+    let rest = run-rest r.functions.function_table.named (body r) at (at + n) closed (omega arith) inside within in
     let high = run_short (body r) at within in
     record {
       fits = record { within = omega (arith, inside, high); between = λ t opened. absurd (true≢false (sym opened ∙ there.1)) };
@@ -121,14 +121,14 @@ run_further r at n script short closed within inside =
     }
 
 -- in a text run
-pub run_seen : {R F : Type 0} (text : R → List ℕ) (r : FileReply F) (at from len next : ℕ) (s : Span R F) → is_scripted r.file ≡ true → IsBodyPlace r at → length (body r) ≤ 16777216 → Reads r.gives.calling.named (body r) at (text_found from len next)
+pub run_seen : {R F : Type 0} (text : R → List ℕ) (r : FileReply F) (at from len next : ℕ) (s : Span R F) → is_scripted r.file ≡ true → IsBodyPlace r at → length (body r) ≤ 16777216 → Reads r.functions.function_table.named (body r) at (text_found from len next)
     → IsSpan text s (slice_range (body r) at (at + len)) → Sees text r (left_from r (Body at)) (record { span = s; here = Body at; next = Body next })
 unfolding left_from Fits
 run_seen {F = F} text r at from len next s script is short read span =
     let before : at < length (body r) = omega (arith, read.after, read.place.0) in
     let place : IsPlace (body r) at = is_place r at script is in
     let closed : is_inside_directive (body r) at ≡ false = closed_at (body r) at before place.1 in
-    let run : IsRun (body r) at from len next = run_of r.gives.calling.named (body r) at from len next (piece_read r.gives.calling.named (body r) at (text_found from len next) place before read.pieces) in
+    let run : IsRun (body r) at from len next = run_of r.functions.function_table.named (body r) at from len next (piece_read r.functions.function_table.named (body r) at (text_found from len next) place before read.pieces) in
     let more : List (Say F) = body_from r next in
     let prefix : slice_range (body r) at (at + len) ≡ slice_range (body r) from (from + len) = ap (λ a. slice_range (body r) a (a + len)) (sym run.from_is) in
     let end_is : at + len ≡ run_end (body r) at = omega (arith, run.len_is, run.next_is, read.after) in
@@ -165,14 +165,14 @@ text_at named script at from len next place read =
     (run_of named script at from len next (piece_read named script at (text_found from len next) place (omega (arith, read.after, read.place.0)) read.pieces)).from_is
 
 -- the first piece is an include, or a call
-pub include_step : {F : Type 0} (r : FileReply F) (at : ℕ) (script : List ℕ) (read : FoundOf F) (from len : ℕ) → script ≡ body r → is_scripted r.file ≡ true → Reads r.gives.calling.named (body r) at read → read.piece ≡ Include from len
+pub include_step : {F : Type 0} (r : FileReply F) (at : ℕ) (script : List ℕ) (read : FoundOf F) (from len : ℕ) → script ≡ body r → is_scripted r.file ≡ true → Reads r.functions.function_table.named (body r) at read → read.piece ≡ Include from len
     → Plain (bytes_or [] (file_named r.files (slice_range script from (from + len)))) ∷ body_from r read.next ≡ left_from r (Body at)
 include_step r at script read from len e scripted reads is =
     ap (λ s. Plain (bytes_or [] (file_named r.files (slice_range s from (from + len)))) ∷ body_from r read.next) e
     ∙ ap (λ p. says r.files (body r) p ∷ body_from r read.next) (sym is)
     ∙ sym (script_step r at read scripted reads.pieces)
 
-pub call_step : {F : Type 0} (r : FileReply F) (at : ℕ) (script : List ℕ) (read : FoundOf F) (f : F) (from len : ℕ) → script ≡ body r → is_scripted r.file ≡ true → Reads r.gives.calling.named (body r) at read → read.piece ≡ Call f from len
+pub call_step : {F : Type 0} (r : FileReply F) (at : ℕ) (script : List ℕ) (read : FoundOf F) (f : F) (from len : ℕ) → script ≡ body r → is_scripted r.file ≡ true → Reads r.functions.function_table.named (body r) at read → read.piece ≡ Call f from len
     → Made f (slice_range script from (from + len)) ∷ body_from r read.next ≡ left_from r (Body at)
 call_step r at script read f from len e scripted reads is =
     ap (λ s. Made f (slice_range s from (from + len)) ∷ body_from r read.next) e
@@ -207,14 +207,14 @@ ends_directive named script at read kind from len place reads other is =
       names = refl;
     }
 
-pub ends_include : {F : Type 0} (r : FileReply F) (at : ℕ) (script : List ℕ) (read : FoundOf F) (from len : ℕ) → script ≡ body r → is_scripted r.file ≡ true → IsBodyPlace r at → Reads r.gives.calling.named (body r) at read → read.piece ≡ Include from len
+pub ends_include : {F : Type 0} (r : FileReply F) (at : ℕ) (script : List ℕ) (read : FoundOf F) (from len : ℕ) → script ≡ body r → is_scripted r.file ≡ true → IsBodyPlace r at → Reads r.functions.function_table.named (body r) at read → read.piece ≡ Include from len
     → EndsInclude r read.next (slice_range script from (from + len))
 ends_include r at script read from len e scripted is reads piece =
     subst (λ s. EndsInclude r read.next (slice_range s from (from + len))) (sym e)
-    (ends_directive r.gives.calling.named (body r) at read (λ a n. Include a n) from len (is_place r at scripted is) reads (λ a n t. cc) piece)
+    (ends_directive r.functions.function_table.named (body r) at read (λ a n. Include a n) from len (is_place r at scripted is) reads (λ a n t. cc) piece)
 
-pub ends_call : {F : Type 0} (r : FileReply F) (at : ℕ) (script : List ℕ) (read : FoundOf F) (f : F) (from len : ℕ) → script ≡ body r → is_scripted r.file ≡ true → IsBodyPlace r at → Reads r.gives.calling.named (body r) at read → read.piece ≡ Call f from len
+pub ends_call : {F : Type 0} (r : FileReply F) (at : ℕ) (script : List ℕ) (read : FoundOf F) (f : F) (from len : ℕ) → script ≡ body r → is_scripted r.file ≡ true → IsBodyPlace r at → Reads r.functions.function_table.named (body r) at read → read.piece ≡ Call f from len
     → EndsCall r read.next f (slice_range script from (from + len))
 ends_call r at script read f from len e scripted is reads piece =
     subst (λ s. EndsCall r read.next f (slice_range s from (from + len))) (sym e)
-    (ends_directive r.gives.calling.named (body r) at read (λ a n. Call f a n) from len (is_place r at scripted is) reads (λ a n t. cc) piece)
+    (ends_directive r.functions.function_table.named (body r) at read (λ a n. Call f a n) from len (is_place r at scripted is) reads (λ a n t. cc) piece)

@@ -1,6 +1,6 @@
 -- The span of the first piece that is left.
 -- [add: piece] The first span of the piece.
-use Rattle.httpd.proofs.Prelude.{◌≡◌, ℕ, ◌+◌, ◌<◌, ◌≤◌, List, [], ◌∷◌, ◌++◌, length, take, drop, refl, sym, ap, ◌∙◌, arith, append_assoc, drop-append-le, drop-drop, length-take-le, take-append-drop, Giving, Say, Plain, text_by, reach_by, File, Span, Look, Thread, Head, Kind, Body, Inside, Making, End, FileReply, calls_in, left_from, Fits, moved, thread_place, KeepsDirective, KeepsAll, KeepsOn, Leads, IsInPiece, IsSpan, IsText, Sees, SeesBy, SeesText, SpanFits, span_text}
+use Rattle.httpd.proofs.Prelude.{◌≡◌, ℕ, ◌+◌, ◌<◌, ◌≤◌, List, [], ◌∷◌, ◌++◌, length, take, drop, refl, sym, ap, ◌∙◌, arith, append_assoc, drop-append-le, drop-drop, length-take-le, take-append-drop, ScriptFunctions, Say, Plain, text_by, reach_by, File, Span, Look, Thread, Head, Kind, Body, Inside, Making, End, FileReply, calls_in, left_from, Fits, moved, thread_place, KeepsDirective, KeepsAll, KeepsOn, Leads, IsInPiece, IsSpan, IsText, Sees, SeesBy, SeesText, SpanFits, span_text}
 use Rattle.httpd.specs.declared.span.Span.TheVariants as span
 
 pub span_along : {R F : Type 0} (text : R → List ℕ) (s : Span R F) (xs ys : List ℕ) → xs ≡ ys → IsSpan text s xs → IsSpan text s ys
@@ -16,7 +16,7 @@ sees_by text r pieces look span.End t sees = absurd t
 pub sees_text : {R F : Type 0} (text : R → List ℕ) (r : FileReply F) (pieces : List (Say F)) (look : Look R F) → IsText look.span → SpanFits text look.span → SeesText text r pieces look → Sees text r pieces look
 sees_text text r pieces look t fits sees = record { sees = sees_by text r pieces look look.span t sees; fits = fits }
 
-pub leads_first : {F : Type 0} (g : Giving F) (files : List File) (prefix : List ℕ) (more : List (Say F)) → Leads g files (Plain prefix ∷ more) prefix more
+pub leads_first : {F : Type 0} (g : ScriptFunctions F) (files : List File) (prefix : List ℕ) (more : List (Say F)) → Leads g files (Plain prefix ∷ more) prefix more
 leads_first g files prefix more = record { text = λ later. refl; whole = λ later. refl; calls = refl }
 
 -- a thread n bytes further generates the rest of the first piece
@@ -30,9 +30,9 @@ in_piece r prefix more here n h is = record {
   fits = is.fits;
   small = is.small;
   history = record {
-    text = λ later. ap (λ p. text_by r.gives r.files p later) is.pieces ∙ sym (drop-append-le n prefix (text_by r.gives r.files more later) h);
-    whole = λ later. ap (λ p. reach_by r.gives p later) is.pieces;
-    calls = ap (calls_in r.gives.calling) is.pieces;
+    text = λ later. ap (λ p. text_by r.functions r.files p later) is.pieces ∙ sym (drop-append-le n prefix (text_by r.functions r.files more later) h);
+    whole = λ later. ap (λ p. reach_by r.functions p later) is.pieces;
+    calls = ap (calls_in r.functions.function_table) is.pieces;
   };
 }
 
@@ -43,9 +43,9 @@ sees_first text r prefix more look is e next begins further =
     let fewer : length (left_from r look.next) ≡ length more = ap length e in
     sees_text text r (Plain prefix ∷ more) look is.plain is.fits (record {
       leads = record {
-        text = λ later. λ i. (sym is.text i) ++ text_by r.gives r.files (sym e i) later;
-        whole = λ later. λ i. reach_by r.gives (sym e i) later;
-        calls = ap (calls_in r.gives.calling) (sym e);
+        text = λ later. λ i. (sym is.text i) ++ text_by r.functions r.files (sym e i) later;
+        whole = λ later. λ i. reach_by r.functions (sym e i) later;
+        calls = ap (calls_in r.functions.function_table) (sym e);
       };
       no_more = omega (arith, fewer);
       fewer = λ none. omega (arith, fewer);
@@ -64,11 +64,11 @@ sees_prefix text r prefix more s here n some within is begins further =
     sees_text text r (Plain prefix ∷ more) (record { span = s; here = here; next = moved here n }) is.plain is.fits (record {
       leads = record {
         text = λ later.
-            ap (λ xs. xs ++ text_by r.gives r.files more later) (sym (take-append-drop n prefix))
-            ∙ append_assoc (take n prefix) (drop n prefix) (text_by r.gives r.files more later)
-            ∙ (λ i. (sym is.text i) ++ text_by r.gives r.files (sym there.pieces i) later);
-        whole = λ later. ap (λ p. reach_by r.gives p later) (sym there.pieces);
-        calls = ap (calls_in r.gives.calling) (sym there.pieces);
+            ap (λ xs. xs ++ text_by r.functions r.files more later) (sym (take-append-drop n prefix))
+            ∙ append_assoc (take n prefix) (drop n prefix) (text_by r.functions r.files more later)
+            ∙ (λ i. (sym is.text i) ++ text_by r.functions r.files (sym there.pieces i) later);
+        whole = λ later. ap (λ p. reach_by r.functions p later) (sym there.pieces);
+        calls = ap (calls_in r.functions.function_table) (sym there.pieces);
       };
       no_more = omega (arith, same);
       fewer = λ none. absurd (omega (arith, none, size, some));
@@ -99,15 +99,15 @@ end_seen text r pieces look none e = record {
 }
 
 -- a piece without text
-pub nothing_seen : {R F : Type 0} (text : R → List ℕ) (r : FileReply F) (piece : Say F) (more : List (Say F)) (look : Look R F) → IsSpan text look.span [] → left_from r look.next ≡ more → Fits r look.next → KeepsAll r look.next → Leads r.gives r.files (piece ∷ more) [] more → Sees text r (piece ∷ more) look
+pub nothing_seen : {R F : Type 0} (text : R → List ℕ) (r : FileReply F) (piece : Say F) (more : List (Say F)) (look : Look R F) → IsSpan text look.span [] → left_from r look.next ≡ more → Fits r look.next → KeepsAll r look.next → Leads r.functions r.files (piece ∷ more) [] more → Sees text r (piece ∷ more) look
 nothing_seen text r piece more look is e next begins leads =
     let size : length (span_text text look.span) ≡ 0 = ap length is.text in
     let fewer : length (left_from r look.next) ≡ length more = ap length e in
     sees_text text r (piece ∷ more) look is.plain is.fits (record {
       leads = record {
-        text = λ later. leads.text later ∙ (λ i. (sym is.text i) ++ text_by r.gives r.files (sym e i) later);
-        whole = λ later. leads.whole later ∙ ap (λ p. reach_by r.gives p later) (sym e);
-        calls = leads.calls ∙ ap (calls_in r.gives.calling) (sym e);
+        text = λ later. leads.text later ∙ (λ i. (sym is.text i) ++ text_by r.functions r.files (sym e i) later);
+        whole = λ later. leads.whole later ∙ ap (λ p. reach_by r.functions p later) (sym e);
+        calls = leads.calls ∙ ap (calls_in r.functions.function_table) (sym e);
       };
       no_more = omega (arith, fewer);
       fewer = λ none. omega (arith, fewer);

@@ -26,7 +26,7 @@ kind_seen text r at s h short is =
     (λ n. refl) refl (λ a. refl) (λ a k. k) refl (prefix_place r) (λ captures. tt)
 
 pub plain_from : {F : Type 0} (r : FileReply F) (a : ℕ) → is_scripted r.file ≡ false → body_from r a ≡ Plain (drop a (body r)) ∷ []
-plain_from r a e = ap (λ b. if b then Rattle.std.specs.Prelude.map (λ found. says r.files (body r) found.piece) (Rattle.script_lang.specs.Pieces.pieces_by r.gives.calling.named (body r) a) else Plain (drop a (body r)) ∷ []) e
+plain_from r a e = ap (λ b. if b then Rattle.std.specs.Prelude.map (λ found. says r.files (body r) found.piece) (Rattle.script_lang.specs.Pieces.pieces_by r.functions.function_table.named (body r) a) else Plain (drop a (body r)) ∷ []) e
 
 pub plain_seen : {R F : Type 0} (text : R → List ℕ) (r : FileReply F) (at : ℕ) (s : Span R F) → is_scripted r.file ≡ false → at ≤ length (body r) → length (body r) ≤ 16777216 → IsSpan text s (drop at (body r))
     → Sees text r (Plain (drop at (body r)) ∷ []) (record { span = s; here = Body at; next = End })

@@ -16,18 +16,18 @@ pub record Saying (r : FileReply Function) (thread : Thread) (first now : SinkVi
   pub told : Appends first.written now.written prefix
   pub same : now.faults ≡ first.faults
 
-pub saying_starts : (r : FileReply Function) → r.gives ≡ uip → (first : SinkView) → Saying r (Head 0) first first
+pub saying_starts : (r : FileReply Function) → r.functions ≡ uip → (first : SinkView) → Saying r (Head 0) first first
 unfolding zero_left
 saying_starts r e first = record {
   prefix = [];
-  parts = sym (ap (flat_map zero_said) (reply_start r.gives r.files r.file r.made ∙ ap (λ g. reply_to_by g.calling.named r.files r.file) e));
+  parts = sym (ap (flat_map zero_said) (reply_start r.functions r.files r.file r.made ∙ ap (λ g. reply_to_by g.function_table.named r.files r.file) e));
   fits = prefix_fits r;
   told = Appends-none first.written;
   same = refl;
 }
 
 -- the text that is seen comes first
-leads_zero : (r : FileReply Function) → r.gives ≡ uip → (thread : Thread) (look : Look Capture Function) → SeesText capture_text r (left_from r thread) look → zero_left r thread ≡ span_text capture_text look.span ++ zero_left r look.next
+leads_zero : (r : FileReply Function) → r.functions ≡ uip → (thread : Thread) (look : Look Capture Function) → SeesText capture_text r (left_from r thread) look → zero_left r thread ≡ span_text capture_text look.span ++ zero_left r look.next
 unfolding zero_left
 leads_zero r e thread look sees =
     let n = length (left_from r thread) in
@@ -38,7 +38,7 @@ leads_zero r e thread look sees =
     (ap (λ g. text_by g r.files (left_from r look.next) (replicate n zero_snapshot)) e ∙ zero_text r.files (left_from r look.next) n sees.no_more)
 
 -- a text more
-pub saying_more : {T : Type 0} (r : FileReply Function) → r.gives ≡ uip → (thread : Thread) (look : Look Capture Function) (first mid now : SinkView) (t : T) → Saying r thread first mid → SeesText capture_text r (left_from r thread) look
+pub saying_more : {T : Type 0} (r : FileReply Function) → r.functions ≡ uip → (thread : Thread) (look : Look Capture Function) (first mid now : SinkView) (t : T) → Saying r thread first mid → SeesText capture_text r (left_from r thread) look
     → Writes {T = T} {E = Failed} mid now (Ok t) (span_text capture_text look.span) → Saying r look.next first now
 saying_more r is_uip thread look first mid now t s sees w = record {
   prefix = s.prefix ++ span_text capture_text look.span;
@@ -49,7 +49,7 @@ saying_more r is_uip thread look first mid now t s sees w = record {
 }
 
 -- a text failed
-pub saying_stops : {T U : Type 0} (r : FileReply Function) → r.gives ≡ uip → (thread : Thread) (look : Look Capture Function) (first mid now : SinkView) (e : Failed) (result : Result U Failed) → IsErr result → Saying r thread first mid → SeesText capture_text r (left_from r thread) look
+pub saying_stops : {T U : Type 0} (r : FileReply Function) → r.functions ≡ uip → (thread : Thread) (look : Look Capture Function) (first mid now : SinkView) (e : Failed) (result : Result U Failed) → IsErr result → Saying r thread first mid → SeesText capture_text r (left_from r thread) look
     → Writes {T = T} {E = Failed} mid now (Err e) (span_text capture_text look.span) → Writes first now result (zero_reply r.files r.file)
 saying_stops {T = T} r is_uip thread look first mid now e result fails s sees w =
     writes_broken {U = T} result fails e first mid now s.prefix (span_text capture_text look.span) (zero_left r look.next) (zero_reply r.files r.file)
@@ -88,9 +88,9 @@ saying_ends r thread first now t s none =
 -- ---- each look brings fewer calls, fewer pieces or fewer bytes
 
 pub zero_size : FileReply Function → Thread → ℕ
-zero_size r t = calls_in r.gives.calling (left_from r t) + length (left_from r t) + length (zero_left r t)
+zero_size r t = calls_in r.functions.function_table (left_from r t) + length (left_from r t) + length (zero_left r t)
 
-pub smaller_text : (r : FileReply Function) → r.gives ≡ uip → (thread : Thread) (look : Look Capture Function) → SeesText capture_text r (left_from r thread) look → zero_size r look.next < zero_size r thread
+pub smaller_text : (r : FileReply Function) → r.functions ≡ uip → (thread : Thread) (look : Look Capture Function) → SeesText capture_text r (left_from r thread) look → zero_size r look.next < zero_size r thread
 unfolding zero_size
 smaller_text r is_uip thread look sees =
     let bytes = ap length (leads_zero r is_uip thread look sees) ∙ length-append (span_text capture_text look.span) (zero_left r look.next) in

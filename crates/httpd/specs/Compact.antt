@@ -2,7 +2,7 @@
 use Rattle.std.specs.Prelude.{ℕ, Bool, true, false, List, []}
 use Rattle.app_events.specs.Prelude.{AppState}
 use Rattle.file_tree.specs.Prelude.{SiteContent}
-use Rattle.generators.specs.Prelude.{Giving}
+use Rattle.generators.specs.Prelude.{ScriptFunctions}
 use Rattle.protosocket.specs.Prelude.{Line, delivered}
 use Rattle.protosocket.specs.declared.stops.Stops.TheVariants.{Space}
 use Rattle.httpd.specs.declared.compact.CompactPages.{CompactPages}
@@ -49,5 +49,5 @@ pages_kept text (compact.Replying polls found thread capture) =
 pages_kept text (compact.Refused polls) =
     record { stage = stage.Refused; line = delivered Space []; thread = Head 0; capture = []; polls = polls }
 
-abbrev pub CompactRepresent : {F R : Type 0} → Giving F → (R → List ℕ) → CompactPages R → SiteContent → AppState → Type 0
+abbrev pub CompactRepresent : {F R : Type 0} → ScriptFunctions F → (R → List ℕ) → CompactPages R → SiteContent → AppState → Type 0
 CompactRepresent g text a site part = PagesRepresent g (λ made. made) (pages_kept text a) site part

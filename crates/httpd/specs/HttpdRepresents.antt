@@ -6,7 +6,7 @@ use Rattle.file_tree.specs.declared.file_id.FileId.{FileId}
 use Rattle.file_tree.specs.Prelude.{SiteContent, files_of}
 use Rattle.site_image.specs.Prelude.{File, file_named}
 use Rattle.web_pages.specs.Prelude.{wanted, Refused, Name, Say, reply_pieces_by, reach_by, text_by, hits_by}
-use Rattle.generators.specs.Prelude.{Giving, uip, capture_text}
+use Rattle.generators.specs.Prelude.{ScriptFunctions, uip, capture_text}
 use Rattle.httpd.specs.declared.stage.Stage.{Stage}
 use Rattle.httpd.specs.declared.stage.Stage.TheVariants as stage
 use Rattle.httpd.specs.First.{Httpd}
@@ -19,21 +19,21 @@ use Rattle.httpd.specs.Hearing.{HearsMethod, HearsTarget}
 
 -- the pieces of the page of a name
 abbrev pub page_pieces : {F : Type 0} → FileReply F → List ℕ → List (Say F)
-page_pieces reply name = reply_pieces_by reply.gives.calling.named reply.files name
+page_pieces reply name = reply_pieces_by reply.functions.function_table.named reply.files name
 
 -- For any further snapshots: what the thread still sends with them is the page of the name after the acknowledged offset. It reaches the
 -- end if the page does. The reply has passed as many calls as there are snapshots.
 pub record IsLeft {F : Type 0} (reply : FileReply F) (thread : Thread) (name : List ℕ) (part : AppState) : Type 0 where
-  pub text : (later : List Snapshot) → text_by reply.gives reply.files (left_from reply thread) later
-      ≡ drop part.acked (text_by reply.gives reply.files (page_pieces reply name) (part.snapshots ++ later))
-  pub whole : (later : List Snapshot) → reach_by reply.gives (left_from reply thread) later
-      ≡ reach_by reply.gives (page_pieces reply name) (part.snapshots ++ later)
-  pub calls : length part.snapshots + calls_in reply.gives.calling (left_from reply thread)
-      ≡ calls_in reply.gives.calling (page_pieces reply name)
-  pub within : part.acked ≤ length (text_by reply.gives reply.files (page_pieces reply name) part.snapshots)
+  pub text : (later : List Snapshot) → text_by reply.functions reply.files (left_from reply thread) later
+      ≡ drop part.acked (text_by reply.functions reply.files (page_pieces reply name) (part.snapshots ++ later))
+  pub whole : (later : List Snapshot) → reach_by reply.functions (left_from reply thread) later
+      ≡ reach_by reply.functions (page_pieces reply name) (part.snapshots ++ later)
+  pub calls : length part.snapshots + calls_in reply.functions.function_table (left_from reply thread)
+      ≡ calls_in reply.functions.function_table (page_pieces reply name)
+  pub within : part.acked ≤ length (text_by reply.functions reply.files (page_pieces reply name) part.snapshots)
 
 -- A reply to a request for the name is being sent.
-pub record IsReplying {F R : Type 0} (g : Giving F) (text : R → List ℕ) (a : Pages R) (site : SiteContent)
+pub record IsReplying {F R : Type 0} (g : ScriptFunctions F) (text : R → List ℕ) (a : Pages R) (site : SiteContent)
     (name : List ℕ) (found : Option FileId) (part : AppState) : Type 0 where
   pub wanted : wanted part.input ≡ Name name
   pub there : IsFound (files_of site) found
@@ -48,13 +48,13 @@ pub record SaysNothing (part : AppState) : Type 0 where
   pub acked : part.acked ≡ 0
 
 -- The state by the stage of the request.
-abbrev pub StandsIn : {F R : Type 0} → Giving F → (R → List ℕ) → Pages R → SiteContent → AppState → Stage → Type 0
+abbrev pub StandsIn : {F R : Type 0} → ScriptFunctions F → (R → List ℕ) → Pages R → SiteContent → AppState → Stage → Type 0
 StandsIn g text a site part stage.Method = HearsMethod a.line part.input × SaysNothing part
 StandsIn g text a site part stage.Target = HearsTarget a.line part.input × SaysNothing part
 StandsIn g text a site part (stage.Reply found) = (name : List ℕ) × IsReplying g text a site name found part
 StandsIn g text a site part stage.Refused = (wanted part.input ≡ Refused) × SaysNothing part
 
-pub record PagesRepresent {F R : Type 0} (g : Giving F) (text : R → List ℕ) (a : Pages R)
+pub record PagesRepresent {F R : Type 0} (g : ScriptFunctions F) (text : R → List ℕ) (a : Pages R)
     (site : SiteContent) (part : AppState) : Type 0 where
   pub polls : a.polls ≡ part.polls
   pub stands : StandsIn g text a site part a.stage

@@ -23,11 +23,12 @@ pub record EndsDirective {F : Type 0} (named : List ℕ → F) (script : List �
 
 -- the directive that ends at `next` is an include of the name
 abbrev pub EndsInclude : {F : Type 0} → FileReply F → ℕ → List ℕ → Type 0
-EndsInclude reply next name = EndsDirective reply.gives.calling.named (body reply) next (λ at len. Include at len) name
+EndsInclude reply next name = EndsDirective reply.functions.function_table.named (body reply) next (λ at len. Include at len) name
 
 -- It is a call of the function with the argument.
 abbrev pub EndsCall : {F : Type 0} → FileReply F → ℕ → F → List ℕ → Type 0
-EndsCall reply next function argument = EndsDirective reply.gives.calling.named (body reply) next (λ at len. Call function at len) argument
+EndsCall reply next function argument = EndsDirective reply.functions.function_table.named (body reply) next
+    (λ at len. Call function at len) argument
 
 -- It is an include of the file.
 pub record Includes {F : Type 0} (reply : FileReply F) (next : ℕ) (file : FileId) : Type 0 where
@@ -42,9 +43,9 @@ pub record IsTaken {F : Type 0} (reply : FileReply F) (next : ℕ) (captures : L
   pub earlier : List Snapshot
   pub last : Snapshot
   pub directive : EndsCall reply next function argument
-  pub takes : reply.gives.calling.takes_capture function ≡ true
+  pub takes : reply.functions.function_table.takes_capture function ≡ true
   pub taken : captures ≡ earlier ++ last ∷ []
-  pub record_is : reply.made ≡ made_by reply.gives reply.files function argument last
+  pub record_is : reply.made ≡ made_by reply.functions reply.files function argument last
 
 -- What the thread keeps is right.
 abbrev pub KeepsDirective : {F : Type 0} → FileReply F → List Snapshot → Thread → Type 0

@@ -2,7 +2,7 @@
 -- [add: piece] What the function of the piece finds, as `SeesCall`.
 use Rattle.std.specs.Prelude.{◌≡◌, ◌≤◌, ◌<◌, ℕ, ◌+◌, ◌^◌, true, List, [], ◌∷◌, ◌++◌, length, drop, slice_range}
 use Rattle.app_events.specs.Prelude.{Snapshot}
-use Rattle.generators.specs.Prelude.{Giving}
+use Rattle.generators.specs.Prelude.{ScriptFunctions}
 use Rattle.site_image.specs.Prelude.{File}
 use Rattle.site_image.specs.declared.TheConstants.{LONGEST_IMAGE, LONGEST_KIND}
 use Rattle.web_pages.specs.Prelude.{Say, kind_line, Made, text_by, reach_by}
@@ -34,27 +34,27 @@ SpanFits text (span.Call function argument) = Unit {0}
 SpanFits text span.End = Unit {0}
 
 -- The pieces are the text first, and then the others, for any snapshots.
-pub record Leads {F : Type 0} (g : Giving F) (files : List File) (pieces : List (Say F)) (prefix : List ℕ)
+pub record Leads {F : Type 0} (g : ScriptFunctions F) (files : List File) (pieces : List (Say F)) (prefix : List ℕ)
     (others : List (Say F)) : Type 0 where
   pub text : (later : List Snapshot) → text_by g files pieces later ≡ prefix ++ text_by g files others later
   pub whole : (later : List Snapshot) → reach_by g pieces later ≡ reach_by g others later
-  pub calls : calls_in g.calling pieces ≡ calls_in g.calling others
+  pub calls : calls_in g.function_table pieces ≡ calls_in g.function_table others
 
 -- The others are the pieces after their first n bytes.
-pub record IsPast {F : Type 0} (g : Giving F) (files : List File) (n : ℕ) (pieces others : List (Say F)) : Type 0 where
+pub record IsPast {F : Type 0} (g : ScriptFunctions F) (files : List File) (n : ℕ) (pieces others : List (Say F)) : Type 0 where
   pub text : (later : List Snapshot) → text_by g files others later ≡ drop n (text_by g files pieces later)
   pub whole : (later : List Snapshot) → reach_by g others later ≡ reach_by g pieces later
-  pub calls : calls_in g.calling others ≡ calls_in g.calling pieces
+  pub calls : calls_in g.function_table others ≡ calls_in g.function_table pieces
 
 -- an offset n bytes further in the same piece
 pub record IsInPiece {F : Type 0} (reply : FileReply F) (pieces : List (Say F)) (here : Thread) (n : ℕ) : Type 0 where
   pub fits : Fits reply (moved here n)
   pub small : thread_place here + n < 2 ^ 31
-  pub history : IsPast reply.gives reply.files n pieces (left_from reply (moved here n))
+  pub history : IsPast reply.functions reply.files n pieces (left_from reply (moved here n))
 
 -- The first piece takes no snapshot. The span is its whole rest, or a prefix of a long one.
 pub record SeesText {R F : Type 0} (text : R → List ℕ) (reply : FileReply F) (pieces : List (Say F)) (look : Look R F) : Type 0 where
-  pub leads : Leads reply.gives reply.files pieces (span_text text look.span) (left_from reply look.next)
+  pub leads : Leads reply.functions reply.files pieces (span_text text look.span) (left_from reply look.next)
   pub no_more : length (left_from reply look.next) ≤ length pieces
   pub fewer : length (span_text text look.span) ≡ 0 → length (left_from reply look.next) < length pieces
   pub next : Fits reply look.next
@@ -65,7 +65,7 @@ pub record SeesText {R F : Type 0} (text : R → List ℕ) (reply : FileReply F)
 pub record IsCallBefore {F : Type 0} (reply : FileReply F) (pieces : List (Say F)) (function : F) (argument : List ℕ)
     (next : ℕ) : Type 0 where
   pub first : pieces ≡ Made function argument ∷ body_from reply next
-  pub takes : reply.gives.calling.takes_capture function ≡ true
+  pub takes : reply.functions.function_table.takes_capture function ≡ true
   pub inner : IsInner reply next
   pub directive : EndsCall reply next function argument
 

@@ -8,14 +8,14 @@ use Rattle.site_image.specs.Prelude.{is_script, File, file_named, kind_of}
 use Rattle.file_tree.specs.declared.file_id.FileId.{FileId}
 use Rattle.file_tree.specs.Prelude.{SiteContent, files_of}
 use Rattle.generators.specs.declared.capture.Capture.{Capture}
-use Rattle.generators.specs.Prelude.{Giving, uip, capture_text}
+use Rattle.generators.specs.Prelude.{ScriptFunctions, uip, capture_text}
 use Rattle.web_pages.specs.Prelude.{Say, bytes_or, found_head, kind_line, missing_head, says, Plain, Made}
 use Rattle.httpd.specs.declared.thread.Thread.{Thread}
 use Rattle.httpd.specs.declared.thread.Thread.TheVariants.{Head, Kind, Body, Inside, Making, End}
 
 -- The sources of a reply: the functions of its script, the files, the file found, and the text of the record of the current call.
 pub record FileReply (F : Type 0) : Type 0 where
-  pub gives : Giving F
+  pub functions : ScriptFunctions F
   pub files : List File
   pub file : Option File
   pub made : List ℕ
@@ -25,9 +25,9 @@ abbrev pub found_file : List File → Option FileId → Option File
 found_file files found = option_and_then (λ id. slice_get files id.0) found
 
 -- with the text of a record
-abbrev pub reply_by : {F R : Type 0} → Giving F → (R → List ℕ) → SiteContent → Option FileId → R → FileReply F
+abbrev pub reply_by : {F R : Type 0} → ScriptFunctions F → (R → List ℕ) → SiteContent → Option FileId → R → FileReply F
 reply_by g text site found capture =
-    record { gives = g; files = files_of site; file = found_file (files_of site) found; made = text capture }
+    record { functions = g; files = files_of site; file = found_file (files_of site) found; made = text capture }
 
 -- with the functions of uIP
 abbrev pub reply_in : SiteContent → Option FileId → Capture → FileReply Function
@@ -57,7 +57,7 @@ body reply = body_bytes reply.files reply.file
 abbrev pub body_from : {F : Type 0} → FileReply F → ℕ → List (Say F)
 body_from reply at =
     if is_scripted reply.file
-    then map (λ found. says reply.files (body reply) found.piece) (pieces_by reply.gives.calling.named (body reply) at)
+    then map (λ found. says reply.files (body reply) found.piece) (pieces_by reply.functions.function_table.named (body reply) at)
     else Plain (drop at (body reply)) ∷ []
 
 -- the bytes of an included file

@@ -11,11 +11,11 @@ use Rattle.httpd.specs.Looking.{IsPast, SeesCall}
 
 -- the rest of the text, as far as no further snapshot is needed
 abbrev pub left_text : {F : Type 0} → FileReply F → Thread → List ℕ
-left_text reply thread = text_by reply.gives reply.files (left_from reply thread) []
+left_text reply thread = text_by reply.functions reply.files (left_from reply thread) []
 
 -- whether it reaches the end of the page
 abbrev pub left_whole : {F : Type 0} → FileReply F → Thread → Bool
-left_whole reply thread = reach_by reply.gives (left_from reply thread) []
+left_whole reply thread = reach_by reply.functions (left_from reply thread) []
 
 -- the request that follows from both
 abbrev pub want_left : List ℕ → Bool → Want
@@ -31,5 +31,5 @@ IsNotDue reply thread = length (left_text reply thread) ≡ 0 → left_whole rep
 -- The rest is a call and then the rest of the script.
 pub record IsDueReply {F : Type 0} (reply : FileReply F) (thread : Thread) (due : Due F) : Type 0 where
   pub pieces : List (Say F)
-  pub history : IsPast reply.gives reply.files 0 (left_from reply thread) pieces
+  pub history : IsPast reply.functions reply.files 0 (left_from reply thread) pieces
   pub call : SeesCall reply pieces due.function due.argument.now due.next

@@ -4,7 +4,7 @@ ghost use Rattle.std.specs.Prelude.{◌≡◌, ℕ, List, [], ◌+◌, ◌++◌,
 ghost use Rattle.app_events.specs.Prelude.{AppState, IsRepresented, CanSay, text_left};
 ghost use Rattle.app_events.specs.declared.now.Now.{Now};
 ghost use Rattle.file_tree.specs.Prelude.{SiteContent, files_of};
-ghost use Rattle.generators.specs.Prelude.{gives};
+ghost use Rattle.generators.specs.Prelude.{script_functions};
 ghost use Rattle.web_pages.specs.Prelude.{wanted, NotYet, hits_by, web_spec_by, web_want_by};
 ghost use Rattle.httpd.specs.Compact.{CompactRepresent, HearsWord, is_target_stage, polls_of, with_polls};
 ghost use Rattle.httpd.specs.Hearing.{IsDecided};
@@ -18,7 +18,7 @@ use crate::thread::Thread;
 use crate::web::hits_of;
 use app_events::{Now, Want};
 use file_tree::{FileId, Image, SiteOf};
-use generators::Record;
+use generators::CallRecord;
 use protosocket::{LineIn, Stops};
 use web_pages::MOST_POLLS;
 
@@ -76,10 +76,10 @@ fn is_target_stage(stage: Stage) -> bool
     }
 }
 
-impl<R: Record> CompactPages<R> {
+impl<R: CallRecord> CompactPages<R> {
     /// Returns the pages of a connection that has received nothing.
     pub fn fresh() -> CompactPages<R>
-        ensures { let stands = CompactRepresent (gives R.Function.calling R.output) R.text in
+        ensures { let stands = CompactRepresent (script_functions R.Function.calling R.output) R.text in
             (site : SiteContent) (port : ℕ) → stands result site
             (record { port = port; input = []; snapshots = []; acked = 0; polls = 0; own = 0 }) }
     {
@@ -115,10 +115,10 @@ impl<R: Record> CompactPages<R> {
     /// Delivers the next bytes from the peer, and counts a hit of the file that they request.
     pub fn hear<B: Image>(&mut self, site: &SiteOf<B>, hits: &mut [u32], piece: &[u8])
         requires counted { IsCounted site.now hits.old }
-        ensures part { let stands = CompactRepresent (gives R.Function.calling R.output) R.text in
+        ensures part { let stands = CompactRepresent (script_functions R.Function.calling R.output) R.text in
             (p : AppState) → stands self.old site.now p
             → stands self.new site.now (record p { input = p.input ++ piece.now; polls = 0 }) }
-        ensures hits { let stands = CompactRepresent (gives R.Function.calling R.output) R.text in
+        ensures hits { let stands = CompactRepresent (script_functions R.Function.calling R.output) R.text in
             (p : AppState) → stands self.old site.now p
             → hits.new ≡ hits_by (files_of site.now) hits.old (wanted p.input) (wanted (p.input ++ piece.now)) }
     {
@@ -159,8 +159,8 @@ impl<R: Record> CompactPages<R> {
 
     /// Whether the text that comes next may need a capture, as `is_due_at` of `Pages`.
     pub fn is_due_at<B: Image>(&self, site: &SiteOf<B>) -> bool
-        requires { IsRepresented (CompactRepresent (gives R.Function.calling R.output) R.text) self.now site.now }
-        ensures not_due { let g = gives R.Function.calling R.output in
+        requires { IsRepresented (CompactRepresent (script_functions R.Function.calling R.output) R.text) self.now site.now }
+        ensures not_due { let g = script_functions R.Function.calling R.output in
             result ≡ false → (numbers : List ℕ) (p : AppState) (now : Now) → CompactRepresent g R.text self.now site.now p
             → (web_spec_by g (files_of site.now)).prepare numbers p now ≡ p }
     {
@@ -176,8 +176,8 @@ impl<R: Record> CompactPages<R> {
     /// Takes a capture, if the text that comes next needs one.
     pub fn prepare_at<B: Image>(&mut self, site: &SiteOf<B>, hits: &[u32], own: &R::Own, now: &Now)
         requires counted { IsCounted site.now hits.now }
-        requires part { IsRepresented (CompactRepresent (gives R.Function.calling R.output) R.text) self.old site.now }
-        ensures { let g = gives R.Function.calling R.output in
+        requires part { IsRepresented (CompactRepresent (script_functions R.Function.calling R.output) R.text) self.old site.now }
+        ensures { let g = script_functions R.Function.calling R.output in
             (p : AppState) → CompactRepresent g R.text self.old site.now p → CompactRepresent g R.text self.new site.now
             ((web_spec_by g (files_of site.now)).prepare (hits.now ++ R.own_numbers own.now) p now.now) }
     {
@@ -199,8 +199,8 @@ impl<R: Record> CompactPages<R> {
 
     /// Returns what to send next. Requires that nothing is outstanding.
     pub fn want_of<B: Image>(&self, site: &SiteOf<B>) -> Want
-        requires { IsRepresented (CompactRepresent (gives R.Function.calling R.output) R.text) self.now site.now }
-        ensures { let g = gives R.Function.calling R.output in
+        requires { IsRepresented (CompactRepresent (script_functions R.Function.calling R.output) R.text) self.now site.now }
+        ensures { let g = script_functions R.Function.calling R.output in
             (p : AppState) → CompactRepresent g R.text self.now site.now p → result ≡ web_want_by g (files_of site.now) p }
     {
         if self.polls() == MOST_POLLS {
@@ -220,9 +220,9 @@ impl<R: Record> CompactPages<R> {
 
     /// Writes the text after the acknowledged offset, as much as `out` holds.
     pub fn fill_from<B: Image>(&self, site: &SiteOf<B>, out: &mut [u8])
-        requires { let g = gives R.Function.calling R.output in
+        requires { let g = script_functions R.Function.calling R.output in
             CanSay (λ site. web_spec_by g (files_of site)) (CompactRepresent g R.text) self.now site.now (length out.old) }
-        ensures { let g = gives R.Function.calling R.output in
+        ensures { let g = script_functions R.Function.calling R.output in
             (p : AppState) → CompactRepresent g R.text self.now site.now p
             → out.new ≡ take (length out.old) (text_left (web_spec_by g (files_of site.now)) p) }
     {
@@ -240,9 +240,9 @@ impl<R: Record> CompactPages<R> {
 
     /// Advances the acknowledged offset by `count` bytes.
     pub fn pass<B: Image>(&mut self, site: &SiteOf<B>, count: usize)
-        requires { let g = gives R.Function.calling R.output in
+        requires { let g = script_functions R.Function.calling R.output in
             CanSay (λ site. web_spec_by g (files_of site)) (CompactRepresent g R.text) self.old site.now count }
-        ensures { let stands = CompactRepresent (gives R.Function.calling R.output) R.text in
+        ensures { let stands = CompactRepresent (script_functions R.Function.calling R.output) R.text in
             (p : AppState) → stands self.old site.now p
             → stands self.new site.now (record p { acked = p.acked + count; polls = 0 }) }
     {
@@ -263,7 +263,7 @@ impl<R: Record> CompactPages<R> {
 
     /// Counts a tick with nothing outstanding.
     pub fn wait(&mut self)
-        ensures { let stands = CompactRepresent (gives R.Function.calling R.output) R.text in
+        ensures { let stands = CompactRepresent (script_functions R.Function.calling R.output) R.text in
             (site : SiteContent) (p : AppState) → stands self.old site p
             → stands self.new site (record p { polls = min MOST_POLLS (p.polls + 1) }) }
     {

@@ -3,7 +3,7 @@
 ghost use Rattle.std.specs.Prelude.{◌≡◌, ◌==◌, ℕ, ◌+◌, ◌++◌, false, length, min, take};
 ghost use Rattle.app_events.specs.Prelude.{AppState, IsRepresented, CanSay, text_left};
 ghost use Rattle.file_tree.specs.Prelude.{SiteContent, files_of};
-ghost use Rattle.generators.specs.Prelude.{gives};
+ghost use Rattle.generators.specs.Prelude.{script_functions};
 ghost use Rattle.web_pages.specs.Prelude.{web_spec_by, web_want_by};
 ghost use Rattle.web_pages.specs.declared.TheConstants.{MOST_POLLS};
 ghost use Rattle.httpd.specs.HttpdRepresents.{Becomes, PagesRepresent, TakesNoCapture, before_input, hits_after};
@@ -17,7 +17,7 @@ use crate::thread::Thread;
 use crate::web::{Web, hits_of};
 use app_events::{App, Ending, Now, Want};
 use file_tree::{Image, SiteOf};
-use generators::{Capture, Record};
+use generators::{CallRecord, Capture};
 use protosocket::{LineIn, Stops};
 use uip_wire::{Port, WEB_PORT};
 use web_pages::MOST_POLLS;
@@ -38,11 +38,11 @@ pub struct Pages<R> {
 pub type Httpd = Pages<Capture>;
 
 /// What each call of an application does to the pages of a connection, whatever functions their scripts call.
-impl<R: Record> Pages<R> {
+impl<R: CallRecord> Pages<R> {
     /// Returns the pages of a connection that has received nothing.
     pub fn fresh() -> Pages<R>
         ensures { (site : SiteContent) (port : ℕ)
-            → PagesRepresent (gives R.Function.calling R.output) R.text result site (before_input port) }
+            → PagesRepresent (script_functions R.Function.calling R.output) R.text result site (before_input port) }
     {
         Pages {
             stage: Stage::Method,
@@ -56,9 +56,9 @@ impl<R: Record> Pages<R> {
     /// Delivers the next bytes from the peer, and counts a hit of the file that they request.
     pub fn hear<B: Image>(&mut self, site: &SiteOf<B>, hits: &mut [u32], piece: &[u8])
         requires counted { IsCounted site.now hits.old }
-        ensures part { Becomes (PagesRepresent (gives R.Function.calling R.output) R.text) site.now
+        ensures part { Becomes (PagesRepresent (script_functions R.Function.calling R.output) R.text) site.now
             (λ p. record p { input = p.input ++ piece.now; polls = 0 }) self.old self.new }
-        ensures hits { (p : AppState) → PagesRepresent (gives R.Function.calling R.output) R.text self.old site.now p
+        ensures hits { (p : AppState) → PagesRepresent (script_functions R.Function.calling R.output) R.text self.old site.now p
             → hits.new ≡ hits_after (files_of site.now) p piece.now hits.old }
     {
         self.polls = 0;
@@ -81,8 +81,8 @@ impl<R: Record> Pages<R> {
     /// Whether the text that comes next may need a capture: only a script has calls, and none is
     /// due in the head. Whether one is due is for `prepare_at` to find.
     pub fn is_due_at<B: Image>(&self, site: &SiteOf<B>) -> bool
-        requires { IsRepresented (PagesRepresent (gives R.Function.calling R.output) R.text) self.now site.now }
-        ensures not_due { let g = gives R.Function.calling R.output in
+        requires { IsRepresented (PagesRepresent (script_functions R.Function.calling R.output) R.text) self.now site.now }
+        ensures not_due { let g = script_functions R.Function.calling R.output in
             result ≡ false → TakesNoCapture (web_spec_by g (files_of site.now)) (PagesRepresent g R.text self.now site.now) }
     {
         match self.stage {
@@ -97,8 +97,8 @@ impl<R: Record> Pages<R> {
     /// Takes a capture, if the text that comes next needs one.
     pub fn prepare_at<B: Image>(&mut self, site: &SiteOf<B>, hits: &[u32], own: &R::Own, now: &Now)
         requires counted { IsCounted site.now hits.now }
-        requires part { IsRepresented (PagesRepresent (gives R.Function.calling R.output) R.text) self.old site.now }
-        ensures { let g = gives R.Function.calling R.output in
+        requires part { IsRepresented (PagesRepresent (script_functions R.Function.calling R.output) R.text) self.old site.now }
+        ensures { let g = script_functions R.Function.calling R.output in
             Becomes (PagesRepresent g R.text) site.now
             (λ p. (web_spec_by g (files_of site.now)).prepare (hits.now ++ R.own_numbers own.now) p now.now) self.old self.new }
     {
@@ -114,8 +114,8 @@ impl<R: Record> Pages<R> {
 
     /// Returns what to send next. Requires that nothing is outstanding.
     pub fn want_of<B: Image>(&self, site: &SiteOf<B>) -> Want
-        requires { IsRepresented (PagesRepresent (gives R.Function.calling R.output) R.text) self.now site.now }
-        ensures { let g = gives R.Function.calling R.output in
+        requires { IsRepresented (PagesRepresent (script_functions R.Function.calling R.output) R.text) self.now site.now }
+        ensures { let g = script_functions R.Function.calling R.output in
             (p : AppState) → PagesRepresent g R.text self.now site.now p → result ≡ web_want_by g (files_of site.now) p }
     {
         if self.polls == MOST_POLLS {
@@ -130,9 +130,9 @@ impl<R: Record> Pages<R> {
 
     /// Writes the text after the acknowledged offset, as much as `out` holds.
     pub fn fill_from<B: Image>(&self, site: &SiteOf<B>, out: &mut [u8])
-        requires { let g = gives R.Function.calling R.output in
+        requires { let g = script_functions R.Function.calling R.output in
             CanSay (λ site. web_spec_by g (files_of site)) (PagesRepresent g R.text) self.now site.now (length out.old) }
-        ensures { let g = gives R.Function.calling R.output in
+        ensures { let g = script_functions R.Function.calling R.output in
             (p : AppState) → PagesRepresent g R.text self.now site.now p
             → out.new ≡ take (length out.old) (text_left (web_spec_by g (files_of site.now)) p) }
     {
@@ -143,9 +143,9 @@ impl<R: Record> Pages<R> {
 
     /// Advances the acknowledged offset by `count` bytes.
     pub fn pass<B: Image>(&mut self, site: &SiteOf<B>, count: usize)
-        requires { let g = gives R.Function.calling R.output in
+        requires { let g = script_functions R.Function.calling R.output in
             CanSay (λ site. web_spec_by g (files_of site)) (PagesRepresent g R.text) self.old site.now count }
-        ensures { Becomes (PagesRepresent (gives R.Function.calling R.output) R.text) site.now
+        ensures { Becomes (PagesRepresent (script_functions R.Function.calling R.output) R.text) site.now
             (λ p. record p { acked = p.acked + count; polls = 0 }) self.old self.new }
     {
         self.polls = 0;
@@ -159,7 +159,7 @@ impl<R: Record> Pages<R> {
 
     /// Counts a tick with nothing outstanding.
     pub fn wait(&mut self)
-        ensures { (site : SiteContent) → Becomes (PagesRepresent (gives R.Function.calling R.output) R.text) site
+        ensures { (site : SiteContent) → Becomes (PagesRepresent (script_functions R.Function.calling R.output) R.text) site
             (λ p. record p { polls = min MOST_POLLS (p.polls + 1) }) self.old self.new }
     {
         self.polls = MOST_POLLS.min(self.polls.saturating_add(1));
@@ -167,7 +167,7 @@ impl<R: Record> Pages<R> {
 }
 
 impl App for Httpd {
-    ghost use Rattle.generators.specs.Giving.{uip};
+    ghost use Rattle.generators.specs.ScriptFunctions.{uip};
     ghost use Rattle.web_pages.specs.Serving.{is_served};
     ghost use Rattle.web_pages.specs.WebMeaning.{web_spec};
     ghost use Rattle.web_pages.specs.Lemmas.WebLaws.{web_lawful, web_starts};

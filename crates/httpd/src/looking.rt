@@ -2,7 +2,7 @@
 
 ghost use Rattle.std.specs.Prelude.{◌≡◌, ◌≤◌, ◌<◌, ◌+◌, ◌∷◌, [], true, drop, length, slice_range};
 ghost use Rattle.file_tree.specs.Prelude.{files_of};
-ghost use Rattle.generators.specs.Prelude.{gives};
+ghost use Rattle.generators.specs.Prelude.{script_functions};
 ghost use Rattle.site_image.specs.declared.TheConstants.{LONGEST_IMAGE};
 ghost use Rattle.site_image.specs.Prelude.{file_named};
 ghost use Rattle.web_pages.specs.Prelude.{bytes_or, Plain, Made};
@@ -17,7 +17,7 @@ use crate::texts::{body_of, bytes_at, head_of, is_scripted, kind_of};
 use crate::thread::Thread;
 use crate::web::place_in;
 use file_tree::{FileId, Image, SiteOf};
-use generators::Record;
+use generators::CallRecord;
 use protosocket::SendOut;
 use protothread::Run;
 use script_lang::{Calls, PieceOf, next_piece_of, runs_past};
@@ -27,17 +27,17 @@ use web_pages::LARGEST_SEGMENT;
 /// [add: piece] An arm, and a function that finds the next span of the piece.
 #[inline(never)]
 #[tactic(auto, using(crate::proofs::Seeing::keeps_same))]
-pub(crate) fn look<'s, 'c, B: Image, R: Record>(
+pub(crate) fn look<'s, 'c, B: Image, R: CallRecord>(
     site: &'s SiteOf<B>,
     found: Option<FileId>,
     capture: &'c R,
     thread: Thread,
 ) -> Look<'s, 'c, R, R::Function>
     requires found { IsFound (files_of site.now) found }
-    requires fits { Fits (reply_by (gives R.Function.calling R.output) R.text site.now found capture.now) thread }
-    ensures sees { let reply = reply_by (gives R.Function.calling R.output) R.text site.now found capture.now in
+    requires fits { Fits (reply_by (script_functions R.Function.calling R.output) R.text site.now found capture.now) thread }
+    ensures sees { let reply = reply_by (script_functions R.Function.calling R.output) R.text site.now found capture.now in
         Sees R.text reply (left_from reply thread) result }
-    ensures kept { KeepsOn (reply_by (gives R.Function.calling R.output) R.text site.now found capture.now) thread result.here }
+    ensures kept { KeepsOn (reply_by (script_functions R.Function.calling R.output) R.text site.now found capture.now) thread result.here }
 {
     match thread {
         Thread::Head { at } => return look_head(site, found, capture, at),
@@ -54,7 +54,7 @@ pub(crate) fn look<'s, 'c, B: Image, R: Record>(
 
 /// The span of the bytes from an offset on.
 #[inline(always)]
-fn rest_of<'s, 'c, R: Record>(world: &'s [u8], at: u32) -> Span<'s, 'c, R, R::Function>
+fn rest_of<'s, 'c, R: CallRecord>(world: &'s [u8], at: u32) -> Span<'s, 'c, R, R::Function>
     requires within { at ≤ length world.now }
     requires short { length world.now ≤ LONGEST_IMAGE }
     ensures { IsSpan R.text result (drop at world.now) }
@@ -64,7 +64,11 @@ fn rest_of<'s, 'c, R: Record>(world: &'s [u8], at: u32) -> Span<'s, 'c, R, R::Fu
 
 /// The span of a part of the bytes.
 #[inline(always)]
-fn part_of<'s, 'c, R: Record>(world: &'s [u8], at: u32, end: u32) -> Span<'s, 'c, R, R::Function>
+fn part_of<'s, 'c, R: CallRecord>(
+    world: &'s [u8],
+    at: u32,
+    end: u32,
+) -> Span<'s, 'c, R, R::Function>
     requires ordered { at ≤ end }
     requires within { end ≤ length world.now }
     requires short { length world.now ≤ LONGEST_IMAGE }
@@ -79,15 +83,15 @@ fn part_of<'s, 'c, R: Record>(world: &'s [u8], at: u32, end: u32) -> Span<'s, 'c
 
 /// The span in the head.
 #[inline(always)]
-fn look_head<'s, 'c, B: Image, R: Record>(
+fn look_head<'s, 'c, B: Image, R: CallRecord>(
     site: &'s SiteOf<B>,
     found: Option<FileId>,
     capture: &'c R,
     at: u32,
 ) -> Look<'s, 'c, R, R::Function>
     requires found { IsFound (files_of site.now) found }
-    requires fits { Fits (reply_by (gives R.Function.calling R.output) R.text site.now found capture.now) (Thread.Head at) }
-    ensures sees { let reply = reply_by (gives R.Function.calling R.output) R.text site.now found capture.now in
+    requires fits { Fits (reply_by (script_functions R.Function.calling R.output) R.text site.now found capture.now) (Thread.Head at) }
+    ensures sees { let reply = reply_by (script_functions R.Function.calling R.output) R.text site.now found capture.now in
         Sees R.text reply (left_from reply (Thread.Head at)) result }
     ensures here { result.here ≡ Thread.Head at }
 {
@@ -100,15 +104,15 @@ fn look_head<'s, 'c, B: Image, R: Record>(
 
 /// The span in the line of the content type.
 #[inline(always)]
-fn look_kind<'s, 'c, B: Image, R: Record>(
+fn look_kind<'s, 'c, B: Image, R: CallRecord>(
     site: &'s SiteOf<B>,
     found: Option<FileId>,
     capture: &'c R,
     at: u32,
 ) -> Look<'s, 'c, R, R::Function>
     requires found { IsFound (files_of site.now) found }
-    requires fits { Fits (reply_by (gives R.Function.calling R.output) R.text site.now found capture.now) (Thread.Kind at) }
-    ensures sees { let reply = reply_by (gives R.Function.calling R.output) R.text site.now found capture.now in
+    requires fits { Fits (reply_by (script_functions R.Function.calling R.output) R.text site.now found capture.now) (Thread.Kind at) }
+    ensures sees { let reply = reply_by (script_functions R.Function.calling R.output) R.text site.now found capture.now in
         Sees R.text reply (left_from reply (Thread.Kind at)) result }
     ensures here { result.here ≡ Thread.Kind at }
 {
@@ -123,17 +127,17 @@ fn look_kind<'s, 'c, B: Image, R: Record>(
 }
 
 /// The span in the body.
-fn look_body<'s, 'c, B: Image, R: Record>(
+fn look_body<'s, 'c, B: Image, R: CallRecord>(
     site: &'s SiteOf<B>,
     found: Option<FileId>,
     capture: &'c R,
     at: u32,
 ) -> Look<'s, 'c, R, R::Function>
     requires found { IsFound (files_of site.now) found }
-    requires fits { Fits (reply_by (gives R.Function.calling R.output) R.text site.now found capture.now) (Thread.Body at) }
-    ensures sees { let reply = reply_by (gives R.Function.calling R.output) R.text site.now found capture.now in
+    requires fits { Fits (reply_by (script_functions R.Function.calling R.output) R.text site.now found capture.now) (Thread.Body at) }
+    ensures sees { let reply = reply_by (script_functions R.Function.calling R.output) R.text site.now found capture.now in
         Sees R.text reply (left_from reply (Thread.Body at)) result }
-    ensures kept { KeepsAll (reply_by (gives R.Function.calling R.output) R.text site.now found capture.now) result.here }
+    ensures kept { KeepsAll (reply_by (script_functions R.Function.calling R.output) R.text site.now found capture.now) result.here }
 {
     if is_scripted(site, found) {
         return look_script(site, found, capture, at);
@@ -146,7 +150,7 @@ fn look_body<'s, 'c, B: Image, R: Record>(
 }
 
 /// The span in a script.
-fn look_script<'s, 'c, B: Image, R: Record>(
+fn look_script<'s, 'c, B: Image, R: CallRecord>(
     site: &'s SiteOf<B>,
     found: Option<FileId>,
     capture: &'c R,
@@ -154,10 +158,10 @@ fn look_script<'s, 'c, B: Image, R: Record>(
 ) -> Look<'s, 'c, R, R::Function>
     requires found { IsFound (files_of site.now) found }
     requires script { is_scripted (found_file (files_of site.now) found) ≡ true }
-    requires fits { IsBodyPlace (reply_by (gives R.Function.calling R.output) R.text site.now found capture.now) at }
-    ensures sees { let reply = reply_by (gives R.Function.calling R.output) R.text site.now found capture.now in
+    requires fits { IsBodyPlace (reply_by (script_functions R.Function.calling R.output) R.text site.now found capture.now) at }
+    ensures sees { let reply = reply_by (script_functions R.Function.calling R.output) R.text site.now found capture.now in
         Sees R.text reply (left_from reply (Thread.Body at)) result }
-    ensures kept { KeepsAll (reply_by (gives R.Function.calling R.output) R.text site.now found capture.now) result.here }
+    ensures kept { KeepsAll (reply_by (script_functions R.Function.calling R.output) R.text site.now found capture.now) result.here }
 {
     let script = body_of(site, found);
     let from = at as usize;
@@ -170,7 +174,7 @@ fn look_script<'s, 'c, B: Image, R: Record>(
 /// The span in a text run of a script that is longer than a segment: as much as a segment holds. This bounds the work of one look, however
 /// long the run is.
 #[inline(always)]
-fn look_run<'s, 'c, B: Image, R: Record>(
+fn look_run<'s, 'c, B: Image, R: CallRecord>(
     site: &'s SiteOf<B>,
     found: Option<FileId>,
     capture: &'c R,
@@ -178,10 +182,10 @@ fn look_run<'s, 'c, B: Image, R: Record>(
 ) -> Look<'s, 'c, R, R::Function>
     requires found { IsFound (files_of site.now) found }
     requires script { is_scripted (found_file (files_of site.now) found) ≡ true }
-    requires fits { IsBodyPlace (reply_by (gives R.Function.calling R.output) R.text site.now found capture.now) at }
-    requires long { let reply = reply_by (gives R.Function.calling R.output) R.text site.now found capture.now in
+    requires fits { IsBodyPlace (reply_by (script_functions R.Function.calling R.output) R.text site.now found capture.now) at }
+    requires long { let reply = reply_by (script_functions R.Function.calling R.output) R.text site.now found capture.now in
         at + LARGEST_SEGMENT < run_end (body reply) at }
-    ensures sees { let reply = reply_by (gives R.Function.calling R.output) R.text site.now found capture.now in
+    ensures sees { let reply = reply_by (script_functions R.Function.calling R.output) R.text site.now found capture.now in
         Sees R.text reply (left_from reply (Thread.Body at)) result }
     ensures here { result.here ≡ Thread.Body at }
 {
@@ -195,7 +199,7 @@ fn look_run<'s, 'c, B: Image, R: Record>(
 }
 
 /// The span at a piece of a script.
-fn look_piece<'s, 'c, B: Image, R: Record>(
+fn look_piece<'s, 'c, B: Image, R: CallRecord>(
     site: &'s SiteOf<B>,
     found: Option<FileId>,
     capture: &'c R,
@@ -203,10 +207,10 @@ fn look_piece<'s, 'c, B: Image, R: Record>(
 ) -> Look<'s, 'c, R, R::Function>
     requires found { IsFound (files_of site.now) found }
     requires script { is_scripted (found_file (files_of site.now) found) ≡ true }
-    requires fits { IsBodyPlace (reply_by (gives R.Function.calling R.output) R.text site.now found capture.now) at }
-    ensures sees { let reply = reply_by (gives R.Function.calling R.output) R.text site.now found capture.now in
+    requires fits { IsBodyPlace (reply_by (script_functions R.Function.calling R.output) R.text site.now found capture.now) at }
+    ensures sees { let reply = reply_by (script_functions R.Function.calling R.output) R.text site.now found capture.now in
         Sees R.text reply (left_from reply (Thread.Body at)) result }
-    ensures kept { KeepsAll (reply_by (gives R.Function.calling R.output) R.text site.now found capture.now) result.here }
+    ensures kept { KeepsAll (reply_by (script_functions R.Function.calling R.output) R.text site.now found capture.now) result.here }
 {
     let script = body_of(site, found);
     let Some(read) = next_piece_of::<R::Function>(script, at as usize) else {
@@ -238,7 +242,7 @@ fn look_piece<'s, 'c, B: Image, R: Record>(
 }
 
 /// The span at an include.
-fn look_include<'s, 'c, B: Image, R: Record>(
+fn look_include<'s, 'c, B: Image, R: CallRecord>(
     site: &'s SiteOf<B>,
     found: Option<FileId>,
     capture: &'c R,
@@ -246,11 +250,12 @@ fn look_include<'s, 'c, B: Image, R: Record>(
     name: &[u8],
 ) -> Look<'s, 'c, R, R::Function>
     requires found { IsFound (files_of site.now) found }
-    requires inner { IsInner (reply_by (gives R.Function.calling R.output) R.text site.now found capture.now) next }
-    requires directive { EndsInclude (reply_by (gives R.Function.calling R.output) R.text site.now found capture.now) next name.now }
-    ensures sees { let reply = reply_by (gives R.Function.calling R.output) R.text site.now found capture.now in
+    requires inner { IsInner (reply_by (script_functions R.Function.calling R.output) R.text site.now found capture.now) next }
+    requires directive { EndsInclude (reply_by (script_functions R.Function.calling R.output) R.text site.now found capture.now)
+        next name.now }
+    ensures sees { let reply = reply_by (script_functions R.Function.calling R.output) R.text site.now found capture.now in
         Sees R.text reply (Plain (bytes_or [] (file_named reply.files name.now)) ∷ body_from reply next) result }
-    ensures kept { KeepsAll (reply_by (gives R.Function.calling R.output) R.text site.now found capture.now) result.here }
+    ensures kept { KeepsAll (reply_by (script_functions R.Function.calling R.output) R.text site.now found capture.now) result.here }
 {
     let Some(file) = place_in(site, name) else {
         return look_nothing(next);
@@ -259,7 +264,7 @@ fn look_include<'s, 'c, B: Image, R: Record>(
 }
 
 /// The empty span of a piece without text.
-fn look_nothing<'s, 'c, R: Record>(next: u32) -> Look<'s, 'c, R, R::Function>
+fn look_nothing<'s, 'c, R: CallRecord>(next: u32) -> Look<'s, 'c, R, R::Function>
     ensures nothing { IsSpan R.text result.span [] }
     ensures here { result.here ≡ Thread.Body next }
     ensures next { result.next ≡ Thread.Body next }
@@ -276,7 +281,7 @@ fn look_nothing<'s, 'c, R: Record>(next: u32) -> Look<'s, 'c, R, R::Function>
 }
 
 /// The span in the bytes of an included file.
-fn look_inside<'s, 'c, B: Image, R: Record>(
+fn look_inside<'s, 'c, B: Image, R: CallRecord>(
     site: &'s SiteOf<B>,
     found: Option<FileId>,
     capture: &'c R,
@@ -285,9 +290,9 @@ fn look_inside<'s, 'c, B: Image, R: Record>(
     at: u32,
 ) -> Look<'s, 'c, R, R::Function>
     requires found { IsFound (files_of site.now) found }
-    requires fits { let reply = reply_by (gives R.Function.calling R.output) R.text site.now found capture.now in
+    requires fits { let reply = reply_by (script_functions R.Function.calling R.output) R.text site.now found capture.now in
         Fits reply (Thread.Inside next file at) }
-    ensures sees { let reply = reply_by (gives R.Function.calling R.output) R.text site.now found capture.now in
+    ensures sees { let reply = reply_by (script_functions R.Function.calling R.output) R.text site.now found capture.now in
         Sees R.text reply (left_from reply (Thread.Inside next file at)) result }
     ensures here { result.here ≡ Thread.Inside next file at }
 {
@@ -299,7 +304,7 @@ fn look_inside<'s, 'c, B: Image, R: Record>(
 }
 
 /// The span at a call.
-fn look_call<'s, 'c, B: Image, R: Record>(
+fn look_call<'s, 'c, B: Image, R: CallRecord>(
     site: &'s SiteOf<B>,
     found: Option<FileId>,
     capture: &'c R,
@@ -307,12 +312,12 @@ fn look_call<'s, 'c, B: Image, R: Record>(
     function: R::Function,
     argument: &'s [u8],
 ) -> Look<'s, 'c, R, R::Function>
-    requires inner { IsInner (reply_by (gives R.Function.calling R.output) R.text site.now found capture.now) next }
-    requires directive { EndsCall (reply_by (gives R.Function.calling R.output) R.text site.now found capture.now)
+    requires inner { IsInner (reply_by (script_functions R.Function.calling R.output) R.text site.now found capture.now) next }
+    requires directive { EndsCall (reply_by (script_functions R.Function.calling R.output) R.text site.now found capture.now)
         next function argument.now }
-    ensures sees { let reply = reply_by (gives R.Function.calling R.output) R.text site.now found capture.now in
+    ensures sees { let reply = reply_by (script_functions R.Function.calling R.output) R.text site.now found capture.now in
         Sees R.text reply (Made function argument.now ∷ body_from reply next) result }
-    ensures kept { KeepsAll (reply_by (gives R.Function.calling R.output) R.text site.now found capture.now) result.here }
+    ensures kept { KeepsAll (reply_by (script_functions R.Function.calling R.output) R.text site.now found capture.now) result.here }
 {
     if !function.takes_capture() {
         return look_nothing(next);
@@ -325,15 +330,15 @@ fn look_call<'s, 'c, B: Image, R: Record>(
 }
 
 /// The span in the text of a record.
-fn look_making<'s, 'c, B: Image, R: Record>(
+fn look_making<'s, 'c, B: Image, R: CallRecord>(
     site: &'s SiteOf<B>,
     found: Option<FileId>,
     capture: &'c R,
     next: u32,
     at: u32,
 ) -> Look<'s, 'c, R, R::Function>
-    requires { Fits (reply_by (gives R.Function.calling R.output) R.text site.now found capture.now) (Thread.Making next at) }
-    ensures sees { let reply = reply_by (gives R.Function.calling R.output) R.text site.now found capture.now in
+    requires { Fits (reply_by (script_functions R.Function.calling R.output) R.text site.now found capture.now) (Thread.Making next at) }
+    ensures sees { let reply = reply_by (script_functions R.Function.calling R.output) R.text site.now found capture.now in
         Sees R.text reply (left_from reply (Thread.Making next at)) result }
     ensures here { result.here ≡ Thread.Making next at }
 {
@@ -347,7 +352,7 @@ fn look_making<'s, 'c, B: Image, R: Record>(
 
 /// The span at the end.
 #[inline(always)]
-fn look_end<'s, 'c, R: Record>() -> Look<'s, 'c, R, R::Function>
+fn look_end<'s, 'c, R: CallRecord>() -> Look<'s, 'c, R, R::Function>
     ensures span { result.span ≡ Span.End }
     ensures here { result.here ≡ Thread.End }
 {

@@ -2,7 +2,7 @@
 
 ghost use Rattle.std.specs.Prelude.{◌≡◌, ◌==◌, ◌≤◌, ◌-◌, length, take, MatchOption, if◌then◌else◌};
 ghost use Rattle.file_tree.specs.Prelude.{files_of};
-ghost use Rattle.generators.specs.Prelude.{gives};
+ghost use Rattle.generators.specs.Prelude.{script_functions};
 ghost use Rattle.httpd.specs.Reply.{left_from, reply_by};
 ghost use Rattle.httpd.specs.Places.{Fits, IsFound};
 ghost use Rattle.httpd.specs.Kept.{KeepsOn};
@@ -14,11 +14,11 @@ use crate::span::{Span, span_len, write_at};
 use crate::thread::{Thread, moved};
 use app_events::Want;
 use file_tree::{FileId, Image, SiteOf};
-use generators::Record;
+use generators::CallRecord;
 use web_pages::LARGEST_SEGMENT;
 
 /// Writes a prefix of the text that is left, as much as `out` holds.
-pub(crate) fn fill_reply<B: Image, R: Record>(
+pub(crate) fn fill_reply<B: Image, R: CallRecord>(
     site: &SiteOf<B>,
     found: Option<FileId>,
     capture: &R,
@@ -26,10 +26,10 @@ pub(crate) fn fill_reply<B: Image, R: Record>(
     out: &mut [u8],
 )
     requires found { IsFound (files_of site.now) found }
-    requires fits { Fits (reply_by (gives R.Function.calling R.output) R.text site.now found capture.now) thread }
-    requires enough { let reply = reply_by (gives R.Function.calling R.output) R.text site.now found capture.now in
+    requires fits { Fits (reply_by (script_functions R.Function.calling R.output) R.text site.now found capture.now) thread }
+    requires enough { let reply = reply_by (script_functions R.Function.calling R.output) R.text site.now found capture.now in
         length out.old ≤ length (left_text reply thread) }
-    ensures { let reply = reply_by (gives R.Function.calling R.output) R.text site.now found capture.now in
+    ensures { let reply = reply_by (script_functions R.Function.calling R.output) R.text site.now found capture.now in
         out.new ≡ take (length out.old) (left_text reply thread) }
 {
     let mut place = thread;
@@ -44,7 +44,7 @@ pub(crate) fn fill_reply<B: Image, R: Record>(
 }
 
 /// Returns the thread after `count` bytes of the text that is left.
-pub(crate) fn acked_reply<B: Image, R: Record>(
+pub(crate) fn acked_reply<B: Image, R: CallRecord>(
     site: &SiteOf<B>,
     found: Option<FileId>,
     capture: &R,
@@ -52,13 +52,13 @@ pub(crate) fn acked_reply<B: Image, R: Record>(
     count: usize,
 ) -> Thread
     requires found { IsFound (files_of site.now) found }
-    requires fits { Fits (reply_by (gives R.Function.calling R.output) R.text site.now found capture.now) thread }
-    requires enough { let reply = reply_by (gives R.Function.calling R.output) R.text site.now found capture.now in
+    requires fits { Fits (reply_by (script_functions R.Function.calling R.output) R.text site.now found capture.now) thread }
+    requires enough { let reply = reply_by (script_functions R.Function.calling R.output) R.text site.now found capture.now in
         count ≤ length (left_text reply thread) }
-    ensures fits { Fits (reply_by (gives R.Function.calling R.output) R.text site.now found capture.now) result }
-    ensures kept { KeepsOn (reply_by (gives R.Function.calling R.output) R.text site.now found capture.now) thread result }
-    ensures history { let reply = reply_by (gives R.Function.calling R.output) R.text site.now found capture.now in
-        IsPast reply.gives reply.files count (left_from reply thread) (left_from reply result) }
+    ensures fits { Fits (reply_by (script_functions R.Function.calling R.output) R.text site.now found capture.now) result }
+    ensures kept { KeepsOn (reply_by (script_functions R.Function.calling R.output) R.text site.now found capture.now) thread result }
+    ensures history { let reply = reply_by (script_functions R.Function.calling R.output) R.text site.now found capture.now in
+        IsPast reply.functions reply.files count (left_from reply thread) (left_from reply result) }
 {
     let mut place = thread;
     let mut left = count;
@@ -75,15 +75,15 @@ pub(crate) fn acked_reply<B: Image, R: Record>(
 }
 
 /// Returns what to send, by the text that is left and whether it ends the page.
-pub(crate) fn want_reply<B: Image, R: Record>(
+pub(crate) fn want_reply<B: Image, R: CallRecord>(
     site: &SiteOf<B>,
     found: Option<FileId>,
     capture: &R,
     thread: Thread,
 ) -> Want
     requires found { IsFound (files_of site.now) found }
-    requires fits { Fits (reply_by (gives R.Function.calling R.output) R.text site.now found capture.now) thread }
-    ensures { let reply = reply_by (gives R.Function.calling R.output) R.text site.now found capture.now in
+    requires fits { Fits (reply_by (script_functions R.Function.calling R.output) R.text site.now found capture.now) thread }
+    ensures { let reply = reply_by (script_functions R.Function.calling R.output) R.text site.now found capture.now in
         result ≡ want_left (left_text reply thread) (left_whole reply thread) }
 {
     let mut place = thread;
@@ -121,15 +121,15 @@ pub(crate) struct Due<'s, F> {
 }
 
 /// Returns the call at the thread, if no text is left before it.
-pub(crate) fn due_call<'s, B: Image, R: Record>(
+pub(crate) fn due_call<'s, B: Image, R: CallRecord>(
     site: &'s SiteOf<B>,
     found: Option<FileId>,
     capture: &R,
     thread: Thread,
 ) -> Option<Due<'s, R::Function>>
     requires found { IsFound (files_of site.now) found }
-    requires fits { Fits (reply_by (gives R.Function.calling R.output) R.text site.now found capture.now) thread }
-    ensures { let reply = reply_by (gives R.Function.calling R.output) R.text site.now found capture.now in
+    requires fits { Fits (reply_by (script_functions R.Function.calling R.output) R.text site.now found capture.now) thread }
+    ensures { let reply = reply_by (script_functions R.Function.calling R.output) R.text site.now found capture.now in
         MatchOption result (IsNotDue reply thread) (IsDueReply reply thread) }
 {
     let mut place = thread;

@@ -7,7 +7,7 @@ ghost use Rattle.httpd.specs.Looking.{SpanFits, span_text};
 
 use crate::texts::line_of;
 use crate::thread::Thread;
-use generators::Record;
+use generators::CallRecord;
 use protosocket::SendOut;
 use protothread::{Run, Says};
 use site_image::KIND_LINE_LEN;
@@ -52,7 +52,7 @@ pub(crate) struct Look<'s, 'c, R, F> {
 }
 
 /// Returns the number of bytes that are left.
-pub(crate) fn span_len<R: Record>(span: &Span<R, R::Function>) -> usize
+pub(crate) fn span_len<R: CallRecord>(span: &Span<R, R::Function>) -> usize
     requires { SpanFits R.text span.now }
     ensures length { result ≡ length (span_text R.text span.now) }
     ensures bound { result ≤ LONGEST_IMAGE }
@@ -67,7 +67,7 @@ pub(crate) fn span_len<R: Record>(span: &Span<R, R::Function>) -> usize
 }
 
 /// Writes a prefix of what is left, as much as `out` holds.
-pub(crate) fn write_span<R: Record>(span: &Span<R, R::Function>, out: &mut [u8])
+pub(crate) fn write_span<R: CallRecord>(span: &Span<R, R::Function>, out: &mut [u8])
     requires fits { SpanFits R.text span.now }
     requires enough { length out.old ≤ length (span_text R.text span.now) }
     ensures { out.new ≡ take (length out.old) (span_text R.text span.now) }
@@ -96,7 +96,7 @@ fn write_line(kind: &[u8], at: u32, out: &mut [u8])
 }
 
 /// Writes a prefix of what is left at an offset of the buffer.
-pub(crate) fn write_at<R: Record>(
+pub(crate) fn write_at<R: CallRecord>(
     span: &Span<R, R::Function>,
     out: &mut [u8],
     from: usize,

@@ -4,7 +4,7 @@ use Rattle.std.specs.Str.{bytes_eq}
 use Rattle.std.proofs.lemmas.Option.{slice_get-get_or}
 use Rattle.std.proofs.lemmas.List.Quantifiers.{position-Some}
 use Rattle.std.proofs.lemmas.Slice.Eq.{bytes_eq-Decides}
-use Rattle.generators.specs.Prelude.{Giving}
+use Rattle.generators.specs.Prelude.{ScriptFunctions}
 use Rattle.httpd.proofs.Compacting.{word_open}
 use Rattle.httpd.specs.Hearing.{HearsMethod}
 use Rattle.httpd.specs.Places.{IsFound}
@@ -60,7 +60,7 @@ word_nil line d hears unmarked nameless =
     let name : before_first is_query_mark (word_of Space d) ≡ d = ap (before_first is_query_mark) word ∙ none_at_all is_query_mark d none in
     take_nil d (sym (ap (take 64) name) ∙ sym (ap (λ (l : Line). l.name) hears.holds) ∙ nameless)
 
-module _ {F R : Type 0} (g : Giving F) (text : R → List ℕ) (site : SiteContent) (p : AppState) (polls : ℕ) where
+module _ {F R : Type 0} (g : ScriptFunctions F) (text : R → List ℕ) (site : SiteContent) (p : AppState) (polls : ℕ) where
   pub first_open : (target : Bool) (line : Line) → CompactRepresent g text (compact.Receiving polls target line) site p
       → target ≡ false → line.query ≡ false → line.name ≡ [] → p.input ≡ []
   first_open true line s t unmarked nameless = absurd cc
@@ -129,7 +129,7 @@ no_place_kept : (hits : List ℕ) (old : QueryContent) (place : Option ℕ) (tex
 no_place_kept hits old None text e = refl
 no_place_kept hits old (Some place) text e = absurd cc
 
-module _ {F R : Type 0} (g : Giving F) (text : R → List ℕ) (site : SiteContent) (p : AppState) (polls : ℕ) (hits : List ℕ) (old : QueryContent) where
+module _ {F R : Type 0} (g : ScriptFunctions F) (text : R → List ℕ) (site : SiteContent) (p : AppState) (polls : ℕ) (hits : List ℕ) (old : QueryContent) where
   pub open_keeps : (target : Bool) (line : Line) → CompactRepresent g text (compact.Receiving polls target line) site p
       → kept_query hits old (place_wanted (files_of site) (wanted p.input)) (query_in p.input) ≡ old
   open_keeps true line s =

@@ -1,6 +1,6 @@
 -- How long a page can be.
 -- [add: function] The greatest length of its text.
-use Rattle.web_pages.proofs.Prelude.{All, ◌≡◌, ℕ, ◌+◌, ◌-◌, ◌≤◌, inl, inr, Bool, true, false, List, [], ◌∷◌, ◌++◌, length, map, drop, Option, Some, None, refl, sym, ap, subst, arith, length-append, length-take, if◌then◌else◌, lit<, lit≤, sum_by, slice_range, codes, get_or_past, sum_by-cons, All-head, All-tail, All-get_or, cases_lt, option_map_or, slice_index_or, Function, FileStats, TcpConnections, NetStats, Ticks, Unknown, PieceOf, Text, Include, Call, FoundOf, Calling, length_at_most, takes_capture, pieces_by, is_script, File, file_named, kind_of, piece_length_by, body_length_by, page_length_by, Giving, AreShort, Snapshot, IsSnapshot, IsU32, Say, says, bytes_or, body_by, found_reply_by, kind_line, Plain, Made, made_by, hits_of, place_of, text_by, silent_text, stopped_text, made_first}
+use Rattle.web_pages.proofs.Prelude.{All, ◌≡◌, ℕ, ◌+◌, ◌-◌, ◌≤◌, inl, inr, Bool, true, false, List, [], ◌∷◌, ◌++◌, length, map, drop, Option, Some, None, refl, sym, ap, subst, arith, length-append, length-take, if◌then◌else◌, lit<, lit≤, sum_by, slice_range, codes, get_or_past, sum_by-cons, All-head, All-tail, All-get_or, cases_lt, option_map_or, slice_index_or, Function, FileStats, TcpConnections, NetStats, Ticks, Unknown, PieceOf, Text, Include, Call, FoundOf, Calling, length_at_most, takes_capture, pieces_by, is_script, File, file_named, kind_of, piece_length_by, body_length_by, page_length_by, ScriptFunctions, AreShort, Snapshot, IsSnapshot, IsU32, Say, says, bytes_or, body_by, found_reply_by, kind_line, Plain, Made, made_by, hits_of, place_of, text_by, silent_text, stopped_text, made_first}
 
 -- the greatest length of the text
 abbrev pub most_said : {F : Type 0} → Calling F → Say F → ℕ
@@ -20,8 +20,8 @@ word_at numbers (Some place) all =
       | inr h ↦ subst IsU32 (sym (get_or_past numbers place 0 h)) (lit< tt)
     ]
 
-made_short : {F : Type 0} (g : Giving F) → AreShort g → (files : List File) (function : F) (argument : List ℕ) (snapshot : Snapshot) → IsSnapshot snapshot
-    → length (made_by g files function argument snapshot) ≤ g.calling.length_at_most function
+made_short : {F : Type 0} (g : ScriptFunctions F) → AreShort g → (files : List File) (function : F) (argument : List ℕ) (snapshot : Snapshot) → IsSnapshot snapshot
+    → length (made_by g files function argument snapshot) ≤ g.function_table.length_at_most function
 made_short g short files function argument snapshot is =
     short function argument (hits_of files snapshot.numbers argument) (drop (length files) snapshot.numbers) snapshot.now
     (word_at snapshot.numbers (place_of files argument) is.numbers) is.now
@@ -36,23 +36,23 @@ silent_none NetStats e = absurd cc
 silent_none Ticks e = absurd cc
 silent_none Unknown e = refl
 
-pub text_bound : {F : Type 0} (g : Giving F) → AreShort g → (files : List File) (says : List (Say F)) (captures : List Snapshot) → All IsSnapshot captures → length (text_by g files says captures) ≤ all_said g.calling says
+pub text_bound : {F : Type 0} (g : ScriptFunctions F) → AreShort g → (files : List File) (says : List (Say F)) (captures : List Snapshot) → All IsSnapshot captures → length (text_by g files says captures) ≤ all_said g.function_table says
 text_bound g short files [] captures all = lit≤ tt
 text_bound g short files (Plain text ∷ more) captures all =
     let rest = text_bound g short files more captures all in
-    omega (arith, length-append text (text_by g files more captures), sum_by-cons (most_said g.calling) (Plain text) more)
+    omega (arith, length-append text (text_by g files more captures), sum_by-cons (most_said g.function_table) (Plain text) more)
 text_bound g short files (Made function argument ∷ more) [] all =
-    let here = sum_by-cons (most_said g.calling) (Made function argument) more in
-    elim (g.calling.takes_capture function) as (λ b. g.calling.takes_capture function ≡ b → length (text_by g files (Made function argument ∷ more) []) ≤ all_said g.calling (Made function argument ∷ more)) [
+    let here = sum_by-cons (most_said g.function_table) (Made function argument) more in
+    elim (g.function_table.takes_capture function) as (λ b. g.function_table.takes_capture function ≡ b → length (text_by g files (Made function argument ∷ more) []) ≤ all_said g.function_table (Made function argument ∷ more)) [
       | true ↦ λ e. omega (arith, ap length (stopped_text g files function argument more e))
       | false ↦ λ e.
           let rest = text_bound g short files more [] all in
           omega (arith, ap length (silent_text g files function argument more [] e), here)
     ] refl
 text_bound g short files (Made function argument ∷ more) (capture ∷ later) all =
-    let here = sum_by-cons (most_said g.calling) (Made function argument) more in
-    elim (g.calling.takes_capture function) as (λ b. g.calling.takes_capture function ≡ b
-    → length (text_by g files (Made function argument ∷ more) (capture ∷ later)) ≤ all_said g.calling (Made function argument ∷ more)) [
+    let here = sum_by-cons (most_said g.function_table) (Made function argument) more in
+    elim (g.function_table.takes_capture function) as (λ b. g.function_table.takes_capture function ≡ b
+    → length (text_by g files (Made function argument ∷ more) (capture ∷ later)) ≤ all_said g.function_table (Made function argument ∷ more)) [
       | true ↦ λ e.
           let rest = text_bound g short files more later (All-tail IsSnapshot capture later all) in
           let one = made_short g short files function argument capture (All-head IsSnapshot capture later all) in

@@ -1,6 +1,6 @@
 -- The pages of a site of bytes are bytes.
 -- [add: content-type] The type is bytes.
-use Rattle.web_pages.proofs.Prelude.{All, ◌≡◌, ℕ, ◌+◌, ◌-◌, ◌==◌, Bool, true, false, List, [], ◌∷◌, ◌++◌, length, map, drop, Option, Some, None, refl, sym, subst, ◌∙◌, if◌then◌else◌, codes, option_map, slice_get, slice_range, nat_eq, ends_with, All-nil, All-append, All-take, All-drop, slice_get-map, same_Some, FoundOf, PieceOf, Text, Include, Call, pieces_by, Place, is_script, kind_by_name, File, file_named, kind_of, file_in, SiteContent, files_of, Giving, AreBytes, uip, literal_bytes, either_bytes, texts_bytes, Snapshot, IsByte, Wanted, wanted, NotYet, Refused, Name, Say, says, bytes_or, body_by, missing_head, found_head, kind_line, reply_to_by, reply_pieces_by, Plain, Made, hits_of, made_by, text_by, page_for_by, IsMadeOfBytes, IsMadeOfBytesBy}
+use Rattle.web_pages.proofs.Prelude.{All, ◌≡◌, ℕ, ◌+◌, ◌-◌, ◌==◌, Bool, true, false, List, [], ◌∷◌, ◌++◌, length, map, drop, Option, Some, None, refl, sym, subst, ◌∙◌, if◌then◌else◌, codes, option_map, slice_get, slice_range, nat_eq, ends_with, All-nil, All-append, All-take, All-drop, slice_get-map, same_Some, FoundOf, PieceOf, Text, Include, Call, pieces_by, Place, is_script, kind_by_name, File, file_named, kind_of, file_in, SiteContent, files_of, ScriptFunctions, AreBytes, uip, literal_bytes, either_bytes, texts_bytes, Snapshot, IsByte, Wanted, wanted, NotYet, Refused, Name, Say, says, bytes_or, body_by, missing_head, found_head, kind_line, reply_to_by, reply_pieces_by, Plain, Made, hits_of, made_by, text_by, page_for_by, IsMadeOfBytes, IsMadeOfBytesBy}
 use Rattle.web_pages.proofs.Found.{found_there}
 
 -- ---- pieces
@@ -13,19 +13,19 @@ abbrev AreSaid : {F : Type 0} → List (Say F) → Type 0
 AreSaid [] = Unit {0}
 AreSaid (say ∷ more) = IsSaid say × AreSaid more
 
-made_bytes : {F : Type 0} (g : Giving F) → AreBytes g.output → (files : List File) (function : F) (argument : List ℕ) (snapshot : Snapshot)
+made_bytes : {F : Type 0} (g : ScriptFunctions F) → AreBytes g.output → (files : List File) (function : F) (argument : List ℕ) (snapshot : Snapshot)
     → All IsByte (made_by g files function argument snapshot)
 made_bytes g bytes files function argument snapshot =
     bytes function argument (hits_of files snapshot.numbers argument) (drop (length files) snapshot.numbers) snapshot.now
 
-text_bytes : {F : Type 0} (g : Giving F) → AreBytes g.output → (files : List File) (output : List (Say F)) (captures : List Snapshot) → AreSaid output → All IsByte (text_by g files output captures)
+text_bytes : {F : Type 0} (g : ScriptFunctions F) → AreBytes g.output → (files : List File) (output : List (Say F)) (captures : List Snapshot) → AreSaid output → All IsByte (text_by g files output captures)
 text_bytes g bytes files [] captures all = All-nil IsByte
 text_bytes g bytes files (Plain text ∷ more) captures all =
     All-append IsByte text (text_by g files more captures) all.0 (text_bytes g bytes files more captures all.1)
 text_bytes g bytes files (Made function argument ∷ more) [] all =
-    either_bytes (g.calling.takes_capture function) [] (text_by g files more []) (All-nil IsByte) (text_bytes g bytes files more [] all.1)
+    either_bytes (g.function_table.takes_capture function) [] (text_by g files more []) (All-nil IsByte) (text_bytes g bytes files more [] all.1)
 text_bytes g bytes files (Made function argument ∷ more) (capture ∷ later) all =
-    either_bytes (g.calling.takes_capture function) (made_by g files function argument capture ++ text_by g files more later) (text_by g files more (capture ∷ later))
+    either_bytes (g.function_table.takes_capture function) (made_by g files function argument capture ++ text_by g files more later) (text_by g files more (capture ∷ later))
     (All-append IsByte (made_by g files function argument capture) (text_by g files more later) (made_bytes g bytes files function argument capture) (text_bytes g bytes files more later all.1))
     (text_bytes g bytes files more (capture ∷ later) all.1)
 
@@ -111,14 +111,14 @@ reply_bytes named files name (Some file) all e =
     let of = all there.place file there.at in
     (literal_bytes found_head refl, (line_bytes (kind_of file) (kind_bytes file of), body_bytes named files file all of))
 
-bytes_by : {F : Type 0} (g : Giving F) → AreBytes g.output → (files : List File) (asked : Wanted) (captures : List Snapshot) → AreOfBytes files
+bytes_by : {F : Type 0} (g : ScriptFunctions F) → AreBytes g.output → (files : List File) (asked : Wanted) (captures : List Snapshot) → AreOfBytes files
     → All IsByte (page_for_by g files asked captures)
 bytes_by g bytes files NotYet captures all = All-nil IsByte
 bytes_by g bytes files Refused captures all = All-nil IsByte
 bytes_by g bytes files (Name name) captures all =
-    text_bytes g bytes files (reply_pieces_by g.calling.named files name) captures (reply_bytes g.calling.named files name (file_named files name) all refl)
+    text_bytes g bytes files (reply_pieces_by g.function_table.named files name) captures (reply_bytes g.function_table.named files name (file_named files name) all refl)
 
-pub made_of_bytes_by : {F : Type 0} (g : Giving F) → AreBytes g.output → IsMadeOfBytesBy g
+pub made_of_bytes_by : {F : Type 0} (g : ScriptFunctions F) → AreBytes g.output → IsMadeOfBytesBy g
 made_of_bytes_by g bytes site all request captures snapshots = bytes_by g bytes (files_of site) (wanted request) captures (files_bytes site all)
 
 pub made_of_bytes : IsMadeOfBytes

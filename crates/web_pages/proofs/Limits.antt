@@ -1,5 +1,5 @@
 -- Every page of a site is shorter than 2^30 bytes.
-use Rattle.web_pages.proofs.Prelude.{All, ◌≡◌, ℕ, ◌+◌, ◌-◌, ◌<◌, ◌≤◌, ◌==◌, Bool, true, false, List, [], ◌∷◌, length, drop, Option, Some, None, Result, Ok, refl, sym, ap, subst, ◌∙◌, arith, length-take, length-drop, if◌then◌else◌, lit<, lit≤, slice_get, option_map, nat_le, nat_lt, codes, sum_by, list_any, list_all, leb-true, leb-false, and_parts, sum_by-cons, slice_get-map, same_Some, Calling, uip_calls, pieces_by, PAGE_LIMIT, Place, Version, SiteError, Rest, PageTooLong, is_script, is_kind, is_kind_byte, kind_by_name, File, file_named, kind_of, misses, script_fault_by, piece_length_by, page_length_by, body_length_by, file_in, ◌>>=◌, refuse, image_head, entries, scripts, read_image, AreSound, bind_ok, scripts-sound, SiteContent, IsLoaded, HasSoundScripts, files_of, image_files, kind-short, Snapshot, IsSnapshot, Wanted, wanted, NotYet, Refused, Name, Giving, AreShort, uip, texts_short, Say, bytes_or, missing_reply, missing_head, reply_to_by, reply_pieces_by, found_reply_by, kind_line, Plain, text_by, page_for_by, page_by, IsAtMostGreatest, IsAtMostGreatestBy}
+use Rattle.web_pages.proofs.Prelude.{All, ◌≡◌, ℕ, ◌+◌, ◌-◌, ◌<◌, ◌≤◌, ◌==◌, Bool, true, false, List, [], ◌∷◌, length, drop, Option, Some, None, Result, Ok, refl, sym, ap, subst, ◌∙◌, arith, length-take, length-drop, if◌then◌else◌, lit<, lit≤, slice_get, option_map, nat_le, nat_lt, codes, sum_by, list_any, list_all, leb-true, leb-false, and_parts, sum_by-cons, slice_get-map, same_Some, Calling, uip_calls, pieces_by, PAGE_LIMIT, Place, Version, SiteError, Rest, PageTooLong, is_script, is_kind, is_kind_byte, kind_by_name, File, file_named, kind_of, misses, script_fault_by, piece_length_by, page_length_by, body_length_by, file_in, ◌>>=◌, refuse, image_head, entries, scripts, read_image, AreSound, bind_ok, scripts-sound, SiteContent, IsLoaded, HasSoundScripts, files_of, image_files, kind-short, Snapshot, IsSnapshot, Wanted, wanted, NotYet, Refused, Name, ScriptFunctions, AreShort, uip, texts_short, Say, bytes_or, missing_reply, missing_head, reply_to_by, reply_pieces_by, found_reply_by, kind_line, Plain, text_by, page_for_by, page_by, IsAtMostGreatest, IsAtMostGreatestBy}
 use Rattle.site_image.specs.declared.site_error.SiteWhy.TheVariants.{Include}
 use Rattle.web_pages.proofs.Found.{found_there, found_itself}
 use Rattle.web_pages.proofs.Bounds.{all_said, most_said, text_bound, found_bound}
@@ -117,28 +117,28 @@ reply_bound c site is sound name (Some file) e =
     let output = found_bound c (files_of site) file in
     omega arith
 
-short_by : {F : Type 0} (g : Giving F) → AreShort g → (site : SiteContent) → IsLoaded site → HasSoundScripts g.calling (files_of site)
+short_by : {F : Type 0} (g : ScriptFunctions F) → AreShort g → (site : SiteContent) → IsLoaded site → HasSoundScripts g.function_table (files_of site)
     → (asked : Wanted) (captures : List Snapshot) → All IsSnapshot captures → length (page_for_by g (files_of site) asked captures) < 1073741824
 short_by g short site is sound NotYet captures all = lit< tt
 short_by g short site is sound Refused captures all = lit< tt
 short_by g short site is sound (Name name) captures all =
-    let text = text_bound g short (files_of site) (reply_pieces_by g.calling.named (files_of site) name) captures all in
-    let output = reply_bound g.calling site is sound name (file_named (files_of site) name) refl in
+    let text = text_bound g short (files_of site) (reply_pieces_by g.function_table.named (files_of site) name) captures all in
+    let output = reply_bound g.function_table site is sound name (file_named (files_of site) name) refl in
     omega arith
 
-pub page_short : {F : Type 0} (g : Giving F) → AreShort g → (site : SiteContent) → IsLoaded site → HasSoundScripts g.calling (files_of site)
+pub page_short : {F : Type 0} (g : ScriptFunctions F) → AreShort g → (site : SiteContent) → IsLoaded site → HasSoundScripts g.function_table (files_of site)
     → (request : List ℕ) (captures : List Snapshot) → All IsSnapshot captures → length (page_by g (files_of site) request captures) < 1073741824
 page_short g short site is sound request captures all = short_by g short site is sound (wanted request) captures all
 
 -- the page of a file is at most as long as its greatest length
-pub at_most_greatest_by : {F : Type 0} (g : Giving F) → AreShort g → IsAtMostGreatestBy g
+pub at_most_greatest_by : {F : Type 0} (g : ScriptFunctions F) → AreShort g → IsAtMostGreatestBy g
 at_most_greatest_by g short site is id file s request captures asked all =
     let files = files_of site in
     let itself : file_named files file.name ≡ Some file = found_itself files is.apart id file s in
-    let same : page_by g files request captures ≡ text_by g files (found_reply_by g.calling.named files file) captures =
-    ap (λ w. page_for_by g files w captures) asked ∙ ap (λ found. text_by g files (reply_to_by g.calling.named files found) captures) itself in
-    let text = text_bound g short files (found_reply_by g.calling.named files file) captures all in
-    let output = found_bound g.calling files file in
+    let same : page_by g files request captures ≡ text_by g files (found_reply_by g.function_table.named files file) captures =
+    ap (λ w. page_for_by g files w captures) asked ∙ ap (λ found. text_by g files (reply_to_by g.function_table.named files found) captures) itself in
+    let text = text_bound g short files (found_reply_by g.function_table.named files file) captures all in
+    let output = found_bound g.function_table files file in
     omega (arith, ap length same)
 
 -- ---- the functions of uIP

@@ -1,5 +1,5 @@
 -- The hits are the prefix of the counters. What follows them, the own state, changes no hit, and no hit changes it.
-use Rattle.web_pages.proofs.Prelude.{◌≡◌, ℕ, ◌<◌, ◌+◌, ◌%◌, ◌^◌, zero, suc, List, [], ◌∷◌, ◌++◌, length, drop, refl, ap, ◌∙◌, arith, Option, Some, None, slice_index_or, option_map_or, bytes_eq, slice_set, drop_at, position-Some, File, Now, Giving, Wanted, NotYet, Refused, Name, place_of, hits_of, made_by, hit_at, hits_by}
+use Rattle.web_pages.proofs.Prelude.{◌≡◌, ℕ, ◌<◌, ◌+◌, ◌%◌, ◌^◌, zero, suc, List, [], ◌∷◌, ◌++◌, length, drop, refl, ap, ◌∙◌, arith, Option, Some, None, slice_index_or, option_map_or, bytes_eq, slice_set, drop_at, position-Some, File, Now, ScriptFunctions, Wanted, NotYet, Refused, Name, place_of, hits_of, made_by, hit_at, hits_by}
 
 index_prefix : (xs ys : List ℕ) (place : ℕ) → place < length xs → slice_index_or (xs ++ ys) place 0 ≡ slice_index_or xs place 0
 index_prefix [] ys place lt = absurd (omega (arith, lt))
@@ -33,7 +33,7 @@ hits_prefix files hits own argument counted = by_place (place_of files argument)
     by_place (Some at) e = (let within = place_within files argument at e in index_prefix hits own at (omega (arith, within, counted)))
 
 -- the text of a call is a function of the hits and the own state, apart
-pub made_prefix : {F : Type 0} (g : Giving F) (files : List File) (hits own : List ℕ) (function : F) (argument : List ℕ) (now : Now)
+pub made_prefix : {F : Type 0} (g : ScriptFunctions F) (files : List File) (hits own : List ℕ) (function : F) (argument : List ℕ) (now : Now)
     → length hits ≡ length files
     → made_by g files function argument (record { numbers = hits ++ own; now = now }) ≡ g.output function argument (hits_of files hits argument) own now
 made_prefix g files hits own function argument now counted =

@@ -1,5 +1,5 @@
 -- The web server of a site satisfies the laws from which the guarantee follows.
-use Rattle.web_pages.proofs.Prelude.{All, ◌≡◌, ℕ, ◌+◌, ◌%◌, ◌^◌, Bool, true, false, ◌&&◌, List, [], ◌∷◌, ◌++◌, Option, Some, None, refl, inl, inr, ◌⊎◌, arith, if◌then◌else◌, slice_index_or, All-set, File, files_of, AppState, Snapshot, IsU32, Giving, AreShort, uip, Wanted, wanted, NotYet, Refused, Name, place_of, hit_at, hits_by, is_acknowledged_by, waits_for_capture_by, page_grows, page_stays, with_capture, may_want, KeepsPageLaws, KeepsPageLawsBy}
+use Rattle.web_pages.proofs.Prelude.{All, ◌≡◌, ℕ, ◌+◌, ◌%◌, ◌^◌, Bool, true, false, ◌&&◌, List, [], ◌∷◌, ◌++◌, Option, Some, None, refl, inl, inr, ◌⊎◌, arith, if◌then◌else◌, slice_index_or, All-set, File, files_of, AppState, Snapshot, IsU32, ScriptFunctions, AreShort, uip, Wanted, wanted, NotYet, Refused, Name, place_of, hit_at, hits_by, is_acknowledged_by, waits_for_capture_by, page_grows, page_stays, with_capture, may_want, KeepsPageLaws, KeepsPageLawsBy}
 use Rattle.web_pages.proofs.Limits.{page_short, uip_short, uip_sound}
 
 hit_words : (hits : List ℕ) (place : Option ℕ) → All IsU32 hits → All IsU32 (hit_at hits place)
@@ -29,10 +29,10 @@ either_acked : (waits : Bool) (part : AppState) (capture : Snapshot) → (either
 either_acked true part capture = refl
 either_acked false part capture = refl
 
-abbrev waits : {F : Type 0} → Giving F → List File → AppState → Bool
+abbrev waits : {F : Type 0} → ScriptFunctions F → List File → AppState → Bool
 waits g files part = is_acknowledged_by g files part && waits_for_capture_by g files (wanted part.input) part
 
-pub keeps_page_laws_by : {F : Type 0} (g : Giving F) → AreShort g → KeepsPageLawsBy g
+pub keeps_page_laws_by : {F : Type 0} (g : ScriptFunctions F) → AreShort g → KeepsPageLawsBy g
 keeps_page_laws_by g short site is sound = record {
   grows = λ q more k later. page_grows g (files_of site) q more k later;
   stays = λ q more k later whole. (page_stays g (files_of site) q more k later whole).0;

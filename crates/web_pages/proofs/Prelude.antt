@@ -3,7 +3,7 @@ pub use Rattle.app_events.specs.Prelude.{AppState, IsByte, IsSnapshot, IsU32, Sn
 pub use Rattle.app_events.specs.declared.now.Now.{Now}
 pub use Rattle.file_tree.proofs.KindLemmas.{kind-short}
 pub use Rattle.file_tree.specs.Prelude.{AreApart, AreGood, HasSoundScripts, IsLoaded, KindContent, SiteContent, chosen, files_of, image_files, retyped, upgraded}
-pub use Rattle.generators.specs.Prelude.{AreBytes, AreShort, Giving, capture_of, capture_text, either_bytes, gives, literal_bytes, texts_bytes, texts_short, uip}
+pub use Rattle.generators.specs.Prelude.{AreBytes, AreShort, ScriptFunctions, capture_of, capture_text, either_bytes, script_functions, literal_bytes, texts_bytes, texts_short, uip}
 pub use Rattle.protosocket.proofs.Pieces.{hears_in_pieces}
 pub use Rattle.protosocket.specs.Prelude.{Line, after, delivered, fresh, is_query_mark, is_stop, none_at_all, none_before, one_before, word_of}
 pub use Rattle.protosocket.specs.declared.stops.Stops.TheVariants.{Space, SpaceOrLine}

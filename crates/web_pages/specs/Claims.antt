@@ -6,25 +6,25 @@ use Rattle.site_image.specs.Prelude.{File, has_name, page_length_by}
 use Rattle.file_tree.specs.Prelude.{SiteContent, IsLoaded, HasSoundScripts, files_of, KindContent, upgraded}
 use Rattle.web_pages.specs.Requests.{wanted}
 use Rattle.web_pages.specs.Requests.Wanted.{NotYet, Name}
-use Rattle.generators.specs.Prelude.{Giving, uip}
+use Rattle.generators.specs.Prelude.{ScriptFunctions, uip}
 use Rattle.web_pages.specs.Pages.{page, is_page_whole, pages_of, page_by, pages_by}
 use Rattle.web_pages.specs.WebMeaning.{web_spec, web_spec_by}
 
 -- The web server of a site satisfies the laws of pages, whatever functions its scripts call, if no page can be too long.
-abbrev pub KeepsPageLawsBy : {F : Type 0} → Giving F → Type 0
+abbrev pub KeepsPageLawsBy : {F : Type 0} → ScriptFunctions F → Type 0
 KeepsPageLawsBy g =
-    (site : SiteContent) → IsLoaded site → HasSoundScripts g.calling (files_of site) →
+    (site : SiteContent) → IsLoaded site → HasSoundScripts g.function_table (files_of site) →
     IsPaged (web_spec_by g (files_of site)) (pages_by g (files_of site))
 
 -- A page of a file is no longer than its greatest length.
-abbrev pub IsAtMostGreatestBy : {F : Type 0} → Giving F → Type 0
+abbrev pub IsAtMostGreatestBy : {F : Type 0} → ScriptFunctions F → Type 0
 IsAtMostGreatestBy g =
     (site : SiteContent) → IsLoaded site → (id : ℕ) (file : File) → slice_get (files_of site) id ≡ Some file →
     (request : List ℕ) (captures : List Snapshot) → wanted request ≡ Name file.name → All IsSnapshot captures →
-    length (page_by g (files_of site) request captures) ≤ page_length_by g.calling (files_of site) file
+    length (page_by g (files_of site) request captures) ≤ page_length_by g.function_table (files_of site) file
 
 -- A page of a site of bytes is bytes.
-abbrev pub IsMadeOfBytesBy : {F : Type 0} → Giving F → Type 0
+abbrev pub IsMadeOfBytesBy : {F : Type 0} → ScriptFunctions F → Type 0
 IsMadeOfBytesBy g =
     (site : SiteContent) → All IsByte site.image → (request : List ℕ) (captures : List Snapshot) → All IsSnapshot captures →
     All IsByte (page_by g (files_of site) request captures)

@@ -10,7 +10,7 @@ use Rattle.app_events.specs.declared.want.Want.TheVariants.{Nothing, Send, Close
 use Rattle.site_image.specs.Prelude.{File}
 use Rattle.web_pages.specs.Requests.{Wanted, wanted}
 use Rattle.web_pages.specs.Requests.Wanted.{NotYet, Name}
-use Rattle.generators.specs.Prelude.{Giving, uip}
+use Rattle.generators.specs.Prelude.{ScriptFunctions, uip}
 use Rattle.web_pages.specs.Pages.{page_by, is_whole_by, place_of}
 use Rattle.web_pages.specs.declared.TheConstants.{MOST_POLLS, LARGEST_SEGMENT}
 
@@ -24,28 +24,28 @@ hits_by files hits NotYet (Name name) = hit_at hits (place_of files name)
 hits_by files hits _ _ = hits
 
 -- The whole page so far is acknowledged.
-abbrev pub is_acknowledged_by : {F : Type 0} → Giving F → List File → AppState → Bool
+abbrev pub is_acknowledged_by : {F : Type 0} → ScriptFunctions F → List File → AppState → Bool
 is_acknowledged_by g files part = part.acked == length (page_by g files part.input part.snapshots)
 
 -- A call without a snapshot stops the page of a decided request.
-abbrev pub waits_for_capture_by : {F : Type 0} → Giving F → List File → Wanted → AppState → Bool
+abbrev pub waits_for_capture_by : {F : Type 0} → ScriptFunctions F → List File → Wanted → AppState → Bool
 waits_for_capture_by g files (Name name) part = not (is_whole_by g files part.input part.snapshots)
 waits_for_capture_by g files _ part = false
 
 -- the number of bytes of the page so far that are not acknowledged
-abbrev pub left_of_by : {F : Type 0} → Giving F → List File → AppState → ℕ
+abbrev pub left_of_by : {F : Type 0} → ScriptFunctions F → List File → AppState → ℕ
 left_of_by g files part = length (page_by g files part.input part.snapshots) - part.acked
 
 -- It aborts after `MOST_POLLS` ticks with nothing to send. It closes when the whole page is acknowledged. Otherwise it sends the rest of
 -- the page so far.
-abbrev pub web_want_by : {F : Type 0} → Giving F → List File → AppState → Want
+abbrev pub web_want_by : {F : Type 0} → ScriptFunctions F → List File → AppState → Want
 web_want_by g files part =
     if part.polls == MOST_POLLS then Abort
     else if is_whole_by g files part.input part.snapshots && is_acknowledged_by g files part then Close
     else if nat_lt 0 (left_of_by g files part) then Send (min LARGEST_SEGMENT (left_of_by g files part))
     else Nothing
 
-abbrev pub web_spec_by : {F : Type 0} → Giving F → List File → AppSpec
+abbrev pub web_spec_by : {F : Type 0} → ScriptFunctions F → List File → AppSpec
 web_spec_by g files = record {
   output = λ part. page_by g files part.input part.snapshots;
   connected = λ hits port. record {

@@ -3,9 +3,9 @@
 ghost use Rattle.web_pages.specs.Prelude.{DecisionStays, KeepsPageLaws, KeepsPageLawsBy, IsAtMostGreatest};
 ghost use Rattle.web_pages.specs.Prelude.{IsAtMostGreatestBy, IsMadeOfBytes, IsMadeOfBytesBy, UpgradeKeepsPages};
 ghost use Rattle.web_pages.specs.Prelude.{ReportedInPieces, LongNames, AreWorkedRequests, AreWorkedPages, ConstantValues};
-ghost use Rattle.generators.specs.Prelude.{gives};
+ghost use Rattle.generators.specs.Prelude.{script_functions};
 
-use generators::Record;
+use generators::CallRecord;
 
 /// The definition reads the requests as they were worked by hand.
 #[tactic(auto, using(crate::proofs::WorkedRequests::worked))]
@@ -34,10 +34,10 @@ pub fn pages_within_greatest()
 
 /// The same for any functions, if no script of the site has a fault by them: the laws of pages, that a page is at most as long
 /// as its greatest length, and that it is bytes.
-pub fn pages_of_any_calls<R: Record>()
-    ensures laws { KeepsPageLawsBy (gives R.Function.calling R.output) }
-    ensures greatest { IsAtMostGreatestBy (gives R.Function.calling R.output) }
-    ensures bytes { IsMadeOfBytesBy (gives R.Function.calling R.output) }
+pub fn pages_of_any_calls<R: CallRecord>()
+    ensures laws { KeepsPageLawsBy (script_functions R.Function.calling R.output) }
+    ensures greatest { IsAtMostGreatestBy (script_functions R.Function.calling R.output) }
+    ensures bytes { IsMadeOfBytesBy (script_functions R.Function.calling R.output) }
 {}
 
 /// What a request names stays the same, whatever bytes follow.

@@ -15,7 +15,7 @@ use Rattle.device_values.specs.declared.spelling.Spelling.TheVariants.{Plain, Js
 use Rattle.device_values.specs.declared.word.Word.TheVariants as word
 use Rattle.device_values.specs.Spellings.{hex_digit, html_byte, json_byte, spelled}
 use Rattle.device_values.specs.Values.{value_named, value_of}
-use Rattle.device_values.specs.Words.{word_said, words}
+use Rattle.device_values.specs.Words.{word_call_text, words}
 
 -- ---- a value
 
@@ -125,7 +125,7 @@ words_short (word.Value Json) argument hits own now word is_now =
 words_short (word.Value Html) argument hits own now word is_now =
     omega (arith, html_all_short (value_named own argument), named_short own (numeral argument))
 
-pub words_bytes : AreBytes word_said
+pub words_bytes : AreBytes word_call_text
 words_bytes (word.Uip function) argument hits own now = texts_bytes function argument hits [] now
 words_bytes (word.Value spelling) argument hits own now =
     spelled_bytes spelling (value_named own argument) (named_bytes own (numeral argument))

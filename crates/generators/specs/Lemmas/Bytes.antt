@@ -17,7 +17,7 @@ use Rattle.app_events.specs.declared.state.State.TheVariants.{FinWait1, FinWait2
 use Rattle.generators.specs.declared.capture.Capture.{Capture}
 use Rattle.generators.specs.declared.capture.Capture.TheVariants as capture
 use Rattle.generators.specs.Captures.{capture_of}
-use Rattle.generators.specs.Giving.{AreBytes, uip_said}
+use Rattle.generators.specs.ScriptFunctions.{AreBytes, uip_call_text}
 use Rattle.generators.specs.Text.{in_ten_places, counter_line, state_name, row_parts, row_text, capture_text}
 
 -- ---- texts that are written out
@@ -165,5 +165,5 @@ capture_bytes (capture.Ticks ticks) = places_bytes ticks
 capture_bytes (capture.Net counters) = counters_bytes counters
 capture_bytes (capture.Rows rows) = rows_bytes rows
 
-pub texts_bytes : AreBytes uip_said
+pub texts_bytes : AreBytes uip_call_text
 texts_bytes function argument hits own now = capture_bytes (capture_of function hits now)

@@ -7,7 +7,7 @@ use Rattle.site_image.specs.Prelude.{File}
 use Rattle.file_tree.specs.Prelude.{SiteContent, files_of}
 use Rattle.web_pages.specs.Prelude.{Wanted, wanted, NotYet, Refused, reply_pieces_by, page_for_by}
 use Rattle.web_pages.specs.Prelude.{text_by, web_spec, web_spec_by, method_open, target_open}
-use Rattle.generators.specs.Prelude.{Giving, uip, capture_text}
+use Rattle.generators.specs.Prelude.{ScriptFunctions, uip, capture_text}
 use Rattle.httpd.specs.declared.stage.Stage.{Stage}
 use Rattle.httpd.specs.declared.stage.Stage.TheVariants as stage
 use Rattle.httpd.specs.First.{Httpd}
@@ -16,7 +16,7 @@ use Rattle.httpd.specs.Reply.{left_from, reply_by}
 use Rattle.httpd.specs.HttpdRepresents.{HttpdRepresents, PagesRepresent, StandsIn}
 
 -- the text that a value has left
-abbrev pub left_in : {F R : Type 0} → Giving F → (R → List ℕ) → Pages R → SiteContent → Stage → List ℕ
+abbrev pub left_in : {F R : Type 0} → ScriptFunctions F → (R → List ℕ) → Pages R → SiteContent → Stage → List ℕ
 left_in g text a site stage.Method = []
 left_in g text a site stage.Target = []
 left_in g text a site stage.Refused = []
@@ -25,7 +25,7 @@ left_in g text a site (stage.Reply found) = text_by g (files_of site) (left_from
 drop_none : (n : ℕ) → drop {A = ℕ} n [] ≡ []
 drop_none n = drop-nil n
 
-nothing_left : {F : Type 0} (g : Giving F) (files : List File) (part : AppState) (w : Wanted) → wanted part.input ≡ w
+nothing_left : {F : Type 0} (g : ScriptFunctions F) (files : List File) (part : AppState) (w : Wanted) → wanted part.input ≡ w
     → page_for_by g files w part.snapshots ≡ []
     → text_left (web_spec_by g files) part ≡ []
 nothing_left g files part w e none =
@@ -34,10 +34,10 @@ nothing_left g files part w e none =
     ∙ drop_none part.acked
 
 -- the text that a state has left
-abbrev left_at : {F : Type 0} → Giving F → SiteContent → AppState → List ℕ
+abbrev left_at : {F : Type 0} → ScriptFunctions F → SiteContent → AppState → List ℕ
 left_at g site part = text_left (web_spec_by g (files_of site)) part
 
-left_by : {F R : Type 0} (g : Giving F) (text : R → List ℕ) (a : Pages R) (site : SiteContent) (part : AppState) (s : Stage)
+left_by : {F R : Type 0} (g : ScriptFunctions F) (text : R → List ℕ) (a : Pages R) (site : SiteContent) (part : AppState) (s : Stage)
     → StandsIn g text a site part s → left_at g site part ≡ left_in g text a site s
 left_by g text a site part stage.Method (hears, nothing) =
     nothing_left g (files_of site) part NotYet (method_open part.input hears.goes_on) refl
@@ -46,17 +46,17 @@ left_by g text a site part stage.Target (hears, nothing) =
 left_by g text a site part stage.Refused (refused, nothing) = nothing_left g (files_of site) part Refused refused refl
 left_by g text a site part (stage.Reply found) (name, is) =
     ap (λ w. drop part.acked (page_for_by g (files_of site) w part.snapshots)) is.wanted
-    ∙ ap (λ ks. drop part.acked (text_by g (files_of site) (reply_pieces_by g.calling.named (files_of site) name) ks))
+    ∙ ap (λ ks. drop part.acked (text_by g (files_of site) (reply_pieces_by g.function_table.named (files_of site) name) ks))
     (sym (append-nil part.snapshots))
     ∙ sym (is.left.text [])
 
 -- the text that is left, by the value alone
-pub left_of_value : {F R : Type 0} (g : Giving F) (text : R → List ℕ) (a : Pages R) (site : SiteContent) (part : AppState)
+pub left_of_value : {F R : Type 0} (g : ScriptFunctions F) (text : R → List ℕ) (a : Pages R) (site : SiteContent) (part : AppState)
     → PagesRepresent g text a site part
     → text_left (web_spec_by g (files_of site)) part ≡ left_in g text a site a.stage
 left_of_value g text a site part s = left_by g text a site part a.stage s.stands
 
-pub same_left_by : {F R : Type 0} (g : Giving F) (text : R → List ℕ) (a : Pages R) (site : SiteContent) (p q : AppState)
+pub same_left_by : {F R : Type 0} (g : ScriptFunctions F) (text : R → List ℕ) (a : Pages R) (site : SiteContent) (p q : AppState)
     → PagesRepresent g text a site p → PagesRepresent g text a site q
     → text_left (web_spec_by g (files_of site)) p ≡ text_left (web_spec_by g (files_of site)) q
 same_left_by g text a site p q s t = left_of_value g text a site p s ∙ sym (left_of_value g text a site q t)

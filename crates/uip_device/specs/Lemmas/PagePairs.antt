@@ -2,7 +2,7 @@
 use Rattle.std.proofs.Common.{◌≡◌, ◌⊎◌, inl, inr, Bool, true, false, ◌&&◌, List, [], ◌∷◌, ◌++◌, if◌then◌else◌, refl}
 use Rattle.app_events.specs.Prelude.{AppState, Snapshot}
 use Rattle.app_pair.specs.PairSpec.{CanBePaired}
-use Rattle.generators.specs.Prelude.{Giving}
+use Rattle.generators.specs.Prelude.{ScriptFunctions}
 use Rattle.site_image.specs.Prelude.{File}
 use Rattle.web_pages.specs.Prelude.{is_acknowledged_by, waits_for_capture_by, wanted, web_spec_by}
 
@@ -17,10 +17,10 @@ either_capture : (waits : Bool) (p : AppState) (k : Snapshot)
 either_capture true p k = inr refl
 either_capture false p k = inl refl
 
-abbrev waits : {F : Type 0} → Giving F → List File → AppState → Bool
+abbrev waits : {F : Type 0} → ScriptFunctions F → List File → AppState → Bool
 waits g files p = is_acknowledged_by g files p && waits_for_capture_by g files (wanted p.input) p
 
-pub pages_can_pair : {F : Type 0} (g : Giving F) (files : List File) → CanBePaired (web_spec_by g files)
+pub pages_can_pair : {F : Type 0} (g : ScriptFunctions F) (files : List File) → CanBePaired (web_spec_by g files)
 pages_can_pair g files = record {
   port = record {
     connected = λ numbers port. refl;

@@ -7,7 +7,7 @@ use Rattle.app_events.specs.Prelude.{AppState, Snapshot, IsLawful, StartsAnew, I
 use Rattle.app_events.specs.declared.want.Want.{Want}
 use Rattle.app_events.specs.declared.want.Want.TheVariants.{Nothing, Send, Close, Abort}
 use Rattle.web_pages.specs.Requests.{wanted}
-use Rattle.generators.specs.Prelude.{Giving}
+use Rattle.generators.specs.Prelude.{ScriptFunctions}
 use Rattle.web_pages.specs.Pages.{page_by, is_whole_by, pages_by}
 use Rattle.web_pages.specs.WebMeaning.{web_spec_by, web_want_by, is_acknowledged_by, waits_for_capture_by, left_of_by}
 use Rattle.web_pages.specs.Lemmas.Growing.{page_grows, same_prefix}
@@ -16,7 +16,7 @@ use Rattle.web_pages.specs.declared.TheConstants.{MOST_POLLS, LARGEST_SEGMENT}
 no_more : (xs : List ℕ) → xs ++ [] ≡ xs
 no_more xs = append-nil xs
 
-pub newdata_grows : {F : Type 0} (g : Giving F) (files : List File) (part : AppState) (piece : List ℕ)
+pub newdata_grows : {F : Type 0} (g : ScriptFunctions F) (files : List File) (part : AppState) (piece : List ℕ)
     → IsPrefixOf (page_by g files part.input part.snapshots) (page_by g files (part.input ++ piece) part.snapshots)
 newdata_grows g files part piece =
     let p = page_grows g files part.input piece part.snapshots [] in
@@ -25,7 +25,7 @@ newdata_grows g files part piece =
       joined = p.joined ∙ ap (λ captures. page_by g files (part.input ++ piece) captures) (append-nil part.snapshots);
     }
 
-capture_grows : {F : Type 0} (g : Giving F) (files : List File) (part : AppState) (capture : Snapshot)
+capture_grows : {F : Type 0} (g : ScriptFunctions F) (files : List File) (part : AppState) (capture : Snapshot)
     → IsPrefixOf (page_by g files part.input part.snapshots) (page_by g files part.input (part.snapshots ++ capture ∷ []))
 capture_grows g files part capture =
     let p = page_grows g files part.input [] part.snapshots (capture ∷ []) in
@@ -37,7 +37,7 @@ capture_grows g files part capture =
 abbrev pub with_capture : AppState → Snapshot → AppState
 with_capture part capture = record part { snapshots = part.snapshots ++ capture ∷ [] }
 
-either_grows : {F : Type 0} (g : Giving F) (files : List File) (part : AppState) (capture : Snapshot) (waits : Bool)
+either_grows : {F : Type 0} (g : ScriptFunctions F) (files : List File) (part : AppState) (capture : Snapshot) (waits : Bool)
     → Grows (web_spec_by g files) part (if waits then with_capture part capture else part)
 either_grows g files part capture true = record { text = capture_grows g files part capture; offset = refl }
 either_grows g files part capture false =
@@ -54,7 +54,7 @@ some_left most left one e =
     let some = ltb-true 0 left e in
     (omega arith, omega arith)
 
-wants_by : {F : Type 0} (g : Giving F) (files : List File) (part : AppState) (P : Want → Type 0) → P Abort → P Nothing
+wants_by : {F : Type 0} (g : ScriptFunctions F) (files : List File) (part : AppState) (P : Want → Type 0) → P Abort → P Nothing
     → (is_whole_by g files part.input part.snapshots ≡ true
     → part.acked ≡ length (page_by g files part.input part.snapshots) → P Close)
     → ((n : ℕ) → 1 ≤ n → n ≤ left_of_by g files part → P (Send n)) → P (web_want_by g files part)
@@ -81,12 +81,12 @@ wants_by g files part P abort nothing close send =
     by_polls true want rest = abort
     by_polls false want rest = rest
 
-pub may_want : {F : Type 0} (g : Giving F) (files : List File) (part : AppState)
+pub may_want : {F : Type 0} (g : ScriptFunctions F) (files : List File) (part : AppState)
     → MayWant (pages_by g files) part (web_want_by g files part)
 may_want g files part =
     wants_by g files part (MayWant (pages_by g files) part) tt tt (λ whole all. (whole, all)) (λ n one most. (one, omega arith))
 
-can_send : {F : Type 0} (g : Giving F) (files : List File) (part : AppState)
+can_send : {F : Type 0} (g : ScriptFunctions F) (files : List File) (part : AppState)
     → CanSend (web_want_by g files part) (length (drop part.acked (page_by g files part.input part.snapshots)))
 can_send g files part =
     let left = length-drop part.acked (page_by g files part.input part.snapshots) in
@@ -96,7 +96,8 @@ can_send g files part =
 
 -- ---- the laws
 
-pub web_lawful : {F : Type 0} (g : Giving F) (files : List File) (stands : AppState → Type 0) → IsLawful (web_spec_by g files) stands
+pub web_lawful : {F : Type 0} (g : ScriptFunctions F) (files : List File) (stands : AppState → Type 0)
+    → IsLawful (web_spec_by g files) stands
 web_lawful g files stands = record {
   newdata_grows = λ hits part piece s. record { text = newdata_grows g files part piece; offset = refl };
   prepare_grows = λ hits part now s.
@@ -107,5 +108,5 @@ web_lawful g files stands = record {
   sends = λ hits part s. can_send g files part;
 }
 
-pub web_starts : {F : Type 0} (g : Giving F) (files : List File) → StartsAnew (web_spec_by g files)
+pub web_starts : {F : Type 0} (g : ScriptFunctions F) (files : List File) → StartsAnew (web_spec_by g files)
 web_starts g files hits port = (refl, refl)

@@ -1,4 +1,4 @@
-use Rattle.httpd.proofs.Prelude.{◌≤◌, length, drop, sym, ap, subst, gives, reply_by, Fits}
+use Rattle.httpd.proofs.Prelude.{◌≤◌, length, drop, sym, ap, subst, script_functions, reply_by, Fits}
 use Rattle.httpd.proofs.Seeing.{span_along}
 use Rattle.httpd.proofs.Threads.{inside_seen}
 use Rattle.httpd.proofs.looking.look_inside.Goals as goal
@@ -14,7 +14,7 @@ rest_of-requires-clause-within g c = subst (λ xs. c.args.at ≤ length xs) (sym
 pub returns-clause-sees : goal.returns-clause-sees
 unfolding Fits
 returns-clause-sees g c =
-    let r = reply_by (gives g.R.Function.Calls.calling g.R.Record.output) g.R.Record.text c.args.site.now c.args.found c.args.capture.now in
-    inside_seen g.R.Record.text r c.args.next c.args.file c.args.at c.rest_of.result c.requires.fits.0 c.requires.fits.1 c.requires.fits.2
+    let r = reply_by (script_functions g.R.Function.Calls.calling g.R.CallRecord.output) g.R.CallRecord.text c.args.site.now c.args.found c.args.capture.now in
+    inside_seen g.R.CallRecord.text r c.args.next c.args.file c.args.at c.rest_of.result c.requires.fits.0 c.requires.fits.1 c.requires.fits.2
     (subst (λ xs. length xs ≤ 16777216) c.bytes_at.ensures.text c.bytes_at.ensures.short)
-    (span_along g.R.Record.text c.rest_of.result _ _ (ap (λ xs. drop c.args.at xs) c.bytes_at.ensures.text) c.rest_of.ensures)
+    (span_along g.R.CallRecord.text c.rest_of.result _ _ (ap (λ xs. drop c.args.at xs) c.bytes_at.ensures.text) c.rest_of.ensures)
