@@ -27,8 +27,8 @@ ReportsFault image entry word =
     (error : SiteError) × ((read_image image ≡ Err error) ⊎ IsLongWithValues image error) × (entry ≡ error.entry) × IsWordOf error.why word
 
 -- What is reported if a device was not made, or if there is no memory for its box.
-pub record ReportsRefusal {T : Type 0} (made : Result T OpenFault) (told : UipOpened) : Type 0 where
-  pub known : (told.status ≡ BAD_IMAGE) ⊎ (told.status ≡ NO_MEMORY)
-  pub bad_site : told.status ≡ BAD_IMAGE
-      → (error : SiteError) × (made ≡ Err (BadSite error)) × (told.entry ≡ error.entry) × IsWordOf error.why told.word
-  pub no_fault : (told.status ≡ BAD_IMAGE → ⊥) → (told.entry ≡ 0) × (told.word ≡ replicate 8 0)
+pub record ReportsRefusal {T : Type 0} (made : Result T OpenFault) (reported : UipOpened) : Type 0 where
+  pub known : (reported.status ≡ BAD_IMAGE) ⊎ (reported.status ≡ NO_MEMORY)
+  pub bad_site : reported.status ≡ BAD_IMAGE
+      → (error : SiteError) × (made ≡ Err (BadSite error)) × (reported.entry ≡ error.entry) × IsWordOf error.why reported.word
+  pub no_fault : (reported.status ≡ BAD_IMAGE → ⊥) → (reported.entry ≡ 0) × (reported.word ≡ replicate 8 0)

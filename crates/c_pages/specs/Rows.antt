@@ -20,20 +20,20 @@ state_number TimeWait = 7
 state_number LastAck = 8
 
 -- The C structure has the fields of the row.
-pub record IsToldRow (row : Row) (told : UipRow) : Type 0 where
-  pub state : told.state ≡ state_number row.state
-  pub peer : told.peer ≡ row.peer.0
-  pub port : told.port ≡ row.port.0
-  pub tries : told.tries ≡ row.tries
-  pub count : told.count ≡ row.count
-  pub waiting : told.waiting ≡ (if row.waiting then 1 else 0)
+pub record IsReportedRow (row : Row) (reported : UipRow) : Type 0 where
+  pub state : reported.state ≡ state_number row.state
+  pub peer : reported.peer ≡ row.peer.0
+  pub port : reported.port ≡ row.port.0
+  pub tries : reported.tries ≡ row.tries
+  pub count : reported.count ≡ row.count
+  pub waiting : reported.waiting ≡ (if row.waiting then 1 else 0)
 
 -- All fields except the status are 0.
 abbrev pub IsNoRow : UipRow → Type 0
-IsNoRow told =
-    told ≡ record { status = told.status; state = 0; peer = replicate 4 0; port = 0; tries = 0; count = 0; waiting = 0 }
+IsNoRow reported =
+    reported ≡ record { status = reported.status; state = 0; peer = replicate 4 0; port = 0; tries = 0; count = 0; waiting = 0 }
 
 -- For a CLOSED slot only the state is reported, which is 0.
 abbrev pub ReportsRow : Option Row → UipRow → Type 0
-ReportsRow None told = IsNoRow told
-ReportsRow (Some row) told = IsToldRow row told
+ReportsRow None reported = IsNoRow reported
+ReportsRow (Some row) reported = IsReportedRow row reported

@@ -57,7 +57,7 @@ fn bad_site(error: SiteError) -> UipOpened
 #[inline(always)]
 pub fn boxed<T: Drop>(alloc: Global, made: Result<T, OpenFault>) -> Result<Box<T>, UipOpened>
     ensures boxed { IfOk result (λ opened. made ≡ Ok opened.value) }
-    ensures refused { IfErr result (λ told. ReportsRefusal made told) }
+    ensures refused { IfErr result (λ reported. ReportsRefusal made reported) }
 {
     match made {
         Ok(made) => match Box::new(alloc, made) {

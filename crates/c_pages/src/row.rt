@@ -1,7 +1,7 @@
 //! A connection that C reads.
 
 ghost use Rattle.std.specs.Prelude.{◌≡◌};
-ghost use Rattle.c_pages.specs.Rows.{IsNoRow, IsToldRow, ReportsRow, state_number};
+ghost use Rattle.c_pages.specs.Rows.{IsNoRow, IsReportedRow, ReportsRow, state_number};
 
 use app_events::{Row, State};
 use c_calls::OK;
@@ -31,9 +31,9 @@ fn number_of(state: State) -> u32
 
 /// Reports a row to C.
 #[inline]
-fn told_row(row: Row) -> UipRow
+fn reported_row(row: Row) -> UipRow
     ensures status { result.status ≡ OK }
-    ensures row { IsToldRow row result }
+    ensures row { IsReportedRow row result }
 {
     let peer = row.peer.0;
     UipRow {
@@ -71,7 +71,7 @@ impl UipRow {
         ensures row { ReportsRow row result }
     {
         match row {
-            Some(row) => told_row(row),
+            Some(row) => reported_row(row),
             None => UipRow::unread(OK),
         }
     }

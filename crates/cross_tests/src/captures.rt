@@ -81,7 +81,7 @@ fn check_cut(
 }
 
 #[test]
-fn each_cut_is_told(rt: HostRuntime) -> Result<(), Fail> {
+fn each_cut_is_reported(rt: HostRuntime) -> Result<(), Fail> {
     for file in [BIG, LITTLE] {
         for len in 0..=file.len() {
             for most in [1, 5, 64] {

@@ -20,8 +20,8 @@ fn a_made_schedule_is_played(rt: HostRuntime) -> Result<(), Fail> {
         return Err("no memory".into());
     };
     assert!(rt; world.summary(&mut sink).is_ok());
-    let told: &[u8] =
+    let expected: &[u8] =
         b"closed 11 open 2 reset 1 other 2 stale 0 bytes 1023 datagrams 249 again 48\n";
-    assert_eq!(rt; sink.written(), told);
+    assert_eq!(rt; sink.written(), expected);
     Ok(())
 }

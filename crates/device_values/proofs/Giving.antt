@@ -9,14 +9,14 @@ bytes_at own n = take 32 (drop (33 * n + 1) own)
 abbrev value_by : ℕ → List ℕ → List ℕ
 value_by len bytes = map (λ b. b % 256) (take (min 32 len) bytes)
 
-value_told : (own : List ℕ) (n : ℕ) → value_of own n ≡ value_by (get_or own (33 * n) 0) (bytes_at own n)
-value_told own n =
+value_reported : (own : List ℕ) (n : ℕ) → value_of own n ≡ value_by (get_or own (33 * n) 0) (bytes_at own n)
+value_reported own n =
     let count : (33 * n + 33) - (33 * n + 1) ≡ 32 = omega arith in
     ap (λ k. value_by (get_or own (33 * n) 0) (take k (drop (33 * n + 1) own))) count
 
 same_value : (xs ys : List ℕ) (n : ℕ) → get_or xs (33 * n) 0 ≡ get_or ys (33 * n) 0 → bytes_at xs n ≡ bytes_at ys n → value_of xs n ≡ value_of ys n
 same_value xs ys n len bytes =
-    value_told xs n ∙ (λ i. value_by (len i) (bytes i)) ∙ sym (value_told ys n)
+    value_reported xs n ∙ (λ i. value_by (len i) (bytes i)) ∙ sym (value_reported ys n)
 
 -- a value before others
 bytes_in_prefix : (prefix more : List ℕ) (n : ℕ) → 33 * n + 33 ≤ length prefix → bytes_at (prefix ++ more) n ≡ bytes_at prefix n
@@ -90,7 +90,7 @@ module _ (n : ℕ) (lt : n < 16) (text : List ℕ) (short : length text ≤ 32) 
   shown : value_of (value_given n text own) n ≡ text
   shown =
       let all : min 32 (length text) ≡ length text = omega (arith, short) in
-      value_told (value_given n text own) n
+      value_reported (value_given n text own) n
       ∙ (λ i. value_by (len_shown i) (bytes_shown i))
       ∙ ap (λ k. map (λ b. b % 256) (take k (text ++ zeros))) all
       ∙ ap (λ (l : List ℕ). map (λ b. b % 256) l) (take-append_seam text zeros)

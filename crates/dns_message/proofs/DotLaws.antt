@@ -30,9 +30,9 @@ at_least : (n : ℕ) → 1 ≤ n → nat_le 2 (suc n) ≡ true
 at_least n h = grind arith
 
 -- a dot parts two labels
-pub dots_told : (text : List ℕ) (r : Option ℕ) → IsFirstByte (is_byte 46) text r → is_some r ≡ nat_le 2 (length (labels text))
-dots_told text None none = sym (ap (λ l. nat_le 2 (length l)) (uncut text none))
-dots_told text (Some k) found =
+pub dots_reported : (text : List ℕ) (r : Option ℕ) → IsFirstByte (is_byte 46) text r → is_some r ≡ nat_le 2 (length (labels text))
+dots_reported text None none = sym (ap (λ l. nat_le 2 (length l)) (uncut text none))
+dots_reported text (Some k) found =
     sym (ap (λ l. nat_le 2 (length l)) (cut text k found) ∙ at_least (length (labels (drop (k + 1) text))) (some_label (drop (k + 1) text)))
 
 pub and_true : (b : Bool) → (b && true) ≡ b

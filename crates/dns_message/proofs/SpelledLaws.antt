@@ -166,13 +166,13 @@ read fields content more ten size =
     let bytes = fields ++ (content ++ more) in
     let n = length content in
     let long : length bytes ≡ 10 + (n + length more) = omega (arith, length-append fields (content ++ more), length-append content more, ten) in
-    let told : word_at bytes 8 ≡ n = word_prefix fields (content ++ more) 8 (omega (arith, ten)) ∙ size in
+    let reported : word_at bytes 8 ≡ n = word_prefix fields (content ++ more) 8 (omega (arith, ten)) ∙ size in
     let behind : drop 10 bytes ≡ content ++ more = drop_at fields (content ++ more) 10 ten in
     passes _ _ _ _ (not_less (length bytes) 10 (omega (arith, long)))
-    (passes _ _ _ _ (not_less (length bytes) (10 + word_at bytes 8) (omega (arith, long, told)))
+    (passes _ _ _ _ (not_less (length bytes) (10 + word_at bytes 8) (omega (arith, long, reported)))
     (same_pair _ _ _ _ _ _ _ _ (word_prefix fields (content ++ more) 0 (omega (arith, ten))) (word_prefix fields (content ++ more) 2 (omega (arith, ten)))
-    (ap (λ k. take (10 + k - 10) (drop 10 bytes)) told ∙ ap (λ k. take k (drop 10 bytes)) (ten_less n) ∙ ap (λ l. take n l) behind ∙ take_at content more n refl)
-    (ap (λ k. drop (10 + k) bytes) told ∙ sym (drop-drop n 10 bytes) ∙ ap (λ l. drop n l) behind ∙ drop_at content more n refl)))
+    (ap (λ k. take (10 + k - 10) (drop 10 bytes)) reported ∙ ap (λ k. take k (drop 10 bytes)) (ten_less n) ∙ ap (λ l. take n l) behind ∙ take_at content more n refl)
+    (ap (λ k. drop (10 + k) bytes) reported ∙ sym (drop-drop n 10 bytes) ∙ ap (λ l. drop n l) behind ∙ drop_at content more n refl)))
 
 record Fields (bytes : List ℕ) (r : Record) (rest : List ℕ) : Type 0 where
   fields : List ℕ
@@ -246,8 +246,8 @@ first_by bytes r rest (Some behind) is e =
 first : (bytes : List ℕ) (r : Record) (rest : List ℕ) → first_record bytes ≡ Some (r, rest) → First bytes r rest
 first bytes r rest e = first_by bytes r rest (after_the_name 0 bytes) refl e
 
-told : (s : Spelled) (more : List ℕ) → IsSpelled s → first_record (spelled_bytes s ++ more) ≡ Some (record_of s, more)
-told s more is =
+reported : (s : Spelled) (more : List ℕ) → IsSpelled s → first_record (spelled_bytes s ++ more) ≡ Some (record_of s, more)
+reported s more is =
     let name = flat_map label_bytes s.owner ++ s.ending in
     ap (λ l. first_record l) (append_assoc name (s.fields ++ s.content) more ∙ ap (λ l. name ++ l) (append_assoc s.fields s.content more))
     ∙ ap (λ o. option_and_then record_after o) (walked s.owner s.ending (s.fields ++ (s.content ++ more)) is.owner is.ending)
@@ -256,7 +256,7 @@ told s more is =
 -- ---- all of them
 
 no_record : (bytes : List ℕ) → first_record bytes ≡ None → (s : Spelled) (more : List ℕ) → IsSpelled s → bytes ≡ spelled_bytes s ++ more → ⊥
-no_record bytes e s more is whole = never (sym e ∙ ap (λ l. first_record l) whole ∙ told s more is)
+no_record bytes e s more is whole = never (sym e ∙ ap (λ l. first_record l) whole ∙ reported s more is)
 
 spelled_by : (n : ℕ) (bytes : List ℕ) (o : Option (Record × List ℕ)) → first_record bytes ≡ o → ((rest : List ℕ) → AreSpelled n rest) → AreSpelled (suc n) bytes
 spelled_by n bytes None e more = record {

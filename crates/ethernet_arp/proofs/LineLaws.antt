@@ -29,11 +29,11 @@ module _ (k host : Host) (p : FramePart) (before bytes : List ℕ) where
   brings_frame is e t =
       ap (λ (h : Host). frame_brings h (take p.len p.area)) is ∙ sym (brought_is k before bytes ∙ e ∙ whole_frame k p t)
 
-  pub told_whole : (shown : List ℕ) (brought : Decoded) → host ≡ k → brought_from k (open_from [] before) bytes ≡ whole_brings k p → (nat_le 14 p.len && nat_le p.len 1514) ≡ true
+  pub reported_whole : (shown : List ℕ) (brought : Decoded) → host ≡ k → brought_from k (open_from [] before) bytes ≡ whole_brings k p → (nat_le 14 p.len && nat_le p.len 1514) ≡ true
       → ReportsBrought (ether_medium host) shown brought (frame_brings host (take p.len p.area)) → ReportsBrought (ether_medium k) shown brought (all_decoded (ether_medium k) before bytes)
-  told_whole shown brought is e t told =
+  reported_whole shown brought is e t reported =
       subst (λ (h : Host). ReportsBrought (ether_medium h) shown brought (all_decoded (ether_medium k) before bytes)) is
-      (subst (λ (l : List (MediumInput Act)). ReportsBrought (ether_medium host) shown brought l) (brings_frame is e t) told)
+      (subst (λ (l : List (MediumInput Act)). ReportsBrought (ether_medium host) shown brought l) (brings_frame is e t) reported)
 
   pub did_whole : (arp : Arp) (acts : List Act) → host ≡ k → brought_from k (open_from [] before) bytes ≡ whole_brings k p → (nat_le 14 p.len && nat_le p.len 1514) ≡ true
       → Knows arp (acts ++ acts_among (frame_brings host (take p.len p.area))) → Knows arp (acts ++ acts_among (all_decoded (ether_medium k) before bytes))

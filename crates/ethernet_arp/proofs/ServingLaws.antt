@@ -2,35 +2,35 @@
 use Rattle.ethernet_arp.proofs.Prelude.{ℕ, Bool, List, Option, AppSpec, Ghosts, ServeEnd, Addr, Node, MediumSpec, AllSaid, StationEvent, PrefixWritten, Station, IsStationed, SaidBy, ServesOver, LineView}
 use Rattle.uip_edge.specs.declared.serve_end.ServeEnd.TheVariants as ends
 
-module _ {A S C : Type 0} (g : Ghosts A S) (w : MediumSpec C) (did did' told told' : List C → Type 0) (before after : Node A S)
-    (first : (acts : List C) → told acts → did acts) (last : (acts : List C) → did' acts → told' acts) where
-  starts : (s : Station C) → IsStationed g told before s → IsStationed g did before s
+module _ {A S C : Type 0} (g : Ghosts A S) (w : MediumSpec C) (did did' reported reported' : List C → Type 0) (before after : Node A S)
+    (first : (acts : List C) → reported acts → did acts) (last : (acts : List C) → did' acts → reported' acts) where
+  starts : (s : Station C) → IsStationed g reported before s → IsStationed g did before s
   starts s p = record { stands = p.stands; acted = first s.acts p.acted }
 
-  stops : (s : Station C) → IsStationed g did' after s → IsStationed g told' after s
+  stops : (s : Station C) → IsStationed g did' after s → IsStationed g reported' after s
   stops s p = record { stands = p.stands; acted = last s.acts p.acted }
 
-  all_told : (m : AppSpec) (served : ℕ → Bool) (own : Addr) (station_events : List (StationEvent C)) (a b : Option (List ℕ))
-      → AllSaid m served w own station_events (IsStationed g did before) (IsStationed g did' after) a b → AllSaid m served w own station_events (IsStationed g told before) (IsStationed g told' after) a b
-  all_told m served own station_events a b v = record { each = λ s p. let it = v.each s (starts s p) in (stops _ it.0, it.1) }
+  all_reported : (m : AppSpec) (served : ℕ → Bool) (own : Addr) (station_events : List (StationEvent C)) (a b : Option (List ℕ))
+      → AllSaid m served w own station_events (IsStationed g did before) (IsStationed g did' after) a b → AllSaid m served w own station_events (IsStationed g reported before) (IsStationed g reported' after) a b
+  all_reported m served own station_events a b v = record { each = λ s p. let it = v.each s (starts s p) in (stops _ it.0, it.1) }
 
-  prefix_told : (m : AppSpec) (served : ℕ → Bool) (own : Addr) (station_events : List (StationEvent C)) (a b : Option (List ℕ))
-      → PrefixWritten m served w own station_events (IsStationed g did before) (IsStationed g did' after) a b → PrefixWritten m served w own station_events (IsStationed g told before) (IsStationed g told' after) a b
-  prefix_told m served own station_events a b v = record {
+  prefix_reported : (m : AppSpec) (served : ℕ → Bool) (own : Addr) (station_events : List (StationEvent C)) (a b : Option (List ℕ))
+      → PrefixWritten m served w own station_events (IsStationed g did before) (IsStationed g did' after) a b → PrefixWritten m served w own station_events (IsStationed g reported before) (IsStationed g reported' after) a b
+  prefix_reported m served own station_events a b v = record {
     each = λ s p.
         let it = v.each s (starts s p) in
         record { done = it.done; last = it.last; later = it.later; split = it.split; after = stops _ it.after; broke = it.broke };
   }
 
   reported_by : (end : ServeEnd) (m : AppSpec) (served : ℕ → Bool) (own : Addr) (station_events : List (StationEvent C)) (a b : Option (List ℕ))
-      → SaidBy end m served w own station_events (IsStationed g did before) (IsStationed g did' after) a b → SaidBy end m served w own station_events (IsStationed g told before) (IsStationed g told' after) a b
-  reported_by ends.End m served own station_events a b v = all_told m served own station_events a b v
-  reported_by ends.Budget m served own station_events a b v = all_told m served own station_events a b v
-  reported_by ends.LinkFault m served own station_events a b v = all_told m served own station_events a b v
-  reported_by ends.WriteFault m served own station_events a b v = prefix_told m served own station_events a b v
+      → SaidBy end m served w own station_events (IsStationed g did before) (IsStationed g did' after) a b → SaidBy end m served w own station_events (IsStationed g reported before) (IsStationed g reported' after) a b
+  reported_by ends.End m served own station_events a b v = all_reported m served own station_events a b v
+  reported_by ends.Budget m served own station_events a b v = all_reported m served own station_events a b v
+  reported_by ends.LinkFault m served own station_events a b v = all_reported m served own station_events a b v
+  reported_by ends.WriteFault m served own station_events a b v = prefix_reported m served own station_events a b v
 
-  pub serves_told : (pace n : ℕ) (old new : LineView) (end : ServeEnd) → ServesOver g w did did' pace n before after old new end → ServesOver g w told told' pace n before after old new end
-  serves_told pace n old new end v = record {
+  pub serves_reported : (pace n : ℕ) (old new : LineView) (end : ServeEnd) → ServesOver g w did did' pace n before after old new end → ServesOver g w reported reported' pace n before after old new end
+  serves_reported pace n old new end v = record {
     taken = v.taken;
     are = v.are;
     consumed = v.consumed;

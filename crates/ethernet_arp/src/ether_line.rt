@@ -49,7 +49,7 @@ impl EtherLine {
         requires most { self.old.part.len ≤ LARGEST_FRAME }
         ensures part { self.new.part ≡ self.old.part }
         ensures host { host_of self.new.arp ≡ host_of self.old.arp }
-        ensures told { ReportsBrought (ether_medium (host_of self.old.arp)) (shown_of self.new) result
+        ensures reported { ReportsBrought (ether_medium (host_of self.old.arp)) (shown_of self.new) result
             (frame_brings (host_of self.old.arp) (take self.old.part.len self.old.part.area)) }
         ensures knows { (acts : List Act) → Knows self.old.arp acts → Knows self.new.arp
             (acts ++ acts_among (frame_brings (host_of self.old.arp) (take self.old.part.len self.old.part.area))) }

@@ -46,7 +46,7 @@ pub fn take(arp: &mut Arp, frame: &[u8], out: &mut [u8]) -> Taken
     requires most { length frame.now ≤ LARGEST_FRAME }
     requires room { ARP_FRAME ≤ length out.old }
     ensures host { host_of arp.new ≡ host_of arp.old }
-    ensures told { ReportsTaken (host_of arp.old) frame.now result
+    ensures reported { ReportsTaken (host_of arp.old) frame.now result
         (frame_brings (host_of arp.old) frame.now) out.old out.new }
     ensures table { IsTaught (frame_brings (host_of arp.old) frame.now) arp.old arp.new }
     ensures knows { (acts : List Act) → Knows arp.old acts

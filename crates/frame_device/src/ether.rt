@@ -54,7 +54,7 @@ fn take_whole(ether: &mut Ethernet, buf: &mut [u8], len: usize) -> Decoded
     ensures long { length buf.new ≡ length buf.old }
     ensures fits { FitsFrame (length buf.new) result }
     ensures interface { interface_of ether.new ≡ interface_of ether.old }
-    ensures told { ReportsFrame (ether_frames (interface_of ether.old)) buf.new result
+    ensures reported { ReportsFrame (ether_frames (interface_of ether.old)) buf.new result
         (frame_brings (host_of ether.old.arp) (take len buf.old)) }
     ensures knows { (acts : List Act) → Knows ether.old.arp acts
         → Knows ether.new.arp (acts ++ acts_among (frame_brings (host_of ether.old.arp) (take len buf.old))) }

@@ -40,7 +40,7 @@ pub trait Frames: Drop {
         requires room { LARGEST_OUT ≤ length buf.old }
         ensures long { length buf.new ≡ length buf.old }
         ensures fits { FitsFrame (length buf.new) result }
-        ensures told { (k : Self.Config) (acts : List Self.Act) → did self.old k acts
+        ensures reported { (k : Self.Config) (acts : List Self.Act) → did self.old k acts
             → ReportsFrame (spec k) buf.new result ((spec k).decodes (take len buf.old)) }
         ensures did { (k : Self.Config) (acts : List Self.Act) → did self.old k acts
             → did self.new k (acts ++ acts_among ((spec k).decodes (take len buf.old))) };

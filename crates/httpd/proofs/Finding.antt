@@ -53,6 +53,6 @@ found_place files apart name (Some id) named there = named_by files apart name i
 -- the hits after a request are a prefix of what is kept of them, and are those of the site that both name
 pub hits_left : (new all : List ℕ) (n : ℕ) (site other : SiteContent) (hits others : List ℕ) (before after : Wanted) → n ≡ length new → new ≡ hits_by (files_of site) hits before after → site ≡ other → hits ≡ others
     → take n (new ++ drop (length new) all) ≡ hits_by (files_of other) others before after
-hits_left new all n site other hits others before after size told is same =
-    ap (λ k. take k (new ++ drop (length new) all)) size ∙ take-append_seam new _ ∙ told
+hits_left new all n site other hits others before after size reported is same =
+    ap (λ k. take k (new ++ drop (length new) all)) size ∙ take-append_seam new _ ∙ reported
     ∙ ap (λ (s : SiteContent). hits_by (files_of s) hits before after) is ∙ ap (λ (l : List ℕ). hits_by (files_of other) l before after) same

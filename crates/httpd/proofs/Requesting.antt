@@ -13,14 +13,14 @@ method_goes_on old line request piece is e open_still =
     record { goes_on = sym (ap (λ (l : Line). l.done) holds) ∙ open_still; holds = holds }
 
 -- the method has ended, and whether it is `GET`
-is_get_told : (line : Line) (bytes : List ℕ) → line ≡ delivered Space bytes → (not line.query && bytes_eq line.name (codes "GET")) ≡ bytes_eq (word_of Space bytes) (codes "GET")
-is_get_told line bytes holds = ap (λ (l : Line). not l.query && bytes_eq l.name (codes "GET")) holds ∙ get_heard (word_of Space bytes)
+is_get_reported : (line : Line) (bytes : List ℕ) → line ≡ delivered Space bytes → (not line.query && bytes_eq line.name (codes "GET")) ≡ bytes_eq (word_of Space bytes) (codes "GET")
+is_get_reported line bytes holds = ap (λ (l : Line). not l.query && bytes_eq l.name (codes "GET")) holds ∙ get_heard (word_of Space bytes)
 
 pub method_refused : (old line : Line) (request piece : List ℕ) → HearsMethod old request → line ≡ after old piece → line.done ≡ true → (not line.query && bytes_eq line.name (codes "GET")) ≡ false
     → wanted (request ++ piece) ≡ Refused
 method_refused old line request piece is e done other =
     let holds : line ≡ delivered Space (request ++ piece) = method_holds old line request piece is e in
-    other_method (request ++ piece) (sym (ap (λ (l : Line). l.done) holds) ∙ done) (sym (is_get_told line (request ++ piece) holds) ∙ other)
+    other_method (request ++ piece) (sym (ap (λ (l : Line). l.done) holds) ∙ done) (sym (is_get_reported line (request ++ piece) holds) ∙ other)
 
 -- the target begins after what was consumed
 pub record Begins (request piece : List ℕ) (count : ℕ) : Type 0 where
@@ -45,7 +45,7 @@ target_begins old line request piece count is e size done get =
     record {
       hears = record {
         method_ended = here.ended;
-        method = ap (λ w. bytes_eq w (codes "GET")) here.method ∙ sym (is_get_told line (request ++ piece) holds) ∙ get;
+        method = ap (λ w. bytes_eq w (codes "GET")) here.method ∙ sym (is_get_reported line (request ++ piece) holds) ∙ get;
         goes_on = ap (has_ended SpaceOrLine) here.nothing;
         holds = sym (ap (delivered SpaceOrLine) here.nothing);
       };

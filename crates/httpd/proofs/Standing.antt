@@ -8,8 +8,8 @@ means g site = web_spec_by g (files_of site)
 
 -- ---- an offset is a number, so it can be taken out of a fact of which no witness is known
 
-body_place_told : {F : Type 0} (r : FileReply F) (at : ℕ) → ∥ IsBodyPlace r at ∥₁ → IsBodyPlace r at
-body_place_told r at h =
+body_place_reported : {F : Type 0} (r : FileReply F) (at : ℕ) → ∥ IsBodyPlace r at ∥₁ → IsBodyPlace r at
+body_place_reported r at h =
     let inside : at ≤ length (body r) = ∥∥₁_elim h le_prop (λ is. is.within) in
     record {
       within = inside;
@@ -18,29 +18,29 @@ body_place_told r at h =
           omega (arith, inside, over);
     }
 
-scripted_told : (b : Bool) → ∥ (b ≡ true) ∥₁ → b ≡ true
-scripted_told true h = refl
-scripted_told false h = absurd (let never : 1 ≤ 0 = ∥∥₁_elim h le_prop (λ e. absurd (true≢false (sym e))) in omega (arith, never))
+scripted_reported : (b : Bool) → ∥ (b ≡ true) ∥₁ → b ≡ true
+scripted_reported true h = refl
+scripted_reported false h = absurd (let never : 1 ≤ 0 = ∥∥₁_elim h le_prop (λ e. absurd (true≢false (sym e))) in omega (arith, never))
 
-inner_told : {F : Type 0} (r : FileReply F) (next : ℕ) → ∥ IsInner r next ∥₁ → IsInner r next
-inner_told r next h = record {
-  script = scripted_told (is_scripted r.file) (∥∥₁_map h (λ is. is.script));
-  goes_on = body_place_told r next (∥∥₁_map h (λ is. is.goes_on));
+inner_reported : {F : Type 0} (r : FileReply F) (next : ℕ) → ∥ IsInner r next ∥₁ → IsInner r next
+inner_reported r next h = record {
+  script = scripted_reported (is_scripted r.file) (∥∥₁_map h (λ is. is.script));
+  goes_on = body_place_reported r next (∥∥₁_map h (λ is. is.goes_on));
 }
 
-fits_told : {F : Type 0} (r : FileReply F) (t : Thread) → ∥ Fits r t ∥₁ → Fits r t
+fits_reported : {F : Type 0} (r : FileReply F) (t : Thread) → ∥ Fits r t ∥₁ → Fits r t
 unfolding Fits
-fits_told r (Head at) h = ∥∥₁_elim h le_prop (λ is. is)
-fits_told r (Kind at) h = ∥∥₁_elim h le_prop (λ is. is)
-fits_told r (Body at) h = body_place_told r at h
-fits_told r (Inside next file at) h =
-    (inner_told r next (∥∥₁_map h (λ is. is.0)), ∥∥₁_elim h le_prop (λ is. is.1), ∥∥₁_elim h le_prop (λ is. is.2))
-fits_told r (Making next at) h = (inner_told r next (∥∥₁_map h (λ is. is.0)), ∥∥₁_elim h le_prop (λ is. is.1))
-fits_told r End h = tt
+fits_reported r (Head at) h = ∥∥₁_elim h le_prop (λ is. is)
+fits_reported r (Kind at) h = ∥∥₁_elim h le_prop (λ is. is)
+fits_reported r (Body at) h = body_place_reported r at h
+fits_reported r (Inside next file at) h =
+    (inner_reported r next (∥∥₁_map h (λ is. is.0)), ∥∥₁_elim h le_prop (λ is. is.1), ∥∥₁_elim h le_prop (λ is. is.2))
+fits_reported r (Making next at) h = (inner_reported r next (∥∥₁_map h (λ is. is.0)), ∥∥₁_elim h le_prop (λ is. is.1))
+fits_reported r End h = tt
 
-found_told : (files : List File) (found : Option FileId) → ∥ IsFound files found ∥₁ → IsFound files found
-found_told files None h = tt
-found_told files (Some id) h = ∥∥₁_elim h le_prop (λ is. is)
+found_reported : (files : List File) (found : Option FileId) → ∥ IsFound files found ∥₁ → IsFound files found
+found_reported files None h = tt
+found_reported files (Some id) h = ∥∥₁_elim h le_prop (λ is. is)
 
 -- ---- while a reply is sent
 
@@ -49,10 +49,10 @@ replying g text a site p found e s = subst (λ st. StandsIn g text a site p st) 
 
 pub reply_fits : {F R : Type 0} (g : ScriptFunctions F) (text : R → List ℕ) (a : Pages R) (site : SiteContent) (found : Option FileId) → a.stage ≡ stage.Reply found → IsRepresented (PagesRepresent g text) a site → Fits (reply_by g text site found a.capture) a.thread
 reply_fits g text a site found e has =
-    fits_told (reply_by g text site found a.capture) a.thread (∥∥₁_map has (λ c. (replying g text a site c.0 found e c.1).1.fits))
+    fits_reported (reply_by g text site found a.capture) a.thread (∥∥₁_map has (λ c. (replying g text a site c.0 found e c.1).1.fits))
 
 pub reply_found : {F R : Type 0} (g : ScriptFunctions F) (text : R → List ℕ) (a : Pages R) (site : SiteContent) (found : Option FileId) → a.stage ≡ stage.Reply found → IsRepresented (PagesRepresent g text) a site → IsFound (files_of site) found
-reply_found g text a site found e has = found_told (files_of site) found (∥∥₁_map has (λ c. (replying g text a site c.0 found e c.1).1.there))
+reply_found g text a site found e has = found_reported (files_of site) found (∥∥₁_map has (λ c. (replying g text a site c.0 found e c.1).1.there))
 
 pub some_part : {F R : Type 0} (g : ScriptFunctions F) (text : R → List ℕ) (a : Pages R) (site : SiteContent) (n : ℕ) → CanSay (means g) (PagesRepresent g text) a site n → IsRepresented (PagesRepresent g text) a site
 some_part g text a site n can = ∥∥₁_map can (λ c. (c.0, c.1))

@@ -13,7 +13,7 @@ pub record Saying (r : FileReply Function) (thread : Thread) (first now : SinkVi
   pub prefix : List ℕ
   pub parts : zero_reply r.files r.file ≡ prefix ++ zero_left r thread
   pub fits : Fits r thread
-  pub told : Appends first.written now.written prefix
+  pub reported : Appends first.written now.written prefix
   pub same : now.faults ≡ first.faults
 
 pub saying_starts : (r : FileReply Function) → r.functions ≡ uip → (first : SinkView) → Saying r (Head 0) first first
@@ -22,7 +22,7 @@ saying_starts r e first = record {
   prefix = [];
   parts = sym (ap (flat_map zero_said) (reply_start r.functions r.files r.file r.made ∙ ap (λ g. reply_to_by g.function_table.named r.files r.file) e));
   fits = prefix_fits r;
-  told = Appends-none first.written;
+  reported = Appends-none first.written;
   same = refl;
 }
 
@@ -44,7 +44,7 @@ saying_more r is_uip thread look first mid now t s sees w = record {
   prefix = s.prefix ++ span_text capture_text look.span;
   parts = s.parts ∙ ap (λ rest. s.prefix ++ rest) (leads_zero r is_uip thread look sees) ∙ sym (append_assoc s.prefix (span_text capture_text look.span) (zero_left r look.next));
   fits = sees.next;
-  told = Appends-then first.written mid.written now.written s.prefix (span_text capture_text look.span) s.told w.whole;
+  reported = Appends-then first.written mid.written now.written s.prefix (span_text capture_text look.span) s.reported w.whole;
   same = w.cause.same ∙ s.same;
 }
 
@@ -53,7 +53,7 @@ pub saying_stops : {T U : Type 0} (r : FileReply Function) → r.functions ≡ u
     → Writes {T = T} {E = Failed} mid now (Err e) (span_text capture_text look.span) → Writes first now result (zero_reply r.files r.file)
 saying_stops {T = T} r is_uip thread look first mid now e result fails s sees w =
     writes_broken {U = T} result fails e first mid now s.prefix (span_text capture_text look.span) (zero_left r look.next) (zero_reply r.files r.file)
-    (append_assoc s.prefix (span_text capture_text look.span) (zero_left r look.next) ∙ sym (s.parts ∙ ap (λ rest. s.prefix ++ rest) (leads_zero r is_uip thread look sees))) s.told s.same w
+    (append_assoc s.prefix (span_text capture_text look.span) (zero_left r look.next) ∙ sym (s.parts ∙ ap (λ rest. s.prefix ++ rest) (leads_zero r is_uip thread look sees))) s.reported s.same w
 
 -- the text of a call's record comes next
 call_zero : (site : SiteContent) (found : Option FileId) (old new : Capture) (pieces : List (Say Function)) (f : Function) (argument : List ℕ) (next : Thread) → SeesCall (reply_in site found old) pieces f argument next
@@ -76,14 +76,14 @@ pub saying_taken : (site : SiteContent) (found : Option FileId) (old new : Captu
 unfolding zero_left
 saying_taken site found old new thread next f argument first now s sees made =
     let call = call_zero site found old new (left_from (reply_in site found old) thread) f argument next sees made in
-    record { prefix = s.prefix; parts = s.parts ∙ ap (λ rest. s.prefix ++ rest) call.0; fits = call.1; told = s.told; same = s.same }
+    record { prefix = s.prefix; parts = s.parts ∙ ap (λ rest. s.prefix ++ rest) call.0; fits = call.1; reported = s.reported; same = s.same }
 
 -- nothing is left
 pub saying_ends : {T E : Type 0} (r : FileReply Function) (thread : Thread) (first now : SinkView) (t : T) → Saying r thread first now → left_from r thread ≡ [] → Writes {T = T} {E = E} first now (Ok t) (zero_reply r.files r.file)
 unfolding zero_left
 saying_ends r thread first now t s none =
     writes_by (Ok t) first now (s.prefix ++ []) (zero_reply r.files r.file) (s.parts ∙ ap (λ ps. s.prefix ++ flat_map zero_said ps) none)
-    (writes_then (Ok t) first now now s.prefix [] s.told s.same (writes_none now t))
+    (writes_then (Ok t) first now now s.prefix [] s.reported s.same (writes_none now t))
 
 -- ---- each look brings fewer calls, fewer pieces or fewer bytes
 

@@ -56,7 +56,7 @@ pub trait Medium {
         ensures within { result.count ≤ length bytes.now }
         ensures fed { (k : Self.Config) (before : List ℕ) → fed self.old k before
             → fed self.new k (before ++ take result.count bytes.now) }
-        ensures told { (k : Self.Config) (before : List ℕ) → fed self.old k before → ReportsBrought (spec k)
+        ensures reported { (k : Self.Config) (before : List ℕ) → fed self.old k before → ReportsBrought (spec k)
             (shown self.new) result.brought (all_decoded (spec k) before (take result.count bytes.now)) }
         ensures did { (k : Self.Config) (before : List ℕ) (acts : List Self.Act)
             → fed self.old k before → did self.old k acts

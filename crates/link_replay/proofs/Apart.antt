@@ -169,8 +169,8 @@ module _ (files : List File) where
       (refl, heard_apart start.numbers start.part s.text (moved_apart start.part refl))
   state_apart SynRcvd false c numbers s e h = h
   state_apart Established true c numbers s e h =
-      let told : After = m.acked numbers c.part c.len in
-      established_apart true (with_part told.part (rests c)) told.numbers s e (moved_apart told.part refl) (λ z. absurd (cc))
+      let reported : After = m.acked numbers c.part c.len in
+      established_apart true (with_part reported.part (rests c)) reported.numbers s e (moved_apart reported.part refl) (λ z. absurd (cc))
   state_apart Established false c numbers s e h = established_apart false c numbers s e h.apart (λ z. h.idle e)
   state_apart CloseWait true c numbers s e h = (ap is_live e, moved_apart (m.acked numbers c.part c.len).part refl)
   state_apart CloseWait false c numbers s e h = record { idle = h.idle; apart = h.apart }

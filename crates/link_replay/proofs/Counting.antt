@@ -6,7 +6,7 @@ use Rattle.icmp_echo.specs.declared.fate.IcmpFate.TheVariants as Icmp
 use Rattle.tcp_segment.specs.declared.fate.TcpFate.TheVariants as Tcp
 
 -- one more event is past, and its answer was sent again where the step sent again
-record Told (n : AbstractNode) (r : NodeStep) : Type 0 where
+record Reported (n : AbstractNode) (r : NodeStep) : Type 0 where
   pub last : HistoryEntry
   pub is : r.node.history ≡ last ∷ n.history
   pub again : raises 18 last ≡ is_sent_again r.sent
@@ -26,45 +26,45 @@ answered None again sockets id = refl
 answered (Some s) true sockets id = refl
 answered (Some s) false sockets id = refl
 
-passed : (n : AbstractNode) (event : Event) (answer : Answer) → was_again answer ≡ false → Told n (passes n event answer)
+passed : (n : AbstractNode) (event : Event) (answer : Answer) → was_again answer ≡ false → Reported n (passes n event answer)
 passed n event answer e = record { last = record { event = event; answer = answer }; is = refl; again = by_answer event answer ∙ e }
 
-told_happened : (m : AppSpec) (n : AbstractNode) (event : Event) (slot : ℕ) (old : Connection) (o : Outcome) → Told n (happened m n event slot old o)
+reported_happened : (m : AppSpec) (n : AbstractNode) (event : Event) (slot : ℕ) (old : Connection) (o : Outcome) → Reported n (happened m n event slot old o)
 unfolding happened
-told_happened m n event slot old o = record {
+reported_happened m n event slot old o = record {
   last = record { event = event; answer = option_map_or (λ s. Spoke (is_again o.step)) (segment_of m o.connection o.step) Silent };
   is = refl;
   again = by_answer event _ ∙ answered (segment_of m o.connection o.step) (is_again o.step) o.connection.sockets _;
 }
 
-told_opens : (m : AppSpec) (n : AbstractNode) (sockets : Sockets) (s : PlainSegment) (slot : Option ℕ) → Told n (opens m n sockets s slot)
+reported_opens : (m : AppSpec) (n : AbstractNode) (sockets : Sockets) (s : PlainSegment) (slot : Option ℕ) → Reported n (opens m n sockets s slot)
 unfolding opens_in
-told_opens m n sockets s None = passed n (Arrived sockets s) NoSlot refl
-told_opens m n sockets s (Some slot) =
-    let t = told_happened m n (Arrived sockets s) slot (connection_in slot n) (accept (initial_number n.history) sockets s n.numbers) in
+reported_opens m n sockets s None = passed n (Arrived sockets s) NoSlot refl
+reported_opens m n sockets s (Some slot) =
+    let t = reported_happened m n (Arrived sockets s) slot (connection_in slot n) (accept (initial_number n.history) sockets s n.numbers) in
     record { last = t.last; is = t.is; again = t.again }
 
-told_stranger : (m : AppSpec) (served : ℕ → Bool) (n : AbstractNode) (sockets : Sockets) (s : PlainSegment) → Told n (for_no_connection m served n sockets s)
+reported_stranger : (m : AppSpec) (served : ℕ → Bool) (n : AbstractNode) (sockets : Sockets) (s : PlainSegment) → Reported n (for_no_connection m served n sockets s)
 unfolding for_no_connection
-told_stranger m served n sockets s =
-    choose (λ (r : NodeStep). Told n r) (is_plain_syn s && served sockets.own_port.0) _ _ (λ e. told_opens m n sockets s (slot_for_syn n.connections))
-    (λ e. choose (λ (r : NodeStep). Told n r) (has_rst s.flags) _ _ (λ f. passed n (Arrived sockets s) Silent refl)
+reported_stranger m served n sockets s =
+    choose (λ (r : NodeStep). Reported n r) (is_plain_syn s && served sockets.own_port.0) _ _ (λ e. reported_opens m n sockets s (slot_for_syn n.connections))
+    (λ e. choose (λ (r : NodeStep). Reported n r) (has_rst s.flags) _ _ (λ f. passed n (Arrived sockets s) Silent refl)
     (λ f. record { last = record { event = Arrived sockets s; answer = Spoke false }; is = refl; again = refl }))
 
-told_arrives : (m : AppSpec) (served : ℕ → Bool) (n : AbstractNode) (sockets : Sockets) (s : PlainSegment) (found : Option ℕ) → Told n (arrives_at m served n sockets s found)
-told_arrives m served n sockets s None = told_stranger m served n sockets s
-told_arrives m served n sockets s (Some slot) =
-    told_happened m n (Arrived sockets s) slot (connection_in slot n) (asked m (snapshot n (Arrived sockets s) slot) (on_segment m (connection_in slot n) n.numbers s))
+reported_arrives : (m : AppSpec) (served : ℕ → Bool) (n : AbstractNode) (sockets : Sockets) (s : PlainSegment) (found : Option ℕ) → Reported n (arrives_at m served n sockets s found)
+reported_arrives m served n sockets s None = reported_stranger m served n sockets s
+reported_arrives m served n sockets s (Some slot) =
+    reported_happened m n (Arrived sockets s) slot (connection_in slot n) (asked m (snapshot n (Arrived sockets s) slot) (on_segment m (connection_in slot n) n.numbers s))
 
-told : (m : AppSpec) (served : ℕ → Bool) (n : AbstractNode) (event : Event) → Told n (step m served n event)
-told m served n (IpRefused fate) = passed n (IpRefused fate) Silent refl
-told m served n (IcmpRefused fate) = passed n (IcmpRefused fate) Silent refl
-told m served n (TcpRefused fate) = passed n (TcpRefused fate) Silent refl
-told m served n (EchoAsked datagram) = record { last = record { event = EchoAsked datagram; answer = EchoReplied }; is = refl; again = refl }
-told m served n (Arrived sockets s) = told_arrives m served n sockets s (position (serves sockets) n.connections)
-told m served n Overlong = passed n Overlong Silent refl
-told m served n (Periodic slot) =
-    told_happened m n (Periodic slot) slot (connection_in slot n) (asked m (snapshot n (Periodic slot) slot) (on_tick m (connection_in slot n) n.numbers))
+reported : (m : AppSpec) (served : ℕ → Bool) (n : AbstractNode) (event : Event) → Reported n (step m served n event)
+reported m served n (IpRefused fate) = passed n (IpRefused fate) Silent refl
+reported m served n (IcmpRefused fate) = passed n (IcmpRefused fate) Silent refl
+reported m served n (TcpRefused fate) = passed n (TcpRefused fate) Silent refl
+reported m served n (EchoAsked datagram) = record { last = record { event = EchoAsked datagram; answer = EchoReplied }; is = refl; again = refl }
+reported m served n (Arrived sockets s) = reported_arrives m served n sockets s (position (serves sockets) n.connections)
+reported m served n Overlong = passed n Overlong Silent refl
+reported m served n (Periodic slot) =
+    reported_happened m n (Periodic slot) slot (connection_in slot n) (asked m (snapshot n (Periodic slot) slot) (on_tick m (connection_in slot n) n.numbers))
 
 rises : (b : Bool) (t : ℕ) → not (eqb (wrap t) (wrap (if b then t + 1 else t))) ≡ b
 rises true t = let e : (wrap t ≡ wrap (t + 1)) → ⊥ = λ h. omega arith in grind (arith, common_steps)
@@ -74,7 +74,7 @@ rises false t = grind (arith, common_steps)
 pub resent_differs : (m : AppSpec) (served : ℕ → Bool) (n : AbstractNode) (event : Event) →
     not (eqb (resent n.history) (resent (step m served n event).node.history)) ≡ is_sent_again (step m served n event).sent
 resent_differs m served n event =
-    let t = told m served n event in
+    let t = reported m served n event in
     ap (λ (p : List HistoryEntry). not (eqb (resent n.history) (resent p))) t.is
     ∙ rises (raises 18 t.last) (times (raises 18) n.history)
     ∙ t.again

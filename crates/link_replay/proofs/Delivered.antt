@@ -1,5 +1,5 @@
 -- A delivery passes on the bytes of a datagram, once its client has recorded it.
-use Rattle.link_replay.proofs.Prelude.{◌≡◌, ℕ, zero, suc, ◌<◌, Bool, List, [], ◌∷◌, length, set, refl, sym, ap, ◌∙◌, subst, arith, Option, Some, None, slice_get, option_map_or, AppSpec, Ghosts, PlainSegment, event_of, Event, Arrived, AbstractNode, step, AbstractClient, ClientStep, client_takes, handed, hands_over, hears_datagram, World, Side, Sent, Content, numbered, client_sockets, client_stepped, with_client, with_side, posts_of_client, marked, delivers, node_handles, OfSegment, OfPing, OfEcho, Who, FromClient, FromNode, Pinger, IsRead, IsSentBy, get_set_same, pair_at, WorldRepresents, LinkRepresents, IsLink, AnswersTo, AreTo, client_told, pair_at_side, sees, Link, CodeWorld}
+use Rattle.link_replay.proofs.Prelude.{◌≡◌, ℕ, zero, suc, ◌<◌, Bool, List, [], ◌∷◌, length, set, refl, sym, ap, ◌∙◌, subst, arith, Option, Some, None, slice_get, option_map_or, AppSpec, Ghosts, PlainSegment, event_of, Event, Arrived, AbstractNode, step, AbstractClient, ClientStep, client_takes, handed, hands_over, hears_datagram, World, Side, Sent, Content, numbered, client_sockets, client_stepped, with_client, with_side, posts_of_client, marked, delivers, node_handles, OfSegment, OfPing, OfEcho, Who, FromClient, FromNode, Pinger, IsRead, IsSentBy, get_set_same, pair_at, WorldRepresents, LinkRepresents, IsLink, AnswersTo, AreTo, client_reported, pair_at_side, sees, Link, CodeWorld}
 use Rattle.link_replay.proofs.Handling.{arrived_to, linked}
 use Rattle.link_replay.proofs.Pairs.{reads}
 
@@ -33,8 +33,8 @@ number_put w (suc n) old new h = get_set_same w.sides n old new h
 module _ (m : AppSpec) (served : ℕ → Bool) (w : World) (k : ℕ) (e : Sent) (server : (number : ℕ) (side : Side) → numbered w.sides number ≡ Some side → side.client.setup.server ≡ w.node.addr) where
   -- what holds where a datagram of this kind is delivered
   pub record Hands (who : Who) (content : Content) (bytes : List ℕ) : Type 0 where
-    pub same : hands_over m served (sees w (client_told who) k e (numbered w.sides (client_told who))) bytes who ≡ delivers m served w k e who content
-    pub answers : AnswersTo (sees w (client_told who) k e (numbered w.sides (client_told who))) who (step m served w.node (event_of w.node.addr bytes)).sent
+    pub same : hands_over m served (sees w (client_reported who) k e (numbered w.sides (client_reported who))) bytes who ≡ delivers m served w k e who content
+    pub answers : AnswersTo (sees w (client_reported who) k e (numbered w.sides (client_reported who))) who (step m served w.node (event_of w.node.addr bytes)).sent
 
   from_client : (number id : ℕ) (s : PlainSegment) (bytes : List ℕ) (side : Side) → numbered w.sides number ≡ Some side → event_of w.node.addr bytes ≡ Arrived (client_sockets side) s → Hands (FromClient number) (OfSegment id s) bytes
   from_client number id s bytes side g r =

@@ -1,6 +1,6 @@
 -- A file's hits as a count over the events of a node.
 -- [add: state] A request that arrives in it.
-use Rattle.link_replay.proofs.Prelude.{◌≡◌, ℕ, zero, suc, ◌+◌, ◌%◌, ◌^◌, ◌<◌, Bool, true, false, not, ◌&&◌, ◌||◌, if◌then◌else◌, List, [], ◌∷◌, length, get_or, set, replicate, refl, sym, ap, ◌∙◌, subst, arith, eqb, eq-eqb, ltb, Option, Some, None, slice_get, slice_index_or, position, length-set, REST_TIME, get_or-set_other, get_or-set_same, wrap, PlainSegment, has_fin, has_rst, beat_at, Beat, AppState, After, AppSpec, Now, Ending, State, Closed, SynRcvd, Established, CloseWait, FinWait1, FinWait2, Closing, TimeWait, LastAck, Want, Nothing, Send, Close, Abort, File, Connection, Sockets, closed, serves, is_plain_syn, Outcome, after_own_fin, closes, peer_has_closed, idles, does_as_wanted, prepared, asked_for, asked, accept, in_state, takes, told_end, with_window, hears, is_out_of_order, is_acked, rests, has_text, in_established, peer_closes, stays_established, fin_acked, fin_waits, with_part, by_state, on_segment, grows_older, limit_of, outstanding, by_beat, rests_on, ticks_established, tick_by, on_tick, Step, initial_number, Event, IpRefused, IcmpRefused, TcpRefused, EchoAsked, Arrived, Overlong, Periodic, AbstractNode, NodeStep, arrives_at, connection_in, for_no_connection, happened, snapshot, initial_node, opens, opens_in, run, slot_for_syn, step, place_of, Wanted, wanted, NotYet, Refused, Name, is_served, no_hits, hit_at, hits_by, is_acknowledged, waits_for_capture, web_spec, choose, eqb-eq, wrap_wrap, Inside, slot_inside, position_in, all_closed, get_set, index_none, index_of, set_past, here, there, HitsAreCounted, becomes_hit, hits_over, is_place, one_hits}
+use Rattle.link_replay.proofs.Prelude.{◌≡◌, ℕ, zero, suc, ◌+◌, ◌%◌, ◌^◌, ◌<◌, Bool, true, false, not, ◌&&◌, ◌||◌, if◌then◌else◌, List, [], ◌∷◌, length, get_or, set, replicate, refl, sym, ap, ◌∙◌, subst, arith, eqb, eq-eqb, ltb, Option, Some, None, slice_get, slice_index_or, position, length-set, REST_TIME, get_or-set_other, get_or-set_same, wrap, PlainSegment, has_fin, has_rst, beat_at, Beat, AppState, After, AppSpec, Now, Ending, State, Closed, SynRcvd, Established, CloseWait, FinWait1, FinWait2, Closing, TimeWait, LastAck, Want, Nothing, Send, Close, Abort, File, Connection, Sockets, closed, serves, is_plain_syn, Outcome, after_own_fin, closes, peer_has_closed, idles, does_as_wanted, prepared, asked_for, asked, accept, in_state, takes, reported_end, with_window, hears, is_out_of_order, is_acked, rests, has_text, in_established, peer_closes, stays_established, fin_acked, fin_waits, with_part, by_state, on_segment, grows_older, limit_of, outstanding, by_beat, rests_on, ticks_established, tick_by, on_tick, Step, initial_number, Event, IpRefused, IcmpRefused, TcpRefused, EchoAsked, Arrived, Overlong, Periodic, AbstractNode, NodeStep, arrives_at, connection_in, for_no_connection, happened, snapshot, initial_node, opens, opens_in, run, slot_for_syn, step, place_of, Wanted, wanted, NotYet, Refused, Name, is_served, no_hits, hit_at, hits_by, is_acknowledged, waits_for_capture, web_spec, choose, eqb-eq, wrap_wrap, Inside, slot_inside, position_in, all_closed, get_set, index_none, index_of, set_past, here, there, HitsAreCounted, becomes_hit, hits_over, is_place, one_hits}
 
 -- ---- one connection
 
@@ -41,12 +41,12 @@ module _ (files : List File) where
   fin_fresh d Closed = tt
   fin_fresh d _ = tt
 
-  told_same : (how : Ending) (st : State) (p : AppState) (numbers : List ℕ) → told_end m how st p numbers ≡ numbers
-  told_same how Closed p numbers = refl
-  told_same how _ p numbers = refl
+  reported_same : (how : Ending) (st : State) (p : AppState) (numbers : List ℕ) → reported_end m how st p numbers ≡ numbers
+  reported_same how Closed p numbers = refl
+  reported_same how _ p numbers = refl
 
-  closes_counts : (c : Connection) (how : Ending) (numbers : List ℕ) (s : Step) → Counts (asks c) numbers (record { connection = closes c; numbers = told_end m how c.state c.part numbers; step = s })
-  closes_counts c how numbers s = record { hits = told_same how c.state c.part numbers ∙ sym (same_by numbers (asks c)); fresh = tt }
+  closes_counts : (c : Connection) (how : Ending) (numbers : List ℕ) (s : Step) → Counts (asks c) numbers (record { connection = closes c; numbers = reported_end m how c.state c.part numbers; step = s })
+  closes_counts c how numbers s = record { hits = reported_same how c.state c.part numbers ∙ sym (same_by numbers (asks c)); fresh = tt }
 
   -- what the application receives
   hears_hits : (numbers : List ℕ) (p : AppState) (text : List ℕ) → (hears m numbers p text).numbers ≡ hits_by files numbers (wanted p.input) (wanted (hears m numbers p text).part.input)
@@ -112,8 +112,8 @@ module _ (files : List File) where
       record { hits = hears_hits start.numbers start.part s.text ∙ ap (λ xs. hits_by files numbers (wanted xs) (asks o.connection)) (sym f); fresh = tt }
   by_state_counts SynRcvd false c numbers s e f = quiet c c numbers Step.Drop refl (at_state c SynRcvd e f)
   by_state_counts Established true c numbers s e f =
-      let told : After = m.acked numbers c.part c.len in
-      established_counts true (with_part told.part (rests c)) told.numbers s e
+      let reported : After = m.acked numbers c.part c.len in
+      established_counts true (with_part reported.part (rests c)) reported.numbers s e
   by_state_counts Established false c numbers s e f = established_counts false c numbers s e
   by_state_counts CloseWait true c numbers s e f =
       let d : Connection = with_window s.window (with_part (m.acked numbers c.part c.len).part (rests c)) in

@@ -22,7 +22,7 @@ pub mod Listing
 pub mod Saying
 pub mod Standing
 pub mod Shown
-pub mod ReportTold
+pub mod ReportWritten
 pub mod WorkedReports
 pub mod Counted
 pub mod WorkedSummaries
@@ -33,7 +33,7 @@ pub mod Kept
 pub mod PlayedText
 pub mod Quads
 pub mod ReportTexts
-pub mod Told
+pub mod Reported
 pub mod Typed
 pub mod Undisturbed
 pub mod TextCounts

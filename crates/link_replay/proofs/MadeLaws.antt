@@ -43,5 +43,5 @@ only_full files seed clients line reason some refused =
     let fine = subst (λ (events : List Event). FineLines (plays (web_spec files) is_served events (opening_for (no_hits files) plans)))
     (sym (events_numbered (clients + 1) (events_of seed clients))) (made_fine (web_spec files) is_served clients some seed (opening_for (no_hits files) plans) ready) in
     let full : refused.fault ≡ Full = subst FineLines refused.meant_so fine in
-    let told : Bad line Why.Full ≡ Bad line reason = ap (refusal_at line) (sym full) ∙ refused.told in
+    let reported : Bad line Why.Full ≡ Bad line reason = ap (refusal_at line) (sym full) ∙ refused.reported in
     cc

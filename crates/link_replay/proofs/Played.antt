@@ -60,14 +60,14 @@ module _ (m : AppSpec) (served : ℕ → Bool) where
 
   refuses : (Before : World → Type 0) (lines : List Line) (line : Line) (left : List Line) (place : ℕ) (end : Result World BadLine) (fault : StepFault) (why : Why) → slice_get lines place ≡ Some line
       → (h : AmidLines Before place (line ∷ left) end) → plays_line m served h.world line.event ≡ Err fault → refusal_at line.at fault ≡ Bad line.at why → Refuses lines end line.at why
-  refuses Before lines line left place end fault why there h e told = record {
+  refuses Before lines line left place end fault why there h e reported = record {
     place = place;
     fault = fault;
     meant_so = sym h.rest ∙ ap (λ (r : Result World StepFault). goes_on_with place (plays_from m served (place + 1) (map event_at left)) r) e;
     line = line;
     there = there;
     numbered = refl;
-    told = told;
+    reported = reported;
   }
 
   -- a line is refused

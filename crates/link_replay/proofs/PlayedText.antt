@@ -1,5 +1,5 @@
 -- What is due for a schedule that was played by the server of a site.
-use Rattle.link_replay.proofs.Prelude.{All, ◌≡◌, ℕ, List, Result, Ok, Err, length, sym, subst, refl, inl, inr, ap, ◌∙◌, Bool, lit<, All-replicate, AppSpec, IsByte, IsPaged, IsU32, Pages, SiteContent, IsLoaded, files_of, File, pages_of, web_spec, keeps_page_laws, ReadsSchedule, IfOk, MatchResult, Some, slice_get, BadText, SchedulePlan, read_text, ReadSchedule, Bad, HasBytes, plays, World, plan_from, PlaysSchedule, Reaches, Refuses, IsAt, bad_schedule, outcome, is_served, no_hits, WritesDue, IsPlayDue, IsTextDue, WritesFault, told_of, HasReached, ServesHonest, KeepsPromises, ReplayEnd, Telling, Report, Planned, IsPlanned, WritesEnd, SinkView}
+use Rattle.link_replay.proofs.Prelude.{All, ◌≡◌, ℕ, List, Result, Ok, Err, length, sym, subst, refl, inl, inr, ap, ◌∙◌, Bool, lit<, All-replicate, AppSpec, IsByte, IsPaged, IsU32, Pages, SiteContent, IsLoaded, files_of, File, pages_of, web_spec, keeps_page_laws, ReadsSchedule, IfOk, MatchResult, Some, slice_get, BadText, SchedulePlan, read_text, ReadSchedule, Bad, HasBytes, plays, World, plan_from, PlaysSchedule, Reaches, Refuses, IsAt, bad_schedule, outcome, is_served, no_hits, WritesDue, IsPlayDue, IsTextDue, WritesFault, reported_of, HasReached, ServesHonest, KeepsPromises, ReplayEnd, Telling, Report, Planned, IsPlanned, WritesEnd, SinkView}
 use Rattle.link_schedule.specs.declared.read_schedule.ReadSchedule.TheVariants.{NoMemory}
 use Rattle.link_replay.specs.declared.replay_end.ReplayEnd.TheVariants as ends
 use Rattle.link_replay.proofs.Honest.{honest_at}
@@ -63,17 +63,17 @@ module _ (site : SiteContent) (loaded : IsLoaded site) (content : SchedulePlan) 
   pub played_due : All IsByte site.image → (Now : World → Type 0)
       → ((k : ℕ) (p : Planned) → slice_get (plan_from 1 content.clients) k ≡ Some p → IsPlanned p)
       → Reaches (web_spec (files_of site)) is_served Now (outcome (files_of site) content)
-      → ((m : AppSpec) (served : ℕ → Bool) (w : World) → Now w → IsAt m served w → WritesEnd ends.Done ends.WriteFault old new (told_of telling w) result)
+      → ((m : AppSpec) (served : ℕ → Bool) (w : World) → Now w → IsAt m served w → WritesEnd ends.Done ends.WriteFault old new (reported_of telling w) result)
       → WritesDue (IsPlayDue (files_of site) content telling) old new result
   played_due bytes Now are_planned reach wrote =
-      let due : IsPlayDue (files_of site) content telling (told_of telling reach.world) ends.Done = record {
+      let due : IsPlayDue (files_of site) content telling (reported_of telling reach.world) ends.Done = record {
         world = reach.world;
         plays = reach.meant_so;
-        told = refl;
+        reported = refl;
         promises = keeps_promises site loaded bytes is_served reach.world reach.at;
         honest = honest_at site loaded content are_planned reach.world reach.meant_so;
       } in
-      inl (told_of telling reach.world, ends.Done, due, wrote (web_spec (files_of site)) is_served reach.world reach.now reach.at)
+      inl (reported_of telling reach.world, ends.Done, due, wrote (web_spec (files_of site)) is_served reach.world reach.now reach.at)
 
   -- a line of it was refused, and is reported
   pub refused_due : {X : Type 0} (Now : X → World → Type 0) (fault : ReadSchedule)
@@ -93,8 +93,8 @@ ReadDue files show text end r =
 pub text_answers : (files : List File) (bytes : List ℕ) (content : SchedulePlan) (show : Bool) → read_text bytes ≡ Ok content
     → (old new : SinkView) (result : ReplayEnd) → WritesDue (IsPlayDue files content (Report show)) old new result
     → WritesDue (IsTextDue files bytes show) old new result
-text_answers files bytes content show reads old new result (inl told) =
-    inl (told.0, told.1, subst (ReadDue files show told.0 told.1) {x = Ok content} (sym reads) told.2, told.3)
+text_answers files bytes content show reads old new result (inl reported) =
+    inl (reported.0, reported.1, subst (ReadDue files show reported.0 reported.1) {x = Ok content} (sym reads) reported.2, reported.3)
 text_answers files bytes content show reads old new result (inr short) = inr short
 
 -- the text does not read, and its first bad line is reported

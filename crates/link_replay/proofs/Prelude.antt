@@ -13,7 +13,7 @@ unfoldable pub use Rattle.link_client.specs.Prelude.{aborts_by, again_by, client
 pub use Rattle.link_client.specs.declared.client_state.ClientState.{ClientState}
 pub use Rattle.link_client.specs.declared.client_state.ClientState.TheVariants.{Idle}
 pub use Rattle.link_client.specs.declared.setup.Setup.{Setup}
-pub use Rattle.link_replay.specs.Prelude.{AbortAndCloseApart, ActSteps, ActsEnd, AnswersTo, AppendsShown, AreFresh, AreTo, AreWorkedReplays, AreWorkedReports, AreWorkedSummaries, ClosesInTime, CodeSent, CodeSide, CodeWorld, DamageLoses, EndsReport, EndsWith, Follows, FromHere, HasReached, HitsAreCounted, HonestPages, HonestReplay, HonestWebPeer, IsAt, IsAtLast, IsFresh, IsHonest, IsLink, IsLoadText, IsPlayDue, IsReplayText, IsShort, IsTextDue, IsTo, KeepsPromises, LacksEither, LinesEnd, Link, LinkRepresents, LoadEnds, LoadIsReported, Matched, OnlyEpoch, OnlyFull, PagesAreReceived, PlaysSchedule, PostsOfClient, PostsReply, Reaches, Refuses, ReplayEnds, ReplayIsReported, SentRepresents, ServesHonest, ShownSide, SideRepresents, Stepped, Stops, StopsAt, WritesFault, WorldRepresents, WritesDue, WritesText, Wrote, WroteDue, bad_schedule, becomes_hit, buried, client_line, client_told, code_side_shown, column, counts_line, datagram_line, digits_or_dash, event_at, gone_pair, hits_over, is_at_end, is_place, is_sent_again, kind_sent, line_of_datagram, lines_of_client, link_of, lost, lost_at, most_of, numbered_texts, one_hits, opening_for, or_pair, outcome, own_step, owner, owner_in, pair_at, pair_at_side, parts_of, pieces_for, plan_from, planned, refusal_at, report, resent, rounds_for, sees, segment_kind, server, side_shown, sockets_at, sockets_for, summary_of, tally_line, tally_of, text_line, texts_for, texts_of, told_of}
+pub use Rattle.link_replay.specs.Prelude.{AbortAndCloseApart, ActSteps, ActsEnd, AnswersTo, AppendsShown, AreFresh, AreTo, AreWorkedReplays, AreWorkedReports, AreWorkedSummaries, ClosesInTime, CodeSent, CodeSide, CodeWorld, DamageLoses, EndsReport, EndsWith, Follows, FromHere, HasReached, HitsAreCounted, HonestPages, HonestReplay, HonestWebPeer, IsAt, IsAtLast, IsFresh, IsHonest, IsLink, IsLoadText, IsPlayDue, IsReplayText, IsShort, IsTextDue, IsTo, KeepsPromises, LacksEither, LinesEnd, Link, LinkRepresents, LoadEnds, LoadIsReported, Matched, OnlyEpoch, OnlyFull, PagesAreReceived, PlaysSchedule, PostsOfClient, PostsReply, Reaches, Refuses, ReplayEnds, ReplayIsReported, SentRepresents, ServesHonest, ShownSide, SideRepresents, Stepped, Stops, StopsAt, WritesFault, WorldRepresents, WritesDue, WritesText, Wrote, WroteDue, bad_schedule, becomes_hit, buried, client_line, client_reported, code_side_shown, column, counts_line, datagram_line, digits_or_dash, event_at, gone_pair, hits_over, is_at_end, is_place, is_sent_again, kind_sent, line_of_datagram, lines_of_client, link_of, lost, lost_at, most_of, numbered_texts, one_hits, opening_for, or_pair, outcome, own_step, owner, owner_in, pair_at, pair_at_side, parts_of, pieces_for, plan_from, planned, refusal_at, report, resent, rounds_for, sees, segment_kind, server, side_shown, sockets_at, sockets_for, summary_of, tally_line, tally_of, text_line, texts_for, texts_of, reported_of}
 pub use Rattle.link_replay.specs.declared.kind.Kind.{Kind}
 pub use Rattle.link_replay.specs.declared.kind.Kind.TheVariants.{EchoReply}
 pub use Rattle.link_replay.specs.declared.own.Own.{Own}
@@ -90,9 +90,9 @@ pub use Rattle.std.specs.Option.{is_some, option_map_or}
 pub use Rattle.std.specs.Prelude.{IfSome, IsSomeAnd, MatchResult, OnErr, OnOk, codes, count_by, filter, flat_map, fold, is_none, option_map, slice_index, ⊤}
 pub use Rattle.std.specs.Str.{bytes_eq}
 pub use Rattle.std.specs.Vec.{with_items}
-pub use Rattle.tcp_machine.specs.Prelude.{ConnRepresents, Connection, Outcome, Sockets, accept, accepted, after_own_fin, asked, asked_for, by_beat, by_state, closed, closes, does_as_wanted, first_mss, grows_older, has_text, hears, in_state, is_acked, is_again, is_live, is_out_of_order, is_plain_syn, limit_of, on_tick, outstanding, peer_has_closed, prepared, reset_for_no_connection, rests, rows_from, same_sockets, segment_of, serves, takes, tick_by, told_end, with_part, with_window}
+pub use Rattle.tcp_machine.specs.Prelude.{ConnRepresents, Connection, Outcome, Sockets, accept, accepted, after_own_fin, asked, asked_for, by_beat, by_state, closed, closes, does_as_wanted, first_mss, grows_older, has_text, hears, in_state, is_acked, is_again, is_live, is_out_of_order, is_plain_syn, limit_of, on_tick, outstanding, peer_has_closed, prepared, reset_for_no_connection, rests, rows_from, same_sockets, segment_of, serves, takes, tick_by, reported_end, with_part, with_window}
 pub use Rattle.text_buffer.specs.Prelude.{word_if}
-pub use Rattle.uip_edge.proofs.Told.{Appends-none, Appends-then, appends_by, on_err, prefix_by, prefix_more, prefix_then}
+pub use Rattle.uip_edge.proofs.Reported.{Appends-none, Appends-then, appends_by, on_err, prefix_by, prefix_more, prefix_then}
 pub use Rattle.uip_edge.specs.Prelude.{AppendsPrefix, Files, SinkView, WorkUnfailed, WorkView, WritesAll, WritesEnd, sink_view, work_view}
 pub use Rattle.uip_node.proofs.Basics.{and_true, append_nothing, both_ways, choose, eqb-eq, get_push, ltb-zero, not-true, prefix_length, wrap_wrap}
 pub use Rattle.uip_node.proofs.Basics.AtEnd.{newest, older}

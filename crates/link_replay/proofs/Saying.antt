@@ -5,10 +5,10 @@ use Rattle.link_replay.proofs.Prelude.{◌≡◌, ℕ, List, [], ◌++◌, Optio
 pub record Saying (first now : Option (List ℕ)) (whole rest : List ℕ) : Type 0 where
   pub prefix : List ℕ
   pub parts : whole ≡ prefix ++ rest
-  pub told : Appends first now prefix
+  pub reported : Appends first now prefix
 
 pub saying_starts : (first : Option (List ℕ)) (whole : List ℕ) → Saying first first whole whole
-saying_starts first whole = record { prefix = []; parts = refl; told = Appends-none first }
+saying_starts first whole = record { prefix = []; parts = refl; reported = Appends-none first }
 
 -- a part more
 pub saying_more : {T E : Type 0} (first mid now : Option (List ℕ)) (whole rest text more : List ℕ) (t : T) → Saying first mid whole rest → rest ≡ text ++ more
@@ -16,7 +16,7 @@ pub saying_more : {T E : Type 0} (first mid now : Option (List ℕ)) (whole rest
 saying_more first mid now whole rest text more t s e w = record {
   prefix = s.prefix ++ text;
   parts = s.parts ∙ ap (λ l. s.prefix ++ l) e ∙ sym (append_assoc s.prefix text more);
-  told = Appends-then first mid now s.prefix text s.told w.whole;
+  reported = Appends-then first mid now s.prefix text s.reported w.whole;
 }
 
 -- a part failed
@@ -26,26 +26,26 @@ saying_stops first mid now whole rest text more e d (Ok u) is s same w = absurd 
 saying_stops first mid now whole rest text more e d (Err f) is s same w = record {
   whole = tt;
   prefix = prefix_by first now (s.prefix ++ rest) whole s.parts
-      (prefix_then first mid now s.prefix rest s.told (prefix_more mid now text more rest (sym same) w.prefix));
+      (prefix_then first mid now s.prefix rest s.reported (prefix_more mid now text more rest (sym same) w.prefix));
 }
 
 -- the last part is written, or fails
 pub saying_ends : {T E : Type 0} (first mid now : Option (List ℕ)) (whole rest : List ℕ) (r : Result T E) → Saying first mid whole rest
     → Wrote mid now r rest → Wrote first now r whole
 saying_ends first mid now whole rest (Ok t) s w = record {
-  whole = appends_by first now (s.prefix ++ rest) whole s.parts (Appends-then first mid now s.prefix rest s.told w.whole);
+  whole = appends_by first now (s.prefix ++ rest) whole s.parts (Appends-then first mid now s.prefix rest s.reported w.whole);
   prefix = tt;
 }
 saying_ends first mid now whole rest (Err e) s w = record {
   whole = tt;
-  prefix = prefix_by first now (s.prefix ++ rest) whole s.parts (prefix_then first mid now s.prefix rest s.told w.prefix);
+  prefix = prefix_by first now (s.prefix ++ rest) whole s.parts (prefix_then first mid now s.prefix rest s.reported w.prefix);
 }
 
 -- nothing is left
 pub saying_done : {T E : Type 0} (first now : Option (List ℕ)) (whole rest : List ℕ) (t : T) → Saying first now whole rest → rest ≡ []
     → Wrote {T = T} {E = E} first now (Ok t) whole
 saying_done first now whole rest t s none = record {
-  whole = appends_by first now s.prefix whole (s.parts ∙ ap (λ l. s.prefix ++ l) none ∙ append-nil s.prefix) s.told;
+  whole = appends_by first now s.prefix whole (s.parts ∙ ap (λ l. s.prefix ++ l) none ∙ append-nil s.prefix) s.reported;
   prefix = tt;
 }
 

@@ -3,25 +3,25 @@ use Rattle.link_replay.proofs.Prelude.{◌≡◌, ℕ, Bool, true, List, [], ◌
 use Rattle.link_replay.proofs.Matching.{same_images}
 
 -- what is reported of a client
-side_told : (x : CodeSide) (s : Side) → SideRepresents x s → code_side_shown x ≡ side_shown s
-side_told x s st =
+side_reported : (x : CodeSide) (s : Side) → SideRepresents x s → code_side_shown x ≡ side_shown s
+side_reported x s st =
     let shown : AbstractClient → Option ℕ → ShownSide = λ c first. record { state = c.state; received = c.received; first_stale = first } in
     ap (λ (c : AbstractClient). shown c x.first_stale) st.client ∙ ap (λ (first : Option ℕ). shown s.client first) st.first_stale
 
 -- of the clients
-pub sides_told : (xs : List CodeSide) (ss : List Side) → Matched SideRepresents xs ss → map code_side_shown xs ≡ map side_shown ss
-sides_told xs ss m = same_images SideRepresents (λ x. code_side_shown x) (λ s. side_shown s) xs ss side_told m
+pub sides_reported : (xs : List CodeSide) (ss : List Side) → Matched SideRepresents xs ss → map code_side_shown xs ≡ map side_shown ss
+sides_reported xs ss m = same_images SideRepresents (λ x. code_side_shown x) (λ s. side_shown s) xs ss side_reported m
 
 -- and so the lines of the clients
 pub lines_stand : (show : Bool) (xs : List CodeSide) (ss : List Side) → Matched SideRepresents xs ss
     → numbered_texts (lines_of_client show) 1 (map code_side_shown xs) ≡ numbered_texts (lines_of_client show) 1 (map side_shown ss)
-lines_stand show xs ss m = ap (λ (shown : List ShownSide). numbered_texts (lines_of_client show) 1 shown) (sides_told xs ss m)
+lines_stand show xs ss m = ap (λ (shown : List ShownSide). numbered_texts (lines_of_client show) 1 shown) (sides_reported xs ss m)
 
 -- and the tally
-pub tally_told : (link : Link) (w : World) → LinkRepresents link w
+pub tally_reported : (link : Link) (w : World) → LinkRepresents link w
     → tally_of (map code_side_shown link.sides) (map (λ e. e.again) link.sent) ≡ tally_of (map side_shown w.sides) (map (λ e. e.again) w.sent)
-tally_told link w st =
-    ap (λ (xs : List ShownSide). tally_of xs (map (λ e. e.again) link.sent)) (sides_told link.sides w.sides st.sides)
+tally_reported link w st =
+    ap (λ (xs : List ShownSide). tally_of xs (map (λ e. e.again) link.sent)) (sides_reported link.sides w.sides st.sides)
     ∙ ap (λ (again : List Bool). tally_of (map side_shown w.sides) again)
     (same_images (SentRepresents w) (λ x. x.again) (λ e. e.again) link.sent w.sent (λ x e s. s.again) st.sent)
 
@@ -59,6 +59,6 @@ report_ends show old a b new clients line (Ok t) d c w = record {
 report_ends show old a b new clients line (Err e) d c w = tt
 
 -- the lines of what is reported of a client
-pub lines_told : {T E : Type 0} (show : Bool) (number : ℕ) (x : CodeSide) (y : ShownSide) (old new : Option (List ℕ)) (r : Result T E) → code_side_shown x ≡ y
+pub lines_reported : {T E : Type 0} (show : Bool) (number : ℕ) (x : CodeSide) (y : ShownSide) (old new : Option (List ℕ)) (r : Result T E) → code_side_shown x ≡ y
     → Wrote old new r (lines_of_client show number (code_side_shown x)) → Wrote old new r (lines_of_client show number y)
-lines_told show number x y old new r e w = subst (λ (z : ShownSide). Wrote old new r (lines_of_client show number z)) e w
+lines_reported show number x y old new r e w = subst (λ (z : ShownSide). Wrote old new r (lines_of_client show number z)) e w

@@ -20,16 +20,16 @@ use Rattle.link_replay.specs.declared.told_as.Telling.{Telling}
 use Rattle.link_replay.specs.declared.told_as.Telling.TheVariants.{Report, Summary}
 
 -- the text reported about a world
-abbrev pub told_of : Telling → World → List ℕ
-told_of (Report show) w = report show w
-told_of Summary w = summary_of w
+abbrev pub reported_of : Telling → World → List ℕ
+reported_of (Report show) w = report show w
+reported_of Summary w = summary_of w
 
 -- The schedule was played to its end by the server of these files. The text reports the world reached, which satisfies the guarantees. If
 -- the schedule has one client over a link that loses nothing, the client has its whole page.
 pub record ReportsWorld (files : List File) (content : SchedulePlan) (telling : Telling) (text : List ℕ) : Type 0 where
   pub world : World
   pub plays : outcome files content ≡ Ok world
-  pub told : text ≡ told_of telling world
+  pub reported : text ≡ reported_of telling world
   pub promises : KeepsPromises files world
   pub honest : (plan : Plan) → IsHonest files content plan → IsServedWhole (pages_of files) world
 

@@ -42,7 +42,7 @@ pub record Refuses (lines : List Line) (meant : Result World BadLine) (number : 
   pub line : Line
   pub there : slice_get lines place ≡ Some line
   pub numbered : line.at ≡ number
-  pub told : refusal_at number fault ≡ Bad number why
+  pub reported : refusal_at number fault ≡ Bad number why
 
 -- Lines in order: the world of the code represents the one reached, or a line is refused. If memory ran out, nothing is stated.
 abbrev pub LinesEnd : {X : Type 0} → AppSpec → (ℕ → Bool) → (X → World → Type 0) → List Line → Result X ReadSchedule

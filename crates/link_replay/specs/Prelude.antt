@@ -1,6 +1,7 @@
 -- The names of the definitions of this crate that other files cite, passed on from one place. Declares nothing.
 pub use Rattle.link_replay.specs.Apart.{AbortAndCloseApart, ClosesInTime, is_at_end}
-pub use Rattle.link_replay.specs.Due.{HasReached, IsPlayDue, IsShort, IsTextDue, ServesHonest, WritesFault, WritesDue, WritesText, told_of}
+pub use Rattle.link_replay.specs.Due.{HasReached, IsPlayDue, IsShort, IsTextDue, ServesHonest, WritesFault, WritesDue, WritesText}
+pub use Rattle.link_replay.specs.Due.{reported_of}
 pub use Rattle.link_replay.specs.Ending.{EndsWith, IsLoadText, IsReplayText, LacksEither, LoadEnds, ReplayEnds}
 pub use Rattle.link_replay.specs.Epochs.{IsAtLast, OnlyEpoch, buried, sockets_for}
 pub use Rattle.link_replay.specs.Hits.{HitsAreCounted, becomes_hit, hits_over, is_place, one_hits}
@@ -25,7 +26,7 @@ pub use Rattle.link_replay.specs.Represents.{Follows, IsLink, LinkRepresents, Se
 pub use Rattle.link_replay.specs.Shown.{AppendsShown, EndsReport, code_side_shown}
 pub use Rattle.link_replay.specs.State.{CodeWorld, Link, link_of}
 pub use Rattle.link_replay.specs.Summary.{summary_of, tally_line, tally_of}
-pub use Rattle.link_replay.specs.Telling.{AnswersTo, AreTo, IsTo, client_told, pair_at_side, sees}
+pub use Rattle.link_replay.specs.Telling.{AnswersTo, AreTo, IsTo, client_reported, pair_at_side, sees}
 pub use Rattle.link_replay.specs.Web.{HonestPages, PagesAreReceived, most_of, parts_of, pieces_for, texts_for, texts_of}
 pub use Rattle.link_replay.specs.Worked.{AreWorkedReplays}
 pub use Rattle.link_replay.specs.WorkedReports.{AreWorkedReports}

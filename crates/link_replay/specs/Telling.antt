@@ -17,10 +17,10 @@ AreTo to None = ⊤
 AreTo to (Some reply) = IsTo to reply
 
 -- the client that a datagram concerns, by its sender; 0 if it concerns none
-abbrev pub client_told : Who → ℕ
-client_told (FromClient number) = number
-client_told (FromNode number) = number
-client_told Pinger = 0
+abbrev pub client_reported : Who → ℕ
+client_reported (FromClient number) = number
+client_reported (FromNode number) = number
+client_reported Pinger = 0
 
 -- the sockets of the server's connection with a client
 abbrev pub pair_at_side : Option Side → Option SocketPair

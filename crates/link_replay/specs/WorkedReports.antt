@@ -50,8 +50,8 @@ node = record (initial_node (host 1) []) {
       ∷ map quiet tick);
 }
 
-abbrev pub is_told : ℕ → ℕ → ℕ → List ℕ → Content
-is_told seq ack flags text = OfSegment 1 (record { seq = seq; ack = ack; flags = flags; window = 1460; mss = None; text = text })
+abbrev pub is_reported : ℕ → ℕ → ℕ → List ℕ → Content
+is_reported seq ack flags text = OfSegment 1 (record { seq = seq; ack = ack; flags = flags; window = 1460; mss = None; text = text })
 
 abbrev pub sent : Who → ℕ → Bool → Content → Sent
 sent who ticks again content = record { who = who; tick = ticks; epoch = 0; again = again; content = content }
@@ -61,11 +61,11 @@ abbrev pub world : World
 world = record {
   node = node;
   sides = served ∷ waiting ∷ [];
-  sent = sent (FromClient 1) 0 false (is_told 1000 0 SYN [])
-      ∷ sent (FromNode 1) 0 false (is_told 4294967295 1001 (SYN + ACK) [])
+  sent = sent (FromClient 1) 0 false (is_reported 1000 0 SYN [])
+      ∷ sent (FromNode 1) 0 false (is_reported 4294967295 1001 (SYN + ACK) [])
       ∷ sent Pinger 1 false (OfPing [])
       ∷ sent (FromNode 0) 1 false (OfEcho [])
-      ∷ sent (FromNode 1) 2 true (is_told 0 1001 (ACK + PSH) (codes "k~"))
+      ∷ sent (FromNode 1) 2 true (is_reported 0 1001 (ACK + PSH) (codes "k~"))
       ∷ [];
   mark = 0;
 }

@@ -69,7 +69,7 @@ pub(crate) fn act_alone(
 pub(crate) fn advertise_window(sides: &mut Vec<Side>, number: u8, window: u16)
     ensures kept { (addr : Address) (sent : List CodeSent) → IsLink addr (link_of sides.old.items sent)
         → IsLink addr (link_of sides.new.items sent) }
-    ensures told { (w : PlainWorld) (sent : List CodeSent) → LinkRepresents (link_of sides.old.items sent) w
+    ensures reported { (w : PlainWorld) (sent : List CodeSent) → LinkRepresents (link_of sides.old.items sent) w
         → LinkRepresents (link_of sides.new.items sent) (client_acts w number (advertises_window window)) }
 {
     let place = usize::from(number);

@@ -6,7 +6,7 @@ ghost use Rattle.link_world.specs.Prelude.{client_acts, does, handles_all, chang
 ghost use Rattle.link_world.specs.World.{World as PlainWorld, node_handles, posts};
 ghost use Rattle.link_world.specs.declared.who.Who.TheVariants.{Pinger};
 ghost use Rattle.link_replay.specs.Prelude.{DoesAct, FromHere, HandsOver, KeepsLink, PassesToNode, ReportsStep, WorldRepresents};
-ghost use Rattle.link_replay.specs.Prelude.{client_told, own_step};
+ghost use Rattle.link_replay.specs.Prelude.{client_reported, own_step};
 
 use crate::acting::{act_alone, advertise_window, hear};
 use crate::before::Before;
@@ -34,7 +34,7 @@ impl<A: App> WorldOf<A> {
         ensures mark { self.new.mark ≡ self.old.mark }
         ensures spent { self.new.spent ≡ self.old.spent }
         ensures kept { KeepsLink self.old.link self.new.link }
-        ensures told { OnOk result (ReportsStep A.App before.now self.old.node to answer self.old.link self.new.link) }
+        ensures reported { OnOk result (ReportsStep A.App before.now self.old.node to answer self.old.link self.new.link) }
     {
         tell(
             &self.node,
@@ -235,7 +235,7 @@ impl<A: App> WorldOf<A> {
 
 /// Returns the client that a datagram concerns, by its sender; 0 if it concerns none.
 fn client_of(who: Who) -> u8
-    ensures { result ≡ client_told who }
+    ensures { result ≡ client_reported who }
 {
     match who {
         Who::FromClient(client) | Who::FromNode(client) => client,

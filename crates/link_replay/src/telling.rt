@@ -72,7 +72,7 @@ pub(crate) fn tell<A: App>(
     requires few { length sides.old.items ≤ 64 }
     ensures kept { (addr : Address) → IsLink addr (link_of sides.old.items sent.old.items)
         → IsLink addr (link_of sides.new.items sent.new.items) }
-    ensures told { OnOk result (ReportsStep A.App before.now node.now to answer (link_of sides.old.items sent.old.items)
+    ensures reported { OnOk result (ReportsStep A.App before.now node.now to answer (link_of sides.old.items sent.old.items)
         (link_of sides.new.items sent.new.items)) }
 {
     let again = before.again(node);

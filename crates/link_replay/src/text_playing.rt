@@ -4,7 +4,7 @@ ghost use Rattle.std.specs.Prelude.{OnErr, OnOk};
 ghost use Rattle.std.specs.Io.KnownBytes.{Appends};
 ghost use Rattle.uip_edge.specs.Prelude.{HasCause, AppendsPrefix, WritesEnd, sink_view};
 ghost use Rattle.file_tree.specs.Prelude.{files_of};
-ghost use Rattle.link_replay.specs.Prelude.{OfWorld, WritesDue, IsPlayDue, IsTextDue, WritesText, WritesFault, told_of};
+ghost use Rattle.link_replay.specs.Prelude.{OfWorld, WritesDue, IsPlayDue, IsTextDue, WritesText, WritesFault, reported_of};
 ghost use Rattle.link_replay.specs.Outcome.{bad_schedule as line_of};
 ghost use Rattle.link_replay.specs.declared.replay_end.ReplayEnd.TheVariants as ends;
 
@@ -57,7 +57,7 @@ pub(crate) fn play_schedule<K: Sink>(
 /// Writes the result of a world, and returns the end.
 fn tell<A: App, K: Sink>(world: &WorldOf<A>, telling: Telling, out: &mut K) -> ReplayEnd
     ensures { OfWorld A.App world.now (λ w.
-        WritesEnd ends.Done ends.WriteFault (sink_view K.Sink out.old) (sink_view K.Sink out.new) (told_of telling w) result) }
+        WritesEnd ends.Done ends.WriteFault (sink_view K.Sink out.old) (sink_view K.Sink out.new) (reported_of telling w) result) }
 {
     match write_world(world, telling, out) {
         Ok(()) => ReplayEnd::Done,
@@ -71,8 +71,9 @@ fn write_world<A: App, K: Sink>(
     telling: Telling,
     out: &mut K,
 ) -> Result<(), Failed>
-    ensures ok { OnOk result (OfWorld A.App world.now (λ w. Appends (K.written out.old) (K.written out.new) (told_of telling w))) }
-    ensures err { OnErr result (OfWorld A.App world.now (λ w. AppendsPrefix (K.written out.old) (K.written out.new) (told_of telling w))) }
+    ensures ok { OnOk result (OfWorld A.App world.now (λ w. Appends (K.written out.old) (K.written out.new) (reported_of telling w))) }
+    ensures err { OnErr result (OfWorld A.App world.now (λ w. AppendsPrefix (K.written out.old) (K.written out.new)
+        (reported_of telling w))) }
     ensures cause { HasCause (K.faults out.old) (K.faults out.new) result }
 {
     match telling {

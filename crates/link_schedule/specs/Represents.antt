@@ -48,6 +48,6 @@ abbrev pub read_client : List (List ℕ) → SchedulePlan → Result SchedulePla
 read_client words above = plan_of words >>= with_plan above
 
 -- a line's refusal, with its number
-abbrev pub told : ℕ → Refusal → ReadSchedule
-told line (Faulty why) = Bad line why
-told line NoMemory = NoRoom
+abbrev pub reported : ℕ → Refusal → ReadSchedule
+reported line (Faulty why) = Bad line why
+reported line NoMemory = NoRoom

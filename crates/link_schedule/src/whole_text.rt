@@ -3,7 +3,7 @@
 ghost use Rattle.std.specs.Prelude.{◌≡◌, ◌≤◌, length, map};
 ghost use Rattle.link_schedule.specs.Answer.{ReadsSchedule};
 ghost use Rattle.link_schedule.specs.Reading.{nothing_yet, read_lines as lines_meant};
-ghost use Rattle.link_schedule.specs.Represents.{told};
+ghost use Rattle.link_schedule.specs.Represents.{reported};
 
 use crate::read_schedule::ReadSchedule;
 use crate::reading::read_line;
@@ -32,7 +32,7 @@ pub fn read_lines(alloc: Global, lines: &[&[u8]]) -> Result<Schedule, ReadSchedu
 
 /// Returns a line's refusal, with its number.
 fn refused(line: u32, refusal: Refusal) -> ReadSchedule
-    ensures { result ≡ told line refusal }
+    ensures { result ≡ reported line refusal }
 {
     match refusal {
         Refusal::Faulty(why) => ReadSchedule::Bad { line, why },

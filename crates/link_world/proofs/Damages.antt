@@ -28,14 +28,14 @@ node_whole addr id s (Some side) a l g h =
     inl (datagram_whole (datagram_to addr (client_sockets side) id s)
     record { source = a.four; target = c.addr.four; source_bytes = a.all_bytes; target_bytes = c.addr.all_bytes; from = c.server_port; to = c.port; id = l } g)
 
-told : (w : World) (who : Who) (content : Content) → IsWholeDatagram (bytes_by w who content) ⊎ (bytes_by w who content ≡ []) → Bytes w who content
-told w who content h = elim h [ inl x ↦ wholly x | inr x ↦ nothing x ]
+reported : (w : World) (who : Who) (content : Content) → IsWholeDatagram (bytes_by w who content) ⊎ (bytes_by w who content ≡ []) → Bytes w who content
+reported w who content h = elim h [ inl x ↦ wholly x | inr x ↦ nothing x ]
 
 segment_bytes_are : (w : World) (who : Who) (id : ℕ) (s : PlainSegment) → id < 65536 → IsSoundSegment s → SoundWorld w → Bytes w who (OfSegment id s)
 segment_bytes_are w (FromClient zero) id s l g h = nothing refl
-segment_bytes_are w (FromClient (suc n)) id s l g h = told w (FromClient (suc n)) (OfSegment id s) (client_whole id s (slice_get w.sides n) l g (λ x e. h.sides n x e))
+segment_bytes_are w (FromClient (suc n)) id s l g h = reported w (FromClient (suc n)) (OfSegment id s) (client_whole id s (slice_get w.sides n) l g (λ x e. h.sides n x e))
 segment_bytes_are w (FromNode zero) id s l g h = nothing refl
-segment_bytes_are w (FromNode (suc n)) id s l g h = told w (FromNode (suc n)) (OfSegment id s) (node_whole w.node.addr id s (slice_get w.sides n) h.addr l g (λ x e. h.sides n x e))
+segment_bytes_are w (FromNode (suc n)) id s l g h = reported w (FromNode (suc n)) (OfSegment id s) (node_whole w.node.addr id s (slice_get w.sides n) h.addr l g (λ x e. h.sides n x e))
 segment_bytes_are w Pinger id s l g h = nothing refl
 
 pub bytes_are : (w : World) (who : Who) (content : Content) → SoundWorld w → SoundSent w.node.addr who content → Bytes w who content

@@ -119,7 +119,7 @@ module _ (m : AppSpec) (ports : AtPorts m) where
   steady = (ports.laws 0).steady
 
   -- where there are no more datagrams than a world can have, no number of a connection comes round
-  top_low : (k : ℕ) (side : Side) (c : Connection) (sent : List Sent) → Same.Told m steady k side c sent → length sent ≤ 65535 → is_live c.state ≡ true → c.acked + c.len < 4294967296
+  top_low : (k : ℕ) (side : Side) (c : Connection) (sent : List Sent) → Same.Reported m steady k side c sent → length sent ≤ 65535 → is_live c.state ≡ true → c.acked + c.len < 4294967296
   top_low k side c sent t h l = (let r = t.room l in omega (arith, r, h))
 
   -- what is outstanding is no longer than the output
@@ -145,7 +145,7 @@ module _ (m : AppSpec) (ports : AtPorts m) where
       omega (arith, here, z, t, u)
 
   record G (k : ℕ) (side : Side) (c : Connection) (sent : List Sent) : Type 0 where
-    told : Same.Told m steady k side c sent
+    reported : Same.Reported m steady k side c sent
     good : Prefix.G m ports k side c sent
     ends : length sent ≤ 65535 → Ends k side c sent
     exact : length sent ≤ 65535 → is_clean side ≡ true → ExactOpen k side.client side.history c sent side.opened
@@ -155,7 +155,7 @@ module _ (m : AppSpec) (ports : AtPorts m) where
 
   other : (k : ℕ) (side : Side) (c : Connection) (sent : List Sent) (e : Sent) → G k side c sent → (e.who ≡ to k → ⊥) → (e.who ≡ from k → ⊥) → G k side c (sent ++ e ∷ [])
   other k side c sent e g t f = record {
-    told = Same.other m steady k side c sent e g.told t f;
+    reported = Same.other m steady k side c sent e g.reported t f;
     good = Prefix.other m ports k side c sent e g.good t f;
     ends = λ r. push_ends k side c sent e (g.ends (room_before sent e r)) (λ l w. absurd (t w));
     exact = push_aside k side c sent e f g.exact;
@@ -166,7 +166,7 @@ module _ (m : AppSpec) (ports : AtPorts m) where
 
   reset : (k : ℕ) (side : Side) (c : Connection) (sent : List Sent) (e : Sent) → G k side c sent → e.epoch ≡ length side.history → has_syn (seg e).flags ≡ false → has_fin (seg e).flags ≡ false → (seg e).text ≡ [] → has_rst (seg e).flags ≡ true → e.again ≡ false → e.who ≡ to k → G k side c (sent ++ e ∷ [])
   reset k side c sent e g q sy fi te rs ag w = record {
-    told = Same.reset m steady k side c sent e g.told q sy fi te rs ag w;
+    reported = Same.reset m steady k side c sent e g.reported q sy fi te rs ag w;
     good = Prefix.reset m ports k side c sent e g.good q sy fi te rs ag w;
     ends = λ r. push_ends k side c sent e (g.ends (room_before sent e r)) (λ l x p. absurd (nothing_placed (seg e) sy fi te p));
     exact = push_aside k side c sent e (to_not_from k e w) g.exact;
@@ -180,7 +180,7 @@ module _ (m : AppSpec) (ports : AtPorts m) where
 
   evict : (k : ℕ) (side : Side) (c : Connection) (sent : List Sent) → is_live c.state ≡ true → G k side c sent → G k (Any.older side c) closed sent
   evict k side c sent l g = record {
-    told = Same.evict m steady k side c sent l g.told;
+    reported = Same.evict m steady k side c sent l g.reported;
     good = Prefix.evict m ports k side c sent l g.good;
     ends = λ r x. absurd (cc);
     exact = λ r cl. dead_exact (Prefix.speaker_of m ports side) k side.client side.history c c sent side.opened refl (g.good cl).opened_good (g.exact r cl);
@@ -188,7 +188,7 @@ module _ (m : AppSpec) (ports : AtPorts m) where
 
   mark : (k : ℕ) (side : Side) (c : Connection) (sent : List Sent) (n : ℕ) (e : Sent) → G k side c sent → G k (marked side n e) c sent
   mark k side c sent n e g = record {
-    told = Same.mark m steady k side c sent n e g.told;
+    reported = Same.mark m steady k side c sent n e g.reported;
     good = Prefix.mark m ports k side c sent n e g.good;
     ends = g.ends;
     exact = λ r cl. g.exact r (clean_before side n e cl).0;
@@ -205,29 +205,29 @@ module _ (m : AppSpec) (ports : AtPorts m) where
         (let z = x.high lc in omega (arith, z, mv.top)),
       )) x
 
-  abbrev ToldSteps : World → Outcome → ℕ → Side → Type 0
-  ToldSteps w o k side = Steps m (Same.Told m steady) (Same.other m steady) (Same.reset m steady) (Same.evict m steady) (Same.mark m steady) w o k side
+  abbrev ReportedSteps : World → Outcome → ℕ → Side → Type 0
+  ReportedSteps w o k side = Steps m (Same.Reported m steady) (Same.other m steady) (Same.reset m steady) (Same.evict m steady) (Same.mark m steady) w o k side
 
   abbrev GoodSteps : World → Outcome → ℕ → Side → Type 0
   GoodSteps w o k side = Steps m (Prefix.G m ports) (Prefix.other m ports) (Prefix.reset m ports) (Prefix.evict m ports) (Prefix.mark m ports) w o k side
 
   steps_by : (w : World) (old : Connection) (o : Outcome) (acked : Bool) (k : ℕ) (side : Side) → is_live old.state ≡ true → G k side old w.sent → FitConn o.connection → OutReported m steady Any_low (λ p f. tt) old o → Moves acked old o.connection →
-      ToldSteps w o k side → GoodSteps w o k side → (length w.sent ≤ 65535 → is_clean side ≡ true → (n : ℕ) → side.opened ≡ Some n → acked ≡ true → old.acked + old.len ≤ 1 + count side.client) → Steps m G other reset evict mark w o k side
+      ReportedSteps w o k side → GoodSteps w o k side → (length w.sent ≤ 65535 → is_clean side ≡ true → (n : ℕ) → side.opened ≡ Some n → acked ≡ true → old.acked + old.len ≤ 1 + count side.client) → Steps m G other reset evict mark w o k side
   steps_by w old o acked k side lv g fit h mv t p a =
       let live : length w.sent ≤ 65535 → is_clean side ≡ true → ExactOpen k side.client side.history o.connection w.sent side.opened = λ r cl. live_exact k side.client side.history old o.connection acked w.sent side.opened lv mv (g.exact r cl) (a r cl) in
       let dead : length w.sent ≤ 65535 → is_clean side ≡ true → ExactOpen k side.client (side.history ++ past_connection_of o.connection ∷ []) closed w.sent side.opened = λ r cl. dead_exact (Prefix.speaker_of m ports side) k side.client side.history old o.connection w.sent side.opened mv.iss (g.good cl).opened_good (g.exact r cl) in
       record {
-        quiet = λ n l. record { told = t.quiet n l; good = p.quiet n l; ends = λ r. moved_ends k side old o.connection acked w.sent lv mv (g.ends r); exact = live };
-        quiet_last = λ n l. record { told = t.quiet_last n l; good = p.quiet_last n l; ends = λ r x. absurd (cc); exact = dead };
+        quiet = λ n l. record { reported = t.quiet n l; good = p.quiet n l; ends = λ r. moved_ends k side old o.connection acked w.sent lv mv (g.ends r); exact = live };
+        quiet_last = λ n l. record { reported = t.quiet_last n l; good = p.quiet_last n l; ends = λ r x. absurd (cc); exact = dead };
         says = λ s e l tick id. record {
-          told = t.says s e l tick id;
+          reported = t.says s e l tick id;
           good = p.says s e l tick id;
           ends = λ r. push_ends k side o.connection w.sent (entry (to k) side tick id (model (is_again o.step) s)) (moved_ends k side old o.connection acked w.sent lv mv (g.ends (room_before w.sent (entry (to k) side tick id (model (is_again o.step) s)) r)))
               (λ x y. new_ends o.connection s (let z = (t.says s e l tick id).room l in omega (arith, z, r)) (h.safe l) (λ z. (h.output s e z).due_now));
           exact = push_aside k side o.connection w.sent (entry (to k) side tick id (model (is_again o.step) s)) (λ y. absurd (cc)) live;
         };
         says_last = λ s e l tick id. record {
-          told = t.says_last s e l tick id;
+          reported = t.says_last s e l tick id;
           good = p.says_last s e l tick id;
           ends = λ r x. absurd (cc);
           exact = push_aside k (Any.older side o.connection) closed w.sent (entry (to k) (Any.older side o.connection) tick id (model (is_again o.step) s)) (λ y. absurd (cc)) dead;
@@ -265,11 +265,11 @@ module _ (m : AppSpec) (ports : AtPorts m) where
       let o : Outcome = on_segment m old numbers (seg e) in
       let fo : FitOut o = on_segment_fits m steady old numbers (seg e) f n in
       let fit : FitConn (asked m now o).connection = stepped_fits m steady Any_low (λ p f. tt) now o is fo in
-      let h : OutReported m steady Any_low (λ p f. tt) old (asked m now o) = stepped_tells m steady Any_low (λ p f. tt) now old o is fo (segment_tells m steady Any_low (λ p f. tt) old numbers (seg e) (g.told.safe lv)) in
+      let h : OutReported m steady Any_low (λ p f. tt) old (asked m now o) = stepped_tells m steady Any_low (λ p f. tt) now old o is fo (segment_tells m steady Any_low (λ p f. tt) old numbers (seg e) (g.reported.safe lv)) in
       steps_by w old (asked m now o) (not (has_rst (seg e).flags) && is_acked old (seg e)) k side lv g fit h (asked_moves m _ old now o (segment_moves m old numbers (seg e)))
-      (Same.steps_by m steady w old (asked m now o) k side lv fit (asked_lens m now o (on_segment_lens m old numbers (seg e) g.told.lens))
-      (near_by _ old (asked m now o).connection (asked_moves m _ old now o (segment_moves m old numbers (seg e)))) h g.told) (Prefix.segment m ports w old numbers now k j side e lv f n is sent who fresh g.good)
-      (λ r cl p q a. acked_by (Prefix.speaker_of m ports side) k side.client side.history old w.sent side.opened j e sent who lv (top_low k side old w.sent g.told r lv) (g.good cl).opened_good (g.exact r cl) p q a)
+      (Same.steps_by m steady w old (asked m now o) k side lv fit (asked_lens m now o (on_segment_lens m old numbers (seg e) g.reported.lens))
+      (near_by _ old (asked m now o).connection (asked_moves m _ old now o (segment_moves m old numbers (seg e)))) h g.reported) (Prefix.segment m ports w old numbers now k j side e lv f n is sent who fresh g.good)
+      (λ r cl p q a. acked_by (Prefix.speaker_of m ports side) k side.client side.history old w.sent side.opened j e sent who lv (top_low k side old w.sent g.reported r lv) (g.good cl).opened_good (g.exact r cl) p q a)
 
   tick : (w : World) (old : Connection) (numbers : List ℕ) (now : Connection → Now) (k : ℕ) (side : Side) → is_live old.state ≡ true → FitConn old → All IsU32 numbers → ((c : Connection) → FitConn c → IsNow (now c)) →
       G k side old w.sent → Steps m G other reset evict mark w (asked m now (on_tick m old numbers)) k side
@@ -277,10 +277,10 @@ module _ (m : AppSpec) (ports : AtPorts m) where
       let o : Outcome = on_tick m old numbers in
       let fo : FitOut o = on_tick_fits m steady old numbers f n in
       let fit : FitConn (asked m now o).connection = stepped_fits m steady Any_low (λ p f. tt) now o is fo in
-      let h : OutReported m steady Any_low (λ p f. tt) old (asked m now o) = stepped_tells m steady Any_low (λ p f. tt) now old o is fo (tick_tells m steady Any_low (λ p f. tt) old numbers (g.told.safe lv)) in
+      let h : OutReported m steady Any_low (λ p f. tt) old (asked m now o) = stepped_tells m steady Any_low (λ p f. tt) now old o is fo (tick_tells m steady Any_low (λ p f. tt) old numbers (g.reported.safe lv)) in
       steps_by w old (asked m now o) false k side lv g fit h (asked_moves m false old now o (tick_moves m old numbers))
-      (Same.steps_by m steady w old (asked m now o) k side lv fit (asked_lens m now o (on_tick_lens m old numbers g.told.lens))
-      (near_by _ old (asked m now o).connection (asked_moves m false old now o (tick_moves m old numbers))) h g.told) (Prefix.tick m ports w old numbers now k side lv f n is g.good) (λ r cl p q a. absurd (cc))
+      (Same.steps_by m steady w old (asked m now o) k side lv fit (asked_lens m now o (on_tick_lens m old numbers g.reported.lens))
+      (near_by _ old (asked m now o).connection (asked_moves m false old now o (tick_moves m old numbers))) h g.reported) (Prefix.tick m ports w old numbers now k side lv f n is g.good) (λ r cl p q a. absurd (cc))
 
   born_exact : (speaker : Speaker) (k : ℕ) (client : AbstractClient) (history : List PastConnection) (d : Connection) (sent : List Sent) (opened : Option ℕ) → ((o : ℕ) → opened ≡ Some o → length history ≤ o) → OpenedGood speaker client history closed opened → ExactOpen k client history d sent opened
   born_exact speaker k client history d sent None b h = tt
@@ -291,12 +291,12 @@ module _ (m : AppSpec) (ports : AtPorts m) where
   birth w iss sockets k j side e own sent who fresh plain fit g tick id =
       let c : Connection = accepted iss sockets (seg e) in
       let new : Sent = entry (to k) side tick id (model false (syn_ack c)) in
-      let t : Same.Told m steady k side c (w.sent ++ new ∷ []) = Same.birth m steady w iss sockets k j side e own sent who fresh plain fit g.told tick id in
+      let t : Same.Reported m steady k side c (w.sent ++ new ∷ []) = Same.birth m steady w iss sockets k j side e own sent who fresh plain fit g.reported tick id in
       record {
-        told = t;
+        reported = t;
         good = Prefix.birth m ports w iss sockets k j side e own sent who fresh plain fit g.good tick id;
-        ends = λ r. push_ends k side c w.sent new (λ l i f x wf q pl. absurd (let z : false ≡ true = (g.told.tells i f x wf pl q).0 in cc))
-            (λ l x. new_ends c (syn_ack c) (omega arith) (t.safe refl) (λ y. record { len = omega arith; seq = refl; alike = Rattle.uip_node.proofs.Told.alike_refl (syn_ack c) }));
+        ends = λ r. push_ends k side c w.sent new (λ l i f x wf q pl. absurd (let z : false ≡ true = (g.reported.tells i f x wf pl q).0 in cc))
+            (λ l x. new_ends c (syn_ack c) (omega arith) (t.safe refl) (λ y. record { len = omega arith; seq = refl; alike = Rattle.uip_node.proofs.Reported.alike_refl (syn_ack c) }));
         exact = push_aside k side c w.sent new (λ y. absurd (cc))
             (λ r cl. (let y = Prefix.born_by m ports side e ((g.good cl).of_client j e sent who).output (Prefix.plain_is m ports (seg e) plain) in
             born_exact (Prefix.speaker_of m ports side) k side.client side.history c w.sent side.opened (λ o q. subst (λ n. n ≤ o) (fresh cl) (y.before o q)) (g.good cl).opened_good));
@@ -375,8 +375,8 @@ module _ (m : AppSpec) (ports : AtPorts m) where
       exact_either true o = o
       exact_either false o = tt
 
-  abbrev ToldTakes : World → ℕ → Side → Connection → ClientStep → Type 0
-  ToldTakes w k base c t = Refines m (Same.Told m steady) (Same.other m steady) (Same.reset m steady) (Same.evict m steady) (Same.mark m steady) w k base c t
+  abbrev ReportedTakes : World → ℕ → Side → Connection → ClientStep → Type 0
+  ReportedTakes w k base c t = Refines m (Same.Reported m steady) (Same.other m steady) (Same.reset m steady) (Same.evict m steady) (Same.mark m steady) w k base c t
 
   abbrev GoodTakes : World → ℕ → Side → Connection → ClientStep → Type 0
   GoodTakes w k base c t = Refines m (Prefix.G m ports) (Prefix.other m ports) (Prefix.reset m ports) (Prefix.evict m ports) (Prefix.mark m ports) w k base c t
@@ -384,11 +384,11 @@ module _ (m : AppSpec) (ports : AtPorts m) where
   took_by : (w : World) (k : ℕ) (base : Side) (c : Connection) (t : ClientStep) → G k base c w.sent → GoodTakes w k base c t → Acks t →
       (length w.sent ≤ 65535 → is_clean base ≡ true → ExactOpen k t.client base.history c w.sent (with_client base t.client).opened) → Refines m G other reset evict mark w k base c t
   took_by w k base c t g p a x =
-      let told : ToldTakes w k base c t = Same.takes m steady w k base c t g.told in
+      let reported : ReportedTakes w k base c t = Same.takes m steady w k base c t g.reported in
       record {
-        quiet = λ n. record { told = told.quiet n; good = p.quiet n; ends = g.ends; exact = x };
+        quiet = λ n. record { reported = reported.quiet n; good = p.quiet n; ends = g.ends; exact = x };
         says = λ s e tick. record {
-          told = told.says s e tick;
+          reported = reported.says s e tick;
           good = p.says s e tick;
           ends = λ r. push_ends k (with_client base t.client) c w.sent (entry (from k) (with_client base t.client) tick 0 (model false s)) (g.ends (room_before w.sent (entry (from k) (with_client base t.client) tick 0 (model false s)) r)) (λ l z. absurd (cc));
           exact = λ r cl. push_exact k t.client base.history c w.sent (entry (from k) (with_client base t.client) tick 0 (model false s)) (with_client base t.client).opened (x (room_before w.sent (entry (from k) (with_client base t.client) tick 0 (model false s)) r) cl)
@@ -403,7 +403,7 @@ module _ (m : AppSpec) (ports : AtPorts m) where
       took_by w k (marked side number e) c (client_takes side.client (seg e)) (mark k side c w.sent number e g) (Prefix.took m ports w k j side c number e fit sent who g.good) n.acks
       (λ r cl. (let a = clean_before side number e cl in
       let h = g.good a.0 in
-      kind_exact (Prefix.speaker_of m ports side) k side.client (client_takes side.client (seg e)).client side.history c w.sent side.opened e n.kind a.1 (top_low k side c w.sent g.told r) (λ l. g.ends r l j e sent who a.1) (h.of_node j e sent who) h (g.exact r a.0)))
+      kind_exact (Prefix.speaker_of m ports side) k side.client (client_takes side.client (seg e)).client side.history c w.sent side.opened e n.kind a.1 (top_low k side c w.sent g.reported r) (λ l. g.ends r l j e sent who a.1) (h.of_node j e sent who) h (g.exact r a.0)))
 
   own_by : (w : World) (k : ℕ) (side : Side) (c : Connection) (t : ClientStep) → G k side c w.sent → Idles side.client t → GoodTakes w k side c t → Refines m G other reset evict mark w k side c t
   own_by w k side c t g n p =
@@ -417,13 +417,13 @@ module _ (m : AppSpec) (ports : AtPorts m) where
 
   opening_exact : (addr : Addr) (numbers : List ℕ) (plan : List Planned) → IsPlan plan → Framed m G other reset evict mark (initial_world addr numbers plan)
   opening_exact addr numbers plan is =
-      let a = Same.opening_told m steady addr numbers plan is in
+      let a = Same.opening_reported m steady addr numbers plan is in
       let b = Prefix.opening_framed m ports addr numbers plan is in
       record {
         apart = a.apart;
         single = a.single;
         each = λ k side x. (let p = Rattle.uip_node.proofs.Connections.get_map Rattle.link_world.specs.History.fresh_side plan k side x in record {
-          told = a.each k side x;
+          reported = a.each k side x;
           good = b.each k side x;
           ends = λ r l j e y. absurd (cc);
           exact = λ r cl. nothing_opened side.opened (ap (λ (o : Side). o.opened) (sym p.is)) k side.client side.history _ [];

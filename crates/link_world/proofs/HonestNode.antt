@@ -1,6 +1,6 @@
 -- The node at the other end of a link that loses nothing: one connection, which sends at each segment of its client what the
 -- application has to send next.
-use Rattle.link_world.proofs.Prelude.{All, position_from, option_map, option_map_or, ◌≡◌, ℕ, zero, suc, ◌+◌, ◌<◌, ◌≤◌, min, Bool, true, false, if◌then◌else◌, cond, not, ◌&&◌, ◌⊎◌, inl, inr, List, [], ◌∷◌, ◌++◌, length, take, drop, replicate, refl, sym, ap, ◌∙◌, subst, arith, Option, Some, None, eqb, ltb, position, slice_get, eq-eqb, cases_lt, take-append-drop, take_all, take-add, position_from-zero, wrap, Addr, FIN, PSH, ACK, PlainSegment, has_fin, has_rst, has_ack, AppState, After, AppSpec, text_left, Pages, IsPaged, IsU32, IsNow, MayWant, Now, Reset, State, SynRcvd, Established, FinWait1, FinWait2, TimeWait, Want, Nothing, Send, Close, Abort, Sockets, Connection, closed, is_live, serves, same_sockets, snd_una, rcv_nxt, occupies_sequence_space, segment_of, is_again, Outcome, leaves, closes, idles, does_as_wanted, ask, asked, first_mss, told_end, peer_closes, is_out_of_order, is_acked, has_text, hears, with_window, stays_established, in_established, fin_acked, by_state, on_segment, Step, Event, HistoryEntry, Arrived, Silent, Spoke, TcpReply, ident_of, initial_number, AbstractNode, NodeStep, initial_node, snapshot, slot_for_syn, opens, passes, refuses, gone_by, happened, opens_in, for_no_connection, arrives_at, arrives, offered, syn_of, FinAt, Setup, GoesOnBy, AnswersIn, steady_of, choose, both_ways, zero_or_more, ltb-yes, cut_length, wrap_wrap, same_self, FitConn, FitOut, snapshot_fits, asked_fits, on_segment_fits, closed_fits, all_closed}
+use Rattle.link_world.proofs.Prelude.{All, position_from, option_map, option_map_or, ◌≡◌, ℕ, zero, suc, ◌+◌, ◌<◌, ◌≤◌, min, Bool, true, false, if◌then◌else◌, cond, not, ◌&&◌, ◌⊎◌, inl, inr, List, [], ◌∷◌, ◌++◌, length, take, drop, replicate, refl, sym, ap, ◌∙◌, subst, arith, Option, Some, None, eqb, ltb, position, slice_get, eq-eqb, cases_lt, take-append-drop, take_all, take-add, position_from-zero, wrap, Addr, FIN, PSH, ACK, PlainSegment, has_fin, has_rst, has_ack, AppState, After, AppSpec, text_left, Pages, IsPaged, IsU32, IsNow, MayWant, Now, Reset, State, SynRcvd, Established, FinWait1, FinWait2, TimeWait, Want, Nothing, Send, Close, Abort, Sockets, Connection, closed, is_live, serves, same_sockets, snd_una, rcv_nxt, occupies_sequence_space, segment_of, is_again, Outcome, leaves, closes, idles, does_as_wanted, ask, asked, first_mss, reported_end, peer_closes, is_out_of_order, is_acked, has_text, hears, with_window, stays_established, in_established, fin_acked, by_state, on_segment, Step, Event, HistoryEntry, Arrived, Silent, Spoke, TcpReply, ident_of, initial_number, AbstractNode, NodeStep, initial_node, snapshot, slot_for_syn, opens, passes, refuses, gone_by, happened, opens_in, for_no_connection, arrives_at, arrives, offered, syn_of, FinAt, Setup, GoesOnBy, AnswersIn, steady_of, choose, both_ways, zero_or_more, ltb-yes, cut_length, wrap_wrap, same_self, FitConn, FitOut, snapshot_fits, asked_fits, on_segment_fits, closed_fits, all_closed}
 use Rattle.link_client.specs.declared.client_state.ClientState.TheVariants as Is
 use Rattle.link_world.proofs.HonestClient.{client_at, node_says, node_syn_ack, Brings, next_out}
 
@@ -108,7 +108,7 @@ module _ (m : AppSpec) (pages : Pages) (lawful : IsPaged m pages) (served : ℕ 
       let in_order : is_out_of_order c s ≡ false = both_ways (occupies_sequence_space s)
       (λ e. ap (λ b. occupies_sequence_space s && not b) (eq-eqb s.seq (rcv_nxt c) (h e)) ∙ and_no (occupies_sequence_space s))
       (λ e. ap (λ b. b && not (eqb s.seq (rcv_nxt c))) e) in
-      ap (λ b. if b then leaves (closes c) (told_end m Reset c.state c.part numbers) Step.Drop else (if is_out_of_order c s then leaves c numbers Step.Ack else by_state m c.state (is_acked c s) c numbers s)) r
+      ap (λ b. if b then leaves (closes c) (reported_end m Reset c.state c.part numbers) Step.Drop else (if is_out_of_order c s then leaves c numbers Step.Ack else by_state m c.state (is_acked c s) c numbers s)) r
       ∙ ap (λ b. if b then leaves c numbers Step.Ack else by_state m c.state (is_acked c s) c numbers s) in_order
 
   -- a segment of the client is delivered to its connection
@@ -155,16 +155,16 @@ module _ (m : AppSpec) (pages : Pages) (lawful : IsPaged m pages) (served : ℕ 
       ∙ ap (λ n. leaves (record d { mss = n }) delivered.numbers (Step.Ask (has_text s))) (least mss (mss_high (offered setup.mss)))
 
   -- a later visit, with something outstanding, and with nothing
-  told_visit : (numbers : List ℕ) (taken iss acked len x : ℕ) (p : AppState) (s : PlainSegment) → Brings setup request taken x s → 0 < len → x ≡ wrap (iss + (acked + len)) →
-      let told : After = m.acked numbers p len in
-      let delivered : After = hears m told.numbers told.part s.text in
+  reported_visit : (numbers : List ℕ) (taken iss acked len x : ℕ) (p : AppState) (s : PlainSegment) → Brings setup request taken x s → 0 < len → x ≡ wrap (iss + (acked + len)) →
+      let reported : After = m.acked numbers p len in
+      let delivered : After = hears m reported.numbers reported.part s.text in
       on_segment m (conn_at Established taken iss acked len p) numbers s ≡ leaves (conn_at Established (taken + length s.text) iss (acked + len) 0 delivered.part) delivered.numbers (Step.Ask (has_text s))
-  told_visit numbers taken iss acked len x p s b l e =
+  reported_visit numbers taken iss acked len x p s b l e =
       let c : Connection = conn_at Established taken iss acked len p in
-      let told : After = m.acked numbers p len in
+      let reported : After = m.acked numbers p len in
       let is : is_acked c s ≡ true = three (has_ack s.flags) (ltb 0 len) (eqb s.ack (wrap (snd_una c + len))) b.is_ack (ltb-yes len l)
       (eq-eqb s.ack (wrap (snd_una c + len)) (b.ack ∙ e ∙ ap wrap (let z : iss + (acked + len) ≡ iss + acked + len = omega arith in z) ∙ sym (wrap_wrap (iss + acked) len))) in
-      taken_in c numbers s b.no_rst b.seq ∙ ap (λ y. by_state m Established y c numbers s) is ∙ heard_in_turn true told.numbers taken iss (acked + len) told.part s b.no_fin b.window refl
+      taken_in c numbers s b.no_rst b.seq ∙ ap (λ y. by_state m Established y c numbers s) is ∙ heard_in_turn true reported.numbers taken iss (acked + len) reported.part s b.no_fin b.window refl
 
   quiet_visit : (numbers : List ℕ) (taken iss acked x : ℕ) (p : AppState) (s : PlainSegment) → Brings setup request taken x s → 0 < length s.text →
       let delivered : After = hears m numbers p s.text in
@@ -347,12 +347,12 @@ module _ (m : AppSpec) (pages : Pages) (lawful : IsPaged m pages) (served : ℕ 
         Awaits p taken most len → All IsU32 numbers → FitConn (conn_at Established taken iss acked len p) →
         Visited (arrives m served (node_at numbers history (conn_at Established taken iss acked len p)) sockets s) taken iss (acked + len) most
     visits numbers history taken iss acked _ x most p s seg b e h (awaits_text len l delivered rest) n f =
-        let told : After = m.acked numbers p len in
+        let reported : After = m.acked numbers p len in
         record {
-          fewer = left told.part;
+          fewer = left reported.part;
           less = inr (rest numbers).1;
           at_most = omega (arith, (rest numbers).1);
-          says = asked_after Established numbers told.numbers history taken iss acked len (acked + len) (left told.part) p told.part s seg h b.text refl (told_visit numbers taken iss acked len x p s b l e)
+          says = asked_after Established numbers reported.numbers history taken iss acked len (acked + len) (left reported.part) p reported.part s seg h b.text refl (reported_visit numbers taken iss acked len x p s b l e)
               record { good = (rest numbers).0; input = lawful.acked_input numbers p len ∙ delivered; few = omega arith } n f;
         }
     visits numbers history taken iss acked _ x most p s seg b e h (awaits_none l r) n f =

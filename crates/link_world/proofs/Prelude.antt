@@ -34,7 +34,7 @@ pub use Rattle.std.specs.Int.Bits.{xor_assoc, xor_self, xor_zero_l}
 pub use Rattle.std.specs.List.{All, list_all, list_any, position_from, range_with_len}
 pub use Rattle.std.specs.Prelude.{nat_lt, option_map, ⊤}
 pub use Rattle.std.specs.Result.{result_map_both}
-pub use Rattle.tcp_machine.specs.Prelude.{Connection, Outcome, Sockets, accept, accepted, after_own_fin, ask, asked, asked_for, bare_ack, by_beat, by_state, closed, closes, connects, does_as_wanted, fin_of, first_mss, grows_older, has_text, hears, in_state, is_acked, is_again, is_live, is_open, is_out_of_order, is_plain_syn, is_resting, leaves, limit_of, occupies_sequence_space, on_tick, outstanding, peer_has_closed, prepared, rcv_nxt, reset_for_no_connection, reset_of, rests, same_sockets, segment_of, serves, snd_una, syn_ack, takes, text_segment, tick_by, told_end, tries_of, waits_for_ack, with_part, with_window}
+pub use Rattle.tcp_machine.specs.Prelude.{Connection, Outcome, Sockets, accept, accepted, after_own_fin, ask, asked, asked_for, bare_ack, by_beat, by_state, closed, closes, connects, does_as_wanted, fin_of, first_mss, grows_older, has_text, hears, in_state, is_acked, is_again, is_live, is_open, is_out_of_order, is_plain_syn, is_resting, leaves, limit_of, occupies_sequence_space, on_tick, outstanding, peer_has_closed, prepared, rcv_nxt, reset_for_no_connection, reset_of, rests, same_sockets, segment_of, serves, snd_una, syn_ack, takes, text_segment, tick_by, reported_end, tries_of, waits_for_ack, with_part, with_window}
 pub use Rattle.tcp_segment.specs.Prelude.{Datagram, IsReadBack, PlainSegment, fields_sent, has_ack, has_fin, has_rst, has_syn, head_of, header_len, pseudo_header, segment_or_fate}
 unfoldable pub use Rattle.tcp_segment.specs.Prelude.{datagram_bytes, segment_in}
 pub use Rattle.tcp_segment.specs.declared.fate.TcpFate.{TcpFate}
@@ -63,7 +63,7 @@ pub use Rattle.uip_node.proofs.SocketPairs.{apart, flip, is_same, not_peer, same
 pub use Rattle.uip_node.proofs.SoundSegments.{IsSoundSegment, Lens, accepted_lens, asked_lens, closed_lens, none_sound, on_segment_lens, on_tick_lens, said_sound}
 pub use Rattle.uip_node.proofs.Steadiness.{steady_of}
 pub use Rattle.uip_node.proofs.Stepped.{stepped_fits, stepped_tells}
-pub use Rattle.uip_node.proofs.Told.{IsDue, Onto, OutReported, Safe, SafeState, StepReports, Still, Tells, alike_refl, alike_sym, alike_trans, due, segment_tells, tick_tells}
+pub use Rattle.uip_node.proofs.Reported.{IsDue, Onto, OutReported, Safe, SafeState, StepReports, Still, Tells, alike_refl, alike_sym, alike_trans, due, segment_tells, tick_tells}
 pub use Rattle.uip_node.specs.Prelude.{AbstractNode, Alike, Answer, AnswersIn, Arrived, Echo, EchoAsked, EchoReplied, Event, GoesOnBy, HasBytes, HistoryEntry, IcmpRefused, IpRefused, IsEvent, IsSlice, IsSteady, NoSlot, NodeStep, Overlong, Periodic, Reply, SendsBytes, Silent, Spoke, TcpReply, TcpRefused, arrives, arrives_at, by_head, by_proto, by_segment, connection_in, counters, datagram_to, event_of, gone_by, ident_of, initial_node, initial_number, opens, passes, periodic, raised_by, raised_by_answer, raises, refuses, remembers, run, serving, slot_for_syn, snapshot, step, tick, ticks_of, times}
 pub use Rattle.uip_wire.proofs.Folding.{one_byte}
 pub use Rattle.uip_wire.specs.Prelude.{address_at, checksum_of, word_at, wrap}

@@ -282,10 +282,10 @@ module _ (m : AppSpec) (pages : Pages) (lawful : IsPaged m pages) where
 
   -- an acknowledgement of all that the client used: it was taken
   heard_taken : (client : AbstractClient) (c : Connection) (s : PlainSegment) (t : ClientStep) → Steady client → AsksOn client s t → (has_rst s.flags ≡ false → has_ack s.flags ≡ true → Taken client c s) → client.acked ≤ c.taken → c.taken ≤ used client → t.client.acked ≤ c.taken
-  heard_taken client c s t st a told low high =
+  heard_taken client c s t st a reported low high =
       elim a.acked [
         | inl e ↦ omega (arith, e, low)
-        | inr e ↦ (let y = told e.0 e.1 in
+        | inr e ↦ (let y = reported e.0 e.1 in
             let at = y.low in
             let small : one_if (fin_sent client.fin) ≤ 1 = one_small (fin_sent client.fin) in
             let short = st.short in

@@ -81,7 +81,7 @@ module _ (m : AppSpec) (steady : IsSteady m) where
     pub sent_as : IsSentTo k side sent
     pub due_now : IsDue m steady Any_low (λ p f. tt) c (seg sent_as.it)
 
-  pub record Told (k : ℕ) (side : Side) (c : Connection) (sent : List Sent) : Type 0 where
+  pub record Reported (k : ℕ) (side : Side) (c : Connection) (sent : List Sent) : Type 0 where
     pub fit : FitConn c
     pub lens : Lens c
     -- each number that was used is of a datagram, of which each has 1460 at most
@@ -100,7 +100,7 @@ module _ (m : AppSpec) (steady : IsSteady m) where
     unplaced : occupies_sequence_space (seg e) ≡ true → ⊥
     unmarked : e.again ≡ true → ⊥
 
-  push_silent : (k : ℕ) (side : Side) (c : Connection) (sent : List Sent) (new : Sent) → Told k side c sent → (new.who ≡ to k → IsSilent side new) → Told k side c (sent ++ new ∷ [])
+  push_silent : (k : ℕ) (side : Side) (c : Connection) (sent : List Sent) (new : Sent) → Reported k side c sent → (new.who ≡ to k → IsSilent side new) → Reported k side c (sent ++ new ∷ [])
   push_silent k side c sent new t q = record {
     fit = t.fit;
     lens = t.lens;
@@ -119,14 +119,14 @@ module _ (m : AppSpec) (steady : IsSteady m) where
     ];
   }
 
-  pub other : (k : ℕ) (side : Side) (c : Connection) (sent : List Sent) (e : Sent) → Told k side c sent → (e.who ≡ to k → ⊥) → (e.who ≡ from k → ⊥) → Told k side c (sent ++ e ∷ [])
+  pub other : (k : ℕ) (side : Side) (c : Connection) (sent : List Sent) (e : Sent) → Reported k side c sent → (e.who ≡ to k → ⊥) → (e.who ≡ from k → ⊥) → Reported k side c (sent ++ e ∷ [])
   other k side c sent e t n f = push_silent k side c sent e t (λ w. absurd (n w))
 
-  pub reset : (k : ℕ) (side : Side) (c : Connection) (sent : List Sent) (e : Sent) → Told k side c sent → e.epoch ≡ length side.history → has_syn (seg e).flags ≡ false → has_fin (seg e).flags ≡ false → (seg e).text ≡ [] → has_rst (seg e).flags ≡ true → e.again ≡ false → e.who ≡ to k → Told k side c (sent ++ e ∷ [])
+  pub reset : (k : ℕ) (side : Side) (c : Connection) (sent : List Sent) (e : Sent) → Reported k side c sent → e.epoch ≡ length side.history → has_syn (seg e).flags ≡ false → has_fin (seg e).flags ≡ false → (seg e).text ≡ [] → has_rst (seg e).flags ≡ true → e.again ≡ false → e.who ≡ to k → Reported k side c (sent ++ e ∷ [])
   reset k side c sent e t q a b x rs ag w = push_silent k side c sent e t (λ w. record { epoch = omega (arith, q); unplaced = λ p. nothing_placed (seg e) a b x p; unmarked = λ p. absurd (cc) })
 
   -- the connection is gone
-  leaves : (k : ℕ) (side : Side) (c d dead : Connection) (sent : List Sent) → is_live dead.state ≡ false → FitConn dead → Lens dead → Told k side c sent → Told k (Any.older side d) dead sent
+  leaves : (k : ℕ) (side : Side) (c d dead : Connection) (sent : List Sent) → is_live dead.state ≡ false → FitConn dead → Lens dead → Reported k side c sent → Reported k (Any.older side d) dead sent
   leaves k side c d dead sent l f n t = record {
     fit = f;
     lens = n;
@@ -139,10 +139,10 @@ module _ (m : AppSpec) (steady : IsSteady m) where
     agree = t.agree;
   }
 
-  pub evict : (k : ℕ) (side : Side) (c : Connection) (sent : List Sent) → is_live c.state ≡ true → Told k side c sent → Told k (Any.older side c) closed sent
+  pub evict : (k : ℕ) (side : Side) (c : Connection) (sent : List Sent) → is_live c.state ≡ true → Reported k side c sent → Reported k (Any.older side c) closed sent
   evict k side c sent l t = leaves k side c c closed sent refl closed_fits closed_lens t
 
-  same_past : (k : ℕ) (side new : Side) (c : Connection) (sent : List Sent) → new.history ≡ side.history → Told k side c sent → Told k new c sent
+  same_past : (k : ℕ) (side new : Side) (c : Connection) (sent : List Sent) → new.history ≡ side.history → Reported k side c sent → Reported k new c sent
   same_past k side new c sent q t = record {
     fit = t.fit;
     lens = t.lens;
@@ -158,7 +158,7 @@ module _ (m : AppSpec) (steady : IsSteady m) where
     agree = t.agree;
   }
 
-  pub mark : (k : ℕ) (side : Side) (c : Connection) (sent : List Sent) (n : ℕ) (e : Sent) → Told k side c sent → Told k (marked side n e) c sent
+  pub mark : (k : ℕ) (side : Side) (c : Connection) (sent : List Sent) (n : ℕ) (e : Sent) → Reported k side c sent → Reported k (marked side n e) c sent
   mark k side c sent n e t = same_past k side (marked side n e) c sent refl t
 
   -- how many numbers a segment uses
@@ -185,7 +185,7 @@ module _ (m : AppSpec) (steady : IsSteady m) where
       omega (arith, x, f, y)
 
   -- what held of c holds of d, into which it continues, apart from what is outstanding
-  module _ (k : ℕ) (side : Side) (c d : Connection) (sent : List Sent) (t : Told k side c sent) (live : is_live c.state ≡ true) (l : is_live d.state ≡ true) (o : Onto m steady Any_low (λ p f. tt) c d) (f : Safe m steady Any_low (λ p f. tt) d) (fit : FitConn d) (lens : Lens d) (near : d.acked ≤ c.acked + c.len) where
+  module _ (k : ℕ) (side : Side) (c d : Connection) (sent : List Sent) (t : Reported k side c sent) (live : is_live c.state ≡ true) (l : is_live d.state ≡ true) (o : Onto m steady Any_low (λ p f. tt) c d) (f : Safe m steady Any_low (λ p f. tt) d) (fit : FitConn d) (lens : Lens d) (near : d.acked ≤ c.acked + c.len) where
     tells_on : (j : ℕ) (e : Sent) → slice_get sent j ≡ Some e → e.who ≡ to k → occupies_sequence_space (seg e) ≡ true → e.epoch ≡ length side.history → (is_live d.state ≡ true) × (IsOld d (seg e) ⊎ IsDue m steady Any_low (λ p f. tt) d (seg e))
     tells_on j e x w p q = (
       l,
@@ -229,7 +229,7 @@ module _ (m : AppSpec) (steady : IsSteady m) where
               omega (arith, r, y.same, a, b, e))
         ]
 
-    moves : (0 < d.len → Still m steady Any_low (λ p f. tt) c d) → Told k side d sent
+    moves : (0 < d.len → Still m steady Any_low (λ p f. tt) c d) → Reported k side d sent
     moves s = record {
       fit = fit;
       lens = lens;
@@ -284,7 +284,7 @@ module _ (m : AppSpec) (steady : IsSteady m) where
                 (alike_trans (due m c.state c) (due m d.state d) (seg new) (alike_sym (due m d.state d) (due m c.state c) (o.kept r.0 r.1).1) (alike_sym (seg new) (due m d.state d) h.due_now.alike));
           }
 
-      says_placed : Told k side d (sent ++ new ∷ [])
+      says_placed : Reported k side d (sent ++ new ∷ [])
       says_placed = record {
         fit = fit;
         lens = lens;
@@ -313,7 +313,7 @@ module _ (m : AppSpec) (steady : IsSteady m) where
         ];
       }
 
-  pub steps_by : (w : World) (old : Connection) (o : Outcome) (k : ℕ) (side : Side) → is_live old.state ≡ true → FitConn o.connection → Lens o.connection → o.connection.acked ≤ old.acked + old.len → StepReports m steady Any_low (λ p f. tt) old o.connection (segment_of m o.connection o.step) (is_again o.step) → Told k side old w.sent → Steps m Told other reset evict mark w o k side
+  pub steps_by : (w : World) (old : Connection) (o : Outcome) (k : ℕ) (side : Side) → is_live old.state ≡ true → FitConn o.connection → Lens o.connection → o.connection.acked ≤ old.acked + old.len → StepReports m steady Any_low (λ p f. tt) old o.connection (segment_of m o.connection o.step) (is_again o.step) → Reported k side old w.sent → Steps m Reported other reset evict mark w o k side
   steps_by w old o k side live fit lens near h t = record {
     quiet = λ n l. moves k side old o.connection w.sent t live l (h.onto l) (h.safe l) fit lens near
         (λ z. elim (h.still l z) [
@@ -341,8 +341,8 @@ module _ (m : AppSpec) (steady : IsSteady m) where
   mss_some None = omega arith
   mss_some (Some n) = some_mss n
 
-  pub birth : (w : World) (iss : ℕ) (sockets : Sockets) (k j : ℕ) (side : Side) (e : Sent) → client_sockets side ≡ sockets → slice_get w.sent j ≡ Some e → e.who ≡ from k → (is_clean side ≡ true → e.epoch ≡ length side.history) → is_plain_syn (seg e) ≡ true → FitConn (accepted iss sockets (seg e)) → Told k side closed w.sent →
-      (tick id : ℕ) → Told k side (accepted iss sockets (seg e)) (w.sent ++ entry (to k) side tick id (model false (syn_ack (accepted iss sockets (seg e)))) ∷ [])
+  pub birth : (w : World) (iss : ℕ) (sockets : Sockets) (k j : ℕ) (side : Side) (e : Sent) → client_sockets side ≡ sockets → slice_get w.sent j ≡ Some e → e.who ≡ from k → (is_clean side ≡ true → e.epoch ≡ length side.history) → is_plain_syn (seg e) ≡ true → FitConn (accepted iss sockets (seg e)) → Reported k side closed w.sent →
+      (tick id : ℕ) → Reported k side (accepted iss sockets (seg e)) (w.sent ++ entry (to k) side tick id (model false (syn_ack (accepted iss sockets (seg e)))) ∷ [])
   birth w iss sockets k j side e own sent who fresh plain fit t tick id =
       let c : Connection = accepted iss sockets (seg e) in
       let new : Sent = entry (to k) side tick id (model false (syn_ack c)) in
@@ -370,22 +370,22 @@ module _ (m : AppSpec) (steady : IsSteady m) where
       }
 
   -- a client's step leaves what the node sent unchanged
-  pub takes : (w : World) (k : ℕ) (base : Side) (c : Connection) (step : ClientStep) → Told k base c w.sent → Refines m Told other reset evict mark w k base c step
+  pub takes : (w : World) (k : ℕ) (base : Side) (c : Connection) (step : ClientStep) → Reported k base c w.sent → Refines m Reported other reset evict mark w k base c step
   takes w k base c step t =
-      let good : Told k (with_client base step.client) c w.sent = same_past k base (with_client base step.client) c w.sent refl t in
+      let good : Reported k (with_client base step.client) c w.sent = same_past k base (with_client base step.client) c w.sent refl t in
       record { quiet = λ n. good; says = λ s e tick. push_silent k (with_client base step.client) c w.sent (entry (from k) (with_client base step.client) tick 0 (model false s)) good (λ x. absurd (cc)) }
 
-  pub opening_told : (addr : Addr) (numbers : List ℕ) (plan : List Planned) → IsPlan plan → Framed m Told other reset evict mark (initial_world addr numbers plan)
-  opening_told addr numbers plan is = record {
+  pub opening_reported : (addr : Addr) (numbers : List ℕ) (plan : List Planned) → IsPlan plan → Framed m Reported other reset evict mark (initial_world addr numbers plan)
+  opening_reported addr numbers plan is = record {
     apart = opening_apart plan is;
     single = λ p i j x y a b u v. absurd (let z = none_serves 10 p i x a in cc);
     each = λ k side x. (let e : serving (client_sockets side) (replicate 10 closed) ≡ closed = serving_free (replicate 10 closed) (client_sockets side) (none_serves 10 (client_sockets side)) in
-        subst (λ c. Told k side c []) (sym e) (record { fit = closed_fits; lens = closed_lens; room = λ l. absurd (cc); safe = λ l. absurd (cc); was_sent = λ l. absurd (cc); time = λ j e' y. absurd (cc); tells = λ j e' y. absurd (cc); repeats = λ j e' y. absurd (cc); agree = λ few i j e' f y. absurd (cc) }));
+        subst (λ c. Reported k side c []) (sym e) (record { fit = closed_fits; lens = closed_lens; room = λ l. absurd (cc); safe = λ l. absurd (cc); was_sent = λ l. absurd (cc); time = λ j e' y. absurd (cc); tells = λ j e' y. absurd (cc); repeats = λ j e' y. absurd (cc); agree = λ few i j e' f y. absurd (cc) }));
   }
 
-  told_step : (served : ℕ → Bool) (v : World) (act : Act) → Harmless m served v act → Framed m Told other reset evict mark v → FitWorld v → Framed m Told other reset evict mark (does m served v act)
-  told_step served v act harm g fits =
-      does_framed m Told other reset evict mark steady served
+  reported_step : (served : ℕ → Bool) (v : World) (act : Act) → Harmless m served v act → Framed m Reported other reset evict mark v → FitWorld v → Framed m Reported other reset evict mark (does m served v act)
+  reported_step served v act harm g fits =
+      does_framed m Reported other reset evict mark steady served
       (λ w old numbers now k j side e l f n is sent who fresh t.
       let o : Outcome = on_segment m old numbers (seg e) in
       let fo : FitOut o = on_segment_fits m steady old numbers (seg e) f n in
@@ -397,7 +397,7 @@ module _ (m : AppSpec) (steady : IsSteady m) where
       steps_by w old (asked m now o) k side l (stepped_fits m steady Any_low (λ p f. tt) now o is fo) (asked_lens m now o (on_tick_lens m old numbers t.lens))
       (near_by _ old (asked m now o).connection (asked_moves m false old now o (tick_moves m old numbers))) (stepped_tells m steady Any_low (λ p f. tt) now old o is fo (tick_tells m steady Any_low (λ p f. tt) old numbers (t.safe l))) t)
       birth
-      (any_step m Told other reset evict mark takes)
+      (any_step m Reported other reset evict mark takes)
       v act harm g fits
 
 -- a content with a place is a segment
@@ -414,10 +414,10 @@ is_segment (OfEcho d) h = absurd (let z : false ≡ true = h in cc)
 -- what is known of a world implies that it repeats the same bytes. If it has no more datagrams than it can have, it also marks
 -- repeats.
 module _ (m : AppSpec) (steady : IsSteady m) (w : World)
-    (told : (k : ℕ) (side : Side) → slice_get w.sides k ≡ Some side → Told m steady k side (serving (client_sockets side) w.node.connections) w.sent) where
+    (reported : (k : ℕ) (side : Side) → slice_get w.sides k ≡ Some side → Reported m steady k side (serving (client_sockets side) w.node.connections) w.sent) where
   repeats_bytes : RepeatsSameBytes w
   repeats_bytes k side x i e id s g who content again =
-      let b = (told k side x).repeats i e g who again in
+      let b = (reported k side x).repeats i e g who again in
       let q : seg e ≡ s = ap segment_in content in
       let c = is_segment b.it.content b.placed in
       let t : seg b.it ≡ c.segment = ap segment_in c.is in (
@@ -441,31 +441,31 @@ module _ (m : AppSpec) (steady : IsSteady m) (w : World)
   marks_repeats few k side x i j e f id id' s t g h lt we wf ce cf ep se pe pf =
       let q : seg e ≡ s = ap segment_in ce in
       let q' : seg f ≡ t = ap segment_in cf in
-      let a = (told k side x).agree few i j e f g h lt we wf ep (ap occupies_sequence_space q ∙ pe) (ap occupies_sequence_space q' ∙ pf) (ap (λ n. n.seq) q ∙ se ∙ ap (λ n. n.seq) (sym q')) in
+      let a = (reported k side x).agree few i j e f g h lt we wf ep (ap occupies_sequence_space q ∙ pe) (ap occupies_sequence_space q' ∙ pf) (ap (λ n. n.seq) q ∙ se ∙ ap (λ n. n.seq) (sym q')) in
       (a.0, subst (λ n. Alike n s) q' (subst (λ n. Alike (seg f) n) q a.1))
 
 module _ (m : AppSpec) (steady : IsSteady m) where
-  abbrev ToldWorld : World → Type 0
-  ToldWorld v = Framed m (Told m steady) (other m steady) (reset m steady) (evict m steady) (mark m steady) v
+  abbrev ReportedWorld : World → Type 0
+  ReportedWorld v = Framed m (Reported m steady) (other m steady) (reset m steady) (evict m steady) (mark m steady) v
 
-  told_plainly : (w : World) → IsReachedPlainly m w → ToldWorld w
-  told_plainly w r = reached_plainly m steady ToldWorld (told_step m steady) (opening_told m steady) w r
+  reported_plainly : (w : World) → IsReachedPlainly m w → ReportedWorld w
+  reported_plainly w r = reached_plainly m steady ReportedWorld (reported_step m steady) (opening_reported m steady) w r
 
   -- and if bytes are sent, damage or not
-  told_where : (pages : Pages) (H : Connection → Type 0) → (HasBytes pages → SaysBytesWhere m H) → (w : World) → IsReached m pages w → ToldWorld w
-  told_where pages H bytes w r = reached_where m pages steady H bytes ToldWorld (told_step m steady) (opening_told m steady) w r
+  reported_where : (pages : Pages) (H : Connection → Type 0) → (HasBytes pages → SaysBytesWhere m H) → (w : World) → IsReached m pages w → ReportedWorld w
+  reported_where pages H bytes w r = reached_where m pages steady H bytes ReportedWorld (reported_step m steady) (opening_reported m steady) w r
 
 pub same_bytes_plainly : SameBytesPlainly
-same_bytes_plainly m steady w r = repeats_bytes m steady w (told_plainly m steady w r).each
+same_bytes_plainly m steady w r = repeats_bytes m steady w (reported_plainly m steady w r).each
 
 pub again_exactly_plainly : AgainExactlyPlainly
-again_exactly_plainly m steady w r = marks_repeats m steady w (told_plainly m steady w r).each (room_plainly m w r)
+again_exactly_plainly m steady w r = marks_repeats m steady w (reported_plainly m steady w r).each (room_plainly m w r)
 
 pub same_bytes_where : (m : AppSpec) (pages : Pages) (steady : IsSteady m) (H : Connection → Type 0) → (HasBytes pages → SaysBytesWhere m H) → (w : World) → IsReached m pages w → RepeatsSameBytes w
-same_bytes_where m pages steady H bytes w r = repeats_bytes m steady w (told_where m steady pages H bytes w r).each
+same_bytes_where m pages steady H bytes w r = repeats_bytes m steady w (reported_where m steady pages H bytes w r).each
 
 pub again_exactly_where : (m : AppSpec) (pages : Pages) (steady : IsSteady m) (H : Connection → Type 0) → (HasBytes pages → SaysBytesWhere m H) → (w : World) → IsReached m pages w → MarksRepeats w
-again_exactly_where m pages steady H bytes w r = marks_repeats m steady w (told_where m steady pages H bytes w r).each (room_where m pages steady H bytes w r)
+again_exactly_where m pages steady H bytes w r = marks_repeats m steady w (reported_where m steady pages H bytes w r).each (room_where m pages steady H bytes w r)
 
 -- an application whose text is a page
 pub same_bytes : SameBytes

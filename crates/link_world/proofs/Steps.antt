@@ -264,7 +264,7 @@ module _ (m : AppSpec) (speaker : Speaker) (laws : HasOutputModel m speaker) whe
     connects_good : (at_epoch : ℕ) (c : Connection) (numbers : List ℕ) (s : PlainSegment) → Steady client → ClientSaid client opened at_epoch s → has_rst s.flags ≡ false → has_ack s.flags ≡ true →
         c.irs ≡ own_first client → AtSyn speaker c → (0 < length s.text → s.seq ≡ rcv_nxt c) → OutGood c (connects m c numbers s)
     connects_good at_epoch c numbers s steady output nr ac pf h e =
-        let told = is_data at_epoch s output nr ac in
+        let reported = is_data at_epoch s output nr ac in
         let start : AppState = (m.connected numbers c.sockets.own_port.0).part in
         let x = hears_is m speaker laws (m.connected numbers c.sockets.own_port.0).numbers start s.text (laws.connected_here numbers c.sockets.own_port.0 h.port) in
         let d : Connection = with_part (hears m (m.connected numbers c.sockets.own_port.0).numbers start s.text).part (takes (length s.text) (in_state Established (rests c))) in
@@ -276,7 +276,7 @@ module _ (m : AppSpec) (speaker : Speaker) (laws : HasOutputModel m speaker) whe
         record {
           moved = turns c d refl (k ∙ sym h.snapshots) pf record {
             text = record {
-              opened_is = told.opened_is;
+              opened_is = reported.opened_is;
               here = x.some.here;
               input = heard_prefix start d.part s.text begins (λ l. subst (λ n. IsPart client.request s.text n) (sym (ap length none)) part) x.some;
               fits = omega (arith, acked);

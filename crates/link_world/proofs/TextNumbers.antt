@@ -108,17 +108,17 @@ module _ (m : AppSpec) (pages : Pages) (lawful : IsPaged m pages) where
       record { num = record { at = (omega (arith, h.0, h.1, x.acked, zero), omega (arith, h.2, text)) }; open_there = λ z. refl }
   by_state_num SynRcvd false c numbers s e h = still c SynRcvd Step.Drop numbers e refl h
   by_state_num Established true c numbers s e h =
-      let told = m.acked numbers c.part c.len in
-      let b : Connection = with_part told.part (rests c) in
-      let moved : told.part.acked ≡ c.part.acked + c.len = lawful.acked_moves numbers c.part c.len in
-      let same : told.part.input ≡ c.part.input = lawful.acked_input numbers c.part c.len in
-      established_num true b told.numbers s e (omega (arith, h.0, moved)) (omega (arith, h.1, ap length same))
+      let reported = m.acked numbers c.part c.len in
+      let b : Connection = with_part reported.part (rests c) in
+      let moved : reported.part.acked ≡ c.part.acked + c.len = lawful.acked_moves numbers c.part c.len in
+      let same : reported.part.input ≡ c.part.input = lawful.acked_input numbers c.part c.len in
+      established_num true b reported.numbers s e (omega (arith, h.0, moved)) (omega (arith, h.1, ap length same))
   by_state_num Established false c numbers s e h = established_num false c numbers s e h.0 h.1
   by_state_num CloseWait true c numbers s e h =
-      let told = m.acked numbers c.part c.len in
-      let d : Connection = with_window s.window (with_part told.part (rests c)) in
-      let moved : told.part.acked ≡ c.part.acked + c.len = lawful.acked_moves numbers c.part c.len in
-      let same : told.part.input ≡ c.part.input = lawful.acked_input numbers c.part c.len in
+      let reported = m.acked numbers c.part c.len in
+      let d : Connection = with_window s.window (with_part reported.part (rests c)) in
+      let moved : reported.part.acked ≡ c.part.acked + c.len = lawful.acked_moves numbers c.part c.len in
+      let same : reported.part.input ≡ c.part.input = lawful.acked_input numbers c.part c.len in
       record { num = num_at d CloseWait e (omega (arith, h.0, moved), omega (arith, h.1, ap length same)); open_there = λ z. ap is_open e }
   by_state_num CloseWait false c numbers s e h = still (with_window s.window c) CloseWait Step.Drop numbers e refl (h.0, h.1)
   by_state_num FinWait1 true c numbers s e h =

@@ -1,5 +1,5 @@
 -- The connection with an honest peer: at each segment of its peer it sends what the application has next.
-use Rattle.node_laws.proofs.Prelude.{All, option_map_or, ◌≡◌, ℕ, suc, ◌+◌, ◌<◌, ◌≤◌, ◌==◌, min, Bool, true, false, if◌then◌else◌, not, ◌&&◌, inl, inr, List, [], ◌∷◌, ◌++◌, length, take, drop, refl, sym, ap, ◌∙◌, subst, arith, Option, Some, None, is_some, eqb, ltb, length-append, eq-eqb, take-append-le, take_all, length-take-le, common_steps, take-add, wrap, PlainSegment, has_fin, has_rst, has_ack, beat_at, Beat, AppState, After, AppSpec, IsPrefixOf, Pages, IsPaged, IsU32, IsNow, IsSnapshot, MayWant, Now, Reset, State, SynRcvd, Established, FinWait1, Want, Nothing, Send, Close, Abort, Sockets, Connection, is_live, serves, snd_una, rcv_nxt, occupies_sequence_space, segment_of, bare_ack, fin_of, reset_of, syn_ack, text_segment, Outcome, leaves, closes, idles, does_as_wanted, ask, asked, told_end, peer_closes, is_out_of_order, is_acked, has_text, hears, with_window, stays_established, in_established, by_state, on_segment, Step, choose, ltb-yes, cut_length, wrap_wrap, prefix_length, append_nothing, zero_or_more, same_place, is_time_wait, same_self, FitOut, prepared_snapshots, steady_of, hears_is, prepare_is, Exchange, AnswersPolled, GoesOnBy, Asker, text_received, awaits_ack, is_bare_ack, bare_acks, SendsNext, HasItsPage}
+use Rattle.node_laws.proofs.Prelude.{All, option_map_or, ◌≡◌, ℕ, suc, ◌+◌, ◌<◌, ◌≤◌, ◌==◌, min, Bool, true, false, if◌then◌else◌, not, ◌&&◌, inl, inr, List, [], ◌∷◌, ◌++◌, length, take, drop, refl, sym, ap, ◌∙◌, subst, arith, Option, Some, None, is_some, eqb, ltb, length-append, eq-eqb, take-append-le, take_all, length-take-le, common_steps, take-add, wrap, PlainSegment, has_fin, has_rst, has_ack, beat_at, Beat, AppState, After, AppSpec, IsPrefixOf, Pages, IsPaged, IsU32, IsNow, IsSnapshot, MayWant, Now, Reset, State, SynRcvd, Established, FinWait1, Want, Nothing, Send, Close, Abort, Sockets, Connection, is_live, serves, snd_una, rcv_nxt, occupies_sequence_space, segment_of, bare_ack, fin_of, reset_of, syn_ack, text_segment, Outcome, leaves, closes, idles, does_as_wanted, ask, asked, reported_end, peer_closes, is_out_of_order, is_acked, has_text, hears, with_window, stays_established, in_established, by_state, on_segment, Step, choose, ltb-yes, cut_length, wrap_wrap, prefix_length, append_nothing, zero_or_more, same_place, is_time_wait, same_self, FitOut, prepared_snapshots, steady_of, hears_is, prepare_is, Exchange, AnswersPolled, GoesOnBy, Asker, text_received, awaits_ack, is_bare_ack, bare_acks, SendsNext, HasItsPage}
 use Rattle.tcp_machine.specs.OnTick.{by_beat, limit_of, on_tick, polls as polled_by, ticks_established}
 use Rattle.node_laws.proofs.HonestSessions.{has_of, has_on, lets_go, nothing_more, takes_at}
 use Rattle.node_laws.proofs.Lines.{quiet, met}
@@ -28,7 +28,7 @@ module _ (m : AppSpec) where
   unfolding on_segment
   taken_in c numbers s r h =
       let in_order : is_out_of_order c s ≡ false = ap (λ b. occupies_sequence_space s && not b) (eq-eqb s.seq (rcv_nxt c) h) ∙ and_no (occupies_sequence_space s) in
-      ap (λ b. if b then leaves (closes c) (told_end m Reset c.state c.part numbers) Step.Drop else (if is_out_of_order c s then leaves c numbers Step.Ack else by_state m c.state (is_acked c s) c numbers s)) r
+      ap (λ b. if b then leaves (closes c) (reported_end m Reset c.state c.part numbers) Step.Drop else (if is_out_of_order c s then leaves c numbers Step.Ack else by_state m c.state (is_acked c s) c numbers s)) r
       ∙ ap (λ b. if b then leaves c numbers Step.Ack else by_state m c.state (is_acked c s) c numbers s) in_order
 
 module _ (m : AppSpec) (pages : Pages) (lawful : IsPaged m pages) (p : Sockets) (a : Asker) (room : 0 < a.mss) (fine : ℕ → AppState → Bool) (left : AppState → ℕ) (texts patience : ℕ) (answering : AnswersPolled m a.request a.mss fine left texts patience) where
@@ -82,7 +82,7 @@ module _ (m : AppSpec) (pages : Pages) (lawful : IsPaged m pages) (p : Sockets) 
 
   pub data Stage (polls : ℕ) (incarnation : List Exchange) (c : Connection) : Type 0 where
     at_syn : (iss age : ℕ) (part : AppState) → Counts iss → c ≡ conn_at SynRcvd 0 iss 0 1 age part → AtSyn incarnation → Stage polls incarnation c
-    told : (taken iss acked len age most : ℕ) (part : AppState) → Counts iss → c ≡ conn_at Established taken iss acked len age part →
+    reported : (taken iss acked len age most : ℕ) (part : AppState) → Counts iss → c ≡ conn_at Established taken iss acked len age part →
         Interactive incarnation part taken acked len → Awaits polls part len most → bare_acks incarnation + most ≤ texts + 1 → Stage polls incarnation c
     waits : (taken iss acked age most : ℕ) (part : AppState) → Counts iss → c ≡ conn_at Established taken iss acked 0 age part →
         Interactive incarnation part taken acked 0 → awaits_ack incarnation ≡ false → Rests polls part most → bare_acks incarnation + most ≤ texts + 1 → Stage polls incarnation c
@@ -117,7 +117,7 @@ module _ (m : AppSpec) (pages : Pages) (lawful : IsPaged m pages) (p : Sockets) 
   pub stage_quiet : (polls : ℕ) (incarnation : List Exchange) (c : Connection) → Stage polls incarnation c → Stage polls (quiet ∷ incarnation) c
   stage_quiet polls incarnation c h = elim h [
     | at_syn iss age part k e t ↦ at_syn iss age part k e (syn_quiet incarnation t)
-    | told taken iss acked len age most part k e t w b ↦ told taken iss acked len age most part k e (session_kept_quiet incarnation part taken acked len t) w b
+    | reported taken iss acked len age most part k e t w b ↦ reported taken iss acked len age most part k e (session_kept_quiet incarnation part taken acked len t) w b
     | waits taken iss acked age most part k e t n r b ↦ waits taken iss acked age most part k e (session_kept_quiet incarnation part taken acked 0 t) n r b
   ]
 
@@ -224,7 +224,7 @@ module _ (m : AppSpec) (pages : Pages) (lawful : IsPaged m pages) (p : Sockets) 
       let len : ℕ = min j a.mss in
       let some : 0 < len = (let l = may.0 in omega (arith, l, room)) in
       let within : q.acked + len ≤ length (page q) = (let l = may.1 in omega (arith, l)) in
-      goes_on_so (told taken iss acked len 0 most q k refl (says_text received older q taken iss acked most len k h within) record { some = some; next = g } h.bound)
+      goes_on_so (reported taken iss acked len 0 most q k refl (says_text received older q taken iss acked most len k h within) record { some = some; next = g } h.bound)
   by_want polls received older fresh numbers taken iss acked age most q Nothing k h snapshots may g rested =
       let d : Connection = conn_at Established taken iss acked 0 age q in
       let P : Outcome → Type 0 = λ o. Next polls (met received (segment_of m o.connection o.step) ∷ older) o.connection in
@@ -355,17 +355,17 @@ module _ (m : AppSpec) (pages : Pages) (lawful : IsPaged m pages) (p : Sockets) 
       ∙ ap (λ b. if b then leaves (with_window s.window d) delivered.numbers Step.Drop else leaves (with_window s.window d) delivered.numbers (Step.Ask (has_text s))) h
       ∙ ap (λ n. leaves (record d { mss = n }) delivered.numbers (Step.Ask (has_text s))) (window_same s.window w)
 
-  told_row : (numbers : List ℕ) (taken iss acked len age : ℕ) (part : AppState) (s : PlainSegment) (older : List Exchange) → Counts iss → Interactive older part taken acked len → 0 < len → (h : SendsNext a (met (Some s) None) older) → h.segment ≡ s →
-      let told : After = m.acked numbers part len in
-      let delivered : After = hears m told.numbers told.part s.text in
+  reported_row : (numbers : List ℕ) (taken iss acked len age : ℕ) (part : AppState) (s : PlainSegment) (older : List Exchange) → Counts iss → Interactive older part taken acked len → 0 < len → (h : SendsNext a (met (Some s) None) older) → h.segment ≡ s →
+      let reported : After = m.acked numbers part len in
+      let delivered : After = hears m reported.numbers reported.part s.text in
       on_segment m (conn_at Established taken iss acked len age part) numbers s ≡ leaves (conn_at Established (taken + length s.text) iss (acked + len) 0 0 delivered.part) delivered.numbers (Step.Ask (has_text s))
-  told_row numbers taken iss acked len age part s older k t l h same =
+  reported_row numbers taken iss acked len age part s older k t l h same =
       let c : Connection = conn_at Established taken iss acked len age part in
-      let told : After = m.acked numbers part len in
+      let reported : After = m.acked numbers part len in
       let placed : s.seq ≡ rcv_nxt c = ap (λ t. t.seq) (sym same) ∙ h.seq ∙ ap (λ n. wrap (a.irs + 1 + n)) (sym t.is_taken) in
       let is : is_acked c s ≡ true = all_acked iss acked len (1 + length (has_of a.iss older)) c s k refl refl refl l (let z = has_length older part taken acked len t in let y = t.is_acked in omega (arith, z, y)) (ap (λ t. has_ack t.flags) (sym same) ∙ h.acks) (acks_all s older h same) in
       taken_in m c numbers s (ap (λ t. has_rst t.flags) (sym same) ∙ h.rst) placed ∙ ap (λ y. by_state m Established y c numbers s) is
-      ∙ row_of true told.numbers taken iss (acked + len) 0 told.part s (ap (λ t. has_fin t.flags) (sym same) ∙ h.fin) (subst (λ t. a.mss ≤ t.window) same h.window) refl
+      ∙ row_of true reported.numbers taken iss (acked + len) 0 reported.part s (ap (λ t. has_fin t.flags) (sym same) ∙ h.fin) (subst (λ t. a.mss ≤ t.window) same h.window) refl
 
   waiting_row : (numbers : List ℕ) (taken iss acked age : ℕ) (part : AppState) (s : PlainSegment) (older : List Exchange) → Interactive older part taken acked 0 → 0 < length s.text → (h : SendsNext a (met (Some s) None) older) → h.segment ≡ s →
       let delivered : After = hears m numbers part s.text in
@@ -405,22 +405,22 @@ module _ (m : AppSpec) (pages : Pages) (lawful : IsPaged m pages) (p : Sockets) 
           has = syn.has ∙ ap (λ n. take n (page start.part)) (sym (lawful.connected_acked numbers p.own_port.0));
         }
         (bare_more s older texts (let z = syn.none in omega (arith, z))) begins.0 begins.1 (first_row numbers iss age part s older k syn h same) (subst (λ (z : Connection). Snapshots at (on_segment m z numbers s)) e snapshots)))
-    | told taken iss acked len age most part k e t w b ↦
+    | reported taken iss acked len age most part k e t w b ↦
         (let d : Connection = conn_at Established taken iss acked len age part in
-        let told_it : After = m.acked numbers part len in
-        let fewer : ℕ = left told_it.part in
-        let page_same : page told_it.part ≡ page part = ap (λ z. pages.page z told_it.part.snapshots) (lawful.acked_input numbers part len) ∙ ap (λ z. pages.page part.input z) (lawful.acked_snapshots numbers part len) in
-        let moved : told_it.part.acked ≡ part.acked + len = lawful.acked_moves numbers part len in
+        let reported_it : After = m.acked numbers part len in
+        let fewer : ℕ = left reported_it.part in
+        let page_same : page reported_it.part ≡ page part = ap (λ z. pages.page z reported_it.part.snapshots) (lawful.acked_input numbers part len) ∙ ap (λ z. pages.page part.input z) (lawful.acked_snapshots numbers part len) in
+        let moved : reported_it.part.acked ≡ part.acked + len = lawful.acked_moves numbers part len in
         subst (λ (z : Connection). Answered polls at z numbers s older) (sym e)
-        (asked_after polls l at s older (on_segment m d numbers s) told_it.numbers taken iss (acked + len) 0 fewer told_it.part k prefix
+        (asked_after polls l at s older (on_segment m d numbers s) reported_it.numbers taken iss (acked + len) 0 fewer reported_it.part k prefix
         record {
           input = lawful.acked_input numbers part len ∙ t.input;
           is_taken = t.is_taken;
           is_acked = (let z = t.is_acked in omega (arith, z, moved));
           fits = (let z = t.fits in let y = ap length page_same in omega (arith, z, moved, y));
-          has = t.has ∙ ap (λ n. take n (page part)) (sym moved) ∙ ap (λ z. take told_it.part.acked z) (sym page_same);
+          has = t.has ∙ ap (λ n. take n (page part)) (sym moved) ∙ ap (λ z. take reported_it.part.acked z) (sym page_same);
         }
-        (bare_more s older fewer (let z = (w.next numbers).1 in omega (arith, z, b))) (w.next numbers).0 (omega arith) (told_row numbers taken iss acked len age part s older k t w.some h same) (subst (λ (z : Connection). Snapshots at (on_segment m z numbers s)) e snapshots)))
+        (bare_more s older fewer (let z = (w.next numbers).1 in omega (arith, z, b))) (w.next numbers).0 (omega arith) (reported_row numbers taken iss acked len age part s older k t w.some h same) (subst (λ (z : Connection). Snapshots at (on_segment m z numbers s)) e snapshots)))
     | waits taken iss acked age most part k e t n r b ↦
         (let d : Connection = conn_at Established taken iss acked 0 age part in
         let some : 0 < length s.text = some_text s older h same n in
@@ -478,8 +478,8 @@ module _ (m : AppSpec) (pages : Pages) (lawful : IsPaged m pages) (p : Sockets) 
   text_beat : (polls : ℕ) (at : Connection → Now) (b : Beat) (taken iss acked len age most : ℕ) (part : AppState) (numbers : List ℕ) (older : List Exchange) → Counts iss → All IsSnapshot part.snapshots → Interactive older part taken acked len → Awaits polls part len most → bare_acks older + most ≤ texts + 1 →
       let c : Connection = conn_at Established taken iss acked len age part in let r : Outcome = asked m at (by_beat m b c numbers) in
       ((u : PlainSegment) → segment_of m r.connection r.step ≡ Some u → has_rst u.flags ≡ false) → Stage polls (met None (segment_of m r.connection r.step) ∷ older) r.connection
-  text_beat polls at Beat.Wait taken iss acked len age most part numbers older k snapshots t w b h = told taken iss acked len (age + 1) most part k refl (session_kept_quiet older part taken acked len t) w b
-  text_beat polls at Beat.Again taken iss acked len age most part numbers older k snapshots t w b h = told taken iss acked len (age + 1) most part k refl (text_again older taken iss acked len (age + 1) part k snapshots w.some t) w b
+  text_beat polls at Beat.Wait taken iss acked len age most part numbers older k snapshots t w b h = reported taken iss acked len (age + 1) most part k refl (session_kept_quiet older part taken acked len t) w b
+  text_beat polls at Beat.Again taken iss acked len age most part numbers older k snapshots t w b h = reported taken iss acked len (age + 1) most part k refl (text_again older taken iss acked len (age + 1) part k snapshots w.some t) w b
   text_beat polls at Beat.GiveUp taken iss acked len age most part numbers older k snapshots t w b h = absurd (let c : Connection = conn_at Established taken iss acked len age part in let z = h (reset_of (closes c)) refl in cc)
 
   -- what a call leaves: the polls so far
@@ -526,7 +526,7 @@ module _ (m : AppSpec) (pages : Pages) (lawful : IsPaged m pages) (p : Sockets) 
         let now : Keeps at d numbers = subst (λ (z : Connection). Keeps at z numbers) e keeps in
         subst (λ (z : Connection). (let r : Outcome = asked m at (on_tick m z numbers) in Polled polls (met None (segment_of m r.connection r.step) ∷ older) r.connection)) (sym e)
         record { now = polls; least = omega arith; most = l; next = goes_on_so (syn_beat polls at (beat_at (limit_of SynRcvd) (age + 1)) iss age part numbers older k syn now) })
-    | told taken iss acked len age most part k e t w b ↦
+    | reported taken iss acked len age most part k e t w b ↦
         (let d : Connection = conn_at Established taken iss acked len age part in
         let now : Keeps at d numbers = subst (λ (z : Connection). Keeps at z numbers) e keeps in
         let beat : Beat = beat_at (limit_of Established) (age + 1) in
@@ -546,14 +546,14 @@ module _ (m : AppSpec) (pages : Pages) (lawful : IsPaged m pages) (p : Sockets) 
   pub stage_serves : (polls : ℕ) (incarnation : List Exchange) (c : Connection) → Stage polls incarnation c → serves p c ≡ true
   stage_serves polls incarnation c h = elim h [
     | at_syn iss age part k e t ↦ ap (serves p) e ∙ same_self p
-    | told taken iss acked len age most part k e t w b ↦ ap (serves p) e ∙ same_self p
+    | reported taken iss acked len age most part k e t w b ↦ ap (serves p) e ∙ same_self p
     | waits taken iss acked age most part k e t n r b ↦ ap (serves p) e ∙ same_self p
   ]
 
   pub stage_stays : (polls : ℕ) (incarnation : List Exchange) (c : Connection) → Stage polls incarnation c → is_time_wait c.state ≡ false
   stage_stays polls incarnation c h = elim h [
     | at_syn iss age part k e t ↦ ap (λ z. is_time_wait z.state) e
-    | told taken iss acked len age most part k e t w b ↦ ap (λ z. is_time_wait z.state) e
+    | reported taken iss acked len age most part k e t w b ↦ ap (λ z. is_time_wait z.state) e
     | waits taken iss acked age most part k e t n r b ↦ ap (λ z. is_time_wait z.state) e
   ]
 
@@ -563,13 +563,13 @@ module _ (m : AppSpec) (pages : Pages) (lawful : IsPaged m pages) (p : Sockets) 
   pub runs_out : (polls : ℕ) (incarnation : List Exchange) (c : Connection) → text_received incarnation ≡ a.request → texts < bare_acks incarnation → Stage polls incarnation c → ⊥
   runs_out polls incarnation c whole l h = elim h [
     | at_syn iss age part k e t ↦ (let z = t.none in omega (arith, z, l))
-    | told taken iss acked len age most part k e t w b ↦ (let z = (w.next []).1 in omega (arith, z, l, b))
+    | reported taken iss acked len age most part k e t w b ↦ (let z = (w.next []).1 in omega (arith, z, l, b))
     | waits taken iss acked age most part k e t n r b ↦ r.more (t.input ∙ whole)
   ]
 
   -- the page stays sent
-  pub stays_told : (x : Exchange) (incarnation : List Exchange) → HasItsPage pages a incarnation → HasItsPage pages a (x ∷ incarnation)
-  stays_told x incarnation h = record {
+  pub stays_reported : (x : Exchange) (incarnation : List Exchange) → HasItsPage pages a incarnation → HasItsPage pages a (x ∷ incarnation)
+  stays_reported x incarnation h = record {
     snapshots = h.snapshots;
     in_range = h.in_range;
     whole = h.whole;

@@ -2,7 +2,7 @@
 use Rattle.node_laws.proofs.Prelude.{All, option_map_or, ◌≡◌, ℕ, zero, suc, ◌+◌, ◌<◌, ◌≤◌, ◌==◌, Bool, true, false, ◌&&◌, ◌⊎◌, inl, inr, List, [], ◌∷◌, ◌++◌, length, set, refl, sym, ap, ◌∙◌, subst, arith, Option, Some, None, slice_get, eqb, length-append, if◌then◌else◌, eq-eqb, All-tail, wrap, Addr, SYN, PlainSegment, has_syn, has_rst, has_ack, AppState, AppSpec, IsPrefixOf, Pages, IsPaged, SynRcvd, Sockets, Connection, closed, is_live, rows_from, row_of, is_plain_syn, segment_of, reset_for_no_connection, syn_ack, Outcome, asked, accepted, first_mss, on_segment, on_tick, Event, Periodic, called_by, AbstractNode, NodeStep, snapshot, initial_node, step, serving, IsEvent, choose, eqb-eq, only_some, wrap_wrap, append_nothing, get_set_same, is_served, served, free, on_segment_fits, on_tick_fits, node_snapshot, steady_of, AnswersPolled, Asker, text_received, bare_acks, SendsSyn, SendsNext, IsWaitedFor, IsHonest, calls_of, HasItsPage, HonestPeer, Exchange, TraceEntry, exchange, exchanges_onto, exchanges_with, trace_of, IsOfLine}
 use Rattle.node_laws.proofs.Beating.{mss_some}
 use Rattle.node_laws.proofs.GoodNodes.{Good, good_on, good_start, first_is}
-use Rattle.node_laws.proofs.HonestConnections.{conn_at, Counts, AtSyn, Stage, Snapshots, stage_quiet, answered, called, stage_serves, stage_stays, runs_out, stays_told}
+use Rattle.node_laws.proofs.HonestConnections.{conn_at, Counts, AtSyn, Stage, Snapshots, stage_quiet, answered, called, stage_serves, stage_stays, runs_out, stays_reported}
 use Rattle.node_laws.proofs.HonestConnections.Stage.{at_syn}
 use Rattle.node_laws.proofs.HonestConnections.Next.{goes_on_so, ends_so}
 use Rattle.node_laws.proofs.HonestSessions.{honest_before, nothing_more, has_on}
@@ -87,7 +87,7 @@ module _ (m : AppSpec) (pages : Pages) (lawful : IsPaged m pages) (serves_port :
         let h = called m pages lawful p a room fine left texts patience answering v.polls v.few at n.numbers incarnation v.c may (good.fit.conns v.i v.c v.there).snapshots
         (snapshots v.i v.c (on_tick m v.c n.numbers) v.there (on_tick_fits m (steady_of m pages lawful) v.c n.numbers (good.fit.conns v.i v.c v.there) good.fit.numbers)) keeps v.stage in
         subst After (sym g.exchanged) (elim h.next [
-          | ends_so told ↦ over told
+          | ends_so reported ↦ over reported
           | goes_on_so stage ↦ incarnations record {
             i = v.i;
             c = o.connection;
@@ -121,7 +121,7 @@ module _ (m : AppSpec) (pages : Pages) (lawful : IsPaged m pages) (serves_port :
             can_wait = elim v.can_wait [ inl w ↦ inl (nothing_after (text_received incarnation) s.text a.request w prefix) | inr w ↦ inr (omega (arith, w, more)) ];
             stage = stage;
           }
-          | ends_so told ↦ over told
+          | ends_so reported ↦ over reported
         ])
 
     -- the event is another's
@@ -154,7 +154,7 @@ module _ (m : AppSpec) (pages : Pages) (lawful : IsPaged m pages) (serves_port :
         ]
 
     stands_on : IsWaitedFor x ⊎ SendsNext a x incarnation → Standing n incarnation (turn ∷ rest) → Standing r.node (x ∷ incarnation) rest
-    stands_on h s = elim s [ incarnations v ↦ at_living v h | over told ↦ over (stays_told m pages lawful p a room fine left texts patience answering x incarnation told) ]
+    stands_on h s = elim s [ incarnations v ↦ at_living v h | over reported ↦ over (stays_reported m pages lawful p a room fine left texts patience answering x incarnation reported) ]
 
   -- ---- the opening
 
@@ -229,7 +229,7 @@ module _ (m : AppSpec) (pages : Pages) (lawful : IsPaged m pages) (serves_port :
   whole_stands : (n : AbstractNode) (so_far : List Exchange) (some others : List TraceEntry) → text_received so_far ≡ a.request → Standing n so_far some → Standing n so_far others
   whole_stands n so_far some others w s = elim s [
     | incarnations v ↦ incarnations record { i = v.i; c = v.c; there = v.there; polls = v.polls; few = v.few; can_wait = inl w; stage = v.stage }
-    | over told ↦ over told
+    | over reported ↦ over reported
   ]
 
   module _ (own : Addr) where
@@ -245,7 +245,7 @@ module _ (m : AppSpec) (pages : Pages) (lawful : IsPaged m pages) (serves_port :
     -- after the whole request
     run_later : (es : List Event) (n : AbstractNode) (y : Exchange) (older : List Exchange) → OfLine es → Good n → IsHonest a (exchanges_onto p (trace_of m serves_port es n) (y ∷ older)) → text_received (y ∷ older) ≡ a.request →
         Standing n (y ∷ older) [] → Reaches (exchanges_onto p (trace_of m serves_port es n) (y ∷ older))
-    run_later [] n y older l g h w s few = elim s [ incarnations v ↦ absurd (runs_out m pages lawful p a room fine left texts patience answering v.polls (y ∷ older) v.c w few v.stage) | over told ↦ told ]
+    run_later [] n y older l g h w s few = elim s [ incarnations v ↦ absurd (runs_out m pages lawful p a room fine left texts patience answering v.polls (y ∷ older) v.c w few v.stage) | over reported ↦ reported ]
     run_later (e ∷ es) n y older l g h w s few =
         let x : Exchange = exchange p e (step m serves_port n e).sent in
         let here = honest_before a p (trace_of m serves_port es (step m serves_port n e).node) x (y ∷ older) h in

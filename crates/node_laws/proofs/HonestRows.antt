@@ -1,6 +1,6 @@
 -- An honest peer, and one that is silent, computed from the definitions alone.
 use Rattle.node_laws.proofs.Prelude.{◌≡◌, ◌+◌, ℕ, false, inl, inr, List, [], ◌∷◌, refl, arith, Some, None, PlainSegment, has_rst, SYN, PSH, ACK, hello, idles, peer_closes, stays_established, in_established, fin_acked, fin_waits, on_segment, rests_on, ticks_established, Periodic, happened, opens_in, for_no_connection, only_some, Asker, IsHonest, text_received, bare_acks, receives_all, Exchange}
-use Rattle.node_laws.proofs.Rows.{says, session_over, told}
+use Rattle.node_laws.proofs.Rows.{says, session_over, reported}
 
 abbrev segment : ℕ → ℕ → List ℕ → PlainSegment
 segment seq ack text = record { seq = seq; ack = ack; flags = ACK; window = 8192; mss = None; text = text }
@@ -33,7 +33,7 @@ unfolding idles peer_closes stays_established in_established fin_acked fin_waits
 has_page = refl
 
 -- the SYN is sent again in the fourth call of the slot
-sent_syn_twice : told (session_over (says 1000 0 SYN [] ∷ Periodic 0 ∷ Periodic 0 ∷ Periodic 0 ∷ Periodic 0 ∷ []))
+sent_syn_twice : reported (session_over (says 1000 0 SYN [] ∷ Periodic 0 ∷ Periodic 0 ∷ Periodic 0 ∷ Periodic 0 ∷ []))
     ≡ Some (0, []) ∷ None ∷ None ∷ None ∷ Some (0, []) ∷ []
 unfolding idles peer_closes stays_established in_established fin_acked fin_waits on_segment rests_on ticks_established happened opens_in for_no_connection
 sent_syn_twice = refl

@@ -1,6 +1,6 @@
 -- An incarnation of a connection, one exchange longer.
 use Rattle.node_laws.proofs.Prelude.{All, option_map_or, ◌≡◌, ℕ, zero, suc, ◌+◌, ◌<◌, ◌≤◌, min, Bool, true, false, not, ◌&&◌, ◌||◌, ◌⊎◌, inl, inr, List, [], ◌∷◌, ◌++◌, length, take, drop, refl, sym, ap, ◌∙◌, subst, arith, Option, Some, None, slice_get, eqb, ltb, if◌then◌else◌, common_steps, wrap, OWN_MSS, PlainSegment, has_syn, has_fin, has_rst, has_ack, SYN, AppState, Snapshot, AppSpec, IsPrefixOf, IsSnapshot, State, Closed, SynRcvd, Established, CloseWait, FinWait1, FinWait2, Closing, TimeWait, LastAck, Sockets, Connection, closed, is_live, snd_una, rcv_nxt, occupies_sequence_space, is_plain_syn, segment_of, is_again, syn_ack, text_segment, fin_of, reset_for_no_connection, Outcome, asked, first_mss, accepted, is_acked, on_segment, on_tick, Alike, IsSlice, choose, both_ways, only_some, same_place, append_nothing, IsPart, part_grows, prefix_refl, prefix_length, and_true, eqb-eq, FitConn, FitOut, all_nil, on_segment_fits, on_tick_fits, Moves, asked_moves, segment_moves, tick_moves, IsSteady, stepped_fits, stepped_tells, Safe, SafeState, IsDue, StepReports, due, alike_trans, alike_sym, alike_refl, segment_tells, tick_tells, Exchange, is_opening, Account, Begins, IsSelection, SendsSlice, Acknowledges, sequence_length, IsAcknowledged, IsExtendedBy, IsReceived, OutputModel, FollowsModelAt, Now, LensWithin, asked_within, on_segment_within, on_tick_within}
-use Rattle.node_laws.proofs.Speaking.{IsEnd, IsReported, prefix_size, prefix_trans, slice_prefix, told_end, told_on, told_starts, told_where}
+use Rattle.node_laws.proofs.Speaking.{IsEnd, IsReported, prefix_size, prefix_trans, slice_prefix, reported_end, reported_on, reported_starts, reported_where}
 use Rattle.node_laws.proofs.Texts.{get_append}
 use Rattle.node_laws.proofs.Texts.InBoth.{in_first, in_second}
 use Rattle.node_laws.proofs.Kept.{HasEnded, Kept, Unended, grows_refl, received_on}
@@ -221,7 +221,7 @@ module _ (m : AppSpec) (steady : IsSteady m) (port : ℕ) (model : OutputModel) 
         no_acks
         (λ few s j y t e h q a b u. absurd (unplaced s e a))
         (λ s j y t e h q a b u. absurd (unplaced s e a))
-        (told_where model (HasEnded incarnation) (HasEnded (x ∷ incarnation)) ended_before k.account.input k.account.snapshots k.account.stream k.of_page)
+        (reported_where model (HasEnded incarnation) (HasEnded (x ∷ incarnation)) ended_before k.account.input k.account.snapshots k.account.stream k.of_page)
 
     still_placed : is_live c'.state ≡ true → (i : ℕ) (y : Exchange) (s : PlainSegment) → slice_get (x ∷ incarnation) i ≡ Some y → y.output ≡ Some s → occupies_sequence_space s ≡ true → Passed (x ∷ incarnation) i c' s ⊎ DueIn c' s
     still_placed l zero y s h e p = absurd (let w : x.output ≡ Some s = only_some (λ z. z.output ≡ Some s → x.output ≡ Some s) x y h (λ q. q) e in let z : occupies_sequence_space s ≡ false = (resets s w).1 in cc)
@@ -430,29 +430,29 @@ module _ (m : AppSpec) (steady : IsSteady m) (port : ℕ) (model : OutputModel) 
     -- ---- of its page
 
     -- as before, if this exchange has no FIN
-    told_before : ((s : PlainSegment) → sent ≡ Some s → has_fin s.flags ≡ true → ⊥) → IsReported model (HasEnded (x ∷ incarnation)) w.now d.part.snapshots sp.sent_now
-    told_before none =
+    reported_before : ((s : PlainSegment) → sent ≡ Some s → has_fin s.flags ≡ true → ⊥) → IsReported model (HasEnded (x ∷ incarnation)) w.now d.part.snapshots sp.sent_now
+    reported_before none =
         let before : HasEnded (x ∷ incarnation) → HasEnded incarnation = λ h. elim (last_or_before x incarnation h) [ inl q ↦ absurd (none q.0 q.1 q.2) | inr old ↦ old ] in
         elim sp.adds [
           | inl q ↦ subst (λ z. IsReported model (HasEnded (x ∷ incarnation)) w.now d.part.snapshots z) (sym q)
               (subst (λ z. IsReported model (HasEnded (x ∷ incarnation)) w.now z a.stream) captures_on
               (subst (λ z. IsReported model (HasEnded (x ∷ incarnation)) z (a.snapshots ++ w.more) a.stream) step_prefix.joined
-              (told_where model (HasEnded incarnation) (HasEnded (x ∷ incarnation)) before (a.input ++ step_prefix.rest) (a.snapshots ++ w.more) a.stream
-              (told_on m port model laws (HasEnded incarnation) a.input step_prefix.rest a.snapshots w.more a.stream g.kept.of_page))))
-          | inr n ↦ told_where model ⊥ (HasEnded (x ∷ incarnation)) (λ h. n.unended (before h)) w.now d.part.snapshots sp.sent_now n.of_page
+              (reported_where model (HasEnded incarnation) (HasEnded (x ∷ incarnation)) before (a.input ++ step_prefix.rest) (a.snapshots ++ w.more) a.stream
+              (reported_on m port model laws (HasEnded incarnation) a.input step_prefix.rest a.snapshots w.more a.stream g.kept.of_page))))
+          | inr n ↦ reported_where model ⊥ (HasEnded (x ∷ incarnation)) (λ h. n.unended (before h)) w.now d.part.snapshots sp.sent_now n.of_page
         ]
 
     -- and with a FIN the text is that of the end
-    told_with : (s : PlainSegment) → sent ≡ Some s → has_fin s.flags ≡ true → IsReported model (HasEnded (x ∷ incarnation)) w.now d.part.snapshots sp.sent_now
-    told_with s e f =
+    reported_with : (s : PlainSegment) → sent ≡ Some s → has_fin s.flags ≡ true → IsReported model (HasEnded (x ∷ incarnation)) w.now d.part.snapshots sp.sent_now
+    reported_with s e f =
         let t = tells.output s e (fin_placed s f) in
-        told_end model (HasEnded (x ∷ incarnation)) w.now d.part.snapshots sp.sent_now (end_due incarnation d d.state w.now w.over sp.sent_now s w.page.at t.due_now.alike f)
+        reported_end model (HasEnded (x ∷ incarnation)) w.now d.part.snapshots sp.sent_now (end_due incarnation d d.state w.now w.over sp.sent_now s w.page.at t.due_now.alike f)
 
     reported_by : (output : Option PlainSegment) → sent ≡ output → IsReported model (HasEnded (x ∷ incarnation)) w.now d.part.snapshots sp.sent_now
-    reported_by None e = told_before (λ s q f. absurd (let z : None ≡ Some s = sym e ∙ q in cc))
+    reported_by None e = reported_before (λ s q f. absurd (let z : None ≡ Some s = sym e ∙ q in cc))
     reported_by (Some s) e =
-        both_ways (has_fin s.flags) (λ f. told_with s e f)
-        (λ f. told_before (λ t q h. absurd (let z : has_fin t.flags ≡ false = only_some (λ y. has_fin y.flags ≡ false) s t (sym e ∙ q) f in cc)))
+        both_ways (has_fin s.flags) (λ f. reported_with s e f)
+        (λ f. reported_before (λ t q h. absurd (let z : has_fin t.flags ≡ false = only_some (λ y. has_fin y.flags ≡ false) s t (sym e ∙ q) f in cc)))
 
     step_of_page : IsReported model (HasEnded (x ∷ incarnation)) w.now d.part.snapshots sp.sent_now
     step_of_page = reported_by sent refl
@@ -578,7 +578,7 @@ module _ (m : AppSpec) (steady : IsSteady m) (port : ℕ) (model : OutputModel) 
               (record { selected = []; counts_fin = false; is = first_taken s.seq x k; prefix = prefix_refl []; ack = ap wrap (omega arith) });
           same = λ few i j y z t u l h g. absurd (no_two x i j y z l h g);
           one = λ i j y z t u l h g. absurd (no_two x i j y z l h g);
-          of_page = told_starts model (HasEnded (x ∷ [])) unended;
+          of_page = reported_starts model (HasEnded (x ∷ [])) unended;
         };
         live = λ l. record { first_is = refl; peer_is = refl; captures_are = refl; page = page; safe = safe; fit = fit; within = record { len = mss_some s.mss; mss = omega arith; initial = omega arith } };
         placed = λ l k y t h e q. inr (subst (λ z. DueIn c z) (only k y t h e) due_now);

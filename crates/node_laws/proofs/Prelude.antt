@@ -20,7 +20,7 @@ pub use Rattle.std.proofs.lemmas.List.Elements.{All-cons, All-drop, All-head, Al
 pub use Rattle.std.specs.List.{All, list_any}
 pub use Rattle.std.specs.Option.{option_map_or, option_or}
 pub use Rattle.std.specs.Prelude.{option_map}
-pub use Rattle.tcp_machine.specs.Prelude.{Connection, Outcome, Sockets, accepted, after_own_fin, ask, asked, bare_ack, by_beat, by_state, closed, closes, does_as_wanted, fin_of, first_mss, grows_older, has_text, hears, in_state, is_acked, is_again, is_live, is_open, is_out_of_order, is_plain_syn, leaves, limit_of, occupies_sequence_space, on_tick, outstanding, peer_has_closed, polls, prepared, rcv_nxt, reset_for_no_connection, reset_of, rests, row_of, rows_from, same_sockets, segment_of, serves, snd_una, syn_ack, takes, text_segment, tick_by, told_end, waits_for_ack, with_part, with_window}
+pub use Rattle.tcp_machine.specs.Prelude.{Connection, Outcome, Sockets, accepted, after_own_fin, ask, asked, bare_ack, by_beat, by_state, closed, closes, does_as_wanted, fin_of, first_mss, grows_older, has_text, hears, in_state, is_acked, is_again, is_live, is_open, is_out_of_order, is_plain_syn, leaves, limit_of, occupies_sequence_space, on_tick, outstanding, peer_has_closed, polls, prepared, rcv_nxt, reset_for_no_connection, reset_of, rests, row_of, rows_from, same_sockets, segment_of, serves, snd_una, syn_ack, takes, text_segment, tick_by, reported_end, waits_for_ack, with_part, with_window}
 unfoldable pub use Rattle.tcp_machine.specs.Prelude.{fin_acked, fin_waits, idles, in_established, on_segment, peer_closes, rests_on, stays_established, ticks_established}
 pub use Rattle.tcp_machine.specs.declared.step.Step.{Step}
 pub use Rattle.tcp_segment.specs.Prelude.{Datagram, IsReadBack, PlainSegment, has_ack, has_fin, has_rst, has_syn, head_of, header_len, pseudo_header}
@@ -53,7 +53,7 @@ pub use Rattle.uip_node.proofs.SocketPairs.{is_same, same_is, same_self, serves_
 pub use Rattle.uip_node.proofs.SoundSegments.{IsSoundSegment, Lens, LensWithin, accepted_lens, asked_lens, asked_within, closed_lens, on_segment_lens, on_segment_within, on_tick_lens, on_tick_within, said_sound}
 pub use Rattle.uip_node.proofs.Steadiness.{steady_of}
 pub use Rattle.uip_node.proofs.Stepped.{stepped_fits, stepped_tells}
-pub use Rattle.uip_node.proofs.Told.{IsDue, OutReports, Safe, SafeState, StepReports, alike_refl, alike_sym, alike_trans, due, segment_tells, tick_tells}
+pub use Rattle.uip_node.proofs.Reported.{IsDue, OutReports, Safe, SafeState, StepReports, alike_refl, alike_sym, alike_trans, due, segment_tells, tick_tells}
 pub use Rattle.uip_node.specs.Prelude.{AbstractNode, Alike, AnswersPolled, Arrived, Echo, EchoAsked, Event, GoesOnBy, HasBytes, HistoryEntry, IcmpRefused, IpRefused, IsEvent, IsSlice, IsSteady, NodeStep, Overlong, Periodic, Reply, SendsBytes, TcpReply, TcpRefused, arrives_at, by_head, by_proto, by_segment, called_by, connection_in, datagram_to, event_of, ident_of, initial_node, initial_number, joined, opens, periodic, refuses, run, serving, slot_for_syn, snapshot, step}
 unfoldable pub use Rattle.uip_node.specs.Prelude.{for_no_connection, happened, opens_in}
 pub use Rattle.uip_wire.specs.Prelude.{address_at, checksum_of, long_at, word_at, wrap}

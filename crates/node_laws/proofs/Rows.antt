@@ -29,12 +29,12 @@ unfolding idles peer_closes stays_established in_established fin_acked fin_waits
 one_still = refl
 
 -- what is sent in these exchanges, the newest first
-abbrev pub told : List Exchange → List (Option (ℕ × List ℕ))
-told [] = []
-told (x ∷ older) = option_map (λ s. (s.seq, s.text)) x.output ∷ told older
+abbrev pub reported : List Exchange → List (Option (ℕ × List ℕ))
+reported [] = []
+reported (x ∷ older) = option_map (λ s. (s.seq, s.text)) x.output ∷ reported older
 
 -- the peer's window shrinks to 3, and the text is cut to it
-shrunk_window : told (session_over (Arrived peer (record { seq = 1000; ack = 0; flags = SYN; window = 8192; mss = None; text = [] })
+shrunk_window : reported (session_over (Arrived peer (record { seq = 1000; ack = 0; flags = SYN; window = 8192; mss = None; text = [] })
     ∷ says 1001 1 ACK [] ∷ Arrived peer (record { seq = 1001; ack = 1; flags = ACK; window = 3; mss = None; text = 120 ∷ [] })
     ∷ Arrived peer (record { seq = 1002; ack = 4; flags = ACK; window = 3; mss = None; text = [] }) ∷ []))
     ≡ Some (4, 108 ∷ 111 ∷ 10 ∷ []) ∷ Some (1, 104 ∷ 101 ∷ 108 ∷ []) ∷ None ∷ Some (0, []) ∷ []
@@ -42,7 +42,7 @@ unfolding idles peer_closes stays_established in_established fin_acked fin_waits
 shrunk_window = refl
 
 -- nothing is acknowledged, and in the fourth call of the slot the text is sent again
-sent_twice : told (session_over (says 1000 0 SYN [] ∷ says 1001 1 ACK (120 ∷ []) ∷ Periodic 0 ∷ Periodic 0 ∷ Periodic 0 ∷ Periodic 0 ∷ []))
+sent_twice : reported (session_over (says 1000 0 SYN [] ∷ says 1001 1 ACK (120 ∷ []) ∷ Periodic 0 ∷ Periodic 0 ∷ Periodic 0 ∷ Periodic 0 ∷ []))
     ≡ Some (1, hello) ∷ None ∷ None ∷ None ∷ Some (1, hello) ∷ Some (0, []) ∷ []
 unfolding idles peer_closes stays_established in_established fin_acked fin_waits on_segment rests_on ticks_established happened opens_in for_no_connection
 sent_twice = refl

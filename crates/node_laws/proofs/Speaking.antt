@@ -50,24 +50,24 @@ IsReported (Interactive sessions) E text k sent = (delivered : List ℕ) × IsPr
 IsReported Free E text k sent = Unit {0}
 
 -- nothing was sent
-pub told_starts : (model : OutputModel) (E : Type 0) → (E → ⊥) → IsReported model E [] [] []
-told_starts (Paged pages) E none = (record { rest = pages.page [] []; joined = refl }, λ e. absurd (none e))
-told_starts (Interactive sessions) E none = ([], prefix_refl [], (record { rest = sessions.page [] []; joined = refl }, λ e. absurd (none e)))
-told_starts Free E none = tt
+pub reported_starts : (model : OutputModel) (E : Type 0) → (E → ⊥) → IsReported model E [] [] []
+reported_starts (Paged pages) E none = (record { rest = pages.page [] []; joined = refl }, λ e. absurd (none e))
+reported_starts (Interactive sessions) E none = ([], prefix_refl [], (record { rest = sessions.page [] []; joined = refl }, λ e. absurd (none e)))
+reported_starts Free E none = tt
 
-pub told_where : (model : OutputModel) (E F : Type 0) → (F → E) → (text : List ℕ) (k : List Snapshot) (sent : List ℕ) → IsReported model E text k sent → IsReported model F text k sent
-told_where (Paged pages) E F to text k sent h = (h.0, λ f. h.1 (to f))
-told_where (Interactive sessions) E F to text k sent h = (h.0, h.1, (h.2.0, λ f. h.2.1 (to f)))
-told_where Free E F to text k sent h = tt
+pub reported_where : (model : OutputModel) (E F : Type 0) → (F → E) → (text : List ℕ) (k : List Snapshot) (sent : List ℕ) → IsReported model E text k sent → IsReported model F text k sent
+reported_where (Paged pages) E F to text k sent h = (h.0, λ f. h.1 (to f))
+reported_where (Interactive sessions) E F to text k sent h = (h.0, h.1, (h.2.0, λ f. h.2.1 (to f)))
+reported_where Free E F to text k sent h = tt
 
 all_prefix : (xs ys : List ℕ) → xs ≡ ys → IsPrefixOf xs ys
 all_prefix xs ys e = subst (λ z. IsPrefixOf xs z) e (prefix_refl xs)
 
 -- the end of the page gives both
-pub told_end : (model : OutputModel) (E : Type 0) (text : List ℕ) (k : List Snapshot) (sent : List ℕ) → IsEnd model text k sent → IsReported model E text k sent
-told_end (Paged pages) E text k sent h = (all_prefix sent (pages.page text k) h.0, λ e. h)
-told_end (Interactive sessions) E text k sent h = (h.0, h.1, (all_prefix sent (sessions.page h.0 k) h.2.0, λ e. h.2))
-told_end Free E text k sent h = tt
+pub reported_end : (model : OutputModel) (E : Type 0) (text : List ℕ) (k : List Snapshot) (sent : List ℕ) → IsEnd model text k sent → IsReported model E text k sent
+reported_end (Paged pages) E text k sent h = (all_prefix sent (pages.page text k) h.0, λ e. h)
+reported_end (Interactive sessions) E text k sent h = (h.0, h.1, (all_prefix sent (sessions.page h.0 k) h.2.0, λ e. h.2))
+reported_end Free E text k sent h = tt
 
 module _ (m : AppSpec) (port : ℕ) where
   -- of the pages of a port
@@ -145,12 +145,12 @@ module _ (m : AppSpec) (port : ℕ) where
   IsOpen (Interactive sessions) laws p text = HeardOf sessions laws p text
   IsOpen Free laws p text = Unit {0}
 
-  pub told_on : (model : OutputModel) → FollowsModelAt m port model → (E : Type 0) (text more : List ℕ) (k later : List Snapshot) (sent : List ℕ) → IsReported model E text k sent → IsReported model E (text ++ more) (k ++ later) sent
-  told_on (Paged pages) laws E text more k later sent h = (let l : IsPagedAt m port pages = laws in text_on pages l.follows E text more k later sent h)
-  told_on (Interactive sessions) laws E text more k later sent h =
+  pub reported_on : (model : OutputModel) → FollowsModelAt m port model → (E : Type 0) (text more : List ℕ) (k later : List Snapshot) (sent : List ℕ) → IsReported model E text k sent → IsReported model E (text ++ more) (k ++ later) sent
+  reported_on (Paged pages) laws E text more k later sent h = (let l : IsPagedAt m port pages = laws in text_on pages l.follows E text more k later sent h)
+  reported_on (Interactive sessions) laws E text more k later sent h =
       (let g : IsTextOf sessions E (h.0 ++ []) (k ++ later) sent = text_on sessions laws E h.0 [] k later sent h.2 in
       (h.0 ++ [], subst (λ z. IsPrefixOf z (text ++ more)) (sym (append_nothing h.0)) (prefix_on h.0 text more h.1), g))
-  told_on Free laws E text more k later sent h = tt
+  reported_on Free laws E text more k later sent h = tt
 
   end_on : (model : OutputModel) → FollowsModelAt m port model → (text more : List ℕ) (k later : List Snapshot) (sent : List ℕ) → IsEnd model text k sent → IsEnd model (text ++ more) (k ++ later) sent
   end_on (Paged pages) laws text more k later sent h = (let l : IsPagedAt m port pages = laws in end_of_on pages l.follows text more k later sent h)
@@ -203,12 +203,12 @@ module _ (m : AppSpec) (port : ℕ) where
 
   -- ---- what it sends
 
-  pub told_said : (model : OutputModel) (laws : FollowsModelAt m port model) (E : Type 0) → (E → ⊥) → (p : AppState) (text : List ℕ) (n : ℕ) → IsOpen model laws p text → IsReported model E text p.snapshots (take n (m.output p))
-  told_said (Paged pages) laws E none p text n h =
+  pub reported_said : (model : OutputModel) (laws : FollowsModelAt m port model) (E : Type 0) → (E → ⊥) → (p : AppState) (text : List ℕ) (n : ℕ) → IsOpen model laws p text → IsReported model E text p.snapshots (take n (m.output p))
+  reported_said (Paged pages) laws E none p text n h =
       (let l : IsPagedAt m port pages = laws in
       subst (λ z. IsTextOf pages E z p.snapshots (take n (m.output p))) (heard_all pages l p text h) (text_said pages l.follows E none p n h.0))
-  told_said (Interactive sessions) laws E none p text n h = (p.input, heard_prefix sessions laws p text h, text_said sessions laws E none p n h.0)
-  told_said Free laws E none p text n h = tt
+  reported_said (Interactive sessions) laws E none p text n h = (p.input, heard_prefix sessions laws p text h, text_said sessions laws E none p n h.0)
+  reported_said Free laws E none p text n h = tt
 
   -- it closes at the end of the page
   pub end_said : (model : OutputModel) (laws : FollowsModelAt m port model) (numbers : List ℕ) (p : AppState) (text : List ℕ) → IsOpen model laws p text → p.acked ≤ length (m.output p) → m.want numbers p ≡ Close → IsEnd model text p.snapshots (take p.acked (m.output p))

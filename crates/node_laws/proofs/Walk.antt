@@ -1,6 +1,6 @@
 -- What a step of a connection accepts from its peer, and what its page is then.
 use Rattle.node_laws.proofs.Prelude.{◌≡◌, ℕ, ◌+◌, Bool, true, false, not, ◌&&◌, ◌||◌, ◌⊎◌, inl, inr, List, [], ◌∷◌, ◌++◌, length, refl, sym, ap, ◌∙◌, subst, arith, Option, Some, None, length-append, eqb, ltb, append_assoc, take, drop, length-drop, ◌≤◌, if◌then◌else◌, wrap, PlainSegment, has_fin, has_rst, has_syn, Beat, AppState, Snapshot, AppSpec, IsPrefixOf, CanSend, Now, State, Closed, SynRcvd, Established, CloseWait, FinWait1, FinWait2, Closing, TimeWait, LastAck, Want, Nothing, Send, Close, Abort, take-add, Connection, Sockets, is_live, rcv_nxt, occupies_sequence_space, segment_of, text_segment, Outcome, after_own_fin, closes, peer_has_closed, idles, does_as_wanted, prepared, asked, accepted, hears, is_out_of_order, is_acked, rests, has_text, in_state, takes, with_part, with_window, in_established, peer_closes, stays_established, fin_acked, fin_waits, by_state, on_segment, grows_older, by_beat, on_tick, Step, choose, both_ways, append_nothing, ltb-zero, and_false, eqb-eq, not-false, prefix_length, prefix_refl, is_open, asked_by, by_open, is_ask, no_ask_again, on_tick_by, open_live, segment_moves, tick_moves, IsSteady, OutputModel, FollowsModelAt}
-use Rattle.node_laws.proofs.Speaking.{IsEnd, IsReported, IsOpen, end_more, end_said, prefix_size, heard_is, open_acked, open_heard, open_new, open_polled, open_prepared, prepared_is, equal_prefix, told_said}
+use Rattle.node_laws.proofs.Speaking.{IsEnd, IsReported, IsOpen, end_more, end_said, prefix_size, heard_is, open_acked, open_heard, open_new, open_polled, open_prepared, prepared_is, equal_prefix, reported_said}
 
 -- the numbers that a FIN or a SYN takes up
 abbrev pub numbers_for : Bool → ℕ
@@ -239,7 +239,7 @@ module _ (m : AppSpec) (port : ℕ) (model : OutputModel) (laws : FollowsModelAt
           joined = refl;
           acked = omega (arith, acked, g.count, size);
           unended = g.unended;
-          of_page = subst (λ z. IsReported model ⊥ text d.part.snapshots z) (sym q.sent_is) (told_said m port model laws ⊥ (λ none. none) d.part text (d.part.acked + d.len) q.opens);
+          of_page = subst (λ z. IsReported model ⊥ text d.part.snapshots z) (sym q.sent_is) (reported_said m port model laws ⊥ (λ none. none) d.part text (d.part.acked + d.len) q.opens);
         }
 
     sends_page : (st : State) → is_open st ≡ true → AtPage st b text e sent → AtPage st d text e text_sent
@@ -383,8 +383,8 @@ module _ (m : AppSpec) (port : ℕ) (model : OutputModel) (laws : FollowsModelAt
         }
 
     -- a step that asks nothing
-    told : (received : Option PlainSegment) (c : Connection) (text : List ℕ) (e : Bool) (sent : List ℕ) (d : Connection) (s : Step) (numbers : List ℕ) → is_ask s ≡ false → Moved received c text e sent d → OutMoved received c text e sent (record { connection = d; numbers = numbers; step = s })
-    told received c text e sent d s numbers q g = record { moved = g; open_there = λ z. absurd (let y : true ≡ false = sym z ∙ q in cc) }
+    reported : (received : Option PlainSegment) (c : Connection) (text : List ℕ) (e : Bool) (sent : List ℕ) (d : Connection) (s : Step) (numbers : List ℕ) → is_ask s ≡ false → Moved received c text e sent d → OutMoved received c text e sent (record { connection = d; numbers = numbers; step = s })
+    reported received c text e sent d s numbers q g = record { moved = g; open_there = λ z. absurd (let y : true ≡ false = sym z ∙ q in cc) }
 
     same : (received : Option PlainSegment) (c : Connection) (text : List ℕ) (e : Bool) (sent : List ℕ) → Page c text e sent → Moved received c text e sent c
     same received c text e sent g = stays received c text e sent c g refl refl refl g.at
@@ -396,16 +396,16 @@ module _ (m : AppSpec) (port : ℕ) (model : OutputModel) (laws : FollowsModelAt
     unfolding fin_waits
     waits_in far st st' c closed_by_peer text e sent numbers s order q to g h by =
         choose (λ (o : Outcome). OutMoved (Some s) c text e sent o) (has_fin s.flags) _ _
-        (λ f. told (Some s) c text e sent closed_by_peer Step.Ack numbers refl (by f))
+        (λ f. reported (Some s) c text e sent closed_by_peer Step.Ack numbers refl (by f))
         (λ f. choose (λ (o : Outcome). OutMoved (Some s) c text e sent o) (has_text s) _ _
         (λ i. let d : Connection = takes (length s.text) c in
-        told (Some s) c text e sent d Step.Ack numbers refl
+        reported (Some s) c text e sent d Step.Ack numbers refl
         (hears_on c text e sent s false d order h.is g.taken (λ z. absurd (cc)) refl refl (omega arith) (page_at d st (text ++ s.text) false sent q (to d (text ++ s.text) (ends_on far far false false c d text s.text e sent refl refl h.len h)))))
-        (λ i. told (Some s) c text e sent c Step.Drop numbers refl (same (Some s) c text e sent g)))
+        (λ i. reported (Some s) c text e sent c Step.Drop numbers refl (same (Some s) c text e sent g)))
 
     by_state_in : (st : State) (acked : Bool) (c : Connection) (text : List ℕ) (e : Bool) (sent : List ℕ) (numbers : List ℕ) (s : PlainSegment) → (occupies_sequence_space s ≡ true → s.seq ≡ rcv_nxt c) → c.state ≡ st → Page c text e sent → AtPage st c text e sent → OutMoved (Some s) c text e sent (by_state m st acked c numbers s)
     unfolding fin_acked
-    by_state_in Closed acked c text e sent numbers s order q g h = told (Some s) c text e sent c Step.Drop numbers refl (same (Some s) c text e sent g)
+    by_state_in Closed acked c text e sent numbers s order q g h = reported (Some s) c text e sent c Step.Drop numbers refl (same (Some s) c text e sent g)
     by_state_in SynRcvd true c text e sent numbers s order q g h =
         let own : ℕ = c.sockets.own_port.0 in
         let start = m.connected numbers own in
@@ -426,7 +426,7 @@ module _ (m : AppSpec) (port : ℕ) (model : OutputModel) (laws : FollowsModelAt
               };
           open_there = λ z. refl;
         }
-    by_state_in SynRcvd false c text e sent numbers s order q g h = told (Some s) c text e sent c Step.Drop numbers refl (same (Some s) c text e sent g)
+    by_state_in SynRcvd false c text e sent numbers s order q g h = reported (Some s) c text e sent c Step.Drop numbers refl (same (Some s) c text e sent g)
     by_state_in Established true c text e sent numbers s order q g h =
         let part : AppState = (m.acked numbers c.part c.len).part in
         let b : Connection = with_part part (rests c) in
@@ -443,14 +443,14 @@ module _ (m : AppSpec) (port : ℕ) (model : OutputModel) (laws : FollowsModelAt
         }
     by_state_in CloseWait false c text e sent numbers s order q g h =
         let d : Connection = with_window s.window c in
-        told (Some s) c text e sent d Step.Drop numbers refl (stays (Some s) c text e sent d g refl refl refl (page_at d CloseWait text e sent q record { count = h.count; opens = h.opens; is = h.is; fits = h.fits; sent_is = h.sent_is; unended = h.unended }))
+        reported (Some s) c text e sent d Step.Drop numbers refl (stays (Some s) c text e sent d g refl refl refl (page_at d CloseWait text e sent q record { count = h.count; opens = h.opens; is = h.is; fits = h.fits; sent_is = h.sent_is; unended = h.unended }))
     by_state_in FinWait1 true c text e sent numbers s order q g h =
         choose (λ (o : Outcome). OutMoved (Some s) c text e sent o) (has_fin s.flags) _ _
         (λ f. let d : Connection = in_state TimeWait (takes (length s.text + 1) (rests c)) in
-        told (Some s) c text e sent d Step.Ack numbers refl
+        reported (Some s) c text e sent d Step.Ack numbers refl
         (hears_on c text e sent s true d order h.is g.taken (λ z. f) refl refl (omega arith) (ends_on 1 2 false true c d text s.text e sent refl (omega (arith, h.len)) (omega arith) h)))
         (λ f. let d : Connection = in_state FinWait2 (takes (length s.text) (rests c)) in
-        told (Some s) c text e sent d Step.Drop numbers refl
+        reported (Some s) c text e sent d Step.Drop numbers refl
         (hears_on c text e sent s false d order h.is g.taken (λ z. absurd (cc)) refl refl (omega arith) (ends_on 1 2 false false c d text s.text e sent refl (omega (arith, h.len)) (omega arith) h)))
     by_state_in FinWait1 false c text e sent numbers s order q g h =
         let d : Connection = in_state Closing (takes (length s.text + 1) c) in
@@ -462,19 +462,19 @@ module _ (m : AppSpec) (port : ℕ) (model : OutputModel) (laws : FollowsModelAt
         (λ f. hears_on c text e sent s true d order h.is g.taken (λ z. f) refl refl (omega arith) (ends_on 2 2 false true c d text s.text e sent refl refl h.len h))
     by_state_in Closing true c text e sent numbers s order q g h =
         let d : Connection = in_state TimeWait (rests c) in
-        told (Some s) c text e sent d Step.Drop numbers refl
+        reported (Some s) c text e sent d Step.Drop numbers refl
         (stays (Some s) c text e sent d g refl refl refl record { end = h.end; count = omega (arith, h.count, h.len); len = omega arith; is = h.is })
-    by_state_in Closing false c text e sent numbers s order q g h = told (Some s) c text e sent c Step.Drop numbers refl (same (Some s) c text e sent g)
-    by_state_in LastAck true c text e sent numbers s order q g h = told (Some s) c text e sent (closes (rests c)) Step.Drop numbers refl (shut (Some s) c (rests c) text e sent g refl refl refl)
-    by_state_in LastAck false c text e sent numbers s order q g h = told (Some s) c text e sent c Step.Drop numbers refl (same (Some s) c text e sent g)
-    by_state_in TimeWait acked c text e sent numbers s order q g h = told (Some s) c text e sent c Step.Ack numbers refl (same (Some s) c text e sent g)
+    by_state_in Closing false c text e sent numbers s order q g h = reported (Some s) c text e sent c Step.Drop numbers refl (same (Some s) c text e sent g)
+    by_state_in LastAck true c text e sent numbers s order q g h = reported (Some s) c text e sent (closes (rests c)) Step.Drop numbers refl (shut (Some s) c (rests c) text e sent g refl refl refl)
+    by_state_in LastAck false c text e sent numbers s order q g h = reported (Some s) c text e sent c Step.Drop numbers refl (same (Some s) c text e sent g)
+    by_state_in TimeWait acked c text e sent numbers s order q g h = reported (Some s) c text e sent c Step.Ack numbers refl (same (Some s) c text e sent g)
 
     segment_in : (c : Connection) (text : List ℕ) (e : Bool) (sent : List ℕ) (numbers : List ℕ) (s : PlainSegment) → Page c text e sent → OutMoved (Some s) c text e sent (on_segment m c numbers s)
     unfolding on_segment
     segment_in c text e sent numbers s g =
-        choose (λ (o : Outcome). OutMoved (Some s) c text e sent o) (has_rst s.flags) _ _ (λ r. told (Some s) c text e sent (closes c) Step.Drop _ refl (shut (Some s) c c text e sent g refl refl refl))
+        choose (λ (o : Outcome). OutMoved (Some s) c text e sent o) (has_rst s.flags) _ _ (λ r. reported (Some s) c text e sent (closes c) Step.Drop _ refl (shut (Some s) c c text e sent g refl refl refl))
         (λ r. choose (λ (o : Outcome). OutMoved (Some s) c text e sent o) (is_out_of_order c s) _ _
-        (λ f. told (Some s) c text e sent c Step.Ack numbers refl (same (Some s) c text e sent g))
+        (λ f. reported (Some s) c text e sent c Step.Ack numbers refl (same (Some s) c text e sent g))
         (λ f. by_state_in c.state (is_acked c s) c text e sent numbers s (in_order c s f) refl g g.at))
 
     pub segment_moved : (at : Connection → Now) (c : Connection) (text : List ℕ) (e : Bool) (sent : List ℕ) (numbers : List ℕ) (s : PlainSegment) → Page c text e sent → Spoke (Some s) c text e sent (asked m at (on_segment m c numbers s))
@@ -486,16 +486,16 @@ module _ (m : AppSpec) (port : ℕ) (model : OutputModel) (laws : FollowsModelAt
     older_moved c text e sent g = stays None c text e sent (grows_older c) g refl refl refl (older_page c c.state text e sent g.at)
 
     by_beat_moved : (b : Beat) (c : Connection) (text : List ℕ) (e : Bool) (sent : List ℕ) (numbers : List ℕ) → Page c text e sent → OutMoved None c text e sent (by_beat m b c numbers)
-    by_beat_moved Beat.Wait c text e sent numbers g = told None c text e sent (grows_older c) Step.Drop numbers refl (older_moved c text e sent g)
+    by_beat_moved Beat.Wait c text e sent numbers g = reported None c text e sent (grows_older c) Step.Drop numbers refl (older_moved c text e sent g)
     by_beat_moved Beat.Again c text e sent numbers g = record { moved = older_moved c text e sent g; open_there = λ z. absurd (let y = no_ask_again m c.state in cc) }
-    by_beat_moved Beat.GiveUp c text e sent numbers g = told None c text e sent (closes c) Step.Reset _ refl (shut None c c text e sent g refl refl refl)
+    by_beat_moved Beat.GiveUp c text e sent numbers g = reported None c text e sent (closes c) Step.Reset _ refl (shut None c c text e sent g refl refl refl)
 
     tick_in : (c : Connection) (text : List ℕ) (e : Bool) (sent : List ℕ) (numbers : List ℕ) → Page c text e sent → OutMoved None c text e sent (on_tick m c numbers)
     tick_in c text e sent numbers g = on_tick_by m (λ o. OutMoved None c text e sent o) c numbers record {
-      none = told None c text e sent c Step.Drop numbers refl (same None c text e sent g);
+      none = reported None c text e sent c Step.Drop numbers refl (same None c text e sent g);
       beats = λ r b. by_beat_moved b c text e sent numbers g;
-      rested = λ q. told None c text e sent (grows_older c) Step.Drop numbers refl (older_moved c text e sent g);
-      ends = told None c text e sent (closes c) Step.Drop numbers refl (shut None c c text e sent g refl refl refl);
+      rested = λ q. reported None c text e sent (grows_older c) Step.Drop numbers refl (older_moved c text e sent g);
+      ends = reported None c text e sent (closes c) Step.Drop numbers refl (shut None c c text e sent g refl refl refl);
       polled = λ q l.
           (let x = steady.lawful.polled_keeps numbers c.part tt in
           let d : Connection = with_part (m.polled numbers c.part).part c in

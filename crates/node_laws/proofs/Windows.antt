@@ -112,15 +112,15 @@ module _ (m : AppSpec) (steady : IsSteady m) (ports : ℕ → Bool) (p : Sockets
 
     new_fits : (s : PlainSegment) → IsNewText (x ∷ incarnation) 0 s → FitsNewest (x ∷ incarnation) (length s.text)
     new_fits s n =
-        let told = tells.output s n.output (placed_text s n.some) in
+        let reported = tells.output s n.output (placed_text s n.some) in
         both_ways (is_again r.step)
-        (λ e. absurd (let k = told.repeated e in let q = v.output k.0 in
-        let iss : d.iss ≡ c.iss = (tells.onto told.live).iss in
+        (λ e. absurd (let k = reported.repeated e in let q = v.output k.0 in
+        let iss : d.iss ≡ c.iss = (tells.onto reported.live).iss in
         n.new (suc q.place) q.segment (omega arith) q.output q.placed
-        (q.seq ∙ ap wrap (let same = k.1 in let z : c.iss + c.acked ≡ d.iss + d.acked = omega (arith, same, iss) in z) ∙ sym told.due_now.seq)))
+        (q.seq ∙ ap wrap (let same = k.1 in let z : c.iss + c.acked ≡ d.iss + d.acked = omega (arith, same, iss) in z) ∙ sym reported.due_now.seq)))
         (λ e. (let t = text_new m d r.step s n.output n.some e in
         let fits = short t.0 in
-        within (text_open m d.state d s told.due_now.alike n.some) (length s.text) (let l = t.1 in omega (arith, l, fits))))
+        within (text_open m d.state d s reported.due_now.alike n.some) (length s.text) (let l = t.1 in omega (arith, l, fits))))
 
     said_on : is_live d.state ≡ true → 0 < d.len → SentDue (x ∷ incarnation) (wrap (d.iss + d.acked))
     said_on l some = elim (tells.still l some) [
@@ -155,8 +155,8 @@ module _ (m : AppSpec) (steady : IsSteady m) (ports : ℕ → Bool) (p : Sockets
       abbrev y : Exchange
       y = met (Some s) (segment_of m r.connection r.step)
 
-      told : OutReports m steady AnyLength (low_text m) c o.connection o.step
-      told = segment_tells m steady AnyLength (low_text m) c numbers s now.safe
+      reported : OutReports m steady AnyLength (low_text m) c o.connection o.step
+      reported = segment_tells m steady AnyLength (low_text m) c numbers s now.safe
 
       is_passed : is_out_of_order c s ≡ true → o ≡ leaves c numbers Step.Ack → IsPassedOver y s
       is_passed h e =
@@ -195,7 +195,7 @@ module _ (m : AppSpec) (steady : IsSteady m) (ports : ℕ → Bool) (p : Sockets
       ]
 
       heard_within : is_open r.connection.state ≡ true → (size : ℕ) → size ≤ r.connection.mss → FitsNewest (y ∷ incarnation) size
-      heard_within open_then size l = elim (asked_so m at o (ask_open m steady AnyLength (low_text m) c o.connection o.step told)) [
+      heard_within open_then size l = elim (asked_so m at o (ask_open m steady AnyLength (low_text m) c o.connection o.step reported)) [
         | unasked e ↦ bounded (ap (λ z. is_open z.connection.state) (sym e) ∙ open_then) size (let q : r.connection.mss ≡ o.connection.mss = ap (λ z. z.connection.mss) e in omega (arith, l, q))
         | spoke open_there same none ↦ bounded open_there size (let q = same open_then in omega (arith, l, q))
       ]
@@ -214,13 +214,13 @@ module _ (m : AppSpec) (steady : IsSteady m) (ports : ℕ → Bool) (p : Sockets
           ])
 
       heard_syn : r.connection.state ≡ SynRcvd → AtSyn (y ∷ incarnation) (wrap (snd_una r.connection + 1))
-      heard_syn h = elim (asked_so m at o (ask_open m steady AnyLength (low_text m) c o.connection o.step told)) [
+      heard_syn h = elim (asked_so m at o (ask_open m steady AnyLength (low_text m) c o.connection o.step reported)) [
         | unasked e ↦ still_syn e (segment_syn m c numbers s (ap (λ z. z.connection.state) (sym e) ∙ h))
         | spoke open_there same none ↦ absurd (none h)
       ]
 
       delivered : Windowed (left_of r.connection) (y ∷ incarnation)
-      delivered = windowed_step c incarnation w alive (Some s) r (stepped_tells m steady AnyLength (low_text m) at c o is (on_segment_fits m steady c numbers s fit words) told) (asked_short m at o (segment_new m c numbers s)) heard_within heard_syn
+      delivered = windowed_step c incarnation w alive (Some s) r (stepped_tells m steady AnyLength (low_text m) at c o is (on_segment_fits m steady c numbers s fit words) reported) (asked_short m at o (segment_new m c numbers s)) heard_within heard_syn
 
     -- the slot is called
     abbrev oo : Outcome
@@ -232,13 +232,13 @@ module _ (m : AppSpec) (steady : IsSteady m) (ports : ℕ → Bool) (p : Sockets
     abbrev z : Exchange
     z = met None (segment_of m rr.connection rr.step)
 
-    tick_told : OutReports m steady AnyLength (low_text m) c oo.connection oo.step
-    tick_told = tick_tells m steady AnyLength (low_text m) c numbers now.safe
+    tick_reported : OutReports m steady AnyLength (low_text m) c oo.connection oo.step
+    tick_reported = tick_tells m steady AnyLength (low_text m) c numbers now.safe
 
     ticked_within : is_open rr.connection.state ≡ true → (size : ℕ) → size ≤ rr.connection.mss → FitsNewest (z ∷ incarnation) size
     ticked_within open_then size l =
         let t = tick_on m c numbers in
-        elim (asked_so m at oo (ask_open m steady AnyLength (low_text m) c oo.connection oo.step tick_told)) [
+        elim (asked_so m at oo (ask_open m steady AnyLength (low_text m) c oo.connection oo.step tick_reported)) [
           | unasked e ↦ (let k = t.mss (ap (λ q. is_open q.connection.state) (sym e) ∙ open_then) in
               inl (refl, now.within k.1 size (let q : rr.connection.mss ≡ oo.connection.mss = ap (λ q. q.connection.mss) e in let j = k.0 in omega (arith, l, q, j))))
           | spoke open_there same none ↦ (let k = t.mss open_there in
@@ -262,13 +262,13 @@ module _ (m : AppSpec) (steady : IsSteady m) (ports : ℕ → Bool) (p : Sockets
         none (now.syn k.0))
 
     ticked_syn : rr.connection.state ≡ SynRcvd → AtSyn (z ∷ incarnation) (wrap (snd_una rr.connection + 1))
-    ticked_syn h = elim (asked_so m at oo (ask_open m steady AnyLength (low_text m) c oo.connection oo.step tick_told)) [
+    ticked_syn h = elim (asked_so m at oo (ask_open m steady AnyLength (low_text m) c oo.connection oo.step tick_reported)) [
       | unasked e ↦ ticked_still e (ap (λ q. q.connection.state) (sym e) ∙ h)
       | spoke open_there same none ↦ absurd (none h)
     ]
 
     ticked : Windowed (left_of rr.connection) (z ∷ incarnation)
-    ticked = windowed_step c incarnation w alive None rr (stepped_tells m steady AnyLength (low_text m) at c oo is (on_tick_fits m steady c numbers fit words) tick_told) (asked_short m at oo (tick_on m c numbers).new) ticked_within ticked_syn
+    ticked = windowed_step c incarnation w alive None rr (stepped_tells m steady AnyLength (low_text m) at c oo is (on_tick_fits m steady c numbers fit words) tick_reported) (asked_short m at oo (tick_on m c numbers).new) ticked_within ticked_syn
 
   -- ---- what an event does
 

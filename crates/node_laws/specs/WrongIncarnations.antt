@@ -27,20 +27,20 @@ abbrev pub opened : Exchange
 opened = exchanged (Some (segment 1000 0 SYN [])) (Some (segment 0 1001 (SYN + ACK) []))
 
 -- the peer sends one byte, and the node replies with this text
-abbrev pub told_text : List ℕ → Exchange
-told_text text = exchanged (Some (segment 1001 1 ACK (120 ∷ []))) (Some (segment 1 1002 (ACK + PSH) text))
+abbrev pub reported_text : List ℕ → Exchange
+reported_text text = exchanged (Some (segment 1001 1 ACK (120 ∷ []))) (Some (segment 1 1002 (ACK + PSH) text))
 
 -- the retransmission lacks its last byte
 abbrev pub cut_again : List Exchange
-cut_again = exchanged None (Some (segment 1 1002 (ACK + PSH) (take 5 hello))) ∷ told_text hello ∷ opened ∷ []
+cut_again = exchanged None (Some (segment 1 1002 (ACK + PSH) (take 5 hello))) ∷ reported_text hello ∷ opened ∷ []
 
 -- the FIN follows the first three bytes
 abbrev pub ends_early : List Exchange
-ends_early = exchanged (Some (segment 1002 4 ACK [])) (Some (segment 4 1002 (FIN + ACK) [])) ∷ told_text (take 3 hello) ∷ opened ∷ []
+ends_early = exchanged (Some (segment 1002 4 ACK [])) (Some (segment 4 1002 (FIN + ACK) [])) ∷ reported_text (take 3 hello) ∷ opened ∷ []
 
 -- the text has its last byte twice
 abbrev pub repeats_byte : List Exchange
-repeats_byte = told_text (hello ++ 10 ∷ []) ∷ opened ∷ []
+repeats_byte = reported_text (hello ++ 10 ∷ []) ∷ opened ∷ []
 
 -- a byte received at an unexpected number is acknowledged
 abbrev pub acknowledges_refused : List Exchange
@@ -48,7 +48,7 @@ acknowledges_refused = exchanged (Some (segment 1005 1 ACK (120 ∷ []))) (Some 
 
 -- the rest of the text is sent before its prefix was acknowledged
 abbrev pub two_under_way : List Exchange
-two_under_way = exchanged None (Some (segment 4 1002 (ACK + PSH) (drop 3 hello))) ∷ told_text (take 3 hello) ∷ opened ∷ []
+two_under_way = exchanged None (Some (segment 4 1002 (ACK + PSH) (drop 3 hello))) ∷ reported_text (take 3 hello) ∷ opened ∷ []
 
 -- this peer sent nothing, and it receives a byte that another peer sent
 abbrev pub tells_another : List Exchange

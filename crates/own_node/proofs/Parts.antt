@@ -1,5 +1,5 @@
 -- What a step of a connection does to the ticket and to the captures of `OwnApp`.
-use Rattle.own_node.proofs.Prelude.{◌≡◌, ◌∙◌, ℕ, ◌&&◌, ◌⊎◌, inl, inr, Bool, true, false, not, List, [], ◌∷◌, ◌+◌, drop, length, nat_lt, refl, sym, ap, subst, false≢true, PlainSegment, has_fin, has_rst, After, AppSpec, AppState, Ending, Now, State, Closed, SynRcvd, Established, CloseWait, FinWait1, FinWait2, Closing, TimeWait, LastAck, Want, Nothing, Send, Close, Abort, Connection, Outcome, Sockets, asked, by_beat, by_state, does_as_wanted, fin_acked, fin_waits, has_text, hears, idles, in_established, in_state, is_acked, is_open, is_out_of_order, on_segment, on_tick, peer_closes, peer_has_closed, prepared, rests, stays_established, takes, told_end, with_part, both_ways, choose, Unmoved, asked_by, by_own_fin, is_ask, no_ask_again, on_tick_by, wanted_unmoved, next_ticket, own_spec}
+use Rattle.own_node.proofs.Prelude.{◌≡◌, ◌∙◌, ℕ, ◌&&◌, ◌⊎◌, inl, inr, Bool, true, false, not, List, [], ◌∷◌, ◌+◌, drop, length, nat_lt, refl, sym, ap, subst, false≢true, PlainSegment, has_fin, has_rst, After, AppSpec, AppState, Ending, Now, State, Closed, SynRcvd, Established, CloseWait, FinWait1, FinWait2, Closing, TimeWait, LastAck, Want, Nothing, Send, Close, Abort, Connection, Outcome, Sockets, asked, by_beat, by_state, does_as_wanted, fin_acked, fin_waits, has_text, hears, idles, in_established, in_state, is_acked, is_open, is_out_of_order, on_segment, on_tick, peer_closes, peer_has_closed, prepared, rests, stays_established, takes, reported_end, with_part, both_ways, choose, Unmoved, asked_by, by_own_fin, is_ask, no_ask_again, on_tick_by, wanted_unmoved, next_ticket, own_spec}
 use Rattle.rexmit_timer.specs.declared.timer.Beat.{Beat}
 use Rattle.app_events.specs.declared.ending.Ending.TheVariants.{Reset, TimedOut}
 use Rattle.tcp_machine.specs.declared.step.Step.{Step}
@@ -55,13 +55,13 @@ module _ (mine : ℕ → Bool) (seen : AppState → AppState) (own : List ℕ �
   kept : (c : Connection) (numbers : List ℕ) → Keeps mine seen own c.part numbers (record { part = c.part; numbers = numbers })
   kept c numbers = still mine seen own c.part numbers
 
-  told_kept : (how : Ending) (st : State) (p : AppState) (numbers : List ℕ) → Keeps mine seen own p numbers (record { part = p; numbers = told_end m how st p numbers })
-  told_kept how st p numbers = record { port = refl; ticket = λ e. refl; snapshots = λ e. refl; own_numbers = by_state_told st }
+  reported_kept : (how : Ending) (st : State) (p : AppState) (numbers : List ℕ) → Keeps mine seen own p numbers (record { part = p; numbers = reported_end m how st p numbers })
+  reported_kept how st p numbers = record { port = refl; ticket = λ e. refl; snapshots = λ e. refl; own_numbers = by_state_reported st }
     where
-      by_state_told : (st : State) → own (told_end m how st p numbers) ≡ own numbers
-      by_state_told Established = contains.ended numbers p how
-      by_state_told CloseWait = contains.ended numbers p how
-      by_state_told _ = refl
+      by_state_reported : (st : State) → own (reported_end m how st p numbers) ≡ own numbers
+      by_state_reported Established = contains.ended numbers p how
+      by_state_reported CloseWait = contains.ended numbers p how
+      by_state_reported _ = refl
 
   heard : (numbers : List ℕ) (p : AppState) (piece : List ℕ) → Keeps mine seen own p numbers (hears m numbers p piece)
   heard numbers p [] = still mine seen own p numbers
@@ -121,13 +121,13 @@ module _ (mine : ℕ → Bool) (seen : AppState → AppState) (own : List ℕ �
   segment_moves : (c : Connection) (numbers : List ℕ) (s : PlainSegment) → OutMoves c numbers (on_segment m c numbers s)
   unfolding on_segment
   segment_moves c numbers s =
-      choose (λ (o : Outcome). OutMoves c numbers o) (has_rst s.flags) _ _ (λ e. goes_on refl (told_kept Reset c.state c.part numbers) (λ z. absurd (cc)) (λ z. absurd (cc)) (λ z. absurd (cc)))
+      choose (λ (o : Outcome). OutMoves c numbers o) (has_rst s.flags) _ _ (λ e. goes_on refl (reported_kept Reset c.state c.part numbers) (λ z. absurd (cc)) (λ z. absurd (cc)) (λ z. absurd (cc)))
       (λ e. choose (λ (o : Outcome). OutMoves c numbers o) (is_out_of_order c s) _ _ (λ f. goes_on refl (kept c numbers) (λ z. z) (λ z. absurd (cc)) (λ z. z)) (λ f. by_state_moves c.state (is_acked c s) c numbers s refl))
 
   by_beat_moves : (b : Beat) (c : Connection) (numbers : List ℕ) → OutMoves c numbers (by_beat m b c numbers)
   by_beat_moves Beat.Wait c numbers = goes_on refl (kept c numbers) (λ z. z) (λ z. absurd (cc)) (λ z. z)
   by_beat_moves Beat.Again c numbers = goes_on refl (kept c numbers) (λ z. z) (λ z. absurd (false≢true (sym (no_ask_again m c.state) ∙ z))) (λ z. z)
-  by_beat_moves Beat.GiveUp c numbers = goes_on refl (told_kept TimedOut c.state c.part numbers) (λ z. absurd (cc)) (λ z. absurd (cc)) (λ z. absurd (cc))
+  by_beat_moves Beat.GiveUp c numbers = goes_on refl (reported_kept TimedOut c.state c.part numbers) (λ z. absurd (cc)) (λ z. absurd (cc)) (λ z. absurd (cc))
 
   tick_moves : (c : Connection) (numbers : List ℕ) → OutMoves c numbers (on_tick m c numbers)
   tick_moves c numbers = on_tick_by m (λ (o : Outcome). OutMoves c numbers o) c numbers record {

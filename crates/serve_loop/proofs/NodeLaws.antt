@@ -54,13 +54,13 @@ module _ {A S : Type 0} (g : Ghosts A S) where
     abbrev Writes : (Option (List ℕ) → Option (List ℕ) → List ℕ → Type 0) → Type 0
     Writes P = (k : Set) (acts : List C) (own : Addr) (reply : Option Reply) → did k acts → IsSent own reply result new.packet → P a b (reply_text (spec k) acts own reply)
 
-    pub call_told : g.config new.shared ≡ g.config old.shared
+    pub call_reported : g.config new.shared ≡ g.config old.shared
         → ((m : AppSpec) (own : Addr) (n : AbstractNode) → At m own old n → Steps g new result (step (g.app_spec (g.config old.shared)) g.served n (event own)))
         → ((k : Set) (acts : List C) → did k acts → did' k acts)
         → OnOk r (Writes (λ a b text. Appends a b text)) → OnErr r (Writes (λ a b text. BreaksOff [] text a b))
         → OnOk r ((k : Set) (m : AppSpec) (own : Addr) → AllSaid m g.served (spec k) own (OfNode (event own) ∷ []) (λ s. IsHere g (did k) m own old s) (λ s. IsHere g (did' k) m own new s) a b)
         × OnErr r ((k : Set) (m : AppSpec) (own : Addr) → PrefixWritten m g.served (spec k) own (OfNode (event own) ∷ []) (λ s. IsHere g (did k) m own old s) (λ s. IsHere g (did' k) m own new s) a b)
-    call_told same steps on ok err = (
+    call_reported same steps on ok err = (
       on_ok_weaker r (λ wrote k m own. call_wrote (spec k) (did k) (did' k) m own old new result (event own) a b same (steps m own) (on k) (wrote k)) ok,
       on_err_weaker r (λ wrote k m own. call_broke (spec k) (did k) (did' k) m own old new result (event own) a b same (steps m own) (on k) (wrote k)) err,
     )

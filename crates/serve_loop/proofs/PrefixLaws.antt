@@ -31,7 +31,7 @@ module _ {Set C : Type 0} (spec : Set → MediumSpec C) (fed : Set → List ℕ 
   -- whether the last byte makes a tick
   ticks : (k : Set) (pace : ℕ) (before : List ℕ) (n : ℕ) (pass : Bool) → HasTaken pace before (fed k) pacer
       → ((count : ℕ) → HasPassed count pacer → pass ≡ is_beat pacer.pace (count + n)) → is_beat pace (length before + n) ≡ pass
-  ticks k pace before n pass h told = ap (λ p. is_beat p (length before + n)) (sym h.paced) ∙ sym (told (length before) h.passed)
+  ticks k pace before n pass h reported = ap (λ p. is_beat p (length before + n)) (sym h.paced) ∙ sym (reported (length before) h.passed)
 
   module _ (served : ℕ → Bool) (P R : Set → AppSpec → Addr → Station C → Type 0) (a c : Option (List ℕ)) where
     -- the answer to a frame broke off
@@ -64,8 +64,8 @@ module _ {Set C : Type 0} (spec : Set → MediumSpec C) (fed : Set → List ℕ 
     pub rest_wrote : (n : ℕ) (pass : Bool) → 0 < n → n ≤ due → pass ≡ false → ((count : ℕ) → HasPassed count pacer → pass ≡ is_beat pacer.pace (count + n))
         → FrameWrote n
         → (k : Set) (pace : ℕ) (before : List ℕ) → HasTaken pace before (fed k) pacer → (m : AppSpec) (own : Addr) → AllSaid m served (spec k) own (station_events_after (spec k) own pace before (map Byte (take n bytes))) (P k m own) (Q k m own) a b
-    rest_wrote n pass some least is told wrote k pace before h m own =
-        let off : beat_on (spec k) pace (length before + n) ≡ [] = ap (λ v. if v then tick_on (spec k) else []) (ticks k pace before n pass h told ∙ is) in
+    rest_wrote n pass some least is reported wrote k pace before h m own =
+        let off : beat_on (spec k) pace (length before + n) ≡ [] = ap (λ v. if v then tick_on (spec k) else []) (ticks k pace before n pass h reported ∙ is) in
         let frame = map (station_event_by own) (all_decoded (spec k) before (take n bytes)) in
         wrote_by m served (spec k) own _ _ _ _ _ _ (prefix_events k own pace before n h some least ∙ ap (λ l. frame ++ l) off ∙ append-nil frame)
         (frame_wrote n least wrote k before h.taken m own)
@@ -74,8 +74,8 @@ module _ {Set C : Type 0} (spec : Set → MediumSpec C) (fed : Set → List ℕ 
     pub tick_broke : (n : ℕ) (pass : Bool) → 0 < n → n ≤ due → pass ≡ true → ((count : ℕ) → HasPassed count pacer → pass ≡ is_beat pacer.pace (count + n))
         → FrameWrote served P Q a b n → ((k : Set) (m : AppSpec) (own : Addr) → PrefixWritten m served (spec k) own (tick_on (spec k)) (Q k m own) (R k m own) b c)
         → (k : Set) (pace : ℕ) (before : List ℕ) → HasTaken pace before (fed k) pacer → (m : AppSpec) (own : Addr) → PrefixWritten m served (spec k) own (station_events_after (spec k) own pace before (map Byte bytes)) (P k m own) (R k m own) a c
-    tick_broke n pass some least is told wrote broke k pace before h m own =
-        let on : beat_on (spec k) pace (length before + n) ≡ tick_on (spec k) = ap (λ v. if v then tick_on (spec k) else []) (ticks k pace before n pass h told ∙ is) in
+    tick_broke n pass some least is reported wrote broke k pace before h m own =
+        let on : beat_on (spec k) pace (length before + n) ≡ tick_on (spec k) = ap (λ v. if v then tick_on (spec k) else []) (ticks k pace before n pass h reported ∙ is) in
         broke_by m served (spec k) own _ _ _ _ _ _ (all_events k own pace before n h some least)
         (broke_more m served (spec k) own _ (station_events_after (spec k) own pace (before ++ take n bytes) (map Byte (drop n bytes))) _ _ _ _
         (broke_then m served (spec k) own (map (station_event_by own) (all_decoded (spec k) before (take n bytes))) (beat_on (spec k) pace (length before + n)) _ (Q k m own) _ _ b _
@@ -85,8 +85,8 @@ module _ {Set C : Type 0} (spec : Set → MediumSpec C) (fed : Set → List ℕ 
     pub tick_wrote : (n : ℕ) (pass : Bool) → 0 < n → n ≤ due → pass ≡ true → ((count : ℕ) → HasPassed count pacer → pass ≡ is_beat pacer.pace (count + n))
         → FrameWrote served P Q a b n → ((k : Set) (m : AppSpec) (own : Addr) → AllSaid m served (spec k) own (tick_on (spec k)) (Q k m own) (R k m own) b c)
         → (k : Set) (pace : ℕ) (before : List ℕ) → HasTaken pace before (fed k) pacer → (m : AppSpec) (own : Addr) → AllSaid m served (spec k) own (station_events_after (spec k) own pace before (map Byte (take n bytes))) (P k m own) (R k m own) a c
-    tick_wrote n pass some least is told wrote more k pace before h m own =
-        let on : beat_on (spec k) pace (length before + n) ≡ tick_on (spec k) = ap (λ v. if v then tick_on (spec k) else []) (ticks k pace before n pass h told ∙ is) in
+    tick_wrote n pass some least is reported wrote more k pace before h m own =
+        let on : beat_on (spec k) pace (length before + n) ≡ tick_on (spec k) = ap (λ v. if v then tick_on (spec k) else []) (ticks k pace before n pass h reported ∙ is) in
         wrote_by m served (spec k) own _ _ _ _ _ _ (prefix_events k own pace before n h some least)
         (wrote_then m served (spec k) own (map (station_event_by own) (all_decoded (spec k) before (take n bytes))) (beat_on (spec k) pace (length before + n)) _ (Q k m own) _ _ b _
         (frame_wrote served P Q a b n least wrote k before h.taken m own)

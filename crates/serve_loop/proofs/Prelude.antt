@@ -16,7 +16,7 @@ pub use Rattle.tcp_machine.specs.Prelude.{Connection, Outcome, Sockets, asked, i
 unfoldable pub use Rattle.tcp_machine.specs.Prelude.{on_segment}
 pub use Rattle.tcp_segment.specs.Prelude.{PlainSegment, has_rst}
 pub use Rattle.uip_edge.proofs.Breaking.{breaks_by, breaks_then}
-pub use Rattle.uip_edge.proofs.Told.{Appends-none, Appends-then, Consumes-none, Consumes-then, appends_by, bytes_among-append, bytes_among-map, moved_on, on_err, taken_within}
+pub use Rattle.uip_edge.proofs.Reported.{Appends-none, Appends-then, Consumes-none, Consumes-then, appends_by, bytes_among-append, bytes_among-map, moved_on, on_err, taken_within}
 pub use Rattle.uip_edge.proofs.Turns.{calm_then, counted, ends_by}
 pub use Rattle.uip_edge.specs.Prelude.{BreaksOff, Consumes, EndsBy, IsCalm, LineUnfailed, LineView, bytes_among, line_view}
 pub use Rattle.uip_edge.specs.declared.item.Item.{Item}
@@ -26,7 +26,7 @@ pub use Rattle.uip_edge.specs.declared.turn.Turn.TheVariants.{Ended}
 pub use Rattle.uip_node.proofs.Basics.{both_ways, choose}
 pub use Rattle.uip_node.specs.Prelude.{AbstractNode, Arrived, EchoAsked, Event, IcmpRefused, IpRefused, IsSent, Node, NodeStep, Periodic, Ran, Reply, Represents, Silent, Steps, TcpRefused, arrives_at, connection_in, event_of, joined, opens, passes, refuses, run, seen, slot_for_syn, snapshot, step, tick}
 unfoldable pub use Rattle.uip_node.specs.Prelude.{for_no_connection, happened, opens_in}
-pub use Rattle.uip_slip.proofs.FrameLaws.{completed_by, completed_told}
+pub use Rattle.uip_slip.proofs.FrameLaws.{completed_by, completed_reported}
 pub use Rattle.uip_slip.proofs.PartLaws.{open_part-end, open_part-plain, parts-byte}
 pub use Rattle.uip_slip.specs.Prelude.{Datagram, Frame, Overlong, completed, frame_of, frames, meant, open_part, unescaped}
 pub use Rattle.uip_wire.specs.declared.addr.Addr.{Addr}

@@ -14,13 +14,13 @@ written_by m served w own xs ys zs P Q R a b c ends.Budget e u v = wrote_by m se
 written_by m served w own xs ys zs P Q R a b c ends.WriteFault e u v = broke_by m served w own _ _ _ _ _ _ e (broke_then m served w own xs ys P Q R a b c u v)
 
 -- an end without a fault is the link's, if fewer items are known than are allowed
-pub end_told : (n : ℕ) (old new : LineView) (all taken : List Item) (end : ServeEnd) → old.link.coming ≡ Some all → length all < n
+pub end_reported : (n : ℕ) (old new : LineView) (all taken : List Item) (end : ServeEnd) → old.link.coming ≡ Some all → length all < n
     → Consumes old.link.coming new.link.coming taken → EndsBy n old new taken end → LineUnfailed old new → end ≡ ends.End
-end_told n old new all taken ends.End told short c e calm = refl
-end_told n old new all taken ends.Budget told short c e calm =
-    absurd (omega (arith, taken_within old.link.coming new.link.coming all taken told c, e.0, short))
-end_told n old new all taken ends.LinkFault told short c e calm = absurd (omega (arith, e.1, calm.link.same, calm.link.below))
-end_told n old new all taken ends.WriteFault told short c e calm = absurd (omega (arith, e.2, calm.sink.same, calm.sink.below))
+end_reported n old new all taken ends.End reported short c e calm = refl
+end_reported n old new all taken ends.Budget reported short c e calm =
+    absurd (omega (arith, taken_within old.link.coming new.link.coming all taken reported c, e.0, short))
+end_reported n old new all taken ends.LinkFault reported short c e calm = absurd (omega (arith, e.1, calm.link.same, calm.link.below))
+end_reported n old new all taken ends.WriteFault reported short c e calm = absurd (omega (arith, e.2, calm.sink.same, calm.sink.below))
 
 module _ {A S : Type 0} (g : Ghosts A S) {C : Type 0} (w : MediumSpec C) where
   abbrev At : (List C → Type 0) → AppSpec → Addr → Node A S → Station C → Type 0

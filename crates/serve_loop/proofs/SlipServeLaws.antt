@@ -5,10 +5,10 @@ use Rattle.serve_loop.proofs.Prelude.{◌≡◌, ℕ, ◌+◌, Bool, true, false
 abbrev all_happen : List Event → List (StationEvent NoAct)
 all_happen events = map OfNode events
 
-frame_station_events : (own : Addr) (told : List Frame) → map (station_event_by own) (map came_by told) ≡ all_happen (map (event_by own) told)
+frame_station_events : (own : Addr) (reported : List Frame) → map (station_event_by own) (map came_by reported) ≡ all_happen (map (event_by own) reported)
 frame_station_events own [] = refl
-frame_station_events own (Datagram bytes ∷ told) = ap (λ l. station_event_by own (came_by (Datagram bytes)) ∷ l) (frame_station_events own told)
-frame_station_events own (Overlong ∷ told) = ap (λ l. station_event_by own (came_by Overlong) ∷ l) (frame_station_events own told)
+frame_station_events own (Datagram bytes ∷ reported) = ap (λ l. station_event_by own (came_by (Datagram bytes)) ∷ l) (frame_station_events own reported)
+frame_station_events own (Overlong ∷ reported) = ap (λ l. station_event_by own (came_by Overlong) ∷ l) (frame_station_events own reported)
 
 beat_station_events : (pace number : ℕ) → beat_on slip_medium pace number ≡ all_happen (beat pace number)
 beat_station_events pace number = elim (is_beat pace number) as (λ v. (if v then tick_on slip_medium else []) ≡ all_happen (if v then tick else [])) [
@@ -19,14 +19,14 @@ beat_station_events pace number = elim (is_beat pace number) as (λ v. (if v the
 pub station_events_are : (own : Addr) (pace : ℕ) (before : List ℕ) (items : List Item) → station_events_after slip_medium own pace before items ≡ all_happen (events_after own pace before items)
 station_events_are own pace before [] = refl
 station_events_are own pace before (Byte b ∷ items) =
-    let told = map (event_by own) (completed before b) in
+    let reported = map (event_by own) (completed before b) in
     let more = beat pace (length before + 1) in
     let rest = events_after own pace (before ++ b ∷ []) items in
     ap (λ l. l ++ beat_on slip_medium pace (length before + 1) ++ station_events_after slip_medium own pace (before ++ b ∷ []) items) (frame_station_events own (completed before b))
-    ∙ ap (λ l. all_happen told ++ l ++ station_events_after slip_medium own pace (before ++ b ∷ []) items) (beat_station_events pace (length before + 1))
-    ∙ ap (λ l. all_happen told ++ all_happen more ++ l) (station_events_are own pace (before ++ b ∷ []) items)
-    ∙ ap (λ l. l ++ all_happen rest) (sym (map-append OfNode told more))
-    ∙ sym (map-append OfNode (told ++ more) rest)
+    ∙ ap (λ l. all_happen reported ++ l ++ station_events_after slip_medium own pace (before ++ b ∷ []) items) (beat_station_events pace (length before + 1))
+    ∙ ap (λ l. all_happen reported ++ all_happen more ++ l) (station_events_are own pace (before ++ b ∷ []) items)
+    ∙ ap (λ l. l ++ all_happen rest) (sym (map-append OfNode reported more))
+    ∙ sym (map-append OfNode (reported ++ more) rest)
 station_events_are own pace before (Quiet ∷ items) =
     ap (λ l. all_happen tick ++ l) (station_events_are own pace before items) ∙ sym (map-append OfNode tick (events_after own pace before items))
 

@@ -32,24 +32,24 @@ module _ {A S Set C : Type 0} (g : Ghosts A S)
 
   pub nothing_wrote : ((k : Set) (before : List ℕ) → fed k before → Came_of k before ≡ []) → (a : Option (List ℕ))
       → (k : Set) (before : List ℕ) → fed k before → (m : AppSpec) (own : Addr) → AllSaid m g.served (spec k) own (map (station_event_by own) (Came_of k before)) (Here did k m own) (Here did' k m own) a a
-  nothing_wrote told a k before h m own =
-      wrote_by m g.served (spec k) own _ [] _ _ _ _ (ap (λ l. map (station_event_by own) l) (told k before h))
-      (wrote_none m g.served (spec k) own _ _ a (moved k m own before [] h (told k before h) refl))
+  nothing_wrote reported a k before h m own =
+      wrote_by m g.served (spec k) own _ [] _ _ _ _ (ap (λ l. map (station_event_by own) l) (reported k before h))
+      (wrote_none m g.served (spec k) own _ _ a (moved k m own before [] h (reported k before h) refl))
 
   pub overlong_wrote : (after : Node A S) (a : Option (List ℕ)) → ((k : Set) (before : List ℕ) → fed k before → Came_of k before ≡ Overlong ∷ [])
       → g.config after.shared ≡ g.config node.shared
       → ((n : AbstractNode) → Represents g node n n.history → Represents g after (step (g.app_spec (g.config node.shared)) g.served n OverlongFrame).node (seen OverlongFrame n.history))
       → (k : Set) (before : List ℕ) → fed k before
       → (m : AppSpec) (own : Addr) → AllSaid m g.served (spec k) own (map (station_event_by own) (Came_of k before)) (Here did k m own) (λ s. IsHere g (did' k) m own after s) a a
-  overlong_wrote after a told same steps k before h m own =
-      wrote_by m g.served (spec k) own _ _ _ _ _ _ (ap (λ l. map (station_event_by own) l) (told k before h))
+  overlong_wrote after a reported same steps k before h m own =
+      wrote_by m g.served (spec k) own _ _ _ _ _ _ (ap (λ l. map (station_event_by own) l) (reported k before h))
       (wrote_one m g.served (spec k) own (OfNode OverlongFrame) (Here did k m own) (λ s. IsHere g (did' k) m own after s) a a
       (λ s p. (
         record {
           stands = node_on g m own node after OverlongFrame s.node same
               (subst (λ (x : AppSpec). Represents g after (step x g.served s.node OverlongFrame).node (seen OverlongFrame s.node.history)) p.stands.meant (steps s.node p.stands.stands))
               p.stands;
-          acted = (moved k m own before _ h (told k before h) refl s p).acted;
+          acted = (moved k m own before _ h (reported k before h) refl s p).acted;
         },
         Appends-none a,
       )))
@@ -58,27 +58,27 @@ module _ {A S Set C : Type 0} (g : Ghosts A S)
     pub datagram_wrote : ((k : Set) (before : List ℕ) → fed k before → Came_of k before ≡ Datagram shown ∷ [])
         → ((k : Set) (m : AppSpec) (own : Addr) → AllSaid m g.served (spec k) own (OfNode (event_of own shown) ∷ []) (Here did' k m own) (Q k m own) a b)
         → (k : Set) (before : List ℕ) → fed k before → (m : AppSpec) (own : Addr) → AllSaid m g.served (spec k) own (map (station_event_by own) (Came_of k before)) (Here did k m own) (Q k m own) a b
-    datagram_wrote told wrote k before h m own =
-        wrote_by m g.served (spec k) own _ _ _ _ _ _ (ap (λ l. map (station_event_by own) l) (told k before h))
-        (wrote_from m g.served (spec k) own _ _ _ _ a b (moved k m own before _ h (told k before h) refl) (wrote k m own))
+    datagram_wrote reported wrote k before h m own =
+        wrote_by m g.served (spec k) own _ _ _ _ _ _ (ap (λ l. map (station_event_by own) l) (reported k before h))
+        (wrote_from m g.served (spec k) own _ _ _ _ a b (moved k m own before _ h (reported k before h) refl) (wrote k m own))
 
     pub datagram_broke : 0 < n → n ≤ length bytes → ((k : Set) (before : List ℕ) → fed k before → Came_of k before ≡ Datagram shown ∷ [])
         → ((k : Set) (m : AppSpec) (own : Addr) → PrefixWritten m g.served (spec k) own (OfNode (event_of own shown) ∷ []) (Here did' k m own) (Q k m own) a b)
         → (k : Set) (before : List ℕ) → fed k before
         → (x : ℕ) × (0 < x) × (x ≤ length bytes) × ((m : AppSpec) (own : Addr) → PrefixWritten m g.served (spec k) own (map (station_event_by own) (all_decoded (spec k) before (take x bytes))) (Here did k m own) (Q k m own) a b)
-    datagram_broke some within told broke k before h = (
+    datagram_broke some within reported broke k before h = (
       n,
       some,
       within,
-      λ m own. broke_by m g.served (spec k) own _ _ _ _ _ _ (ap (λ l. map (station_event_by own) l) (told k before h))
-          (broke_from m g.served (spec k) own _ _ _ _ a b (moved k m own before _ h (told k before h) refl) (broke k m own)),
+      λ m own. broke_by m g.served (spec k) own _ _ _ _ _ _ (ap (λ l. map (station_event_by own) l) (reported k before h))
+          (broke_from m g.served (spec k) own _ _ _ _ a b (moved k m own before _ h (reported k before h) refl) (broke k m own)),
     )
 
-  module _ (a b : Option (List ℕ)) (told : (k : Set) (before : List ℕ) → fed k before → (act : C) × (Came_of k before ≡ Own act ∷ []) × ((spec k).says act ≡ shown)) where
+  module _ (a b : Option (List ℕ)) (reported : (k : Set) (before : List ℕ) → fed k before → (act : C) × (Came_of k before ≡ Own act ∷ []) × ((spec k).says act ≡ shown)) where
     pub own_wrote : Appends a b shown
         → (k : Set) (before : List ℕ) → fed k before → (m : AppSpec) (own : Addr) → AllSaid m g.served (spec k) own (map (station_event_by own) (Came_of k before)) (Here did k m own) (Here did' k m own) a b
     own_wrote wrote k before h m own =
-        let it = told k before h in
+        let it = reported k before h in
         wrote_by m g.served (spec k) own _ _ _ _ _ _ (ap (λ l. map (station_event_by own) l) it.1)
         (wrote_one m g.served (spec k) own (OfMedium it.0) (Here did k m own) (Here did' k m own) a b
         (λ s p. (acted_on k m own before it.0 h it.1 s p, appends_by a b shown _ it.2 wrote)))
@@ -87,7 +87,7 @@ module _ {A S Set C : Type 0} (g : Ghosts A S)
         → (k : Set) (before : List ℕ) → fed k before
         → (x : ℕ) × (0 < x) × (x ≤ length bytes) × ((m : AppSpec) (own : Addr) → PrefixWritten m g.served (spec k) own (map (station_event_by own) (all_decoded (spec k) before (take x bytes))) (Here did k m own) (Here did' k m own) a b)
     own_broke some within wrote k before h =
-        let it = told k before h in (
+        let it = reported k before h in (
           n,
           some,
           within,

@@ -42,7 +42,7 @@ impl Medium for Slip {
 
     ghost shown = { λ s. s.decoder.bytes };
 
-    ghost shows = { λ s n. (s.decoder.told ≡ true) × (n ≡ length s.decoder.bytes) };
+    ghost shows = { λ s n. (s.decoder.reported ≡ true) × (n ≡ length s.decoder.bytes) };
 
     fn feed_run(&mut self, bytes: &[u8]) -> DecodedRun {
         let run = self.decoder.feed_run(bytes);

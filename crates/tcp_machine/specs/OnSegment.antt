@@ -39,10 +39,10 @@ abbrev pub accept : ℕ → Sockets → PlainSegment → List ℕ → Outcome
 accept iss sockets s numbers = leaves (accepted iss sockets s) numbers (Step.SynAck false)
 
 -- The application is notified of the end while it might still have sent.
-abbrev pub told_end : AppSpec → Ending → State → AppState → List ℕ → List ℕ
-told_end m how Established p numbers = m.ended numbers p how
-told_end m how CloseWait p numbers = m.ended numbers p how
-told_end m how _ p numbers = numbers
+abbrev pub reported_end : AppSpec → Ending → State → AppState → List ℕ → List ℕ
+reported_end m how Established p numbers = m.ended numbers p how
+reported_end m how CloseWait p numbers = m.ended numbers p how
+reported_end m how _ p numbers = numbers
 
 -- Check 2: a segment that occupies sequence space must start at RCV.NXT.
 abbrev pub is_out_of_order : Connection → PlainSegment → Bool
@@ -122,12 +122,12 @@ fin_waits closed_by_peer c numbers s =
 abbrev pub by_state : AppSpec → State → Bool → Connection → List ℕ → PlainSegment → Outcome
 by_state m SynRcvd true c numbers s = connects m c numbers s
 by_state m Established true c numbers s =
-    let told : After = m.acked numbers c.part c.len in
-    in_established m true (with_part told.part (rests c)) told.numbers s
+    let notified : After = m.acked numbers c.part c.len in
+    in_established m true (with_part notified.part (rests c)) notified.numbers s
 by_state m Established false c numbers s = in_established m false c numbers s
 by_state m CloseWait true c numbers s =
-    let told : After = m.acked numbers c.part c.len in
-    leaves (with_window s.window (with_part told.part (rests c))) told.numbers (Step.Ask false)
+    let notified : After = m.acked numbers c.part c.len in
+    leaves (with_window s.window (with_part notified.part (rests c))) notified.numbers (Step.Ask false)
 by_state m CloseWait false c numbers s = leaves (with_window s.window c) numbers Step.Drop
 by_state m FinWait1 true c numbers s = fin_acked c numbers s
 by_state m FinWait1 false c numbers s = fin_waits (in_state Closing (takes (length s.text + 1) c)) c numbers s
@@ -140,6 +140,6 @@ by_state m _ acked c numbers s = leaves c numbers Step.Drop
 -- Check 1: a RST closes the connection, whatever its sequence number.
 unfoldable pub on_segment : AppSpec → Connection → List ℕ → PlainSegment → Outcome
 on_segment m c numbers s =
-    if has_rst s.flags then leaves (closes c) (told_end m Reset c.state c.part numbers) Step.Drop
+    if has_rst s.flags then leaves (closes c) (reported_end m Reset c.state c.part numbers) Step.Drop
     else if is_out_of_order c s then leaves c numbers Step.Ack
     else by_state m c.state (is_acked c s) c numbers s

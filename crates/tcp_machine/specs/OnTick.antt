@@ -12,7 +12,7 @@ use Rattle.app_events.specs.declared.state.State.TheVariants.{Closed, SynRcvd, E
 use Rattle.app_events.specs.declared.state.State.TheVariants.{FinWait1, FinWait2, Closing, TimeWait, LastAck}
 use Rattle.tcp_machine.specs.Connection.{Connection}
 use Rattle.tcp_machine.specs.Ask.{Outcome, leaves, closes}
-use Rattle.tcp_machine.specs.OnSegment.{told_end, with_part}
+use Rattle.tcp_machine.specs.OnSegment.{reported_end, with_part}
 use Rattle.tcp_machine.specs.declared.step.Step.{Step}
 use Rattle.tcp_machine.specs.declared.ticking.TheConstants.{REST_TIME}
 
@@ -38,7 +38,7 @@ grows_older c = record c { age = c.age + 1 }
 abbrev pub by_beat : AppSpec → Beat → Connection → List ℕ → Outcome
 by_beat m Wait c numbers = leaves (grows_older c) numbers Step.Drop
 by_beat m Again c numbers = leaves (grows_older c) numbers (outstanding true c.state)
-by_beat m GiveUp c numbers = leaves (closes c) (told_end m TimedOut c.state c.part numbers) Step.Reset
+by_beat m GiveUp c numbers = leaves (closes c) (reported_end m TimedOut c.state c.part numbers) Step.Reset
 
 abbrev pub waits_for_ack : AppSpec → Connection → List ℕ → Outcome
 waits_for_ack m c numbers = by_beat m (beat_at (limit_of c.state) (c.age + 1)) c numbers

@@ -4,7 +4,7 @@ ghost use Rattle.std.specs.Prelude.{◌≡◌, ◌+◌, ◌<◌, ◌≤◌, ◌&
 ghost use Rattle.uip_wire.specs.Prelude.{wrap};
 ghost use Rattle.tcp_segment.specs.Prelude.{PlainSegment, has_ack};
 ghost use Rattle.tcp_machine.specs.Prelude.{Connection, is_live, SameNumbers, SameSockets, connects, peer_closes};
-ghost use Rattle.tcp_machine.specs.Prelude.{stays_established, in_established, by_state, on_segment, told_end};
+ghost use Rattle.tcp_machine.specs.Prelude.{stays_established, in_established, by_state, on_segment, reported_end};
 ghost use Rattle.tcp_machine.specs.Prelude.{occupies_sequence_space, IsSound, Refines, ConnRepresents, is_open, plain};
 
 use crate::alone::{in_closing, in_fin_wait_1, in_fin_wait_2, in_last_ack};
@@ -23,7 +23,7 @@ pub(crate) fn drop_connection<A: App>(conn: &mut Conn<A>, shared: &mut A::Shared
     ensures place { SameSockets conn.old conn.new }
     ensures same_numbers { SameNumbers conn.old conn.new }
     ensures numbers { (a : Connection) → ConnRepresents A.App (A.config shared.old) conn.old a
-        → A.numbers shared.new ≡ told_end (A.app_spec (A.config shared.old)) how a.state a.part (A.numbers shared.old) }
+        → A.numbers shared.new ≡ reported_end (A.app_spec (A.config shared.old)) how a.state a.part (A.numbers shared.old) }
 {
     if is_open(conn.state) {
         conn.app.ended(shared, how);

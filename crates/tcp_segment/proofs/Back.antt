@@ -56,11 +56,11 @@ same_segment : (from from' to to' seq seq' ack ack' flags flags' window window' 
     (Ok (record { from = record { 0 = from' }; to = record { 0 = to' }; seq = record { 0 = seq' }; ack = record { 0 = ack' }; flags = flags'; window = window'; mss = mss'; text_at = at'; text_len = len' }))
 same_segment from from' to to' seq seq' ack ack' flags flags' window window' at at' len len' mss mss' a b c d e f g h i = cc
 
-told_offset : (offset flags : ℕ) → flags < 64 → (offset * 4096 + flags) / 256 / 16 ≡ offset
-told_offset offset flags h = omega arith
+reported_offset : (offset flags : ℕ) → flags < 64 → (offset * 4096 + flags) / 256 / 16 ≡ offset
+reported_offset offset flags h = omega arith
 
-told_flags : (offset flags : ℕ) → flags < 64 → (offset * 4096 + flags) % 256 % 64 ≡ flags
-told_flags offset flags h = omega arith
+reported_flags : (offset flags : ℕ) → flags < 64 → (offset * 4096 + flags) % 256 % 64 ≡ flags
+reported_flags offset flags h = omega arith
 
 -- the segment passes its checks, whatever its options are
 received : (offset : ℕ) (options : List ℕ) (d : Datagram) (mss : Option ℕ) → length d.source ≡ 4 → length d.target ≡ 4
@@ -70,21 +70,21 @@ received : (offset : ℕ) (options : List ℕ) (d : Datagram) (mss : Option ℕ)
     (with_words offset options (checksum_of (pseudo_header d.source d.target (length (with_words offset options 0 d)) ++ with_words offset options 0 d)) d)
     ≡ Ok (record (fields_sent d) { mss = mss; text_at = 20 + 4 * offset })
 unfolding segment_in
-received offset options d mss s t small least size told =
+received offset options d mss s t small least size reported =
     let k : ℕ = checksum_of (pseudo_header d.source d.target (length (with_words offset options 0 d)) ++ with_words offset options 0 d) in
     let bytes : List ℕ = with_words offset options k d in
     let len : length bytes ≡ 20 + 2 * length options + length d.segment.text =
     omega (arith, length-append (bytes_of options) d.segment.text, length-bytes_of options) in
     let len0 : length bytes ≡ length (with_words offset options 0 d) =
     omega (arith, length-append (bytes_of options) d.segment.text, length-bytes_of options) in
-    let head : header_len bytes ≡ 4 * offset = ap (λ n. 4 * n) (told_offset offset d.segment.flags small) in
+    let head : header_len bytes ≡ 4 * offset = ap (λ n. 4 * n) (reported_offset offset d.segment.flags small) in
     let zero_sum : checksum_of (pseudo_header d.source d.target (length bytes) ++ bytes) ≡ 0 =
     ap (λ n. checksum_of (pseudo_header d.source d.target n ++ bytes)) len0 ∙ sum_right offset options (length (with_words offset options 0 d)) d s t in
     passes _ _ _ _ (not_less (length bytes) 20 (omega arith))
     (passes _ _ _ _ (neither _ _ (not_less (header_len bytes) 20 (omega arith)) (not_less (length bytes) (header_len bytes) (omega arith)))
     (passes _ _ _ _ (equal (checksum_of (pseudo_header d.source d.target (length bytes) ++ bytes)) 0 zero_sum)
     (same_segment _ _ _ _ _ _ _ _ _ _ _ _ _ _ _ _ _ _ (same_word d.from) (same_word d.to) (same_long d.segment.seq) (same_long d.segment.ack)
-    (told_flags offset d.segment.flags small) (same_word d.segment.window) (ap (λ n. mss_in (slice_range bytes 20 n)) head ∙ told)
+    (reported_flags offset d.segment.flags small) (same_word d.segment.window) (ap (λ n. mss_in (slice_range bytes 20 n)) head ∙ reported)
     (ap (λ n. 20 + n) head) (omega arith))))
 
 -- ---- the whole datagram

@@ -32,8 +32,8 @@ module _ (site : SiteContent) (loaded : IsLoaded site) (image : All IsByte site.
   page_wants : (numbers : List ℕ) (p : AppState) → is_page_part p ≡ true → MayWant (pages_of files) p ((desk_spec files).want numbers p)
   page_wants numbers p h = subst (λ w. MayWant (pages_of files) p w) (sym ((does_as_web p h).want numbers)) (web_laws.wants numbers p)
 
-  web_told : FollowsPagesAt (desk_spec files) 80 (pages_of files)
-  web_told = record {
+  web_reported : FollowsPagesAt (desk_spec files) 80 (pages_of files)
+  web_reported = record {
     grows = web_laws.grows;
     stays = web_laws.stays;
     stays_complete = web_laws.stays_complete;
@@ -77,8 +77,8 @@ module _ (site : SiteContent) (loaded : IsLoaded site) (image : All IsByte site.
   }
 
   web_pages : IsPagedAt (desk_spec files) 80 (pages_of files)
-  unfolding web_told
-  web_pages = record { follows = web_told; accepts_all = λ p. refl; short = web_laws.short }
+  unfolding web_reported
+  web_pages = record { follows = web_reported; accepts_all = λ p. refl; short = web_laws.short }
 
   -- ---- the shell's talk at port 23
 
@@ -120,8 +120,8 @@ module _ (site : SiteContent) (loaded : IsLoaded site) (image : All IsByte site.
     ap (λ (y : AppState). is_lost y) same ∙ x.1,
   )
 
-  session_told : FollowsPagesAt (desk_spec files) 23 sessions
-  session_told = record {
+  session_reported : FollowsPagesAt (desk_spec files) 23 sessions
+  session_reported = record {
     grows = keeps_session.grows;
     stays = keeps_session.stays;
     stays_complete = keeps_session.stays_complete;
@@ -142,7 +142,7 @@ module _ (site : SiteContent) (loaded : IsLoaded site) (image : All IsByte site.
   -- ---- at each port
 
   at_shell_port : (port : ℕ) (shell : Bool) → (port == TELNET_PORT) ≡ shell → FollowsModelAt (desk_spec files) port (if shell then Interactive sessions else Free)
-  at_shell_port port true e = subst (λ (n : ℕ). FollowsPagesAt (desk_spec files) n sessions) (sym (eqb-true port 23 e)) session_told
+  at_shell_port port true e = subst (λ (n : ℕ). FollowsPagesAt (desk_spec files) n sessions) (sym (eqb-true port 23 e)) session_reported
   at_shell_port port false e = tt
 
   by_port : (port : ℕ) (served : Bool) → is_served port ≡ served → FollowsModelAt (desk_spec files) port (if served then Paged (pages_of files) else if port == TELNET_PORT then Interactive sessions else Free)

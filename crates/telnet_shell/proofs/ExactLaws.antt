@@ -1,5 +1,5 @@
 -- What a shell requests, when it takes a capture and when it is given up, by its session alone.
-use Rattle.telnet_shell.proofs.Prelude.{◌≡◌, ℕ, ◌+◌, ◌-◌, ◌≤◌, ◌<◌, ◌==◌, min, Bool, true, false, ◌&&◌, not, nat_le, nat_lt, List, [], ◌∷◌, ◌++◌, codes, length, refl, sym, ap, ◌∙◌, arith, append-nil, length-append, if◌then◌else◌, bytes_eq, leb-true, le-leb, lt-leb, lt-ltb, ltb-true, eqb-true, eq-eqb, and_parts, and_from, false_from_ne_true, bytes_eq-Decides, AppState, Snapshot, Now, Nothing, Send, Close, Abort, Command, Help, Stats, Conns, Ticks, Quit, Blank, Other, Awaits, Token, tokens, told, awaits_after, commands, command_of, line_after, all_commands, commands_in, has_quit, is_quit, until_quit, Text, Second, Choice, Byte, Answer, behind, needs_capture, said_plainly, sent_at, transcript, unfinished, needed, commands_grow, further, past_said, said_some, shell_spec, session, waiting, with_byte, hear_byte, is_settled, is_stopped, session_has_ended, left_of_session, take_capture, sessions, IsExact, exact_want, all_acknowledged, is_given_up, capture_comes_next, completes}
+use Rattle.telnet_shell.proofs.Prelude.{◌≡◌, ℕ, ◌+◌, ◌-◌, ◌≤◌, ◌<◌, ◌==◌, min, Bool, true, false, ◌&&◌, not, nat_le, nat_lt, List, [], ◌∷◌, ◌++◌, codes, length, refl, sym, ap, ◌∙◌, arith, append-nil, length-append, if◌then◌else◌, bytes_eq, leb-true, le-leb, lt-leb, lt-ltb, ltb-true, eqb-true, eq-eqb, and_parts, and_from, false_from_ne_true, bytes_eq-Decides, AppState, Snapshot, Now, Nothing, Send, Close, Abort, Command, Help, Stats, Conns, Ticks, Quit, Blank, Other, Awaits, Token, tokens, tokens_at, awaits_after, commands, command_of, line_after, all_commands, commands_in, has_quit, is_quit, until_quit, Text, Second, Choice, Byte, Answer, behind, needs_capture, said_plainly, sent_at, transcript, unfinished, needed, commands_grow, further, past_said, said_some, shell_spec, session, waiting, with_byte, hear_byte, is_settled, is_stopped, session_has_ended, left_of_session, take_capture, sessions, IsExact, exact_want, all_acknowledged, is_given_up, capture_comes_next, completes}
 use Rattle.telnet_shell.proofs.SessionLaws.{IsSaid, settled, none_waits}
 
 -- two tests with the same result
@@ -47,7 +47,7 @@ said_of : (p : AppState) → is_settled p ≡ true → IsSaid (commands_in p.inp
 said_of p e = settled (commands_in p.input) p.snapshots p.acked (none_waits (waiting p) e)
 
 has_said_of : (p : AppState) → is_settled p ≡ true → has_said p ≡ true
-has_said_of p e = le-leb (needed (commands_in p.input)) (length p.snapshots) (said_of p e).told
+has_said_of p e = le-leb (needed (commands_in p.input)) (length p.snapshots) (said_of p e).reported
 
 -- ---- what the shell requests
 
@@ -104,7 +104,7 @@ stops_exactly p = same_tests (is_stopped p) (capture_comes_next p)
 
     waits_yet : (p : AppState) → nat_lt (length p.snapshots) (needed (commands_in p.input)) ≡ true → not (is_settled p) ≡ true
     waits_yet p l =
-        from_not (is_settled p) (λ s. let told = (said_of p s).told in let less = ltb-true (length p.snapshots) (needed (commands_in p.input)) l in omega (arith, told, less))
+        from_not (is_settled p) (λ s. let reported = (said_of p s).reported in let less = ltb-true (length p.snapshots) (needed (commands_in p.input)) l in omega (arith, reported, less))
 
 prepares_exactly : (numbers : List ℕ) (p : AppState) (now : Now)
     → shell_spec.prepare numbers p now ≡ (if capture_comes_next p then take_capture numbers p now else p)
@@ -177,10 +177,10 @@ if_short : (b : Bool) (xs ys : List Token) → length xs ≤ 1 → length ys ≤
 if_short true xs ys f g = f
 if_short false xs ys f g = g
 
-one_told : (awaits : Awaits) (byte : ℕ) → length (told awaits byte) ≤ 1
-one_told Text byte = if_short (byte == 255) [] (Byte byte ∷ []) (omega arith) (omega arith)
-one_told Second byte = if_short (byte == 255) (Byte 255 ∷ []) [] (omega arith) (omega arith)
-one_told (Choice verb) byte =
+one_reported : (awaits : Awaits) (byte : ℕ) → length (tokens_at awaits byte) ≤ 1
+one_reported Text byte = if_short (byte == 255) [] (Byte byte ∷ []) (omega arith) (omega arith)
+one_reported Second byte = if_short (byte == 255) (Byte 255 ∷ []) [] (omega arith) (omega arith)
+one_reported (Choice verb) byte =
     if_short (verb == 251) (Answer _ ∷ []) _ (omega arith) (if_short (verb == 253) (Answer _ ∷ []) [] (omega arith) (omega arith))
 
 byte_brings : (ends drops : Bool) (c : Command) (x y z : List Command) (n : ℕ) → length x ≤ n → length y ≤ n → length z ≤ n
@@ -212,9 +212,9 @@ one_comes : (delivered : List ℕ) (byte : ℕ) → length (further delivered (b
 one_comes delivered byte =
     let ts : List Token = tokens (awaits_after Text delivered) (byte ∷ []) in
     let short : length (tokens (awaits_after Text delivered) (byte ∷ [])) ≤ 1 =
-    (let e : length (tokens (awaits_after Text delivered) (byte ∷ [])) ≡ length (told (awaits_after Text delivered) byte) =
-    ap (λ (us : List Token). length us) (append-nil (told (awaits_after Text delivered) byte)) in
-    let f = one_told (awaits_after Text delivered) byte in omega (arith, e, f)) in
+    (let e : length (tokens (awaits_after Text delivered) (byte ∷ [])) ≡ length (tokens_at (awaits_after Text delivered) byte) =
+    ap (λ (us : List Token). length us) (append-nil (tokens_at (awaits_after Text delivered) byte)) in
+    let f = one_reported (awaits_after Text delivered) byte in omega (arith, e, f)) in
     let few = few_commands (line_after [] (tokens Text delivered)) (tokens (awaits_after Text delivered) (byte ∷ [])) in
     let counts = few_count (commands (line_after [] (tokens Text delivered)) (tokens (awaits_after Text delivered) (byte ∷ []))) in
     none_or (has_quit (commands [] (tokens Text delivered))) (until_quit (commands (line_after [] (tokens Text delivered)) (tokens (awaits_after Text delivered) (byte ∷ []))))

@@ -29,7 +29,7 @@ pub use Rattle.telnet_shell.specs.Lemmas.Growing.{commands_grow, commands_joined
 pub use Rattle.telnet_shell.specs.Lemmas.SameLeft.{left_of_value}
 pub use Rattle.telnet_shell.specs.Lemmas.ShellLaws.{shell_lawful, shell_starts}
 pub use Rattle.telnet_shell.specs.Lemmas.Speaking.{empty_stops, held_goes, past_said, prefix_left, said_some, session_is, split, two_parts, waiting_is}
-pub use Rattle.telnet_shell.specs.Reading.{Awaits, Token, all_commands, awaits_after, command_of, commands, commands_in, has_quit, is_quit, line_after, next_awaits, tokens, told, until_quit}
+pub use Rattle.telnet_shell.specs.Reading.{Awaits, Token, all_commands, awaits_after, command_of, commands, commands_in, has_quit, is_quit, line_after, next_awaits, tokens, tokens_at, until_quit}
 pub use Rattle.telnet_shell.specs.Reading.Awaits.{Choice, Second, Text}
 pub use Rattle.telnet_shell.specs.Reading.Token.{Answer, Byte}
 pub use Rattle.telnet_shell.specs.Saying.{IsLeading, IsTrailing, Passes, Shows, due, is_captured, is_past, left_said, needed, prefix_size, stops_at}

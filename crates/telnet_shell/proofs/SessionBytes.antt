@@ -1,5 +1,5 @@
 -- The shell sends bytes if it receives bytes.
-use Rattle.telnet_shell.proofs.Prelude.{All, codes, bytes_eq, ℕ, ◌==◌, List, [], ◌∷◌, ◌++◌, refl, sym, subst, lit<, All-append, All-cons, All-head, All-nil, All-tail, capture_of, capture_text, Capture, Empty, capture_bytes, either_bytes, literal_bytes, IsByte, AppState, Snapshot, choose, SendsBytes, IAC, WILL, DO, Command, Refuse, Help, Stats, Conns, Ticks, Quit, Blank, Other, Awaits, Token, all_commands, command_of, commands, commands_in, is_quit, next_awaits, told, tokens, until_quit, Text, Second, Choice, Byte, Answer, is_stopped, shell_spec, take_capture, DeliversPrefix, function_of, needs_capture, sent_at, said_plainly, said_with, transcript}
+use Rattle.telnet_shell.proofs.Prelude.{All, codes, bytes_eq, ℕ, ◌==◌, List, [], ◌∷◌, ◌++◌, refl, sym, subst, lit<, All-append, All-cons, All-head, All-nil, All-tail, capture_of, capture_text, Capture, Empty, capture_bytes, either_bytes, literal_bytes, IsByte, AppState, Snapshot, choose, SendsBytes, IAC, WILL, DO, Command, Refuse, Help, Stats, Conns, Ticks, Quit, Blank, Other, Awaits, Token, all_commands, command_of, commands, commands_in, is_quit, next_awaits, tokens_at, tokens, until_quit, Text, Second, Choice, Byte, Answer, is_stopped, shell_spec, take_capture, DeliversPrefix, function_of, needs_capture, sent_at, said_plainly, said_with, transcript}
 use Rattle.telnet_shell.proofs.SessionLaws.{keeps_session}
 
 -- ---- what is received: an offer is refused with bytes
@@ -28,16 +28,16 @@ tokens_append [] us h g = g
 tokens_append (Byte byte ∷ ts) us h g = tokens_append ts us h g
 tokens_append (Answer command ∷ ts) us h g = (h.0, tokens_append ts us h.1 g)
 
-told_bytes : (awaits : Awaits) (byte : ℕ) → IsByte byte → AreTokens (told awaits byte)
-told_bytes Text byte h = choose AreTokens (byte == IAC) _ _ (λ e. tt) (λ e. tt)
-told_bytes Second byte h = choose AreTokens (byte == IAC) _ _ (λ e. tt) (λ e. tt)
-told_bytes (Choice verb) byte h =
+reported_bytes : (awaits : Awaits) (byte : ℕ) → IsByte byte → AreTokens (tokens_at awaits byte)
+reported_bytes Text byte h = choose AreTokens (byte == IAC) _ _ (λ e. tt) (λ e. tt)
+reported_bytes Second byte h = choose AreTokens (byte == IAC) _ _ (λ e. tt) (λ e. tt)
+reported_bytes (Choice verb) byte h =
     choose AreTokens (verb == WILL) _ _ (λ e. ((lit< tt, h), tt)) (λ e. choose AreTokens (verb == DO) _ _ (λ f. ((lit< tt, h), tt)) (λ f. tt))
 
 tokens_bytes : (awaits : Awaits) (delivered : List ℕ) → All IsByte delivered → AreTokens (tokens awaits delivered)
 tokens_bytes awaits [] h = tt
 tokens_bytes awaits (byte ∷ more) h =
-    tokens_append (told awaits byte) (tokens (next_awaits awaits byte) more) (told_bytes awaits byte (All-head IsByte byte more h))
+    tokens_append (tokens_at awaits byte) (tokens (next_awaits awaits byte) more) (reported_bytes awaits byte (All-head IsByte byte more h))
     (tokens_bytes (next_awaits awaits byte) more (All-tail IsByte byte more h))
 
 line_bytes : (line : List ℕ) → IsOfBytes (command_of line)

@@ -137,11 +137,11 @@ either_settled false le false c cs go go' e = absurd (cc)
 
 -- Every command has its capture, and the text is among the first bytes.
 pub record IsSaid (cs : List Command) (ks : List Snapshot) (bytes : ℕ) : Type 0 where
-  pub told : needed cs ≤ length ks
+  pub reported : needed cs ≤ length ks
   pub within : length (transcript cs ks) ≤ bytes
 
 pub settled : (cs : List Command) (ks : List Snapshot) (bytes : ℕ) → unfinished cs ks bytes ≡ [] → IsSaid cs ks bytes
-settled [] ks bytes e = record { told = omega arith; within = omega arith }
+settled [] ks bytes e = record { reported = omega arith; within = omega arith }
 settled (c ∷ cs) [] bytes e =
     let size : ℕ = length (said_plainly c) in
     let r = plain_settled (needs_capture c) (nat_le (length (said_plainly c)) bytes) c cs (unfinished cs [] (bytes - length (said_plainly c))) e in
@@ -150,7 +150,7 @@ settled (c ∷ cs) [] bytes e =
     let count : needed (c ∷ cs) ≡ needed cs = ap (λ (b : Bool). if b then needed cs + 1 else needed cs) r.0 in
     let text : length (transcript (c ∷ cs) []) ≡ length (said_plainly c) + length (transcript cs []) =
     ap (λ (b : Bool). length (if b then [] else said_plainly c ++ transcript cs [])) r.0 ∙ length-append (said_plainly c) (transcript cs []) in
-    record { told = omega (arith, count, rest.told); within = omega (arith, text, rest.within, fits) }
+    record { reported = omega (arith, count, rest.reported); within = omega (arith, text, rest.within, fits) }
 settled (c ∷ cs) (k ∷ ks) bytes e =
     elim (either_settled (needs_capture c) (nat_le (length (sent_at c k)) bytes) (nat_le (length (said_plainly c)) bytes) c cs
     (unfinished cs ks (bytes - length (sent_at c k))) (unfinished cs (k ∷ ks) (bytes - length (said_plainly c))) e) [
@@ -160,14 +160,14 @@ settled (c ∷ cs) (k ∷ ks) bytes e =
           let count : needed (c ∷ cs) ≡ needed cs + 1 = ap (λ (b : Bool). if b then needed cs + 1 else needed cs) r.0 in
           let text : length (transcript (c ∷ cs) (k ∷ ks)) ≡ length (sent_at c k) + length (transcript cs ks) =
           ap (λ (b : Bool). length (if b then sent_at c k ++ transcript cs ks else said_plainly c ++ transcript cs (k ∷ ks))) r.0 ∙ length-append (sent_at c k) (transcript cs ks) in
-          record { told = omega (arith, count, rest.told); within = omega (arith, text, rest.within, fits) })
+          record { reported = omega (arith, count, rest.reported); within = omega (arith, text, rest.within, fits) })
       | inr r ↦ (
           let rest : IsSaid cs (k ∷ ks) (bytes - length (said_plainly c)) = settled cs (k ∷ ks) (bytes - length (said_plainly c)) r.2 in
           let fits = leb-true (length (said_plainly c)) bytes r.1 in
           let count : needed (c ∷ cs) ≡ needed cs = ap (λ (b : Bool). if b then needed cs + 1 else needed cs) r.0 in
           let text : length (transcript (c ∷ cs) (k ∷ ks)) ≡ length (said_plainly c) + length (transcript cs (k ∷ ks)) =
           ap (λ (b : Bool). length (if b then sent_at c k ++ transcript cs ks else said_plainly c ++ transcript cs (k ∷ ks))) r.0 ∙ length-append (said_plainly c) (transcript cs (k ∷ ks)) in
-          record { told = omega (arith, count, rest.told); within = omega (arith, text, rest.within, fits) })
+          record { reported = omega (arith, count, rest.reported); within = omega (arith, text, rest.within, fits) })
     ]
 
 pub none_waits : (cs : List Command) → (length cs == 0) ≡ true → cs ≡ []
@@ -178,7 +178,7 @@ may_close : (p : AppState) → p.acked ≤ length (session p) → session_has_en
 may_close p h e =
     let both = and_parts (has_quit (all_commands p.input)) (is_settled p) e in
     let output : IsSaid (commands_in p.input) p.snapshots p.acked = settled (commands_in p.input) p.snapshots p.acked (none_waits (waiting p) both.1) in (
-      both_true (has_quit (all_commands p.input)) (nat_le (needed (commands_in p.input)) (length p.snapshots)) both.0 (le-leb (needed (commands_in p.input)) (length p.snapshots) output.told),
+      both_true (has_quit (all_commands p.input)) (nat_le (needed (commands_in p.input)) (length p.snapshots)) both.0 (le-leb (needed (commands_in p.input)) (length p.snapshots) output.reported),
       omega (arith, h, output.within),
     )
 

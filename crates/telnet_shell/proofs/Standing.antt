@@ -1,5 +1,5 @@
 -- A shell receives a byte.
-use Rattle.telnet_shell.proofs.Prelude.{◌≡◌, ℕ, ◌+◌, ◌==◌, ◌≤◌, ◌<◌, Bool, true, false, ◌||◌, List, [], ◌∷◌, ◌++◌, length, nat_lt, if◌then◌else◌, refl, sym, ap, subst, ◌∙◌, arith, append-nil, length-append, true≢false, le-ltb, lt-ltb, eqb-true, eqb-false, AppState, Command, Shell, all_commands, commands_in, commands, tokens, told, awaits_after, line_after, has_quit, is_quit, until_quit, Text, IsOpen, IsTrailing, IsLeading, until_quit_joined, waiting_is, waiting, with_byte, hear_byte, ShellRepresents}
+use Rattle.telnet_shell.proofs.Prelude.{◌≡◌, ℕ, ◌+◌, ◌==◌, ◌≤◌, ◌<◌, Bool, true, false, ◌||◌, List, [], ◌∷◌, ◌++◌, length, nat_lt, if◌then◌else◌, refl, sym, ap, subst, ◌∙◌, arith, append-nil, length-append, true≢false, le-ltb, lt-ltb, eqb-true, eqb-false, AppState, Command, Shell, all_commands, commands_in, commands, tokens, tokens_at, awaits_after, line_after, has_quit, is_quit, until_quit, Text, IsOpen, IsTrailing, IsLeading, until_quit_joined, waiting_is, waiting, with_byte, hear_byte, ShellRepresents}
 use Rattle.telnet_shell.proofs.Opening.{commands_one}
 use Rattle.telnet_shell.proofs.Advancing.{come}
 
@@ -36,13 +36,13 @@ quit_joins (x ∷ xs) ys = by_quit (is_quit x) (quit_joins xs ys)
     by_quit false e = e
 
 -- the commands that count, by those that a byte brings
-counted : (delivered : List ℕ) (byte : ℕ) (cs : List Command) → cs ≡ commands (line_after [] (tokens Text delivered)) (told (awaits_after Text delivered) byte)
+counted : (delivered : List ℕ) (byte : ℕ) (cs : List Command) → cs ≡ commands (line_after [] (tokens Text delivered)) (tokens_at (awaits_after Text delivered) byte)
     → commands_in (delivered ++ byte ∷ []) ≡ commands_in delivered ++ (if has_quit (all_commands delivered) then [] else until_quit cs)
 counted delivered byte cs e =
     ap (λ (ds : List Command). until_quit ds) (commands_one delivered byte ∙ ap (λ (ds : List Command). all_commands delivered ++ ds) (sym e))
     ∙ until_quit_joined (all_commands delivered) cs
 
-quits : (delivered : List ℕ) (byte : ℕ) (cs : List Command) → cs ≡ commands (line_after [] (tokens Text delivered)) (told (awaits_after Text delivered) byte)
+quits : (delivered : List ℕ) (byte : ℕ) (cs : List Command) → cs ≡ commands (line_after [] (tokens Text delivered)) (tokens_at (awaits_after Text delivered) byte)
     → has_quit (all_commands (delivered ++ byte ∷ [])) ≡ (has_quit (all_commands delivered) || has_quit cs)
 quits delivered byte cs e =
     ap (λ (ds : List Command). has_quit ds) (commands_one delivered byte ∙ ap (λ (ds : List Command). all_commands delivered ++ ds) (sym e))
@@ -52,17 +52,17 @@ quits delivered byte cs e =
 pub hear_done : (a : Shell) (p : AppState) (byte : ℕ) → a.lost ≡ false → a.done ≡ true → length a.queue ≤ 32 → ShellRepresents a p → ShellRepresents a (hear_byte p byte)
 hear_done a p byte lost done room s =
     let over : has_quit (all_commands p.input) ≡ true = sym s.done ∙ done in
-    let cs : List Command = commands (line_after [] (tokens Text p.input)) (told (awaits_after Text p.input) byte) in
+    let cs : List Command = commands (line_after [] (tokens Text p.input)) (tokens_at (awaits_after Text p.input) byte) in
     let none : commands_in (p.input ++ byte ∷ []) ≡ commands_in p.input ++ [] =
-    counted p.input byte (commands (line_after [] (tokens Text p.input)) (told (awaits_after Text p.input) byte)) refl
-    ∙ ap (λ (b : Bool). commands_in p.input ++ (if b then [] else until_quit (commands (line_after [] (tokens Text p.input)) (told (awaits_after Text p.input) byte)))) over in
+    counted p.input byte (commands (line_after [] (tokens Text p.input)) (tokens_at (awaits_after Text p.input) byte)) refl
+    ∙ ap (λ (b : Bool). commands_in p.input ++ (if b then [] else until_quit (commands (line_after [] (tokens Text p.input)) (tokens_at (awaits_after Text p.input) byte)))) over in
     let both = come a.queue [] a.capture a.at p byte none s.behind s.place in
     let behind : IsTrailing a.queue a.capture a.at (with_byte p byte) = subst (λ (q : List Command). IsTrailing q a.capture a.at (with_byte p byte)) (append-nil a.queue) both.0 in
     subst (λ (q : AppState). ShellRepresents a q) (sym (hears_it a p byte a.queue lost s (waiting_is a.queue a.capture a.at (with_byte p byte) behind s.place) room)) (record {
       polls = s.polls;
       lost = s.lost;
-      done = done ∙ sym (quits p.input byte (commands (line_after [] (tokens Text p.input)) (told (awaits_after Text p.input) byte)) refl
-          ∙ ap (λ (b : Bool). b || has_quit (commands (line_after [] (tokens Text p.input)) (told (awaits_after Text p.input) byte))) over);
+      done = done ∙ sym (quits p.input byte (commands (line_after [] (tokens Text p.input)) (tokens_at (awaits_after Text p.input) byte)) refl
+          ∙ ap (λ (b : Bool). b || has_quit (commands (line_after [] (tokens Text p.input)) (tokens_at (awaits_after Text p.input) byte))) over);
       hears = λ e. elim (true≢false (sym (either a.lost a.done done) ∙ e)) [ ];
       behind = behind;
       place = s.place;
@@ -78,7 +78,7 @@ is_open a lost done = ap (λ (b : Bool). b || a.done) lost ∙ done
 -- no command comes
 pub hear_none : (a : Shell) (p : AppState) (byte : ℕ) (kept : List ℕ) (over : Bool) (iac : List ℕ) → a.lost ≡ false → a.done ≡ false → length a.queue ≤ 32
     → ((delivered : List ℕ) → IsOpen a.line a.over a.iac delivered → IsOpen kept over iac (delivered ++ byte ∷ []))
-    → ((delivered : List ℕ) → IsOpen a.line a.over a.iac delivered → [] ≡ commands (line_after [] (tokens Text delivered)) (told (awaits_after Text delivered) byte))
+    → ((delivered : List ℕ) → IsOpen a.line a.over a.iac delivered → [] ≡ commands (line_after [] (tokens Text delivered)) (tokens_at (awaits_after Text delivered) byte))
     → ShellRepresents a p → ShellRepresents (record a { line = kept; over = over; iac = iac }) (hear_byte p byte)
 hear_none a p byte kept over iac lost done room goes decodes s =
     let delivered = s.hears (is_open a lost done) in
@@ -99,7 +99,7 @@ hear_none a p byte kept over iac lost done room goes decodes s =
 -- a command comes, and the queue is full
 pub hear_full : (a : Shell) (p : AppState) (byte : ℕ) (c : Command) (kept : List ℕ) (over : Bool) (iac : List ℕ) → a.lost ≡ false → a.done ≡ false
     → (full : Bool) → full ≡ true → full ≡ (length a.queue == 32)
-    → ((delivered : List ℕ) → IsOpen a.line a.over a.iac delivered → c ∷ [] ≡ commands (line_after [] (tokens Text delivered)) (told (awaits_after Text delivered) byte))
+    → ((delivered : List ℕ) → IsOpen a.line a.over a.iac delivered → c ∷ [] ≡ commands (line_after [] (tokens Text delivered)) (tokens_at (awaits_after Text delivered) byte))
     → ShellRepresents a p → ShellRepresents (record a { line = kept; over = over; iac = iac; lost = true }) (hear_byte p byte)
 hear_full a p byte c kept over iac lost done full is count decodes s =
     let delivered = s.hears (is_open a lost done) in
@@ -123,7 +123,7 @@ hear_full a p byte c kept over iac lost done full is count decodes s =
 pub hear_command : (a : Shell) (p : AppState) (byte : ℕ) (c : Command) (kept : List ℕ) (over : Bool) (iac : List ℕ) (queue : List Command) (quit : Bool) → a.lost ≡ false → a.done ≡ false
     → (full : Bool) → full ≡ false → full ≡ (length a.queue == 32) → length a.queue ≤ 32
     → ((delivered : List ℕ) → IsOpen a.line a.over a.iac delivered → IsOpen kept over iac (delivered ++ byte ∷ []))
-    → ((delivered : List ℕ) → IsOpen a.line a.over a.iac delivered → c ∷ [] ≡ commands (line_after [] (tokens Text delivered)) (told (awaits_after Text delivered) byte))
+    → ((delivered : List ℕ) → IsOpen a.line a.over a.iac delivered → c ∷ [] ≡ commands (line_after [] (tokens Text delivered)) (tokens_at (awaits_after Text delivered) byte))
     → queue ≡ a.queue ++ c ∷ [] → quit ≡ is_quit c
     → ShellRepresents a p → ShellRepresents (record a { line = kept; over = over; iac = iac; queue = queue; done = quit }) (hear_byte p byte)
 hear_command a p byte c kept over iac queue quit lost done full is count room goes decodes pushed quits_is s =

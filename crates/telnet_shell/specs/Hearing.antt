@@ -2,8 +2,8 @@
 use Rattle.std.specs.Prelude.{◌≡◌, ℕ, ◌==◌, Bool, List, [], ◌∷◌, length, take, nat_lt, slice_index, if◌then◌else◌, Option, None, Some}
 use Rattle.telnet_shell.specs.declared.TheConstants.{LONGEST_LINE}
 use Rattle.telnet_shell.specs.declared.command.Command.{Command}
-use Rattle.telnet_shell.specs.declared.hearing.Told.{Told}
-use Rattle.telnet_shell.specs.declared.hearing.Told.TheVariants as told
+use Rattle.telnet_shell.specs.declared.hearing.Reported.{Reported}
+use Rattle.telnet_shell.specs.declared.hearing.Reported.TheVariants as reported
 use Rattle.telnet_shell.specs.Reading.{Awaits, Token, tokens, awaits_after, line_after}
 use Rattle.telnet_shell.specs.Reading.Awaits.{Text, Second, Choice}
 use Rattle.telnet_shell.specs.Reading.Token.{Byte, Answer}
@@ -15,10 +15,10 @@ awaited iac =
     else if slice_index iac 1 == 0 then Second
     else Choice (slice_index iac 1)
 
-abbrev pub tokens_of : Told → List Token
-tokens_of told.Nothing = []
-tokens_of (told.Byte byte) = Byte byte ∷ []
-tokens_of (told.Answer command) = Answer command ∷ []
+abbrev pub tokens_of : Reported → List Token
+tokens_of reported.Nothing = []
+tokens_of (reported.Byte byte) = Byte byte ∷ []
+tokens_of (reported.Answer command) = Answer command ∷ []
 
 abbrev pub command_in : Option Command → List Command
 command_in None = []

@@ -30,14 +30,14 @@ refusal verb option =
     else []
 
 -- the tokens of a byte in its role
-abbrev pub told : Awaits → ℕ → List Token
-told Text byte = if byte == IAC then [] else Byte byte ∷ []
-told Second byte = if byte == IAC then Byte IAC ∷ [] else []
-told (Choice verb) byte = refusal verb byte
+abbrev pub tokens_at : Awaits → ℕ → List Token
+tokens_at Text byte = if byte == IAC then [] else Byte byte ∷ []
+tokens_at Second byte = if byte == IAC then Byte IAC ∷ [] else []
+tokens_at (Choice verb) byte = refusal verb byte
 
 abbrev pub tokens : Awaits → List ℕ → List Token
 tokens awaits [] = []
-tokens awaits (byte ∷ more) = told awaits byte ++ tokens (next_awaits awaits byte) more
+tokens awaits (byte ∷ more) = tokens_at awaits byte ++ tokens (next_awaits awaits byte) more
 
 -- the role of the byte after these
 abbrev pub awaits_after : Awaits → List ℕ → Awaits

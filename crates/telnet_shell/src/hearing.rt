@@ -1,7 +1,7 @@
 //! Reads what is received, byte by byte.
 
 ghost use Rattle.std.specs.Prelude.{◌≡◌, ◌++◌, ◌∷◌, [], ℕ, List};
-ghost use Rattle.telnet_shell.specs.Reading.{command_of, commands, line_after, next_awaits, refusal, told, tokens, awaits_after};
+ghost use Rattle.telnet_shell.specs.Reading.{command_of, commands, line_after, next_awaits, refusal, tokens_at, tokens, awaits_after};
 ghost use Rattle.telnet_shell.specs.Reading.Awaits.{Text};
 ghost use Rattle.telnet_shell.specs.Reading.Token.{Byte};
 ghost use Rattle.telnet_shell.specs.Hearing.{IsLine, IsOpen, awaited, command_in, tokens_of};
@@ -26,7 +26,7 @@ pub(crate) const WONT: u8 = 252;
 pub(crate) const DONT: u8 = 254;
 
 /// What a byte means.
-pub(crate) enum Told {
+pub(crate) enum Reported {
     Nothing,
     /// A byte of the text.
     Byte(u8),
@@ -35,20 +35,20 @@ pub(crate) enum Told {
 }
 
 /// Returns what a byte means after an open sequence.
-fn heard_as(iac: [u8; 2], byte: u8) -> Told
-    ensures { tokens_of result ≡ told (awaited iac) byte }
+fn heard_as(iac: [u8; 2], byte: u8) -> Reported
+    ensures { tokens_of result ≡ tokens_at (awaited iac) byte }
 {
     if iac[0] == 0 {
         if byte == IAC {
-            Told::Nothing
+            Reported::Nothing
         } else {
-            Told::Byte(byte)
+            Reported::Byte(byte)
         }
     } else if iac[1] == 0 {
         if byte == IAC {
-            Told::Byte(IAC)
+            Reported::Byte(IAC)
         } else {
-            Told::Nothing
+            Reported::Nothing
         }
     } else {
         refuse(iac[1], byte)
@@ -56,15 +56,15 @@ fn heard_as(iac: [u8; 2], byte: u8) -> Told
 }
 
 /// Returns the reply to an option.
-fn refuse(verb: u8, choice: u8) -> Told
+fn refuse(verb: u8, choice: u8) -> Reported
     ensures { tokens_of result ≡ refusal verb choice }
 {
     if verb == WILL {
-        Told::Answer(Command::Refuse(DONT, choice))
+        Reported::Answer(Command::Refuse(DONT, choice))
     } else if verb == DO {
-        Told::Answer(Command::Refuse(WONT, choice))
+        Reported::Answer(Command::Refuse(WONT, choice))
     } else {
-        Told::Nothing
+        Reported::Nothing
     }
 }
 
@@ -163,13 +163,13 @@ pub(crate) fn hear(
     ensures open { (delivered : List ℕ) → IsOpen kept.old.items over.old iac.old delivered
         → IsOpen kept.new.items over.new iac.new (delivered ++ byte ∷ []) }
     ensures command { (delivered : List ℕ) → IsOpen kept.old.items over.old iac.old delivered
-        → command_in result ≡ commands (line_after [] (tokens Text delivered)) (told (awaits_after Text delivered) byte) }
+        → command_in result ≡ commands (line_after [] (tokens Text delivered)) (tokens_at (awaits_after Text delivered) byte) }
 {
-    let told = heard_as(*iac, byte);
+    let reported = heard_as(*iac, byte);
     *iac = sequence_after(*iac, byte);
-    match told {
-        Told::Nothing => None,
-        Told::Answer(command) => Some(command),
-        Told::Byte(byte) => hear_text(kept, over, byte),
+    match reported {
+        Reported::Nothing => None,
+        Reported::Answer(command) => Some(command),
+        Reported::Byte(byte) => hear_text(kept, over, byte),
     }
 }

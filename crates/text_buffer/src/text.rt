@@ -66,12 +66,12 @@ impl<const ROOM: usize> Text<ROOM> {
     }
 
     /// Appends a piece if the flag is true.
-    pub fn put_if(&mut self, told: bool, piece: &[u8])
+    pub fn put_if(&mut self, is_shown: bool, piece: &[u8])
         requires room { length self.old + length piece.now ≤ ROOM }
-        ensures text { self.new ≡ self.old ++ word_if told piece.now }
+        ensures text { self.new ≡ self.old ++ word_if is_shown piece.now }
         ensures len { length self.new ≤ length self.old + length piece.now }
     {
-        if told {
+        if is_shown {
             self.put(piece);
         }
     }

@@ -1,7 +1,7 @@
 -- The frames of bytes that a decoder consumed, and what is written of them.
 use Rattle.trace.proofs.Prelude.{◌≡◌, ℕ, ◌+◌, List, [], ◌∷◌, ◌++◌, Option, Result, Ok, Err, IfErr, length, map, take, drop, refl, sym, ap, ◌∙◌, append-nil, arith, length-append, subst, length-map, map-append, take-append-drop, Appends, Rose, SinkView, BreaksOff, breaks_by, breaks_then, breaks_whole, Appends-none, Appends-then, appends_by, bytes_among-append, bytes_among-map, Item, Byte, Quiet, State, WasFed, Frame, frames, seen_at, seen_after, seen_on, silences_of, BrokeWatch, HasSeen, IsWatched, Saw, text_after, texts_from, Form, bytes_among}
 use Rattle.trace.specs.declared.watch.Watch.{Watch}
-use Rattle.trace.proofs.SeenLaws.{seen-told, seen_on-append, silences-append, silences-bytes, text-then}
+use Rattle.trace.proofs.SeenLaws.{seen-reported, seen_on-append, silences-append, silences-bytes, text-then}
 
 -- what holds of a failure, whichever it is
 pub if_err : {T E P : Type 0} (r : Result T E) → P → IfErr r (λ e. P)
@@ -9,33 +9,33 @@ if_err (Ok x) p = tt
 if_err (Err e) p = p
 
 -- what a decoder reports of these bytes, whatever it was fed before
-abbrev pub Told : State → State → List ℕ → List Frame → Type 0
-Told decoder decoder' bytes told = (fed : List ℕ) → WasFed fed decoder → WasFed (fed ++ bytes) decoder' × (frames (fed ++ bytes) ≡ frames fed ++ told)
+abbrev pub Reported : State → State → List ℕ → List Frame → Type 0
+Reported decoder decoder' bytes reported = (fed : List ℕ) → WasFed fed decoder → WasFed (fed ++ bytes) decoder' × (frames (fed ++ bytes) ≡ frames fed ++ reported)
 
-module _ (decoder decoder' : State) (count silences : ℕ) (bytes : List ℕ) (told : List Frame) (fed : Told decoder decoder' bytes told) where
+module _ (decoder decoder' : State) (count silences : ℕ) (bytes : List ℕ) (reported : List Frame) (fed : Reported decoder decoder' bytes reported) where
   brought : (before : List Item) → HasSeen before decoder count silences
-      → seen_after (bytes_among before) (silences_of before) (map Byte bytes) ≡ map (seen_at silences) told
+      → seen_after (bytes_among before) (silences_of before) (map Byte bytes) ≡ map (seen_at silences) reported
   brought before h =
-      seen-told (bytes_among before) (silences_of before) bytes told (fed (bytes_among before) h.fed).1
-      ∙ ap (λ n. map (seen_at n) told) (sym h.waited)
+      seen-reported (bytes_among before) (silences_of before) bytes reported (fed (bytes_among before) h.fed).1
+      ∙ ap (λ n. map (seen_at n) reported) (sym h.waited)
 
-  pub prefix_seen : (before : List Item) → HasSeen before decoder count silences → HasSeen (before ++ map Byte bytes) decoder' (count + length told) silences
+  pub prefix_seen : (before : List Item) → HasSeen before decoder count silences → HasSeen (before ++ map Byte bytes) decoder' (count + length reported) silences
   prefix_seen before h =
       let line : bytes_among (before ++ map Byte bytes) ≡ bytes_among before ++ bytes =
       bytes_among-append before (map Byte bytes) ∙ ap (λ l. bytes_among before ++ l) (bytes_among-map bytes) in
-      let same : length (map (seen_at silences) told) ≡ length told = rw length-map refl in
+      let same : length (map (seen_at silences) reported) ≡ length reported = rw length-map refl in
       let size = ap (λ l. length l) (seen_on-append before (map Byte bytes) ∙ ap (λ l. seen_on before ++ l) (brought before h)) in
       record {
         fed = subst (λ (l : List ℕ). WasFed l decoder') (sym line) (fed (bytes_among before) h.fed).0;
-        numbered = omega (arith, size, h.numbered, length-append (seen_on before) (map (seen_at silences) told), same);
+        numbered = omega (arith, size, h.numbered, length-append (seen_on before) (map (seen_at silences) reported), same);
         waited = omega (arith, h.waited, silences-append before (map Byte bytes), silences-bytes bytes);
       }
 
   pub prefix_text : (form : Form) (before : List Item) → HasSeen before decoder count silences
-      → text_after form before (map Byte bytes) ≡ texts_from form (count + 1) (map (seen_at silences) told)
+      → text_after form before (map Byte bytes) ≡ texts_from form (count + 1) (map (seen_at silences) reported)
   prefix_text form before h =
       ap (λ l. texts_from form (length (seen_on before) + 1) l) (brought before h)
-      ∙ ap (λ n. texts_from form (n + 1) (map (seen_at silences) told)) (sym h.numbered)
+      ∙ ap (λ n. texts_from form (n + 1) (map (seen_at silences) reported)) (sym h.numbered)
 
 -- what broke off in the text of bytes broke off in the text of more bytes
 pub broke_in_more : (form : Form) (before : List Item) (n : ℕ) (bytes : List ℕ) (a b : Option (List ℕ))
@@ -48,13 +48,13 @@ broke_in_more form before n bytes a b p =
     (ap (λ l. text_after form before l) whole ∙ text-then form before first rest) p
 
 -- what was written of a frame broke off
-pub prefix_broke : (decoder decoder' : State) (count silences n : ℕ) (bytes : List ℕ) (told : List Frame) → Told decoder decoder' (take n bytes) told
-    → (form : Form) (area : List ℕ) (a b : Option (List ℕ)) → area ≡ texts_from form (count + 1) (map (seen_at silences) told) → BreaksOff [] area a b
+pub prefix_broke : (decoder decoder' : State) (count silences n : ℕ) (bytes : List ℕ) (reported : List Frame) → Reported decoder decoder' (take n bytes) reported
+    → (form : Form) (area : List ℕ) (a b : Option (List ℕ)) → area ≡ texts_from form (count + 1) (map (seen_at silences) reported) → BreaksOff [] area a b
     → (before : List Item) → HasSeen before decoder count silences → BreaksOff [] (text_after form before (map Byte bytes)) a b
-prefix_broke decoder decoder' count silences n bytes told fed form area a b e p = λ before h.
+prefix_broke decoder decoder' count silences n bytes reported fed form area a b e p = λ before h.
     broke_in_more form before n bytes a b
     (breaks_by [] [] (text_after form before (map Byte (take n bytes))) area a b refl
-    (prefix_text decoder decoder' count silences (take n bytes) told fed form before h ∙ sym e) p)
+    (prefix_text decoder decoder' count silences (take n bytes) reported fed form before h ∙ sym e) p)
 
 -- a silence brings no frame
 pub silence_seen : (before : List Item) (decoder : State) (count silences : ℕ) → HasSeen before decoder count silences

@@ -17,7 +17,7 @@ pub use Rattle.trace.specs.declared.slip_end.CaptureWhy.{CaptureWhy}
 pub use Rattle.trace.specs.declared.slip_end.SlipEnd.{SlipEnd}
 pub use Rattle.trace.specs.declared.stage.Stage.{Stage}
 pub use Rattle.uip_edge.proofs.Breaking.{breaks_by, breaks_prefix, breaks_then, breaks_whole}
-pub use Rattle.uip_edge.proofs.Told.{Appends-none, Appends-then, Consumes-none, Consumes-then, appends_by, bytes_among-append, bytes_among-map, moved_on, on_err, prefix_by, prefix_more, prefix_then, taken_within}
+pub use Rattle.uip_edge.proofs.Reported.{Appends-none, Appends-then, Consumes-none, Consumes-then, appends_by, bytes_among-append, bytes_among-map, moved_on, on_err, prefix_by, prefix_more, prefix_then, taken_within}
 pub use Rattle.uip_edge.specs.Prelude.{AppendsPrefix, BreaksOff, Consumes, EndsBy, IsCalm, LineUnfailed, LineView, Rose, SinkView, TookAll, WrittenBy, bytes_among, line_view, sink_view}
 pub use Rattle.uip_edge.specs.declared.item.Item.{Item}
 pub use Rattle.uip_edge.specs.declared.item.Item.TheVariants.{Byte, Quiet}

@@ -33,40 +33,40 @@ same_bad o one other p q = ap bad_end (same_fault o one other p q)
 
 -- the answer that must come where nothing failed
 module _ (n : ℕ) (old new : LineView) (taken : List Item) (reading : Reading) (calm : LineUnfailed old new) where
-  told_bad : (end : SlipEnd) → SlipEndsBy n old new taken reading end → (number : ℕ) (why : CaptureWhy) → fault_in reading ≡ Some (number, why) → end ≡ ends.Bad number why
-  told_bad ends.End by number why f = absurd (none_is_not _ by.1 f)
-  told_bad ends.Budget by number why f = absurd (none_is_not _ by.1 f)
-  told_bad ends.LinkFault by number why f = absurd (none_is_not _ by.1 f)
-  told_bad ends.WriteFault by number why f = absurd (omega (arith, by.2, calm.sink, calm.sink.below))
-  told_bad (ends.Bad m whys.Cut) by number why f = absurd (none_is_not _ by.1 f)
-  told_bad (ends.Bad m whys.Head) by number why f = same_bad _ (m, whys.Head) (number, why) by.2 f
-  told_bad (ends.Bad m whys.Length) by number why f = same_bad _ (m, whys.Length) (number, why) by.2 f
+  reported_bad : (end : SlipEnd) → SlipEndsBy n old new taken reading end → (number : ℕ) (why : CaptureWhy) → fault_in reading ≡ Some (number, why) → end ≡ ends.Bad number why
+  reported_bad ends.End by number why f = absurd (none_is_not _ by.1 f)
+  reported_bad ends.Budget by number why f = absurd (none_is_not _ by.1 f)
+  reported_bad ends.LinkFault by number why f = absurd (none_is_not _ by.1 f)
+  reported_bad ends.WriteFault by number why f = absurd (omega (arith, by.2, calm.sink, calm.sink.below))
+  reported_bad (ends.Bad m whys.Cut) by number why f = absurd (none_is_not _ by.1 f)
+  reported_bad (ends.Bad m whys.Head) by number why f = same_bad _ (m, whys.Head) (number, why) by.2 f
+  reported_bad (ends.Bad m whys.Length) by number why f = same_bad _ (m, whys.Length) (number, why) by.2 f
 
-  told_budget : (end : SlipEnd) → SlipEndsBy n old new taken reading end → fault_in reading ≡ None → length taken ≡ n → end ≡ ends.Budget
-  told_budget ends.End by none all = absurd (omega (arith, by.0.1))
-  told_budget ends.Budget by none all = refl
-  told_budget ends.LinkFault by none all = absurd (omega (arith, by.0.0))
-  told_budget ends.WriteFault by none all = absurd (omega (arith, by.2, calm.sink, calm.sink.below))
-  told_budget (ends.Bad m whys.Cut) by none all = absurd (omega (arith, by.0.1))
-  told_budget (ends.Bad m whys.Head) by none all = absurd (none_is_not _ none by.2)
-  told_budget (ends.Bad m whys.Length) by none all = absurd (none_is_not _ none by.2)
+  reported_budget : (end : SlipEnd) → SlipEndsBy n old new taken reading end → fault_in reading ≡ None → length taken ≡ n → end ≡ ends.Budget
+  reported_budget ends.End by none all = absurd (omega (arith, by.0.1))
+  reported_budget ends.Budget by none all = refl
+  reported_budget ends.LinkFault by none all = absurd (omega (arith, by.0.0))
+  reported_budget ends.WriteFault by none all = absurd (omega (arith, by.2, calm.sink, calm.sink.below))
+  reported_budget (ends.Bad m whys.Cut) by none all = absurd (omega (arith, by.0.1))
+  reported_budget (ends.Bad m whys.Head) by none all = absurd (none_is_not _ none by.2)
+  reported_budget (ends.Bad m whys.Length) by none all = absurd (none_is_not _ none by.2)
 
-  told_over : (end : SlipEnd) → SlipEndsBy n old new taken reading end → (all : List Item) → fault_in reading ≡ None → old.link.coming ≡ Some all → length all < n
+  reported_over : (end : SlipEnd) → SlipEndsBy n old new taken reading end → (all : List Item) → fault_in reading ≡ None → old.link.coming ≡ Some all → length all < n
       → Consumes old.link.coming new.link.coming taken → end ≡ end_by_cut (cut_in reading)
-  told_over ends.End by all none told short c = ap (λ o. end_by_cut o) (sym by.2)
-  told_over ends.Budget by all none told short c = absurd (omega (arith, taken_within old.link.coming new.link.coming all taken told c, by.0.0))
-  told_over ends.LinkFault by all none told short c = absurd (omega (arith, by.0.1, calm.link, calm.link.below))
-  told_over ends.WriteFault by all none told short c = absurd (omega (arith, by.2, calm.sink, calm.sink.below))
-  told_over (ends.Bad m whys.Cut) by all none told short c = ap (λ o. end_by_cut o) (sym by.2)
-  told_over (ends.Bad m whys.Head) by all none told short c = absurd (none_is_not _ none by.2)
-  told_over (ends.Bad m whys.Length) by all none told short c = absurd (none_is_not _ none by.2)
+  reported_over ends.End by all none reported short c = ap (λ o. end_by_cut o) (sym by.2)
+  reported_over ends.Budget by all none reported short c = absurd (omega (arith, taken_within old.link.coming new.link.coming all taken reported c, by.0.0))
+  reported_over ends.LinkFault by all none reported short c = absurd (omega (arith, by.0.1, calm.link, calm.link.below))
+  reported_over ends.WriteFault by all none reported short c = absurd (omega (arith, by.2, calm.sink, calm.sink.below))
+  reported_over (ends.Bad m whys.Cut) by all none reported short c = ap (λ o. end_by_cut o) (sym by.2)
+  reported_over (ends.Bad m whys.Head) by all none reported short c = absurd (none_is_not _ none by.2)
+  reported_over (ends.Bad m whys.Length) by all none reported short c = absurd (none_is_not _ none by.2)
 
 pub surely : (n : ℕ) (old new : LineView) (taken : List Item) (reading : Reading) (end : SlipEnd) → SlipEndsBy n old new taken reading end
     → LineUnfailed old new → IsSurely n old new taken reading end
 surely n old new taken reading end by calm = record {
-  bad = told_bad n old new taken reading calm end by;
-  budget = told_budget n old new taken reading calm end by;
-  over = told_over n old new taken reading calm end by;
+  bad = reported_bad n old new taken reading calm end by;
+  budget = reported_budget n old new taken reading calm end by;
+  over = reported_over n old new taken reading calm end by;
 }
 
 -- a datagram of a line has from 1 to 1500 bytes
@@ -209,21 +209,21 @@ fault_stays bytes more (BadLength records) fault read e =
     )
 
 -- the content of a line that holds just these bytes
-told_rest : (old new : Option (List Item)) (text : List ℕ) (taken : List Item) → old ≡ Some (map Byte text) → Consumes old new taken
+reported_rest : (old new : Option (List Item)) (text : List ℕ) (taken : List Item) → old ≡ Some (map Byte text) → Consumes old new taken
     → (left : List Item) × (text ≡ bytes_among taken ++ bytes_among left)
-told_rest None new text taken e c = absurd cc
-told_rest (Some all) None text taken e c = absurd c
-told_rest (Some all) (Some left) text taken e c =
+reported_rest None new text taken e c = absurd cc
+reported_rest (Some all) None text taken e c = absurd c
+reported_rest (Some all) (Some left) text taken e c =
     let same : all ≡ map Byte text = cc in
     (left, sym (bytes_among-map text) ∙ ap (λ l. bytes_among l) (sym same ∙ c) ∙ bytes_among-append taken left)
 
-told_all : (old : Option (List Item)) (text : List ℕ) (taken : List Item) → old ≡ Some (map Byte text) → TookAll old taken → bytes_among taken ≡ text
-told_all None text taken e t = absurd cc
-told_all (Some all) text taken e t =
+reported_all : (old : Option (List Item)) (text : List ℕ) (taken : List Item) → old ≡ Some (map Byte text) → TookAll old taken → bytes_among taken ≡ text
+reported_all None text taken e t = absurd cc
+reported_all (Some all) text taken e t =
     let same : all ≡ map Byte text = cc in
     ap (λ l. bytes_among l) (sym t ∙ same) ∙ bytes_among-map text
 
-module _ (items : List Item) (n : ℕ) (old new : LineView) (told : old.link.coming ≡ Some (map Byte (capture_file items))) (short : length (capture_file items) < n)
+module _ (items : List Item) (n : ℕ) (old new : LineView) (reported : old.link.coming ≡ Some (map Byte (capture_file items))) (short : length (capture_file items) < n)
     (calm : LineUnfailed old new) where
   abbrev Back : SlipEnd → Type 0
   Back end = (end ≡ ends.End) × Appends old.sink.written new.sink.written (flat_map slip_text (datagrams_on items))
@@ -234,12 +234,12 @@ module _ (items : List Item) (n : ℕ) (old new : LineView) (told : old.link.com
   read_all : (reading : Reading) (taken : List Item) → IsReadAs (bytes_among taken) reading → TookAll old.link.coming taken → reading ≡ Whole (records items)
   read_all reading taken read all =
       one_reading (capture_file items) reading (Whole (records items))
-      (subst (λ (l : List ℕ). IsReadAs l reading) (told_all old.link.coming (capture_file items) taken told all) read) (read_whole items)
+      (subst (λ (l : List ℕ). IsReadAs l reading) (reported_all old.link.coming (capture_file items) taken reported all) read) (read_whole items)
 
   no_fault : (reading : Reading) (taken : List Item) (fault : ℕ × CaptureWhy) → IsReadAs (bytes_among taken) reading → Consumes old.link.coming new.link.coming taken
       → fault_in reading ≡ Some fault → ⊥
   no_fault reading taken fault read c e =
-      let rest = told_rest old.link.coming new.link.coming (capture_file items) taken told c in
+      let rest = reported_rest old.link.coming new.link.coming (capture_file items) taken reported c in
       let same : reading ≡ Whole (records items) =
       one_reading (capture_file items) reading (Whole (records items))
       (subst (λ (l : List ℕ). IsReadAs l reading) (sym rest.1) (fault_stays (bytes_among taken) (bytes_among rest.0) reading fault read e)) (read_whole items) in
@@ -250,7 +250,7 @@ module _ (items : List Item) (n : ℕ) (old new : LineView) (told : old.link.com
       let same = read_all c.reading c.taken c.read c.ends.0.0 in
       (refl, appends_by _ _ _ _ (sym (ap (λ r. lines_of (captured_in r)) same ∙ line_is items)) c.wrote)
   back ends.Budget c =
-      absurd (omega (arith, taken_within old.link.coming new.link.coming (map Byte (capture_file items)) c.taken told c.consumed, c.ends.0.0, whole_size))
+      absurd (omega (arith, taken_within old.link.coming new.link.coming (map Byte (capture_file items)) c.taken reported c.consumed, c.ends.0.0, whole_size))
   back ends.LinkFault c = absurd (omega (arith, c.ends.0.1, calm.link, calm.link.below))
   back ends.WriteFault c = absurd (omega (arith, c.ends.2, calm.sink, calm.sink.below))
   back (ends.Bad m whys.Cut) c =
@@ -261,4 +261,4 @@ module _ (items : List Item) (n : ℕ) (old new : LineView) (told : old.link.com
 pub comes_back : (items : List Item) (n : ℕ) (old new : LineView) (end : SlipEnd) → old.link.coming ≡ Some (map Byte (capture_file items))
     → length (capture_file items) < n → Converts n old new end → LineUnfailed old new
     → (end ≡ ends.End) × Appends old.sink.written new.sink.written (flat_map slip_text (datagrams_on items))
-comes_back items n old new end told short c calm = back items n old new told short calm end c
+comes_back items n old new end reported short c calm = back items n old new reported short calm end c

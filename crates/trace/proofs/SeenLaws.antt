@@ -1,6 +1,6 @@
 -- The frames that items complete after others, and what is written of them.
 use Rattle.trace.proofs.Prelude.{◌≡◌, ℕ, ◌+◌, List, [], ◌∷◌, ◌++◌, length, map, refl, sym, ap, ◌∙◌, append-nil, append_assoc, arith, length-append, enumerate_from, flat_map, map-append, flat_map-append, Item, Byte, Quiet, Frame, completed, frames, Seen, seen_at, seen_after, seen_on, silences_of, frame_text, text_after, texts_from, Form, bytes_among, bytes_among-append}
-use Rattle.uip_slip.proofs.FrameLaws.{completed_by, completed_told, frames-then}
+use Rattle.uip_slip.proofs.FrameLaws.{completed_by, completed_reported, frames-then}
 
 -- bytes bring the frames that they complete
 seen-bytes : (before : List ℕ) (silences : ℕ) (bytes : List ℕ) → seen_after before silences (map Byte bytes) ≡ map (seen_at silences) (completed_by before bytes)
@@ -10,15 +10,15 @@ seen-bytes before silences (b ∷ bytes) =
     ∙ sym (map-append (seen_at silences) (completed before b) (completed_by (before ++ b ∷ []) bytes))
 
 -- and these are what a decoder reports
-pub seen-told : (before : List ℕ) (silences : ℕ) (bytes : List ℕ) (told : List Frame) → frames (before ++ bytes) ≡ frames before ++ told
-    → seen_after before silences (map Byte bytes) ≡ map (seen_at silences) told
-seen-told before silences bytes told e =
+pub seen-reported : (before : List ℕ) (silences : ℕ) (bytes : List ℕ) (reported : List Frame) → frames (before ++ bytes) ≡ frames before ++ reported
+    → seen_after before silences (map Byte bytes) ≡ map (seen_at silences) reported
+seen-reported before silences bytes reported e =
     seen-bytes before silences bytes
-    ∙ ap (λ l. map (seen_at silences) l) (completed_told before bytes told e)
+    ∙ ap (λ l. map (seen_at silences) l) (completed_reported before bytes reported e)
 
-frames_seen_at : (silences : ℕ) (told : List Frame) → map (λ seen. seen.frame) (map (seen_at silences) told) ≡ told
+frames_seen_at : (silences : ℕ) (reported : List Frame) → map (λ seen. seen.frame) (map (seen_at silences) reported) ≡ reported
 frames_seen_at silences [] = refl
-frames_seen_at silences (frame ∷ told) = ap (λ l. frame ∷ l) (frames_seen_at silences told)
+frames_seen_at silences (frame ∷ reported) = ap (λ l. frame ∷ l) (frames_seen_at silences reported)
 
 abbrev pub frame_in : Seen → Frame
 frame_in seen = seen.frame

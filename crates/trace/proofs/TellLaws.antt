@@ -10,9 +10,9 @@ written_by a b text ends.LinkFault w = w
 written_by a b text ends.WriteFault w = (text, [], sym (append-nil text), w)
 
 -- the same text under another name
-pub told_by_name : (text text' : List Item → List ℕ) (n : ℕ) (old new : LineView) (end : ServeEnd) → ((items : List Item) → text' items ≡ text items)
+pub reported_by_name : (text text' : List Item → List ℕ) (n : ℕ) (old new : LineView) (end : ServeEnd) → ((items : List Item) → text' items ≡ text items)
     → ReportsLine text n old new end → ReportsLine text' n old new end
-told_by_name text text' n old new end same t =
+reported_by_name text text' n old new end same t =
     record {
       taken = t.taken;
       consumed = t.consumed;

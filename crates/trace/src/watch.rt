@@ -93,7 +93,7 @@ impl Watch {
     fn put_datagram(&mut self, count: usize)
         requires frames { self.old.frames + 1 < 2 ^ 64 }
         requires empty { self.old.area ≡ [] }
-        requires told { self.old.decoder.told ≡ true }
+        requires reported { self.old.decoder.reported ≡ true }
         requires count { count ≡ length self.old.decoder.bytes }
         requires most { count ≤ LARGEST_DATAGRAM }
         ensures { self.new ≡ record self.old {

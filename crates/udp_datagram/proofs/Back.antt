@@ -61,15 +61,15 @@ module _ (from to : ℕ) (a b c d e f g h : ℕ) (payload : List ℕ) where
       let u : List ℕ = udp_with (udp_sum way payload) way payload in
       let n = 8 + length payload in
       let long : length u ≡ n = omega arith in
-      let told : word_at u 4 ≡ n = same_word n in
-      let whole : take (word_at u 4) u ≡ u = take_all (word_at u 4) u (omega (arith, told, long)) in
+      let reported : word_at u 4 ≡ n = same_word n in
+      let whole : take (word_at u 4) u ≡ u = take_all (word_at u 4) u (omega (arith, reported, long)) in
       let zero : checksum_of (udp_pseudo_header way (word_at u 4) ++ take (word_at u 4) u) ≡ 0 =
-      ap (λ l. checksum_of (udp_pseudo_header way (word_at u 4) ++ l)) whole ∙ ap (λ m. checksum_of (udp_pseudo_header way m ++ u)) told ∙ sound in
+      ap (λ l. checksum_of (udp_pseudo_header way (word_at u 4) ++ l)) whole ∙ ap (λ m. checksum_of (udp_pseudo_header way m ++ u)) reported ∙ sound in
       passes _ _ _ _ (not_less (length u) 8 (omega arith))
       (passes _ _ _ _ (neither _ _ (equal (word_at u 0) from (same_word from)) (equal (word_at u 2) to (same_word to)))
-      (passes _ _ _ _ (neither _ _ (not_less (word_at u 4) 8 (omega (arith, told))) (not_less (length u) (word_at u 4) (omega (arith, told, long))))
+      (passes _ _ _ _ (neither _ _ (not_less (word_at u 4) 8 (omega (arith, reported))) (not_less (length u) (word_at u 4) (omega (arith, reported, long))))
       (passes _ _ _ _ (both_false _ _ (equal (checksum_of (udp_pseudo_header way (word_at u 4) ++ take (word_at u 4) u)) 0 zero))
-      (ap (λ m. Some (slice_range u 8 m)) told ∙ ap (λ m. Some (take m payload)) (rest_of (length payload)) ∙ ap Some (take-length payload)))))
+      (ap (λ m. Some (slice_range u 8 m)) reported ∙ ap (λ m. Some (take m payload)) (rest_of (length payload)) ∙ ap Some (take-length payload)))))
 
   -- the datagram
   abbrev sent : ℕ → List ℕ

@@ -10,30 +10,30 @@ no_link asked n old new taken f calm = omega (arith, f.rose, calm.line.link.same
 
 no_write : (asked : List Question) (n : ℕ) (old new : Streams) (taken : List Item) → OutFailed asked old new taken ⊎ TellFailed asked n old new taken → StreamsUnfailed old new → ⊥
 no_write asked n old new taken (inl f) calm = omega (arith, f.out.rose, calm.line.sink.same, calm.line.sink.below)
-no_write asked n old new taken (inr f) calm = omega (arith, f.told.rose, calm.tell.same, calm.tell.below)
+no_write asked n old new taken (inr f) calm = omega (arith, f.reported.rose, calm.tell.same, calm.tell.below)
 
-pub settled_told : (asked : List Question) (n : ℕ) (old new : Streams) (taken : List Item) (end : ServeEnd) → ResolvesBy asked n old new taken end
+pub settled_reported : (asked : List Question) (n : ℕ) (old new : Streams) (taken : List Item) (end : ServeEnd) → ResolvesBy asked n old new taken end
     → StreamsUnfailed old new → IsSettled asked taken → end ≡ ends.End
-settled_told asked n old new taken ends.End e calm s = refl
-settled_told asked n old new taken ends.Budget e calm s = absurd (clash (sym s ∙ e.done.0))
-settled_told asked n old new taken ends.LinkFault e calm s = absurd (no_link asked n old new taken e calm)
-settled_told asked n old new taken ends.WriteFault e calm s = absurd (no_write asked n old new taken e calm)
+settled_reported asked n old new taken ends.End e calm s = refl
+settled_reported asked n old new taken ends.Budget e calm s = absurd (clash (sym s ∙ e.done.0))
+settled_reported asked n old new taken ends.LinkFault e calm s = absurd (no_link asked n old new taken e calm)
+settled_reported asked n old new taken ends.WriteFault e calm s = absurd (no_write asked n old new taken e calm)
 
-pub dry_told : (asked : List Question) (n : ℕ) (old new : Streams) (all taken : List Item) (end : ServeEnd) → ResolvesBy asked n old new taken end
+pub dry_reported : (asked : List Question) (n : ℕ) (old new : Streams) (all taken : List Item) (end : ServeEnd) → ResolvesBy asked n old new taken end
     → StreamsUnfailed old new → old.line.link.coming ≡ Some all → length all < n → Consumes old.line.link.coming new.line.link.coming taken → end ≡ ends.End
-dry_told asked n old new all taken ends.End e calm told short c = refl
-dry_told asked n old new all taken ends.Budget e calm told short c =
-    absurd (omega (arith, e.done.1, short, taken_within old.line.link.coming new.line.link.coming all taken told c))
-dry_told asked n old new all taken ends.LinkFault e calm told short c = absurd (no_link asked n old new taken e calm)
-dry_told asked n old new all taken ends.WriteFault e calm told short c = absurd (no_write asked n old new taken e calm)
+dry_reported asked n old new all taken ends.End e calm reported short c = refl
+dry_reported asked n old new all taken ends.Budget e calm reported short c =
+    absurd (omega (arith, e.done.1, short, taken_within old.line.link.coming new.line.link.coming all taken reported c))
+dry_reported asked n old new all taken ends.LinkFault e calm reported short c = absurd (no_link asked n old new taken e calm)
+dry_reported asked n old new all taken ends.WriteFault e calm reported short c = absurd (no_write asked n old new taken e calm)
 
 not_done : (asked : List Question) (n : ℕ) (coming : Option (List Item)) (taken : List Item) → IsDone asked n coming taken ends.End → IsOpen asked taken → length taken ≡ n → ⊥
 not_done asked n coming taken (inl settled) is_open all = clash (sym settled ∙ is_open)
 not_done asked n coming taken (inr dry) is_open all = omega (arith, dry.2, all)
 
-pub budget_told : (asked : List Question) (n : ℕ) (old new : Streams) (taken : List Item) (end : ServeEnd) → ResolvesBy asked n old new taken end
+pub budget_reported : (asked : List Question) (n : ℕ) (old new : Streams) (taken : List Item) (end : ServeEnd) → ResolvesBy asked n old new taken end
     → StreamsUnfailed old new → IsOpen asked taken → length taken ≡ n → end ≡ ends.Budget
-budget_told asked n old new taken ends.End e calm is_open all = absurd (not_done asked n old.line.link.coming taken e.done is_open all)
-budget_told asked n old new taken ends.Budget e calm is_open all = refl
-budget_told asked n old new taken ends.LinkFault e calm is_open all = absurd (no_link asked n old new taken e calm)
-budget_told asked n old new taken ends.WriteFault e calm is_open all = absurd (no_write asked n old new taken e calm)
+budget_reported asked n old new taken ends.End e calm is_open all = absurd (not_done asked n old.line.link.coming taken e.done is_open all)
+budget_reported asked n old new taken ends.Budget e calm is_open all = refl
+budget_reported asked n old new taken ends.LinkFault e calm is_open all = absurd (no_link asked n old new taken e calm)
+budget_reported asked n old new taken ends.WriteFault e calm is_open all = absurd (no_write asked n old new taken e calm)

@@ -120,16 +120,16 @@ one_open : (a : Option Answer) (any all : Bool) → any ≡ not all → (is_none
 one_open None any all e = refl
 one_open (Some a) any all e = e
 
-any_told : (f : Question → Option Answer) (asked : List Question)
+any_reported : (f : Question → Option Answer) (asked : List Question)
     → list_any is_none (map f asked) ≡ not (list_all (λ q. is_settled (fate_by (f q) false)) asked)
-any_told f [] = refl
-any_told f (q ∷ asked) = one_open (f q) (list_any is_none (map f asked)) _ (any_told f asked)
+any_reported f [] = refl
+any_reported f (q ∷ asked) = one_open (f q) (list_any is_none (map f asked)) _ (any_reported f asked)
 
 -- a question is open where none is given up and one has no answer
-pub open_told : (is_over : Bool) (f : Question → Option Answer) (asked : List Question)
+pub open_reported : (is_over : Bool) (f : Question → Option Answer) (asked : List Question)
     → (not is_over && list_any is_none (map f asked)) ≡ not (list_all (λ q. is_settled (fate_by (f q) is_over)) asked)
-open_told true f asked = sym (ap not (all_over f asked))
-open_told false f asked = any_told f asked
+open_reported true f asked = sym (ap not (all_over f asked))
+open_reported false f asked = any_reported f asked
 
 -- nothing is given up while a question is open
 pub not_given_up : (happened : List LineEvent) (asked : List Question) → all_settled asked happened ≡ false → is_given_up happened ≡ false

@@ -1,5 +1,5 @@
 -- The events of further items.
-use Rattle.udp_resolver.proofs.Prelude.{◌≡◌, ℕ, true, false, eqb, leb, if◌then◌else◌, List, [], ◌∷◌, ◌++◌, length, map, refl, sym, ap, ◌∙◌, arith, append-nil, append_assoc, flat_map, Item, Byte, Quiet, Frame, Datagram, Overlong, completed, frame_of, frames, open_part, unescaped, completed_told, silences, Silence, by_frame, events, received_after, bytes_among}
+use Rattle.udp_resolver.proofs.Prelude.{◌≡◌, ℕ, true, false, eqb, leb, if◌then◌else◌, List, [], ◌∷◌, ◌++◌, length, map, refl, sym, ap, ◌∙◌, arith, append-nil, append_assoc, flat_map, Item, Byte, Quiet, Frame, Datagram, Overlong, completed, frame_of, frames, open_part, unescaped, completed_reported, silences, Silence, by_frame, events, received_after, bytes_among}
 use Rattle.udp_resolver.proofs.EventLaws.{silences-append}
 
 pub events-append : (before : List ℕ) (xs ys : List Item)
@@ -16,8 +16,8 @@ pub events_byte : (items : List Item) (b : ℕ) → events (items ++ Byte b ∷ 
 events_byte items b = events-append [] items (Byte b ∷ []) ∙ ap (λ l. events items ++ l) (append-nil (flat_map by_frame (completed (bytes_among items) b)))
 
 -- what a decoder reports of a byte is what the byte brings
-pub by_told : (before : List ℕ) (b : ℕ) (told : List Frame) → frames (before ++ b ∷ []) ≡ frames before ++ told → flat_map by_frame told ≡ flat_map by_frame (completed before b)
-by_told before b told e = ap (λ l. flat_map by_frame l) (sym (completed_told before (b ∷ []) told e) ∙ append-nil (completed before b))
+pub by_reported : (before : List ℕ) (b : ℕ) (reported : List Frame) → frames (before ++ b ∷ []) ≡ frames before ++ reported → flat_map by_frame reported ≡ flat_map by_frame (completed before b)
+by_reported before b reported e = ap (λ l. flat_map by_frame l) (sym (completed_reported before (b ∷ []) reported e) ∙ append-nil (completed before b))
 
 calm_frames : (bytes : List ℕ) → silences (flat_map by_frame (frame_of bytes)) ≡ 0
 calm_frames [] = refl

@@ -7,6 +7,6 @@ pub mod QueryLaws
 pub mod ResolveLaws
 pub mod RunLaws
 pub mod StepLaws
-pub mod ToldLaws
+pub mod ReportedLaws
 pub mod FromLineLaws
 mod Prelude

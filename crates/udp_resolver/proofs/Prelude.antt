@@ -29,7 +29,7 @@ pub use Rattle.udp_resolver.specs.declared.fate.Fate.{Fate}
 pub use Rattle.udp_resolver.specs.declared.fate.Fate.TheVariants.{Answered, Open, Timeout}
 pub use Rattle.udp_resolver.specs.declared.run.Run.{Run}
 pub use Rattle.uip_edge.proofs.Breaking.{breaks_prefix}
-pub use Rattle.uip_edge.proofs.Told.{Appends-none, Appends-then, Consumes-then, appends_by, bytes_among-append, none_more, on_err, prefix_by, prefix_then, taken_within, took_all}
+pub use Rattle.uip_edge.proofs.Reported.{Appends-none, Appends-then, Consumes-then, appends_by, bytes_among-append, none_more, on_err, prefix_by, prefix_then, taken_within, took_all}
 pub use Rattle.uip_edge.proofs.Turns.{calm_then, counted}
 pub use Rattle.uip_edge.proofs.Writes.{writes_broken, writes_by, writes_none}
 pub use Rattle.uip_edge.specs.Prelude.{AppendsPrefix, Consumes, IsCalm, LineView, Rose, SinkView, TurnsBy, bytes_among, line_view, sink_view}
@@ -37,7 +37,7 @@ pub use Rattle.uip_edge.specs.declared.item.Item.{Item}
 pub use Rattle.uip_edge.specs.declared.item.Item.TheVariants.{Byte, Quiet}
 pub use Rattle.uip_edge.specs.declared.serve_end.ServeEnd.{ServeEnd}
 pub use Rattle.uip_edge.specs.declared.turn.Turn.TheVariants.{Ended}
-pub use Rattle.uip_slip.proofs.FrameLaws.{completed_told, frames-byte}
+pub use Rattle.uip_slip.proofs.FrameLaws.{completed_reported, frames-byte}
 pub use Rattle.uip_slip.specs.Prelude.{Datagram, Frame, Overlong, State, WasFed, completed, frame_of, frames, open_part, reported_by, slip_text, unescaped}
 pub use Rattle.uip_slip.specs.declared.fed.Fed.{Fed}
 pub use Rattle.uip_wire.specs.Prelude.{word_at}

@@ -2,7 +2,7 @@
 use Rattle.udp_resolver.proofs.Prelude.{◌≡◌, ℕ, zero, suc, ◌+◌, ◌<◌, Bool, true, false, not, ◌&&◌, leb, if◌then◌else◌, List, [], ◌∷◌, ◌++◌, length, map, take, replicate, get_or, refl, sym, ap, ◌∙◌, arith, append-nil, append_assoc, subst, None, Option, Result, drop_all, map-append, take_more, take-length, flat_map, list_any, refill, is_none, IsAtAge, Answer, Asking, Item, Byte, Quiet, State, WasFed, reported_by, completed, Fed, last_ident, line_text, open_ones, queries, query_texts, Question, all_settled, answer_among, fate_of, is_given_up, next_asking, questions, silences, LineEvent, MediumInput, Silence, by_frame, events, received_after, line_of, lines, Adds, RunRepresents, WritesSome, IsClockAt, asked_next, heard_now, is_due, lines_by, unanswered, Clock, Run, bytes_among, SinkView, bytes_among-append}
 use Rattle.uip_slip.specs.declared.fed.Fed.TheVariants as fed
 use Rattle.udp_resolver.proofs.EventLaws.{silences-append}
-use Rattle.udp_resolver.proofs.FateLaws.{heard_map, map_silence, open_told, opens}
+use Rattle.udp_resolver.proofs.FateLaws.{heard_map, map_silence, open_reported, opens}
 use Rattle.udp_resolver.proofs.ItemLaws.{calm_bytes, events-append, events_byte}
 use Rattle.udp_resolver.proofs.QueryLaws.{queries_calm, queries_first, queries_silence}
 use Rattle.udp_resolver.proofs.StepLaws.{last_ident-append, query_texts-append}
@@ -132,7 +132,7 @@ pub open_by : (asked : List Question) (items : List Item) (run : Run) → RunRep
 open_by asked items run k =
     ap (λ b. not b && list_any is_none run.answers.items) k.at.given_up
     ∙ ap (λ l. not (is_given_up (events items)) && list_any is_none l) k.heard
-    ∙ open_told (is_given_up (events items)) (answer_among (events items)) asked
+    ∙ open_reported (is_given_up (events items)) (answer_among (events items)) asked
 
 -- at the start no question has an answer
 pub none_yet : (asked : List Question) (count : ℕ) → length asked ≡ count → ◌≡◌ {A = List (Option Answer)} (replicate count None) (map (answer_among []) asked)
@@ -142,10 +142,10 @@ none_yet (q ∷ asked) zero e = absurd (omega arith)
 none_yet (q ∷ asked) (suc count) e = ap (λ (l : List (Option Answer)). None ∷ l) (none_yet asked count (omega arith))
 
 -- what is reported of a byte brings nothing, unless it is a datagram
-pub told_none : (r : Fed) (s : State) → ((n : ℕ) → r ≡ fed.Datagram n → ⊥) → flat_map by_frame (reported_by r s) ≡ []
-told_none fed.More s h = refl
-told_none fed.Overlong s h = refl
-told_none (fed.Datagram n) s h = absurd (h n refl)
+pub reported_none : (r : Fed) (s : State) → ((n : ℕ) → r ≡ fed.Datagram n → ⊥) → flat_map by_frame (reported_by r s) ≡ []
+reported_none fed.More s h = refl
+reported_none fed.Overlong s h = refl
+reported_none (fed.Datagram n) s h = absurd (h n refl)
 
 -- one byte more of bytes
 pub byte_more : (items : List Item) (bytes : List ℕ) (i : ℕ) → i < length bytes
@@ -165,8 +165,8 @@ first_asked asked answers e =
     ap (λ l. unanswered asked l) e ∙ opens [] asked refl ∙ all_open asked ∙ sym (queries_first asked)
 
 -- the lines of the answers are the lines of the questions
-pub lines_told : (happened : List LineEvent) (asking : Asking) (names : List (List ℕ))
+pub lines_reported : (happened : List LineEvent) (asking : Asking) (names : List (List ℕ))
     → lines_by names (map (answer_among happened) (questions asking names)) (is_given_up happened) ≡ lines (questions asking names) happened
-lines_told happened asking [] = refl
-lines_told happened asking (text ∷ names) =
-    ap (λ l. line_of text (fate_of happened (record { asking = asking; text = text })) ++ l) (lines_told happened (next_asking asking) names)
+lines_reported happened asking [] = refl
+lines_reported happened asking (text ∷ names) =
+    ap (λ l. line_of text (fate_of happened (record { asking = asking; text = text })) ++ l) (lines_reported happened (next_asking asking) names)

@@ -6,8 +6,8 @@ pub mod Resolving
 pub mod Standing
 pub mod Steps
 pub mod Streams
-pub mod Told
+pub mod Reported
 pub mod ConstantValues
 pub mod FromLine
-pub mod ToldEnds
+pub mod ReportedEnds
 pub mod Prelude

@@ -11,5 +11,5 @@ pub use Rattle.udp_resolver.specs.Resolving.{OutFailed, Resolves, ResolvesBy, Te
 pub use Rattle.udp_resolver.specs.Standing.{Adds, Asks, AsksOn, Done, RunRepresents, WritesSome}
 pub use Rattle.udp_resolver.specs.Steps.{IsClockAt, asked_next, heard_now, is_due, lines_by, unanswered, unless_answered}
 pub use Rattle.udp_resolver.specs.Streams.{Streams, StreamsUnfailed, streams}
-pub use Rattle.udp_resolver.specs.Told.{AddressesAreFromReplies}
-pub use Rattle.udp_resolver.specs.ToldEnds.{BudgetIsTold, DryIsTold, SettledIsTold}
+pub use Rattle.udp_resolver.specs.Reported.{AddressesAreFromReplies}
+pub use Rattle.udp_resolver.specs.ReportedEnds.{BudgetIsReported, DryIsReported, SettledIsReported}

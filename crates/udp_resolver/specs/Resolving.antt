@@ -29,7 +29,7 @@ pub record WroteAll (asked : List Question) (n : ℕ) (old new : Streams) (taken
   pub done : IsDone asked n old.line.link.coming taken end
   pub link_same : new.line.link.faults ≡ old.line.link.faults
   pub out : WritesAll old.line.sink new.line.sink (line_text asked (events taken))
-  pub told : WritesAll old.tell new.tell (lines asked (events taken))
+  pub reported : WritesAll old.tell new.tell (lines asked (events taken))
 
 -- The link failed while a question was open, and nothing was reported.
 pub record LinkFailed (asked : List Question) (n : ℕ) (old new : Streams) (taken : List Item) : Type 0 where
@@ -53,7 +53,7 @@ pub record TellFailed (asked : List Question) (n : ℕ) (old new : Streams) (tak
   pub link_same : new.line.link.faults ≡ old.line.link.faults
   pub out : WritesAll old.line.sink new.line.sink (line_text asked (events taken))
   pub some : 0 < length (lines asked (events taken))
-  pub told : WritesPrefix old.tell new.tell (lines asked (events taken))
+  pub reported : WritesPrefix old.tell new.tell (lines asked (events taken))
 
 abbrev pub ResolvesBy : List Question → ℕ → Streams → Streams → List Item → ServeEnd → Type 0
 ResolvesBy asked n old new taken ends.LinkFault = LinkFailed asked n old new taken

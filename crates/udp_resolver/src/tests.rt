@@ -38,10 +38,10 @@ struct Row<'a> {
     tell_fails: &'a [u64],
     end: ServeEnd,
     queries: usize,
-    told: &'a [u8],
+    expected: &'a [u8],
 }
 
-fn row_of<'a>(items: &'a [Item], end: ServeEnd, queries: usize, told: &'a [u8]) -> Row<'a> {
+fn row_of<'a>(items: &'a [Item], end: ServeEnd, queries: usize, expected: &'a [u8]) -> Row<'a> {
     Row {
         names: &[b"a.b"],
         items,
@@ -52,7 +52,7 @@ fn row_of<'a>(items: &'a [Item], end: ServeEnd, queries: usize, told: &'a [u8]) 
         tell_fails: &[],
         end,
         queries,
-        told,
+        expected,
     }
 }
 
@@ -116,7 +116,7 @@ fn reported_by(alloc: Global, row: &Row) -> Result<(ServeEnd, MemSink, MemSink),
 fn check(rt: &impl Abort, alloc: Global, row: &Row) -> Result<(), Fail> {
     let (end, out, tell) = reported_by(alloc, row)?;
     assert_eq!(rt; end, row.end);
-    assert_eq!(rt; tell.written(), row.told);
+    assert_eq!(rt; tell.written(), row.expected);
     let queries = query_texts(alloc, row.queries)?;
     assert_eq!(rt; out.written(), queries.written());
     Ok(())
@@ -292,9 +292,9 @@ fn takes_random_records(rt: HostRuntime) -> Result<(), Fail> {
         )?;
         let (end, out, tell) = reported_by(alloc, &row_of(&items, ServeEnd::End, 1, b""))?;
         assert_eq!(&rt; end, ServeEnd::End);
-        let told = tell.written();
-        assert!(&rt; told.starts_with(b"a.b "));
-        if told != b"a.b open\n".as_slice() {
+        let reported = tell.written();
+        assert!(&rt; reported.starts_with(b"a.b "));
+        if reported != b"a.b open\n".as_slice() {
             output = u32::saturating_add(output, 1);
         }
         let queries = query_texts(alloc, 1)?;

@@ -25,7 +25,7 @@ pub use Rattle.uip_c.specs.Prelude.{Did, DidAll, DidFrame, DidFrames, EtherAnswe
 pub use Rattle.uip_c.specs.declared.handle.AnyDevice.{AnyDevice}
 pub use Rattle.uip_c.specs.declared.handle.AnyDevice.TheVariants.{Ether, Line}
 pub use Rattle.uip_c.specs.declared.held.Held.{Held}
-pub use Rattle.uip_device.proofs.AnswerLaws.{answers_nothing, datagrams_told, line_served, line_view, node_stands}
+pub use Rattle.uip_device.proofs.AnswerLaws.{answers_nothing, datagrams_reported, line_served, line_view, node_stands}
 pub use Rattle.uip_device.proofs.KeepLaws.{keeps_calls}
 pub use Rattle.uip_device.proofs.WebLaws.{first_words, written_words}
 pub use Rattle.uip_device.specs.Prelude.{Answered, Answers, AnswersAll, AnswersMove, Bring, Call, Calls, CallsConform, CallsForDatagram, Changes, ChangesNode, DeviceRepresents, Drains, Feeds, Inputs, IsFirstShared, IsOfBytes, IsOfImage, IsSoundWebDevice, Move, NodeRepresents, WebDevice, WebNode, datagrams_handed, first_numbers, left_text_of, lefts_of, line_handed, moves_of, value_pages, value_spec, web_datagrams_sent, web_line_sent, web_node_after, web_output, write_value}

@@ -11,7 +11,7 @@ ghost use Rattle.uip_c.specs.Prelude.{CallsFromCConform, FramesFromCConform, Lin
 /// between. The serial output, with what is pending, is the SLIP text of what the initial node sends over the input of the calls. Each call
 /// over a datagram link writes the datagram that is sent at its event, or none. The device serves the same files, and represents the node
 /// after these moves.
-pub fn calls_from_c_are_told()
+pub fn calls_from_c_are_reported()
     ensures line { OfMoves (λ files own all new.
         IsLine (λ d. line_handed all ++ left_text_of d ≡ web_line_sent files own (moves_of all)) new) }
     ensures datagrams { OfMoves (λ files own all new. datagrams_handed all ≡ web_datagrams_sent files own (moves_of all)) }

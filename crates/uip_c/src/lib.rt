@@ -24,8 +24,8 @@ pub use ether_opening::uip_open_ether;
 pub use handle::UipDevice;
 pub use held::{EtherWeb, Held};
 pub use laws::{
-    calls_from_c_are_told, calls_from_c_keep_the_promise, constant_values, frames_from_c_are_exact,
-    frames_from_c_keep_the_promise, line_from_c_is_served,
+    calls_from_c_are_reported, calls_from_c_keep_the_promise, constant_values,
+    frames_from_c_are_exact, frames_from_c_keep_the_promise, line_from_c_is_served,
 };
 pub use opening::{uip_close, uip_open};
 pub use reading::{

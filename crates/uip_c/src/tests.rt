@@ -197,7 +197,7 @@ fn a_call_without_a_device_says_so(rt: HostRuntime) {
 
 /// The first fault of an image, by its word and its entry.
 #[test]
-fn a_bad_image_is_told(rt: HostRuntime) {
+fn a_bad_image_is_reported(rt: HostRuntime) {
     let alloc = rt.alloc();
     let mut device = no_device(alloc);
     let rows: [(&'static [u8], u32, [u8; 8]); 2] = [

@@ -107,8 +107,8 @@ module _ {A S : Type 0} (g : Ghosts A S) where
     pub line_view : line_handed all ++ left_text_of new ≡ line_sent m g.served gives own [] (moves_of all) (initial_node own numbers)
     line_view = sym whole.line ∙ ap (λ l. l ++ line_sent m g.served gives own [] (moves_of all) (initial_node own numbers)) (none_left old fresh.none)
 
-    pub datagrams_told : datagrams_handed all ≡ datagrams_sent m g.served gives own [] (moves_of all) (initial_node own numbers)
-    datagrams_told = whole.datagrams
+    pub datagrams_reported : datagrams_handed all ≡ datagrams_sent m g.served gives own [] (moves_of all) (initial_node own numbers)
+    datagrams_reported = whole.datagrams
 
     pub node_stands : IsNode g m own new.node (node_reached m g.served gives own [] (moves_of all) (initial_node own numbers))
     node_stands = whole.stands

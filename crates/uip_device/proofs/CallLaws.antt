@@ -47,14 +47,14 @@ module _ (own : Addr) where
   item_events pace count before [] same = refl
   item_events pace count before (Byte b ∷ items) same =
       let behind = before ++ b ∷ [] in
-      let told = map (event_by own) (completed before b) in
+      let reported = map (event_by own) (completed before b) in
       let later = calls_after pace (count + 1) items in
       let size : count + 1 ≡ length behind = omega (arith, same, length-append before (b ∷ [])) in
-      ap (λ l. l ++ events_of_calls behind ((if is_beat pace (count + 1) then tick_calls else []) ++ later) own) (append-nil (told ++ []) ∙ append-nil told)
-      ∙ ap (λ l. told ++ l) (beat_events behind (is_beat pace (count + 1)) later)
-      ∙ ap (λ l. told ++ ((if is_beat pace (count + 1) then tick else []) ++ l)) (item_events pace (count + 1) behind items size)
-      ∙ ap (λ n. told ++ (beat pace (n + 1) ++ events_after own pace behind items)) same
-      ∙ sym (append_assoc told (beat pace (length before + 1)) (events_after own pace behind items))
+      ap (λ l. l ++ events_of_calls behind ((if is_beat pace (count + 1) then tick_calls else []) ++ later) own) (append-nil (reported ++ []) ∙ append-nil reported)
+      ∙ ap (λ l. reported ++ l) (beat_events behind (is_beat pace (count + 1)) later)
+      ∙ ap (λ l. reported ++ ((if is_beat pace (count + 1) then tick else []) ++ l)) (item_events pace (count + 1) behind items size)
+      ∙ ap (λ n. reported ++ (beat pace (n + 1) ++ events_after own pace behind items)) same
+      ∙ sym (append_assoc reported (beat pace (length before + 1)) (events_after own pace behind items))
   item_events pace count before (Quiet ∷ items) same =
       tick_events before (calls_after pace count items) ∙ ap (λ l. tick ++ l) (item_events pace count before items same)
 

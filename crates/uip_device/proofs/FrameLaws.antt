@@ -1,5 +1,5 @@
 -- The events of bytes without a pace.
-use Rattle.uip_device.proofs.Prelude.{◌≡◌, ℕ, List, [], ◌∷◌, ◌++◌, map, refl, sym, ap, ◌∙◌, append-nil, map-append, Addr, Byte, Frame, completed, frames, completed_by, completed_told, event_by, events_after}
+use Rattle.uip_device.proofs.Prelude.{◌≡◌, ℕ, List, [], ◌∷◌, ◌++◌, map, refl, sym, ap, ◌∙◌, append-nil, map-append, Addr, Byte, Frame, completed, frames, completed_by, completed_reported, event_by, events_after}
 
 -- bytes bring the frames that they complete
 completed_events : (own : Addr) (before bytes : List ℕ) → events_after own 0 before (map Byte bytes) ≡ map (event_by own) (completed_by before bytes)
@@ -11,6 +11,6 @@ completed_events own before (b ∷ bytes) =
     ∙ sym (map-append (event_by own) (completed before b) (completed_by behind bytes))
 
 -- what a decoder reports of more bytes is what they bring to the node
-pub told_events : (own : Addr) (before bytes : List ℕ) (told : List Frame) → frames (before ++ bytes) ≡ frames before ++ told
-    → events_after own 0 before (map Byte bytes) ≡ map (event_by own) told
-told_events own before bytes told e = completed_events own before bytes ∙ ap (λ l. map (event_by own) l) (completed_told before bytes told e)
+pub reported_events : (own : Addr) (before bytes : List ℕ) (reported : List Frame) → frames (before ++ bytes) ≡ frames before ++ reported
+    → events_after own 0 before (map Byte bytes) ≡ map (event_by own) reported
+reported_events own before bytes reported e = completed_events own before bytes ∙ ap (λ l. map (event_by own) l) (completed_reported before bytes reported e)

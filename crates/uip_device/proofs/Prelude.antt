@@ -33,12 +33,12 @@ pub use Rattle.std.specs.Prelude.{⊤, nat_eq, slice_get, codes, IfSome}
 pub use Rattle.uip_device.specs.Prelude.{AllHandOutSent, Answered, Answers, AnswersAll, AnswersMove, Bring, Call, Calls, CallsConform, CallsForDatagram, DoesNothing, Drains, Feeds, Gives, HandsOut, HasDelivered, Inputs, IsFreshDevice, IsOfBytes, KeepsU32, Makes, Move, MoveTrace, OutputIsSent, SendsOver, Writing, byte_calls, bytes_of_call, bytes_of_move, calls_after, datagram_sent, datagrams_handed, datagrams_sent, events_by, events_of_calls, events_of_move, first_numbers, goes_by_datagram, is_by_datagram, left_text_of, lefts_of, line_handed, line_sent, moves_of, node_reached, rest_text, run_move, text_to_come, tick_calls, with_value, write_value, ChangesNode}
 pub use Rattle.uip_device.specs.Query.{QueryContent, kept_query, kept_text, place_wanted, query_after, query_by, query_in, text_after_mark, ReadsQuery, query_for}
 pub use Rattle.uip_device.specs.declared.device.Device.{Device}
-pub use Rattle.uip_edge.proofs.Told.{moved_on}
+pub use Rattle.uip_edge.proofs.Reported.{moved_on}
 pub use Rattle.uip_edge.specs.declared.item.Item.{Item}
 pub use Rattle.uip_edge.specs.declared.item.Item.TheVariants.{Byte, Quiet}
 pub use Rattle.uip_node.proofs.Basics.{choose}
 pub use Rattle.uip_node.specs.Prelude.{AbstractNode, Event, HasBytes, IsSent, Node, Periodic, Reply, Represents, Steps, event_of, initial_node, joined, run, seen, step, tick}
-pub use Rattle.uip_slip.proofs.FrameLaws.{completed_by, completed_told}
+pub use Rattle.uip_slip.proofs.FrameLaws.{completed_by, completed_reported}
 pub use Rattle.uip_slip.specs.Prelude.{Datagram, Frame, Overlong, WasFed, completed, escaped, escaped_byte, frames, slip_text}
 pub use Rattle.uip_wire.specs.declared.addr.Addr.{Addr}
 pub use Rattle.web_pages.proofs.OwnState.{hits_by_prefix}

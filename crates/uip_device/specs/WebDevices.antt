@@ -84,7 +84,7 @@ pub record IsLongWithValues (image : List ℕ) (error : SiteError) : Type 0 wher
   pub files : List File
   pub read : read_image image ≡ Ok files
   pub unsound : HasSoundScripts word_calls files → ⊥
-  pub told : error ≡ fault PageTooLong 0
+  pub reported : error ≡ fault PageTooLong 0
 
 -- The image has this first fault, or there is no memory, which is always possible.
 abbrev pub FailsAs : List ℕ → OpenFault → Type 0

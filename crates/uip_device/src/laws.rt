@@ -11,7 +11,7 @@ use app_events::App;
 /// Holds for any sequence of calls of a fresh device, with any values set between. The serial output, with what is pending, is the text of
 /// what the initial node sends over the input of the calls. Each call over a datagram link writes the datagram that is sent at its event,
 /// or none. The device represents the node after these moves, and its application keeps its configuration, as a site.
-pub fn calls_are_told<A: App>()
+pub fn calls_are_reported<A: App>()
     ensures line { FromFresh A.App (λ m gives numbers own all old new. line_handed all ++ left_text_of new
         ≡ line_sent m A.served gives own [] (moves_of all) (initial_node own numbers)) }
     ensures datagrams { FromFresh A.App (λ m gives numbers own all old new. datagrams_handed all

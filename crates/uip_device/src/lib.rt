@@ -16,7 +16,7 @@ mod web_device;
 pub use device::{Device, FeedResult};
 pub use device_web::{DeviceWeb, FlashWeb};
 pub use handing::LARGEST_TEXT;
-pub use laws::{calls_are_told, calls_keep_the_promise, constant_values, line_is_served};
+pub use laws::{calls_are_reported, calls_keep_the_promise, constant_values, line_is_served};
 pub use node_reading::{is_node_idle, node_counter, node_row, node_ticks};
 pub use opening::{OpenFault, open_shared, open_web};
 pub use query::{LONGEST_QUERY, Query, QueryRead};

@@ -1,6 +1,6 @@
 -- A text whose writing broke off.
 use Rattle.uip_edge.proofs.Prelude.{◌≡◌, ◌<◌, ℕ, List, [], ◌++◌, Option, length, sym, ap, ◌∙◌, append_assoc, arith, length-append, subst, Appends, AppendsPrefix, BreaksOff}
-use Rattle.uip_edge.proofs.Told.{Appends-then, appends_by}
+use Rattle.uip_edge.proofs.Reported.{Appends-then, appends_by}
 
 -- other names for what precedes a text and for the text
 pub breaks_by : (us vs xs ys : List ℕ) (a b : Option (List ℕ)) → us ≡ vs → xs ≡ ys → BreaksOff vs ys a b → BreaksOff us xs a b

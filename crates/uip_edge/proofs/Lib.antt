@@ -1,6 +1,6 @@
 pub mod Breaking
 pub mod Runs
-pub mod Told
+pub mod Reported
 pub mod Turns
 pub mod Writes
 mod Prelude

@@ -36,9 +36,9 @@ Consumes (Some all) (Some left) xs = all ≡ xs ++ left
 abbrev pub IsAtEnd : Result Got Failed → Option (List Item) → Type 0
 IsAtEnd (Ok got.End) (Some all) = all ≡ []
 IsAtEnd (Ok got.End) None = ⊤
-IsAtEnd (Ok (got.Bytes n)) told = ⊤
-IsAtEnd (Ok got.Quiet) told = ⊤
-IsAtEnd (Err e) told = ⊤
+IsAtEnd (Ok (got.Bytes n)) reported = ⊤
+IsAtEnd (Ok got.Quiet) reported = ⊤
+IsAtEnd (Err e) reported = ⊤
 
 -- These are all items that were known to come.
 abbrev pub TookAll : Option (List Item) → List Item → Type 0

@@ -16,8 +16,8 @@ pub record HeldFile : Type 0 where
   pub content : List ℕ
 
 -- The files of a list; of two files of one name the first counts.
-abbrev pub told_files : List HeldFile → Files
-told_files list name = option_map (λ held. held.content) (find (λ held. bytes_eq held.name name) list)
+abbrev pub reported_files : List HeldFile → Files
+reported_files list name = option_map (λ held. held.content) (find (λ held. bytes_eq held.name name) list)
 
 -- A result about a file, with the bytes read at the start of the buffer. They are the file's bytes from the offset on; there are none
 -- exactly if the offset is at the file's end or beyond it. Without such a file the call fails.

@@ -14,8 +14,8 @@ pub record SinkView : Type 0 where
   pub written : Option (List ℕ)
   pub faults : ℕ
 
-abbrev pub told : Option (List ℕ) → ℕ → SinkView
-told written faults = record { written = written; faults = faults }
+abbrev pub sink_with : Option (List ℕ) → ℕ → SinkView
+sink_with written faults = record { written = written; faults = faults }
 
 -- A shelf: its files.
 pub record ShelfView : Type 0 where

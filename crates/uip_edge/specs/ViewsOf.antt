@@ -2,13 +2,13 @@
 use Rattle.uip_edge.specs.declared.link.Link.{Ghosts as LinkGhosts}
 use Rattle.uip_edge.specs.declared.shelf.Shelf.{Ghosts as ShelfGhosts}
 use Rattle.uip_edge.specs.declared.sink.Sink.{Ghosts as SinkGhosts}
-use Rattle.uip_edge.specs.Views.{LineView, LinkView, Outside, ShelfView, SinkView, WorkView, told}
+use Rattle.uip_edge.specs.Views.{LineView, LinkView, Outside, ShelfView, SinkView, WorkView, sink_with}
 
 abbrev pub link_view : {L : Type 0} → LinkGhosts L → L → LinkView
 link_view g link = record { coming = g.coming link; faults = g.faults link }
 
 abbrev pub sink_view : {K : Type 0} → SinkGhosts K → K → SinkView
-sink_view g sink = told (g.written sink) (g.faults sink)
+sink_view g sink = sink_with (g.written sink) (g.faults sink)
 
 abbrev pub shelf_view : {H : Type 0} → ShelfGhosts H → H → ShelfView
 shelf_view g shelf = record { held = g.held shelf; faults = g.faults shelf }

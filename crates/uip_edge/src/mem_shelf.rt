@@ -3,7 +3,7 @@
 ghost use Rattle.std.specs.Prelude.{◌≡◌, ◌<◌, ◌≤◌, ◌-◌, ◌↔◌, length, take, drop, min, Contains, IsErr, IfOk, IfSome, Some, None};
 ghost use Rattle.std.specs.Option.{option_copied};
 ghost use Rattle.uip_edge.specs.Causes.{counted_on};
-ghost use Rattle.uip_edge.specs.Shelving.{told_files, Reads, HasShelfCause};
+ghost use Rattle.uip_edge.specs.Shelving.{reported_files, Reads, HasShelfCause};
 
 use crate::failed::Failed;
 use crate::held::Held;
@@ -12,7 +12,7 @@ use std::marker::Model;
 
 /// Returns the bytes of the first file of that name.
 fn content_of<'a>(files: &'a [Held], name: &[u8]) -> Option<&'a [u8]>
-    ensures { option_copied result ≡ told_files files.now name.now }
+    ensures { option_copied result ≡ reported_files files.now name.now }
 {
     files
         .iter()
@@ -66,24 +66,24 @@ impl MemShelf {
 }
 
 impl Shelf for MemShelf {
-    ghost held = { λ shelf. Some (told_files shelf.files) };
+    ghost held = { λ shelf. Some (reported_files shelf.files) };
 
     ghost faults = { λ shelf. shelf.faults };
 
     fn read(&mut self, name: &[u8], at: u64, buf: &mut [u8]) -> Result<usize, Failed>
         requires { 0 < length buf.old }
         ensures within { IfOk result (λ n. n ≤ length buf.new) }
-        ensures bytes { Reads (Some (told_files self.old.files)) name.now at result buf.new }
+        ensures bytes { Reads (Some (reported_files self.old.files)) name.now at result buf.new }
         ensures kept { (self.new.files ≡ self.old.files) × (self.new.fails ≡ self.old.fails) }
-        ensures cause { HasShelfCause self.old.faults self.new.faults (Some (told_files self.old.files)) name.now result }
+        ensures cause { HasShelfCause self.old.faults self.new.faults (Some (reported_files self.old.files)) name.now result }
 
         // A call fails exactly if its number is planned, which raises the count, or if the file is missing.
         ensures numbered { self.new.calls ≡ counted_on self.old.calls }
         ensures planned { Contains self.old.fails self.new.calls → IsErr result × (self.new.faults ≡ counted_on self.old.faults) }
         ensures unplanned { ¬ (Contains self.old.fails self.new.calls)
-            → (IsErr result ↔ (told_files self.old.files name.now ≡ None)) × (self.new.faults ≡ self.old.faults) }
+            → (IsErr result ↔ (reported_files self.old.files name.now ≡ None)) × (self.new.faults ≡ self.old.faults) }
         ensures given { IfOk result
-            (λ n. IfSome (told_files self.old.files name.now) (λ content. n ≡ min (length buf.old) (length content - at))) }
+            (λ n. IfSome (reported_files self.old.files name.now) (λ content. n ≡ min (length buf.old) (length content - at))) }
     {
         self.calls = self.calls.saturating_add(1);
         if self.fails.contains(&self.calls) {

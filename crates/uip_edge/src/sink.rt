@@ -1,7 +1,7 @@
 ghost use Rattle.std.specs.Prelude.{◌<◌, ◌≤◌, List, Option, ℕ, length, IfOk};
 ghost use Rattle.std.specs.Io.KnownBytes.{WriteAppends};
 ghost use Rattle.uip_edge.specs.Causes.{HasCause};
-ghost use Rattle.uip_edge.specs.Views.{told};
+ghost use Rattle.uip_edge.specs.Views.{sink_with};
 ghost use Rattle.uip_edge.specs.Writing.{Writes};
 
 use crate::failed::Failed;
@@ -23,7 +23,8 @@ pub trait Sink {
 
     /// Appends the whole piece. On failure a prefix of it was appended.
     fn write_whole(&mut self, piece: &[u8]) -> Result<(), Failed>
-        ensures { Writes (told (written self.old) (faults self.old)) (told (written self.new) (faults self.new)) result piece.now }
+        ensures { Writes (sink_with (written self.old) (faults self.old))
+            (sink_with (written self.new) (faults self.new)) result piece.now }
     {
         let mut rest = piece;
         while !rest.is_empty() {

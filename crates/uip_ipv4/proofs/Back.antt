@@ -57,7 +57,7 @@ numbered_back : (total id number : ℕ) (a b c d e f g h : ℕ) (rest : List ℕ
 unfolding head_or_fate numbered_head
 numbered_back total id number a b c d e f g h rest least most =
     let bytes : List ℕ = numbered_head total id number (a ∷ b ∷ c ∷ d ∷ []) (e ∷ f ∷ g ∷ h ∷ []) ++ rest in
-    let told : word_at bytes 2 ≡ total = same_word total in
+    let reported : word_at bytes 2 ≡ total = same_word total in
     let long : length bytes ≡ 20 + length rest = omega arith in
     passes _ _ _ _ (not_less (length bytes) 20 (omega arith))
     (passes _ _ _ _ (neither _ _ (not_less (word_at bytes 2) 20 (omega arith)) (not_less (length bytes) (word_at bytes 2) (omega arith)))

@@ -33,9 +33,9 @@ pub record Fields (head : IpHead) (bytes : List ℕ) : Type 0 where
   pub source : head.source.0 ≡ address_at bytes 12
   pub target : head.target.0 ≡ address_at bytes 16
 
-told : (proto : Option Proto) (bytes : List ℕ) (head : IpHead) → head_by proto bytes ≡ Ok head → Fields head bytes
-told None bytes head e = cc
-told (Some proto) bytes head e =
+reported : (proto : Option Proto) (bytes : List ℕ) (head : IpHead) → head_by proto bytes ≡ Ok head → Fields head bytes
+reported None bytes head e = cc
+reported (Some proto) bytes head e =
     let same : record {
       total = word_at bytes 2;
       proto = proto;
@@ -56,7 +56,7 @@ facts_at own bytes head is =
     (ltb (word_at bytes 2) 20 || ltb (length bytes) (word_at bytes 2)) (not (eqb (word_at bytes 6 % 16384) 0))
     (not (eqb (checksum_of (take 20 bytes)) 0)) (not (bytes_eq (address_at bytes 16) own))
     (head_by (proto_of (slice_index bytes 9)) bytes) head is in
-    let f : Fields head bytes = told (proto_of (slice_index bytes 9)) bytes head p.2 in
+    let f : Fields head bytes = reported (proto_of (slice_index bytes 9)) bytes head p.2 in
     let b = fits (word_at bytes 2) (length bytes) p.0 in
     record {
       total = f.total;

@@ -1,6 +1,6 @@
 -- Every capture ever taken is of a snapshot that a node makes. This holds for all connections, clean or not.
 -- [add: counter] The number of counters of a snapshot.
-use Rattle.uip_node.proofs.Prelude.{All, range_with_len, ◌≡◌, ℕ, zero, suc, ◌+◌, ◌-◌, ◌<◌, ◌≤◌, Bool, true, false, not, ◌&&◌, List, [], ◌∷◌, length, set, refl, sym, subst, arith, Some, slice_get, slice_index, count_by, nat_le, eqb, ltb, length-set, ◌∙◌, All-push, All-map, count_by-le-length, common_steps, wrap, PlainSegment, has_fin, has_rst, ages, tries_at, Beat, AppState, AppSpec, IsSteady, IsSnapshot, IsNow, IsRow, IsU32, IsAddr, Ending, Now, Row, State, Closed, SynRcvd, Established, CloseWait, FinWait1, FinWait2, Closing, TimeWait, LastAck, Want, Nothing, Send, Close, Abort, Sockets, Connection, is_resting, tries_of, count_of, row_of, rows_from, Outcome, closes, after_own_fin, peer_has_closed, idles, does_as_wanted, ask, asked, accepted, told_end, is_out_of_order, is_acked, rests, has_text, hears, takes, with_part, in_state, with_window, peer_closes, stays_established, in_established, fin_acked, fin_waits, by_state, on_segment, by_beat, grows_older, on_tick, polls, Event, HistoryEntry, Silent, counters, raises, times, AbstractNode, snapshot}
+use Rattle.uip_node.proofs.Prelude.{All, range_with_len, ◌≡◌, ℕ, zero, suc, ◌+◌, ◌-◌, ◌<◌, ◌≤◌, Bool, true, false, not, ◌&&◌, List, [], ◌∷◌, length, set, refl, sym, subst, arith, Some, slice_get, slice_index, count_by, nat_le, eqb, ltb, length-set, ◌∙◌, All-push, All-map, count_by-le-length, common_steps, wrap, PlainSegment, has_fin, has_rst, ages, tries_at, Beat, AppState, AppSpec, IsSteady, IsSnapshot, IsNow, IsRow, IsU32, IsAddr, Ending, Now, Row, State, Closed, SynRcvd, Established, CloseWait, FinWait1, FinWait2, Closing, TimeWait, LastAck, Want, Nothing, Send, Close, Abort, Sockets, Connection, is_resting, tries_of, count_of, row_of, rows_from, Outcome, closes, after_own_fin, peer_has_closed, idles, does_as_wanted, ask, asked, accepted, reported_end, is_out_of_order, is_acked, rests, has_text, hears, takes, with_part, in_state, with_window, peer_closes, stays_established, in_established, fin_acked, fin_waits, by_state, on_segment, by_beat, grows_older, on_tick, polls, Event, HistoryEntry, Silent, counters, raises, times, AbstractNode, snapshot}
 use Rattle.tcp_machine.specs.Connection.{is_live}
 use Rattle.uip_node.proofs.Cases.{asked_by, by_own_fin, on_tick_by}
 use Rattle.uip_node.proofs.Basics.{choose, wrap_low}
@@ -95,10 +95,10 @@ module _ (m : AppSpec) (steady : IsSteady m) where
   hears_numbers numbers p [] h = h
   hears_numbers numbers p (x ∷ xs) h = steady.newdata_numbers numbers p (x ∷ xs) h
 
-  told_numbers : (how : Ending) (st : State) (p : AppState) (numbers : List ℕ) → All IsU32 numbers → All IsU32 (told_end m how st p numbers)
-  told_numbers how Established p numbers h = steady.ended_numbers numbers p how h
-  told_numbers how CloseWait p numbers h = steady.ended_numbers numbers p how h
-  told_numbers how _ p numbers h = h
+  reported_numbers : (how : Ending) (st : State) (p : AppState) (numbers : List ℕ) → All IsU32 numbers → All IsU32 (reported_end m how st p numbers)
+  reported_numbers how Established p numbers h = steady.ended_numbers numbers p how h
+  reported_numbers how CloseWait p numbers h = steady.ended_numbers numbers p how h
+  reported_numbers how _ p numbers h = h
 
   fin_rest : (st : State) → is_resting (after_own_fin st) ≡ true → ⊥
   fin_rest st h = by_own_fin (λ x. is_resting x ≡ true → ⊥) (λ q. (let z : false ≡ true = q in cc)) (λ q. (let z : false ≡ true = q in cc)) st h
@@ -198,14 +198,14 @@ module _ (m : AppSpec) (steady : IsSteady m) where
   pub on_segment_fits : (c : Connection) (numbers : List ℕ) (s : PlainSegment) → FitConn c → All IsU32 numbers → FitOut (on_segment m c numbers s)
   unfolding on_segment
   on_segment_fits c numbers s f n =
-      choose (λ (o : Outcome). FitOut o) (has_rst s.flags) _ _ (λ e. record { conn = closes_fit c f; numbers = told_numbers _ c.state c.part numbers n }) (λ e.
+      choose (λ (o : Outcome). FitOut o) (has_rst s.flags) _ _ (λ e. record { conn = closes_fit c f; numbers = reported_numbers _ c.state c.part numbers n }) (λ e.
       choose (λ (o : Outcome). FitOut o) (is_out_of_order c s) _ _ (λ i. record { conn = f; numbers = n }) (λ i. by_state_fits c.state (is_acked c s) c numbers s f n))
 
   -- a tick
   by_beat_fits : (b : Beat) (c : Connection) (numbers : List ℕ) → is_resting c.state ≡ false → FitConn c → All IsU32 numbers → FitOut (by_beat m b c numbers)
   by_beat_fits Beat.Wait c numbers r f n = record { conn = fit_like c _ refl refl (λ x. absurd (cc)) f; numbers = n }
   by_beat_fits Beat.Again c numbers r f n = record { conn = fit_like c _ refl refl (λ x. absurd (cc)) f; numbers = n }
-  by_beat_fits Beat.GiveUp c numbers r f n = record { conn = closes_fit c f; numbers = told_numbers _ c.state c.part numbers n }
+  by_beat_fits Beat.GiveUp c numbers r f n = record { conn = closes_fit c f; numbers = reported_numbers _ c.state c.part numbers n }
 
   not_last : (age : ℕ) → age < 120 → eqb (age + 1) 120 ≡ false → age + 1 < 120
   not_last age h e = grind (arith, common_steps)

@@ -15,7 +15,7 @@ abbrev syn : Event
 syn = says 1000 0 SYN (Some 966) []
 
 -- What was sent, as far as it differs: identification, again, number, acknowledgement, SYN, PSH, FIN, RST, text.
-pub record Told : Type 0 where
+pub record Reported : Type 0 where
   id : ℕ
   again : Bool
   seq : ℕ
@@ -23,21 +23,21 @@ pub record Told : Type 0 where
   flags : ℕ
   text : List ℕ
 
-abbrev told : Reply → Told
-told (Echo request) = record { id = 0; again = false; seq = 0; ack = 0; flags = 0; text = [] }
-told (TcpReply sockets id again s) = record { id = id; again = again; seq = s.seq; ack = s.ack; flags = s.flags; text = s.text }
+abbrev reported : Reply → Reported
+reported (Echo request) = record { id = 0; again = false; seq = 0; ack = 0; flags = 0; text = [] }
+reported (TcpReply sockets id again s) = record { id = id; again = again; seq = s.seq; ack = s.ack; flags = s.flags; text = s.text }
 
 abbrev ticks : ℕ → List Event
 ticks zero = []
 ticks (suc n) = tick ++ ticks n
 
-abbrev sent_for : List Event → List Told
-sent_for events = map told (run fixed_spec web events (initial_node (record { 0 = 10 ∷ 0 ∷ 0 ∷ 1 ∷ [] }) [])).sent
+abbrev sent_for : List Event → List Reported
+sent_for events = map reported (run fixed_spec web events (initial_node (record { 0 = 10 ∷ 0 ∷ 0 ∷ 1 ∷ [] }) [])).sent
 
-abbrev synack : ℕ → Bool → Told
+abbrev synack : ℕ → Bool → Reported
 synack id again = record { id = id; again = again; seq = 0; ack = 1001; flags = SYN + ACK; text = [] }
 
-abbrev greeting : ℕ → Bool → Told
+abbrev greeting : ℕ → Bool → Reported
 greeting id again = record { id = id; again = again; seq = 1; ack = 1002; flags = ACK + PSH; text = hello }
 
 -- a SYN is answered, and the SYN-ACK is sent again at the fourth tick

@@ -10,9 +10,9 @@ top_of false = refl
 abbrev great_of : List ℕ → ℕ → List Bool
 great_of xs n = map (top 7) (zip2 (λ a b. cond (leb a b) 255 0) (replicate n 128) xs)
 
-great_told : (xs : List ℕ) → great_of xs (length xs) ≡ map (leb 128) xs
-great_told [] = refl
-great_told (x ∷ xs) = λ i. top_of (leb 128 x) i ∷ great_told xs i
+great_reported : (xs : List ℕ) → great_of xs (length xs) ≡ map (leb 128) xs
+great_reported [] = refl
+great_reported (x ∷ xs) = λ i. top_of (leb 128 x) i ∷ great_reported xs i
 
 no_mark : (x : ℕ) → leb 128 x ≡ false → is_mark x ≡ false
 no_mark x e = grind (arith, e)
@@ -40,8 +40,8 @@ ascii bytes at room e =
     let xs : List ℕ = take 64 (drop at bytes) in
     let long : length xs ≡ 64 = omega (arith, length-take 64 (drop at bytes), length-drop at bytes, room) in
     let zero : mask_l (great_of xs 64) % 2 ^ 64 ≡ 0 = eqb-true _ _ (not_not _ e) in
-    let told : mask_l (great_of xs 64) % 2 ^ 64 ≡ mask_l (map (leb 128) xs) =
-    ap (λ k. mask_l (great_of xs k) % 2 ^ 64) (sym long) ∙ ap (λ ms. mask_l ms % 2 ^ 64) (great_told xs)
+    let reported : mask_l (great_of xs 64) % 2 ^ 64 ≡ mask_l (map (leb 128) xs) =
+    ap (λ k. mask_l (great_of xs k) % 2 ^ 64) (sym long) ∙ ap (λ ms. mask_l ms % 2 ^ 64) (great_reported xs)
     ∙ mask_l-mod (map (leb 128) xs) 64 (omega (arith, length-map xs (leb 128), long)) in
-    sym (no_marks xs (leading_from_mask_l (leb 128) xs (sym told ∙ zero)) ∙ long)
+    sym (no_marks xs (leading_from_mask_l (leb 128) xs (sym reported ∙ zero)) ∙ long)
     ∙ ap (λ n. prefix_len (λ b. not (is_mark b)) (take n (drop at bytes))) (let width : 64 ≡ at + 64 - at = omega arith in width)

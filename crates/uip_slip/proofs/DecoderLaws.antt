@@ -9,7 +9,7 @@ pub record Holds (u : List ℕ) (w : Bool) (s : State) : Type 0 where
   pub prefix : s.bytes ≡ take 1500 u
   pub over : s.over ≡ nat_lt 1500 (length u)
   pub waits : s.waits ≡ w
-  pub told : s.told ≡ false
+  pub reported : s.reported ≡ false
 
 room_left : (n : ℕ) (u t : List ℕ) (c : ℕ) → t ≡ take n u → length t < n
     → (t ++ c ∷ [] ≡ take n (u ++ c ∷ [])) × (nat_lt n (length u) ≡ nat_lt n (length (u ++ c ∷ [])))
@@ -33,23 +33,23 @@ no_room n u t c e h =
 pushed_holds : (u : List ℕ) (w : Bool) (s : State) (c : ℕ) → Holds u w s → Holds (u ++ c ∷ []) false (pushed s c)
 pushed_holds u w s c h =
     elim (nat_lt (length s.bytes) 1500) as (λ v. nat_lt (length s.bytes) 1500 ≡ v → Holds (u ++ c ∷ []) false
-    (cond v (record { bytes = s.bytes ++ c ∷ []; over = s.over; waits = false; told = false })
-    (record { bytes = s.bytes; over = true; waits = false; told = false }))) [
+    (cond v (record { bytes = s.bytes ++ c ∷ []; over = s.over; waits = false; reported = false })
+    (record { bytes = s.bytes; over = true; waits = false; reported = false }))) [
       | true ↦ λ e. let g = room_left 1500 u s.bytes c h.prefix (ltb-true _ _ e) in
-          record { prefix = g.0; over = h.over ∙ g.1; waits = refl; told = refl }
+          record { prefix = g.0; over = h.over ∙ g.1; waits = refl; reported = refl }
       | false ↦ λ e. let g = no_room 1500 u s.bytes c h.prefix (ltb-false _ _ e) in
-          record { prefix = g.0; over = g.1; waits = refl; told = refl }
+          record { prefix = g.0; over = g.1; waits = refl; reported = refl }
     ] refl
 
 taken_holds : (p : List ℕ) (s : State) (b : ℕ) → Holds (unescaped p) (waits_after p) s
     → Holds (unescaped (p ++ b ∷ [])) (waits_after (p ++ b ∷ [])) (taken s b)
 taken_holds p s b h = rw (unescaped-push p b, waits_after-push p b, h.waits)
     (elim (waits_after p) as (λ v. Holds (unescaped p ++ adds v b) (cond v false (eqb b 219))
-    (cond v (pushed s (meant b)) (cond (eqb b 219) (record { bytes = s.bytes; over = s.over; waits = true; told = false }) (pushed s b)))) [
+    (cond v (pushed s (meant b)) (cond (eqb b 219) (record { bytes = s.bytes; over = s.over; waits = true; reported = false }) (pushed s b)))) [
       | true ↦ pushed_holds (unescaped p) (waits_after p) s (meant b) h
       | false ↦ elim (eqb b 219) as (λ v. Holds (unescaped p ++ cond v [] (b ∷ [])) v
-          (cond v (record { bytes = s.bytes; over = s.over; waits = true; told = false }) (pushed s b))) [
-            | true ↦ rw append-nil (record { prefix = h.prefix; over = h.over; waits = refl; told = refl })
+          (cond v (record { bytes = s.bytes; over = s.over; waits = true; reported = false }) (pushed s b))) [
+            | true ↦ rw append-nil (record { prefix = h.prefix; over = h.over; waits = refl; reported = refl })
             | false ↦ pushed_holds (unescaped p) (waits_after p) s b h
           ]
     ])
@@ -77,10 +77,10 @@ prefix_joined n u t run e =
 joined_holds : (u : List ℕ) (s : State) (run : List ℕ) → Holds u false s → Holds (u ++ run) false (joined_parts s run)
 joined_holds u s run h =
     let both = prefix_joined 1500 u s.bytes run h.prefix in
-    record { prefix = both.0; over = ap (λ v. v || nat_lt 1500 (length s.bytes + length run)) h.over ∙ both.1; waits = h.waits; told = h.told }
+    record { prefix = both.0; over = ap (λ v. v || nat_lt 1500 (length s.bytes + length run)) h.over ∙ both.1; waits = h.waits; reported = h.reported }
 
 open_again : (u : List ℕ) (w : Bool) (s : State) → Holds u w s → open_bytes s ≡ take 1500 u
-open_again u w s h = rw h.told h.prefix
+open_again u w s h = rw h.reported h.prefix
 
 -- a decoder that was opened again, and was then fed to a state that holds the longer part
 held : (bytes more : List ℕ) (s new : State) → open_part (bytes ++ more) ≡ open_part bytes ++ more
@@ -92,7 +92,7 @@ held bytes more s new longer h = record {
 }
 
 reopened_holds : (bytes : List ℕ) (s : State) → WasFed bytes s → Holds (unescaped (open_part bytes)) (waits_after (open_part bytes)) (reopened s)
-reopened_holds bytes s f = record { prefix = f.prefix; over = f.over; waits = f.waits; told = refl }
+reopened_holds bytes s f = record { prefix = f.prefix; over = f.over; waits = f.waits; reported = refl }
 
 pub fed_byte : (bytes : List ℕ) (s : State) (b : ℕ) → eqb b 192 ≡ false → WasFed bytes s
     → WasFed (bytes ++ b ∷ []) (taken (reopened s) b) × (frames (bytes ++ b ∷ []) ≡ frames bytes ++ [])
@@ -160,17 +160,17 @@ fed_run before bytes n s mid new opens plain waiting joins f = let run = take n 
 )
 
 -- a run, and the byte after it
-pub run_then_byte : (before bytes : List ℕ) (n : ℕ) (s mid new : State) (told : List Frame) → n < length bytes
+pub run_then_byte : (before bytes : List ℕ) (n : ℕ) (s mid new : State) (reported : List Frame) → n < length bytes
     → (WasFed before s → WasFed (before ++ take n bytes) mid × (frames (before ++ take n bytes) ≡ frames before ++ []))
-    → ((prefix : List ℕ) → WasFed prefix mid → WasFed (prefix ++ get_or bytes n 0 ∷ []) new × (frames (prefix ++ get_or bytes n 0 ∷ []) ≡ frames prefix ++ told))
-    → WasFed before s → WasFed (before ++ take (n + 1) bytes) new × (frames (before ++ take (n + 1) bytes) ≡ frames before ++ told)
-run_then_byte before bytes n s mid new told here run byte f =
+    → ((prefix : List ℕ) → WasFed prefix mid → WasFed (prefix ++ get_or bytes n 0 ∷ []) new × (frames (prefix ++ get_or bytes n 0 ∷ []) ≡ frames prefix ++ reported))
+    → WasFed before s → WasFed (before ++ take (n + 1) bytes) new × (frames (before ++ take (n + 1) bytes) ≡ frames before ++ reported)
+run_then_byte before bytes n s mid new reported here run byte f =
     let one = run f in
     let two = byte (before ++ take n bytes) one.0 in
     let whole : before ++ take (n + 1) bytes ≡ (before ++ take n bytes) ++ get_or bytes n 0 ∷ [] =
     ap (λ l. before ++ l) (take_more bytes n 0 here) ∙ sym (append_assoc before (take n bytes) (get_or bytes n 0 ∷ [])) in (
       rw whole two.0,
-      ap (λ l. frames l) whole ∙ two.1 ∙ ap (λ l. l ++ told) (one.1 ∙ append-nil (frames before)),
+      ap (λ l. frames l) whole ∙ two.1 ∙ ap (λ l. l ++ reported) (one.1 ∙ append-nil (frames before)),
     )
 
 same_state : (s : State) (xs ys : List ℕ) (a b : Bool) → xs ≡ ys → a ≡ b → record s { bytes = xs; over = a } ≡ record s { bytes = ys; over = b }
@@ -213,15 +213,15 @@ prefix_and_more before bytes n k =
     ∙ ap (λ l. before ++ (take n bytes ++ take k l)) rest ∙ ap (λ l. before ++ l) (sym (take-add n k bytes))
 
 -- what was fed and reported so far, and then a prefix of the other bytes
-pub fed_on : (before bytes : List ℕ) (n k : ℕ) (s t : State) (told : List Frame)
+pub fed_on : (before bytes : List ℕ) (n k : ℕ) (s t : State) (reported : List Frame)
     → WasFed (before ++ take n bytes) s × (frames (before ++ take n bytes) ≡ frames before)
     → ((b : List ℕ) → WasFed b s → WasFed (b ++ take k (take (length bytes - n) (drop n bytes))) t
-    × (frames (b ++ take k (take (length bytes - n) (drop n bytes))) ≡ frames b ++ told))
-    → WasFed (before ++ take (n + k) bytes) t × (frames (before ++ take (n + k) bytes) ≡ frames before ++ told)
-fed_on before bytes n k s t told so_far step =
+    × (frames (b ++ take k (take (length bytes - n) (drop n bytes))) ≡ frames b ++ reported))
+    → WasFed (before ++ take (n + k) bytes) t × (frames (before ++ take (n + k) bytes) ≡ frames before ++ reported)
+fed_on before bytes n k s t reported so_far step =
     let at = prefix_and_more before bytes n k in
     let both = step (before ++ take n bytes) so_far.0 in
-    (subst (λ l. WasFed l t) at both.0, ap frames (sym at) ∙ both.1 ∙ ap (λ l. l ++ told) so_far.1)
+    (subst (λ l. WasFed l t) at both.0, ap frames (sym at) ∙ both.1 ∙ ap (λ l. l ++ reported) so_far.1)
 
 -- the same, where the other bytes completed nothing
 pub fed_more : (before bytes : List ℕ) (n k : ℕ) (s t : State) (done : Fed) → done ≡ fed.More

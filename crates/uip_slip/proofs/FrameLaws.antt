@@ -27,5 +27,5 @@ same_rest [] ys zs e = e
 same_rest (x ∷ xs) ys zs e = same_rest xs ys zs cc
 
 -- what a decoder reports of more bytes are the frames that they complete
-pub completed_told : (before bytes : List ℕ) (told : List Frame) → frames (before ++ bytes) ≡ frames before ++ told → completed_by before bytes ≡ told
-completed_told before bytes told e = same_rest (frames before) (completed_by before bytes) told (sym (frames-then before bytes) ∙ e)
+pub completed_reported : (before bytes : List ℕ) (reported : List Frame) → frames (before ++ bytes) ≡ frames before ++ reported → completed_by before bytes ≡ reported
+completed_reported before bytes reported e = same_rest (frames before) (completed_by before bytes) reported (sym (frames-then before bytes) ∙ e)

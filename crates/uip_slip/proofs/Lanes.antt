@@ -15,20 +15,20 @@ abbrev lanes_of : List ℕ → ℕ → List Bool
 lanes_of xs n =
     map (top 7) (zip2 bit_or (zip2 (λ a b. cond (eqb a b) 255 0) xs (replicate n 192)) (zip2 (λ a b. cond (eqb a b) 255 0) xs (replicate n 219)))
 
-marks_told : (xs : List ℕ) → lanes_of xs (length xs) ≡ map is_mark xs
-marks_told [] = refl
-marks_told (x ∷ xs) = λ i. or_top (eqb x 192) (eqb x 219) i ∷ marks_told xs i
+marks_reported : (xs : List ℕ) → lanes_of xs (length xs) ≡ map is_mark xs
+marks_reported [] = refl
+marks_reported (x ∷ xs) = λ i. or_top (eqb x 192) (eqb x 219) i ∷ marks_reported xs i
 
-told_at : (xs : List ℕ) (n : ℕ) → length xs ≡ n → n ≤ 64 → mask_l (lanes_of xs n) % 2 ^ 64 ≡ mask_l (map is_mark xs)
-told_at xs n long few =
-    ap (λ k. mask_l (lanes_of xs k) % 2 ^ 64) (sym long) ∙ ap (λ ms. mask_l ms % 2 ^ 64) (marks_told xs)
+reported_at : (xs : List ℕ) (n : ℕ) → length xs ≡ n → n ≤ 64 → mask_l (lanes_of xs n) % 2 ^ 64 ≡ mask_l (map is_mark xs)
+reported_at xs n long few =
+    ap (λ k. mask_l (lanes_of xs k) % 2 ^ 64) (sym long) ∙ ap (λ ms. mask_l ms % 2 ^ 64) (marks_reported xs)
     ∙ mask_l-mod (map is_mark xs) 64 (omega (arith, length-map xs is_mark))
 
 -- the lanes before the first mark
 pub counted : (n : ℕ) (xs : List ℕ) → length xs ≡ n → n ≤ 64
     → cond (eqb (mask_l (lanes_of xs n) % 2 ^ 64) 0) n (count_trailing_zeros 64 (mask_l (lanes_of xs n) % 2 ^ 64)) ≡ prefix_len (λ b. not (is_mark b)) xs
 counted n xs long few =
-    ap (λ m. cond (eqb m 0) n (count_trailing_zeros 64 m)) (told_at xs n long few)
+    ap (λ m. cond (eqb m 0) n (count_trailing_zeros 64 m)) (reported_at xs n long few)
     ∙ first_set_mask_l is_mark xs n long few
 
 -- the two ends of the test

@@ -10,7 +10,7 @@ pub use Rattle.std.proofs.lemmas.Simd.{first_set_mask_l, leading_from_mask_l, ma
 pub use Rattle.std.specs.Io.KnownBytes.{Appends}
 pub use Rattle.std.specs.List.{flat_map, list_all, onto_first, prefix_len, range_with_len}
 pub use Rattle.std.specs.Prelude.{nat_eq, slice_index, slice_range}
-pub use Rattle.uip_edge.proofs.Told.{Appends-none, Appends-then, appends_by, moved_on}
+pub use Rattle.uip_edge.proofs.Reported.{Appends-none, Appends-then, appends_by, moved_on}
 pub use Rattle.uip_edge.proofs.Writes.{writes_broken, writes_by, writes_then}
 pub use Rattle.uip_edge.specs.Prelude.{sink_view}
 pub use Rattle.uip_slip.specs.Prelude.{Closes, Datagram, EndsFrame, Frame, IsPlainPrefix, Leaves, Overlong, State, WasFed, all_but_last, completed, escaped, escaped_byte, frame_of, frames, is_mark, is_plain, joined_parts, last_of, meant, open_bytes, open_part, parts, pushed, reopened, reported_by, slip_text, taken, unescaped, waits_after}

@@ -13,7 +13,7 @@ pub record State : Type 0 where
   pub bytes : List ℕ
   pub over : Bool
   pub waits : Bool
-  pub told : Bool
+  pub reported : Bool
 
 -- An ESC at the end of a part waits for its second byte.
 abbrev pub waits_after : List ℕ → Bool
@@ -23,7 +23,7 @@ waits_after (a ∷ b ∷ rest) = if a == 219 then waits_after rest else waits_af
 
 -- The bytes of the open part.
 abbrev pub open_bytes : State → List ℕ
-open_bytes s = if s.told then [] else s.bytes
+open_bytes s = if s.reported then [] else s.bytes
 
 -- The decoder was fed these bytes.
 pub record WasFed (bytes : List ℕ) (s : State) : Type 0 where
@@ -39,9 +39,9 @@ reported_by fed.Overlong s = Overlong ∷ []
 
 -- Only a decoded datagram leaves bytes to be read.
 abbrev pub Leaves : Fed → State → Type 0
-Leaves (fed.Datagram n) s = (s.told ≡ true) × (n ≡ length s.bytes) × (0 < n) × (n ≤ LARGEST_DATAGRAM)
-Leaves fed.More s = s.told ≡ false
-Leaves fed.Overlong s = s.told ≡ false
+Leaves (fed.Datagram n) s = (s.reported ≡ true) × (n ≡ length s.bytes) × (0 < n) × (n ≤ LARGEST_DATAGRAM)
+Leaves fed.More s = s.reported ≡ false
+Leaves fed.Overlong s = s.reported ≡ false
 
 -- The byte that completes a frame is an END.
 abbrev pub EndsFrame : Fed → ℕ → Type 0

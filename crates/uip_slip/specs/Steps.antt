@@ -8,19 +8,19 @@ use Rattle.uip_slip.specs.declared.fed.Fed.TheVariants as fed
 
 -- A datagram that was decoded is discarded.
 abbrev pub reopened : State → State
-reopened s = record { bytes = open_bytes s; over = s.over; waits = s.waits; told = false }
+reopened s = record { bytes = open_bytes s; over = s.over; waits = s.waits; reported = false }
 
 -- One more byte of the frame.
 abbrev pub pushed : State → ℕ → State
 pushed s b =
-    if nat_lt (length s.bytes) LARGEST_DATAGRAM then record { bytes = s.bytes ++ b ∷ []; over = s.over; waits = false; told = false }
-    else record { bytes = s.bytes; over = true; waits = false; told = false }
+    if nat_lt (length s.bytes) LARGEST_DATAGRAM then record { bytes = s.bytes ++ b ∷ []; over = s.over; waits = false; reported = false }
+    else record { bytes = s.bytes; over = true; waits = false; reported = false }
 
 -- One more byte of the part.
 abbrev pub taken : State → ℕ → State
 taken s b =
     if s.waits then pushed s (meant b)
-    else if b == 219 then record { bytes = s.bytes; over = s.over; waits = true; told = false }
+    else if b == 219 then record { bytes = s.bytes; over = s.over; waits = true; reported = false }
     else pushed s b
 
 -- More bytes of the frame, as they are.
@@ -32,7 +32,7 @@ joined_parts s run = record s {
 
 -- What the result of an END states of the decoder.
 abbrev pub Closes : State → Fed → State → Type 0
-Closes s fed.More new = (s.over ≡ false) × (s.bytes ≡ []) × (new ≡ record { bytes = []; over = false; waits = false; told = false })
-Closes s fed.Overlong new = (s.over ≡ true) × (new ≡ record { bytes = []; over = false; waits = false; told = false })
+Closes s fed.More new = (s.over ≡ false) × (s.bytes ≡ []) × (new ≡ record { bytes = []; over = false; waits = false; reported = false })
+Closes s fed.Overlong new = (s.over ≡ true) × (new ≡ record { bytes = []; over = false; waits = false; reported = false })
 Closes s (fed.Datagram n) new = (s.over ≡ false) × (n ≡ length s.bytes) × ((0 < n) × (n ≤ LARGEST_DATAGRAM))
-    × (new ≡ record { bytes = s.bytes; over = false; waits = false; told = true })
+    × (new ≡ record { bytes = s.bytes; over = false; waits = false; reported = true })

@@ -16,7 +16,7 @@ pub struct Decoder {
     len: usize,
     over: bool,
     waits: bool,
-    told: bool,
+    reported: bool,
 }
 
 impl Model for Decoder {
@@ -26,7 +26,7 @@ impl Model for Decoder {
 
     ghost Value = { State };
 
-    ghost view = { λ d. record { bytes = take d.len d.area; over = d.over; waits = d.waits; told = d.told } };
+    ghost view = { λ d. record { bytes = take d.len d.area; over = d.over; waits = d.waits; reported = d.reported } };
 
     ghost invariant = { λ d. d.len ≤ LARGEST_DATAGRAM };
 }
@@ -68,7 +68,7 @@ impl Decoder {
             len: 0,
             over: false,
             waits: false,
-            told: false,
+            reported: false,
         }
     }
 
@@ -201,9 +201,9 @@ impl Decoder {
     fn reopen(&mut self)
         ensures { self.new ≡ reopened self.old }
     {
-        if self.told {
+        if self.reported {
             self.len = 0;
-            self.told = false;
+            self.reported = false;
         }
     }
 
@@ -217,10 +217,10 @@ impl Decoder {
         self.over = false;
         self.waits = false;
         if !over && len > 0 {
-            self.told = true;
+            self.reported = true;
             return Fed::Datagram(len);
         }
-        self.told = false;
+        self.reported = false;
         self.len = 0;
         if over { Fed::Overlong } else { Fed::More }
     }
@@ -234,7 +234,7 @@ impl Decoder {
             self.push(meant(byte));
         } else if byte == ESC {
             self.waits = true;
-            self.told = false;
+            self.reported = false;
         } else {
             self.push(byte);
         }
@@ -246,7 +246,7 @@ impl Decoder {
         ensures { self.new ≡ pushed self.old byte }
     {
         self.waits = false;
-        self.told = false;
+        self.reported = false;
         if self.len < LARGEST_DATAGRAM {
             self.area[self.len] = byte;
             self.len += 1;
@@ -295,7 +295,7 @@ impl Decoder {
 
     /// Returns the datagram that was just decoded.
     pub fn bytes(&self, count: usize) -> &[u8]
-        requires told { self.now.told ≡ true }
+        requires reported { self.now.reported ≡ true }
         requires count { count ≡ length self.now.bytes }
         ensures { result.now ≡ self.now.bytes }
     {

@@ -32,10 +32,10 @@ served files line old new result serves.WriteFault u e t = absurd (stayed old.si
 
 no_site : (site : List ℕ) (line : ServedLine) (old new : Outside) (result : Status) (fault : LoadFault) → IsUndisturbed old new → ¬ (LacksFile (site_read site) old.shelf.held) → result ≡ status_of_fault fault
     → FailsToOpen site old.shelf.held old.shelf.faults new.shelf.faults fault → OrShort result (ServingDone site line old new result)
-no_site site line old new result loads.Shelf u there told (inl rose, later) = absurd (stayed old.shelf.faults new.shelf.faults u.shelf.same u.shelf.below rose)
-no_site site line old new result loads.Shelf u there told (inr gone, later) = absurd (there gone)
-no_site site line old new result (loads.Bad error) u there told (is, same) = inr (inr (error, is, told))
-no_site site line old new result loads.NoMemory u there told same = inl told
+no_site site line old new result loads.Shelf u there reported (inl rose, later) = absurd (stayed old.shelf.faults new.shelf.faults u.shelf.same u.shelf.below rose)
+no_site site line old new result loads.Shelf u there reported (inr gone, later) = absurd (there gone)
+no_site site line old new result (loads.Bad error) u there reported (is, same) = inr (inr (error, is, reported))
+no_site site line old new result loads.NoMemory u there reported same = inl reported
 
 serving : (site : List ℕ) (line : ServedLine) (old new : Outside) (result : Status) → SiteServes site line old new result → IsUndisturbed old new → ¬ (LacksFile (site_read site) old.shelf.held) → OrShort result (ServingDone site line old new result)
 serving site line old new result (inl has) u there =
@@ -43,7 +43,7 @@ serving site line old new result (inl has) u there =
       | inl run ↦ inr (inl (has.files, has.read, served has.files line (line_in old) (line_in new) result run.0 u.line run.1 run.2.serves))
       | inr short ↦ inl short.0
     ]
-serving site line old new result (inr none) u there = no_site site line old new result none.fault u there none.told none.fails
+serving site line old new result (inr none) u there = no_site site line old new result none.fault u there none.reported none.fails
 
 -- ---- an image
 

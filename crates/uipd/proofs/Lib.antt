@@ -6,5 +6,5 @@ pub mod ReadLaws
 pub mod ServeLaws
 pub mod SiteLaws
 pub mod WordLaws
-pub mod ToldCompleting
+pub mod ReportedCompleting
 mod Prelude

@@ -41,6 +41,6 @@ pub replay_never : (Ends : ReplayEnd → Type 0) (result : Status) → RunsAs st
 replay_never Ends result run e = never status_of_replay Ends result replay_has_words run e
 
 pub serving_never : (site : List ℕ) (line : ServedLine) (old new : Outside) (result : Status) → SiteServes site line old new result → result ≡ BadWords → ⊥
-serving_never site line old new result (inr none) e = fault_has_words none.fault (sym none.told ∙ e)
+serving_never site line old new result (inr none) e = fault_has_words none.fault (sym none.reported ∙ e)
 serving_never site line old new result (inl has) e =
     elim has.done [ inl run ↦ serving_has_words run.0 (sym run.1 ∙ e) | inr short ↦ (let no = sym short.0 ∙ e in cc) ]

@@ -44,7 +44,7 @@ pub use Rattle.trace.specs.Prelude.{Converts, ReportsLine}
 pub use Rattle.trace.specs.declared.slip_end.SlipEnd.{SlipEnd}
 pub use Rattle.udp_resolver.specs.Prelude.{Resolves, Streams, StreamsUnfailed}
 pub use Rattle.uip_edge.proofs.Breaking.{breaks_prefix, breaks_whole}
-pub use Rattle.uip_edge.proofs.Told.{same_shelf}
+pub use Rattle.uip_edge.proofs.Reported.{same_shelf}
 pub use Rattle.uip_edge.specs.Prelude.{BreaksOff, Files, LineUnfailed, LineView, Outside, Rose, WorkUnfailed, WorkView, WrittenBy, line_in, line_view, shelf_view, work_in}
 pub use Rattle.uip_edge.specs.declared.item.Item.{Item}
 pub use Rattle.uip_edge.specs.declared.serve_end.ServeEnd.{ServeEnd}
@@ -59,8 +59,8 @@ pub use Rattle.uipd.specs.Running.{TaskRuns}
 pub use Rattle.uipd.specs.Serving.{OutputConforms, RunsBy, ServeRuns, ServesBy, WritesKept}
 pub use Rattle.uipd.specs.SiteServing.{IsUndisturbed, SiteServes}
 pub use Rattle.uipd.specs.Statuses.{RunsAs, status_of_fault, status_of_replay, status_of_serving, status_of_site, status_of_slip}
-pub use Rattle.uipd.specs.ToldCompleteness.{ResolvingDone, ReportCompletes, ReportIsComplete}
-pub use Rattle.uipd.specs.ToldRunning.{ResolveRuns, ReportedBy, questions_of}
+pub use Rattle.uipd.specs.ReportedCompleteness.{ResolvingDone, ReportCompletes, ReportIsComplete}
+pub use Rattle.uipd.specs.ReportedRunning.{ResolveRuns, ReportedBy, questions_of}
 pub use Rattle.uipd.specs.Words.{Captures, Checks, Dumps, Loads, Packs, Pages, PlaysBack, Replays, Serves, ShowsText, Task, Upgrades, all_items, back_part, ether_words, has_parts, is_kind_word, kind_word, limited, limits_at, named_file, optionally, says_tty, task_of}
 pub use Rattle.uipd.specs.declared.status.Status.{Status}
 pub use Rattle.uipd.specs.declared.status.Status.TheVariants.{BadWords}

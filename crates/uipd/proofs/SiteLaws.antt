@@ -6,14 +6,14 @@ use Rattle.uipd.specs.declared.status.Status.TheVariants as status
 abbrev pub IsReported : (Files → Option Due) → WorkView → Status → Type 0
 IsReported due old result = (result ≡ status.NoMemory) ⊎ ((made : Due) × FindsInFiles due old.shelf.held made × (result ≡ status_of_site (end_of made.fault)))
 
-told : (due : Files → Option Due) (old new : WorkView) (end : SiteEnd) → Ends due old new end → WorkUnfailed old new → ¬ (LacksFile due old.shelf.held)
+reported : (due : Files → Option Due) (old new : WorkView) (end : SiteEnd) → Ends due old new end → WorkUnfailed old new → ¬ (LacksFile due old.shelf.held)
     → IsReported due old (status_of_site end)
-told due old new end e calm there =
+reported due old new end e calm there =
     elim (as_due due old new end e calm there) [
       | inl short ↦ inl (ap status_of_site short)
       | inr made ↦ inr (made.0, made.1, ap status_of_site made.2)
     ]
 
-pub site_told : (due : Files → Option Due) (old new : WorkView) (result : Status) → RunsAs status_of_site (Ends due old new) result → WorkUnfailed old new → ¬ (LacksFile due old.shelf.held)
+pub site_reported : (due : Files → Option Due) (old new : WorkView) (result : Status) → RunsAs status_of_site (Ends due old new) result → WorkUnfailed old new → ¬ (LacksFile due old.shelf.held)
     → IsReported due old result
-site_told due old new result run calm there = subst (IsReported due old) (sym run.1) (told due old new run.0 run.2 calm there)
+site_reported due old new result run calm there = subst (IsReported due old) (sym run.1) (reported due old new run.0 run.2 calm there)

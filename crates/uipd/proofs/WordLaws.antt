@@ -20,8 +20,8 @@ abbrev pub is_tty : Option (List ℕ) → Bool
 is_tty word = option_map_or (λ text. bytes_eq text (codes "tty")) word false
 
 -- the last word states whether the line is a terminal
-pub last_told : (words : List (String Global)) (found : Option (String Global)) → found ≡ slice_get words (length words - 1) → is_tty (option_map string_bytes found) ≡ says_tty (map string_bytes words)
-last_told words found is =
+pub last_reported : (words : List (String Global)) (found : Option (String Global)) → found ≡ slice_get words (length words - 1) → is_tty (option_map string_bytes found) ≡ says_tty (map string_bytes words)
+last_reported words found is =
     ap (λ o. is_tty (option_map string_bytes o)) is
     ∙ sym (ap is_tty (slice_get-map string_bytes words (length words - 1)))
     ∙ ap (λ n. is_tty (slice_get (map string_bytes words) (n - 1))) (sym (length-map words string_bytes))

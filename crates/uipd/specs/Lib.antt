@@ -9,6 +9,6 @@ pub mod Serving
 pub mod SiteServing
 pub mod Statuses
 pub mod Telling
-pub mod ToldRunning
+pub mod ReportedRunning
 pub mod Words
-pub mod ToldCompleteness
+pub mod ReportedCompleteness

@@ -21,7 +21,7 @@ pub record WithSite (site : List ℕ) (old new : Outside) (Done : List File → 
 -- There is no site with the name, for this reason; the line and its output are unchanged.
 pub record WithoutSite (site : List ℕ) (old new : Outside) (result : Status) : Type 0 where
   pub fault : LoadFault
-  pub told : result ≡ status_of_fault fault
+  pub reported : result ≡ status_of_fault fault
   pub fails : FailsToOpen site old.shelf.held old.shelf.faults new.shelf.faults fault
   pub held : new.shelf.held ≡ old.shelf.held
   pub line : line_in new ≡ line_in old

@@ -9,7 +9,7 @@ use Rattle.uip_edge.specs.declared.item.Item.TheVariants.{Byte}
 
 -- The bytes that a reader has left, if they are known. A line from a terminal may be silent at any time, so its items are unknown.
 abbrev pub items_left : Bool → Option (List ℕ) → Option (List Item)
-items_left tty told = if tty then None else option_map (map Byte) told
+items_left tty reported = if tty then None else option_map (map Byte) reported
 
 -- An empty read is a silence of a terminal, otherwise the end. A failed read is a failure.
 abbrev pub IsGot : {E : Type 0} → Bool → Result ℕ E → Result Got Failed → Type 0

@@ -132,7 +132,7 @@ fn the_last_word_makes_the_reader_a_terminal(rt: HostRuntime) -> Result<(), Fail
 }
 
 #[test]
-fn names_are_told_beside_the_output(rt: HostRuntime) -> Result<(), Fail> {
+fn names_are_reported_beside_the_output(rt: HostRuntime) -> Result<(), Fail> {
     let alloc = rt.alloc();
     let (query, reply) = both_of(alloc, &[QUERY], &[REPLY])?;
     let words = words_of(alloc, &WORDS)?;

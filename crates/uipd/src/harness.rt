@@ -55,7 +55,7 @@ pub struct Trial<'w, 'a> {
     pub sink_fails: &'a [u64],
     pub room: usize,
     pub output: &'a [u8],
-    pub told: &'a [u8],
+    pub expected: &'a [u8],
     pub status: Status,
 }
 
@@ -104,7 +104,7 @@ impl<'w, 'a> Trial<'w, 'a> {
             sink_fails: &[],
             room: 4096,
             output,
-            told: b"",
+            expected: b"",
             status: Status::Done,
         }
     }
@@ -161,7 +161,7 @@ impl<'w, 'a> Trial<'w, 'a> {
         let ran = self.run(alloc, most)?;
         assert_eq!(rt; ran.status, self.status);
         assert_eq!(rt; ran.out.written(), self.output);
-        assert_eq!(rt; ran.tell.written(), self.told);
+        assert_eq!(rt; ran.tell.written(), self.expected);
         Ok(())
     }
 

@@ -105,8 +105,8 @@ fn replaying<'a>(site: &'a [u8], schedule: &'a [u8], report: &'a [u8]) -> Trial<
     }
 }
 
-fn refused<'a>(schedule: &'a [u8], told: &'a [u8], line: u32, why: Why) -> Trial<'static, 'a> {
-    replaying(IMAGE, schedule, told).ending(Status::BadSchedule { line, why })
+fn refused<'a>(schedule: &'a [u8], expected: &'a [u8], line: u32, why: Why) -> Trial<'static, 'a> {
+    replaying(IMAGE, schedule, expected).ending(Status::BadSchedule { line, why })
 }
 
 /// [add: schedule-line] A schedule with the line, and its report.

@@ -22,7 +22,7 @@ fn tells_the_address_for_every_cut(rt: HostRuntime) -> Result<(), Fail> {
     let alloc = rt.alloc();
     let (query, reply) = both_of(alloc, &[QUERY], &[REPLY])?;
     let good = Trial {
-        told: b"a.b 192.0.2.7\n",
+        expected: b"a.b 192.0.2.7\n",
         ..Trial::new(&WORDS, &reply, &query)
     };
     good.check_cuts(&rt, alloc)?;
@@ -33,7 +33,7 @@ fn tells_the_address_for_every_cut(rt: HostRuntime) -> Result<(), Fail> {
     }
     let ignored = Trial {
         input: &other,
-        told: b"a.b open\n",
+        expected: b"a.b open\n",
         ..good
     };
     ignored.check_cuts(&rt, alloc)
@@ -59,7 +59,7 @@ fn gives_up_after_249_silences(rt: HostRuntime) -> Result<(), Fail> {
     let queries = nine_queries(alloc)?;
     let silent = Trial {
         silences: 249,
-        told: b"a.b timeout\n",
+        expected: b"a.b timeout\n",
         ..Trial::new(&WORDS, &[], &queries)
     };
     silent.check(&rt, alloc, 1)?;
@@ -67,7 +67,7 @@ fn gives_up_after_249_silences(rt: HostRuntime) -> Result<(), Fail> {
         ("249", Status::Done, b"a.b timeout\n"),
         ("248", Status::Budget, b"a.b open\n"),
     ];
-    for (items, status, told) in limits {
+    for (items, status, expected) in limits {
         let words = [
             "resolve", "10.0.0.1", "10.0.0.2", "1", "items", items, "a.b", "tty",
         ];
@@ -75,7 +75,7 @@ fn gives_up_after_249_silences(rt: HostRuntime) -> Result<(), Fail> {
             words: &words,
             silences: 300,
             status,
-            told,
+            expected,
             ..silent
         };
         limited.check(&rt, alloc, 1)?;
@@ -114,8 +114,8 @@ fn asks_for_four_names(rt: HostRuntime) -> Result<(), Fail> {
     ];
     let ran = Trial::new(&words, &[], &[]).run(rt.alloc(), 1)?;
     assert_eq!(rt; ran.status, Status::Budget);
-    let told: &[u8] = b"a.b open\nc.d open\nE.f open\ng-_.h open\n";
-    assert_eq!(rt; ran.tell.written(), told);
+    let expected: &[u8] = b"a.b open\nc.d open\nE.f open\ng-_.h open\n";
+    assert_eq!(rt; ran.tell.written(), expected);
     Ok(())
 }
 

@@ -3,8 +3,8 @@
 ghost use Rattle.std.specs.Prelude.{◌≡◌, None, map, string_bytes};
 ghost use Rattle.udp_resolver.specs.Prelude.{streams};
 ghost use Rattle.uipd.specs.ResolveWords.{resolving_of};
-ghost use Rattle.uipd.specs.ToldCompleteness.{ReportIsComplete};
-ghost use Rattle.uipd.specs.ToldRunning.{ResolveRuns, ToldRuns};
+ghost use Rattle.uipd.specs.ReportedCompleteness.{ReportIsComplete};
+ghost use Rattle.uipd.specs.ReportedRunning.{ResolveRuns, ReportedRuns};
 ghost use Rattle.uipd.specs.declared.status.Status.TheVariants.{BadWords};
 ghost use Rattle.uip_edge.specs.Prelude.{outside};
 
@@ -27,7 +27,7 @@ pub fn run_told<H: Shelf, L: Link, K: Sink, T: Sink>(
     out: &mut K,
     tell: &mut T,
 ) -> Status
-    ensures runs { ToldRuns (map string_bytes words.now)
+    ensures runs { ReportedRuns (map string_bytes words.now)
         (outside H.Shelf L.Link K.Sink shelf.old link.old out.old)
         (outside H.Shelf L.Link K.Sink shelf.new link.new out.new)
         (streams L.Link K.Sink T.Sink link.old out.old tell.old)

@@ -138,7 +138,7 @@ fn checks_images(rt: HostRuntime) -> Result<(), Fail> {
 }
 
 /// Returns the report of `check` on the image with the highest bit of the byte at an offset changed.
-fn told_of_damage(place: usize) -> (&'static [u8], Status) {
+fn reported_of_damage(place: usize) -> (&'static [u8], Status) {
     match place {
         0..=7 => (b"bad site magic 0\n", bad(SiteWhy::Magic, 0)),
         8 => (b"bad site many 0\n", bad(SiteWhy::TooMany, 0)),
@@ -155,7 +155,7 @@ fn checks_damaged_images(rt: HostRuntime) -> Result<(), Fail> {
     let mut image = IMAGE.to_vec(alloc)?;
     for place in 0..image.len() {
         image[place] ^= 0x80;
-        let (output, status) = told_of_damage(place);
+        let (output, status) = reported_of_damage(place);
         checking(&image, output, status).check(&rt, alloc, 1)?;
         image[place] ^= 0x80;
     }

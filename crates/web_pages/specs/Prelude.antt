@@ -17,7 +17,7 @@ pub use Rattle.web_pages.specs.Requests.Wanted.{Name, NotYet, Refused}
 pub use Rattle.web_pages.specs.Serving.{is_served, no_hits}
 pub use Rattle.web_pages.specs.WebMeaning.{hit_at, hits_by, is_acknowledged, is_acknowledged_by, left_of, left_of_by}
 pub use Rattle.web_pages.specs.WebMeaning.{waits_for_capture, waits_for_capture_by, web_spec, web_spec_by, web_want, web_want_by}
-pub use Rattle.web_pages.specs.Words.{LongNames, ReportedInPieces, told_so_far}
+pub use Rattle.web_pages.specs.Words.{LongNames, ReportedInPieces, reported_so_far}
 pub use Rattle.web_pages.specs.WorkedPages.{AreWorkedPages, as_html, file, get, hello_site, hits_site, ok}
 pub use Rattle.web_pages.specs.WorkedRequests.{AreWorkedRequests}
 pub use Rattle.web_pages.specs.ZeroPages.{most_captures, request_for, zero_page, zero_reply, zero_said, zero_snapshot}

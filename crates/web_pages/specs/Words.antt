@@ -11,8 +11,8 @@ use Rattle.web_pages.specs.Requests.Wanted.{NotYet, Refused, Name}
 abbrev pub is_get : Line → Bool
 is_get method = bytes_eq method.name (codes "GET") && not method.query
 
-abbrev pub told_so_far : Line → Line → Wanted
-told_so_far method target =
+abbrev pub reported_so_far : Line → Line → Wanted
+reported_so_far method target =
     if not method.done then NotYet
     else if not (is_get method) then Refused
     else if not target.done then NotYet
@@ -24,7 +24,7 @@ abbrev pub ReportedInPieces : Type 0
 ReportedInPieces =
     (pieces later : List (List ℕ)) → after_method (concat pieces) ≡ concat later
     → (fold after (fresh SpaceOrLine) later).over ≡ false
-    → wanted (concat pieces) ≡ told_so_far (fold after (fresh Space) pieces) (fold after (fresh SpaceOrLine) later)
+    → wanted (concat pieces) ≡ reported_so_far (fold after (fresh Space) pieces) (fold after (fresh SpaceOrLine) later)
 
 -- If the name is longer, it is longer than the name of any file.
 abbrev pub LongNames : Type 0

@@ -48,9 +48,9 @@ pub fn decisions_stay()
 
 /// Two words determine what a request names, in whatever pieces they were received. If the name in a target is cut, it is
 /// longer than any file's.
-#[tactic(auto, using(crate::proofs::WordLaws::told_in_pieces, crate::proofs::WordLaws::long_names))]
-pub fn told_by_words()
-    ensures told { ReportedInPieces }
+#[tactic(auto, using(crate::proofs::WordLaws::reported_in_pieces, crate::proofs::WordLaws::long_names))]
+pub fn reported_by_words()
+    ensures reported { ReportedInPieces }
     ensures long { LongNames }
 {}
 

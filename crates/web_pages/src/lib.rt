@@ -6,7 +6,7 @@ mod laws;
 
 pub use laws::{
     constant_values, decisions_stay, page_laws, pages_are_bytes, pages_of_any_calls,
-    pages_within_greatest, told_by_words, upgrade_keeps_pages, worked_pages, worked_requests,
+    pages_within_greatest, reported_by_words, upgrade_keeps_pages, worked_pages, worked_requests,
 };
 
 /// After this number of ticks with nothing outstanding and no other event between them, the connection is given up.

@@ -2,7 +2,7 @@
 use Rattle.std.proofs.Common.{◌≡◌, ℕ, Bool, true, false, List, [], ◌∷◌, ◌++◌, ◌==◌, if◌then◌else◌, refl, sym, ap, ◌∙◌, append_assoc}
 use Rattle.app_events.specs.Prelude.{Snapshot, IsPrefixOf}
 use Rattle.telnet_shell.specs.declared.command.Command.{Command}
-use Rattle.telnet_shell.specs.Reading.{Awaits, Token, tokens, told, next_awaits, awaits_after, commands}
+use Rattle.telnet_shell.specs.Reading.{Awaits, Token, tokens, tokens_at, next_awaits, awaits_after, commands}
 use Rattle.telnet_shell.specs.Reading.{command_of, line_after, is_quit, until_quit, has_quit, commands_in}
 use Rattle.telnet_shell.specs.Reading.Awaits.{Text}
 use Rattle.telnet_shell.specs.Reading.Token.{Byte, Answer}
@@ -11,8 +11,8 @@ use Rattle.telnet_shell.specs.Transcript.{transcript, needs_capture, said_plainl
 pub tokens_joined : (awaits : Awaits) (xs ys : List ℕ) → tokens awaits (xs ++ ys) ≡ tokens awaits xs ++ tokens (awaits_after awaits xs) ys
 tokens_joined awaits [] ys = refl
 tokens_joined awaits (x ∷ xs) ys =
-    ap (λ (ts : List Token). told awaits x ++ ts) (tokens_joined (next_awaits awaits x) xs ys)
-    ∙ sym (append_assoc (told awaits x) (tokens (next_awaits awaits x) xs) (tokens (awaits_after (next_awaits awaits x) xs) ys))
+    ap (λ (ts : List Token). tokens_at awaits x ++ ts) (tokens_joined (next_awaits awaits x) xs ys)
+    ∙ sym (append_assoc (tokens_at awaits x) (tokens (next_awaits awaits x) xs) (tokens (awaits_after (next_awaits awaits x) xs) ys))
 
 -- a byte of the text to which the rest is joined, whatever the line is
 byte_joined : (line : List ℕ) (byte : ℕ) (ts us : List Token) (ends drops : Bool)

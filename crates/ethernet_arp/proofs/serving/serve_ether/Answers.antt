@@ -1,5 +1,5 @@
 use Rattle.ethernet_arp.proofs.Prelude.{ap, sym, subst, ◌≡◌, Knows, host_of, Arp}
-use Rattle.ethernet_arp.proofs.ServingLaws.{serves_told}
+use Rattle.ethernet_arp.proofs.ServingLaws.{serves_reported}
 use Rattle.ethernet_arp.proofs.TableLaws.{knows_same}
 use Rattle.ethernet_arp.proofs.serving.serve_ether.Goals as goal
 
@@ -7,7 +7,7 @@ pub returns-clause-serves : goal.returns-clause-serves
 returns-clause-serves g c =
     let line = c.new-line.result in
     let host : host_of line.arp ≡ host_of c.args.arp.now = ap (λ (a : Arp). host_of a) c.new-line.ensures.arp in
-    serves_told g.A.App _ _ _ _ _ _ _
+    serves_reported g.A.App _ _ _ _ _ _ _
     (λ acts k. (host, subst (λ (a : Arp). Knows a acts) (sym c.new-line.ensures.arp) k))
     (λ acts d. knows_same _ _ acts c.learn_all.ensures.knows d.1)
     c.args.pace c.args.items _ _ _ (c.serve_over-end.ensures.serves (host_of c.args.arp.now) (host, c.new-line.ensures.part))

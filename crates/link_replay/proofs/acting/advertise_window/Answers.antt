@@ -4,8 +4,8 @@ use Rattle.link_replay.proofs.Places.{side_put}
 use Rattle.link_replay.proofs.Sending
 use Rattle.link_replay.proofs.acting.advertise_window.Goals as goal
 
-pub returns-clause-told : goal.returns-clause-told
-returns-clause-told c = λ w sent h.
+pub returns-clause-reported : goal.returns-clause-reported
+returns-clause-reported c = λ w sent h.
     let n : ℕ = c.from-place.result - 1 in
     let is : c.args.number ≡ suc n = omega arith in
     let link : Link = link_of c.args.sides.now.items sent in

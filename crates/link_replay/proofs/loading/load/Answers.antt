@@ -1,5 +1,5 @@
 use Rattle.link_replay.proofs.Prelude.{Err, subst, Opens, files_of, LoadFault, WorkView, work_view}
-use Rattle.link_replay.proofs.Told.{load_ends, load_image_ends}
+use Rattle.link_replay.proofs.Reported.{load_ends, load_image_ends}
 use Rattle.link_replay.proofs.loading.load.Goals as goal
 
 pub returns-in-Ok-clause-ends : goal.returns-in-Ok-clause-ends

@@ -1,4 +1,4 @@
-use Rattle.link_replay.proofs.Told.{image_ends}
+use Rattle.link_replay.proofs.Reported.{image_ends}
 use Rattle.link_replay.proofs.Prelude.{work_view}
 use Rattle.link_replay.proofs.replaying.refuse_site.Goals as goal
 

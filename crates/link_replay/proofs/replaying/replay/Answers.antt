@@ -1,5 +1,5 @@
 use Rattle.link_replay.proofs.Prelude.{Err, Option, refl, subst, sym, LoadFault, Files, FindsInFiles, Opens, site_read, ReplayEnds, WorkView, work_view}
-use Rattle.link_replay.proofs.Told.{same_work}
+use Rattle.link_replay.proofs.Reported.{same_work}
 use Rattle.link_replay.proofs.replaying.replay.Goals as goal
 
 pub returns-in-Err-Bad-clause-ends : goal.returns-in-Err-Bad-clause-ends

@@ -1,5 +1,5 @@
 use Rattle.link_replay.proofs.Prelude.{ℕ, List, subst, files_of, WritesDue, IsTextDue, work_view, sink_view}
-use Rattle.link_replay.proofs.Told.{schedule_ends}
+use Rattle.link_replay.proofs.Reported.{schedule_ends}
 use Rattle.link_replay.proofs.replaying.replay_site.Goals as goal
 
 pub returns-in-Ok-clause-ends : goal.returns-in-Ok-clause-ends

@@ -70,10 +70,10 @@ returns-clause-shows g c = rw (← c.world.view_is) (
     let text = counts_line c.ticks.result count in
     let made : c.bytes.result.now ≡ text = ◌∙◌ {b = c.last_line-line.result} {c = text} c.bytes.ensures c.last_line-line.ensures in
     let clients = numbered_texts (lines_of_client show) 1 (map code_side_shown sides) in
-    let told = numbered_texts (lines_of_client show) 1 (map code_side_shown all) in
+    let reported = numbered_texts (lines_of_client show) 1 (map code_side_shown all) in
     let same = ap (λ (xs : List CodeSide). numbered_texts (lines_of_client show) 1 (map code_side_shown xs) ++ text) c.as_slice-sides.ensures.value
-    ∙ ap (λ (xs : List CodeSent). told ++ counts_line c.ticks.result (length xs)) c.as_slice-sent.ensures.value
-    ∙ ap (λ (ticks : ℕ). told ++ counts_line ticks (length c.world.inside.sent.items)) c.ticks.ensures in
+    ∙ ap (λ (xs : List CodeSent). reported ++ counts_line c.ticks.result (length xs)) c.as_slice-sent.ensures.value
+    ∙ ap (λ (ticks : ℕ). reported ++ counts_line ticks (length c.world.inside.sent.items)) c.ticks.ensures in
     subst (λ (end : List ℕ). OnOk r (EndsReport show (g.K.Sink.written c.args.sink.now) (g.K.Sink.written c.write_word.new.sink) end)) same
     (report_ends show _ _ _ _ clients text r c.in_ok-write_shown.ensures.some c.in_ok-write_clients.ensures.wrote.whole
     (wrote_by _ _ r c.bytes.result.now text made c.write_word.ensures.wrote)))

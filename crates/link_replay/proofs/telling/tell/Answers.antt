@@ -14,14 +14,14 @@ returns-in_ok-post_reply-in-Some-clause-kept g c = λ addr h.
     kept_posted addr _ c.bury_gone.new.sides.items c.args.sent.now.items c.post_reply.new.sent.items c.as_slice.ensures.value (c.post_reply.ensures.kept addr)
     (c.bury_gone.ensures.kept addr c.args.sent.now.items h)
 
-pub returns-in-None-clause-told : goal.returns-in-None-clause-told
-returns-in-None-clause-told g c = λ m served w event before to stands sent h.
+pub returns-in-None-clause-reported : goal.returns-in-None-clause-reported
+returns-in-None-clause-reported g c = λ m served w event before to stands sent h.
     let r : NodeStep = step m served w.node event in
     quiet (λ (v : World). LinkRepresents (link_of c.bury_gone.new.sides.items c.args.sent.now.items) v) (left_by w r.node r.gone) c.args.node.now.addr r.sent c.args.answer c.args.node.now.packet c.in-None.is sent
     (c.in_ok-bury_gone.ensures.buried c.args.sent.now.items w r.node r.gone (c.gone.ensures m served w.node event before stands) (step_addr m served w.node event) h)
 
-pub returns-in_ok-post_reply-in-Some-clause-told : goal.returns-in_ok-post_reply-in-Some-clause-told
-returns-in_ok-post_reply-in-Some-clause-told g c = λ m served w event before to stands sent h.
+pub returns-in_ok-post_reply-in-Some-clause-reported : goal.returns-in_ok-post_reply-in-Some-clause-reported
+returns-in_ok-post_reply-in-Some-clause-reported g c = λ m served w event before to stands sent h.
     let r : NodeStep = step m served w.node event in
     let v : World = left_by w r.node r.gone in
     let all : List CodeSent = c.args.sent.now.items in

@@ -3,31 +3,31 @@ use Rattle.serve_loop.proofs.line.take_turn.Goals as goal
 
 pub returns-in-Ok-take_bytes-clause-turns : goal.returns-in-Ok-take_bytes-clause-turns
 returns-in-Ok-take_bytes-clause-turns g c = λ k pace before h.
-    let told = rw c.in-Ok-Bytes.field-0-is at c.in-Ok-Bytes.ensures in
+    let reported = rw c.in-Ok-Bytes.field-0-is at c.in-Ok-Bytes.ensures in
     let done = c.in-Ok-take_bytes.ensures in
     let bytes = take c.in-Ok-Bytes.count c.next.new.buf in
-    let count : length (map Byte bytes) ≡ c.in-Ok-Bytes.count = counted c.in-Ok-Bytes.count c.next.new.buf told.count.1 in
+    let count : length (map Byte bytes) ≡ c.in-Ok-Bytes.count = counted c.in-Ok-Bytes.count c.next.new.buf reported.count.1 in
     record {
       items = map Byte bytes;
       are = All-map IsItem Byte bytes done.are;
-      consumed = told.items;
-      within = omega (arith, count, told.count.1, c.next.auto.buf);
-      cause = (count, record { link = told.cause.same; sink = done.cause.same });
+      consumed = reported.items;
+      within = omega (arith, count, reported.count.1, c.next.auto.buf);
+      cause = (count, record { link = reported.cause.same; sink = done.cause.same });
       on = rw bytes_among-map (done.taken k pace before h);
       wrote = done.ok k pace before h;
     }
 
 pub returns-in-Err-take_bytes-clause-turns : goal.returns-in-Err-take_bytes-clause-turns
 returns-in-Err-take_bytes-clause-turns g c = λ k pace before h.
-    let told = rw c.in-Ok-Bytes.field-0-is at c.in-Ok-Bytes.ensures in
+    let reported = rw c.in-Ok-Bytes.field-0-is at c.in-Ok-Bytes.ensures in
     let done = c.in-Err-take_bytes.ensures in
     let bytes = take c.in-Ok-Bytes.count c.next.new.buf in
     record {
       items = map Byte bytes;
       are = All-map IsItem Byte bytes done.are;
-      consumed = told.items;
-      within = (let count : length (map Byte bytes) ≡ c.in-Ok-Bytes.count = counted c.in-Ok-Bytes.count c.next.new.buf told.count.1 in omega (arith, count, told.count.1, c.next.auto.buf));
-      cause = (told.cause.same, done.cause.failed);
+      consumed = reported.items;
+      within = (let count : length (map Byte bytes) ≡ c.in-Ok-Bytes.count = counted c.in-Ok-Bytes.count c.next.new.buf reported.count.1 in omega (arith, count, reported.count.1, c.next.auto.buf));
+      cause = (reported.cause.same, done.cause.failed);
       on = tt;
       wrote = done.err k pace before h;
     }

@@ -21,16 +21,16 @@ returns-in_err-call_slot-clause-err g c =
 pub loop-slot-preserved : goal.loop-slot-preserved
 loop-slot-preserved g c =
     let inv = c.loop-slot.invariant in
-    let told = c.in_ok-call_slot.ensures in
+    let reported = c.in_ok-call_slot.ensures in
     let slot = c.loop-slot.slot in
     record {
-      same = told.same ∙ inv.same;
-      fed = λ k before p. told.fed k before (inv.fed k before p);
+      same = reported.same ∙ inv.same;
+      fed = λ k before p. reported.fed k before (inv.fed k before p);
       wrote = λ k m own.
           let acts = map OfMedium (g.M.Medium.spec k).at_tick in
           wrote_by m g.A.App.served (g.M.Medium.spec k) own _ _ _ _ _ _ (calls_after acts slot)
-          (wrote_then m g.A.App.served (g.M.Medium.spec k) own (acts ++ calls slot) (OfNode (Periodic slot) ∷ []) _ _ _ _ _ _ (inv.wrote k m own) (told.ok k m own));
-      calm = told.cause.same ∙ inv.calm;
+          (wrote_then m g.A.App.served (g.M.Medium.spec k) own (acts ++ calls slot) (OfNode (Periodic slot) ∷ []) _ _ _ _ _ _ (inv.wrote k m own) (reported.ok k m own));
+      calm = reported.cause.same ∙ inv.calm;
     }
 
 pub returns-clause-ok : goal.returns-clause-ok

@@ -16,15 +16,15 @@ loop-rest-preserved g c =
     let inv = c.loop-rest.invariant in
     let rest = c.loop-rest.rest.now in
     let n = c.in_ok-count.count in
-    let told = c.in_ok-count.ensures in
+    let reported = c.in_ok-count.ensures in
     record {
       prefix = inv.prefix ++ take n rest;
       pieces = moved_on _ inv.prefix rest n inv.pieces;
-      ready = told.ready;
-      counted = omega (arith, told.counted, told.count.1, inv.counted, length-append inv.prefix (take n rest), length-take-le n rest told.count.1);
+      ready = reported.ready;
+      counted = omega (arith, reported.counted, reported.count.1, inv.counted, length-append inv.prefix (take n rest), length-take-le n rest reported.count.1);
       took = λ k before h.
           subst (λ (l : List Item). g.R.LineReader.took c.take_prefix.new.self k l (g.K.Sink.written c.take_prefix.new.sink))
           (append_assoc before (map Byte inv.prefix) (map Byte (take n rest)) ∙ ap (λ l. before ++ l) (sym (map-append Byte inv.prefix (take n rest))))
-          (told.took k (before ++ map Byte inv.prefix) (inv.took k before h));
-      calm = told.calm ∙ inv.calm;
+          (reported.took k (before ++ map Byte inv.prefix) (inv.took k before h));
+      calm = reported.calm ∙ inv.calm;
     }

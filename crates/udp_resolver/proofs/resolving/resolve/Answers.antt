@@ -1,5 +1,5 @@
 use Rattle.udp_resolver.proofs.Prelude.{List, ℕ, subst, Asking, questions, Resolves, streams}
-use Rattle.udp_resolver.proofs.ResolveLaws.{names_part, names_told}
+use Rattle.udp_resolver.proofs.ResolveLaws.{names_part, names_reported}
 use Rattle.udp_resolver.proofs.resolving.resolve.Goals as goal
 
 pub returns-in-Ok-clause-resolves : goal.returns-in-Ok-clause-resolves
@@ -8,7 +8,7 @@ returns-in-Ok-clause-resolves g c =
     let old = streams g.L.Link g.K.Sink g.T.Sink c.args.link.now c.args.out.now c.args.tell.now in
     let new = streams g.L.Link g.K.Sink g.T.Sink c.ask-end.new.link c.ask-end.new.out c.tell_all.new.tell in
     subst (λ (l : List (List ℕ)). Resolves (questions asking l) c.args.items old new c.ask-end.result) c.as_slice-names.ensures.value
-    (names_told asking c.as_slice-names.result.now c.args.items c.ask-end.new.run old new c.as_slice.result.now c.as_slice.ensures.value c.ask-end.result
+    (names_reported asking c.as_slice-names.result.now c.args.items c.ask-end.new.run old new c.as_slice.result.now c.as_slice.ensures.value c.ask-end.result
     c.in_default.not-LinkFault c.in_default.not-WriteFault c.ask-end.ensures.asks c.in-Ok.ensures.writes.cause.same c.in-Ok.ensures.writes.whole)
 
 pub returns-in-Err-clause-resolves : goal.returns-in-Err-clause-resolves

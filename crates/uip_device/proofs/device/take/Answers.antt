@@ -1,6 +1,6 @@
 use Rattle.uip_device.proofs.Prelude.{◌≡◌, ◌++◌, [], ◌∷◌, ap, arith, inl, inr, List, length, length-append, map, refl, take, Byte, datagram_in, Datagram, Frame, Overlong, frames, event_of, events_after, text_of, text_to_come}
 use Rattle.uip_node.specs.Events.Event.{Overlong as OverlongFrame}
-use Rattle.uip_device.proofs.FrameLaws.{told_events}
+use Rattle.uip_device.proofs.FrameLaws.{reported_events}
 use Rattle.uip_device.proofs.SendLaws.{sends_by, sends_none, sends_overlong}
 use Rattle.uip_device.proofs.device.take.Goals as goal
 
@@ -15,44 +15,44 @@ returns-in-Datagram-clause-stops g c = inr (rw c.in-Datagram.is at c.feed_run-ru
 
 pub returns-in-More-clause-one : goal.returns-in-More-clause-one
 returns-in-More-clause-one g c = λ before fed.
-    let told = rw c.in-More.is at c.feed_run-run.ensures.prefix.frames in
-    omega (arith, ap (λ (l : List Frame). length l) (told before fed).1, length-append (frames before) [])
+    let reported = rw c.in-More.is at c.feed_run-run.ensures.prefix.frames in
+    omega (arith, ap (λ (l : List Frame). length l) (reported before fed).1, length-append (frames before) [])
 
 pub returns-in-Overlong-clause-one : goal.returns-in-Overlong-clause-one
 returns-in-Overlong-clause-one g c = λ before fed.
-    let told = rw c.in-Overlong.is at c.feed_run-run.ensures.prefix.frames in
-    omega (arith, ap (λ (l : List Frame). length l) (told before fed).1, length-append (frames before) (Overlong ∷ []))
+    let reported = rw c.in-Overlong.is at c.feed_run-run.ensures.prefix.frames in
+    omega (arith, ap (λ (l : List Frame). length l) (reported before fed).1, length-append (frames before) (Overlong ∷ []))
 
 pub returns-in-Datagram-clause-one : goal.returns-in-Datagram-clause-one
 returns-in-Datagram-clause-one g c = λ before fed.
-    let told = rw c.in-Datagram.is at c.feed_run-run.ensures.prefix.frames in
-    omega (arith, ap (λ (l : List Frame). length l) (told before fed).1, length-append (frames before) (Datagram c.feed_run-run.new.self.bytes ∷ []))
+    let reported = rw c.in-Datagram.is at c.feed_run-run.ensures.prefix.frames in
+    omega (arith, ap (λ (l : List Frame). length l) (reported before fed).1, length-append (frames before) (Datagram c.feed_run-run.new.self.bytes ∷ []))
 
 pub returns-in-More-clause-sends : goal.returns-in-More-clause-sends
 returns-in-More-clause-sends g c = λ before fed.
-    let told = rw c.in-More.is at c.feed_run-run.ensures.prefix.frames in
+    let reported = rw c.in-More.is at c.feed_run-run.ensures.prefix.frames in
     let bytes = take c.feed_run-run.result.count c.args.bytes.now in
     rw c.nothing-written.ensures (
     sends_none g.A.App (λ own. events_after own 0 before (map Byte bytes)) c.args.node.now (λ own replies. text_of own replies ≡ [])
-    (λ own. told_events own before bytes [] (told before fed).1) (λ own. refl))
+    (λ own. reported_events own before bytes [] (reported before fed).1) (λ own. refl))
 
 pub returns-in-Overlong-clause-sends : goal.returns-in-Overlong-clause-sends
 returns-in-Overlong-clause-sends g c = λ before fed.
-    let told = rw c.in-Overlong.is at c.feed_run-run.ensures.prefix.frames in
+    let reported = rw c.in-Overlong.is at c.feed_run-run.ensures.prefix.frames in
     let bytes = take c.feed_run-run.result.count c.args.bytes.now in
     let new = c.count_overlong.new.self in
     rw c.nothing-written-in-Overlong.ensures (
     sends_by g.A.App (λ own. OverlongFrame ∷ []) (λ own. events_after own 0 before (map Byte bytes)) c.args.node.now new (λ own replies. text_of own replies ≡ [])
-    (λ own. told_events own before bytes (Overlong ∷ []) (told before fed).1)
+    (λ own. reported_events own before bytes (Overlong ∷ []) (reported before fed).1)
     (sends_overlong g.A.App c.args.node.now new (λ own replies. text_of own replies ≡ []) c.count_overlong.ensures.same c.count_overlong.ensures.step (λ own. refl)))
 
 pub returns-in-Datagram-clause-sends : goal.returns-in-Datagram-clause-sends
 returns-in-Datagram-clause-sends g c = λ before fed.
-    let told = rw c.in-Datagram.is at c.feed_run-run.ensures.prefix.frames in
+    let reported = rw c.in-Datagram.is at c.feed_run-run.ensures.prefix.frames in
     let bytes = take c.feed_run-run.result.count c.args.bytes.now in
     let shown = c.feed_run-run.new.self.bytes in
     let new = c.answer-written.new.node in
     sends_by g.A.App (λ own. event_of own shown ∷ []) (λ own. events_after own 0 before (map Byte bytes)) c.args.node.now new
     (λ own replies. text_of own replies ≡ take c.answer-written.result.wrote c.answer-written.new.out ++ text_to_come (datagram_in new.packet) c.answer-written.result.left)
-    (λ own. told_events own before bytes (Datagram shown ∷ []) (told before fed).1)
+    (λ own. reported_events own before bytes (Datagram shown ∷ []) (reported before fed).1)
     (rw c.bytes.ensures at c.answer-written.ensures.sends)

@@ -35,7 +35,7 @@ loop-rest-preserved g c =
     let inv = c.loop-rest.invariant in
     let part = c.split_at.result.0.now in
     let text = c.put_escaped.new.self in
-    let told = c.in_ok-write_whole.ensures in
+    let reported = c.in_ok-write_whole.ensures in
     record {
       prefix = inv.prefix ++ part;
       sent = inv.sent ++ text;
@@ -43,8 +43,8 @@ loop-rest-preserved g c =
       made = ap (λ l. (inv.sent ++ text) ++ l) c.clear-in-loop-rest.ensures ∙ append-nil (inv.sent ++ text)
           ∙ gathered inv.sent c.loop-rest.text text inv.prefix part inv.made c.put_escaped.ensures;
       room = (let none : length c.clear-in-loop-rest.new.self ≡ 0 = ap (λ l. length l) c.clear-in-loop-rest.ensures in omega (arith, none));
-      written = Appends-then _ _ _ inv.sent text inv.written (appends_by _ _ _ text (sym c.bytes.ensures) told.whole);
-      same = told.cause.same ∙ inv.same;
+      written = Appends-then _ _ _ inv.sent text inv.written (appends_by _ _ _ text (sym c.bytes.ensures) reported.whole);
+      same = reported.cause.same ∙ inv.same;
     }
 
 pub push-requires-2 : goal.push-requires-2

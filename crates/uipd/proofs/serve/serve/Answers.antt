@@ -14,7 +14,7 @@ pub returns-in-Err-clause-runs : goal.returns-in-Err-clause-runs
 returns-in-Err-clause-runs g c =
     inr (record {
       fault = c.in-Err.fault;
-      told = c.from.ensures;
+      reported = c.from.ensures;
       fails = c.in-Err.ensures.opens;
       held = c.in-Err.ensures.kept;
       line = refl;

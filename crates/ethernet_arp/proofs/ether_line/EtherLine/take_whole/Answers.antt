@@ -3,15 +3,15 @@ use Rattle.ethernet_arp.proofs.Bytes.{payload_is}
 use Rattle.ethernet_arp.proofs.TakenLaws.{brings_act, brings_datagram, brings_none}
 use Rattle.ethernet_arp.proofs.ether_line.EtherLine.take_whole.Goals as goal
 
-pub returns-in-Nothing-clause-told : goal.returns-in-Nothing-clause-told
-returns-in-Nothing-clause-told c = ap (λ l. frame_brings (host_of c.args.self.now.arp) l) (sym c.frame.ensures) ∙ c.in-Nothing.ensures.decodes
+pub returns-in-Nothing-clause-reported : goal.returns-in-Nothing-clause-reported
+returns-in-Nothing-clause-reported c = ap (λ l. frame_brings (host_of c.args.self.now.arp) l) (sym c.frame.ensures) ∙ c.in-Nothing.ensures.decodes
 
 pub returns-in-Nothing-clause-knows : goal.returns-in-Nothing-clause-knows
 returns-in-Nothing-clause-knows c =
     brings_none c.args.self.now.arp c.args.self.now.arp _ (ap (λ l. frame_brings (host_of c.args.self.now.arp) l) (sym c.frame.ensures) ∙ c.in-Nothing.ensures.decodes) (λ acts k. k)
 
-pub returns-in-Datagram-clause-told : goal.returns-in-Datagram-clause-told
-returns-in-Datagram-clause-told c =
+pub returns-in-Datagram-clause-reported : goal.returns-in-Datagram-clause-reported
+returns-in-Datagram-clause-reported c =
     let part = c.args.self.now.part in
     let payload = payload_is part.area part.len c.requires.least (let most = c.requires.most in omega arith) in
     ap (λ l. frame_brings (host_of c.args.self.now.arp) l) (sym c.frame.ensures) ∙ c.in-Datagram.ensures.decodes
@@ -22,8 +22,8 @@ pub returns-in-Datagram-clause-knows : goal.returns-in-Datagram-clause-knows
 returns-in-Datagram-clause-knows c =
     brings_datagram c.args.self.now.arp c.args.self.now.arp _ _ (ap (λ l. frame_brings (host_of c.args.self.now.arp) l) (sym c.frame.ensures) ∙ c.in-Datagram.ensures.decodes) (λ acts k. k)
 
-pub returns-in-Asked-clause-told : goal.returns-in-Asked-clause-told
-returns-in-Asked-clause-told c =
+pub returns-in-Asked-clause-reported : goal.returns-in-Asked-clause-reported
+returns-in-Asked-clause-reported c =
     let pair : Pair = record { addr = c.in-Asked.addr.0; mac = c.in-Asked.mac.0 } in (
       Asked pair,
       ap (λ l. frame_brings (host_of c.args.self.now.arp) l) (sym c.frame.ensures) ∙ c.in-Asked.ensures.decodes,
@@ -36,8 +36,8 @@ returns-in-Asked-clause-knows c =
     brings_act c.args.self.now.arp c.learn.new.self _ (Asked pair) (ap (λ l. frame_brings (host_of c.args.self.now.arp) l) (sym c.frame.ensures) ∙ c.in-Asked.ensures.decodes)
     (λ acts k. c.learn.ensures.knows (Asked pair) acts refl k)
 
-pub returns-in-Replied-clause-told : goal.returns-in-Replied-clause-told
-returns-in-Replied-clause-told c =
+pub returns-in-Replied-clause-reported : goal.returns-in-Replied-clause-reported
+returns-in-Replied-clause-reported c =
     let pair : Pair = record { addr = c.in-Replied.addr.0; mac = c.in-Replied.mac.0 } in
     (Replied pair, ap (λ l. frame_brings (host_of c.args.self.now.arp) l) (sym c.frame.ensures) ∙ c.in-Replied.ensures.decodes, refl)
 

@@ -7,7 +7,7 @@ returns-in-Nothing-clause-answers g c = record {
   kept = refl;
   each = λ k m own s here.
       brings_silent g.A.App (g.M.Frames.spec k) m own s (λ acts. g.M.Frames.did c.take.new.self k acts) c.args.self.now.node
-      ((g.M.Frames.spec k).decodes (take c.args.len c.args.buf.now)) (rw c.in-Nothing.is at (c.take.ensures.told k s.acts here.acted)) here.stands
+      ((g.M.Frames.spec k).decodes (take c.args.len c.args.buf.now)) (rw c.in-Nothing.is at (c.take.ensures.reported k s.acts here.acted)) here.stands
       (c.take.ensures.did k s.acts here.acted);
 }
 
@@ -15,9 +15,9 @@ pub returns-in-Own-clause-answers : goal.returns-in-Own-clause-answers
 returns-in-Own-clause-answers g c = record {
   kept = refl;
   each = λ k m own s here.
-      let told = rw c.in-Own.is at (c.take.ensures.told k s.acts here.acted) in
+      let reported = rw c.in-Own.is at (c.take.ensures.reported k s.acts here.acted) in
       brings_own g.A.App (g.M.Frames.spec k) m own s (λ acts. g.M.Frames.did c.take.new.self k acts) c.args.self.now.node
-      ((g.M.Frames.spec k).decodes (take c.args.len c.args.buf.now)) told.0 _ told.1 told.2 here.stands (c.take.ensures.did k s.acts here.acted);
+      ((g.M.Frames.spec k).decodes (take c.args.len c.args.buf.now)) reported.0 _ reported.1 reported.2 here.stands (c.take.ensures.did k s.acts here.acted);
 }
 
 pub returns-in-Datagram-clause-answers : goal.returns-in-Datagram-clause-answers
@@ -28,9 +28,9 @@ returns-in-Datagram-clause-answers g c =
     record {
       kept = c.input-sent.ensures.same;
       each = λ k m own s here.
-          let told = rw c.in-Datagram.is at (c.take.ensures.told k s.acts here.acted) in
+          let reported = rw c.in-Datagram.is at (c.take.ensures.reported k s.acts here.acted) in
           brings_datagram g.A.App (g.M.Frames.spec k) m own s (λ acts. g.M.Frames.did c.take.new.self k acts) c.args.self.now.node c.input-sent.new.self c.input-sent.result
           ((g.M.Frames.spec k).decodes (take c.args.len c.args.buf.now)) (datagram (at + len - at)) (take c.write_sent.result c.write_sent.new.out)
-          (told ∙ ap (λ n. Datagram (datagram n) ∷ []) (omega arith)) c.input-sent.ensures.same c.input-sent.ensures.step
+          (reported ∙ ap (λ n. Datagram (datagram n) ∷ []) (omega arith)) c.input-sent.ensures.same c.input-sent.ensures.step
           (λ acts reply did is. c.write_sent.ensures.text k acts own reply did is) here.stands (c.take.ensures.did k s.acts here.acted);
     }

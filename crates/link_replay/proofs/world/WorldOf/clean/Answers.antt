@@ -3,15 +3,15 @@ use Rattle.std.proofs.Math.Bool.{not}
 use Rattle.std.specs.Prelude.{is_some}
 use Rattle.link_replay.proofs.world.WorldOf.clean.Goals as goal
 
-told_none : {X : Type 0} (o : Option X) (b : Bool) → is_some o ≡ not b → b ≡ is_none o
-told_none o b e = sym (not-not b) ∙ ap (λ (x : Bool). not x) (sym e)
+reported_none : {X : Type 0} (o : Option X) (b : Bool) → is_some o ≡ not b → b ≡ is_none o
+reported_none o b e = sym (not-not b) ∙ ap (λ (x : Bool). not x) (sym e)
 
 pub returns-clause-shows : goal.returns-clause-shows
 returns-clause-shows g c =
     ap (λ (o : Option CodeSide). option_map (λ side. is_none side.first_stale) o) c.side-found.ensures.shows
-    ∙ ap (λ (b : Bool). Some b) (sym (told_none _ _ c.is_none.ensures ∙ ap (λ (x : CodeSide). is_none x.first_stale) c.found.view_is))
+    ∙ ap (λ (b : Bool). Some b) (sym (reported_none _ _ c.is_none.ensures ∙ ap (λ (x : CodeSide). is_none x.first_stale) c.found.view_is))
 
 pub returns-clause-stands : goal.returns-clause-stands
 returns-clause-stands g c = λ w s h e.
-    told_none _ _ c.is_none.ensures ∙ ap (λ (x : CodeSide). is_none x.first_stale) c.found.view_is
+    reported_none _ _ c.is_none.ensures ∙ ap (λ (x : CodeSide). is_none x.first_stale) c.found.view_is
     ∙ ap (λ (n : Option ℕ). is_none n) (c.side-found.ensures.stands w s h e).first_stale

@@ -1,4 +1,4 @@
-use Rattle.link_replay.proofs.Prelude.{◌≡◌, ◌⊎◌, ℕ, ◌-◌, ◌<◌, ◌≤◌, List, Option, length, sym, ap, ◌∙◌, arith, subst, rules, tests, common_steps, LARGEST_DATAGRAM, event_of, Reply, step, option_map_or, does, hands_over, Act, sent_bytes, World, Sent, delivers, numbered, Who, LinkRepresents, SentRepresents, WorldRepresents, Link, link_of, AnswersTo, client_told, sees, CodeSent}
+use Rattle.link_replay.proofs.Prelude.{◌≡◌, ◌⊎◌, ℕ, ◌-◌, ◌<◌, ◌≤◌, List, Option, length, sym, ap, ◌∙◌, arith, subst, rules, tests, common_steps, LARGEST_DATAGRAM, event_of, Reply, step, option_map_or, does, hands_over, Act, sent_bytes, World, Sent, delivers, numbered, Who, LinkRepresents, SentRepresents, WorldRepresents, Link, link_of, AnswersTo, client_reported, sees, CodeSent}
 use Rattle.link_replay.proofs.Delivered.{answers_seen, hands, seen, speaks_to}
 use Rattle.link_replay.proofs.Readable.{read_at, sent_at, sent_fits, sent_there}
 use Rattle.link_replay.proofs.Handling.{still_linked}
@@ -36,19 +36,19 @@ returns-clause-given g c = rw (← c.self.view_is) (λ w h s.
     = subst (λ (x : CodeSent). SentRepresents w x e) (sym c.sent.view_is) p.pair in
     let items : c.in-Ok.bytes.items ≡ c.as_slice.result.now = search (rules, tests) in
     let bytes : c.as_slice-2.result.now ≡ sent_bytes w e = c.as_slice-2.ensures.value ∙ items ∙ c.as_slice.ensures.value ∙ shown.bytes in
-    let client : c.client_of.result ≡ client_told e.who = c.client_of.ensures ∙ ap client_told shown.who in
-    let v : World = sees w (client_told e.who) c.args.number e (numbered w.sides (client_told e.who)) in
+    let client : c.client_of.result ≡ client_reported e.who = c.client_of.ensures ∙ ap client_reported shown.who in
+    let v : World = sees w (client_reported e.who) c.args.number e (numbered w.sides (client_reported e.who)) in
     let facts = hands m a.served w c.args.number e (speaks_to (link_of c.self.inside.sides.items c.self.inside.sent.items) w s.link s.home) e.who e.content (sent_bytes w e) (read_at m a.served w h (c.args.number - 1) e p.get) (sent_at m a.served w h (c.args.number - 1) e p.get) in
     let sent : List CodeSent = c.self.inside.sent.items in
     let link : Link = link_of c.see.new.sides.items sent in
     let stands : WorldRepresents a (record { node = c.self.inside.node; link = link; mark = c.self.inside.mark; spent = c.self.inside.spent; area = c.self.inside.area.items }) v
-    = seen a _ link w (client_told e.who) c.args.number e (numbered w.sides (client_told e.who)) s
+    = seen a _ link w (client_reported e.who) c.args.number e (numbered w.sides (client_reported e.who)) s
     (subst (λ k. LinkRepresents link (sees w k c.args.number e (numbered w.sides k))) client (c.see.ensures.stands w e sent s.link shown.epoch)) (c.see.ensures.kept w.node.addr sent s.home) in
     let answer : Option Reply = (step m a.served v.node (event_of v.node.addr c.as_slice-2.result.now)).sent in
     let answers : AnswersTo v c.sent.inside.who answer
     = subst (λ (who : Who). AnswersTo v who answer) (sym shown.who)
     (subst (λ (b : List ℕ). AnswersTo v e.who (step m a.served v.node (event_of v.node.addr b)).sent) (sym bytes)
-    (answers_seen m a.served w (client_told e.who) c.args.number e (numbered w.sides (client_told e.who)) e.who (sent_bytes w e) facts.answers)) in
+    (answers_seen m a.served w (client_reported e.who) c.args.number e (numbered w.sides (client_reported e.who)) e.who (sent_bytes w e) facts.answers)) in
     let same : hands_over m a.served v c.as_slice-2.result.now c.sent.inside.who ≡ does m a.served w (Act.Give c.args.number)
     = ap (λ (b : List ℕ). hands_over m a.served v b c.sent.inside.who) bytes
     ∙ ap (λ (who : Who). hands_over m a.served v (sent_bytes w e) who) shown.who

@@ -9,5 +9,5 @@ returns-clause-delivered g c = rw (← c.self.view_is) (λ w s to.
     let did = c.input-answer.ensures.step w.node s.node in
     let call = c.in_ok-record_call.ensures in
     recorded a m a.served (event_of w.node.addr c.args.bytes.now) _ c.record_call.new.self w call.node did.stands
-    (call.told m a.served w (event_of w.node.addr c.args.bytes.now) (c.of-before.ensures w.node s.node) to did.stands did.sent s.link)
+    (call.reported m a.served w (event_of w.node.addr c.args.bytes.now) (c.of-before.ensures w.node s.node) to did.stands did.sent s.link)
     (call.kept w.node.addr s.home) (call.mark ∙ s.mark) (call.spent ∙ s.fresh))

@@ -13,5 +13,5 @@ returns-in-Window-clause-done g c = rw (← c.self.view_is) (λ w h f s.
     let sent = c.self.inside.sent.items in
     let link = link_of c.advertise_window.new.sides.items sent in
     subst (λ (act : Act). WorldRepresents a (record { node = c.self.inside.node; link = link; mark = c.self.inside.mark; spent = c.self.inside.spent; area = c.self.inside.area.items }) (does m a.served w act)) (sym c.in-Window.is)
-    (own_done a _ link c.self.inside.area.items w number (advertises_window c.in-Window.window) s (c.advertise_window.ensures.told w sent s.link)
+    (own_done a _ link c.self.inside.area.items w number (advertises_window c.in-Window.window) s (c.advertise_window.ensures.reported w sent s.link)
     (c.advertise_window.ensures.kept w.node.addr sent s.home)))

@@ -13,5 +13,5 @@ returns-clause-kept g c = rw (← c.self.view_is) c.tell.ensures.kept
 pub returns-in_err-tell-clause-kept : goal.returns-in_err-tell-clause-kept
 returns-in_err-tell-clause-kept g c = rw (← c.self.view_is) c.tell.ensures.kept
 
-pub returns-clause-told : goal.returns-clause-told
-returns-clause-told g c = rw (← c.self.view_is) c.in_ok-tell.ensures.told
+pub returns-clause-reported : goal.returns-clause-reported
+returns-clause-reported g c = rw (← c.self.view_is) c.in_ok-tell.ensures.reported

@@ -1,13 +1,13 @@
 -- The line is that of the world's clients and datagrams.
 use Rattle.link_replay.proofs.Prelude.{◌≡◌, ℕ, List, map, ap, subst, ◌∙◌, on_err_weaker, on_ok_weaker, Appends, AppendsPrefix, CodeSent, CodeSide, code_side_shown, World, LinkRepresents, Link, summary_of, tally_line, tally_of, Tally}
 use Rattle.link_replay.proofs.Saying.{wrote_by}
-use Rattle.link_replay.proofs.Shown.{tally_told}
+use Rattle.link_replay.proofs.Shown.{tally_reported}
 use Rattle.link_replay.proofs.world.WorldOf.summary.Goals as goal
 
 -- what holds for the line of these counts holds for the summary of a world that they represent
 of_world : (P : List ℕ → Type 0) (link : Link) (w : World) → LinkRepresents link w
     → P (tally_line (tally_of (map code_side_shown link.sides) (map (λ e. e.again) link.sent))) → P (summary_of w)
-of_world P link w st h = subst (λ (t : Tally). P (tally_line t)) (tally_told link w st) h
+of_world P link w st h = subst (λ (t : Tally). P (tally_line t)) (tally_reported link w st) h
 
 pub returns-clause-shows : goal.returns-clause-shows
 returns-clause-shows g c = rw (← c.self.view_is) (

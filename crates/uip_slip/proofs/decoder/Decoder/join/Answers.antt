@@ -5,7 +5,7 @@ use Rattle.uip_slip.proofs.decoder.Decoder.join.Goals as goal
 pub returns : goal.returns
 returns c =
     let s = c.self.inside in
-    let old : State = record { bytes = take s.len s.area; over = s.over; waits = s.waits; told = s.told } in
+    let old : State = record { bytes = take s.len s.area; over = s.over; waits = s.waits; reported = s.reported } in
     let fits : s.len ≤ 1500 = c.self.invariant in
     c.append.ensures
     ∙ joined_is old c.args.bytes.now s.len c.min-count.result (length-take-le s.len s.area (omega (arith, fits, c.self.told))) fits c.min-count.ensures

@@ -27,7 +27,7 @@ pub record IsFromReply (q : Question) (address : Addr) (happened : List LineEven
   pub after : List Record
   pub spelled : records (word_at message 6) (drop (question_end q.text) message) ≡ before ++ record_ ∷ after
   pub of_address : is_address record_ ≡ true
-  pub told : address.0 ≡ record_.content
+  pub reported : address.0 ≡ record_.content
 
 abbrev pub AddressesAreFromReplies : Type 0
 AddressesAreFromReplies = (q : Question) (address : Addr) (happened : List LineEvent)

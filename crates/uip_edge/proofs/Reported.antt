@@ -75,9 +75,9 @@ none_more taken items none = ap (λ l. taken ++ l) none ∙ append-nil taken
 
 pub taken_within : (old new : Option (List Item)) (all taken : List Item) → old ≡ Some all → Consumes old new taken → length taken ≤ length all
 taken_within None new all taken e c = absurd (cc e)
-taken_within (Some told) None all taken e c = absurd c
-taken_within (Some told) (Some left) all taken e c =
-    let same : told ≡ all = cc e in
+taken_within (Some reported) None all taken e c = absurd c
+taken_within (Some reported) (Some left) all taken e c =
+    let same : reported ≡ all = cc e in
     let size : length all ≡ length (taken ++ left) = ap (λ l. length l) (sym same ∙ c) in
     omega (arith, size, length-append taken left)
 

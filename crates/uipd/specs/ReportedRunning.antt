@@ -23,5 +23,5 @@ abbrev pub ReportedBy : Option Resolving → List (List ℕ) → Outside → Out
 ReportedBy None words old new before after result = Runs words old new result
 ReportedBy (Some r) words old new before after result = ResolveRuns r before after result
 
-abbrev pub ToldRuns : List (List ℕ) → Outside → Outside → Streams → Streams → Status → Type 0
-ToldRuns words old new before after result = ReportedBy (resolving_of words) words old new before after result
+abbrev pub ReportedRuns : List (List ℕ) → Outside → Outside → Streams → Streams → Status → Type 0
+ReportedRuns words old new before after result = ReportedBy (resolving_of words) words old new before after result

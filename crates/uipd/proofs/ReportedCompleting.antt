@@ -13,7 +13,7 @@ resolved r old new result ends.LinkFault u e t =
 resolved r old new result ends.WriteFault u e t =
     elim t.ends [
       | inl out ↦ absurd (stayed old.line.sink.faults new.line.sink.faults u.line.sink.same u.line.sink.below out.out.rose)
-      | inr tell ↦ absurd (stayed old.tell.faults new.tell.faults u.tell.same u.tell.below tell.told.rose)
+      | inr tell ↦ absurd (stayed old.tell.faults new.tell.faults u.tell.same u.tell.below tell.reported.rose)
     ]
 
 resolving : (r : Resolving) (old new : Streams) (result : Status) → StreamsUnfailed old new → ResolveRuns r old new result
@@ -27,5 +27,5 @@ by_words : (r : Option Resolving) (words : List (List ℕ)) (old new : Outside) 
 by_words None words old new before after result run u s there = run_is_complete words old new result run u there
 by_words (Some r) words old new before after result run u s there = resolving r before after result s run
 
-pub told_is_complete : ReportIsComplete
-told_is_complete words old new before after result run u s there = by_words (resolving_of words) words old new before after result run u s there
+pub reported_is_complete : ReportIsComplete
+reported_is_complete words old new before after result run u s there = by_words (resolving_of words) words old new before after result run u s there

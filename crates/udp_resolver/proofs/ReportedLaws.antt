@@ -59,7 +59,7 @@ record Said (id : ℕ) (text message : List ℕ) (address : Addr) : Type 0 where
   sound : code_of message ≡ 0
   r : Record
   is : find is_address (records (word_at message 6) (drop (question_end text) message)) ≡ Some r
-  told : address.0 ≡ r.content
+  reported : address.0 ≡ r.content
 
 zero_of : (n : ℕ) → eqb n 0 ≡ true → n ≡ 0
 zero_of n e = grind arith
@@ -67,12 +67,12 @@ zero_of n e = grind arith
 record Picked (address : Addr) (o : Option Record) : Type 0 where
   r : Record
   is : o ≡ Some r
-  told : address.0 ≡ r.content
+  reported : address.0 ≡ r.content
 
 picked : (address : Addr) (o : Option Record) (is_whole : Bool) → answer_by o is_whole ≡ Some (Address address) → Picked address o
 picked address (Some r) is_whole e =
     let same : record { 0 = r.content } ≡ address = cc e in
-    record { r = r; is = refl; told = sym (ap (λ (a : Addr). a.0) same) }
+    record { r = r; is = refl; reported = sym (ap (λ (a : Addr). a.0) same) }
 picked address None true e = absurd (cc e)
 picked address None false e = absurd (cc e)
 
@@ -86,7 +86,7 @@ said_by id text message address false true true is ok e =
     let n = word_at message 6 in
     let list = records n (drop (question_end text) message) in
     let p = picked address (find is_address list) (eqb (length list) n) e in
-    record { matching = is; sound = zero_of (code_of message) ok; r = p.r; is = p.is; told = p.told }
+    record { matching = is; sound = zero_of (code_of message) ok; r = p.r; is = p.is; reported = p.reported }
 
 record Carried (q : Question) (datagram : List ℕ) (address : Addr) : Type 0 where
   message : List ℕ
@@ -127,5 +127,5 @@ from_replies q address happened e =
       after = r.after;
       spelled = r.spelled;
       of_address = r.of_address;
-      told = k.output.told;
+      reported = k.output.reported;
     }

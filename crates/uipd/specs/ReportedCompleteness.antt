@@ -9,7 +9,7 @@ use Rattle.uipd.specs.Completeness.{Completes, LacksFor, OrShort}
 use Rattle.uipd.specs.ResolveWords.{Resolving, resolving_of}
 use Rattle.uipd.specs.SiteServing.{IsUndisturbed}
 use Rattle.uipd.specs.Statuses.{status_of_serving}
-use Rattle.uipd.specs.ToldRunning.{ToldRuns, questions_of}
+use Rattle.uipd.specs.ReportedRunning.{ReportedRuns, questions_of}
 use Rattle.uipd.specs.Words.{task_of}
 use Rattle.uipd.specs.declared.status.Status.{Status}
 
@@ -30,5 +30,5 @@ ReportCompletes (Some r) words old new before after result = OrShort result (Res
 abbrev pub ReportIsComplete : Type 0
 ReportIsComplete =
     (words : List (List ℕ)) (old new : Outside) (before after : Streams) (result : Status)
-    → ToldRuns words old new before after result → IsUndisturbed old new → StreamsUnfailed before after
+    → ReportedRuns words old new before after result → IsUndisturbed old new → StreamsUnfailed before after
     → ¬ (LacksFor (task_of words) old.shelf.held) → ReportCompletes (resolving_of words) words old new before after result

@@ -48,9 +48,9 @@ module _ (site schedule : List ℕ) (show : Bool) (old new : WorkView) (held : n
   -- the bytes that were read of the schedule's file
   pub schedule_ends : (files : List File) (bytes : List ℕ) (result : ReplayEnd) → FindsInFiles (site_read site) old.shelf.held (Ok files) → HoldsFile old.shelf.held schedule (IsProperPrefixOf bytes)
       → WritesDue (IsTextDue files bytes show) old.sink new.sink result → ReplayEnds site schedule show old new result
-  schedule_ends files bytes result read prefix (inl told) =
-      written_ends (IsReplayText site schedule show) (LacksEither site schedule) old new only_text held shelf told.0 told.1 result
-      (is_text site schedule show old.shelf.held files bytes told.0 told.1 read prefix told.2) told.3
+  schedule_ends files bytes result read prefix (inl reported) =
+      written_ends (IsReplayText site schedule show) (LacksEither site schedule) old new only_text held shelf reported.0 reported.1 result
+      (is_text site schedule show old.shelf.held files bytes reported.0 reported.1 read prefix reported.2) reported.3
   schedule_ends files bytes result read prefix (inr short) =
       short_ends (IsReplayText site schedule show) (LacksEither site schedule) old new only_text held shelf result short
 
@@ -79,9 +79,9 @@ module _ (site : List ℕ) (seed clients : ℕ) (old new : WorkView) (held : new
   -- the schedule that the number makes was played
   pub load_ends : (files : List File) (result : ReplayEnd) → FindsInFiles (site_read site) old.shelf.held (Ok files)
       → WritesDue (IsPlayDue files (workload_of seed clients) Summary) old.sink new.sink result → LoadEnds site seed clients old new result
-  load_ends files result read (inl told) =
-      written_ends (IsLoadText site seed clients) (LacksFile (site_read site)) old new only_load held shelf told.0 told.1 result
-      (load_text files told.0 told.1 read told.2) told.3
+  load_ends files result read (inl reported) =
+      written_ends (IsLoadText site seed clients) (LacksFile (site_read site)) old new only_load held shelf reported.0 reported.1 result
+      (load_text files reported.0 reported.1 read reported.2) reported.3
   load_ends files result read (inr short) = short_ends (IsLoadText site seed clients) (LacksFile (site_read site)) old new only_load held shelf result short
 
   -- the line of a bad image
