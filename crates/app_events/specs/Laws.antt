@@ -24,14 +24,14 @@ CanSend Abort most = Unit {0}
 
 -- For each state with this property: `newdata` and `prepare` only extend the output. `acked` only advances the acknowledged offset.
 -- `polled` changes neither. The application requests to send no more than it has.
-pub record IsLawful (m : AppSpec) (stands : AppState → Type 0) : Type 0 where
-  pub newdata_grows : (numbers : List ℕ) (p : AppState) (piece : List ℕ) → stands p → Grows m p (m.newdata numbers p piece).part
-  pub prepare_grows : (numbers : List ℕ) (p : AppState) (now : Now) → stands p → Grows m p (m.prepare numbers p now)
-  pub acked_moves : (numbers : List ℕ) (p : AppState) (n : ℕ) → stands p → n ≤ length (text_left m p)
+pub record IsLawful (m : AppSpec) (represented : AppState → Type 0) : Type 0 where
+  pub newdata_grows : (numbers : List ℕ) (p : AppState) (piece : List ℕ) → represented p → Grows m p (m.newdata numbers p piece).part
+  pub prepare_grows : (numbers : List ℕ) (p : AppState) (now : Now) → represented p → Grows m p (m.prepare numbers p now)
+  pub acked_moves : (numbers : List ℕ) (p : AppState) (n : ℕ) → represented p → n ≤ length (text_left m p)
       → (m.output (m.acked numbers p n).part ≡ m.output p) × ((m.acked numbers p n).part.acked ≡ p.acked + n)
-  pub polled_keeps : (numbers : List ℕ) (p : AppState) → stands p
+  pub polled_keeps : (numbers : List ℕ) (p : AppState) → represented p
       → (m.output (m.polled numbers p).part ≡ m.output p) × ((m.polled numbers p).part.acked ≡ p.acked)
-  pub sends : (numbers : List ℕ) (p : AppState) → stands p → CanSend (m.want numbers p) (length (text_left m p))
+  pub sends : (numbers : List ℕ) (p : AppState) → represented p → CanSend (m.want numbers p) (length (text_left m p))
 
 -- After connection there is no output, and the offset is 0.
 abbrev pub StartsAnew : AppSpec → Type 0

@@ -5,10 +5,10 @@ use Rattle.uip_edge.specs.declared.serve_end.ServeEnd.TheVariants as ends
 module _ {A S C : Type 0} (g : Ghosts A S) (w : MediumSpec C) (did did' reported reported' : List C → Type 0) (before after : Node A S)
     (first : (acts : List C) → reported acts → did acts) (last : (acts : List C) → did' acts → reported' acts) where
   starts : (s : Station C) → IsStationed g reported before s → IsStationed g did before s
-  starts s p = record { stands = p.stands; acted = first s.acts p.acted }
+  starts s p = record { represented = p.represented; acted = first s.acts p.acted }
 
   stops : (s : Station C) → IsStationed g did' after s → IsStationed g reported' after s
-  stops s p = record { stands = p.stands; acted = last s.acts p.acted }
+  stops s p = record { represented = p.represented; acted = last s.acts p.acted }
 
   all_reported : (m : AppSpec) (served : ℕ → Bool) (own : Addr) (station_events : List (StationEvent C)) (a b : Option (List ℕ))
       → AllSaid m served w own station_events (IsStationed g did before) (IsStationed g did' after) a b → AllSaid m served w own station_events (IsStationed g reported before) (IsStationed g reported' after) a b

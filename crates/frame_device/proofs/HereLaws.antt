@@ -43,14 +43,14 @@ module _ {A S : Type 0} (g : Ghosts A S) {C : Type 0} (w : FrameSpec C) (m : App
   -- the link did something by itself
   pub brings_own : (D : List C → Type 0) (node : Node A S) (cs : List (MediumInput C)) (a : C) (handed : List ℕ) → cs ≡ Own a ∷ [] → handed ≡ w.says a
       → IsNode g m own node s.node → D (s.acts ++ acts_among cs) → Brings D node cs handed
-  brings_own D node cs a handed e says stands did =
-      brings_by D node cs (Own a ∷ []) handed e did (λ did. (record { stands = stands; acted = did }, says ∙ sym (append-nil (w.says a))))
+  brings_own D node cs a handed e says represented did =
+      brings_by D node cs (Own a ∷ []) handed e did (λ did. (record { represented = represented; acted = did }, says ∙ sym (append-nil (w.says a))))
 
   pub brings_silent : (D : List C → Type 0) (node : Node A S) (cs : List (MediumInput C)) → IsSilent w cs → IsNode g m own node s.node → D (s.acts ++ acts_among cs)
       → Brings D node cs []
-  brings_silent D node cs (inl e) stands did =
-      brings_by D node cs [] [] e did (λ did. (record { stands = stands; acted = subst D (append-nil s.acts) did }, refl))
-  brings_silent D node cs (inr quiet) stands did = brings_own D node cs quiet.0 [] quiet.1 (sym quiet.2) stands did
+  brings_silent D node cs (inl e) represented did =
+      brings_by D node cs [] [] e did (λ did. (record { represented = represented; acted = subst D (append-nil s.acts) did }, refl))
+  brings_silent D node cs (inr quiet) represented did = brings_own D node cs quiet.0 [] quiet.1 (sym quiet.2) represented did
 
   -- a datagram came to the node
   pub brings_datagram : (D : List C → Type 0) (old new : Node A S) (result : Option ℕ) (cs : List (MediumInput C)) (d handed : List ℕ) → cs ≡ Datagram d ∷ []
@@ -58,12 +58,12 @@ module _ {A S : Type 0} (g : Ghosts A S) {C : Type 0} (w : FrameSpec C) (m : App
       → ((n : AbstractNode) → Represents g old n n.history → Steps g new result (step (g.app_spec (g.config old.shared)) g.served n (event_of n.addr d)))
       → ((acts : List C) (reply : Option Reply) → D acts → IsSent own reply result new.packet → handed ≡ reply_text (as_medium w) acts own reply)
       → IsNode g m own old s.node → D (s.acts ++ acts_among cs) → Brings D new cs handed
-  brings_datagram D old new result cs d handed e same steps wrote stands did =
+  brings_datagram D old new result cs d handed e same steps wrote represented did =
       brings_by D new cs (Datagram d ∷ []) handed e did (λ did.
       let here : D s.acts = subst D (append-nil s.acts) did in
       let both = node_step g m own old new result (event_of own d) s.node same
-      (subst (λ (x : Addr). Steps g new result (step (g.app_spec (g.config old.shared)) g.served s.node (event_of x d))) stands.address (steps s.node stands.stands)) stands in (
-        record { stands = both.0; acted = here },
+      (subst (λ (x : Addr). Steps g new result (step (g.app_spec (g.config old.shared)) g.served s.node (event_of x d))) represented.address (steps s.node represented.represented)) represented in (
+        record { represented = both.0; acted = here },
         wrote s.acts (step m g.served s.node (event_of own d)).sent here both.1 ∙ sym (append-nil _),
       ))
 
@@ -73,9 +73,9 @@ module _ {A S : Type 0} (g : Ghosts A S) {C : Type 0} (w : FrameSpec C) (m : App
       → ((n : AbstractNode) → Represents g old n n.history → Steps g new result (step (g.app_spec (g.config old.shared)) g.served n event))
       → ((acts : List C) (reply : Option Reply) → D acts → IsSent own reply result new.packet → handed ≡ reply_text (as_medium w) acts own reply)
       → IsNode g m own old s.node → D (s.acts ++ acts) → Done D new (map OfMedium acts ++ OfNode event ∷ []) handed
-  calls_event D old new result acts event handed quiet same steps wrote stands did =
-      let both = node_step g m own old new result event s.node same (steps s.node stands.stands) stands in (
-        subst (λ (t : Station C). IsHere g D m own new t) (sym (after_event m g.served (as_medium w) own event acts s)) (record { stands = both.0; acted = did }),
+  calls_event D old new result acts event handed quiet same steps wrote represented did =
+      let both = node_step g m own old new result event s.node same (steps s.node represented.represented) represented in (
+        subst (λ (t : Station C). IsHere g D m own new t) (sym (after_event m g.served (as_medium w) own event acts s)) (record { represented = both.0; acted = did }),
         wrote (s.acts ++ acts) (step m g.served s.node event).sent did both.1
             ∙ sym (said_event m g.served (as_medium w) own event acts s ∙ ap (λ l. l ++ reply_text (as_medium w) (s.acts ++ acts) own (step m g.served s.node event).sent) quiet),
       )

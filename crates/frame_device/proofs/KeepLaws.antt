@@ -111,13 +111,13 @@ module _ {A S M : Type 0} (g : Ghosts A S) (h : FramesGhosts M) (k : h.Config) (
   move_turns (Gives number text) steps s = refl
 
   in_turns : (all : List AnsweredFrame) (a c : FrameDevice A M S) (s : Station h.Act) → RepresentsStation g h k m own a s → AnswersAllFrames g h gives all a c → InTurns all s
-  in_turns [] a c s stands more = record { moves = []; answered = refl; each = tt; turns = refl }
-  in_turns (it ∷ all) a c s stands more =
+  in_turns [] a c s represented more = record { moves = []; answered = refl; each = tt; turns = refl }
+  in_turns (it ∷ all) a c s represented more =
       let b : FrameDevice A M S = more.0 in
-      let first : MovesOn g h k m gives own it.move a b it.handed s = moves_on g h k m gives own it.move a b it.handed s stands more.1 in
+      let first : MovesOn g h k m gives own it.move a b it.handed s = moves_on g h k m gives own it.move a b it.handed s represented more.1 in
       let next : Station h.Act = station_after_move m g.served (h.spec k) gives own it.move s in
       let station_events : List (StationEvent h.Act) = station_events_of_move (h.spec k) own it.move in
-      let rest = in_turns all b c next first.stands more.2 in
+      let rest = in_turns all b c next first.represented more.2 in
       record {
         moves = record { answered = it; turns = turns_by it.move s } ∷ rest.moves;
         answered = ap (λ l. it ∷ l) rest.answered;
@@ -134,7 +134,7 @@ module _ {A S M : Type 0} (g : Ghosts A S) (h : FramesGhosts M) (k : h.Config) (
       → FramesConform (h.spec k) model g.served own all
   keeps_frames_by model steady bytes speaks low decodes numbers words is all brought old new fresh answered =
       let steps : List LineStep = steps_of own (h.spec k) gives (frame_moves_of all) in
-      let t = in_turns all old new (initial_station own numbers) fresh.stands answered in
+      let t = in_turns all old new (initial_station own numbers) fresh.represented answered in
       let kept = every_step m model steady bytes speaks g.served own is numbers words steps (steps_are own (h.spec k) decodes gives low (frame_moves_of all) brought) in
       record {
         moves = t.moves;

@@ -40,7 +40,7 @@ pub record AnswersFrame {A S M : Type 0} (g : Ghosts A S) (h : FramesGhosts M) (
 pub record IsFreshFrameDevice {A S M : Type 0} (g : Ghosts A S) (h : FramesGhosts M)
     (k : h.Config) (m : AppSpec) (numbers : List ℕ) (own : Addr)
     (d : FrameDevice A M S) : Type 0 where
-  pub stands : RepresentsStation g h k m own d (initial_station own numbers)
+  pub represented : RepresentsStation g h k m own d (initial_station own numbers)
 
 -- ---- calls in turn, and values that are set between them
 

@@ -21,7 +21,7 @@ use app_events::App;
 pub fn frame_calls_are_exact<A: App, M: Frames>()
     ensures frames { FromFresh A.App M.Frames (λ k m gives numbers own all old new.
         handed_of all ≡ frames_sent m A.served (M.spec k) gives own (frame_moves_of all) (initial_station own numbers)) }
-    ensures stands { FromFresh A.App M.Frames (λ k m gives numbers own all old new.
+    ensures represented { FromFresh A.App M.Frames (λ k m gives numbers own all old new.
         RepresentsStation A.App M.Frames k m own new
         (station_after_moves m A.served (M.spec k) gives own (frame_moves_of all) (initial_station own numbers))) }
     ensures kept { FromFresh A.App M.Frames (λ k m gives numbers own all old new. A.config new.node.shared ≡ A.config old.node.shared) }

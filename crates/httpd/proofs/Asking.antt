@@ -252,7 +252,7 @@ due_stands g text a site found p due capture snapshot e is_due s made =
     subst (λ q. PagesRepresent g text (begins_call a capture due.next) site q) (sym (prepared_by g (files_of site) p snapshot true (due_waits g text a site found p is.0 due is_due is.1)))
     (record {
       polls = s.polls;
-      stands = subst (λ st. StandsIn g text (begins_call a capture due.next) site (with_capture p snapshot) st) (sym e) (
+      represented = subst (λ st. StandsIn g text (begins_call a capture due.next) site (with_capture p snapshot) st) (sym e) (
         is.0,
         record {
           wanted = is.1.wanted;

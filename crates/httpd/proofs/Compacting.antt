@@ -13,8 +13,8 @@ heard_as d e l m request same_d same_l is = subst (λ x. HearsTo x l request) (s
 -- while a word is received it is kept, and nothing was sent
 pub word_heard : {F R : Type 0} (g : ScriptFunctions F) (text : R → List ℕ) (site : SiteContent) (p : AppState) (polls : ℕ) (target : Bool) (line : Line)
     → CompactRepresent g text (compact.Receiving polls target line) site p → HearsWord target line p.input × SaysNothing p
-word_heard g text site p polls true line s = s.stands
-word_heard g text site p polls false line s = s.stands
+word_heard g text site p polls true line s = s.represented
+word_heard g text site p polls false line s = s.represented
 
 -- and no file is requested yet
 pub word_open : (target : Bool) (line : Line) (request : List ℕ) → HearsWord target line request → wanted request ≡ NotYet
@@ -30,18 +30,18 @@ still_nothing p piece none = record { snapshots = none.snapshots; acked = none.a
 
 pub enters_word : {F R : Type 0} (g : ScriptFunctions F) (text : R → List ℕ) (site : SiteContent) (p : AppState) (piece : List ℕ) (target : Bool) (line : Line)
     → SaysNothing p → HearsWord target line (p.input ++ piece) → CompactRepresent g text (compact.Receiving 0 target line) site (with_more p piece)
-enters_word g text site p piece true line quiet is = record { polls = refl; stands = (is, still_nothing p piece quiet) }
-enters_word g text site p piece false line quiet is = record { polls = refl; stands = (is, still_nothing p piece quiet) }
+enters_word g text site p piece true line quiet is = record { polls = refl; represented = (is, still_nothing p piece quiet) }
+enters_word g text site p piece false line quiet is = record { polls = refl; represented = (is, still_nothing p piece quiet) }
 
 pub enters_refused : {F R : Type 0} (g : ScriptFunctions F) (text : R → List ℕ) (site : SiteContent) (p : AppState) (piece : List ℕ)
     → SaysNothing p → wanted (p.input ++ piece) ≡ Refused → CompactRepresent g text (compact.Refused 0) site (with_more p piece)
-enters_refused g text site p piece quiet is = record { polls = refl; stands = (is, still_nothing p piece quiet) }
+enters_refused g text site p piece quiet is = record { polls = refl; represented = (is, still_nothing p piece quiet) }
 
 pub enters_reply : {F R : Type 0} (g : ScriptFunctions F) (text : R → List ℕ) (site : SiteContent) (p : AppState) (piece : List ℕ) (found : Option FileId) (none : R)
     → SaysNothing p → IsFileAsked (files_of site) (wanted (p.input ++ piece)) found → CompactRepresent g text (compact.Replying 0 found (Head 0) none) site (with_more p piece)
 enters_reply g text site p piece found none quiet is = record {
   polls = refl;
-  stands = decided_stands g (λ made. made) (pages_kept text (compact.Replying 0 found (Head 0) none)) site (with_more p piece) (stage.Reply found) refl (still_nothing p piece quiet) is;
+  represented = decided_stands g (λ made. made) (pages_kept text (compact.Replying 0 found (Head 0) none)) site (with_more p piece) (stage.Reply found) refl (still_nothing p piece quiet) is;
 }
 
 -- ---- while a reply is sent

@@ -45,7 +45,7 @@ found_reported files (Some id) h = ∥∥₁_elim h le_prop (λ is. is)
 -- ---- while a reply is sent
 
 pub replying : {F R : Type 0} (g : ScriptFunctions F) (text : R → List ℕ) (a : Pages R) (site : SiteContent) (p : AppState) (found : Option FileId) → a.stage ≡ stage.Reply found → PagesRepresent g text a site p → (name : List ℕ) × IsReplying g text a site name found p
-replying g text a site p found e s = subst (λ st. StandsIn g text a site p st) e s.stands
+replying g text a site p found e s = subst (λ st. StandsIn g text a site p st) e s.represented
 
 pub reply_fits : {F R : Type 0} (g : ScriptFunctions F) (text : R → List ℕ) (a : Pages R) (site : SiteContent) (found : Option FileId) → a.stage ≡ stage.Reply found → IsRepresented (PagesRepresent g text) a site → Fits (reply_by g text site found a.capture) a.thread
 reply_fits g text a site found e has =
@@ -96,7 +96,7 @@ reply_acked g text a site found p n u e fits kept history enough s =
     let is = replying g text a site p found e s in
     record {
       polls = refl;
-      stands = subst (λ st. StandsIn g text (record a { thread = u; polls = 0 }) site (record p { acked = p.acked + n; polls = 0 }) st) (sym e) (
+      represented = subst (λ st. StandsIn g text (record a { thread = u; polls = 0 }) site (record p { acked = p.acked + n; polls = 0 }) st) (sym e) (
         is.0,
         record {
           wanted = is.1.wanted;
@@ -115,8 +115,8 @@ nothing_acked : {F R : Type 0} (g : ScriptFunctions F) (text : R → List ℕ) (
 nothing_acked g text a site p n stage.Method never e (hears, none) = (hears, record { snapshots = none.snapshots; acked = omega (arith, none.acked, e) })
 nothing_acked g text a site p n stage.Target never e (hears, none) = (hears, record { snapshots = none.snapshots; acked = omega (arith, none.acked, e) })
 nothing_acked g text a site p n stage.Refused never e (refused, none) = (refused, record { snapshots = none.snapshots; acked = omega (arith, none.acked, e) })
-nothing_acked g text a site p n (stage.Reply found) never e stands = absurd (never found refl)
+nothing_acked g text a site p n (stage.Reply found) never e represented = absurd (never found refl)
 
 pub quiet_acked : {F R : Type 0} (g : ScriptFunctions F) (text : R → List ℕ) (a : Pages R) (site : SiteContent) (p : AppState) (n : ℕ) → ((found : Option FileId) → a.stage ≡ stage.Reply found → ⊥) → CanSay (means g) (PagesRepresent g text) a site n → PagesRepresent g text a site p
     → PagesRepresent g text (record a { polls = 0 }) site (record p { acked = p.acked + n; polls = 0 })
-quiet_acked g text a site p n never can s = record { polls = refl; stands = nothing_acked g text a site p n a.stage never (quiet_zero g text a site n never can) s.stands }
+quiet_acked g text a site p n never can s = record { polls = refl; represented = nothing_acked g text a site p n a.stage never (quiet_zero g text a site n never can) s.represented }

@@ -48,25 +48,25 @@ still_nothing : (p : AppState) (piece : List ℕ) → SaysNothing p → SaysNoth
 still_nothing p piece none = record { snapshots = none.snapshots; acked = none.acked }
 
 pub method_heard : {F R : Type 0} (g : ScriptFunctions F) (text : R → List ℕ) (a : Pages R) (site : SiteContent) (p : AppState) → a.stage ≡ stage.Method → PagesRepresent g text a site p → HearsMethod a.line p.input × SaysNothing p
-method_heard g text a site p e s = subst (λ st. StandsIn g text a site p st) e s.stands
+method_heard g text a site p e s = subst (λ st. StandsIn g text a site p st) e s.represented
 
 pub target_heard : {F R : Type 0} (g : ScriptFunctions F) (text : R → List ℕ) (a : Pages R) (site : SiteContent) (p : AppState) → a.stage ≡ stage.Target → PagesRepresent g text a site p → HearsTarget a.line p.input × SaysNothing p
-target_heard g text a site p e s = subst (λ st. StandsIn g text a site p st) e s.stands
+target_heard g text a site p e s = subst (λ st. StandsIn g text a site p st) e s.represented
 
 pub refused_heard : {F R : Type 0} (g : ScriptFunctions F) (text : R → List ℕ) (a : Pages R) (site : SiteContent) (p : AppState) → a.stage ≡ stage.Refused → PagesRepresent g text a site p → (wanted p.input ≡ Refused) × SaysNothing p
-refused_heard g text a site p e s = subst (λ st. StandsIn g text a site p st) e s.stands
+refused_heard g text a site p e s = subst (λ st. StandsIn g text a site p st) e s.represented
 
 -- a request that a piece may decide
 pub heard_stands : {F R : Type 0} (g : ScriptFunctions F) (text : R → List ℕ) (a b : Pages R) (site : SiteContent) (p : AppState) (piece : List ℕ) → SaysNothing p → b.thread ≡ Head 0 → b.polls ≡ 0 → IsDecided (files_of site) b.line (p.input ++ piece) b.stage → PagesRepresent g text b site (with_more p piece)
-heard_stands g text a b site p piece none e polls is = record { polls = polls; stands = decided_stands g text b site (with_more p piece) b.stage e (still_nothing p piece none) is }
+heard_stands g text a b site p piece none e polls is = record { polls = polls; represented = decided_stands g text b site (with_more p piece) b.stage e (still_nothing p piece none) is }
 
 -- a request that was decided
 pub reply_stays : {F R : Type 0} (g : ScriptFunctions F) (text : R → List ℕ) (a : Pages R) (site : SiteContent) (p : AppState) (piece : List ℕ) (found : Option FileId) → a.stage ≡ stage.Reply found → PagesRepresent g text a site p → PagesRepresent g text (record a { polls = 0 }) site (with_more p piece)
 reply_stays g text a site p piece found e s =
-    let is : (name : List ℕ) × IsReplying g text a site name found p = subst (λ st. StandsIn g text a site p st) e s.stands in
+    let is : (name : List ℕ) × IsReplying g text a site name found p = subst (λ st. StandsIn g text a site p st) e s.represented in
     record {
       polls = refl;
-      stands = subst (λ st. StandsIn g text (record a { polls = 0 }) site (with_more p piece) st) (sym e) (
+      represented = subst (λ st. StandsIn g text (record a { polls = 0 }) site (with_more p piece) st) (sym e) (
         is.0,
         record {
           wanted = more_by (Name is.0) p.input piece is.1.wanted (λ h. cc);
@@ -84,7 +84,7 @@ refused_stays g text a site p piece e s =
     let is = refused_heard g text a site p e s in
     record {
       polls = refl;
-      stands = subst (λ st. StandsIn g text (record a { polls = 0 }) site (with_more p piece) st) (sym e)
+      represented = subst (λ st. StandsIn g text (record a { polls = 0 }) site (with_more p piece) st) (sym e)
           (more_by Refused p.input piece is.0 (λ h. cc), still_nothing p piece is.1);
     }
 

@@ -57,7 +57,7 @@ StandsIn g text a site part stage.Refused = (wanted part.input ≡ Refused) × S
 pub record PagesRepresent {F R : Type 0} (g : ScriptFunctions F) (text : R → List ℕ) (a : Pages R)
     (site : SiteContent) (part : AppState) : Type 0 where
   pub polls : a.polls ≡ part.polls
-  pub stands : StandsIn g text a site part a.stage
+  pub represented : StandsIn g text a site part a.stage
 
 -- with the functions of uIP
 abbrev pub HttpdRepresents : Httpd → SiteContent → AppState → Type 0
@@ -67,7 +67,7 @@ HttpdRepresents = PagesRepresent uip capture_text
 
 -- Pages that represent a state represent the changed one afterwards.
 abbrev pub Becomes : {A : Type 0} → (A → SiteContent → AppState → Type 0) → SiteContent → (AppState → AppState) → A → A → Type 0
-Becomes stands site change old new = (p : AppState) → stands old site p → stands new site (change p)
+Becomes represented site change old new = (p : AppState) → represented old site p → represented new site (change p)
 
 -- In the states represented, `prepare` takes no capture.
 abbrev pub TakesNoCapture : AppSpec → (AppState → Type 0) → Type 0

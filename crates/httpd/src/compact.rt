@@ -79,8 +79,8 @@ fn is_target_stage(stage: Stage) -> bool
 impl<R: CallRecord> CompactPages<R> {
     /// Returns the pages of a connection that has received nothing.
     pub fn fresh() -> CompactPages<R>
-        ensures { let stands = CompactRepresent (script_functions R.Function.calling R.output) R.text in
-            (site : SiteContent) (port : ℕ) → stands result site
+        ensures { let represented = CompactRepresent (script_functions R.Function.calling R.output) R.text in
+            (site : SiteContent) (port : ℕ) → represented result site
             (record { port = port; input = []; snapshots = []; acked = 0; polls = 0; own = 0 }) }
     {
         CompactPages::Receiving {
@@ -115,11 +115,11 @@ impl<R: CallRecord> CompactPages<R> {
     /// Delivers the next bytes from the peer, and counts a hit of the file that they request.
     pub fn hear<B: Image>(&mut self, site: &SiteOf<B>, hits: &mut [u32], piece: &[u8])
         requires counted { IsCounted site.now hits.old }
-        ensures part { let stands = CompactRepresent (script_functions R.Function.calling R.output) R.text in
-            (p : AppState) → stands self.old site.now p
-            → stands self.new site.now (record p { input = p.input ++ piece.now; polls = 0 }) }
-        ensures hits { let stands = CompactRepresent (script_functions R.Function.calling R.output) R.text in
-            (p : AppState) → stands self.old site.now p
+        ensures part { let represented = CompactRepresent (script_functions R.Function.calling R.output) R.text in
+            (p : AppState) → represented self.old site.now p
+            → represented self.new site.now (record p { input = p.input ++ piece.now; polls = 0 }) }
+        ensures hits { let represented = CompactRepresent (script_functions R.Function.calling R.output) R.text in
+            (p : AppState) → represented self.old site.now p
             → hits.new ≡ hits_by (files_of site.now) hits.old (wanted p.input) (wanted (p.input ++ piece.now)) }
     {
         let stage = match self {
@@ -242,9 +242,9 @@ impl<R: CallRecord> CompactPages<R> {
     pub fn pass<B: Image>(&mut self, site: &SiteOf<B>, count: usize)
         requires { let g = script_functions R.Function.calling R.output in
             CanSay (λ site. web_spec_by g (files_of site)) (CompactRepresent g R.text) self.old site.now count }
-        ensures { let stands = CompactRepresent (script_functions R.Function.calling R.output) R.text in
-            (p : AppState) → stands self.old site.now p
-            → stands self.new site.now (record p { acked = p.acked + count; polls = 0 }) }
+        ensures { let represented = CompactRepresent (script_functions R.Function.calling R.output) R.text in
+            (p : AppState) → represented self.old site.now p
+            → represented self.new site.now (record p { acked = p.acked + count; polls = 0 }) }
     {
         match self {
             CompactPages::Receiving { polls, .. } => *polls = 0,
@@ -263,9 +263,9 @@ impl<R: CallRecord> CompactPages<R> {
 
     /// Counts a tick with nothing outstanding.
     pub fn wait(&mut self)
-        ensures { let stands = CompactRepresent (script_functions R.Function.calling R.output) R.text in
-            (site : SiteContent) (p : AppState) → stands self.old site p
-            → stands self.new site (record p { polls = min MOST_POLLS (p.polls + 1) }) }
+        ensures { let represented = CompactRepresent (script_functions R.Function.calling R.output) R.text in
+            (site : SiteContent) (p : AppState) → represented self.old site p
+            → represented self.new site (record p { polls = min MOST_POLLS (p.polls + 1) }) }
     {
         let count = MOST_POLLS.min(self.polls().saturating_add(1));
         self.set_polls(count);

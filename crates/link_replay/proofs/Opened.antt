@@ -19,7 +19,7 @@ fresh number plan setup client request received few range e addr port mss bytes 
     let segs = and_parts (leb 1 plan.seg) (leb plan.seg 1460) (and_parts (is_between 1 65535 plan.port.0) (is_between 1 1460 plan.seg) parts.0).1 in
     let short : length plan.request ≤ 4096 = leb-true (length plan.request) 4096 sizes.1 in
     record {
-      stands = record {
+      represented = record {
         client = ap (λ (r : List ℕ). standing client r received) asked ∙ ap (λ (r : List ℕ). standing client plan.request r) none
             ∙ is_idle plan.request ∙ ap (λ (s : Setup). idle s plan.request) e;
         epoch = refl;
@@ -101,7 +101,7 @@ sides_stand plans sides h = record {
   each = λ i x y g f.
       (let m = get_map fresh_side (plan_from 1 plans) i y f in
       let r = planned_at 1 plans i m.from m.get in
-      subst (SideRepresents x) (ap (λ (n : ℕ). fresh_side (planned n r.plan)) (sym (first_number i)) ∙ ap fresh_side (sym r.is) ∙ m.is) (h.each i r.plan x r.get g).stands);
+      subst (SideRepresents x) (ap (λ (n : ℕ). fresh_side (planned n r.plan)) (sym (first_number i)) ∙ ap fresh_side (sym r.is) ∙ m.is) (h.each i r.plan x r.get g).represented);
 }
 
 fresh_at : (plans : List Plan) (sides : List CodeSide) → AreFresh plans sides → (i : ℕ) (side : CodeSide) → slice_get sides i ≡ Some side → (plan : Plan) × IsFresh (suc i) plan side

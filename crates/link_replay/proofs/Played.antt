@@ -101,7 +101,7 @@ module _ {A S : Type 0} (g : Ghosts A S) where
       → LinesEnd (g.app_spec (g.config world.node.shared)) g.served (λ (done : Unit {0}). After) lines answer (plays (g.app_spec (g.config world.node.shared)) g.served (map event_at lines) w))
       → (pages : Pages) → IsPaged (g.app_spec (g.config shared)) pages → HasBytes pages → All IsU32 (g.numbers shared)
       → PlaysSchedule (g.app_spec (g.config shared)) g.served (g.numbers shared) schedule (λ (done : Unit {0}). After) answer
-  whole_schedule world After shared schedule clients lines answer kept same_clients same_lines same_shared each stands ends pages lawful bytes words =
+  whole_schedule world After shared schedule clients lines answer kept same_clients same_lines same_shared each represented ends pages lawful bytes words =
       let m = g.app_spec (g.config shared) in
       let plans = schedule.clients in
       let w = opening_for (g.numbers shared) plans in
@@ -109,7 +109,7 @@ module _ {A S : Type 0} (g : Ghosts A S) where
       = subst (λ (cs : List Plan). (k : ℕ) (p : Planned) → slice_get (plan_from 1 cs) k ≡ Some p → IsPlanned p) same_clients each in
       let at : IsAt m g.served w = at_opening m g.served pages (g.numbers shared) plans lawful bytes words (is_plan plans kept.apart planned) in
       let now : WorldRepresents g world w
-      = subst (λ (cs : List Plan). WorldRepresents g world (opening_for (g.numbers shared) cs)) same_clients stands in
+      = subst (λ (cs : List Plan). WorldRepresents g world (opening_for (g.numbers shared) cs)) same_clients represented in
       subst (λ (ls : List Line). LinesEnd m g.served (λ (done : Unit {0}). After) ls answer (plays m g.served (map event_at ls) w)) same_lines
       (subst (λ (s : S). IsAt (g.app_spec (g.config s)) g.served w → LinesEnd (g.app_spec (g.config s)) g.served (λ (done : Unit {0}). After) lines answer (plays (g.app_spec (g.config s)) g.served (map event_at lines) w)) same_shared
       (λ h. ends w h now) at)

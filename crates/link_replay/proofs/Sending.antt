@@ -46,7 +46,7 @@ pub stepped_put : (link : Link) (w : World) (n : ℕ) (old new : CodeSide) (s : 
     SideRepresents old s → new.client.setup ≡ old.client.setup → Stepped step s new answer area → LinkRepresents (record link { sides = set link.sides n new }) (with_side w (suc n) (with_client s step.client))
 stepped_put link w n old new s step answer area h g o q p =
     side_put link w n new s (with_client s step.client) h g
-    (ap (λ (k : AbstractClient). k.setup) (sym p.stands.client) ∙ q ∙ ap (λ (k : AbstractClient). k.setup) o.client) p.stands
+    (ap (λ (k : AbstractClient). k.setup) (sym p.represented.client) ∙ q ∙ ap (λ (k : AbstractClient). k.setup) o.client) p.represented
 
 pub sends_inside : (setup : Setup) (s : Option PlainSegment) (answer : Option ℕ) (len : ℕ) (area : List ℕ) → Sends setup s answer area → answer ≡ Some len → len ≤ length area
 sends_inside setup s answer len area h e = (sends_some setup s len area (subst (λ x. Sends setup s x area) e h)).inside
@@ -54,12 +54,12 @@ sends_inside setup s answer len area h e = (sends_some setup s len area (subst (
 -- some client over plain data that one of the code represents
 pub record SomeSide (side : CodeSide) : Type 0 where
   pub plain : Side
-  pub stands : SideRepresents side plain
+  pub represented : SideRepresents side plain
 
 pub some_side : (side : CodeSide) → SomeSide side
 some_side side = record {
   plain = record { client = standing side.client side.request side.received; history = replicate side.epoch (past_connection_of closed); opened = None; first_stale = side.first_stale };
-  stands = record { client = refl; epoch = sym (length_same side.epoch (past_connection_of closed)); first_stale = refl };
+  represented = record { client = refl; epoch = sym (length_same side.epoch (past_connection_of closed)); first_stale = refl };
 }
   where
     length_same : {X : Type 0} (n : ℕ) (x : X) → length (replicate n x) ≡ n
@@ -108,7 +108,7 @@ module _ (link : Link) (w : World) (number n : ℕ) (old new : CodeSide) (s : Si
       subst (λ k. LinkRepresents (record link { sides = set link.sides n new }) (with_side w k (with_client s step.client))) (sym is) (stepped_put link w n old new s step answer area h g o q p)
 
   setup_stays : (step : ClientStep) (answer : Option ℕ) (area : List ℕ) → Stepped step s new answer area → (with_client s step.client).client.setup ≡ s.client.setup
-  setup_stays step answer area p = ap (λ (k : AbstractClient). k.setup) (sym p.stands.client) ∙ q ∙ ap (λ (k : AbstractClient). k.setup) o.client
+  setup_stays step answer area p = ap (λ (k : AbstractClient). k.setup) (sym p.represented.client) ∙ q ∙ ap (λ (k : AbstractClient). k.setup) o.client
 
   -- what it sent is appended from the start of the area
   pub step_posted : (step : ClientStep) (answer : Option ℕ) (area : List ℕ) (after : Link) (tick : ℕ) → Stepped step s new answer area

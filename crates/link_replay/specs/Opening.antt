@@ -38,7 +38,7 @@ opening_for numbers plans = initial_world server numbers (plan_from 1 plans)
 
 -- a client of the code before its first act
 pub record IsFresh (number : ℕ) (plan : Plan) (side : CodeSide) : Type 0 where
-  pub stands : SideRepresents side (fresh_side (planned number plan))
+  pub represented : SideRepresents side (fresh_side (planned number plan))
   pub fits : FitsRequest side.client side.request
   pub at_server : side.client.setup.server ≡ server
   pub in_range : IsPlanned (planned number plan)

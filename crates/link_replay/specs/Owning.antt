@@ -15,5 +15,5 @@ own_step own.Aborts = client_aborts
 
 -- A client of the code took this step. What it sends is at the start of the area.
 pub record Stepped (step : ClientStep) (s : Side) (side : CodeSide) (answer : Option ℕ) (area : List ℕ) : Type 0 where
-  pub stands : SideRepresents side (with_client s step.client)
+  pub represented : SideRepresents side (with_client s step.client)
   pub sent : Sends s.client.setup step.sent answer area

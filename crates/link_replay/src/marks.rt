@@ -13,7 +13,7 @@ use link_client::Client;
 impl Side {
     /// Records the delivery of a datagram of an epoch from or to the client: the first stale number is stored.
     fn see(&mut self, number: u32, epoch: u32)
-        ensures stands { (s : PlainSide) (e : PlainSent) → SideRepresents self.old s → epoch ≡ e.epoch
+        ensures represented { (s : PlainSide) (e : PlainSent) → SideRepresents self.old s → epoch ≡ e.epoch
             → SideRepresents self.new (marked s number e) }
         ensures kept { self.new ≡ record self.old { first_stale = self.new.first_stale } }
     {
@@ -36,7 +36,7 @@ fn pair_at(client: &Client) -> SocketPair
 
 /// Records the delivery of a datagram of an epoch from or to a client.
 pub(crate) fn see(sides: &mut Vec<Side>, client: u8, number: u32, epoch: u32)
-    ensures stands { RecordsDelivery client number epoch sides.old.items sides.new.items }
+    ensures represented { RecordsDelivery client number epoch sides.old.items sides.new.items }
     ensures kept { (addr : Address) (sent : List CodeSent) → IsLink addr (link_of sides.old.items sent)
         → IsLink addr (link_of sides.new.items sent) }
 {

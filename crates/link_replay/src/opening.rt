@@ -98,7 +98,7 @@ impl<A: App> WorldOf<A> {
     ) -> Result<WorldOf<A>, NoMemory>
         requires few { length clients.now ≤ 64 }
         requires ranges { list_all client_in_range clients.now ≡ true }
-        ensures stands { IfOk result (λ world. WorldRepresents A.App world (opening_for (A.numbers shared) clients.now)) }
+        ensures represented { IfOk result (λ world. WorldRepresents A.App world (opening_for (A.numbers shared) clients.now)) }
         ensures shared { IfOk result (λ world. world.node.shared ≡ shared) }
         ensures planned { IfOk result (λ world. (k : ℕ) (p : Planned) → slice_get (plan_from 1 clients.now) k ≡ Some p
             → IsPlanned p) }
@@ -127,7 +127,7 @@ impl World {
     /// Returns the initial world of a schedule's clients and the web server of a site: the node at 10.0.0.1, every client idle,
     /// and no datagram sent. On NoMemory the site is dropped.
     pub fn new(alloc: Global, schedule: &Schedule, site: Site) -> Result<World, NoMemory>
-        ensures stands { IfOk result (λ world. WorldRepresents ghosts world
+        ensures represented { IfOk result (λ world. WorldRepresents ghosts world
             (opening_for (no_hits (files_of site)) schedule.now.clients)) }
         ensures site { IfOk result (λ world. world.node.shared.site ≡ site) }
     {

@@ -18,7 +18,7 @@ impl<A: App> WorldOf<A> {
         requires least { 1 ≤ number }
         requires most { number ≤ length self.now.link.sides }
         ensures shows { numbered self.now.link.sides number ≡ Some result.now }
-        ensures stands { (w : PlainWorld) (s : PlainSide) → WorldRepresents A.App self.now w → numbered w.sides number ≡ Some s
+        ensures represented { (w : PlainWorld) (s : PlainSide) → WorldRepresents A.App self.now w → numbered w.sides number ≡ Some s
             → SideRepresents result.now s }
     {
         &self.sides[usize::from(number) - 1]
@@ -29,7 +29,7 @@ impl<A: App> WorldOf<A> {
         requires least { 1 ≤ number }
         requires most { number ≤ length self.now.link.sides }
         ensures shows { option_map (λ side. side.client) (numbered self.now.link.sides number) ≡ Some result.now }
-        ensures stands { (w : PlainWorld) (s : PlainSide) → WorldRepresents A.App self.now w → numbered w.sides number ≡ Some s
+        ensures represented { (w : PlainWorld) (s : PlainSide) → WorldRepresents A.App self.now w → numbered w.sides number ≡ Some s
             → standing result.now s.client.request s.client.received ≡ s.client }
     {
         let found = self.side(number);
@@ -41,7 +41,7 @@ impl<A: App> WorldOf<A> {
         requires least { 1 ≤ number }
         requires most { number ≤ length self.now.link.sides }
         ensures shows { option_map (λ side. side.received) (numbered self.now.link.sides number) ≡ Some result.now }
-        ensures stands { (w : PlainWorld) (s : PlainSide) → WorldRepresents A.App self.now w → numbered w.sides number ≡ Some s
+        ensures represented { (w : PlainWorld) (s : PlainSide) → WorldRepresents A.App self.now w → numbered w.sides number ≡ Some s
             → result.now ≡ s.client.received }
     {
         let found = self.side(number);
@@ -53,7 +53,7 @@ impl<A: App> WorldOf<A> {
         requires least { 1 ≤ number }
         requires most { number ≤ length self.now.link.sides }
         ensures shows { option_map (λ side. is_none side.first_stale) (numbered self.now.link.sides number) ≡ Some result }
-        ensures stands { (w : PlainWorld) (s : PlainSide) → WorldRepresents A.App self.now w
+        ensures represented { (w : PlainWorld) (s : PlainSide) → WorldRepresents A.App self.now w
             → numbered w.sides number ≡ Some s → result ≡ is_clean s }
     {
         let found = self.side(number);
@@ -65,7 +65,7 @@ impl<A: App> WorldOf<A> {
         requires least { 1 ≤ number }
         requires most { number ≤ length self.now.link.sides }
         ensures shows { option_map (λ side. side.first_stale) (numbered self.now.link.sides number) ≡ Some result }
-        ensures stands { (w : PlainWorld) (s : PlainSide) → WorldRepresents A.App self.now w → numbered w.sides number ≡ Some s
+        ensures represented { (w : PlainWorld) (s : PlainSide) → WorldRepresents A.App self.now w → numbered w.sides number ≡ Some s
             → result ≡ s.first_stale }
     {
         let found = self.side(number);
@@ -82,7 +82,7 @@ impl<A: App> WorldOf<A> {
     /// Returns the ticks so far, modulo 2^32.
     pub fn ticks(&self) -> u32
         ensures shows { result ≡ self.now.node.counts.ticks }
-        ensures stands { (w : PlainWorld) → WorldRepresents A.App self.now w → result ≡ ticks_of w.node.history }
+        ensures represented { (w : PlainWorld) → WorldRepresents A.App self.now w → result ≡ ticks_of w.node.history }
     {
         self.node.ticks()
     }

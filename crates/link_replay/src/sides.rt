@@ -34,7 +34,8 @@ fn bury_one(side: &mut Side, gone: SocketPair) -> Result<(), NoMemory>
 /// Raises the epoch of each client whose connection was lost. Fails with NoMemory if a client's epoch has no higher number.
 pub(crate) fn bury(sides: &mut [Side], gone: SocketPair) -> Result<(), NoMemory>
     ensures kept { Matched OnlyEpoch sides.old sides.new }
-    ensures stands { OnOk result ((ss : List PlainSide) (g : Connection) → pair_at g.sockets ≡ gone → Matched SideRepresents sides.old ss
+    ensures represented { OnOk result ((ss : List PlainSide) (g : Connection) → pair_at g.sockets ≡ gone
+        → Matched SideRepresents sides.old ss
         → Matched SideRepresents sides.new (retires (Some g) ss)) }
     ensures last { OnErr result (Any (IsAtLast gone) sides.old) }
 {

@@ -213,9 +213,9 @@ module _ (m : AppSpec) (speaker : Speaker) (laws : HasOutputModel m speaker) (hi
       (node_later m speaker laws client c P P (era history conn o).iss (era history conn o).iss (era history conn o).snapshots (era history conn o).snapshots [] s refl (λ x. x) refl (sym (append_nothing (era history conn o).snapshots)) output))
 
   -- a step that sends the given segment, or nothing
-  stands : (client d : AbstractClient) (opened : Option ℕ) → becomes_opened client.state d.state ≡ false → d.request ≡ client.request → own_first d ≡ own_first client → Steady d → OpenedGood speaker d history conn opened →
+  represented : (client d : AbstractClient) (opened : Option ℕ) → becomes_opened client.state d.state ≡ false → d.request ≡ client.request → own_first d ≡ own_first client → Steady d → OpenedGood speaker d history conn opened →
       TookGood speaker client history conn opened opened (keeps d)
-  stands client d opened b r f steady h = record {
+  represented client d opened b r f steady h = record {
     next_is = ap (λ x. if x then Some (length history) else opened) (sym b);
     request = r;
     setup = f;
@@ -236,7 +236,7 @@ module _ (m : AppSpec) (speaker : Speaker) (laws : HasOutputModel m speaker) (hi
   }
 
   stays : (client : AbstractClient) (opened : Option ℕ) → Steady client → OpenedGood speaker client history conn opened → TookGood speaker client history conn opened opened (keeps client)
-  stays client opened steady h = stands client client opened (same_becomes client.state) refl refl steady h
+  stays client opened steady h = represented client client opened (same_becomes client.state) refl refl steady h
 
   -- a client that becomes Reset
   reset_opened : (client : AbstractClient) (opened : Option ℕ) → OpenedGood speaker client history conn opened → OpenedGood speaker (record client { state = Is.Reset }) history conn opened
@@ -314,7 +314,7 @@ module _ (m : AppSpec) (speaker : Speaker) (laws : HasOutputModel m speaker) (hi
       (λ r. choose (λ x. Took_it client opened (keeps x)) (is_reset_by client.state client (seg e)) _ _
       (λ b. record {
         next = opened;
-        good = stands client (record client { state = Is.Reset }) opened (reset_becomes client.state) refl refl
+        good = represented client (record client { state = Is.Reset }) opened (reset_becomes client.state) refl refl
             record { short = steady.short; low = steady.low; out_fits = steady.out_fits } (reset_opened client opened h);
       })
       (λ b. record { next = opened; good = stays client opened steady h }))
@@ -410,6 +410,6 @@ module _ (m : AppSpec) (speaker : Speaker) (laws : HasOutputModel m speaker) (hi
   window_good client w opened steady h =
       record {
         next = opened;
-        good = stands client (record client { window = w }) opened (same_becomes client.state) refl refl
+        good = represented client (record client { window = w }) opened (same_becomes client.state) refl refl
             record { short = steady.short; low = steady.low; out_fits = steady.out_fits } (window_opened client w opened h);
       }

@@ -12,7 +12,7 @@ module _ {A S : Type 0} (g : Ghosts A S) where
       → Represents g new (step m g.served n event).node (step m g.served n event).node.history → At m own old n
       → At m own new (step m g.served n event).node
   node_on m own old new event n same s p =
-      record { meant = ap (λ k. g.app_spec k) same ∙ p.meant; address = step-addr m g.served n event ∙ p.address; stands = s }
+      record { meant = ap (λ k. g.app_spec k) same ∙ p.meant; address = step-addr m g.served n event ∙ p.address; represented = s }
 
   pub node_step : (m : AppSpec) (own : Addr) (old new : Node A S) (result : Option ℕ) (event : Event) (n : AbstractNode) → g.config new.shared ≡ g.config old.shared
       → Steps g new result (step (g.app_spec (g.config old.shared)) g.served n event) → At m own old n
@@ -21,8 +21,8 @@ module _ {A S : Type 0} (g : Ghosts A S) where
       let t : Steps g new result (step m g.served n event) =
       subst (λ (k : AppSpec). Steps g new result (step k g.served n event)) p.meant s in
       let kept_addr : (step m g.served n event).node.addr ≡ own = step-addr m g.served n event ∙ p.address in (
-        node_on m own old new event n same t.stands p,
-        subst (λ (a : Addr). IsSent a (step m g.served n event).sent result new.packet) (t.stands.addr ∙ kept_addr) t.sent,
+        node_on m own old new event n same t.represented p,
+        subst (λ (a : Addr). IsSent a (step m g.served n event).sent result new.packet) (t.represented.addr ∙ kept_addr) t.sent,
       )
 
   module _ {C : Type 0} (w : MediumSpec C) (did did' : List C → Type 0) where
@@ -36,8 +36,8 @@ module _ {A S : Type 0} (g : Ghosts A S) where
         → AllSaid m g.served w own (OfNode event ∷ []) (Here did m own old) (Here did' m own new) a b
     call_wrote m own old new result event a b same steps on wrote =
         wrote_one m g.served w own (OfNode event) (Here did m own old) (Here did' m own new) a b
-        (λ s p. let both = node_step m own old new result event s.node same (steps s.node p.stands) p.stands in
-        (record { stands = both.0; acted = on s.acts p.acted }, wrote s.acts own (step m g.served s.node event).sent p.acted both.1))
+        (λ s p. let both = node_step m own old new result event s.node same (steps s.node p.represented) p.represented in
+        (record { represented = both.0; acted = on s.acts p.acted }, wrote s.acts own (step m g.served s.node event).sent p.acted both.1))
 
     pub call_broke : (m : AppSpec) (own : Addr) (old new : Node A S) (result : Option ℕ) (event : Event) (a b : Option (List ℕ)) → g.config new.shared ≡ g.config old.shared
         → ((n : AbstractNode) → At m own old n → Steps g new result (step (g.app_spec (g.config old.shared)) g.served n event))
@@ -46,8 +46,8 @@ module _ {A S : Type 0} (g : Ghosts A S) where
         → PrefixWritten m g.served w own (OfNode event ∷ []) (Here did m own old) (Here did' m own new) a b
     call_broke m own old new result event a b same steps on wrote =
         broke_one m g.served w own (OfNode event) (Here did m own old) (Here did' m own new) a b
-        (λ s p. let both = node_step m own old new result event s.node same (steps s.node p.stands) p.stands in
-        (record { stands = both.0; acted = on s.acts p.acted }, wrote s.acts own (step m g.served s.node event).sent p.acted both.1))
+        (λ s p. let both = node_step m own old new result event s.node same (steps s.node p.represented) p.represented in
+        (record { represented = both.0; acted = on s.acts p.acted }, wrote s.acts own (step m g.served s.node event).sent p.acted both.1))
 
   -- a call and the writing of what it sends, whose answer this is
   module _ {T E Set C : Type 0} (r : Result T E) (spec : Set → MediumSpec C) (did did' : Set → List C → Type 0) (old new : Node A S) (result : Option ℕ) (event : Addr → Event) (a b : Option (List ℕ)) where

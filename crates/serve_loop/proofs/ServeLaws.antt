@@ -28,10 +28,10 @@ module _ {A S : Type 0} (g : Ghosts A S) {C : Type 0} (w : MediumSpec C) where
 
   -- a node represents one in the public sense if it does with its specification and its address
   enters : (did : List C → Type 0) (node : Node A S) (s : Station C) → IsStationed g did node s → At did (g.app_spec (g.config node.shared)) node.addr node s
-  enters did node s p = record { stands = record { meant = refl; address = sym p.stands.addr; stands = p.stands }; acted = p.acted }
+  enters did node s p = record { represented = record { meant = refl; address = sym p.represented.addr; represented = p.represented }; acted = p.acted }
 
   leaves : (did : List C → Type 0) (m : AppSpec) (own : Addr) (node : Node A S) (s : Station C) → At did m own node s → IsStationed g did node s
-  leaves did m own node s p = record { stands = p.stands.stands; acted = p.acted }
+  leaves did m own node s p = record { represented = p.represented.represented; acted = p.acted }
 
   all_public : (did did' : List C → Type 0) (station_events : List (StationEvent C)) (before after : Node A S) (a b : Option (List ℕ))
       → AllSaid (g.app_spec (g.config before.shared)) g.served w before.addr station_events (At did (g.app_spec (g.config before.shared)) before.addr before) (At did' (g.app_spec (g.config before.shared)) before.addr after) a b

@@ -18,7 +18,7 @@ module _ {A S Set C : Type 0} (g : Ghosts A S)
   moved : (k : Set) (m : AppSpec) (own : Addr) (before : List ℕ) (ds : List (MediumInput C)) → fed k before → Came_of k before ≡ ds → acts_among ds ≡ []
       → (s : Station C) → Here did k m own s → Here did' k m own s
   moved k m own before ds h e none s p = record {
-    stands = p.stands;
+    represented = p.represented;
     acted = subst (λ (l : List C). did' k l) (ap (λ l. s.acts ++ acts_among l) e ∙ ap (λ l. s.acts ++ l) none ∙ append-nil s.acts) (on k before s.acts h p.acted);
   }
 
@@ -26,7 +26,7 @@ module _ {A S Set C : Type 0} (g : Ghosts A S)
   acted_on : (k : Set) (m : AppSpec) (own : Addr) (before : List ℕ) (act : C) → fed k before → Came_of k before ≡ Own act ∷ []
       → (s : Station C) → Here did k m own s → Here did' k m own (record { acts = s.acts ++ act ∷ []; node = s.node })
   acted_on k m own before act h e s p = record {
-    stands = p.stands;
+    represented = p.represented;
     acted = subst (λ (l : List C). did' k l) (ap (λ l. s.acts ++ acts_among l) e) (on k before s.acts h p.acted);
   }
 
@@ -46,9 +46,9 @@ module _ {A S Set C : Type 0} (g : Ghosts A S)
       (wrote_one m g.served (spec k) own (OfNode OverlongFrame) (Here did k m own) (λ s. IsHere g (did' k) m own after s) a a
       (λ s p. (
         record {
-          stands = node_on g m own node after OverlongFrame s.node same
-              (subst (λ (x : AppSpec). Represents g after (step x g.served s.node OverlongFrame).node (seen OverlongFrame s.node.history)) p.stands.meant (steps s.node p.stands.stands))
-              p.stands;
+          represented = node_on g m own node after OverlongFrame s.node same
+              (subst (λ (x : AppSpec). Represents g after (step x g.served s.node OverlongFrame).node (seen OverlongFrame s.node.history)) p.represented.meant (steps s.node p.represented.represented))
+              p.represented;
           acted = (moved k m own before _ h (reported k before h) refl s p).acted;
         },
         Appends-none a,

@@ -22,7 +22,7 @@ SaidBy _ m served w own station_events Before After old new = AllSaid m served w
 
 -- The node represents the node of the station, and the medium did its acts.
 pub record IsStationed {A S C : Type 0} (g : Ghosts A S) (did : List C → Type 0) (node : Node A S) (s : Station C) : Type 0 where
-  pub stands : Represents g node s.node s.node.history
+  pub represented : Represents g node s.node s.node.history
   pub acted : did s.acts
 
 -- A line was served over a medium, at a pace and up to n items; `did` and `did'` are the acts of the medium before and after. The items

@@ -24,12 +24,12 @@ use Rattle.serve_loop.specs.Pace.{HasPassed}
 pub record IsNode {A S : Type 0} (g : Ghosts A S) (m : AppSpec) (own : Addr) (node : Node A S) (n : AbstractNode) : Type 0 where
   pub meant : g.app_spec (g.config node.shared) ≡ m
   pub address : n.addr ≡ own
-  pub stands : Represents g node n n.history
+  pub represented : Represents g node n n.history
 
 -- The node, and the medium that did these acts, represent this station.
 pub record IsHere {A S C : Type 0} (g : Ghosts A S) (did : List C → Type 0) (m : AppSpec)
     (own : Addr) (node : Node A S) (s : Station C) : Type 0 where
-  pub stands : IsNode g m own node s.node
+  pub represented : IsNode g m own node s.node
   pub acted : did s.acts
 
 -- a medium, a node, and what is written

@@ -6,35 +6,35 @@ use Rattle.tcp_machine.proofs.States.{by_state}
 pub has_part_of : {A S : Type 0} (g : Ghosts A S) (k : g.Config) (c : Conn A) → IsSound g k c → is_open c.state ≡ true → IsRepresented g.represents c.app k
 has_part_of g k c sound open_to_it = has_part g.app_spec g.represents c.app k c.len (sound.says open_to_it)
 
-hears_grows : (m : AppSpec) (stands : AppState → Type 0) → IsLawful m stands → (ns : List ℕ) (p : AppState) (piece : List ℕ) → stands p → Grows m p (hears m ns p piece).part
-hears_grows m stands lawful ns p [] s = grows_by_nothing m p p refl refl
-hears_grows m stands lawful ns p (x ∷ xs) s = lawful.newdata_grows ns p (x ∷ xs) s
+hears_grows : (m : AppSpec) (represented : AppState → Type 0) → IsLawful m represented → (ns : List ℕ) (p : AppState) (piece : List ℕ) → represented p → Grows m p (hears m ns p piece).part
+hears_grows m represented lawful ns p [] s = grows_by_nothing m p p refl refl
+hears_grows m represented lawful ns p (x ∷ xs) s = lawful.newdata_grows ns p (x ∷ xs) s
 
 -- a delivery retracts no text
-pub can_say_heard : {A K : Type 0} (m : K → AppSpec) (stands : A → K → AppState → Type 0) (k : K) (a b : A) → IsLawful (m k) (stands a k) → (ns piece : List ℕ) (n : ℕ) →
-    ((p : AppState) → stands a k p → stands b k (hears (m k) ns p piece).part) → CanSay m stands a k n → CanSay m stands b k n
-can_say_heard m stands k a b lawful ns piece n moves can =
-    can_say_after m stands k a b (λ p. (hears (m k) ns p piece).part) n moves (λ p s. hears_grows (m k) (stands a k) lawful ns p piece s) can
+pub can_say_heard : {A K : Type 0} (m : K → AppSpec) (represented : A → K → AppState → Type 0) (k : K) (a b : A) → IsLawful (m k) (represented a k) → (ns piece : List ℕ) (n : ℕ) →
+    ((p : AppState) → represented a k p → represented b k (hears (m k) ns p piece).part) → CanSay m represented a k n → CanSay m represented b k n
+can_say_heard m represented k a b lawful ns piece n moves can =
+    can_say_after m represented k a b (λ p. (hears (m k) ns p piece).part) n moves (λ p s. hears_grows (m k) (represented a k) lawful ns p piece s) can
 
 -- a value that represents some state has at least an empty text left
-pub can_nothing_after : {A K : Type 0} (m : K → AppSpec) (stands : A → K → AppState → Type 0) (k : K) (a b : A) (f : AppState → AppState) → ((p : AppState) → stands a k p → stands b k (f p)) → IsRepresented stands a k → CanSay m stands b k 0
-can_nothing_after m stands k a b f moves has = can_nothing m stands b k (has_part_after stands k a b f moves has)
+pub can_nothing_after : {A K : Type 0} (m : K → AppSpec) (represented : A → K → AppState → Type 0) (k : K) (a b : A) (f : AppState → AppState) → ((p : AppState) → represented a k p → represented b k (f p)) → IsRepresented represented a k → CanSay m represented b k 0
+can_nothing_after m represented k a b f moves has = can_nothing m represented b k (has_part_after represented k a b f moves has)
 
-pub can_say_prepared : {A K : Type 0} (m : K → AppSpec) (stands : A → K → AppState → Type 0) (k : K) (a b : A) → IsLawful (m k) (stands a k) → (ns : List ℕ) (now : Now) (n : ℕ) →
-    ((p : AppState) → stands a k p → stands b k ((m k).prepare ns p now)) → CanSay m stands a k n → CanSay m stands b k n
-can_say_prepared m stands k a b lawful ns now n moves can =
-    can_say_after m stands k a b (λ p. (m k).prepare ns p now) n moves (λ p s. lawful.prepare_grows ns p now s) can
+pub can_say_prepared : {A K : Type 0} (m : K → AppSpec) (represented : A → K → AppState → Type 0) (k : K) (a b : A) → IsLawful (m k) (represented a k) → (ns : List ℕ) (now : Now) (n : ℕ) →
+    ((p : AppState) → represented a k p → represented b k ((m k).prepare ns p now)) → CanSay m represented a k n → CanSay m represented b k n
+can_say_prepared m represented k a b lawful ns now n moves can =
+    can_say_after m represented k a b (λ p. (m k).prepare ns p now) n moves (λ p s. lawful.prepare_grows ns p now s) can
 
-pub can_say_polled : {A K : Type 0} (m : K → AppSpec) (stands : A → K → AppState → Type 0) (k : K) (a b : A) → IsLawful (m k) (stands a k) → (ns : List ℕ) (n : ℕ) →
-    ((p : AppState) → stands a k p → stands b k ((m k).polled ns p).part) → CanSay m stands a k n → CanSay m stands b k n
-can_say_polled m stands k a b lawful ns n moves can =
-    can_say_after m stands k a b (λ p. ((m k).polled ns p).part) n moves
+pub can_say_polled : {A K : Type 0} (m : K → AppSpec) (represented : A → K → AppState → Type 0) (k : K) (a b : A) → IsLawful (m k) (represented a k) → (ns : List ℕ) (n : ℕ) →
+    ((p : AppState) → represented a k p → represented b k ((m k).polled ns p).part) → CanSay m represented a k n → CanSay m represented b k n
+can_say_polled m represented k a b lawful ns n moves can =
+    can_say_after m represented k a b (λ p. ((m k).polled ns p).part) n moves
     (λ p s. grows_by_nothing (m k) p ((m k).polled ns p).part (lawful.polled_keeps ns p s).0 (lawful.polled_keeps ns p s).1) can
 
 -- what is asked to be sent is at least one byte
-pub sends_some : {A K : Type 0} (m : K → AppSpec) (stands : A → K → AppState → Type 0) (k : K) (a : A) → IsLawful (m k) (stands a k) → (ns : List ℕ) (n : ℕ) → IsRepresented stands a k →
-    ((p : AppState) → stands a k p → Send n ≡ (m k).want ns p) → 1 ≤ n
-sends_some m stands k a lawful ns n has asked =
+pub sends_some : {A K : Type 0} (m : K → AppSpec) (represented : A → K → AppState → Type 0) (k : K) (a : A) → IsLawful (m k) (represented a k) → (ns : List ℕ) (n : ℕ) → IsRepresented represented a k →
+    ((p : AppState) → represented a k p → Send n ≡ (m k).want ns p) → 1 ≤ n
+sends_some m represented k a lawful ns n has asked =
     ∥∥₁_elim has le_prop (λ c. (subst (λ (w : Want). CanSend w (length (text_left (m k) c.0))) (sym (asked c.0 c.1)) (lawful.sends ns c.0 c.1)).0)
 
 -- where the application may speak the connection lives

@@ -39,7 +39,7 @@ pub fn accept<A: App>(conn: &mut Conn<A>, peer: Addr, seg: &Segment, iss: Seq) -
     ensures live { is_live conn.new.state ≡ true }
     ensures fits { StepFits conn.new result }
     ensures sound { (k : A.Config) → IsSound A.App k conn.new }
-    ensures stands { (k : A.Config) (text : List ℕ) → ConnRepresents A.App k conn.new (accepted iss.0
+    ensures represented { (k : A.Config) (text : List ℕ) → ConnRepresents A.App k conn.new (accepted iss.0
         (record { peer = peer; peer_port = seg.now.from; own_port = seg.now.to }) (plain seg.now text)) }
 {
     let mss = mss_of(seg.mss);

@@ -9,10 +9,10 @@ pub shell_part : (d : Desk) (a : Shell) (site : SiteContent) (p : AppState) → 
 shell_part d a site p is s = subst (λ (e : Desk). DeskRepresents e site p) is s
 
 pub web_has : (d : Desk) (a : Httpd) (site : SiteContent) → d ≡ desk.Web a → IsRepresented DeskRepresents d site → IsRepresented HttpdRepresents a site
-web_has d a site is has = ∥∥₁_map has (λ c. (c.0, (web_part d a site c.0 is c.1).stands))
+web_has d a site is has = ∥∥₁_map has (λ c. (c.0, (web_part d a site c.0 is c.1).represented))
 
 pub shell_has : (d : Desk) (a : Shell) (site : SiteContent) → d ≡ desk.Shell a → IsRepresented DeskRepresents d site → IsRepresented {A = Shell} {K = SiteContent} (λ b k p. ShellRepresents b p) a site
-shell_has d a site is has = ∥∥₁_map has (λ c. (c.0, (shell_part d a site c.0 is c.1).stands))
+shell_has d a site is has = ∥∥₁_map has (λ c. (c.0, (shell_part d a site c.0 is c.1).represented))
 
 fits : (m n : AppSpec) (p : AppState) (count : ℕ) → text_left m p ≡ text_left n p → count ≤ length (text_left m p) → count ≤ length (text_left n p)
 fits m n p count e h = subst (λ (xs : List ℕ). count ≤ length xs) e h
@@ -21,13 +21,13 @@ pub web_can : (d : Desk) (a : Httpd) (site : SiteContent) (count : ℕ) → d �
     → CanSay (λ s. web_spec (files_of s)) HttpdRepresents a site count
 web_can d a site count is can = ∥∥₁_map can (λ c.
     let w = web_part d a site c.0 is c.1 in
-    (c.0, w.stands, fits (desk_spec (files_of site)) (web_spec (files_of site)) c.0 count (web_left (files_of site) c.0 w.port) c.2))
+    (c.0, w.represented, fits (desk_spec (files_of site)) (web_spec (files_of site)) c.0 count (web_left (files_of site) c.0 w.port) c.2))
 
 pub shell_can : (d : Desk) (a : Shell) (site : SiteContent) (count : ℕ) → d ≡ desk.Shell a → CanSay (λ s. desk_spec (files_of s)) DeskRepresents d site count
     → CanSay {A = Shell} {K = SiteContent} (λ s. shell_spec) (λ b k p. ShellRepresents b p) a site count
 shell_can d a site count is can = ∥∥₁_map can (λ c.
     let w = shell_part d a site c.0 is c.1 in
-    (c.0, w.stands, fits (desk_spec (files_of site)) shell_spec c.0 count (shell_left (files_of site) c.0 w.port) c.2))
+    (c.0, w.represented, fits (desk_spec (files_of site)) shell_spec c.0 count (shell_left (files_of site) c.0 w.port) c.2))
 
 -- what holds of the application of a port holds of the desk there
 pub by_web : (P : AppSpec → Type 0) (d : Desk) (a : Httpd) (site : SiteContent) (p : AppState) → d ≡ desk.Web a → DeskRepresents d site p
@@ -42,18 +42,18 @@ by_shell P d a site p is s h = (let at = shell_part d a site p is s in subst P (
 pub web_moves : (d : Desk) (a b : Httpd) (site : SiteContent) (f : AppSpec → AppState → AppState) → d ≡ desk.Web a → ((p : AppState) → (f (web_spec (files_of site)) p).port ≡ p.port)
     → ((p : AppState) → HttpdRepresents a site p → HttpdRepresents b site (f (web_spec (files_of site)) p)) → (p : AppState) → DeskRepresents d site p → IsWebPart b site (f (app_spec_at (files_of site) p.port) p)
 web_moves d a b site f is keeps moves p s =
-    by_web (λ (m : AppSpec). IsWebPart b site (f m p)) d a site p is s (λ at. record { port = ap (λ (port : ℕ). port == TELNET_PORT) (keeps p) ∙ at.port; stands = moves p at.stands })
+    by_web (λ (m : AppSpec). IsWebPart b site (f m p)) d a site p is s (λ at. record { port = ap (λ (port : ℕ). port == TELNET_PORT) (keeps p) ∙ at.port; represented = moves p at.represented })
 
 pub shell_moves : (d : Desk) (a b : Shell) (site : SiteContent) (f : AppSpec → AppState → AppState) → d ≡ desk.Shell a → ((p : AppState) → (f shell_spec p).port ≡ p.port)
     → ((p : AppState) → ShellRepresents a p → ShellRepresents b (f shell_spec p)) → (p : AppState) → DeskRepresents d site p → IsShellPart b (f (app_spec_at (files_of site) p.port) p)
 shell_moves d a b site f is keeps moves p s =
-    by_shell (λ (m : AppSpec). IsShellPart b (f m p)) d a site p is s (λ at. record { port = ap (λ (port : ℕ). port == TELNET_PORT) (keeps p) ∙ at.port; stands = moves p at.stands })
+    by_shell (λ (m : AppSpec). IsShellPart b (f m p)) d a site p is s (λ at. record { port = ap (λ (port : ℕ). port == TELNET_PORT) (keeps p) ∙ at.port; represented = moves p at.represented })
 
 -- what the connection in a desk answers is what the desk does
 pub web_tells : {X : Type 0} (d : Desk) (a : Httpd) (site : SiteContent) (x : X) (f : AppSpec → AppState → X) → d ≡ desk.Web a
     → ((p : AppState) → HttpdRepresents a site p → x ≡ f (web_spec (files_of site)) p) → (p : AppState) → DeskRepresents d site p → x ≡ f (app_spec_at (files_of site) p.port) p
-web_tells d a site x f is tells p s = by_web (λ (m : AppSpec). x ≡ f m p) d a site p is s (λ at. tells p at.stands)
+web_tells d a site x f is tells p s = by_web (λ (m : AppSpec). x ≡ f m p) d a site p is s (λ at. tells p at.represented)
 
 pub shell_tells : {X : Type 0} (d : Desk) (a : Shell) (site : SiteContent) (x : X) (f : AppSpec → AppState → X) → d ≡ desk.Shell a
     → ((p : AppState) → ShellRepresents a p → x ≡ f shell_spec p) → (p : AppState) → DeskRepresents d site p → x ≡ f (app_spec_at (files_of site) p.port) p
-shell_tells d a site x f is tells p s = by_shell (λ (m : AppSpec). x ≡ f m p) d a site p is s (λ at. tells p at.stands)
+shell_tells d a site x f is tells p s = by_shell (λ (m : AppSpec). x ≡ f m p) d a site p is s (λ at. tells p at.represented)

@@ -21,12 +21,12 @@ does_as files part n e = record {
 }
 
 web_value : (a : Desk) (site : SiteContent) (part : AppState) → (part.port == TELNET_PORT) ≡ false → DeskRepresents a site part → IsAtWeb a site part
-web_value (desk.Web web) site part e s = record { web = web; is = refl; stands = s.stands }
+web_value (desk.Web web) site part e s = record { web = web; is = refl; represented = s.represented }
 web_value (desk.Shell shell) site part e s = elim (true≢false (sym s.port ∙ e)) [ ]
 
 shell_value : (a : Desk) (site : SiteContent) (part : AppState) → (part.port == TELNET_PORT) ≡ true → DeskRepresents a site part → IsAtShell a part
 shell_value (desk.Web web) site part e s = elim (true≢false (sym e ∙ s.port)) [ ]
-shell_value (desk.Shell shell) site part e s = record { shell = shell; is = refl; stands = s.stands }
+shell_value (desk.Shell shell) site part e s = record { shell = shell; is = refl; represented = s.represented }
 
 desk_port : (files : List File) → StaysAtPort (desk_spec files)
 desk_port files = record {

@@ -34,13 +34,13 @@ pub record DoesAs (m n : AppSpec) (part : AppState) : Type 0 where
 pub record IsAtWeb (a : Desk) (site : SiteContent) (part : AppState) : Type 0 where
   pub web : Httpd
   pub is : a ≡ desk.Web web
-  pub stands : HttpdRepresents web site part
+  pub represented : HttpdRepresents web site part
 
 -- The value is a shell that represents the state.
 pub record IsAtShell (a : Desk) (part : AppState) : Type 0 where
   pub shell : Shell
   pub is : a ≡ desk.Shell shell
-  pub stands : ShellRepresents shell part
+  pub represented : ShellRepresents shell part
 
 pub record IsTwoApplications : Type 0 where
   pub web : (files : List File) (part : AppState) → part.port ≡ WEB_PORT → DoesAs (desk_spec files) (web_spec files) part

@@ -18,11 +18,11 @@ use Rattle.telnet_shell.specs.DeskMeaning.{app_spec_at, desk_spec}
 
 pub record IsWebPart (a : Httpd) (site : SiteContent) (part : AppState) : Type 0 where
   pub port : (part.port == TELNET_PORT) ≡ false
-  pub stands : HttpdRepresents a site part
+  pub represented : HttpdRepresents a site part
 
 pub record IsShellPart (a : Shell) (part : AppState) : Type 0 where
   pub port : (part.port == TELNET_PORT) ≡ true
-  pub stands : ShellRepresents a part
+  pub represented : ShellRepresents a part
 
 -- At port 23 it is a shell that represents the state, otherwise a connection of the web server.
 abbrev pub DeskRepresents : Desk → SiteContent → AppState → Type 0
@@ -51,6 +51,6 @@ shell_left files part e = left_by files part shell_spec (at_shell files part.por
 pub desk_same_left : (a : Desk) (site : SiteContent) (p q : AppState) → DeskRepresents a site p → DeskRepresents a site q
     → text_left (desk_spec (files_of site)) p ≡ text_left (desk_spec (files_of site)) q
 desk_same_left (desk.Web a) site p q s t =
-    web_left (files_of site) p s.port ∙ web_same_left a site p q s.stands t.stands ∙ sym (web_left (files_of site) q t.port)
+    web_left (files_of site) p s.port ∙ web_same_left a site p q s.represented t.represented ∙ sym (web_left (files_of site) q t.port)
 desk_same_left (desk.Shell a) site p q s t =
-    shell_left (files_of site) p s.port ∙ shell_same_left a p q s.stands t.stands ∙ sym (shell_left (files_of site) q t.port)
+    shell_left (files_of site) p s.port ∙ shell_same_left a p q s.represented t.represented ∙ sym (shell_left (files_of site) q t.port)

@@ -84,7 +84,7 @@ module _ (own : Addr) (mac : Mac) (network : Network) where
       → ((n : AbstractNode) → Represents ghosts d.node n n.history → Represents ghosts between.node (with_written message n) n.history) → Here d s
       → Here between (record { acts = s.acts; node = with_written message s.node })
   written_here d between message s link changes here = record {
-    stands = record { meant = here.stands.meant; address = here.stands.address; stands = changes s.node here.stands.stands };
+    represented = record { meant = here.represented.meant; address = here.represented.address; represented = changes s.node here.represented.represented };
     acted = subst (λ (x : Ethernet). ether_link.did x (interface_at own mac network) s.acts) (sym link) here.acted;
   }
 
@@ -93,27 +93,27 @@ module _ (own : Addr) (mac : Mac) (network : Network) where
   by_write slot taken text last d s a b handed is here it =
       let at : Here it.before s = subst (λ (x : OwnEther). Here x s) (sym (same_own it.before d (sym it.was ∙ is))) here in
       let between = written_here it.before it.between it.writes.message s it.link it.writes.changes at in
-      let named = subst (λ (m : PlainMessage). Here it.between (record { acts = s.acts; node = with_written m s.node })) (it.writes.next s.node at.stands.stands) between in
+      let named = subst (λ (m : PlainMessage). Here it.between (record { acts = s.acts; node = with_written m s.node })) (it.writes.next s.node at.represented.represented) between in
       let from = it.answers.each (interface_at own mac network) own_spec own (before_program_call app_program own_spec is_own_port (link_of own mac network) own (Writes slot taken text last) s) named in
-      record { after = it.after; is = it.is; here = from.0; wrote = from.1; could = it.could s.node at.stands.stands }
+      record { after = it.after; is = it.is; here = from.0; wrote = from.1; could = it.could s.node at.represented.represented }
 
   -- a port was opened, which no connection sees
   opened_here : (d x : OwnEther) (s : Station Act) → Here d s
       → Here (record d { node = record (d.node) { shared = record (d.node.shared) { ports = x.node.shared.ports } } }) s
   opened_here d x s here = record {
-    stands = record {
-      meant = here.stands.meant;
-      address = here.stands.address;
-      stands = record {
-        addr = here.stands.stands.addr;
+    represented = record {
+      meant = here.represented.meant;
+      address = here.represented.address;
+      represented = record {
+        addr = here.represented.represented.addr;
         slots = record {
-          same_length = here.stands.stands.slots.same_length;
+          same_length = here.represented.represented.slots.same_length;
           each = λ i c a in_code in_node.
-              (let each = here.stands.stands.slots.each i c a in_code in_node in record { numbers = each.numbers; part = each.part });
+              (let each = here.represented.represented.slots.each i c a in_code in_node in record { numbers = each.numbers; part = each.part });
         };
-        iss = here.stands.stands.iss;
-        numbers_stand = here.stands.stands.numbers_stand;
-        counts = here.stands.stands.counts;
+        iss = here.represented.represented.iss;
+        numbers_stand = here.represented.represented.numbers_stand;
+        counts = here.represented.represented.counts;
       };
     };
     acted = here.acted;
@@ -182,7 +182,7 @@ pub undropped_exact : (own : Addr) (mac : Mac) (network : Network) (all : List A
     → OpensOwn own.0 mac.0 network.mask.0 network.router.0 closed old → DidInTurn Did all old new → IsExact own mac network all new
 undropped_exact own mac network all closed old new opens did =
     let exact = all_exact app_program own_spec is_own_port (link_of own mac network) own (KeptHere own mac network) CouldWrite Did (one_call own mac network) all (first_station own) old new
-    (opens.1.0, opens.1.1, opens.1.2.fresh.stands) did in
+    (opens.1.0, opens.1.1, opens.1.2.fresh.represented) did in
     record { frames = exact.frames; could = exact.each; represents = exact.here }
 
 -- without the frames that are dropped, from the start

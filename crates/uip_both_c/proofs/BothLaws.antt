@@ -115,10 +115,10 @@ module _ (files : List File) (own : Addr) (mac : Mac) (network : Network) where
   written_here d between message s link kept changes here = record {
     files_are = files_stay d between kept here.files_are;
     station = record {
-      stands = record {
-        meant = ap (λ (k : both.Config). both.app_spec k) kept ∙ here.station.stands.meant;
-        address = here.station.stands.address;
-        stands = changes s.node here.station.stands.stands;
+      represented = record {
+        meant = ap (λ (k : both.Config). both.app_spec k) kept ∙ here.station.represented.meant;
+        address = here.station.represented.address;
+        represented = changes s.node here.station.represented.represented;
       };
       acted = subst (λ (x : Ethernet). ether_link.did x (interface_at own mac network) s.acts) (sym link) here.station.acted;
     };
@@ -130,14 +130,14 @@ module _ (files : List File) (own : Addr) (mac : Mac) (network : Network) where
       let at : Here it.before s = subst (λ (x : BothEther). Here x s) (sym (same_both it.before d (sym it.was ∙ is))) here in
       let between = written_here it.before it.between it.writes.message s it.link it.writes.kept it.writes.changes at in
       let named = subst (λ (m : PlainMessage). Here it.between (record { acts = s.acts; node = with_change (change_own true (write_message m)) s.node }))
-      (it.writes.next s.node at.station.stands.stands) between in
+      (it.writes.next s.node at.station.represented.represented) between in
       let from = it.answers.each (interface_at own mac network) (both_spec files) own (before_program_call both_program (both_spec files) is_both_port (link_of own mac network) own (Writes slot taken text last) s) named.station in
       record {
         after = it.after;
         is = it.is;
         here = record { files_are = files_stay it.between it.after it.answers.kept named.files_are; station = from.0 };
         wrote = from.1;
-        could = it.could s.node at.station.stands.stands;
+        could = it.could s.node at.station.represented.represented;
       }
 
   by_value : (number : ℕ) (text : List ℕ) (d : BothEther) (s : Station Act) (a b : Kept) (handed : List ℕ) → a ≡ Some d → Here d s → BothGives number text a b → handed ≡ []
@@ -159,20 +159,20 @@ module _ (files : List File) (own : Addr) (mac : Mac) (network : Network) where
   opened_here d x s here = record {
     files_are = here.files_are;
     station = record {
-      stands = record {
-        meant = here.station.stands.meant;
-        address = here.station.stands.address;
-        stands = record {
-          addr = here.station.stands.stands.addr;
+      represented = record {
+        meant = here.station.represented.meant;
+        address = here.station.represented.address;
+        represented = record {
+          addr = here.station.represented.represented.addr;
           slots = record {
-            same_length = here.station.stands.stands.slots.same_length;
+            same_length = here.station.represented.represented.slots.same_length;
             each = λ i c a in_code in_node.
-                (let each = here.station.stands.stands.slots.each i c a in_code in_node in
+                (let each = here.station.represented.represented.slots.each i c a in_code in_node in
                 record { numbers = each.numbers; part = λ opened. part_with_ports c.app (both.config d.node.shared) (ports_of x) a.part (each.part opened) });
           };
-          iss = here.station.stands.stands.iss;
-          numbers_stand = here.station.stands.stands.numbers_stand;
-          counts = here.station.stands.stands.counts;
+          iss = here.station.represented.represented.iss;
+          numbers_stand = here.station.represented.represented.numbers_stand;
+          counts = here.station.represented.represented.counts;
         };
       };
       acted = here.station.acted;
@@ -248,7 +248,7 @@ pub undropped_exact : (files : List File) (own : Addr) (mac : Mac) (network : Ne
 undropped_exact files own mac network all closed old new opens did =
     let fresh = opens.1.2 in
     let exact = all_exact both_program (both_spec files) is_both_port (link_of own mac network) own (KeptHere files own mac network) CouldWrite Did (one_call files own mac network) all (first_station files own) old new
-    (opens.1.0, opens.1.1, record { files_are = fresh.files_are; station = fresh.fresh.stands }) did in
+    (opens.1.0, opens.1.1, record { files_are = fresh.files_are; station = fresh.fresh.represented }) did in
     record { frames = exact.frames; could = exact.each; represents = exact.here }
 
 -- without the frames that are dropped, from the start

@@ -34,5 +34,5 @@ pub both_given : (number : ℕ) (text : List ℕ) (d : BothEther) (node : BothNo
     → ChangesNumbers both ether_link (change_own false (write_value number text)) d (record { frames = d.frames; node = node })
 both_given number text d node changes = record {
   kept = changes.kept;
-  each = λ k m own s here. record { stands = changes.stands m own s.node here.stands; acted = here.acted };
+  each = λ k m own s here. record { represented = changes.represented m own s.node here.represented; acted = here.acted };
 }

@@ -20,5 +20,5 @@ pub ether_given : (number : ℕ) (text : List ℕ) (d : EtherWeb) (node : WebNod
     → ChangesNumbers ghosts ether_link (write_value number text) d (record { frames = d.frames; node = node })
 ether_given number text d node changes = record {
   kept = changes.kept;
-  each = λ k m own s here. record { stands = changes.stands m own s.node here.stands; acted = here.acted };
+  each = λ k m own s here. record { represented = changes.represented m own s.node here.represented; acted = here.acted };
 }

@@ -15,7 +15,7 @@ pub fn calls_from_c_are_reported()
     ensures line { OfMoves (λ files own all new.
         IsLine (λ d. line_handed all ++ left_text_of d ≡ web_line_sent files own (moves_of all)) new) }
     ensures datagrams { OfMoves (λ files own all new. datagrams_handed all ≡ web_datagrams_sent files own (moves_of all)) }
-    ensures stands { OfMoves (λ files own all new.
+    ensures represented { OfMoves (λ files own all new.
         IsLine (λ d. DeviceRepresents files own d (web_node_after files own (moves_of all))) new) }
 {}
 
@@ -37,7 +37,7 @@ pub fn line_from_c_is_served()
 pub fn frames_from_c_are_exact()
     ensures frames { OfFrameMoves (λ files own mac network all new.
         handed_of all ≡ web_frames_sent files own mac network (frame_moves_of all)) }
-    ensures stands { OfFrameMoves (λ files own mac network all new.
+    ensures represented { OfFrameMoves (λ files own mac network all new.
         IsEther (λ d. EtherRepresents files own mac network d (web_station_after files own mac network (frame_moves_of all))) new) }
 {}
 

@@ -56,53 +56,53 @@ module _ {A S : Type 0} (g : Ghosts A S) where
     pub record MovesOn (before : List ℕ) (move : Move) (a b : Device A S) (handed : List ℕ) (n : AbstractNode) : Type 0 where
       pub kept : g.config b.node.shared ≡ g.config a.node.shared
       pub input : HasDelivered (before ++ bytes_of_move move) b
-      pub stands : IsNode g m own b.node (run_move m g.served gives own before move n).node
+      pub represented : IsNode g m own b.node (run_move m g.served gives own before move n).node
       pub hands : HandsOut (goes_by_datagram move) own (left_text_of a) handed (left_text_of b) (run_move m g.served gives own before move n).sent
 
     pub moves_on : (before : List ℕ) (move : Move) (a b : Device A S) (handed : List ℕ) (n : AbstractNode) → IsNode g m own a.node n → HasDelivered before a
         → AnswersMove g gives move a b handed → MovesOn before move a b handed n
-    moves_on before (Makes call) a b handed n stands delivered answers =
+    moves_on before (Makes call) a b handed n represented delivered answers =
         let sends = answers.sends before delivered in
-        let first = sends.each m own n stands in
-        record { kept = sends.kept; input = answers.input before delivered; stands = first.0; hands = first.1 }
-    moves_on before (Gives number text) a b handed n stands delivered changes = record {
+        let first = sends.each m own n represented in
+        record { kept = sends.kept; input = answers.input before delivered; represented = first.0; hands = first.1 }
+    moves_on before (Gives number text) a b handed n represented delivered changes = record {
       kept = changes.0.kept;
       input = subst (λ (l : List ℕ). HasDelivered l b) (sym (append-nil before)) (changes.0.input before delivered);
-      stands = changes.0.stands m own n stands;
+      represented = changes.0.represented m own n represented;
       hands = append-nil (left_text_of a) ∙ sym changes.0.left ∙ ap (λ l. l ++ left_text_of b) (sym changes.1);
     }
 
     record Goes (before : List ℕ) (all : List Answered) (a c : Device A S) (n : AbstractNode) : Type 0 where
       line : left_text_of a ++ line_sent m g.served gives own before (moves_of all) n ≡ line_handed all ++ left_text_of c
       datagrams : datagrams_handed all ≡ datagrams_sent m g.served gives own before (moves_of all) n
-      stands : IsNode g m own c.node (node_reached m g.served gives own before (moves_of all) n)
+      represented : IsNode g m own c.node (node_reached m g.served gives own before (moves_of all) n)
       kept : g.config c.node.shared ≡ g.config a.node.shared
 
     goes : (before : List ℕ) (all : List Answered) (a c : Device A S) (n : AbstractNode) → IsNode g m own a.node n → HasDelivered before a → AnswersAll g gives all a c → Goes before all a c n
-    goes before [] a c n stands delivered same = record {
+    goes before [] a c n represented delivered same = record {
       line = append-nil (left_text_of a) ∙ ap (λ (d : Device A S). left_text_of d) same;
       datagrams = refl;
-      stands = subst (λ (d : Device A S). IsNode g m own d.node n) same stands;
+      represented = subst (λ (d : Device A S). IsNode g m own d.node n) same represented;
       kept = ap (λ (d : Device A S). g.config d.node.shared) (sym same);
     }
-    goes before (it ∷ all) a c n stands delivered more =
+    goes before (it ∷ all) a c n represented delivered more =
         let b = more.0 in
         let v = goes_by_datagram it.move in
-        let first : MovesOn before it.move a b it.handed n = moves_on before it.move a b it.handed n stands delivered more.1 in
+        let first : MovesOn before it.move a b it.handed n = moves_on before it.move a b it.handed n represented delivered more.1 in
         let behind = before ++ bytes_of_move it.move in
         let here : AbstractNode = (run_move m g.served gives own before it.move n).node in
         let replies = (run_move m g.served gives own before it.move n).sent in
-        let rest = goes behind all b c here first.stands first.input more.2 in
+        let rest = goes behind all b c here first.represented first.input more.2 in
         record {
           line = line_step v own replies (left_text_of a) it.handed (left_text_of b) (line_sent m g.served gives own behind (moves_of all) here) (line_handed all) (left_text_of c) first.hands rest.line;
           datagrams = datagram_step v own replies (left_text_of a) it.handed (left_text_of b) (datagrams_handed all) (datagrams_sent m g.served gives own behind (moves_of all) here) first.hands rest.datagrams;
-          stands = rest.stands;
+          represented = rest.represented;
           kept = rest.kept ∙ first.kept;
         }
 
   module _ (m : AppSpec) (gives : Writing) (numbers : List ℕ) (own : Addr) (all : List Answered) (old new : Device A S) (fresh : IsFreshDevice g m numbers own old) (answered : AnswersAll g gives all old new) where
     whole : Goes m own gives [] all old new (initial_node own numbers)
-    whole = goes m own gives [] all old new (initial_node own numbers) fresh.stands fresh.input answered
+    whole = goes m own gives [] all old new (initial_node own numbers) fresh.represented fresh.input answered
 
     pub line_view : line_handed all ++ left_text_of new ≡ line_sent m g.served gives own [] (moves_of all) (initial_node own numbers)
     line_view = sym whole.line ∙ ap (λ l. l ++ line_sent m g.served gives own [] (moves_of all) (initial_node own numbers)) (none_left old fresh.none)
@@ -111,7 +111,7 @@ module _ {A S : Type 0} (g : Ghosts A S) where
     datagrams_reported = whole.datagrams
 
     pub node_stands : IsNode g m own new.node (node_reached m g.served gives own [] (moves_of all) (initial_node own numbers))
-    node_stands = whole.stands
+    node_stands = whole.represented
 
     pub same_kept : g.config new.node.shared ≡ g.config old.node.shared
     same_kept = whole.kept

@@ -34,13 +34,13 @@ module _ {A S : Type 0} (g : Ghosts A S) where
     move_turns before (Gives number text) steps n = refl
 
     in_turns : (before : List ℕ) (all : List Answered) (a c : Device A S) (n : AbstractNode) → IsNode g m own a.node n → HasDelivered before a → (more : AnswersAll g gives all a c) → InTurns before all a c n more
-    in_turns before [] a c n stands delivered more = record { moves = []; answered = refl; left = refl; each = tt; turns = refl }
-    in_turns before (it ∷ all) a c n stands delivered more =
+    in_turns before [] a c n represented delivered more = record { moves = []; answered = refl; left = refl; each = tt; turns = refl }
+    in_turns before (it ∷ all) a c n represented delivered more =
         let b : Device A S = more.0 in
-        let first : MovesOn g m own gives before it.move a b it.handed n = moves_on g m own gives before it.move a b it.handed n stands delivered more.1 in
+        let first : MovesOn g m own gives before it.move a b it.handed n = moves_on g m own gives before it.move a b it.handed n represented delivered more.1 in
         let these : List TraceEntry = turns_by before it.move n in
         let behind : List ℕ = before ++ bytes_of_move it.move in
-        let rest = in_turns behind all b c (run_move m g.served gives own before it.move n).node first.stands first.input more.2 in
+        let rest = in_turns behind all b c (run_move m g.served gives own before it.move n).node first.represented first.input more.2 in
         record {
           moves = record { answered = it; left = left_text_of b; turns = these } ∷ rest.moves;
           answered = ap (λ l. it ∷ l) rest.answered;
@@ -55,7 +55,7 @@ module _ {A S : Type 0} (g : Ghosts A S) where
     keeps_calls all bytes old new fresh answered =
         let steps : List LineStep = steps_of own gives [] (moves_of all) in
         let node : AbstractNode = initial_node own numbers in
-        let t = in_turns m own gives [] all old new node fresh.stands fresh.input answered in
+        let t = in_turns m own gives [] all old new node fresh.represented fresh.input answered in
         let kept = every_step_of_pages m pages lawful page g.served own is numbers words steps (steps_are own gives low (moves_of all) bytes) in
         record {
           moves = t.moves;

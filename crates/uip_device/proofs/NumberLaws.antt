@@ -8,15 +8,15 @@ pub numbers_changed : {A S : Type 0} (g : Ghosts A S) (change : List ℕ → Lis
 numbers_changed g change old shared same changed = record {
   kept = same;
   packet = refl;
-  stands = λ m own n p. record {
+  represented = λ m own n p. record {
     meant = ap (λ k. g.app_spec k) same ∙ p.meant;
     address = p.address;
-    stands = record {
-      addr = p.stands.addr;
-      slots = subst (λ (k : g.Config). SlotsRepresent g k old.table.conns n.connections) (sym same) p.stands.slots;
-      iss = p.stands.iss;
-      numbers_stand = changed ∙ ap change p.stands.numbers_stand;
-      counts = p.stands.counts;
+    represented = record {
+      addr = p.represented.addr;
+      slots = subst (λ (k : g.Config). SlotsRepresent g k old.table.conns n.connections) (sym same) p.represented.slots;
+      iss = p.represented.iss;
+      numbers_stand = changed ∙ ap change p.represented.numbers_stand;
+      counts = p.represented.counts;
     };
   };
 }

@@ -64,31 +64,31 @@ module _ {F R : Type 0} (g : ScriptFunctions F) (text : R → List ℕ) (site : 
   pub first_open : (target : Bool) (line : Line) → CompactRepresent g text (compact.Receiving polls target line) site p
       → target ≡ false → line.query ≡ false → line.name ≡ [] → p.input ≡ []
   first_open true line s t unmarked nameless = absurd cc
-  first_open false line s t unmarked nameless = word_nil line p.input s.stands.0 unmarked nameless
+  first_open false line s t unmarked nameless = word_nil line p.input s.represented.0 unmarked nameless
 
   pub open_target : (target : Bool) (line : Line) → CompactRepresent g text (compact.Receiving polls target line) site p
       → p.input ≡ [] → target ≡ false
-  open_target true line s none = absurd (let ended = rw none at s.stands.0.method_ended in cc)
+  open_target true line s none = absurd (let ended = rw none at s.represented.0.method_ended in cc)
   open_target false line s none = refl
 
   pub open_query : (target : Bool) (line : Line) → CompactRepresent g text (compact.Receiving polls target line) site p
       → p.input ≡ [] → line.query ≡ false
-  open_query true line s none = absurd (let ended = rw none at s.stands.0.method_ended in cc)
+  open_query true line s none = absurd (let ended = rw none at s.represented.0.method_ended in cc)
   open_query false line s none =
-      ap (λ (l : Line). l.query) s.stands.0.holds ∙ ap (λ d. list_any is_query_mark (word_of Space d)) none
+      ap (λ (l : Line). l.query) s.represented.0.holds ∙ ap (λ d. list_any is_query_mark (word_of Space d)) none
 
   pub open_name : (target : Bool) (line : Line) → CompactRepresent g text (compact.Receiving polls target line) site p
       → p.input ≡ [] → line.name ≡ []
-  open_name true line s none = absurd (let ended = rw none at s.stands.0.method_ended in cc)
+  open_name true line s none = absurd (let ended = rw none at s.represented.0.method_ended in cc)
   open_name false line s none =
-      ap (λ (l : Line). l.name) s.stands.0.holds ∙ ap (λ d. take 64 (before_first is_query_mark (word_of Space d))) none
+      ap (λ (l : Line). l.name) s.represented.0.holds ∙ ap (λ d. take 64 (before_first is_query_mark (word_of Space d))) none
 
   pub sent_later : (found : Option FileId) (thread : Thread) (capture : R)
       → CompactRepresent g text (compact.Replying polls found thread capture) site p → p.input ≡ [] → ⊥
-  sent_later found thread capture s none = let named = rw none at s.stands.1.wanted in cc
+  sent_later found thread capture s none = let named = rw none at s.represented.1.wanted in cc
 
   pub refused_later : CompactRepresent g text (compact.Refused polls) site p → p.input ≡ [] → ⊥
-  refused_later s none = let refused = rw none at s.stands.0 in cc
+  refused_later s none = let refused = rw none at s.represented.0 in cc
 
 -- ---- the file that was requested
 
@@ -134,24 +134,24 @@ module _ {F R : Type 0} (g : ScriptFunctions F) (text : R → List ℕ) (site : 
       → kept_query hits old (place_wanted (files_of site) (wanted p.input)) (query_in p.input) ≡ old
   open_keeps true line s =
       no_place_kept hits old (place_wanted (files_of site) (wanted p.input)) (query_in p.input)
-      (ap (place_wanted (files_of site)) (word_open true line p.input s.stands.0))
+      (ap (place_wanted (files_of site)) (word_open true line p.input s.represented.0))
   open_keeps false line s =
       no_place_kept hits old (place_wanted (files_of site) (wanted p.input)) (query_in p.input)
-      (ap (place_wanted (files_of site)) (word_open false line p.input s.stands.0))
+      (ap (place_wanted (files_of site)) (word_open false line p.input s.represented.0))
 
   pub refused_keeps : CompactRepresent g text (compact.Refused polls) site p
       → kept_query hits old (place_wanted (files_of site) (wanted p.input)) (query_in p.input) ≡ old
   refused_keeps s =
       no_place_kept hits old (place_wanted (files_of site) (wanted p.input)) (query_in p.input)
-      (ap (place_wanted (files_of site)) s.stands.0)
+      (ap (place_wanted (files_of site)) s.represented.0)
 
   pub reply_keeps : (found : Option FileId) (thread : Thread) (capture : R) → AreApart (files_of site)
       → CompactRepresent g text (compact.Replying polls found thread capture) site p
       → kept_query hits old (place_wanted (files_of site) (wanted p.input)) (query_in p.input)
       ≡ kept_query hits old (option_map (λ (id : FileId). id.0) found) (kept_text (text_after_mark (target_of p.input)))
   reply_keeps found thread capture apart s =
-      let name = s.stands.0 in
-      let is = s.stands.1 in
+      let name = s.represented.0 in
+      let is = s.represented.1 in
       let at = found_at (files_of site) apart name found is.there is.file in
       ap (λ w. kept_query hits old (place_wanted (files_of site) w) (query_by w (target_of p.input))) is.wanted
       ∙ ap (λ place. kept_query hits old place (kept_text (text_after_mark (target_of p.input)))) at

@@ -35,7 +35,7 @@ module _ {A S : Type 0} (g : Ghosts A S) where
   pub sends_overlong : (a b : Node A S) (P : Addr → List Reply → Type 0) → g.config b.shared ≡ g.config a.shared
       → ((n : AbstractNode) → Represents g a n n.history → Represents g b (step (g.app_spec (g.config a.shared)) g.served n Overlong).node (seen Overlong n.history))
       → ((own : Addr) → P own []) → SendsOver g (λ own. Overlong ∷ []) a b P
-  sends_overlong a b P same steps q = record { kept = same; each = λ m own n p. (node_on g m own a b Overlong n same (steps n p.stands) p, q own) }
+  sends_overlong a b P same steps q = record { kept = same; each = λ m own n p. (node_on g m own a b Overlong n same (steps n p.represented) p, q own) }
 
   -- one event
   sends_one : (event : Addr → Event) (a b : Node A S) (result : Option ℕ) (P : Addr → List Reply → Type 0) → g.config b.shared ≡ g.config a.shared
@@ -45,7 +45,7 @@ module _ {A S : Type 0} (g : Ghosts A S) where
   sends_one event a b result P same steps sent = record {
     kept = same;
     each = λ m own n p.
-        let both = node_step g m own a b result (event own) n same (steps own n p.address p.stands) p in
+        let both = node_step g m own a b result (event own) n same (steps own n p.address p.represented) p in
         (both.0, sent own (step m g.served n (event own)).sent both.1);
   }
 
@@ -54,7 +54,7 @@ module _ {A S : Type 0} (g : Ghosts A S) where
       → ((n : AbstractNode) → Represents g a n n.history → Steps g b result (step (g.app_spec (g.config a.shared)) g.served n event))
       → ((own : Addr) (reply : Option Reply) → IsSent own reply result b.packet → P own (joined reply []))
       → SendsOver g (λ own. event ∷ []) a b P
-  sends_at event a b result P same steps sent = sends_one (λ own. event) a b result P same (λ own n at stands. steps n stands) sent
+  sends_at event a b result P same steps sent = sends_one (λ own. event) a b result P same (λ own n at represented. steps n represented) sent
 
   -- a datagram
   pub sends_input : (datagram : List ℕ) (a b : Node A S) (result : Option ℕ) (P : Addr → List Reply → Type 0) → g.config b.shared ≡ g.config a.shared
@@ -63,7 +63,7 @@ module _ {A S : Type 0} (g : Ghosts A S) where
       → SendsOver g (λ own. event_of own datagram ∷ []) a b P
   sends_input datagram a b result P same steps sent =
       sends_one (λ own. event_of own datagram) a b result P same
-      (λ own n at stands. subst (λ (x : Addr). Steps g b result (step (g.app_spec (g.config a.shared)) g.served n (event_of x datagram))) at (steps n stands)) sent
+      (λ own n at represented. subst (λ (x : Addr). Steps g b result (step (g.app_spec (g.config a.shared)) g.served n (event_of x datagram))) at (steps n represented)) sent
 
   -- the text of one reply
   pub as_text : (own : Addr) (reply : Option Reply) (text : List ℕ) → text ≡ text_for own reply → text_of own (joined reply []) ≡ text

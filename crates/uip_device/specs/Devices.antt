@@ -42,7 +42,7 @@ pub record IsFreshDevice {A S : Type 0} (g : Ghosts A S) (m : AppSpec) (numbers 
   pub sound : IsSoundDevice g d
   pub input : HasDelivered [] d
   pub none : d.left ≡ None
-  pub stands : IsNode g m own d.node (initial_node own numbers)
+  pub represented : IsNode g m own d.node (initial_node own numbers)
 
 -- No connection is open: none has a row in the table of connections.
 abbrev pub is_node_idle : AbstractNode → Bool
@@ -68,7 +68,7 @@ pub record Answers {A S : Type 0} (g : Ghosts A S) (call : Call) (old new : Devi
 pub record ChangesNode {A S : Type 0} (g : Ghosts A S) (change : List ℕ → List ℕ) (old new : Node A S) : Type 0 where
   pub kept : g.config new.shared ≡ g.config old.shared
   pub packet : new.packet ≡ old.packet
-  pub stands : (m : AppSpec) (own : Addr) (n : AbstractNode) → IsNode g m own old n → IsNode g m own new (with_numbers change n)
+  pub represented : (m : AppSpec) (own : Addr) (n : AbstractNode) → IsNode g m own old n → IsNode g m own new (with_numbers change n)
 
 -- The counters of the application were changed between calls. The bytes fed and the pending output are unchanged, and the node represents
 -- the same node with these counters.
@@ -76,7 +76,8 @@ pub record Changes {A S : Type 0} (g : Ghosts A S) (change : List ℕ → List �
   pub kept : g.config new.node.shared ≡ g.config old.node.shared
   pub input : (before : List ℕ) → HasDelivered before old → HasDelivered before new
   pub left : left_text_of new ≡ left_text_of old
-  pub stands : (m : AppSpec) (own : Addr) (n : AbstractNode) → IsNode g m own old.node n → IsNode g m own new.node (with_numbers change n)
+  pub represented : (m : AppSpec) (own : Addr) (n : AbstractNode) → IsNode g m own old.node n
+      → IsNode g m own new.node (with_numbers change n)
 
 -- A move returned these bytes: a call did, and setting a value returned none.
 abbrev pub AnswersMove : {A S : Type 0} → Ghosts A S → Writing → Move → Device A S → Device A S → List ℕ → Type 0

@@ -16,7 +16,7 @@ pub fn calls_are_reported<A: App>()
         ≡ line_sent m A.served gives own [] (moves_of all) (initial_node own numbers)) }
     ensures datagrams { FromFresh A.App (λ m gives numbers own all old new. datagrams_handed all
         ≡ datagrams_sent m A.served gives own [] (moves_of all) (initial_node own numbers)) }
-    ensures stands { FromFresh A.App (λ m gives numbers own all old new.
+    ensures represented { FromFresh A.App (λ m gives numbers own all old new.
         IsNode A.App m own new.node (node_reached m A.served gives own [] (moves_of all) (initial_node own numbers))) }
     ensures kept { FromFresh A.App (λ m gives numbers own all old new. A.config new.node.shared ≡ A.config old.node.shared) }
 {}

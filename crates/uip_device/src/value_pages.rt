@@ -28,11 +28,11 @@ pub struct ValuePages {
 /// Delivers the next bytes from the peer, and counts a hit of the file that they request.
 fn hear(pages: &mut CompactPages<ValueCapture>, web: &mut FlashWeb, piece: &[u8])
     ensures site { web.new.site ≡ web.old.site }
-    ensures part { let stands = CompactRepresent words record_text in
-        (p : AppState) → stands pages.old web.old.site p
-        → stands pages.new web.old.site (record p { input = p.input ++ piece.now; polls = 0 }) }
-    ensures hits { let stands = CompactRepresent words record_text in
-        (p : AppState) → stands pages.old web.old.site p
+    ensures part { let represented = CompactRepresent words record_text in
+        (p : AppState) → represented pages.old web.old.site p
+        → represented pages.new web.old.site (record p { input = p.input ++ piece.now; polls = 0 }) }
+    ensures hits { let represented = CompactRepresent words record_text in
+        (p : AppState) → represented pages.old web.old.site p
         → web.new.hits ≡ hits_by (files_of web.old.site) web.old.hits (wanted p.input) (wanted (p.input ++ piece.now)) }
 {
     pages.hear(&web.site, &mut web.hits, piece);
@@ -107,14 +107,14 @@ fn keep(query: &mut Query, pages: &CompactPages<ValueCapture>, web: &FlashWeb, r
 fn receive(pages: &mut CompactPages<ValueCapture>, shared: &mut DeviceWeb, piece: &[u8])
     ensures site { shared.new.web.site ≡ shared.old.web.site }
     ensures values { shared.new.values.bytes ≡ shared.old.values.bytes }
-    ensures part { let stands = CompactRepresent words record_text in
-        (p : AppState) → stands pages.old shared.old.web.site p
-        → stands pages.new shared.old.web.site (record p { input = p.input ++ piece.now; polls = 0 }) }
-    ensures hits { let stands = CompactRepresent words record_text in
-        (p : AppState) → stands pages.old shared.old.web.site p → shared.new.web.hits
+    ensures part { let represented = CompactRepresent words record_text in
+        (p : AppState) → represented pages.old shared.old.web.site p
+        → represented pages.new shared.old.web.site (record p { input = p.input ++ piece.now; polls = 0 }) }
+    ensures hits { let represented = CompactRepresent words record_text in
+        (p : AppState) → represented pages.old shared.old.web.site p → shared.new.web.hits
         ≡ hits_by (files_of shared.old.web.site) shared.old.web.hits (wanted p.input) (wanted (p.input ++ piece.now)) }
-    ensures query { let stands = CompactRepresent words record_text in
-        (p : AppState) → stands pages.old shared.old.web.site p → shared.new.query
+    ensures query { let represented = CompactRepresent words record_text in
+        (p : AppState) → represented pages.old shared.old.web.site p → shared.new.query
         ≡ query_after (files_of shared.old.web.site) shared.new.web.hits shared.old.query p.input piece.now }
 {
     let first = is_first(pages);

@@ -14,7 +14,7 @@ pub opened : {A S : Type 0} (g : Ghosts A S) (node : Node A S) (result : Option 
     Steps g node result (happened m n (Arrived s seg) slot (connection_in slot n) (accept (initial_number n.history) s seg n.numbers)) →
     Steps g node result (opens_in m n s seg slot)
 unfolding opens_in
-opened g node result m n s seg slot h = record { stands = h.stands; sent = h.sent }
+opened g node result m n s seg slot h = record { represented = h.represented; sent = h.sent }
 
 pub stranger_opens : (m : AppSpec) (served : ℕ → Bool) (n : AbstractNode) (s : Sockets) (seg : PlainSegment) → (is_plain_syn seg && served s.own_port.0) ≡ true →
     opens m n s seg (slot_for_syn n.connections) ≡ for_no_connection m served n s seg
@@ -59,7 +59,7 @@ rests_by : {A S : Type 0} (g : Ghosts A S) (m : AppSpec) (node : Node A S) (n : 
     Steps g node None (happened m n (Periodic slot) slot (connection_in slot n) (leaves (connection_in slot n) n.numbers Step.Drop))
 unfolding happened
 rests_by g m node n slot addr slots iss ns counts = record {
-  stands = record { addr = addr; slots = slots; iss = iss; numbers_stand = ns; counts = counts };
+  represented = record { addr = addr; slots = slots; iss = iss; numbers_stand = ns; counts = counts };
   sent = refl;
 }
 

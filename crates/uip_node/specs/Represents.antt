@@ -28,7 +28,7 @@ pub record IsWellFormed {A S : Type 0} (g : Ghosts A S) (packet : Buffer) (conns
 
 -- The result of a step: the node and what was sent.
 pub record Steps {A S : Type 0} (g : Ghosts A S) (node : Node A S) (result : Option ℕ) (s : NodeStep) : Type 0 where
-  pub stands : Represents g node s.node s.node.history
+  pub represented : Represents g node s.node s.node.history
   pub sent : IsSent node.addr s.sent result node.packet
 
 -- The call refines this step: the node represents the result of the definition, and sends the same datagram.

@@ -202,7 +202,7 @@ pub(crate) fn open_in<A: App>(table: &mut Table<A>, slot: usize, peer: Addr, seg
     ensures fits { IsIn table.new.conns slot (λ c. StepFits c result) }
     ensures step { result ≡ Step.SynAck false }
     ensures kept { (k : A.Config) → AllWellFormed A.App k table.old.conns → AllWellFormed A.App k table.new.conns }
-    ensures stands { OpensIn A.App slot table.old.iss (sockets_of peer seg.now) seg.now table.old.conns table.new.conns }
+    ensures represented { OpensIn A.App slot table.old.iss (sockets_of peer seg.now) seg.now table.old.conns table.new.conns }
 {
     let iss = table.iss;
     let conn = &mut table.conns[slot];

@@ -92,7 +92,7 @@ impl<A: App> Node<A> {
     /// Returns a node at an address, with ten CLOSED connections and all counters 0. No later call allocates memory (measured). On
     /// `NoMemory` `shared` is dropped.
     pub fn new(alloc: Global, addr: Addr, shared: A::Shared) -> Result<Node<A>, NoMemory>
-        ensures stands { IfOk result (λ node. Represents A.App node (initial_node addr (A.numbers shared)) []) }
+        ensures represented { IfOk result (λ node. Represents A.App node (initial_node addr (A.numbers shared)) []) }
         ensures shared { IfOk result (λ node. node.shared ≡ shared) }
     {
         let packet = Packet::new(alloc, LARGEST_DATAGRAM)?;

@@ -45,7 +45,7 @@ line_run {S = S} {C = C} g shared line kind w before after did did' old new end 
     let one = subst (λ (s : S). SaidBy end (g.app_spec (g.config s)) g.served w before.addr (station_events before.addr) P Q old.sink.written new.sink.written) is it.wrote in
     let two = subst (λ (o : Addr). SaidBy end m g.served w o (station_events o) P Q old.sink.written new.sink.written) st.addr one in
     let out = subst (PutsOut end old.sink.written new.sink.written) (sym (same m numbers it.taken))
-    (puts_out m g.served line.own w (station_events line.own) (initial_station line.own numbers) P Q old.sink.written new.sink.written (record { stands = st; acted = began }) end two) in
+    (puts_out m g.served line.own w (station_events line.own) (initial_station line.own numbers) P Q old.sink.written new.sink.written (record { represented = st; acted = began }) end two) in
     inl (end, refl, record { taken = it.taken; are = it.are; consumed = it.consumed; ends = it.ends; written = out.written; some = out.some })
 
 -- so over Ethernet frames, by a host that is that of the line

@@ -21,6 +21,6 @@ StandsAt {F} left last name at file =
 pub record ReadsOn {F : Type 0} (left : F → Option (List ℕ)) (last now : Option (OpenFile F))
     (name : List ℕ) (at n : ℕ) (buf : List ℕ) : Type 0 where
   pub file : F
-  pub stands : StandsAt left last name at file
+  pub represented : StandsAt left last name at file
   pub gave : IsSomeAnd now
       (λ held. Consumes (left file) (left held.file) (take n buf) × (n ≡ 0 → 0 < length buf → IsAtEnd (left held.file)))

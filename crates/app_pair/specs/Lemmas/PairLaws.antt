@@ -24,8 +24,8 @@ pub record LawfulAt (m : AppSpec) (p : AppState) : Type 0 where
       → (m.output (m.polled numbers p).part ≡ m.output p) × ((m.polled numbers p).part.acked ≡ p.acked)
   pub sends : (numbers : List ℕ) → CanSend (m.want numbers p) (length (text_left m p))
 
-pub at_state : (m : AppSpec) (stands : AppState → Type 0) → IsLawful m stands → (p : AppState) → stands p → LawfulAt m p
-at_state m stands lawful p s = record {
+pub at_state : (m : AppSpec) (represented : AppState → Type 0) → IsLawful m represented → (p : AppState) → represented p → LawfulAt m p
+at_state m represented lawful p s = record {
   newdata_grows = λ numbers piece. lawful.newdata_grows numbers p piece s;
   prepare_grows = λ numbers now. lawful.prepare_grows numbers p now s;
   acked_moves = λ numbers n h. lawful.acked_moves numbers p n s h;
@@ -33,8 +33,9 @@ at_state m stands lawful p s = record {
   sends = λ numbers. lawful.sends numbers p s;
 }
 
-pub at_each_state : (m : AppSpec) (stands : AppState → Type 0) → ((p : AppState) → stands p → LawfulAt m p) → IsLawful m stands
-at_each_state m stands h = record {
+pub at_each_state : (m : AppSpec) (represented : AppState → Type 0) → ((p : AppState) → represented p → LawfulAt m p)
+    → IsLawful m represented
+at_each_state m represented h = record {
   newdata_grows = λ numbers p piece s. (h p s).newdata_grows numbers piece;
   prepare_grows = λ numbers p now s. (h p s).prepare_grows numbers now;
   acked_moves = λ numbers p n s l. (h p s).acked_moves numbers n l;

@@ -54,7 +54,7 @@ left_by g text a site part (stage.Reply found) (name, is) =
 pub left_of_value : {F R : Type 0} (g : ScriptFunctions F) (text : R → List ℕ) (a : Pages R) (site : SiteContent) (part : AppState)
     → PagesRepresent g text a site part
     → text_left (web_spec_by g (files_of site)) part ≡ left_in g text a site a.stage
-left_of_value g text a site part s = left_by g text a site part a.stage s.stands
+left_of_value g text a site part s = left_by g text a site part a.stage s.represented
 
 pub same_left_by : {F R : Type 0} (g : ScriptFunctions F) (text : R → List ℕ) (a : Pages R) (site : SiteContent) (p q : AppState)
     → PagesRepresent g text a site p → PagesRepresent g text a site q

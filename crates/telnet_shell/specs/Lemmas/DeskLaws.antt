@@ -75,8 +75,8 @@ grows_at files p q e g = record {
   offset = g.offset;
 }
 
-pub desk_lawful : (files : List File) (stands : AppState → Type 0) → IsLawful (desk_spec files) stands
-desk_lawful files stands = record {
+pub desk_lawful : (files : List File) (represented : AppState → Type 0) → IsLawful (desk_spec files) represented
+desk_lawful files represented = record {
   newdata_grows = λ numbers p piece s.
       grows_at files p ((desk_spec files).newdata numbers p piece).part ((port_at files p.port).newdata numbers p piece)
       ((lawful_at files p.port).newdata_grows numbers p piece tt);

@@ -105,8 +105,8 @@ can_send p =
 
 -- ---- the laws
 
-pub shell_lawful : (stands : AppState → Type 0) → IsLawful shell_spec stands
-shell_lawful stands = record {
+pub shell_lawful : (represented : AppState → Type 0) → IsLawful shell_spec represented
+shell_lawful represented = record {
   newdata_grows = λ numbers p piece s. unpolled_grows p piece;
   prepare_grows = λ numbers p now s. either_grows p (record { numbers = numbers; now = now }) (is_stopped p);
   acked_moves = λ numbers p n s h. (refl, refl);

@@ -96,9 +96,9 @@ can_send g files part =
 
 -- ---- the laws
 
-pub web_lawful : {F : Type 0} (g : ScriptFunctions F) (files : List File) (stands : AppState → Type 0)
-    → IsLawful (web_spec_by g files) stands
-web_lawful g files stands = record {
+pub web_lawful : {F : Type 0} (g : ScriptFunctions F) (files : List File) (represented : AppState → Type 0)
+    → IsLawful (web_spec_by g files) represented
+web_lawful g files represented = record {
   newdata_grows = λ hits part piece s. record { text = newdata_grows g files part piece; offset = refl };
   prepare_grows = λ hits part now s.
       either_grows g files part (record { numbers = hits; now = now })

@@ -10,7 +10,7 @@ post_prefix-requires c =
     let read : c.as_slice-2.result.now ≡ c.hear.new.area = c.as_slice-2.ensures.value ∙ back.is in
     record {
       area = ap length read ∙ back.size ∙ c.requires.room;
-      inside = λ n e. subst (λ (xs : List ℕ). n ≤ length xs) (sym read) (Sending.sends_inside s.plain.client.setup _ c.in_ok-len.len n c.hear.new.area (c.in_ok-len.ensures.step s.plain s.stands).sent e);
+      inside = λ n e. subst (λ (xs : List ℕ). n ≤ length xs) (sym read) (Sending.sends_inside s.plain.client.setup _ c.in_ok-len.len n c.hear.new.area (c.in_ok-len.ensures.step s.plain s.represented).sent e);
     }
 
 pub returns-clause-kept : goal.returns-clause-kept

@@ -5,14 +5,14 @@ use Rattle.link_replay.proofs.Standing.{datagram_stands}
 use Rattle.link_replay.proofs.datagrams.write_datagram.Goals as goal
 
 pub returns-clause-wrote : goal.returns-clause-wrote
-returns-clause-wrote g c = λ w e all same stands home st read by.
+returns-clause-wrote g c = λ w e all same represented home st read by.
     let sent = c.args.sent.now in
     let kind = c.kind_of.result in
     let text = datagram_line c.args.number sent.tick sent.who kind sent.again in
     let made : c.datagram_line-line.result ≡ text = c.datagram_line-line.ensures in
     let line : c.bytes.result.now ≡ text = ◌∙◌ {b = c.datagram_line-line.result} {c = text} c.bytes.ensures made in
     wrote_by _ _ c.write_word.result text (line_of_datagram c.args.number e)
-    (datagram_stands w c.args.number sent e kind st (c.kind_of.ensures w e all same stands home st read by))
+    (datagram_stands w c.args.number sent e kind st (c.kind_of.ensures w e all same represented home st read by))
     (wrote_by _ _ c.write_word.result c.bytes.result.now text line c.write_word.ensures.wrote)
 
 pub returns-clause-some : goal.returns-clause-some

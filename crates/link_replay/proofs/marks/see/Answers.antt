@@ -3,8 +3,8 @@ use Rattle.link_replay.proofs.Pairs.{there_is, partner}
 use Rattle.link_replay.proofs.Places.{side_put, link_put}
 use Rattle.link_replay.proofs.marks.see.Goals as goal
 
-pub returns-clause-stands : goal.returns-clause-stands
-returns-clause-stands c = λ w e sent h q.
+pub returns-clause-represented : goal.returns-clause-represented
+returns-clause-represented c = λ w e sent h q.
     let n : ℕ = c.from-place.result - 1 in
     let is : c.args.client ≡ suc n = omega arith in
     let link : Link = link_of c.args.sides.now.items sent in
@@ -14,7 +14,7 @@ returns-clause-stands c = λ w e sent h q.
     let at : slice_get link.sides n ≡ Some old = there_is link.sides n old c.index_mut.ensures.value (omega arith) in
     let p = partner SideRepresents link.sides w.sides n old h.sides at in
     let put : LinkRepresents after (with_side w (suc n) (marked p.other c.args.number e))
-    = side_put link w n new p.other (marked p.other c.args.number e) h p.get refl (c.see.ensures.stands p.other e p.pair q) in
+    = side_put link w n new p.other (marked p.other c.args.number e) h p.get refl (c.see.ensures.represented p.other e p.pair q) in
     subst (λ (x : Option Side). LinkRepresents after (sees w c.args.client c.args.number e x)) (sym (ap (numbered w.sides) is ∙ p.get))
     (subst (λ k. LinkRepresents after (with_side w k (marked p.other c.args.number e))) (sym is) put)
 

@@ -20,7 +20,7 @@ returns-in_err-play_lines-clause-plays g c = rw (← c.schedule.view_is) (λ pag
     (same_refusal m a.served (λ (done : Unit {0}). WorldRepresents a c.play_lines.new.world) (WorldRepresents a) schedule.lines end c.in_err-play_lines.field-0.0
     (whole_schedule a c.in-Ok.world (WorldRepresents a c.play_lines.new.world) c.args.shared schedule
     c.as_slice.result.now c.as_slice-2.result.now (Err c.in_err-play_lines.field-0.0) c.schedule.invariant c.as_slice.ensures.value c.as_slice-2.ensures.value c.in-Ok.ensures.shared
-    c.in-Ok.ensures.planned c.in-Ok.ensures.stands c.in_err-play_lines.ensures.played pages lawful bytes words)))
+    c.in-Ok.ensures.planned c.in-Ok.ensures.represented c.in_err-play_lines.ensures.played pages lawful bytes words)))
 
 pub returns-clause-planned : goal.returns-clause-planned
 returns-clause-planned g c = rw (← c.schedule.view_is)
@@ -32,4 +32,4 @@ returns-clause-plays g c = rw (← c.schedule.view_is)
     (let a = g.A.App in
     whole_schedule a c.in-Ok.world (WorldRepresents a c.play_lines.new.world) c.args.shared (content_of c.schedule.inside.clients.items c.schedule.inside.lines.items)
     c.as_slice.result.now c.as_slice-2.result.now (Ok c.in_ok-play_lines.field-0) c.schedule.invariant c.as_slice.ensures.value c.as_slice-2.ensures.value c.in-Ok.ensures.shared
-    c.in-Ok.ensures.planned c.in-Ok.ensures.stands c.in_ok-play_lines.ensures.played)
+    c.in-Ok.ensures.planned c.in-Ok.ensures.represented c.in_ok-play_lines.ensures.played)

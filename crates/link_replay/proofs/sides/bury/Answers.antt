@@ -20,7 +20,7 @@ loop-side-preserved c = record {
       ∙ map_over_more (buried c.args.gone) c.args.sides.now c.loop-side.sides c.loop-side.side-index c.side-item.result (omega arith) c.loop-side.invariant.so_far c.side-item.is);
 }
 
-pub returns-clause-stands : goal.returns-clause-stands
-returns-clause-stands c = λ ss g e h.
+pub returns-clause-represented : goal.returns-clause-represented
+returns-clause-represented c = λ ss g e h.
     subst (λ (l : List Side). Matched SideRepresents l (retires (Some g) ss)) (sym (all_done c.args.gone c.args.sides.now c.loop-side.sides c.loop-side.side-index c.loop-side-test.false c.loop-side.invariant.so_far))
     (all_buried c.args.gone g c.args.sides.now ss e h)

@@ -14,7 +14,7 @@ returns-in_ok-bury-clause-kept c = λ addr sent h.
 pub returns-in_ok-bury-clause-buried : goal.returns-in_ok-bury-clause-buried
 returns-in_ok-bury-clause-buried c = λ sent w node gone p e h.
     one_gone c.args.sides.now sent w node gone c.in-Some.pair c.bury.new.sides (ap length (sym c.as_mut_slice.ensures.value) ∙ c.bury.ensures.kept.same_length) (sym c.in-Some.is ∙ p) e h
-    (λ ss g q m. c.in_ok-bury.ensures.stands ss g q (subst (λ (xs : List Side). Matched SideRepresents xs ss) (sym c.as_mut_slice.ensures.value) m))
+    (λ ss g q m. c.in_ok-bury.ensures.represented ss g q (subst (λ (xs : List Side). Matched SideRepresents xs ss) (sym c.as_mut_slice.ensures.value) m))
 
 pub returns-in_default-clause-buried : goal.returns-in_default-clause-buried
 returns-in_default-clause-buried c = λ sent w node gone p e h. none_gone (link_of c.args.sides.now.items sent) w node gone (sym c.in_default.is ∙ p) e h

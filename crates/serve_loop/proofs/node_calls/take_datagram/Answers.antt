@@ -12,7 +12,7 @@ returns g c =
     old new c.input-sent.result (λ own. event_of own shown) (g.K.Sink.written c.args.sink.now) (g.K.Sink.written c.write_sent.new.sink)
     c.input-sent.ensures.same
     (λ m' own n p. subst (λ (a : Addr). Steps g.A.App new c.input-sent.result (step m g.A.App.served n (event_of a shown))) p.address
-    (rw c.shown.ensures at (c.input-sent.ensures.step n p.stands)))
+    (rw c.shown.ensures at (c.input-sent.ensures.step n p.represented)))
     c.write_sent.ensures.did c.write_sent.ensures.ok c.write_sent.ensures.err in
     record {
       same = c.input-sent.ensures.same;

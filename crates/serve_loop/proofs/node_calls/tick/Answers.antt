@@ -10,7 +10,7 @@ loop-slot-init g c = record {
   wrote = λ k m own.
       wrote_by m g.A.App.served (g.M.Medium.spec k) own _ _ _ _ _ _ (append-nil (map OfMedium (g.M.Medium.spec k).at_tick))
       (acts_wrote m g.A.App.served (g.M.Medium.spec k) own (g.M.Medium.spec k).at_tick _ _ _ (c.tick.ensures.silent k)
-      (λ s p. record { stands = p.stands; acted = c.tick.ensures.did k s.acts p.acted }));
+      (λ s p. record { represented = p.represented; acted = c.tick.ensures.did k s.acts p.acted }));
   calm = refl;
 }
 

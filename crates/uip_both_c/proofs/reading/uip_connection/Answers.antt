@@ -6,5 +6,5 @@ pub returns-in-Some-read_device-clause-fine : goal.returns-in-Some-read_device-c
 returns-in-Some-read_device-clause-fine c = λ fine. (
   c.deref.result.now,
   read_out c.deref.result.now c.in-Some-read_device.opened.value _ c.deref.ensures c.in-Some-read_device.ensures.taken,
-  λ files own n s. subst (λ (r : Option Row). ReportsRow r c.read_device-read.result) (c.node_row.ensures n s.node.stands) c.read_device-read.ensures.row,
+  λ files own n s. subst (λ (r : Option Row). ReportsRow r c.read_device-read.result) (c.node_row.ensures n s.node.represented) c.read_device-read.ensures.row,
 )

@@ -5,5 +5,5 @@ pub returns-in-Some-read_device-clause-fine : goal.returns-in-Some-read_device-c
 returns-in-Some-read_device-clause-fine c = rw c.read_device-read.ensures (λ fine. (
   c.deref.result.now,
   read_out c.deref.result.now c.in-Some-read_device.opened.value _ c.deref.ensures c.in-Some-read_device.ensures.taken,
-  λ files own n s. c.node_ticks.ensures n s.node.stands,
+  λ files own n s. c.node_ticks.ensures n s.node.represented,
 ))

@@ -2,4 +2,4 @@ use Rattle.uip_device.proofs.AnswerLaws.{datagrams_reported, line_view, node_sta
 use Rattle.uip_device.proofs.laws.calls_are_reported.Goals as goal
 
 pub returns : goal.returns
-returns g c = record { line = line_view g.A.App; datagrams = datagrams_reported g.A.App; stands = node_stands g.A.App; kept = same_kept g.A.App }
+returns g c = record { line = line_view g.A.App; datagrams = datagrams_reported g.A.App; represented = node_stands g.A.App; kept = same_kept g.A.App }

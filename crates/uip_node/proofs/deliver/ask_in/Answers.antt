@@ -38,8 +38,8 @@ returns-clause-meets g c =
     let at = at_viewed _ _ c.args.slot c.index_mut-conn.result.now c.table.view_is c.requires.within c.index_mut-conn.ensures.value in
     meets_viewed g.A.App k _ c.args.table.now c.args.slot c.index_mut-conn.result.now c.ask_prepared.new.conn (g.A.App.numbers c.args.shared.now) c.ask_prepared.result
     (λ a. ask_prepared (g.A.App.app_spec k) c.args.fresh a (g.A.App.numbers c.args.shared.now)) c.table.view_is at c.ask_prepared.ensures.takes.meets
-    (λ a stands speaks. named_after c.index_mut-conn.result.now c.ask_prepared.new.conn a _
-    (live_named g.A.App k c.index_mut-conn.result.now a stands (open_lives c.index_mut-conn.result.now.state (c.requires.asked _ at).open_to_it))
+    (λ a represented speaks. named_after c.index_mut-conn.result.now c.ask_prepared.new.conn a _
+    (live_named g.A.App k c.index_mut-conn.result.now a represented (open_lives c.index_mut-conn.result.now.state (c.requires.asked _ at).open_to_it))
     c.ask_prepared.ensures.takes.place c.ask_prepared.ensures.same_numbers (asked_same (g.A.App.app_spec k) c.args.fresh a (g.A.App.numbers c.args.shared.now)))
 
 pub returns-clause-long : goal.returns-clause-long

@@ -21,14 +21,14 @@ returns-clause-kept g c = λ k all.
     (subst (λ (xs : List (Conn g.row.A.Denot)). AllWellFormed g.A.App k xs) (sym e) all)
     (record { sound = c.accept.ensures.sound k; busy = rests_of c.accept.new.conn (Step.SynAck false) tt (subst (λ (s : Step). StepFits c.accept.new.conn s) c.accept.ensures.step c.accept.ensures.fits) })
 
-pub returns-clause-stands : goal.returns-clause-stands
-returns-clause-stands g c = λ k abstracts text stand.
+pub returns-clause-represented : goal.returns-clause-represented
+returns-clause-represented g c = λ k abstracts text stand.
     let e = ap (λ (t : Connections g.row.A.Denot). t.conns) c.table.view_is in
     let f = ap (λ (t : Connections g.row.A.Denot). t.iss) c.table.view_is in
     let sockets : Sockets = record { peer = c.args.peer; peer_port = c.args.seg.now.from; own_port = c.args.seg.now.to } in
     subst (λ (n : ℕ). SlotsRepresent g.A.App k (slice_set c.table.inside.conns.items c.args.slot c.accept.new.conn) (slice_set abstracts c.args.slot (accepted n sockets (plain c.args.seg.now text)))) f
     (stands_after g.A.App k c.table.inside.conns.items abstracts c.args.slot c.accept.new.conn (accepted c.table.inside.iss.0 sockets (plain c.args.seg.now text))
-    (subst (λ (xs : List (Conn g.row.A.Denot)). SlotsRepresent g.A.App k xs abstracts) (sym e) stand) (c.accept.ensures.stands k text))
+    (subst (λ (xs : List (Conn g.row.A.Denot)). SlotsRepresent g.A.App k xs abstracts) (sym e) stand) (c.accept.ensures.represented k text))
 
 pub returns-clause-long : goal.returns-clause-long
 returns-clause-long g c =

@@ -28,5 +28,5 @@ returns-clause-meets g c =
     let at = at_viewed _ _ c.args.slot c.index_mut-conn.result.now c.table.view_is c.requires.within c.index_mut-conn.ensures.value in
     meets_viewed g.A.App k _ c.args.table.now c.args.slot c.index_mut-conn.result.now c.on_segment.new.conn (g.A.App.numbers c.on_segment.new.shared) c.on_segment.result
     (λ a. on_segment m a (g.A.App.numbers c.args.shared.now) seg) c.table.view_is at c.on_segment.ensures.meets
-    (λ a stands. segment_named g.A.App k c.on_segment.new.conn a c.on_segment.result m (g.A.App.numbers c.args.shared.now) seg (g.A.App.numbers c.on_segment.new.shared)
-    (c.on_segment.ensures.meets a stands) (sym (ap is_live stands.numbers.state) ∙ c.requires.live _ at))
+    (λ a represented. segment_named g.A.App k c.on_segment.new.conn a c.on_segment.result m (g.A.App.numbers c.args.shared.now) seg (g.A.App.numbers c.on_segment.new.shared)
+    (c.on_segment.ensures.meets a represented) (sym (ap is_live represented.numbers.state) ∙ c.requires.live _ at))

@@ -27,5 +27,5 @@ returns-clause-meets g c =
     let at = at_viewed _ _ c.args.slot c.index_mut-conn.result.now c.table.view_is c.requires.within c.index_mut-conn.ensures.value in
     meets_viewed g.A.App k _ c.args.table.now c.args.slot c.index_mut-conn.result.now c.on_tick.new.conn (g.A.App.numbers c.on_tick.new.shared) c.on_tick.result
     (λ a. on_tick (g.A.App.app_spec k) a (g.A.App.numbers c.args.shared.now)) c.table.view_is at c.on_tick.ensures.takes.meets
-    (λ a stands speaks. named_after c.index_mut-conn.result.now c.on_tick.new.conn a _ (live_named g.A.App k c.index_mut-conn.result.now a stands (c.requires.live _ at))
+    (λ a represented speaks. named_after c.index_mut-conn.result.now c.on_tick.new.conn a _ (live_named g.A.App k c.index_mut-conn.result.now a represented (c.requires.live _ at))
     c.on_tick.ensures.takes.place c.on_tick.ensures.same_numbers (on_tick_same (g.A.App.app_spec k) a (g.A.App.numbers c.args.shared.now)))

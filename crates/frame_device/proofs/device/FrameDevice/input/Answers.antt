@@ -7,7 +7,7 @@ returns-in-Nothing-clause-answers g c = record {
   kept = refl;
   each = λ k m own s here.
       brings_silent g.A.App (g.M.Frames.spec k) m own s (λ acts. g.M.Frames.did c.take.new.self k acts) c.args.self.now.node
-      ((g.M.Frames.spec k).decodes (take c.args.len c.args.buf.now)) (rw c.in-Nothing.is at (c.take.ensures.reported k s.acts here.acted)) here.stands
+      ((g.M.Frames.spec k).decodes (take c.args.len c.args.buf.now)) (rw c.in-Nothing.is at (c.take.ensures.reported k s.acts here.acted)) here.represented
       (c.take.ensures.did k s.acts here.acted);
 }
 
@@ -17,7 +17,7 @@ returns-in-Own-clause-answers g c = record {
   each = λ k m own s here.
       let reported = rw c.in-Own.is at (c.take.ensures.reported k s.acts here.acted) in
       brings_own g.A.App (g.M.Frames.spec k) m own s (λ acts. g.M.Frames.did c.take.new.self k acts) c.args.self.now.node
-      ((g.M.Frames.spec k).decodes (take c.args.len c.args.buf.now)) reported.0 _ reported.1 reported.2 here.stands (c.take.ensures.did k s.acts here.acted);
+      ((g.M.Frames.spec k).decodes (take c.args.len c.args.buf.now)) reported.0 _ reported.1 reported.2 here.represented (c.take.ensures.did k s.acts here.acted);
 }
 
 pub returns-in-Datagram-clause-answers : goal.returns-in-Datagram-clause-answers
@@ -32,5 +32,5 @@ returns-in-Datagram-clause-answers g c =
           brings_datagram g.A.App (g.M.Frames.spec k) m own s (λ acts. g.M.Frames.did c.take.new.self k acts) c.args.self.now.node c.input-sent.new.self c.input-sent.result
           ((g.M.Frames.spec k).decodes (take c.args.len c.args.buf.now)) (datagram (at + len - at)) (take c.write_sent.result c.write_sent.new.out)
           (reported ∙ ap (λ n. Datagram (datagram n) ∷ []) (omega arith)) c.input-sent.ensures.same c.input-sent.ensures.step
-          (λ acts reply did is. c.write_sent.ensures.text k acts own reply did is) here.stands (c.take.ensures.did k s.acts here.acted);
+          (λ acts reply did is. c.write_sent.ensures.text k acts own reply did is) here.represented (c.take.ensures.did k s.acts here.acted);
     }

@@ -9,6 +9,6 @@ returns-clause-answers g c = record {
       let w = g.M.Frames.spec k in
       calls_event g.A.App w m own s (λ acts. g.M.Frames.did c.begin_tick.new.frames k acts) c.args.self.now.node c.periodic-sent.new.self c.periodic-sent.result
       (acts_before w c.args.slot) (Periodic c.args.slot) (take c.write_sent.result c.write_sent.new.out) (c.begin_tick.ensures.silent k)
-      c.periodic-sent.ensures.same c.periodic-sent.ensures.step (λ acts reply did is. c.write_sent.ensures.text k acts own reply did is) here.stands
+      c.periodic-sent.ensures.same c.periodic-sent.ensures.step (λ acts reply did is. c.write_sent.ensures.text k acts own reply did is) here.represented
       (c.begin_tick.ensures.did k s.acts here.acted);
 }

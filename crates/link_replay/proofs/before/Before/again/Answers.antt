@@ -4,7 +4,7 @@ use Rattle.link_replay.proofs.before.Before.again.Goals as goal
 
 -- src/before.rt
 pub returns : goal.returns
-returns g c = rw (← c.node.view_is) (λ m served n event before stands.
+returns g c = rw (← c.node.view_is) (λ m served n event before represented.
     ap (λ (x : ℕ). not (nat_eq x c.resent_of.result)) before.resent
-    ∙ ap (λ (x : ℕ). not (nat_eq (resent n.history) x)) (c.resent_of.ensures (step m served n event).node.history stands.counts.net)
+    ∙ ap (λ (x : ℕ). not (nat_eq (resent n.history) x)) (c.resent_of.ensures (step m served n event).node.history represented.counts.net)
     ∙ resent_differs m served n event)

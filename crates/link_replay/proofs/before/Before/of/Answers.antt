@@ -4,7 +4,7 @@ use Rattle.link_replay.proofs.before.Before.of.Goals as goal
 
 -- src/before.rt
 pub returns : goal.returns
-returns g c = rw (← c.node.view_is) (λ n stands. record {
-  pairs = c.owners_in.ensures ∙ owners_stand g.A.App (g.A.App.config c.node.inside.shared) c.node.inside.table.conns n.connections stands.slots;
-  resent = c.resent_of.ensures n.history stands.counts.net;
+returns g c = rw (← c.node.view_is) (λ n represented. record {
+  pairs = c.owners_in.ensures ∙ owners_stand g.A.App (g.A.App.config c.node.inside.shared) c.node.inside.table.conns n.connections represented.slots;
+  resent = c.resent_of.ensures n.history represented.counts.net;
 })

@@ -11,7 +11,7 @@ returns-clause-shows g c =
     ap (λ (o : Option CodeSide). option_map (λ side. is_none side.first_stale) o) c.side-found.ensures.shows
     ∙ ap (λ (b : Bool). Some b) (sym (reported_none _ _ c.is_none.ensures ∙ ap (λ (x : CodeSide). is_none x.first_stale) c.found.view_is))
 
-pub returns-clause-stands : goal.returns-clause-stands
-returns-clause-stands g c = λ w s h e.
+pub returns-clause-represented : goal.returns-clause-represented
+returns-clause-represented g c = λ w s h e.
     reported_none _ _ c.is_none.ensures ∙ ap (λ (x : CodeSide). is_none x.first_stale) c.found.view_is
-    ∙ ap (λ (n : Option ℕ). is_none n) (c.side-found.ensures.stands w s h e).first_stale
+    ∙ ap (λ (n : Option ℕ). is_none n) (c.side-found.ensures.represented w s h e).first_stale

@@ -41,9 +41,9 @@ returns-clause-given g c = rw (← c.self.view_is) (λ w h s.
     let facts = hands m a.served w c.args.number e (speaks_to (link_of c.self.inside.sides.items c.self.inside.sent.items) w s.link s.home) e.who e.content (sent_bytes w e) (read_at m a.served w h (c.args.number - 1) e p.get) (sent_at m a.served w h (c.args.number - 1) e p.get) in
     let sent : List CodeSent = c.self.inside.sent.items in
     let link : Link = link_of c.see.new.sides.items sent in
-    let stands : WorldRepresents a (record { node = c.self.inside.node; link = link; mark = c.self.inside.mark; spent = c.self.inside.spent; area = c.self.inside.area.items }) v
+    let represented : WorldRepresents a (record { node = c.self.inside.node; link = link; mark = c.self.inside.mark; spent = c.self.inside.spent; area = c.self.inside.area.items }) v
     = seen a _ link w (client_reported e.who) c.args.number e (numbered w.sides (client_reported e.who)) s
-    (subst (λ k. LinkRepresents link (sees w k c.args.number e (numbered w.sides k))) client (c.see.ensures.stands w e sent s.link shown.epoch)) (c.see.ensures.kept w.node.addr sent s.home) in
+    (subst (λ k. LinkRepresents link (sees w k c.args.number e (numbered w.sides k))) client (c.see.ensures.represented w e sent s.link shown.epoch)) (c.see.ensures.kept w.node.addr sent s.home) in
     let answer : Option Reply = (step m a.served v.node (event_of v.node.addr c.as_slice-2.result.now)).sent in
     let answers : AnswersTo v c.sent.inside.who answer
     = subst (λ (who : Who). AnswersTo v who answer) (sym shown.who)
@@ -54,4 +54,4 @@ returns-clause-given g c = rw (← c.self.view_is) (λ w h s.
     ∙ ap (λ (who : Who). hands_over m a.served v (sent_bytes w e) who) shown.who
     ∙ facts.same
     ∙ sym (ap (λ (x : Option Sent). option_map_or (λ d. delivers m a.served w c.args.number d d.who d.content) x w) p.there) in
-    subst (λ (u : World). WorldRepresents a c.hand.new.self u) same (c.in_ok-hand.ensures.handed v stands answers))
+    subst (λ (u : World). WorldRepresents a c.hand.new.self u) same (c.in_ok-hand.ensures.handed v represented answers))

@@ -8,6 +8,6 @@ returns-clause-delivered g c = rw (← c.self.view_is) (λ w s to.
     let m = a.app_spec (a.config c.self.inside.node.shared) in
     let did = c.input-answer.ensures.step w.node s.node in
     let call = c.in_ok-record_call.ensures in
-    recorded a m a.served (event_of w.node.addr c.args.bytes.now) _ c.record_call.new.self w call.node did.stands
-    (call.reported m a.served w (event_of w.node.addr c.args.bytes.now) (c.of-before.ensures w.node s.node) to did.stands did.sent s.link)
+    recorded a m a.served (event_of w.node.addr c.args.bytes.now) _ c.record_call.new.self w call.node did.represented
+    (call.reported m a.served w (event_of w.node.addr c.args.bytes.now) (c.of-before.ensures w.node s.node) to did.represented did.sent s.link)
     (call.kept w.node.addr s.home) (call.mark ∙ s.mark) (call.spent ∙ s.fresh))

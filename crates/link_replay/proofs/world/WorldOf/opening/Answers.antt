@@ -14,10 +14,10 @@ invariant_of-result g c =
       room = size;
     }
 
-pub returns-clause-stands : goal.returns-clause-stands
-returns-clause-stands g c =
+pub returns-clause-represented : goal.returns-clause-represented
+returns-clause-represented g c =
     record {
-      node = c.in_ok-node.ensures.stands;
+      node = c.in_ok-node.ensures.represented;
       link = record { sides = sides_stand c.args.clients.now c.in_ok-sides.sides.items c.in_ok-sides.ensures; sent = none_stand _ c.new-2.result.items c.new-2.ensures.items };
       home = link_opened server _ c.args.clients.now c.in_ok-sides.ensures c.requires.few c.new-2.ensures.items refl;
       mark = refl;

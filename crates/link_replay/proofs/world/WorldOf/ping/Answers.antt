@@ -24,8 +24,8 @@ returns-clause-sent g c = rw (← c.self.view_is) (λ w s.
     let echo = OfPing (ping_from c.args.source w.node.addr) in
     let items : c.in-Ok.bytes.items ≡ c.as_slice.result.now = search (rules, tests) in
     let bytes : c.in-Ok.bytes.items ≡ ping_from c.args.source w.node.addr = items ∙ c.as_slice.ensures ∙ c.echo_request.ensures ∙ ap (ping_from c.args.source) (c.addr.ensures ∙ s.node.addr) in
-    let stands : LinkRepresents (link_of sides c.post.new.sent.items) (posts w Pinger false echo)
+    let represented : LinkRepresents (link_of sides c.post.new.sent.items) (posts w Pinger false echo)
     = subst (λ (xs : List CodeSide). LinkRepresents (link_of xs c.post.new.sent.items) (posts w Pinger false echo)) c.as_slice-2.ensures.value
     (c.in_ok-post.ensures.posted w echo (subst (λ (xs : List CodeSide). LinkRepresents (link_of xs c.self.inside.sent.items) w) (sym c.as_slice-2.ensures.value) s.link) (c.ticks-tick.ensures ∙ s.node.counts.ticks) bytes) in
-    linked a _ (link_of sides c.post.new.sent.items) c.self.inside.area.items w _ s refl refl stands
+    linked a _ (link_of sides c.post.new.sent.items) c.self.inside.area.items w _ s refl refl represented
     (kept_posted w.node.addr _ sides c.self.inside.sent.items c.post.new.sent.items c.as_slice-2.ensures.value (c.post.ensures.kept w.node.addr) s.home))

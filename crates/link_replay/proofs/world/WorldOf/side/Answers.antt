@@ -10,8 +10,8 @@ returns-clause-shows g c = rw (← c.self.view_is) (
     let at : slice_get sides n ≡ Some side = there_is sides n side c.index.ensures (omega (arith, c.requires.most, ap (λ x. length x.link.sides) c.self.view_is)) in
     numbered_at sides c.args.number (omega arith) ∙ ap (slice_get sides) (let same : c.args.number - 1 ≡ n = omega arith in same) ∙ at)
 
-pub returns-clause-stands : goal.returns-clause-stands
-returns-clause-stands g c = rw (← c.self.view_is) (λ w s h e.
+pub returns-clause-represented : goal.returns-clause-represented
+returns-clause-represented g c = rw (← c.self.view_is) (λ w s h e.
     let n : ℕ = c.from.result - 1 in
     let above : 0 < c.args.number = omega arith in
     let same : c.args.number - 1 ≡ n = omega arith in

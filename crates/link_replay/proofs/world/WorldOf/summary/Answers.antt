@@ -26,11 +26,11 @@ returns-clause-shows g c = rw (← c.self.view_is) (
 pub returns-clause-ok : goal.returns-clause-ok
 returns-clause-ok g c =
     on_ok_weaker c.write_whole.result
-    (λ wrote w stands. of_world (Appends (g.K.Sink.written c.args.sink.now) (g.K.Sink.written c.write_whole.new.self)) c.args.self.now.link w stands.link wrote)
+    (λ wrote w represented. of_world (Appends (g.K.Sink.written c.args.sink.now) (g.K.Sink.written c.write_whole.new.self)) c.args.self.now.link w represented.link wrote)
     (returns-clause-shows g c).whole
 
 pub returns-clause-err : goal.returns-clause-err
 returns-clause-err g c =
     on_err_weaker c.write_whole.result
-    (λ wrote w stands. of_world (AppendsPrefix (g.K.Sink.written c.args.sink.now) (g.K.Sink.written c.write_whole.new.self)) c.args.self.now.link w stands.link wrote)
+    (λ wrote w represented. of_world (AppendsPrefix (g.K.Sink.written c.args.sink.now) (g.K.Sink.written c.write_whole.new.self)) c.args.self.now.link w represented.link wrote)
     (returns-clause-shows g c).prefix

@@ -12,12 +12,12 @@ pub returns-in-Web : goal.returns-in-Web
 returns-in-Web c = record {
   not_due = λ e p now s.
       by_web (λ (m : AppSpec). m.prepare c.args.shared.now.hits p now ≡ p) c.args.self.now c.in-Web.web c.args.shared.now.site p c.in-Web.is s
-      (λ at. c.is_due.ensures.not_due e p now at.stands);
+      (λ at. c.is_due.ensures.not_due e p now at.represented);
 }
 
 pub returns-in-Shell : goal.returns-in-Shell
 returns-in-Shell c = record {
   not_due = λ e p now s.
       by_shell (λ (m : AppSpec). m.prepare c.args.shared.now.hits p now ≡ p) c.args.self.now c.in-Shell.shell c.args.shared.now.site p c.in-Shell.is s
-      (λ at. c.is_due-in-Shell.ensures.not_due e p now at.stands);
+      (λ at. c.is_due-in-Shell.ensures.not_due e p now at.represented);
 }

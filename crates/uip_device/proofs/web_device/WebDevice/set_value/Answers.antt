@@ -8,5 +8,5 @@ returns-clause-gives c =
       kept = changes.kept;
       input = λ before h. h;
       left = ap (λ p. text_to_come (datagram_in p) c.args.self.now.left) changes.packet;
-      stands = changes.stands;
+      represented = changes.represented;
     }

@@ -9,8 +9,8 @@ invariant_of-result g c = record {
   kept = all_kept g.A.App (g.A.App.config c.args.shared) c.in_ok-table.table.conns c.in_ok-table.ensures.closed;
 }
 
-pub returns-clause-stands : goal.returns-clause-stands
-returns-clause-stands g c = record {
+pub returns-clause-represented : goal.returns-clause-represented
+returns-clause-represented g c = record {
   addr = refl;
   slots = all_stand g.A.App (g.A.App.config c.args.shared) c.in_ok-table.table.conns c.in_ok-table.ensures.closed c.count_slots.ensures.all;
   iss = c.in_ok-table.ensures.iss;

@@ -17,7 +17,7 @@ returns-clause-step g c = rw (← c.self.view_is) (λ n event old text h within.
     let app = g.A.App in
     let b : Connection = accepted (initial_number (seen event n.history)) (sockets_of c.args.peer c.args.seg.now) (plain c.args.seg.now text) in
     let slots = subst (λ (i : ℕ). SlotsRepresent app k c.open_in-step.new.table.conns (slice_set n.connections c.args.slot (accepted i (sockets_of c.args.peer c.args.seg.now) (plain c.args.seg.now text)))) h.iss
-    (c.open_in-step.ensures.stands k n.connections text h.slots) in
+    (c.open_in-step.ensures.represented k n.connections text h.slots) in
     c.send_step.ensures.step n event old (accept (initial_number (seen event n.history)) (sockets_of c.args.peer c.args.seg.now) (plain c.args.seg.now text) n.numbers) h.addr within (c.open_in-step.ensures.iss ∙ h.iss) h.counts
     (record {
       slots = slots;

@@ -27,6 +27,6 @@ returns-in-None-clause-step g c = rw (← c.self.view_is) (λ n text h.
     (record { addr = now.addr; packet = now.packet; table = now.table; counts = record { net = c.turn_away.new.net; ticks = now.ticks; ident = now.ident }; shared = now.shared })
     None h.slots c.self.invariant.kept (sym c.slot_for_syn.ensures ∙ c.in-None.is)
     (record {
-      stands = stands_later g.A.App _ now.packet _ n _ after after h h.iss (record { net = c.turn_away.ensures n.history (Arrived s seg) h.counts.net; ticks = h.counts.ticks; ident = h.counts.ident });
+      represented = stands_later g.A.App _ now.packet _ n _ after after h h.iss (record { net = c.turn_away.ensures n.history (Arrived s seg) h.counts.net; ticks = h.counts.ticks; ident = h.counts.ident });
       sent = refl;
     }))

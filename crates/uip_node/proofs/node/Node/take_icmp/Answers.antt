@@ -26,7 +26,7 @@ returns-in-Ok g c = rw (← c.self.view_is) (record {
       let after : Counts = record { net = c.echo.new.net; ticks = now.ticks; ident = now.ident } in
       subst (λ (f : Option IcmpFate). Steps g.A.App (record { addr = now.addr; packet = c.reply.new.packet; table = now.table; counts = after; shared = now.shared }) (Some (length c.bytes.result.now)) (step (g.A.App.app_spec (g.A.App.config now.shared)) g.A.App.served n (option_map_or IcmpRefused f (EchoAsked request)))) (sym c.in-Ok.ensures.fate)
       (record {
-        stands = stands_later g.A.App _ c.reply.new.packet after n n.history _ _ h h.iss (record { net = c.echo.ensures n.history request h.counts.net; ticks = h.counts.ticks; ident = h.counts.ident });
+        represented = stands_later g.A.App _ c.reply.new.packet after n n.history _ _ h h.iss (record { net = c.echo.ensures n.history request h.counts.net; ticks = h.counts.ticks; ident = h.counts.ident });
         sent = record {
           answer = ap (λ (xs : List ℕ). Some (length xs)) (c.bytes.ensures ∙ replied);
           datagram = replied;
