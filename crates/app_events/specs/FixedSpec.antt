@@ -31,12 +31,12 @@ fixed_spec = record {
   ended = λ numbers p how. numbers;
 }
 
-abbrev pub some_heard : List ℕ → Bool
-some_heard [] = false
-some_heard (x ∷ xs) = true
+abbrev pub some_received : List ℕ → Bool
+some_received [] = false
+some_received (x ∷ xs) = true
 
 -- the states that a value of `Fixed` represents
 pub record FixedRepresents (a : Fixed) (p : AppState) : Type 0 where
-  pub input : a.heard ≡ some_heard p.input
+  pub input : a.heard ≡ some_received p.input
   pub at : a.at ≡ p.acked
   pub within : p.acked ≤ length (fixed_text p.input)

@@ -1,6 +1,6 @@
 -- An application that counts connections by their first bytes: each sends its own number, as one byte and a line feed.
 use Rattle.std.specs.Prelude.{ℕ, ◌≡◌, ◌≤◌, ◌+◌, ◌%◌, List, [], ◌∷◌, ◌++◌, length}
-use Rattle.app_events.specs.Prelude.{AppState, AppSpec, fixed_want, some_heard}
+use Rattle.app_events.specs.Prelude.{AppState, AppSpec, fixed_want, some_received}
 use Rattle.cross_tests.specs.declared.counting.Counter.{Counter}
 
 -- the output of the connection of this number that received this input
@@ -44,7 +44,7 @@ counter_spec = record {
 
 -- the states that a value represents
 pub record CounterRepresents (a : Counter) (p : AppState) : Type 0 where
-  pub input : a.heard ≡ some_heard p.input
+  pub input : a.heard ≡ some_received p.input
   pub number : a.number ≡ p.own
   pub at : a.at ≡ p.acked
   pub within : p.acked ≤ length (counter_text p.own p.input)

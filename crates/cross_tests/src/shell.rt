@@ -119,7 +119,7 @@ struct Peer {
 
 impl Peer {
     /// Receives a datagram of the node, whose headers have 40 bytes.
-    fn hear(&mut self, datagram: &[u8]) -> Result<(), AllocError> {
+    fn receive(&mut self, datagram: &[u8]) -> Result<(), AllocError> {
         if datagram.len() < 40 {
             return Ok(());
         }
@@ -153,7 +153,7 @@ impl Peer {
         let len = put_in(&mut area, &out);
         self.seq = self.seq.wrapping_add(piece.len() as u32);
         match node.input(&area[..len]) {
-            Some(_) => self.hear(node.packet()),
+            Some(_) => self.receive(node.packet()),
             None => Ok(()),
         }
     }

@@ -47,7 +47,7 @@ module _ (site : SiteContent) (loaded : IsLoaded site) where
 
   session_hears : (numbers : List ℕ) (p : AppState) (piece : List ℕ) → session_speaker.here p ≡ true → HearsSome session_speaker p (desk.newdata numbers p piece).part piece
   session_hears numbers p piece h =
-      let f : DeliversPrefix p (shell_spec.newdata numbers p piece).part piece = keeps_session.hears numbers p piece in
+      let f : DeliversPrefix p (shell_spec.newdata numbers p piece).part piece = keeps_session.delivers_text numbers p piece in
       let port : (desk.newdata numbers p piece).part.port ≡ p.port = keeps_port.newdata numbers p piece in
       as_shell files p.port (λ m. (m.newdata numbers p piece).part.port ≡ p.port → HearsSome session_speaker p (m.newdata numbers p piece).part piece) h
       (λ e. record {
@@ -58,7 +58,7 @@ module _ (site : SiteContent) (loaded : IsLoaded site) where
         input = f.input;
         all = elim (f.all) [ inl e ↦ inl e | inr e ↦ inr (ap (λ (n : ℕ). n == 1) e) ];
         no_more = λ l. (let own : p.own ≡ 1 = eqb-true p.own 1 l in (
-          keeps_session.hears_no_more numbers p piece own,
+          keeps_session.delivers_no_more numbers p piece own,
           ap (λ (n : ℕ). n == 1) (keeps_session.stays_lost numbers p piece own),
         ));
       }) port

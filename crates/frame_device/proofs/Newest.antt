@@ -6,7 +6,7 @@ use Rattle.uip_node.proofs.SocketPairs.{serves_yes}
 use Rattle.uip_node.proofs.FitNodes.{FitNode, closed_fits, event_fits}
 use Rattle.uip_node.proofs.Fits.{FitConn}
 use Rattle.node_laws.proofs.Lines.{Comes, OfMedium, comes}
-use Rattle.node_laws.proofs.Lines.OfMedium.{born, evicted, hears, passes_by, refused, ticks, unanswered}
+use Rattle.node_laws.proofs.Lines.OfMedium.{born, evicted, delivers_text, passes_by, refused, ticks, unanswered}
 use Rattle.node_laws.proofs.Lives.{Good, Onward, begins_by, goes_on}
 use Rattle.node_laws.proofs.Receiving.{keeps_account, keeps_text}
 use Rattle.node_laws.proofs.Steps.{Changes, IsStep, LineStep, OfNode, changed, trace_over}
@@ -117,7 +117,7 @@ module _ (m : AppSpec) (steady : IsSteady m) (models : ℕ → OutputModel) (spe
     | unanswered s q e f ↦ absurd (let z : is_live d.state ≡ false = ap (λ (y : Connection). is_live y.state) f ∙ q in cc)
     | refused s r q e f ↦ absurd (let z : is_live d.state ≡ false = ap (λ (y : Connection). is_live y.state) f ∙ q in cc)
     | born iss s plain port fit e f ↦ absurd (let z : is_opening x ≡ true = ap (λ (y : Exchange). is_opening y) e in cc)
-    | hears s numbers at alive fit words is h ↦ alive
+    | delivers_text s numbers at alive fit words is h ↦ alive
     | ticks numbers at alive fit words is h ↦ alive
   ]
 

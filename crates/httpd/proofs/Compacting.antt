@@ -1,5 +1,5 @@
 -- The states of compact pages, after each call.
-use Rattle.httpd.proofs.Prelude.{◌≡◌, ◌≤◌, ℕ, Bool, true, false, List, [], ◌∷◌, ◌++◌, Option, length, take, refl, sym, ap, subst, arith, AppState, CanSay, IsRepresented, File, FileId, SiteContent, files_of, ScriptFunctions, Line, wanted, NotYet, Refused, method_open, target_open, CompactPages, Heard, Stage, Thread, Head, CompactRepresent, HearsWord, pages_kept, word_stage, HearsTo, IsFileAsked, PagesRepresent, SaysNothing, Fits, IsFound, left_from, reply_by, left_text}
+use Rattle.httpd.proofs.Prelude.{◌≡◌, ◌≤◌, ℕ, Bool, true, false, List, [], ◌∷◌, ◌++◌, Option, length, take, refl, sym, ap, subst, arith, AppState, CanSay, IsRepresented, File, FileId, SiteContent, files_of, ScriptFunctions, Line, wanted, NotYet, Refused, method_open, target_open, CompactPages, Received, Stage, Thread, Head, CompactRepresent, ReceivesWord, pages_kept, word_stage, ReceivesTo, IsFileAsked, PagesRepresent, SaysNothing, Fits, IsFound, left_from, reply_by, left_text}
 use Rattle.httpd.specs.declared.compact.CompactPages.TheVariants as compact
 use Rattle.httpd.specs.declared.stage.Stage.TheVariants as stage
 use Rattle.httpd.proofs.Standing.{can_say, means, reply_fits, reply_found, some_part}
@@ -7,19 +7,19 @@ use Rattle.httpd.proofs.Telling.{decided_stands, with_more}
 
 -- ---- what is received
 
-pub heard_as : (d e : Heard) (l m : Line) (request : List ℕ) → d ≡ e → l ≡ m → HearsTo e m request → HearsTo d l request
-heard_as d e l m request same_d same_l is = subst (λ x. HearsTo x l request) (sym same_d) (subst (λ x. HearsTo e x request) (sym same_l) is)
+pub read_as : (d e : Received) (l m : Line) (request : List ℕ) → d ≡ e → l ≡ m → ReceivesTo e m request → ReceivesTo d l request
+read_as d e l m request same_d same_l is = subst (λ x. ReceivesTo x l request) (sym same_d) (subst (λ x. ReceivesTo e x request) (sym same_l) is)
 
 -- while a word is received it is kept, and nothing was sent
 pub word_heard : {F R : Type 0} (g : ScriptFunctions F) (text : R → List ℕ) (site : SiteContent) (p : AppState) (polls : ℕ) (target : Bool) (line : Line)
-    → CompactRepresent g text (compact.Receiving polls target line) site p → HearsWord target line p.input × SaysNothing p
+    → CompactRepresent g text (compact.Receiving polls target line) site p → ReceivesWord target line p.input × SaysNothing p
 word_heard g text site p polls true line s = s.represented
 word_heard g text site p polls false line s = s.represented
 
 -- and no file is requested yet
-pub word_open : (target : Bool) (line : Line) (request : List ℕ) → HearsWord target line request → wanted request ≡ NotYet
-word_open true line request hears = target_open request hears.method_ended hears.method hears.goes_on
-word_open false line request hears = method_open request hears.goes_on
+pub word_open : (target : Bool) (line : Line) (request : List ℕ) → ReceivesWord target line request → wanted request ≡ NotYet
+word_open true line request received = target_open request received.method_ended received.method received.goes_on
+word_open false line request received = method_open request received.goes_on
 
 pub word_quiet : (target : Bool) (found : Option FileId) → word_stage target ≡ stage.Reply found → ⊥
 word_quiet true found e = cc
@@ -29,7 +29,7 @@ still_nothing : (p : AppState) (piece : List ℕ) → SaysNothing p → SaysNoth
 still_nothing p piece none = record { snapshots = none.snapshots; acked = none.acked }
 
 pub enters_word : {F R : Type 0} (g : ScriptFunctions F) (text : R → List ℕ) (site : SiteContent) (p : AppState) (piece : List ℕ) (target : Bool) (line : Line)
-    → SaysNothing p → HearsWord target line (p.input ++ piece) → CompactRepresent g text (compact.Receiving 0 target line) site (with_more p piece)
+    → SaysNothing p → ReceivesWord target line (p.input ++ piece) → CompactRepresent g text (compact.Receiving 0 target line) site (with_more p piece)
 enters_word g text site p piece true line quiet is = record { polls = refl; represented = (is, still_nothing p piece quiet) }
 enters_word g text site p piece false line quiet is = record { polls = refl; represented = (is, still_nothing p piece quiet) }
 

@@ -8,8 +8,8 @@ pub use Rattle.file_tree.specs.declared.file_id.FileId.{FileId}
 pub use Rattle.generators.specs.Prelude.{ScriptFunctions, capture_of, capture_text, script_functions, uip}
 pub use Rattle.generators.specs.declared.capture.Capture.{Capture}
 pub use Rattle.generators.specs.declared.capture.Capture.TheVariants.{Empty}
-pub use Rattle.httpd.specs.Compact.{CompactRepresent, HearsWord, is_target_stage, pages_kept, word_stage}
-pub use Rattle.httpd.specs.Hearing.{HasName, HearsMethod, HearsTarget, HearsTo, IsDecided, IsFileAsked}
+pub use Rattle.httpd.specs.Compact.{CompactRepresent, ReceivesWord, is_target_stage, pages_kept, word_stage}
+pub use Rattle.httpd.specs.Hearing.{HasName, ReceivesMethod, ReceivesTarget, ReceivesTo, IsDecided, IsFileAsked}
 pub use Rattle.httpd.specs.HttpdRepresents.{HttpdRepresents, IsLeft, IsReplying, PagesRepresent, SaysNothing, StandsIn}
 pub use Rattle.httpd.specs.Kept.{EndsCall, EndsDirective, EndsInclude, KeepsAll, KeepsDirective, KeepsOn}
 pub use Rattle.httpd.specs.Lemmas.SameLeft.{left_in, left_of_value}
@@ -22,7 +22,7 @@ pub use Rattle.httpd.specs.Saying.{IsDueReply, IsNotDue, left_text, left_whole, 
 pub use Rattle.httpd.specs.Web.{WebContent}
 pub use Rattle.httpd.specs.Zero.{IsAsked}
 pub use Rattle.httpd.specs.declared.compact.CompactPages.{CompactPages}
-pub use Rattle.httpd.specs.declared.hearing.Heard.{Heard}
+pub use Rattle.httpd.specs.declared.hearing.Received.{Received}
 pub use Rattle.httpd.specs.declared.httpd.Pages.{Pages}
 pub use Rattle.httpd.specs.declared.saying.Due.{Due}
 pub use Rattle.httpd.specs.declared.span.Look.{Look}

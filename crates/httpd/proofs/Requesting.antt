@@ -1,13 +1,13 @@
 -- The request line after one more piece.
-use Rattle.httpd.proofs.Prelude.{◌≡◌, ℕ, ◌+◌, ◌&&◌, true, false, not, List, ◌++◌, length, drop, codes, sym, ap, ◌∙◌, if◌then◌else◌, nat_eq, list_any, starts_with, bytes_eq, Space, SpaceOrLine, Line, after, fresh, delivered, is_stop, part_taken, word_of, after_method, has_ended, method_of, name_in, target_of, wanted, Name, Refused, after_more, ended_more, word_more, HasName, HearsMethod, HearsTarget, decided_by_target, other_method}
+use Rattle.httpd.proofs.Prelude.{◌≡◌, ℕ, ◌+◌, ◌&&◌, true, false, not, List, ◌++◌, length, drop, codes, sym, ap, ◌∙◌, if◌then◌else◌, nat_eq, list_any, starts_with, bytes_eq, Space, SpaceOrLine, Line, after, fresh, delivered, is_stop, part_taken, word_of, after_method, has_ended, method_of, name_in, target_of, wanted, Name, Refused, after_more, ended_more, word_more, HasName, ReceivesMethod, ReceivesTarget, decided_by_target, other_method}
 use Rattle.httpd.proofs.Words.{EndsHere, ends_here, prefix_of, get_heard, heard_more, path_heard, rest_of}
 
 -- ---- the first word
 
-method_holds : (old line : Line) (request piece : List ℕ) → HearsMethod old request → line ≡ after old piece → line ≡ delivered Space (request ++ piece)
+method_holds : (old line : Line) (request piece : List ℕ) → ReceivesMethod old request → line ≡ after old piece → line ≡ delivered Space (request ++ piece)
 method_holds old line request piece is e = e ∙ ap (λ l. after l piece) is.holds ∙ heard_more Space request piece
 
-pub method_goes_on : (old line : Line) (request piece : List ℕ) → HearsMethod old request → line ≡ after old piece → line.done ≡ false → HearsMethod line (request ++ piece)
+pub method_goes_on : (old line : Line) (request piece : List ℕ) → ReceivesMethod old request → line ≡ after old piece → line.done ≡ false → ReceivesMethod line (request ++ piece)
 method_goes_on old line request piece is e open_still =
     let holds : line ≡ delivered Space (request ++ piece) = method_holds old line request piece is e in
     record { goes_on = sym (ap (λ (l : Line). l.done) holds) ∙ open_still; holds = holds }
@@ -16,7 +16,7 @@ method_goes_on old line request piece is e open_still =
 is_get_reported : (line : Line) (bytes : List ℕ) → line ≡ delivered Space bytes → (not line.query && bytes_eq line.name (codes "GET")) ≡ bytes_eq (word_of Space bytes) (codes "GET")
 is_get_reported line bytes holds = ap (λ (l : Line). not l.query && bytes_eq l.name (codes "GET")) holds ∙ get_heard (word_of Space bytes)
 
-pub method_refused : (old line : Line) (request piece : List ℕ) → HearsMethod old request → line ≡ after old piece → line.done ≡ true → (not line.query && bytes_eq line.name (codes "GET")) ≡ false
+pub method_refused : (old line : Line) (request piece : List ℕ) → ReceivesMethod old request → line ≡ after old piece → line.done ≡ true → (not line.query && bytes_eq line.name (codes "GET")) ≡ false
     → wanted (request ++ piece) ≡ Refused
 method_refused old line request piece is e done other =
     let holds : line ≡ delivered Space (request ++ piece) = method_holds old line request piece is e in
@@ -24,7 +24,7 @@ method_refused old line request piece is e done other =
 
 -- the target begins after what was consumed
 pub record Begins (request piece : List ℕ) (count : ℕ) : Type 0 where
-  pub hears : HearsTarget (fresh SpaceOrLine) (request ++ prefix_of piece)
+  pub received : ReceivesTarget (fresh SpaceOrLine) (request ++ prefix_of piece)
   pub joined : (request ++ prefix_of piece) ++ drop count piece ≡ request ++ piece
 
 taken_of : (line : Line) (piece : List ℕ) → line.done ≡ false → line.stops ≡ Space → list_any (is_stop Space) piece ≡ true → part_taken line piece ≡ length (word_of Space piece) + 1
@@ -33,7 +33,7 @@ taken_of line piece open_still stops stop = λ i. if open_still i then 0 else le
     stop_at : list_any (is_stop line.stops) piece ≡ true
     stop_at = ap (λ s. list_any (is_stop s) piece) stops ∙ stop
 
-pub target_begins : (old line : Line) (request piece : List ℕ) (count : ℕ) → HearsMethod old request → line ≡ after old piece → count ≡ part_taken old piece → line.done ≡ true
+pub target_begins : (old line : Line) (request piece : List ℕ) (count : ℕ) → ReceivesMethod old request → line ≡ after old piece → count ≡ part_taken old piece → line.done ≡ true
     → (not line.query && bytes_eq line.name (codes "GET")) ≡ true → Begins request piece count
 target_begins old line request piece count is e size done get =
     let holds : line ≡ delivered Space (request ++ piece) = method_holds old line request piece is e in
@@ -43,7 +43,7 @@ target_begins old line request piece count is e size done get =
     let count_is : count ≡ length (word_of Space piece) + 1 =
     size ∙ taken_of old piece (ap (λ (l : Line). l.done) is.holds ∙ is.goes_on) (ap (λ (l : Line). l.stops) is.holds) stop in
     record {
-      hears = record {
+      received = record {
         method_ended = here.ended;
         method = ap (λ w. bytes_eq w (codes "GET")) here.method ∙ sym (is_get_reported line (request ++ piece) holds) ∙ get;
         goes_on = ap (has_ended SpaceOrLine) here.nothing;
@@ -59,7 +59,7 @@ record Goes (old line : Line) (request piece : List ℕ) : Type 0 where
   method : bytes_eq (method_of (request ++ piece)) (codes "GET") ≡ true
   holds : line ≡ delivered SpaceOrLine (after_method (request ++ piece))
 
-goes : (old line : Line) (request piece : List ℕ) → HearsTarget old request → line ≡ after old piece → Goes old line request piece
+goes : (old line : Line) (request piece : List ℕ) → ReceivesTarget old request → line ≡ after old piece → Goes old line request piece
 goes old line request piece is e = record {
   method_ended = ended_more Space request piece is.method_ended;
   method = ap (λ w. bytes_eq w (codes "GET")) (word_more Space request piece is.method_ended) ∙ is.method;
@@ -67,12 +67,12 @@ goes old line request piece is e = record {
       ∙ ap (delivered SpaceOrLine) (sym (after_more request piece is.method_ended));
 }
 
-pub target_goes_on : (old line : Line) (request piece : List ℕ) → HearsTarget old request → line ≡ after old piece → line.done ≡ false → HearsTarget line (request ++ piece)
+pub target_goes_on : (old line : Line) (request piece : List ℕ) → ReceivesTarget old request → line ≡ after old piece → line.done ≡ false → ReceivesTarget line (request ++ piece)
 target_goes_on old line request piece is e open_still =
     let g = goes old line request piece is e in
     record { method_ended = g.method_ended; method = g.method; goes_on = sym (ap (λ (l : Line). l.done) g.holds) ∙ open_still; holds = g.holds }
 
-decided : (old line : Line) (request piece : List ℕ) → HearsTarget old request → line ≡ after old piece → line.done ≡ true
+decided : (old line : Line) (request piece : List ℕ) → ReceivesTarget old request → line ≡ after old piece → line.done ≡ true
     → wanted (request ++ piece) ≡ (if starts_with nat_eq line.name (codes "/") then Name (name_in (target_of (request ++ piece))) else Refused)
 decided old line request piece is e done =
     let g = goes old line request piece is e in
@@ -80,12 +80,12 @@ decided old line request piece is e done =
     ∙ ap (λ b. if b then Name (name_in (target_of (request ++ piece))) else Refused)
     (sym (ap (λ (l : Line). starts_with nat_eq l.name (codes "/")) g.holds ∙ path_heard (target_of (request ++ piece))))
 
-pub target_named : (old line : Line) (request piece : List ℕ) → HearsTarget old request → line ≡ after old piece → line.done ≡ true → starts_with nat_eq line.name (codes "/") ≡ true → HasName line (request ++ piece)
+pub target_named : (old line : Line) (request piece : List ℕ) → ReceivesTarget old request → line ≡ after old piece → line.done ≡ true → starts_with nat_eq line.name (codes "/") ≡ true → HasName line (request ++ piece)
 target_named old line request piece is e done path = record {
   wanted = decided old line request piece is e done ∙ ap (λ b. if b then Name (name_in (target_of (request ++ piece))) else Refused) path;
   holds = (goes old line request piece is e).holds;
 }
 
-pub target_refused : (old line : Line) (request piece : List ℕ) → HearsTarget old request → line ≡ after old piece → line.done ≡ true → starts_with nat_eq line.name (codes "/") ≡ false → wanted (request ++ piece) ≡ Refused
+pub target_refused : (old line : Line) (request piece : List ℕ) → ReceivesTarget old request → line ≡ after old piece → line.done ≡ true → starts_with nat_eq line.name (codes "/") ≡ false → wanted (request ++ piece) ≡ Refused
 target_refused old line request piece is e done path =
     decided old line request piece is e done ∙ ap (λ b. if b then Name (name_in (target_of (request ++ piece))) else Refused) path

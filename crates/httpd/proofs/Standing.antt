@@ -112,8 +112,8 @@ reply_acked g text a site found p n u e fits kept history enough s =
 -- if nothing is sent, nothing can be acknowledged
 nothing_acked : {F R : Type 0} (g : ScriptFunctions F) (text : R → List ℕ) (a : Pages R) (site : SiteContent) (p : AppState) (n : ℕ) (s : Stage) → ((found : Option FileId) → s ≡ stage.Reply found → ⊥) → n ≡ 0 → StandsIn g text a site p s
     → StandsIn g text (record a { polls = 0 }) site (record p { acked = p.acked + n; polls = 0 }) s
-nothing_acked g text a site p n stage.Method never e (hears, none) = (hears, record { snapshots = none.snapshots; acked = omega (arith, none.acked, e) })
-nothing_acked g text a site p n stage.Target never e (hears, none) = (hears, record { snapshots = none.snapshots; acked = omega (arith, none.acked, e) })
+nothing_acked g text a site p n stage.Method never e (received, none) = (received, record { snapshots = none.snapshots; acked = omega (arith, none.acked, e) })
+nothing_acked g text a site p n stage.Target never e (received, none) = (received, record { snapshots = none.snapshots; acked = omega (arith, none.acked, e) })
 nothing_acked g text a site p n stage.Refused never e (refused, none) = (refused, record { snapshots = none.snapshots; acked = omega (arith, none.acked, e) })
 nothing_acked g text a site p n (stage.Reply found) never e represented = absurd (never found refl)
 

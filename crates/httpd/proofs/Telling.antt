@@ -1,5 +1,5 @@
 -- The states after a piece was delivered.
-use Rattle.httpd.proofs.Prelude.{◌≡◌, ℕ, ◌≤◌, List, ◌++◌, Option, None, Some, length, drop, refl, sym, ap, subst, ◌∙◌, arith, AppState, File, file_named, FileId, SiteContent, files_of, Wanted, wanted, Name, NotYet, Refused, ScriptFunctions, reply_pieces_by, reply_to_by, reach_by, text_by, hits_by, more_by, Pages, Stage, Head, FileReply, calls_in, found_file, left_from, reply_by, Fits, IsFound, KeepsDirective, HearsMethod, HearsTarget, IsDecided, PagesRepresent, IsLeft, IsReplying, SaysNothing, StandsIn}
+use Rattle.httpd.proofs.Prelude.{◌≡◌, ℕ, ◌≤◌, List, ◌++◌, Option, None, Some, length, drop, refl, sym, ap, subst, ◌∙◌, arith, AppState, File, file_named, FileId, SiteContent, files_of, Wanted, wanted, Name, NotYet, Refused, ScriptFunctions, reply_pieces_by, reply_to_by, reach_by, text_by, hits_by, more_by, Pages, Stage, Head, FileReply, calls_in, found_file, left_from, reply_by, Fits, IsFound, KeepsDirective, ReceivesMethod, ReceivesTarget, IsDecided, PagesRepresent, IsLeft, IsReplying, SaysNothing, StandsIn}
 use Rattle.httpd.specs.declared.stage.Stage.TheVariants as stage
 
 -- from the start of its head a reply generates its pieces
@@ -47,10 +47,10 @@ with_more p piece = record p { input = p.input ++ piece; polls = 0 }
 still_nothing : (p : AppState) (piece : List ℕ) → SaysNothing p → SaysNothing (with_more p piece)
 still_nothing p piece none = record { snapshots = none.snapshots; acked = none.acked }
 
-pub method_heard : {F R : Type 0} (g : ScriptFunctions F) (text : R → List ℕ) (a : Pages R) (site : SiteContent) (p : AppState) → a.stage ≡ stage.Method → PagesRepresent g text a site p → HearsMethod a.line p.input × SaysNothing p
+pub method_heard : {F R : Type 0} (g : ScriptFunctions F) (text : R → List ℕ) (a : Pages R) (site : SiteContent) (p : AppState) → a.stage ≡ stage.Method → PagesRepresent g text a site p → ReceivesMethod a.line p.input × SaysNothing p
 method_heard g text a site p e s = subst (λ st. StandsIn g text a site p st) e s.represented
 
-pub target_heard : {F R : Type 0} (g : ScriptFunctions F) (text : R → List ℕ) (a : Pages R) (site : SiteContent) (p : AppState) → a.stage ≡ stage.Target → PagesRepresent g text a site p → HearsTarget a.line p.input × SaysNothing p
+pub target_heard : {F R : Type 0} (g : ScriptFunctions F) (text : R → List ℕ) (a : Pages R) (site : SiteContent) (p : AppState) → a.stage ≡ stage.Target → PagesRepresent g text a site p → ReceivesTarget a.line p.input × SaysNothing p
 target_heard g text a site p e s = subst (λ st. StandsIn g text a site p st) e s.represented
 
 pub refused_heard : {F R : Type 0} (g : ScriptFunctions F) (text : R → List ℕ) (a : Pages R) (site : SiteContent) (p : AppState) → a.stage ≡ stage.Refused → PagesRepresent g text a site p → (wanted p.input ≡ Refused) × SaysNothing p

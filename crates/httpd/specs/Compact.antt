@@ -11,7 +11,7 @@ use Rattle.httpd.specs.declared.httpd.Pages.{Pages}
 use Rattle.httpd.specs.declared.stage.Stage.{Stage}
 use Rattle.httpd.specs.declared.stage.Stage.TheVariants as stage
 use Rattle.httpd.specs.declared.thread.Thread.TheVariants.{Head}
-use Rattle.httpd.specs.Hearing.{HearsMethod, HearsTarget}
+use Rattle.httpd.specs.Hearing.{ReceivesMethod, ReceivesTarget}
 use Rattle.httpd.specs.HttpdRepresents.{PagesRepresent}
 
 -- the stage while a word is received: the second, or the first
@@ -26,9 +26,9 @@ is_target_stage stage.Refused = false
 is_target_stage (stage.Reply found) = false
 
 -- what was received of the word, and of the one before it
-abbrev pub HearsWord : Bool → Line → List ℕ → Type 0
-HearsWord true = HearsTarget
-HearsWord false = HearsMethod
+abbrev pub ReceivesWord : Bool → Line → List ℕ → Type 0
+ReceivesWord true = ReceivesTarget
+ReceivesWord false = ReceivesMethod
 
 abbrev pub polls_of : {R : Type 0} → CompactPages R → ℕ
 polls_of (compact.Receiving polls target line) = polls

@@ -3,7 +3,7 @@ use Rattle.std.specs.Prelude.{◌≡◌, ℕ, false, true, List, codes, Option}
 use Rattle.std.specs.Str.{bytes_eq}
 use Rattle.protosocket.specs.declared.stops.Stops.TheVariants.{Space, SpaceOrLine}
 use Rattle.protosocket.specs.Prelude.{Line}
-use Rattle.protosocket.specs.Line.{delivered as heard_line}
+use Rattle.protosocket.specs.Line.{delivered as received_line}
 use Rattle.web_pages.specs.Prelude.{Wanted, wanted, has_ended, method_of, after_method, name_in, target_of, Refused, Name}
 use Rattle.site_image.specs.Prelude.{File, file_named}
 use Rattle.file_tree.specs.declared.file_id.FileId.{FileId}
@@ -11,25 +11,25 @@ use Rattle.httpd.specs.declared.stage.Stage.{Stage}
 use Rattle.httpd.specs.declared.stage.Stage.TheVariants as stage
 use Rattle.httpd.specs.Reply.{found_file}
 use Rattle.httpd.specs.Places.{IsFound}
-use Rattle.httpd.specs.declared.hearing.Heard.{Heard}
-use Rattle.httpd.specs.declared.hearing.Heard.TheVariants as delivered
+use Rattle.httpd.specs.declared.hearing.Received.{Received}
+use Rattle.httpd.specs.declared.hearing.Received.TheVariants as delivered
 
 -- The first word has not ended, and the buffer keeps it.
-pub record HearsMethod (line : Line) (request : List ℕ) : Type 0 where
+pub record ReceivesMethod (line : Line) (request : List ℕ) : Type 0 where
   pub goes_on : has_ended Space request ≡ false
-  pub holds : line ≡ heard_line Space request
+  pub holds : line ≡ received_line Space request
 
 -- The first word was `GET`, the second has not ended, and the buffer keeps it.
-pub record HearsTarget (line : Line) (request : List ℕ) : Type 0 where
+pub record ReceivesTarget (line : Line) (request : List ℕ) : Type 0 where
   pub method_ended : has_ended Space request ≡ true
   pub method : bytes_eq (method_of request) (codes "GET") ≡ true
   pub goes_on : has_ended SpaceOrLine (after_method request) ≡ false
-  pub holds : line ≡ heard_line SpaceOrLine (after_method request)
+  pub holds : line ≡ received_line SpaceOrLine (after_method request)
 
 -- A name is requested, and the buffer keeps its target.
 pub record HasName (line : Line) (request : List ℕ) : Type 0 where
   pub wanted : wanted request ≡ Name (name_in (target_of request))
-  pub holds : line ≡ heard_line SpaceOrLine (after_method request)
+  pub holds : line ≡ received_line SpaceOrLine (after_method request)
 
 -- If a name is requested, the file found is the one with that name.
 pub record IsFileAsked (files : List File) (asked : Wanted) (found : Option FileId) : Type 0 where
@@ -39,15 +39,15 @@ pub record IsFileAsked (files : List File) (asked : Wanted) (found : Option File
   pub file : found_file files found ≡ file_named files name
 
 -- what was received of a request
-abbrev pub HearsTo : Heard → Line → List ℕ → Type 0
-HearsTo delivered.Method line request = HearsMethod line request
-HearsTo delivered.Target line request = HearsTarget line request
-HearsTo delivered.Named line request = HasName line request
-HearsTo delivered.Refused line request = wanted request ≡ Refused
+abbrev pub ReceivesTo : Received → Line → List ℕ → Type 0
+ReceivesTo delivered.Method line request = ReceivesMethod line request
+ReceivesTo delivered.Target line request = ReceivesTarget line request
+ReceivesTo delivered.Named line request = HasName line request
+ReceivesTo delivered.Refused line request = wanted request ≡ Refused
 
 -- the stage of a request
 abbrev pub IsDecided : List File → Line → List ℕ → Stage → Type 0
-IsDecided files line request stage.Method = HearsMethod line request
-IsDecided files line request stage.Target = HearsTarget line request
+IsDecided files line request stage.Method = ReceivesMethod line request
+IsDecided files line request stage.Target = ReceivesTarget line request
 IsDecided files line request stage.Refused = wanted request ≡ Refused
 IsDecided files line request (stage.Reply found) = IsFileAsked files (wanted request) found

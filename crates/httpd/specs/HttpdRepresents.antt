@@ -15,7 +15,7 @@ use Rattle.httpd.specs.declared.thread.Thread.{Thread}
 use Rattle.httpd.specs.Reply.{FileReply, calls_in, found_file, left_from, reply_by}
 use Rattle.httpd.specs.Places.{IsFound, Fits}
 use Rattle.httpd.specs.Kept.{KeepsDirective}
-use Rattle.httpd.specs.Hearing.{HearsMethod, HearsTarget}
+use Rattle.httpd.specs.Hearing.{ReceivesMethod, ReceivesTarget}
 
 -- the pieces of the page of a name
 abbrev pub page_pieces : {F : Type 0} → FileReply F → List ℕ → List (Say F)
@@ -49,8 +49,8 @@ pub record SaysNothing (part : AppState) : Type 0 where
 
 -- The state by the stage of the request.
 abbrev pub StandsIn : {F R : Type 0} → ScriptFunctions F → (R → List ℕ) → Pages R → SiteContent → AppState → Stage → Type 0
-StandsIn g text a site part stage.Method = HearsMethod a.line part.input × SaysNothing part
-StandsIn g text a site part stage.Target = HearsTarget a.line part.input × SaysNothing part
+StandsIn g text a site part stage.Method = ReceivesMethod a.line part.input × SaysNothing part
+StandsIn g text a site part stage.Target = ReceivesTarget a.line part.input × SaysNothing part
 StandsIn g text a site part (stage.Reply found) = (name : List ℕ) × IsReplying g text a site name found part
 StandsIn g text a site part stage.Refused = (wanted part.input ≡ Refused) × SaysNothing part
 

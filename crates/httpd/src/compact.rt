@@ -6,11 +6,11 @@ ghost use Rattle.app_events.specs.declared.now.Now.{Now};
 ghost use Rattle.file_tree.specs.Prelude.{SiteContent, files_of};
 ghost use Rattle.generators.specs.Prelude.{script_functions};
 ghost use Rattle.web_pages.specs.Prelude.{wanted, NotYet, hits_by, web_spec_by, web_want_by};
-ghost use Rattle.httpd.specs.Compact.{CompactRepresent, HearsWord, is_target_stage, polls_of, with_polls};
+ghost use Rattle.httpd.specs.Compact.{CompactRepresent, ReceivesWord, is_target_stage, polls_of, with_polls};
 ghost use Rattle.httpd.specs.Hearing.{IsDecided};
 ghost use Rattle.httpd.specs.Web.{IsCounted};
 
-use crate::hearing::{decide, hear_method, hear_target};
+use crate::hearing::{decide, receive_method, receive_target};
 use crate::saying::{acked_reply, due_call, fill_reply, want_reply};
 use crate::stage::Stage;
 use crate::texts::is_scripted;
@@ -53,15 +53,15 @@ fn receive<B: Image>(
     piece: &[u8],
 ) -> Stage
     requires counted { IsCounted site.now hits.old }
-    ensures stage { (request : List ℕ) → HearsWord target line.old request
+    ensures stage { (request : List ℕ) → ReceivesWord target line.old request
         → IsDecided (files_of site.now) line.new (request ++ piece.now) result }
-    ensures hits { (request : List ℕ) → HearsWord target line.old request
+    ensures hits { (request : List ℕ) → ReceivesWord target line.old request
         → hits.new ≡ hits_by (files_of site.now) hits.old NotYet (wanted (request ++ piece.now)) }
 {
     let delivered = if target {
-        hear_target(line, piece)
+        receive_target(line, piece)
     } else {
-        hear_method(line, piece)
+        receive_method(line, piece)
     };
     decide(site, hits, line, delivered)
 }
@@ -113,7 +113,7 @@ impl<R: CallRecord> CompactPages<R> {
     }
 
     /// Delivers the next bytes from the peer, and counts a hit of the file that they request.
-    pub fn hear<B: Image>(&mut self, site: &SiteOf<B>, hits: &mut [u32], piece: &[u8])
+    pub fn take_piece<B: Image>(&mut self, site: &SiteOf<B>, hits: &mut [u32], piece: &[u8])
         requires counted { IsCounted site.now hits.old }
         ensures part { let represented = CompactRepresent (script_functions R.Function.calling R.output) R.text in
             (p : AppState) → represented self.old site.now p

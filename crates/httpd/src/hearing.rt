@@ -8,7 +8,7 @@ ghost use Rattle.site_image.specs.Prelude.{file_named};
 ghost use Rattle.protosocket.specs.declared.stops.Stops.TheVariants.{SpaceOrLine};
 ghost use Rattle.protosocket.specs.Prelude.{after, delivered, part_taken, word_of};
 ghost use Rattle.web_pages.specs.Prelude.{place_of, name_in, wanted, NotYet, hits_by};
-ghost use Rattle.httpd.specs.Hearing.{HearsMethod, HearsTarget, HearsTo, IsDecided};
+ghost use Rattle.httpd.specs.Hearing.{ReceivesMethod, ReceivesTarget, ReceivesTo, IsDecided};
 ghost use Rattle.httpd.specs.Places.{IsFound};
 ghost use Rattle.httpd.specs.Reply.{found_file};
 ghost use Rattle.httpd.specs.Web.{IsCounted};
@@ -21,7 +21,7 @@ use protosocket::{LineIn, Stops};
 use protothread::Hears;
 
 /// How much of a request line was received.
-pub(crate) enum Heard {
+pub(crate) enum Received {
     /// The first word is not complete.
     Method,
     /// The second word is not complete.
@@ -42,32 +42,32 @@ fn feed(line: &mut LineIn, piece: &[u8]) -> usize
 }
 
 /// Feeds a piece to the first word.
-pub(crate) fn hear_method(line: &mut LineIn, piece: &[u8]) -> Heard
-    ensures { (request : List ℕ) → HearsMethod line.old request → HearsTo result line.new (request ++ piece.now) }
+pub(crate) fn receive_method(line: &mut LineIn, piece: &[u8]) -> Received
+    ensures { (request : List ℕ) → ReceivesMethod line.old request → ReceivesTo result line.new (request ++ piece.now) }
 {
     let count = feed(line, piece);
     if !line.done() {
-        return Heard::Method;
+        return Received::Method;
     }
     if !is_get(line) {
-        return Heard::Refused;
+        return Received::Refused;
     }
     *line = LineIn::new(Stops::SpaceOrLine);
-    hear_target(line, &piece[count..])
+    receive_target(line, &piece[count..])
 }
 
 /// Feeds a piece to the second word.
-pub(crate) fn hear_target(line: &mut LineIn, piece: &[u8]) -> Heard
-    ensures { (request : List ℕ) → HearsTarget line.old request → HearsTo result line.new (request ++ piece.now) }
+pub(crate) fn receive_target(line: &mut LineIn, piece: &[u8]) -> Received
+    ensures { (request : List ℕ) → ReceivesTarget line.old request → ReceivesTo result line.new (request ++ piece.now) }
 {
     line.feed(piece);
     if !line.done() {
-        return Heard::Target;
+        return Received::Target;
     }
     if is_path(line) {
-        Heard::Named
+        Received::Named
     } else {
-        Heard::Refused
+        Received::Refused
     }
 }
 
@@ -119,18 +119,18 @@ pub(crate) fn decide<B: Image>(
     site: &SiteOf<B>,
     hits: &mut [u32],
     line: &LineIn,
-    delivered: Heard,
+    delivered: Received,
 ) -> Stage
     requires counted { IsCounted site.now hits.old }
-    ensures stage { (request : List ℕ) → HearsTo delivered line.now request → IsDecided (files_of site.now) line.now request result }
-    ensures hits { (request : List ℕ) → HearsTo delivered line.now request
+    ensures stage { (request : List ℕ) → ReceivesTo delivered line.now request → IsDecided (files_of site.now) line.now request result }
+    ensures hits { (request : List ℕ) → ReceivesTo delivered line.now request
         → hits.new ≡ hits_by (files_of site.now) hits.old NotYet (wanted request) }
 {
     match delivered {
-        Heard::Method => Stage::Method,
-        Heard::Target => Stage::Target,
-        Heard::Refused => Stage::Refused,
-        Heard::Named => {
+        Received::Method => Stage::Method,
+        Received::Target => Stage::Target,
+        Received::Refused => Stage::Refused,
+        Received::Named => {
             let found = file_asked(site, line);
             hit(hits, found);
             Stage::Reply { found }

@@ -9,7 +9,7 @@ ghost use Rattle.web_pages.specs.declared.TheConstants.{MOST_POLLS};
 ghost use Rattle.httpd.specs.HttpdRepresents.{Becomes, PagesRepresent, TakesNoCapture, before_input, hits_after};
 ghost use Rattle.httpd.specs.Web.{IsCounted};
 
-use crate::hearing::{decide, hear_method, hear_target};
+use crate::hearing::{decide, receive_method, receive_target};
 use crate::saying::{acked_reply, due_call, fill_reply, want_reply};
 use crate::stage::Stage;
 use crate::texts::is_scripted;
@@ -54,7 +54,7 @@ impl<R: CallRecord> Pages<R> {
     }
 
     /// Delivers the next bytes from the peer, and counts a hit of the file that they request.
-    pub fn hear<B: Image>(&mut self, site: &SiteOf<B>, hits: &mut [u32], piece: &[u8])
+    pub fn take_piece<B: Image>(&mut self, site: &SiteOf<B>, hits: &mut [u32], piece: &[u8])
         requires counted { IsCounted site.now hits.old }
         ensures part { Becomes (PagesRepresent (script_functions R.Function.calling R.output) R.text) site.now
             (λ p. record p { input = p.input ++ piece.now; polls = 0 }) self.old self.new }
@@ -64,12 +64,12 @@ impl<R: CallRecord> Pages<R> {
         self.polls = 0;
         match self.stage {
             Stage::Method => {
-                let delivered = hear_method(&mut self.line, piece);
+                let delivered = receive_method(&mut self.line, piece);
                 self.stage = decide(site, hits, &self.line, delivered);
                 self.thread = Thread::Head { at: 0 };
             }
             Stage::Target => {
-                let delivered = hear_target(&mut self.line, piece);
+                let delivered = receive_target(&mut self.line, piece);
                 self.stage = decide(site, hits, &self.line, delivered);
                 self.thread = Thread::Head { at: 0 };
             }
@@ -201,7 +201,7 @@ impl App for Httpd {
     }
 
     fn newdata(&mut self, shared: &mut Web, piece: &[u8]) {
-        self.hear(&shared.site, &mut shared.hits, piece);
+        self.take_piece(&shared.site, &mut shared.hits, piece);
     }
 
     fn is_due(&self, shared: &Web) -> bool {

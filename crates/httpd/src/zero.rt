@@ -3,7 +3,7 @@
 ghost use Rattle.std.specs.Prelude.{◌≡◌, ◌++◌, List, ℕ, codes, length};
 ghost use Rattle.file_tree.specs.Prelude.{files_of};
 ghost use Rattle.web_pages.specs.Prelude.{wanted, request_for, zero_snapshot, zero_page, zero_reply};
-ghost use Rattle.httpd.specs.Hearing.{HearsTarget};
+ghost use Rattle.httpd.specs.Hearing.{ReceivesTarget};
 ghost use Rattle.httpd.specs.Looking.{SpanFits, span_text};
 ghost use Rattle.httpd.specs.Places.{IsFound};
 ghost use Rattle.generators.specs.Prelude.{capture_text};
@@ -11,7 +11,7 @@ ghost use Rattle.httpd.specs.Reply.{found_file};
 ghost use Rattle.httpd.specs.Zero.{IsAsked};
 ghost use Rattle.uip_edge.specs.Prelude.{Writes, sink_view};
 
-use crate::hearing::{Heard, file_asked, hear_target};
+use crate::hearing::{Received, file_asked, receive_target};
 use crate::looking::look;
 use crate::span::{Span, span_len, write_span};
 use crate::texts::LONGEST_TEXT;
@@ -40,21 +40,21 @@ fn asked(site: &Site, target: &[u8]) -> Option<Option<FileId>>
     ensures { IsAsked (files_of site.now) (wanted (request_for target.now)) result }
 {
     let mut line = LineIn::new(Stops::SpaceOrLine);
-    match hear_target(&mut line, target) {
-        Heard::Target => ended(site, line),
-        Heard::Named => Some(file_asked(site, &line)),
-        Heard::Method => None,
-        Heard::Refused => None,
+    match receive_target(&mut line, target) {
+        Received::Target => ended(site, line),
+        Received::Named => Some(file_asked(site, &line)),
+        Received::Method => None,
+        Received::Refused => None,
     }
 }
 
 /// The same for a target that ends with the line.
 fn ended(site: &Site, mut line: LineIn) -> Option<Option<FileId>>
-    ensures { (request : List ℕ) → HearsTarget line request → IsAsked (files_of site.now) (wanted (request ++ codes "\n")) result }
+    ensures { (request : List ℕ) → ReceivesTarget line request → IsAsked (files_of site.now) (wanted (request ++ codes "\n")) result }
 {
-    match hear_target(&mut line, b"\n") {
-        Heard::Named => Some(file_asked(site, &line)),
-        Heard::Method | Heard::Target | Heard::Refused => None,
+    match receive_target(&mut line, b"\n") {
+        Received::Named => Some(file_asked(site, &line)),
+        Received::Method | Received::Target | Received::Refused => None,
     }
 }
 

@@ -67,22 +67,22 @@ pub record Did (step : ClientStep) (after : AbstractClient) (answer : Option ℕ
   pub sent : Sends after.setup step.sent answer area
 
 -- What a client receives in a datagram: a segment of its server, or nothing.
-abbrev pub heard_in : Setup → IpHead → List ℕ → Result Segment TcpFate → Option PlainSegment
-heard_in setup head bytes (Ok s) =
+abbrev pub received_in : Setup → IpHead → List ℕ → Result Segment TcpFate → Option PlainSegment
+received_in setup head bytes (Ok s) =
     if bytes_eq head.source.0 setup.server.0 && ((s.from.0 == setup.server_port.0) && (s.to.0 == setup.port.0)) then Some (plain_of s bytes)
     else None
-heard_in setup head bytes (Err fate) = None
+received_in setup head bytes (Err fate) = None
 
-abbrev pub heard_by_proto : Proto → Setup → IpHead → List ℕ → Option PlainSegment
-heard_by_proto Icmp setup head bytes = None
-heard_by_proto Tcp setup head bytes = heard_in setup head bytes (segment_or_fate head bytes)
+abbrev pub received_by_proto : Proto → Setup → IpHead → List ℕ → Option PlainSegment
+received_by_proto Icmp setup head bytes = None
+received_by_proto Tcp setup head bytes = received_in setup head bytes (segment_or_fate head bytes)
 
-abbrev pub heard_by_head : Setup → List ℕ → Result IpHead IpFate → Option PlainSegment
-heard_by_head setup bytes (Ok head) = heard_by_proto head.proto setup head bytes
-heard_by_head setup bytes (Err fate) = None
+abbrev pub received_by_head : Setup → List ℕ → Result IpHead IpFate → Option PlainSegment
+received_by_head setup bytes (Ok head) = received_by_proto head.proto setup head bytes
+received_by_head setup bytes (Err fate) = None
 
-abbrev pub client_hears : Setup → List ℕ → Option PlainSegment
-client_hears setup bytes = heard_by_head setup bytes (head_or_fate bytes setup.addr.0)
+abbrev pub client_receives : Setup → List ℕ → Option PlainSegment
+client_receives setup bytes = received_by_head setup bytes (head_or_fate bytes setup.addr.0)
 
 -- the step on a datagram
 abbrev pub client_hands : AbstractClient → Option PlainSegment → ClientStep

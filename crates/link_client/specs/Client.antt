@@ -117,8 +117,8 @@ sends_next owed c =
     else keeps c
 
 -- what is outstanding is acknowledged if the number is its next own one
-abbrev pub hears_ack : AbstractClient → PlainSegment → AbstractClient
-hears_ack c s =
+abbrev pub receives_ack : AbstractClient → PlainSegment → AbstractClient
+receives_ack c s =
     if has_ack s.flags && (has_outstanding c && (s.ack == next_own c))
     then record c { acked = c.acked + c.out; out = 0; fin = (if fin_out c.fin then FinAt.Acked else c.fin) }
     else c
@@ -158,7 +158,7 @@ takes_by Reset c s = keeps c
 takes_by Opening c s =
     if has_syn s.flags && (has_ack s.flags && (s.ack == wrap (own_first c + 1))) then sends_next true (opened_by c s)
     else keeps c
-takes_by _ c s = takes_in_order (hears_ack c s) s
+takes_by _ c s = takes_in_order (receives_ack c s) s
 
 -- the step on a segment of the server
 unfoldable pub client_takes : AbstractClient → PlainSegment → ClientStep

@@ -2,12 +2,12 @@
 
 ghost use Rattle.std.specs.Prelude.{◌≡◌, ◌+◌, ◌≤◌, ◌++◌, ◌&&◌, ℕ, [], List, Some, is_some, length, slice_range};
 ghost use Rattle.link_client.specs.Calls.{Did, FitsRequest, KeepsAfter, can_abort, has_more_to_send};
-ghost use Rattle.link_client.specs.Calls.{has_spoken, client_hears, is_opened, standing, client_hands};
+ghost use Rattle.link_client.specs.Calls.{has_spoken, client_receives, is_opened, standing, client_hands};
 ghost use Rattle.link_client.specs.Client.{client_aborts, client_again, client_closes, client_opens, idle, advertises_window};
 
 use crate::client_state::ClientState;
 use crate::fin_at::FinAt;
-use crate::hearing::hear;
+use crate::hearing::receive;
 use crate::setup::Setup;
 use crate::steps::took;
 use crate::took::Took;
@@ -104,10 +104,10 @@ impl Client {
         ensures inside { result.fresh_at + result.fresh_len ≤ length datagram.now }
         ensures none { result.fresh_len ≡ 0 → result.fresh_at ≡ 0 }
         ensures step { (received : List ℕ) → Did (client_hands (standing self.old request.now received)
-            (client_hears self.old.setup datagram.now)) (standing self.new request.now
+            (client_receives self.old.setup datagram.now)) (standing self.new request.now
             (received ++ slice_range datagram.now result.fresh_at (result.fresh_at + result.fresh_len))) result.sent area.new }
     {
-        let Some(segment) = hear(&self.setup, datagram) else {
+        let Some(segment) = receive(&self.setup, datagram) else {
             return Took {
                 sent: None,
                 fresh_at: 0,

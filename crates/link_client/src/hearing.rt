@@ -3,7 +3,7 @@
 ghost use Rattle.std.specs.Prelude.{◌≡◌, ◌+◌, ◌≤◌, ◌==◌, ◌&&◌, IfSome, length, option_map};
 ghost use Rattle.tcp_segment.specs.Prelude.{plain_of};
 ghost use Rattle.std.specs.Prelude.{bytes_eq};
-ghost use Rattle.link_client.specs.Prelude.{client_hears};
+ghost use Rattle.link_client.specs.Prelude.{client_receives};
 
 use crate::setup::Setup;
 use tcp_segment::Segment;
@@ -19,8 +19,8 @@ fn is_of(setup: &Setup, source: Addr, segment: &Segment) -> bool
 }
 
 /// Returns the segment of its server in a datagram, if it is one.
-pub(crate) fn hear(setup: &Setup, datagram: &[u8]) -> Option<Segment>
-    ensures delivered { option_map (λ segment. plain_of segment datagram.now) result ≡ client_hears setup.now datagram.now }
+pub(crate) fn receive(setup: &Setup, datagram: &[u8]) -> Option<Segment>
+    ensures delivered { option_map (λ segment. plain_of segment datagram.now) result ≡ client_receives setup.now datagram.now }
     ensures inside { IfSome result (λ segment. segment.text_at + segment.text_len ≤ length datagram.now) }
 {
     let Ok(head) = uip_ipv4::check(datagram, setup.addr) else {

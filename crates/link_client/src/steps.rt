@@ -5,7 +5,7 @@ ghost use Rattle.std.specs.Prelude.{nat_lt, ℕ, [], List, true, if◌then◌els
 ghost use Rattle.tcp_segment.specs.Prelude.{plain_of};
 ghost use Rattle.tcp_machine.specs.Prelude.{occupies_sequence_space, plain};
 ghost use Rattle.link_client.specs.Calls.{Did, DidAtText, FitsRequest, KeepsAfter, has_more_to_send, received_with, standing};
-ghost use Rattle.link_client.specs.Client.{after_fin, client_takes, fin_out, fin_sent, hears_ack, is_receiving, is_reset_by};
+ghost use Rattle.link_client.specs.Client.{after_fin, client_takes, fin_out, fin_sent, receives_ack, is_receiving, is_reset_by};
 ghost use Rattle.link_client.specs.Client.{may_finish, sends_next, takes_by, takes_in_order, takes_text, has_outstanding};
 
 use crate::client::Client;
@@ -17,7 +17,7 @@ use uip_wire::LARGEST_DATAGRAM;
 
 /// What a client did with a segment.
 #[derive(Clone, Copy, Debug, PartialEq, Eq)]
-pub(crate) struct Heard {
+pub(crate) struct Received {
     /// The length of the datagram that it sends.
     pub sent: Option<usize>,
     /// The segment's text was accepted.
@@ -25,10 +25,10 @@ pub(crate) struct Heard {
 }
 
 /// Returns that the text was not accepted.
-fn without_text(sent: Option<usize>) -> Heard
+fn without_text(sent: Option<usize>) -> Received
     ensures { result ≡ record { sent = sent; took_text = false } }
 {
-    Heard {
+    Received {
         sent,
         took_text: false,
     }
@@ -44,7 +44,7 @@ struct Accepted {
 }
 
 /// Returns what was sent, and the range of the text in its datagram if it was accepted.
-pub(crate) fn took(segment: &Segment, delivered: Heard) -> Took
+pub(crate) fn took(segment: &Segment, delivered: Received) -> Took
     ensures sent { result.sent ≡ delivered.sent }
     ensures inside { result.fresh_at + result.fresh_len ≤ segment.now.text_at + segment.now.text_len }
     ensures none { result.fresh_len ≡ 0 → result.fresh_at ≡ 0 }
@@ -66,7 +66,7 @@ pub(crate) fn took(segment: &Segment, delivered: Heard) -> Took
 }
 
 /// Returns the FIN's progress after its acknowledgement: a FIN that was sent is now acknowledged.
-fn fin_heard(fin: FinAt) -> FinAt
+fn fin_received(fin: FinAt) -> FinAt
     ensures { result ≡ (if fin_out fin then FinAt.Acked else fin) }
 {
     match fin {
@@ -160,18 +160,18 @@ impl Client {
     }
 
     /// Records that what is outstanding is acknowledged, if the number is its next own one.
-    fn hear_ack(&mut self, segment: &Segment)
+    fn receive_ack(&mut self, segment: &Segment)
         requires fits { self.old.acked + self.old.out ≤ 4096 }
         ensures setup { self.new.setup ≡ self.old.setup }
         ensures state { self.new.state ≡ self.old.state }
         ensures fits { (request : List ℕ) → FitsRequest self.old request → FitsRequest self.new request }
         ensures delivered { (request received text : List ℕ)
-            → hears_ack (standing self.old request received) (plain segment.now text) ≡ standing self.new request received }
+            → receives_ack (standing self.old request received) (plain segment.now text) ≡ standing self.new request received }
     {
         if segment.has_ack() && self.waits_for_ack() && segment.ack.0 == self.next_own().0 {
             self.acked += u32::from(self.out);
             self.out = 0;
-            self.fin = fin_heard(self.fin);
+            self.fin = fin_received(self.fin);
         }
     }
 
@@ -280,7 +280,7 @@ impl Client {
         segment: &Segment,
         piece: &[u8],
         area: &mut [u8],
-    ) -> Heard
+    ) -> Received
         requires fits { FitsRequest self.old request.now }
         requires short { length piece.now ≤ LARGEST_DATAGRAM }
         requires room { LARGEST_DATAGRAM ≤ length area.old }
@@ -299,9 +299,9 @@ impl Client {
             ClientState::Opening => without_text(self.take_opening(request, segment, area)),
             ClientState::Opened | ClientState::Closing | ClientState::Closed | ClientState::Ended =>
                 {
-                    self.hear_ack(segment);
+                    self.receive_ack(segment);
                     let accepted = self.accept(segment, piece);
-                    Heard {
+                    Received {
                         sent: self.send_next(request, accepted.owed, area),
                         took_text: accepted.took_text,
                     }

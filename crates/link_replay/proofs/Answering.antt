@@ -290,7 +290,7 @@ module _ (files : List File) (request : List ℕ) (decided : wanted request ≢ 
     pub answers : AnswersIn (web_spec files) request mss (fine waited) left (texts_for mss wanted_pieces)
     answers = record {
       starts = λ hits port. (as_fine (record { port = port; input = []; snapshots = []; acked = 0; polls = 0; own = 0 }) (omega arith) (omega arith), counted_all files mss some wanted_pieces);
-      hears = λ hits p piece rest f joined. (
+      delivers_text = λ hits p piece rest f joined. (
         as_fine (record p { input = p.input ++ piece; polls = 0 }) (omega arith)
             (let h = prefix_length (page files p.input p.snapshots) (page files (p.input ++ piece) p.snapshots) (newdata_grows uip files p piece) in omega (arith, (is_fine p f).acked, h)),
         omega arith,

@@ -1,7 +1,7 @@
 -- Giving up and closing never meet at a connection of the web server.
 -- [add: function] Function: a text that may be empty.
 -- [add: state] State: whether the node can give up in it.
-use Rattle.link_replay.proofs.Prelude.{◌≡◌, ℕ, zero, suc, ◌+◌, ◌-◌, ◌<◌, Bool, true, false, not, ◌&&◌, List, [], ◌∷◌, ◌++◌, length, length-append, replicate, set, refl, sym, ap, ◌∙◌, subst, arith, eqb, eq-eqb, ltb, Some, slice_get, decimal, flat_map, length-replicate, and-false, PlainSegment, has_fin, has_rst, Beat, Function, FileStats, TcpConnections, NetStats, Ticks, Unknown, AppState, After, Snapshot, AppSpec, Now, Row, State, Closed, SynRcvd, Established, CloseWait, FinWait1, FinWait2, Closing, TimeWait, LastAck, counter_line, in_ten_places, row_parts, row_text, File, Connection, Sockets, closed, is_live, rows_from, Outcome, after_own_fin, asked, asked_for, closes, does_as_wanted, idles, peer_has_closed, prepared, accepted, by_state, fin_acked, fin_waits, stays_established, has_text, hears, in_established, is_acked, is_out_of_order, on_segment, peer_closes, rests, with_part, by_beat, on_tick, outstanding, Step, Event, AbstractNode, snapshot, hits_of, is_page_whole, made_text, page, page_for, page_text, reach_end, whole_for, Say, reply_pieces, Plain, Made, Wanted, wanted, NotYet, Refused, Name, is_acknowledged, left_of, waits_for_capture, web_spec, web_want, MOST_POLLS, and_true, choose, eqb-eq, ltb-zero, not-true, by_own_fin, on_tick_by, every, AbortAndCloseApart, ClosesInTime, is_at_end}
+use Rattle.link_replay.proofs.Prelude.{◌≡◌, ℕ, zero, suc, ◌+◌, ◌-◌, ◌<◌, Bool, true, false, not, ◌&&◌, List, [], ◌∷◌, ◌++◌, length, length-append, replicate, set, refl, sym, ap, ◌∙◌, subst, arith, eqb, eq-eqb, ltb, Some, slice_get, decimal, flat_map, length-replicate, and-false, PlainSegment, has_fin, has_rst, Beat, Function, FileStats, TcpConnections, NetStats, Ticks, Unknown, AppState, After, Snapshot, AppSpec, Now, Row, State, Closed, SynRcvd, Established, CloseWait, FinWait1, FinWait2, Closing, TimeWait, LastAck, counter_line, in_ten_places, row_parts, row_text, File, Connection, Sockets, closed, is_live, rows_from, Outcome, after_own_fin, asked, asked_for, closes, does_as_wanted, idles, peer_has_closed, prepared, accepted, by_state, fin_acked, fin_waits, stays_established, has_text, delivers_text, in_established, is_acked, is_out_of_order, on_segment, peer_closes, rests, with_part, by_beat, on_tick, outstanding, Step, Event, AbstractNode, snapshot, hits_of, is_page_whole, made_text, page, page_for, page_text, reach_end, whole_for, Say, reply_pieces, Plain, Made, Wanted, wanted, NotYet, Refused, Name, is_acknowledged, left_of, waits_for_capture, web_spec, web_want, MOST_POLLS, and_true, choose, eqb-eq, ltb-zero, not-true, by_own_fin, on_tick_by, every, AbortAndCloseApart, ClosesInTime, is_at_end}
 
 -- ---- the text of a capture is never empty
 
@@ -136,11 +136,11 @@ module _ (files : List File) where
       wanted_apart fresh (prepared m now o.connection o.numbers) o.numbers (prepared_apart o.numbers o.connection.part now (g.seen o.connection h.0) h.1)
   asked_apart at g o _ h = h
 
-  heard_apart : (numbers : List ℕ) (p : AppState) (text : List ℕ) → Apart p → Apart (hears m numbers p text).part
+  heard_apart : (numbers : List ℕ) (p : AppState) (text : List ℕ) → Apart p → Apart (delivers_text m numbers p text).part
   heard_apart numbers p [] h = h
-  heard_apart numbers p (x ∷ xs) h = moved_apart (hears m numbers p (x ∷ xs)).part refl
+  heard_apart numbers p (x ∷ xs) h = moved_apart (delivers_text m numbers p (x ∷ xs)).part refl
 
-  nothing_heard : (numbers : List ℕ) (p : AppState) (text : List ℕ) → ltb 0 (length text) ≡ false → is_at_end files p ≡ false → is_at_end files (hears m numbers p text).part ≡ false
+  nothing_heard : (numbers : List ℕ) (p : AppState) (text : List ℕ) → ltb 0 (length text) ≡ false → is_at_end files p ≡ false → is_at_end files (delivers_text m numbers p text).part ≡ false
   nothing_heard numbers p [] e h = h
   nothing_heard numbers p (x ∷ xs) e h = absurd (not_silent x xs e)
 

@@ -1,5 +1,5 @@
 -- A delivery passes on the bytes of a datagram, once its client has recorded it.
-use Rattle.link_replay.proofs.Prelude.{◌≡◌, ℕ, zero, suc, ◌<◌, Bool, List, [], ◌∷◌, length, set, refl, sym, ap, ◌∙◌, subst, arith, Option, Some, None, slice_get, option_map_or, AppSpec, Ghosts, PlainSegment, event_of, Event, Arrived, AbstractNode, step, AbstractClient, ClientStep, client_takes, handed, hands_over, hears_datagram, World, Side, Sent, Content, numbered, client_sockets, client_stepped, with_client, with_side, posts_of_client, marked, delivers, node_handles, OfSegment, OfPing, OfEcho, Who, FromClient, FromNode, Pinger, IsRead, IsSentBy, get_set_same, pair_at, WorldRepresents, LinkRepresents, IsLink, AnswersTo, AreTo, client_reported, pair_at_side, sees, Link, CodeWorld}
+use Rattle.link_replay.proofs.Prelude.{◌≡◌, ℕ, zero, suc, ◌<◌, Bool, List, [], ◌∷◌, length, set, refl, sym, ap, ◌∙◌, subst, arith, Option, Some, None, slice_get, option_map_or, AppSpec, Ghosts, PlainSegment, event_of, Event, Arrived, AbstractNode, step, AbstractClient, ClientStep, client_takes, handed, hands_over, receives_datagram, World, Side, Sent, Content, numbered, client_sockets, client_stepped, with_client, with_side, posts_of_client, marked, delivers, node_handles, OfSegment, OfPing, OfEcho, Who, FromClient, FromNode, Pinger, IsRead, IsSentBy, get_set_same, pair_at, WorldRepresents, LinkRepresents, IsLink, AnswersTo, AreTo, client_reported, pair_at_side, sees, Link, CodeWorld}
 use Rattle.link_replay.proofs.Handling.{arrived_to, linked}
 use Rattle.link_replay.proofs.Pairs.{reads}
 
@@ -48,7 +48,7 @@ module _ (m : AppSpec) (served : ℕ → Bool) (w : World) (k : ℕ) (e : Sent) 
             (subst (λ (event : Event). AreTo (Some (pair_at (client_sockets side))) (step m served w.node event).sent) (sym r) (arrived_to m served w.node (client_sockets side) s (Some (pair_at (client_sockets side))) refl)));
       }
 
-  from_node : (number id : ℕ) (s : PlainSegment) (bytes : List ℕ) (side : Side) → numbered w.sides number ≡ Some side → hears_datagram side.client.setup bytes ≡ Some s → Hands (FromNode number) (OfSegment id s) bytes
+  from_node : (number id : ℕ) (s : PlainSegment) (bytes : List ℕ) (side : Side) → numbered w.sides number ≡ Some side → receives_datagram side.client.setup bytes ≡ Some s → Hands (FromNode number) (OfSegment id s) bytes
   from_node number id s bytes side g r =
       let x : Side = marked side k e in
       let v : World = with_side w number x in

@@ -1,5 +1,5 @@
 -- The world after a step of its node.
-use Rattle.link_replay.proofs.Prelude.{◌≡◌, ℕ, zero, suc, ◌<◌, get_or, drop, ◌+◌, ◌++◌, ◌∷◌, [], Bool, false, List, length, refl, sym, ap, ◌∙◌, subst, arith, Option, Some, None, length-append, if◌then◌else◌, AppSpec, Ghosts, Addr, PlainSegment, Sockets, Event, Reply, tick, Arrived, Periodic, Echo, TcpReply, AbstractNode, NodeStep, step, connection_in, Node, Represents, AbstractClient, ClientStep, client_takes, client_acts, handed, hears_datagram, World, Side, at_side, retires, client_stepped, node_handles, node_stepped, numbered, posts, posts_reply, with_client, with_side, OfSegment, FromClient, where_there, owner, pair_at, WorldRepresents, LinkRepresents, IsLink, AreTo, IsTo, SocketPair, Link, CodeWorld}
+use Rattle.link_replay.proofs.Prelude.{◌≡◌, ℕ, zero, suc, ◌<◌, get_or, drop, ◌+◌, ◌++◌, ◌∷◌, [], Bool, false, List, length, refl, sym, ap, ◌∙◌, subst, arith, Option, Some, None, length-append, if◌then◌else◌, AppSpec, Ghosts, Addr, PlainSegment, Sockets, Event, Reply, tick, Arrived, Periodic, Echo, TcpReply, AbstractNode, NodeStep, step, connection_in, Node, Represents, AbstractClient, ClientStep, client_takes, client_acts, handed, receives_datagram, World, Side, at_side, retires, client_stepped, node_handles, node_stepped, numbered, posts, posts_reply, with_client, with_side, OfSegment, FromClient, where_there, owner, pair_at, WorldRepresents, LinkRepresents, IsLink, AreTo, IsTo, SocketPair, Link, CodeWorld}
 use Rattle.link_replay.proofs.Pairs.{left_is}
 use Rattle.link_replay.proofs.Replies.{SaidTo, arrived_reply, periodic_reply}
 use Rattle.link_replay.proofs.Staying.{step_addr}
@@ -88,7 +88,7 @@ acts_stay w number act =
 handed_stays : (w : World) (number : ℕ) (bytes : List ℕ) → StaysAt w (at_side w number (handed w number bytes))
 handed_stays w number bytes =
     where_there (StaysAt w) (handed w number bytes) (numbered w.sides number) w (stays w)
-    (λ side e. where_there (StaysAt w) (λ s. client_stepped w number side (client_takes side.client s)) (hears_datagram side.client.setup bytes) w (stays w)
+    (λ side e. where_there (StaysAt w) (λ s. client_stepped w number side (client_takes side.client s)) (receives_datagram side.client.setup bytes) w (stays w)
     (λ s f. stepped_stays w number side (client_takes side.client s)))
 
 -- clients and datagrams that keep what they have to at every address

@@ -1,5 +1,5 @@
 -- What a datagram is, as its receiver reads it.
-use Rattle.link_replay.proofs.Prelude.{◌≡◌, ℕ, zero, suc, ◌<◌, List, length, Bool, true, false, if◌then◌else◌, Some, None, refl, sym, ap, ◌∙◌, subst, arith, ◌⊎◌, inl, inr, slice_index_or, option_map, slice_get-get_or, slice_get_past, Addr, Sockets, same_sockets, PlainSegment, event_of, Event, Arrived, Setup, AbstractClient, World, Side, Content, numbered, client_sockets, OfSegment, OfPing, OfEcho, heard_by, server_of, FromClient, FromNode, IsRead, IsSentBy, Matched, SideRepresents, CodeSide, Kind, EchoReply, kind_sent, segment_kind}
+use Rattle.link_replay.proofs.Prelude.{◌≡◌, ℕ, zero, suc, ◌<◌, List, length, Bool, true, false, if◌then◌else◌, Some, None, refl, sym, ap, ◌∙◌, subst, arith, ◌⊎◌, inl, inr, slice_index_or, option_map, slice_get-get_or, slice_get_past, Addr, Sockets, same_sockets, PlainSegment, event_of, Event, Arrived, Setup, AbstractClient, World, Side, Content, numbered, client_sockets, OfSegment, OfPing, OfEcho, received_by, server_of, FromClient, FromNode, IsRead, IsSentBy, Matched, SideRepresents, CodeSide, Kind, EchoReply, kind_sent, segment_kind}
 use Rattle.link_replay.proofs.Listing.{partner}
 
 abbrev pub addr_of : Side → Addr
@@ -10,7 +10,7 @@ if_heard true s t e = cc
 if_heard false s t e = absurd cc
 
 -- what a client receives arrived at its address
-pub heard_arrived : (setup : Setup) (event : Event) (s : PlainSegment) → heard_by setup event ≡ Some s → (sockets : Sockets) × (event ≡ Arrived sockets s)
+pub heard_arrived : (setup : Setup) (event : Event) (s : PlainSegment) → received_by setup event ≡ Some s → (sockets : Sockets) × (event ≡ Arrived sockets s)
 heard_arrived setup (Arrived sockets t) s e = (sockets, ap (λ x. Arrived sockets x) (if_heard (same_sockets sockets (server_of setup)) t s e))
 heard_arrived setup _ s e = absurd cc
 

@@ -1,6 +1,6 @@
 -- A file's hits as a count over the events of a node.
 -- [add: state] A request that arrives in it.
-use Rattle.link_replay.proofs.Prelude.{◌≡◌, ℕ, zero, suc, ◌+◌, ◌%◌, ◌^◌, ◌<◌, Bool, true, false, not, ◌&&◌, ◌||◌, if◌then◌else◌, List, [], ◌∷◌, length, get_or, set, replicate, refl, sym, ap, ◌∙◌, subst, arith, eqb, eq-eqb, ltb, Option, Some, None, slice_get, slice_index_or, position, length-set, REST_TIME, get_or-set_other, get_or-set_same, wrap, PlainSegment, has_fin, has_rst, beat_at, Beat, AppState, After, AppSpec, Now, Ending, State, Closed, SynRcvd, Established, CloseWait, FinWait1, FinWait2, Closing, TimeWait, LastAck, Want, Nothing, Send, Close, Abort, File, Connection, Sockets, closed, serves, is_plain_syn, Outcome, after_own_fin, closes, peer_has_closed, idles, does_as_wanted, prepared, asked_for, asked, accept, in_state, takes, reported_end, with_window, hears, is_out_of_order, is_acked, rests, has_text, in_established, peer_closes, stays_established, fin_acked, fin_waits, with_part, by_state, on_segment, grows_older, limit_of, outstanding, by_beat, rests_on, ticks_established, tick_by, on_tick, Step, initial_number, Event, IpRefused, IcmpRefused, TcpRefused, EchoAsked, Arrived, Overlong, Periodic, AbstractNode, NodeStep, arrives_at, connection_in, for_no_connection, happened, snapshot, initial_node, opens, opens_in, run, slot_for_syn, step, place_of, Wanted, wanted, NotYet, Refused, Name, is_served, no_hits, hit_at, hits_by, is_acknowledged, waits_for_capture, web_spec, choose, eqb-eq, wrap_wrap, Inside, slot_inside, position_in, all_closed, get_set, index_none, index_of, set_past, here, there, HitsAreCounted, becomes_hit, hits_over, is_place, one_hits}
+use Rattle.link_replay.proofs.Prelude.{◌≡◌, ℕ, zero, suc, ◌+◌, ◌%◌, ◌^◌, ◌<◌, Bool, true, false, not, ◌&&◌, ◌||◌, if◌then◌else◌, List, [], ◌∷◌, length, get_or, set, replicate, refl, sym, ap, ◌∙◌, subst, arith, eqb, eq-eqb, ltb, Option, Some, None, slice_get, slice_index_or, position, length-set, REST_TIME, get_or-set_other, get_or-set_same, wrap, PlainSegment, has_fin, has_rst, beat_at, Beat, AppState, After, AppSpec, Now, Ending, State, Closed, SynRcvd, Established, CloseWait, FinWait1, FinWait2, Closing, TimeWait, LastAck, Want, Nothing, Send, Close, Abort, File, Connection, Sockets, closed, serves, is_plain_syn, Outcome, after_own_fin, closes, peer_has_closed, idles, does_as_wanted, prepared, asked_for, asked, accept, in_state, takes, reported_end, with_window, delivers_text, is_out_of_order, is_acked, rests, has_text, in_established, peer_closes, stays_established, fin_acked, fin_waits, with_part, by_state, on_segment, grows_older, limit_of, outstanding, by_beat, rests_on, ticks_established, tick_by, on_tick, Step, initial_number, Event, IpRefused, IcmpRefused, TcpRefused, EchoAsked, Arrived, Overlong, Periodic, AbstractNode, NodeStep, arrives_at, connection_in, for_no_connection, happened, snapshot, initial_node, opens, opens_in, run, slot_for_syn, step, place_of, Wanted, wanted, NotYet, Refused, Name, is_served, no_hits, hit_at, hits_by, is_acknowledged, waits_for_capture, web_spec, choose, eqb-eq, wrap_wrap, Inside, slot_inside, position_in, all_closed, get_set, index_none, index_of, set_past, here, there, HitsAreCounted, becomes_hit, hits_over, is_place, one_hits}
 
 -- ---- one connection
 
@@ -49,7 +49,7 @@ module _ (files : List File) where
   closes_counts c how numbers s = record { hits = reported_same how c.state c.part numbers ∙ sym (same_by numbers (asks c)); fresh = tt }
 
   -- what the application receives
-  hears_hits : (numbers : List ℕ) (p : AppState) (text : List ℕ) → (hears m numbers p text).numbers ≡ hits_by files numbers (wanted p.input) (wanted (hears m numbers p text).part.input)
+  hears_hits : (numbers : List ℕ) (p : AppState) (text : List ℕ) → (delivers_text m numbers p text).numbers ≡ hits_by files numbers (wanted p.input) (wanted (delivers_text m numbers p text).part.input)
   hears_hits numbers p [] = sym (same_by numbers (wanted p.input))
   hears_hits numbers p (x ∷ xs) = refl
 
@@ -94,7 +94,7 @@ module _ (files : List File) where
   goes_on_in : (acked : Bool) (c : Connection) (numbers : List ℕ) (s : PlainSegment) → c.state ≡ Established → Counts (asks c) numbers (stays_established m acked c numbers s)
   unfolding stays_established
   goes_on_in acked c numbers s st =
-      let d : Connection = with_window s.window (with_part (hears m numbers c.part s.text).part (takes (length s.text) c)) in
+      let d : Connection = with_window s.window (with_part (delivers_text m numbers c.part s.text).part (takes (length s.text) c)) in
       let f : Fresh d.state d = at_state d Established st tt in
       choose (λ (o : Outcome). Counts (asks c) numbers o) (not acked && not (has_text s)) _ _ (λ e. record { hits = hears_hits numbers c.part s.text; fresh = f })
       (λ e. choose (λ (o : Outcome). Counts (asks c) numbers o) (ltb 0 c.len) _ _ (λ g. record { hits = hears_hits numbers c.part s.text; fresh = f }) (λ g. record { hits = hears_hits numbers c.part s.text; fresh = f }))

@@ -8,7 +8,7 @@ pub use Rattle.hex.specs.Hex.{decode_of, digit_or_error, encode_lower, hex_digit
 unfoldable pub use Rattle.hex.specs.Hex.{decode_pairs, encode_with}
 pub use Rattle.hex.specs.declared.error.FromHexError.{FromHexError}
 pub use Rattle.hex.specs.declared.error.FromHexError.TheVariants.{OddLength}
-pub use Rattle.link_client.specs.Prelude.{AbstractClient, Client, ClientStep, FitsRequest, Sends, advertises_window, client_datagram, client_hands, client_hears, client_opens, idle, keeps, offered, standing}
+pub use Rattle.link_client.specs.Prelude.{AbstractClient, Client, ClientStep, FitsRequest, Sends, advertises_window, client_datagram, client_hands, client_receives, client_opens, idle, keeps, offered, standing}
 unfoldable pub use Rattle.link_client.specs.Prelude.{aborts_by, again_by, client_takes, closes_by, opens_by, sends_next, takes_by, takes_in_order}
 pub use Rattle.link_client.specs.declared.client_state.ClientState.{ClientState}
 pub use Rattle.link_client.specs.declared.client_state.ClientState.TheVariants.{Idle}
@@ -54,7 +54,7 @@ pub use Rattle.link_world.proofs.Same.{again_exactly, same_bytes}
 pub use Rattle.link_world.proofs.Senders.{sent_to_clients}
 pub use Rattle.link_world.proofs.Sides.{addressed_is}
 pub use Rattle.link_world.proofs.SoundWorlds.{SoundWorld, sound_marked}
-pub use Rattle.link_world.specs.Prelude.{BadLine, Content, IsAct, IsPlan, IsPlanned, IsReached, IsRead, IsRepeatOf, IsSchedulePlayed, IsSentBy, IsServed, IsServedWhole, MarksRepeats, OfEcho, OfLine, OfPing, OfSegment, Planned, RepeatsSameBytes, Sent, Side, World, acts, acts_of, addressed, at_side, becomes_opened, bytes_by, changed, client_acts, client_bytes, client_sockets, client_stepped, delivers, does, epoch, epoch_of, fault_of, fresh_side, handed, handles_all, hands_over, heard_by, hears_datagram, is_clean, is_idle, mark_after, marked, named_fault, node_bytes, node_handles, node_stepped, numbered, past_connection_of, plays, plays_from, plays_line, posts, posts_of_client, posts_reply, retires, retires_in, runs, sent_bytes, server_of, sockets_in, started, state_at, with_client, with_side}
+pub use Rattle.link_world.specs.Prelude.{BadLine, Content, IsAct, IsPlan, IsPlanned, IsReached, IsRead, IsRepeatOf, IsSchedulePlayed, IsSentBy, IsServed, IsServedWhole, MarksRepeats, OfEcho, OfLine, OfPing, OfSegment, Planned, RepeatsSameBytes, Sent, Side, World, acts, acts_of, addressed, at_side, becomes_opened, bytes_by, changed, client_acts, client_bytes, client_sockets, client_stepped, delivers, does, epoch, epoch_of, fault_of, fresh_side, handed, handles_all, hands_over, received_by, receives_datagram, is_clean, is_idle, mark_after, marked, named_fault, node_bytes, node_handles, node_stepped, numbered, past_connection_of, plays, plays_from, plays_line, posts, posts_of_client, posts_reply, retires, retires_in, runs, sent_bytes, server_of, sockets_in, started, state_at, with_client, with_side}
 unfoldable pub use Rattle.link_world.specs.Prelude.{ping_from}
 pub use Rattle.link_world.specs.declared.act.Act.{Act}
 pub use Rattle.link_world.specs.declared.step_fault.StepFault.{StepFault}
@@ -90,7 +90,7 @@ pub use Rattle.std.specs.Option.{is_some, option_map_or}
 pub use Rattle.std.specs.Prelude.{IfSome, IsSomeAnd, MatchResult, OnErr, OnOk, codes, count_by, filter, flat_map, fold, is_none, option_map, slice_index, ⊤}
 pub use Rattle.std.specs.Str.{bytes_eq}
 pub use Rattle.std.specs.Vec.{with_items}
-pub use Rattle.tcp_machine.specs.Prelude.{ConnRepresents, Connection, Outcome, Sockets, accept, accepted, after_own_fin, asked, asked_for, by_beat, by_state, closed, closes, does_as_wanted, first_mss, grows_older, has_text, hears, in_state, is_acked, is_again, is_live, is_out_of_order, is_plain_syn, limit_of, on_tick, outstanding, peer_has_closed, prepared, reset_for_no_connection, rests, rows_from, same_sockets, segment_of, serves, takes, tick_by, reported_end, with_part, with_window}
+pub use Rattle.tcp_machine.specs.Prelude.{ConnRepresents, Connection, Outcome, Sockets, accept, accepted, after_own_fin, asked, asked_for, by_beat, by_state, closed, closes, does_as_wanted, first_mss, grows_older, has_text, delivers_text, in_state, is_acked, is_again, is_live, is_out_of_order, is_plain_syn, limit_of, on_tick, outstanding, peer_has_closed, prepared, reset_for_no_connection, rests, rows_from, same_sockets, segment_of, serves, takes, tick_by, reported_end, with_part, with_window}
 pub use Rattle.text_buffer.specs.Prelude.{word_if}
 pub use Rattle.uip_edge.proofs.Reported.{Appends-none, Appends-then, appends_by, on_err, prefix_by, prefix_more, prefix_then}
 pub use Rattle.uip_edge.specs.Prelude.{AppendsPrefix, Files, SinkView, WorkUnfailed, WorkView, WritesAll, WritesEnd, sink_view, work_view}

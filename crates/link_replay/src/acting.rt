@@ -80,7 +80,7 @@ pub(crate) fn advertise_window(sides: &mut Vec<Side>, number: u8, window: u16)
 }
 
 /// Passes the bytes of a datagram to a client.
-pub(crate) fn hear(
+pub(crate) fn receive(
     sides: &mut Vec<Side>,
     sent: &mut Vec<Sent>,
     area: &mut Vec<u8>,
@@ -100,7 +100,7 @@ pub(crate) fn hear(
     if place == 0 || place > sides.len() {
         return Ok(());
     }
-    let len = sides[place - 1].hear(datagram, area.as_mut_slice())?;
+    let len = sides[place - 1].receive(datagram, area.as_mut_slice())?;
     post_prefix(sides.as_slice(), sent, area.as_slice(), number, len, tick)?;
     Ok(())
 }

@@ -8,7 +8,7 @@ ghost use Rattle.link_world.specs.declared.who.Who.TheVariants.{Pinger};
 ghost use Rattle.link_replay.specs.Prelude.{DoesAct, FromHere, HandsOver, KeepsLink, PassesToNode, ReportsStep, WorldRepresents};
 ghost use Rattle.link_replay.specs.Prelude.{client_reported, own_step};
 
-use crate::acting::{act_alone, advertise_window, hear};
+use crate::acting::{act_alone, advertise_window, receive};
 use crate::before::Before;
 use crate::marks::{pair_of, see};
 use crate::own::Own;
@@ -48,7 +48,7 @@ impl<A: App> WorldOf<A> {
     }
 
     /// Passes bytes to the node. Its reply goes to the client with these sockets, or is an echo reply.
-    fn node_hears(&mut self, bytes: &[u8], to: Option<SocketPair>) -> Result<(), NoMemory>
+    fn node_receives(&mut self, bytes: &[u8], to: Option<SocketPair>) -> Result<(), NoMemory>
         requires most { length bytes.now ≤ LARGEST_DATAGRAM }
         ensures same { A.config self.new.node.shared ≡ A.config self.old.node.shared }
         ensures mark { self.new.mark ≡ self.old.mark }
@@ -141,17 +141,17 @@ impl<A: App> WorldOf<A> {
     {
         match who {
             Who::Pinger => {
-                self.node_hears(bytes, None)?;
+                self.node_receives(bytes, None)?;
                 Ok(())
             }
             Who::FromClient(client) => {
                 let to = pair_of(self.sides.as_slice(), client);
-                self.node_hears(bytes, to)?;
+                self.node_receives(bytes, to)?;
                 Ok(())
             }
             Who::FromNode(client) => {
                 let tick = self.node.ticks();
-                hear(
+                receive(
                     &mut self.sides,
                     &mut self.sent,
                     &mut self.area,

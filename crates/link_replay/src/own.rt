@@ -1,7 +1,7 @@
 //! What a client does, and what it receives.
 
 ghost use Rattle.std.specs.Prelude.{◌≡◌, ◌≤◌, IfOk, length, Some};
-ghost use Rattle.link_client.specs.Prelude.{FitsRequest, client_hears, client_hands, advertises_window};
+ghost use Rattle.link_client.specs.Prelude.{FitsRequest, client_receives, client_hands, advertises_window};
 ghost use Rattle.link_world.specs.World.{Side as PlainSide, with_client};
 ghost use Rattle.link_replay.specs.Prelude.{Stepped, own_step, SideRepresents};
 
@@ -54,7 +54,7 @@ impl Side {
     }
 
     /// Passes bytes to the client, which accepts them if they are a segment of its server.
-    pub(crate) fn hear(
+    pub(crate) fn receive(
         &mut self,
         datagram: &[u8],
         area: &mut [u8],
@@ -66,7 +66,7 @@ impl Side {
         ensures setup { self.new.client.setup ≡ self.old.client.setup }
         ensures room { length area.new ≡ length area.old }
         ensures step { IfOk result (λ sent. (s : PlainSide) → SideRepresents self.old s
-            → Stepped (client_hands s.client (client_hears s.client.setup datagram.now)) s self.new sent area.new) }
+            → Stepped (client_hands s.client (client_receives s.client.setup datagram.now)) s self.new sent area.new) }
     {
         let took = self.client.take(self.request.as_slice(), datagram, area);
         let fresh = &datagram[took.fresh_at..took.fresh_at + took.fresh_len];

@@ -1,6 +1,6 @@
 -- The progress of a client's request: what its steps add to what it sent, and what a step of the connection accepts of it. No
 -- premise on the other side.
-use Rattle.link_world.proofs.Prelude.{◌≡◌, ℕ, ◌+◌, ◌-◌, ◌<◌, ◌≤◌, min, Bool, true, false, not, ◌&&◌, ◌||◌, ◌⊎◌, inl, inr, List, length, length-append, drop, refl, sym, ap, ◌∙◌, arith, Some, eqb, ltb, length-take, if◌then◌else◌, wrap, PlainSegment, has_syn, has_fin, has_rst, has_ack, Beat, AppState, After, AppSpec, Pages, IsPaged, Now, State, Closed, SynRcvd, Established, CloseWait, FinWait1, FinWait2, Closing, TimeWait, LastAck, Connection, rcv_nxt, occupies_sequence_space, segment_of, Outcome, ask, asked, prepared, is_out_of_order, is_acked, has_text, hears, connects, in_established, peer_closes, stays_established, fin_acked, fin_waits, by_state, on_segment, by_beat, on_tick, Step, AbstractClient, ClientStep, ack_of, client_aborts, client_again, client_closes, client_opens, client_takes, fin_out, fin_sent, has_outstanding, hears_ack, is_receiving, keeps, may_finish, next_own, one_if, opened_by, own_fin, own_first, own_request, own_reset, sends_next, steps_with, syn_of, takes_in_order, takes_text, advertises_window, ClientState, FinAt, choose, and_true, and_false, only_some, eqb-eq, not-false, not-true, ltb-zero, same_place, hears_is, asked_by, on_tick_by, wanted_unmoved}
+use Rattle.link_world.proofs.Prelude.{◌≡◌, ℕ, ◌+◌, ◌-◌, ◌<◌, ◌≤◌, min, Bool, true, false, not, ◌&&◌, ◌||◌, ◌⊎◌, inl, inr, List, length, length-append, drop, refl, sym, ap, ◌∙◌, arith, Some, eqb, ltb, length-take, if◌then◌else◌, wrap, PlainSegment, has_syn, has_fin, has_rst, has_ack, Beat, AppState, After, AppSpec, Pages, IsPaged, Now, State, Closed, SynRcvd, Established, CloseWait, FinWait1, FinWait2, Closing, TimeWait, LastAck, Connection, rcv_nxt, occupies_sequence_space, segment_of, Outcome, ask, asked, prepared, is_out_of_order, is_acked, has_text, delivers_text, connects, in_established, peer_closes, stays_established, fin_acked, fin_waits, by_state, on_segment, by_beat, on_tick, Step, AbstractClient, ClientStep, ack_of, client_aborts, client_again, client_closes, client_opens, client_takes, fin_out, fin_sent, has_outstanding, receives_ack, is_receiving, keeps, may_finish, next_own, one_if, opened_by, own_fin, own_first, own_request, own_reset, sends_next, steps_with, syn_of, takes_in_order, takes_text, advertises_window, ClientState, FinAt, choose, and_true, and_false, only_some, eqb-eq, not-false, not-true, ltb-zero, same_place, hears_is, asked_by, on_tick_by, wanted_unmoved}
 use Rattle.link_client.specs.declared.client_state.ClientState.TheVariants as Is
 use Rattle.link_world.proofs.Good.{Steady, is_early}
 use Rattle.link_world.proofs.ClientCases.{of_aborts, of_again, of_closes, of_opens, of_order, of_sends, of_takes}
@@ -125,7 +125,7 @@ record HasDelivered (c : AbstractClient) (s : PlainSegment) (d : AbstractClient)
   iss : own_first d ≡ own_first c
   acked : (d.acked ≡ c.acked) ⊎ ((has_ack s.flags ≡ true) × (s.ack ≡ next_own c) × (d.acked ≡ c.acked + c.out))
 
-has_heard : (c : AbstractClient) (s : PlainSegment) → HasDelivered c s (hears_ack c s)
+has_heard : (c : AbstractClient) (s : PlainSegment) → HasDelivered c s (receives_ack c s)
 has_heard c s =
     choose (λ d. HasDelivered c s d) (has_ack s.flags && (has_outstanding c && eqb s.ack (next_own c))) _ _
     (λ e. (let a = and_true (has_ack s.flags) (has_outstanding c && eqb s.ack (next_own c)) e in
@@ -133,9 +133,9 @@ has_heard c s =
     record { used_is = omega (arith, ap one_if (fin_stays c.fin)); asked_is = omega arith; iss = refl; acked = inr (a.0, eqb-eq s.ack (next_own c) b.1, refl) }))
     (λ e. record { used_is = refl; asked_is = refl; iss = refl; acked = inl refl })
 
-in_order_asks : (c : AbstractClient) (s : PlainSegment) → has_rst s.flags ≡ false → AsksOn c s (takes_in_order (hears_ack c s) s)
+in_order_asks : (c : AbstractClient) (s : PlainSegment) → has_rst s.flags ≡ false → AsksOn c s (takes_in_order (receives_ack c s) s)
 in_order_asks c s nr =
-    let d : AbstractClient = hears_ack c s in
+    let d : AbstractClient = receives_ack c s in
     let h = has_heard c s in
     let acked = elim h.acked as (λ _. (d.acked ≡ c.acked) ⊎ ((has_rst s.flags ≡ false) × (has_ack s.flags ≡ true) × (s.ack ≡ next_own c) × (d.acked ≡ c.acked + c.out))) [ inl e ↦ inl e | inr e ↦ inr (nr, e.0, e.1, e.2) ] in
     let same : used d ≡ used c = h.used_is in
@@ -223,7 +223,7 @@ row_fin : (c d : Connection) (s : PlainSegment) → has_fin s.flags ≡ true →
 row_fin c d s f p t h = record { peer = p; count = length s.text + 1; more = t; most = omega (arith, ap one_if f); handed = length s.text; input = h; handed_text = omega arith; handed_taken = omega arith }
 
 module _ (m : AppSpec) (pages : Pages) (lawful : IsPaged m pages) where
-  hears_at_most : (numbers : List ℕ) (p : AppState) (text : List ℕ) → length (hears m numbers p text).part.input ≤ length p.input + length text
+  hears_at_most : (numbers : List ℕ) (p : AppState) (text : List ℕ) → length (delivers_text m numbers p text).part.input ≤ length p.input + length text
   hears_at_most numbers p text = omega (arith, ap (λ (y : List ℕ). length y) (hears_is m pages lawful numbers p text).input, length-append p.input text)
 
   pub asked_takes : (now : Connection → Now) (c : Connection) (s : PlainSegment) (o : Outcome) → Refines c o.connection s → Refines c (asked m now o).connection s
@@ -255,7 +255,7 @@ module _ (m : AppSpec) (pages : Pages) (lawful : IsPaged m pages) where
   established_row acked b c numbers s g =
       let with_fin = ap (λ n. n + (length s.text + 1)) g.taken in
       let with_text = ap (λ n. n + length s.text) g.taken in
-      let output : length (hears m numbers c.part s.text).part.input ≤ length b.part.input + length s.text = omega (arith, as_long b.part c.part g.input, hears_at_most numbers c.part s.text) in
+      let output : length (delivers_text m numbers c.part s.text).part.input ≤ length b.part.input + length s.text = omega (arith, as_long b.part c.part g.input, hears_at_most numbers c.part s.text) in
       choose (λ (o : Outcome). Row b o.connection s) (has_fin s.flags) _ _
       (λ f. choose (λ (o : Outcome). Row b o.connection s) (ltb 0 c.len) _ _ (λ l. row_fin b _ s f g.peer with_fin output) (λ l. row_fin b _ s f g.peer with_fin output))
       (λ f. choose (λ (o : Outcome). Row b o.connection s) (not acked && not (has_text s)) _ _ (λ l. row_text b _ s g.peer with_text output)

@@ -1,5 +1,5 @@
 -- A fact about a step of a client by its cases: each walk is made once, for every law.
-use Rattle.link_world.proofs.Prelude.{◌≡◌, ◌+◌, ◌-◌, min, Bool, true, false, not, ◌&&◌, length, refl, ap, eqb, ltb, wrap, PlainSegment, has_syn, has_rst, has_ack, occupies_sequence_space, AbstractClient, ClientStep, ack_of, again_by, aborts_by, client_again, client_aborts, client_closes, client_opens, client_takes, closes_by, fin_out, fin_sent, has_closed, has_outstanding, hears_ack, is_receiving, is_reset_by, keeps, may_finish, opened_by, opens_by, own_fin, own_first, own_request, own_reset, sends_next, steps_with, syn_of, takes_by, takes_in_order, takes_text, ClientState, FinAt, and_true, choose, not-true}
+use Rattle.link_world.proofs.Prelude.{◌≡◌, ◌+◌, ◌-◌, min, Bool, true, false, not, ◌&&◌, length, refl, ap, eqb, ltb, wrap, PlainSegment, has_syn, has_rst, has_ack, occupies_sequence_space, AbstractClient, ClientStep, ack_of, again_by, aborts_by, client_again, client_aborts, client_closes, client_opens, client_takes, closes_by, fin_out, fin_sent, has_closed, has_outstanding, receives_ack, is_receiving, is_reset_by, keeps, may_finish, opened_by, opens_by, own_fin, own_first, own_request, own_reset, sends_next, steps_with, syn_of, takes_by, takes_in_order, takes_text, ClientState, FinAt, and_true, choose, not-true}
 use Rattle.link_client.specs.declared.client_state.ClientState.TheVariants as Is
 
 module _ (P : ClientStep → Type 0) (c : AbstractClient) where
@@ -25,21 +25,21 @@ module _ (P : ClientStep → Type 0) (c : AbstractClient) where
       (λ e. choose P (not (occupies_sequence_space s)) _ _ (λ f. says_on) (λ f. choose P (eqb s.seq c.expected && is_receiving c.state) _ _ takes (λ g. answers)))
 
   by_takes : (st : ClientState) (s : PlainSegment) → c.state ≡ st → P (keeps c) → (c.state ≡ Is.Opening → has_syn s.flags && (has_ack s.flags && eqb s.ack (wrap (own_first c + 1))) ≡ true → P (sends_next true (opened_by c s)))
-      → P (takes_in_order (hears_ack c s) s) → P (takes_by st c s)
+      → P (takes_in_order (receives_ack c s) s) → P (takes_by st c s)
   unfolding takes_by
-  by_takes Is.Idle s e kept opens hears = kept
-  by_takes Is.Reset s e kept opens hears = kept
-  by_takes Is.Opening s e kept opens hears = choose P (has_syn s.flags && (has_ack s.flags && eqb s.ack (wrap (own_first c + 1)))) _ _ (λ f. opens e f) (λ f. kept)
-  by_takes _ s e kept opens hears = hears
+  by_takes Is.Idle s e kept opens delivers_text = kept
+  by_takes Is.Reset s e kept opens delivers_text = kept
+  by_takes Is.Opening s e kept opens delivers_text = choose P (has_syn s.flags && (has_ack s.flags && eqb s.ack (wrap (own_first c + 1)))) _ _ (λ f. opens e f) (λ f. kept)
+  by_takes _ s e kept opens delivers_text = delivers_text
 
   -- a segment: it resets the client, or opens it, or the client receives it
   pub of_takes : (s : PlainSegment) → P (keeps c) → (is_reset_by c.state c s ≡ true → P (keeps (record c { state = Is.Reset })))
       → (c.state ≡ Is.Opening → has_rst s.flags ≡ false → has_syn s.flags && (has_ack s.flags && eqb s.ack (wrap (own_first c + 1))) ≡ true → P (sends_next true (opened_by c s)))
-      → (has_rst s.flags ≡ false → P (takes_in_order (hears_ack c s) s)) → P (client_takes c s)
+      → (has_rst s.flags ≡ false → P (takes_in_order (receives_ack c s) s)) → P (client_takes c s)
   unfolding client_takes
-  of_takes s kept reset opens hears =
+  of_takes s kept reset opens delivers_text =
       choose P (has_rst s.flags) _ _ (λ r. choose (λ x. P (keeps x)) (is_reset_by c.state c s) _ _ reset (λ b. kept))
-      (λ r. by_takes c.state s refl kept (λ e f. opens e r f) (hears r))
+      (λ r. by_takes c.state s refl kept (λ e f. opens e r f) (delivers_text r))
 
   -- ---- its own acts
 

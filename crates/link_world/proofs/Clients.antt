@@ -1,5 +1,5 @@
 -- One step of a client preserves what holds of it.
-use Rattle.link_world.proofs.Prelude.{All, ◌≡◌, ℕ, ◌+◌, ◌-◌, ◌≤◌, min, Bool, true, false, not, ◌&&◌, ◌⊎◌, inl, inr, List, [], ◌++◌, length, refl, sym, ap, ◌∙◌, subst, arith, Option, Some, None, length-append, eqb, ltb, if◌then◌else◌, wrap, PlainSegment, has_syn, has_fin, has_rst, has_ack, Snapshot, AppSpec, IsSnapshot, Connection, is_live, occupies_sequence_space, AbstractClient, ClientStep, sends_next, has_outstanding, is_receiving, may_finish, has_closed, own_request, ack_of, syn_of, own_fin, own_reset, keeps, steps_with, hears_ack, fin_sent, fin_out, takes_in_order, takes_text, takes_by, client_takes, is_reset_by, opened_by, opens_by, again_by, closes_by, aborts_by, after_fin, one_if, next_own, own_first, ClientState, FinAt, Sent, PastConnection, becomes_opened, era, IsPart, part_joins, part_none, choose, and_true, same_place, eqb-eq, append_nothing, cut_part, only_some, not-false, nothing_placed}
+use Rattle.link_world.proofs.Prelude.{All, ◌≡◌, ℕ, ◌+◌, ◌-◌, ◌≤◌, min, Bool, true, false, not, ◌&&◌, ◌⊎◌, inl, inr, List, [], ◌++◌, length, refl, sym, ap, ◌∙◌, subst, arith, Option, Some, None, length-append, eqb, ltb, if◌then◌else◌, wrap, PlainSegment, has_syn, has_fin, has_rst, has_ack, Snapshot, AppSpec, IsSnapshot, Connection, is_live, occupies_sequence_space, AbstractClient, ClientStep, sends_next, has_outstanding, is_receiving, may_finish, has_closed, own_request, ack_of, syn_of, own_fin, own_reset, keeps, steps_with, receives_ack, fin_sent, fin_out, takes_in_order, takes_text, takes_by, client_takes, is_reset_by, opened_by, opens_by, again_by, closes_by, aborts_by, after_fin, one_if, next_own, own_first, ClientState, FinAt, Sent, PastConnection, becomes_opened, era, IsPart, part_joins, part_none, choose, and_true, same_place, eqb-eq, append_nothing, cut_part, only_some, not-false, nothing_placed}
 use Rattle.link_client.specs.declared.client_state.ClientState.TheVariants as Is
 use Rattle.link_world.proofs.Speaking.{Speaker, HasOutputModel}
 use Rattle.link_world.proofs.Counts.{reset_becomes, same_becomes}
@@ -99,7 +99,7 @@ module _ (m : AppSpec) (speaker : Speaker) (laws : HasOutputModel m speaker) (hi
     is : d ≡ recounted c acked out fin
     fits : acked + out ≤ length c.request
 
-  hears_ack_is : (c : AbstractClient) (s : PlainSegment) → c.acked + c.out ≤ length c.request → Hearing c (hears_ack c s)
+  hears_ack_is : (c : AbstractClient) (s : PlainSegment) → c.acked + c.out ≤ length c.request → Hearing c (receives_ack c s)
   hears_ack_is c s h =
       choose (λ x. Hearing c x) (has_ack s.flags && (has_outstanding c && eqb s.ack (next_own c))) _ _
       (λ e. record { acked = c.acked + c.out; out = 0; fin = (if fin_out c.fin then FinAt.Acked else c.fin); is = refl; fits = omega arith })
@@ -203,9 +203,9 @@ module _ (m : AppSpec) (speaker : Speaker) (laws : HasOutputModel m speaker) (hi
 
   -- a segment at a client that has opened
   asked_good : (client : AbstractClient) (P : Type 0) (o : ℕ) (s : PlainSegment) → Steady client → HasOpened speaker client history conn o → has_rst s.flags ≡ false →
-      NodeSaid speaker client P (era history conn o).iss (era history conn o).snapshots s → TookGood speaker client history conn (Some o) (Some o) (takes_in_order (hears_ack client s) s)
+      NodeSaid speaker client P (era history conn o).iss (era history conn o).snapshots s → TookGood speaker client history conn (Some o) (Some o) (takes_in_order (receives_ack client s) s)
   asked_good client P o s steady h nr output =
-      let g : Hearing client (hears_ack client s) = hears_ack_is client s steady.out_fits in
+      let g : Hearing client (receives_ack client s) = hears_ack_is client s steady.out_fits in
       let c : AbstractClient = recounted client g.acked g.out g.fin in
       subst (λ x. TookGood speaker client history conn (Some o) (Some o) (takes_in_order x s)) (sym g.is)
       (in_order_good client c P o s h.asked refl refl record { short = steady.short; low = steady.low; out_fits = g.fits }

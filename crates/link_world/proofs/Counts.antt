@@ -1,5 +1,5 @@
 -- The progress of a client: what its step does to what it accepted and to RCV.NXT. No premise on the server.
-use Rattle.link_world.proofs.Prelude.{◌≡◌, ℕ, ◌+◌, Bool, true, false, not, ◌&&◌, ◌++◌, length, refl, sym, ap, ◌∙◌, Some, eqb, if◌then◌else◌, wrap, PlainSegment, has_syn, has_fin, has_rst, has_ack, occupies_sequence_space, AbstractClient, ClientStep, ack_of, after_fin, client_aborts, client_again, client_closes, client_opens, client_takes, has_closed, has_outstanding, hears_ack, is_receiving, is_reset_by, keeps, next_own, one_if, opened_by, own_fin, own_first, own_request, own_reset, sends_next, steps_with, syn_of, takes_by, takes_in_order, takes_text, ClientState, becomes_opened, choose, and_true, only_some, eqb-eq, not-false}
+use Rattle.link_world.proofs.Prelude.{◌≡◌, ℕ, ◌+◌, Bool, true, false, not, ◌&&◌, ◌++◌, length, refl, sym, ap, ◌∙◌, Some, eqb, if◌then◌else◌, wrap, PlainSegment, has_syn, has_fin, has_rst, has_ack, occupies_sequence_space, AbstractClient, ClientStep, ack_of, after_fin, client_aborts, client_again, client_closes, client_opens, client_takes, has_closed, has_outstanding, receives_ack, is_receiving, is_reset_by, keeps, next_own, one_if, opened_by, own_fin, own_first, own_request, own_reset, sends_next, steps_with, syn_of, takes_by, takes_in_order, takes_text, ClientState, becomes_opened, choose, and_true, only_some, eqb-eq, not-false}
 use Rattle.link_client.specs.declared.client_state.ClientState.TheVariants as Is
 use Rattle.link_world.proofs.ClientCases.{of_aborts, of_again, of_closes, of_opens, of_sends}
 
@@ -69,13 +69,13 @@ record Same (c d : AbstractClient) : Type 0 where
   expected : d.expected ≡ c.expected
   state : d.state ≡ c.state
 
-hears_same : (c : AbstractClient) (s : PlainSegment) → Same c (hears_ack c s)
+hears_same : (c : AbstractClient) (s : PlainSegment) → Same c (receives_ack c s)
 hears_same c s = choose (λ x. Same c x) (has_ack s.flags && (has_outstanding c && eqb s.ack (next_own c))) _ _ (λ e. record { received = refl; expected = refl; state = refl }) (λ e. record { received = refl; expected = refl; state = refl })
 
-in_order_counted : (client : AbstractClient) (s : PlainSegment) → has_rst s.flags ≡ false → Counted client s (takes_in_order (hears_ack client s) s)
+in_order_counted : (client : AbstractClient) (s : PlainSegment) → has_rst s.flags ≡ false → Counted client s (takes_in_order (receives_ack client s) s)
 unfolding takes_in_order
 in_order_counted client s nr =
-    let c : AbstractClient = hears_ack client s in
+    let c : AbstractClient = receives_ack client s in
     let h : Same client c = hears_same client s in
     let k : Kind client s c = kept h.received h.expected (ap has_closed h.state) (ap (λ x. becomes_opened client.state x) h.state ∙ same_becomes client.state) in
     choose (λ x. Counted client s x) (has_syn s.flags) _ _ (λ e. on_counted true client c s k)

@@ -1,5 +1,5 @@
 -- Acts only add datagrams, a client that has sent is never idle again, and every client stays as planned.
-use Rattle.link_world.proofs.Prelude.{◌≡◌, ℕ, zero, suc, ◌≤◌, Bool, false, List, [], ◌∷◌, length, map, set, Option, Some, None, slice_get, refl, sym, ap, ◌∙◌, arith, slice_get-map, option_map, AppSpec, PlainSegment, Connection, same_sockets, ticks_of, Event, Reply, tick, event_of, Arrived, EchoAsked, Echo, TcpReply, NodeStep, step, AbstractClient, ClientStep, client_takes, keeps, advertises_window, client_opens, client_again, client_closes, client_aborts, client_acts, does, handed, handles_all, hands_over, is_idle, state_at, changed, hears_datagram, ping_from, sent_bytes, Content, Sent, Side, World, retires, retires_in, client_sockets, client_stepped, delivers, epoch_of, marked, node_handles, node_stepped, posts, posts_of_client, posts_reply, with_client, with_side, OfSegment, OfPing, OfEcho, planned_of, Act, Who, FromClient, FromNode, Pinger, choose}
+use Rattle.link_world.proofs.Prelude.{◌≡◌, ℕ, zero, suc, ◌≤◌, Bool, false, List, [], ◌∷◌, length, map, set, Option, Some, None, slice_get, refl, sym, ap, ◌∙◌, arith, slice_get-map, option_map, AppSpec, PlainSegment, Connection, same_sockets, ticks_of, Event, Reply, tick, event_of, Arrived, EchoAsked, Echo, TcpReply, NodeStep, step, AbstractClient, ClientStep, client_takes, keeps, advertises_window, client_opens, client_again, client_closes, client_aborts, client_acts, does, handed, handles_all, hands_over, is_idle, state_at, changed, receives_datagram, ping_from, sent_bytes, Content, Sent, Side, World, retires, retires_in, client_sockets, client_stepped, delivers, epoch_of, marked, node_handles, node_stepped, posts, posts_of_client, posts_reply, with_client, with_side, OfSegment, OfPing, OfEcho, planned_of, Act, Who, FromClient, FromNode, Pinger, choose}
 use Rattle.link_world.proofs.Doing.{at_number, where_there, delivered_by}
 use Rattle.link_world.proofs.Rounds.{one_longer}
 use Rattle.link_world.proofs.Setups.{Keeps, again_keeps, aborts_keeps, closes_keeps, opens_keeps, planned_by, takes_keeps}
@@ -106,7 +106,7 @@ module _ (m : AppSpec) (served : ℕ → Bool) where
 
   handed_grows : (w : World) (n : ℕ) (bytes : List ℕ) (side : Side) → slice_get w.sides n ≡ Some side → Grows w (handed w (suc n) bytes side)
   handed_grows w n bytes side at =
-      where_there (Grows w) (λ s. client_stepped w (suc n) side (client_takes side.client s)) (hears_datagram side.client.setup bytes) w (grows_not w)
+      where_there (Grows w) (λ s. client_stepped w (suc n) side (client_takes side.client s)) (receives_datagram side.client.setup bytes) w (grows_not w)
       (λ s e. client_grows w n side side (client_takes side.client s) at refl (takes_keeps side.client s))
 
   over_grows : (w : World) (bytes : List ℕ) (who : Who) → Grows w (hands_over m served w bytes who)

@@ -1,24 +1,24 @@
 -- A client's code receives in a datagram what the world defines.
-use Rattle.link_world.proofs.Prelude.{ℕ, List, Option, Some, None, Result, Ok, Err, take, option_map_or, ◌≡◌, refl, head_or_fate, payload_of, IpFate, IpHead, Proto, Icmp, echo_fate, IcmpFate, segment_or_fate, TcpFate, Segment, EchoAsked, IcmpRefused, by_head, by_proto, by_segment, Setup, heard_in, heard_by_proto, heard_by_head, client_hears}
+use Rattle.link_world.proofs.Prelude.{ℕ, List, Option, Some, None, Result, Ok, Err, take, option_map_or, ◌≡◌, refl, head_or_fate, payload_of, IpFate, IpHead, Proto, Icmp, echo_fate, IcmpFate, segment_or_fate, TcpFate, Segment, EchoAsked, IcmpRefused, by_head, by_proto, by_segment, Setup, received_in, received_by_proto, received_by_head, client_receives}
 use Rattle.uip_ipv4.specs.declared.proto.Proto.TheVariants.{Tcp}
-use Rattle.link_world.specs.Bytes.{heard_by, hears_datagram as world_hears}
+use Rattle.link_world.specs.Bytes.{received_by, receives_datagram as world_hears}
 
-of_segment : (setup : Setup) (head : IpHead) (bytes : List ℕ) (r : Result Segment TcpFate) → heard_in setup head bytes r ≡ heard_by setup (by_segment head bytes r)
+of_segment : (setup : Setup) (head : IpHead) (bytes : List ℕ) (r : Result Segment TcpFate) → received_in setup head bytes r ≡ received_by setup (by_segment head bytes r)
 of_segment setup head bytes (Ok s) = refl
 of_segment setup head bytes (Err fate) = refl
 
-of_echo : (setup : Setup) (head : IpHead) (bytes : List ℕ) (o : Option IcmpFate) → heard_by_proto Icmp setup head bytes ≡ heard_by setup (option_map_or IcmpRefused o (EchoAsked (take head.total bytes)))
+of_echo : (setup : Setup) (head : IpHead) (bytes : List ℕ) (o : Option IcmpFate) → received_by_proto Icmp setup head bytes ≡ received_by setup (option_map_or IcmpRefused o (EchoAsked (take head.total bytes)))
 of_echo setup head bytes None = refl
 of_echo setup head bytes (Some fate) = refl
 
-of_proto : (p : Proto) (setup : Setup) (head : IpHead) (bytes : List ℕ) → heard_by_proto p setup head bytes ≡ heard_by setup (by_proto p head bytes)
+of_proto : (p : Proto) (setup : Setup) (head : IpHead) (bytes : List ℕ) → received_by_proto p setup head bytes ≡ received_by setup (by_proto p head bytes)
 of_proto Icmp setup head bytes = of_echo setup head bytes (echo_fate (payload_of head bytes))
 of_proto Tcp setup head bytes = of_segment setup head bytes (segment_or_fate head bytes)
 
-of_head : (setup : Setup) (bytes : List ℕ) (r : Result IpHead IpFate) → heard_by_head setup bytes r ≡ heard_by setup (by_head bytes r)
+of_head : (setup : Setup) (bytes : List ℕ) (r : Result IpHead IpFate) → received_by_head setup bytes r ≡ received_by setup (by_head bytes r)
 of_head setup bytes (Ok head) = of_proto head.proto setup head bytes
 of_head setup bytes (Err fate) = refl
 
 -- what the client's code receives is what the world defines
-pub same_hearing : (setup : Setup) (bytes : List ℕ) → client_hears setup bytes ≡ world_hears setup bytes
+pub same_hearing : (setup : Setup) (bytes : List ℕ) → client_receives setup bytes ≡ world_hears setup bytes
 same_hearing setup bytes = of_head setup bytes (head_or_fate bytes setup.addr.0)

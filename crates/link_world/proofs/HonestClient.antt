@@ -1,5 +1,5 @@
 -- A client at the other end of a link that loses nothing: what it does at each segment of the node.
-use Rattle.link_world.proofs.Prelude.{◌≡◌, ℕ, ◌+◌, ◌-◌, ◌<◌, ◌≤◌, min, Bool, true, false, if◌then◌else◌, not, ◌&&◌, ◌||◌, inl, inr, List, [], ◌++◌, length, take, drop, refl, sym, ap, ◌∙◌, subst, arith, Some, None, eqb, ltb, le-ltb, lt-ltb, cases_lt, eq-eqb, wrap, FIN, SYN, PSH, ACK, PlainSegment, has_fin, has_rst, has_ack, occupies_sequence_space, AbstractClient, ClientStep, sends_next, hears_ack, takes_text, takes_in_order, takes_by, client_takes, own_request, ack_of, own_fin, next_own, has_outstanding, keeps, ClientState, Opening, Opened, FinAt, Setup, zero_or_more, ltb-yes, choose}
+use Rattle.link_world.proofs.Prelude.{◌≡◌, ℕ, ◌+◌, ◌-◌, ◌<◌, ◌≤◌, min, Bool, true, false, if◌then◌else◌, not, ◌&&◌, ◌||◌, inl, inr, List, [], ◌++◌, length, take, drop, refl, sym, ap, ◌∙◌, subst, arith, Some, None, eqb, ltb, le-ltb, lt-ltb, cases_lt, eq-eqb, wrap, FIN, SYN, PSH, ACK, PlainSegment, has_fin, has_rst, has_ack, occupies_sequence_space, AbstractClient, ClientStep, sends_next, receives_ack, takes_text, takes_in_order, takes_by, client_takes, own_request, ack_of, own_fin, next_own, has_outstanding, keeps, ClientState, Opening, Opened, FinAt, Setup, zero_or_more, ltb-yes, choose}
 use Rattle.link_client.specs.Client as client
 use Rattle.link_client.specs.declared.client_state.ClientState.TheVariants.{Closed}
 
@@ -90,7 +90,7 @@ module _ (setup : Setup) (request : List ℕ) where
   all_three false b c e f g = absurd (cc)
 
   -- all that is outstanding is acknowledged
-  accepts_all : (received : List ℕ) (a o x : ℕ) (s : PlainSegment) → has_ack s.flags ≡ true → s.ack ≡ wrap (setup.iss.0 + 1 + (a + o)) → hears_ack (open_with received a o x) s ≡ open_with received (a + o) 0 x
+  accepts_all : (received : List ℕ) (a o x : ℕ) (s : PlainSegment) → has_ack s.flags ≡ true → s.ack ≡ wrap (setup.iss.0 + 1 + (a + o)) → receives_ack (open_with received a o x) s ≡ open_with received (a + o) 0 x
   accepts_all received a o x s h e =
       let c : AbstractClient = open_with received a o x in
       let after : AbstractClient = open_with received (a + o) 0 x in

@@ -1,6 +1,6 @@
 -- The node at the other end of a link that loses nothing: one connection, which sends at each segment of its client what the
 -- application has to send next.
-use Rattle.link_world.proofs.Prelude.{All, position_from, option_map, option_map_or, ◌≡◌, ℕ, zero, suc, ◌+◌, ◌<◌, ◌≤◌, min, Bool, true, false, if◌then◌else◌, cond, not, ◌&&◌, ◌⊎◌, inl, inr, List, [], ◌∷◌, ◌++◌, length, take, drop, replicate, refl, sym, ap, ◌∙◌, subst, arith, Option, Some, None, eqb, ltb, position, slice_get, eq-eqb, cases_lt, take-append-drop, take_all, take-add, position_from-zero, wrap, Addr, FIN, PSH, ACK, PlainSegment, has_fin, has_rst, has_ack, AppState, After, AppSpec, text_left, Pages, IsPaged, IsU32, IsNow, MayWant, Now, Reset, State, SynRcvd, Established, FinWait1, FinWait2, TimeWait, Want, Nothing, Send, Close, Abort, Sockets, Connection, closed, is_live, serves, same_sockets, snd_una, rcv_nxt, occupies_sequence_space, segment_of, is_again, Outcome, leaves, closes, idles, does_as_wanted, ask, asked, first_mss, reported_end, peer_closes, is_out_of_order, is_acked, has_text, hears, with_window, stays_established, in_established, fin_acked, by_state, on_segment, Step, Event, HistoryEntry, Arrived, Silent, Spoke, TcpReply, ident_of, initial_number, AbstractNode, NodeStep, initial_node, snapshot, slot_for_syn, opens, passes, refuses, gone_by, happened, opens_in, for_no_connection, arrives_at, arrives, offered, syn_of, FinAt, Setup, GoesOnBy, AnswersIn, steady_of, choose, both_ways, zero_or_more, ltb-yes, cut_length, wrap_wrap, same_self, FitConn, FitOut, snapshot_fits, asked_fits, on_segment_fits, closed_fits, all_closed}
+use Rattle.link_world.proofs.Prelude.{All, position_from, option_map, option_map_or, ◌≡◌, ℕ, zero, suc, ◌+◌, ◌<◌, ◌≤◌, min, Bool, true, false, if◌then◌else◌, cond, not, ◌&&◌, ◌⊎◌, inl, inr, List, [], ◌∷◌, ◌++◌, length, take, drop, replicate, refl, sym, ap, ◌∙◌, subst, arith, Option, Some, None, eqb, ltb, position, slice_get, eq-eqb, cases_lt, take-append-drop, take_all, take-add, position_from-zero, wrap, Addr, FIN, PSH, ACK, PlainSegment, has_fin, has_rst, has_ack, AppState, After, AppSpec, text_left, Pages, IsPaged, IsU32, IsNow, MayWant, Now, Reset, State, SynRcvd, Established, FinWait1, FinWait2, TimeWait, Want, Nothing, Send, Close, Abort, Sockets, Connection, closed, is_live, serves, same_sockets, snd_una, rcv_nxt, occupies_sequence_space, segment_of, is_again, Outcome, leaves, closes, idles, does_as_wanted, ask, asked, first_mss, reported_end, peer_closes, is_out_of_order, is_acked, has_text, delivers_text, with_window, stays_established, in_established, fin_acked, by_state, on_segment, Step, Event, HistoryEntry, Arrived, Silent, Spoke, TcpReply, ident_of, initial_number, AbstractNode, NodeStep, initial_node, snapshot, slot_for_syn, opens, passes, refuses, gone_by, happened, opens_in, for_no_connection, arrives_at, arrives, offered, syn_of, FinAt, Setup, GoesOnBy, AnswersIn, steady_of, choose, both_ways, zero_or_more, ltb-yes, cut_length, wrap_wrap, same_self, FitConn, FitOut, snapshot_fits, asked_fits, on_segment_fits, closed_fits, all_closed}
 use Rattle.link_client.specs.declared.client_state.ClientState.TheVariants as Is
 use Rattle.link_world.proofs.HonestClient.{client_at, node_says, node_syn_ack, Brings, next_out}
 
@@ -132,7 +132,7 @@ module _ (m : AppSpec) (pages : Pages) (lawful : IsPaged m pages) (served : ℕ 
   -- the first visit: it is the acknowledgement of the SYN
   first_visit : (numbers : List ℕ) (iss x : ℕ) (p : AppState) (s : PlainSegment) → Brings setup request 0 x s → x ≡ wrap (iss + 1) →
       let start : After = m.connected numbers setup.server_port.0 in
-      let delivered : After = hears m start.numbers start.part s.text in
+      let delivered : After = delivers_text m start.numbers start.part s.text in
       on_segment m (conn_at SynRcvd 0 iss 0 1 p) numbers s ≡ leaves (conn_at Established (0 + length s.text) iss (0 + 1) 0 delivered.part) delivered.numbers (Step.Ask (has_text s))
   first_visit numbers iss x p s b e =
       let c : Connection = conn_at SynRcvd 0 iss 0 1 p in
@@ -142,12 +142,12 @@ module _ (m : AppSpec) (pages : Pages) (lawful : IsPaged m pages) (served : ℕ 
 
   -- in ESTABLISHED what a segment brings is delivered, and the application is asked
   heard_in_turn : (acked : Bool) (numbers : List ℕ) (taken iss at : ℕ) (p : AppState) (s : PlainSegment) → has_fin s.flags ≡ false → s.window ≡ 65535 → not acked && not (has_text s) ≡ false →
-      let delivered : After = hears m numbers p s.text in
+      let delivered : After = delivers_text m numbers p s.text in
       in_established m acked (conn_at Established taken iss at 0 p) numbers s ≡ leaves (conn_at Established (taken + length s.text) iss at 0 delivered.part) delivered.numbers (Step.Ask (has_text s))
   unfolding in_established stays_established
   heard_in_turn acked numbers taken iss at p s f w h =
       let c : Connection = conn_at Established taken iss at 0 p in
-      let delivered : After = hears m numbers p s.text in
+      let delivered : After = delivers_text m numbers p s.text in
       let d : Connection = conn_at Established (taken + length s.text) iss at 0 delivered.part in
       ap (λ b. if b then peer_closes m c numbers s else stays_established m acked c numbers s) f
       ∙ ap (λ b. if b then leaves (with_window s.window d) delivered.numbers Step.Drop else leaves (with_window s.window d) delivered.numbers (Step.Ask (has_text s))) h
@@ -157,7 +157,7 @@ module _ (m : AppSpec) (pages : Pages) (lawful : IsPaged m pages) (served : ℕ 
   -- a later visit, with something outstanding, and with nothing
   reported_visit : (numbers : List ℕ) (taken iss acked len x : ℕ) (p : AppState) (s : PlainSegment) → Brings setup request taken x s → 0 < len → x ≡ wrap (iss + (acked + len)) →
       let reported : After = m.acked numbers p len in
-      let delivered : After = hears m reported.numbers reported.part s.text in
+      let delivered : After = delivers_text m reported.numbers reported.part s.text in
       on_segment m (conn_at Established taken iss acked len p) numbers s ≡ leaves (conn_at Established (taken + length s.text) iss (acked + len) 0 delivered.part) delivered.numbers (Step.Ask (has_text s))
   reported_visit numbers taken iss acked len x p s b l e =
       let c : Connection = conn_at Established taken iss acked len p in
@@ -167,7 +167,7 @@ module _ (m : AppSpec) (pages : Pages) (lawful : IsPaged m pages) (served : ℕ 
       taken_in c numbers s b.no_rst b.seq ∙ ap (λ y. by_state m Established y c numbers s) is ∙ heard_in_turn true reported.numbers taken iss (acked + len) reported.part s b.no_fin b.window refl
 
   quiet_visit : (numbers : List ℕ) (taken iss acked x : ℕ) (p : AppState) (s : PlainSegment) → Brings setup request taken x s → 0 < length s.text →
-      let delivered : After = hears m numbers p s.text in
+      let delivered : After = delivers_text m numbers p s.text in
       on_segment m (conn_at Established taken iss acked 0 p) numbers s ≡ leaves (conn_at Established (taken + length s.text) iss acked 0 delivered.part) delivered.numbers (Step.Ask (has_text s))
   quiet_visit numbers taken iss acked x p s b l =
       let c : Connection = conn_at Established taken iss acked 0 p in
@@ -234,14 +234,14 @@ module _ (m : AppSpec) (pages : Pages) (lawful : IsPaged m pages) (served : ℕ 
           Says r taken iss acked most
 
     hears_more : (numbers : List ℕ) (p : AppState) (taken most : ℕ) (text : List ℕ) → taken ≤ length request → text ≡ brought taken → IsReady p taken most →
-        IsReady (hears m numbers p text).part (taken + length text) most
+        IsReady (delivers_text m numbers p text).part (taken + length text) most
     hears_more numbers p taken most [] h e r = record { good = r.good; input = r.input ∙ ap (λ n. take n request) (let z : taken ≡ taken + 0 = omega arith in z); few = r.few }
     hears_more numbers p taken most (y ∷ ys) h e r =
         let text : List ℕ = y ∷ ys in
         let own : text ≡ take (length text) (drop taken request) = e ∙ ap (λ n. take n (drop taken request)) (sym (ap length e ∙ brought_length taken h)) in
         let now : p.input ++ text ≡ take (taken + length text) request =
         ap (λ l. l ++ text) r.input ∙ ap (λ l. take taken request ++ l) own ∙ sym (take-add taken (length text) request) in
-        let more = answers.hears numbers p text (drop (taken + length text) request) r.good (ap (λ l. l ++ drop (taken + length text) request) now ∙ take-append-drop (taken + length text) request) in
+        let more = answers.delivers_text numbers p text (drop (taken + length text) request) r.good (ap (λ l. l ++ drop (taken + length text) request) now ∙ take-append-drop (taken + length text) request) in
         record { good = more.0; input = lawful.newdata_input numbers p text ∙ now; few = omega (arith, more.1, r.few) }
 
     all_of : (p : AppState) (taken : ℕ) → p.input ≡ take taken request → length request ≤ taken → p.input ≡ request
@@ -307,7 +307,7 @@ module _ (m : AppSpec) (pages : Pages) (lawful : IsPaged m pages) (served : ℕ 
 
     -- What a segment brings is delivered, and then the application is asked.
     asked_after : (state : State) (numbers next : List ℕ) (history : List HistoryEntry) (taken iss acked len at most : ℕ) (p q : AppState) (s : PlainSegment) → 1 ≤ setup.seg → taken ≤ length request → s.text ≡ brought taken → is_live state ≡ true →
-        let delivered : After = hears m next q s.text in
+        let delivered : After = delivers_text m next q s.text in
         on_segment m (conn_at state taken iss acked len p) numbers s ≡ leaves (conn_at Established (taken + length s.text) iss at 0 delivered.part) delivered.numbers (Step.Ask (has_text s)) →
         IsReady q taken most → All IsU32 numbers → FitConn (conn_at state taken iss acked len p) →
         Says (arrives m served (node_at numbers history (conn_at state taken iss acked len p)) sockets s) (taken + next_out setup request taken) iss at most
@@ -315,7 +315,7 @@ module _ (m : AppSpec) (pages : Pages) (lawful : IsPaged m pages) (served : ℕ 
         let c : Connection = conn_at state taken iss acked len p in
         let node : AbstractNode = node_at numbers history c in
         let event : Event = Arrived sockets s in
-        let delivered : After = hears m next q s.text in
+        let delivered : After = delivers_text m next q s.text in
         let d : Connection = conn_at Established (taken + length s.text) iss at 0 delivered.part in
         let size : length s.text ≡ next_out setup request taken = ap length text ∙ brought_length taken h in
         let fit : FitOut (leaves d delivered.numbers (Step.Ask (has_text s))) = subst (λ (o : Outcome). FitOut o) row (on_segment_fits m (steady_of m pages lawful) c numbers s f n) in

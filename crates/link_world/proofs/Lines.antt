@@ -1,6 +1,6 @@
 -- No act reads the mark, so a list of acts reaches what the lines of a schedule reach.
 -- [add: schedule-line] The list of its acts.
-use Rattle.link_world.proofs.Prelude.{All, ◌≡◌, ℕ, zero, suc, ◌+◌, inl, inr, Bool, false, List, [], ◌∷◌, ◌++◌, length, map, flat_map, replicate, reverse, refl, sym, ap, ◌∙◌, arith, Option, Some, None, Result, Ok, Err, ltb, if◌then◌else◌, All-append, option_map_or, option_or, ◌>>=◌, AppSpec, EchoAsked, Arrived, Echo, TcpReply, event_of, NodeStep, step, AbstractClient, ClientStep, client_takes, client_opens, client_again, client_closes, client_aborts, advertises_window, World, Side, Sent, Content, numbered, retires, posts, posts_reply, node_handles, with_client, with_side, client_stepped, marked, client_sockets, delivers, OfSegment, OfPing, OfEcho, bytes_by, sent_bytes, changed, hears_datagram, acts, client_acts, does, fault_of, handed, handles_all, hands_over, named_fault, needs, runs, past_mark, acts_of, mark_after, plays_from, Act, StepFault, Full, NoByte, NoDatagram, Who, FromClient, FromNode, Pinger, IsAct, IsPlainAct, OfLine, LinesAreActs, all_nil, all_cons}
+use Rattle.link_world.proofs.Prelude.{All, ◌≡◌, ℕ, zero, suc, ◌+◌, inl, inr, Bool, false, List, [], ◌∷◌, ◌++◌, length, map, flat_map, replicate, reverse, refl, sym, ap, ◌∙◌, arith, Option, Some, None, Result, Ok, Err, ltb, if◌then◌else◌, All-append, option_map_or, option_or, ◌>>=◌, AppSpec, EchoAsked, Arrived, Echo, TcpReply, event_of, NodeStep, step, AbstractClient, ClientStep, client_takes, client_opens, client_again, client_closes, client_aborts, advertises_window, World, Side, Sent, Content, numbered, retires, posts, posts_reply, node_handles, with_client, with_side, client_stepped, marked, client_sockets, delivers, OfSegment, OfPing, OfEcho, bytes_by, sent_bytes, changed, receives_datagram, acts, client_acts, does, fault_of, handed, handles_all, hands_over, named_fault, needs, runs, past_mark, acts_of, mark_after, plays_from, Act, StepFault, Full, NoByte, NoDatagram, Who, FromClient, FromNode, Pinger, IsAct, IsPlainAct, OfLine, LinesAreActs, all_nil, all_cons}
 use Rattle.uip_node.specs.Events.{Event as NodeEvent, Reply, tick}
 use Rattle.link_schedule.specs.declared.event.Event.{Event}
 use Rattle.link_world.proofs.Doing.{goes_on_with, with_mark}
@@ -65,7 +65,7 @@ module _ (m : AppSpec) (served : ℕ → Bool) (x : ℕ) where
 
   handed_mark : (w : World) (n : ℕ) (bytes : List ℕ) (side : Side) → handed (at_mark x w) n bytes side ≡ at_mark x (handed w n bytes side)
   handed_mark w n bytes side =
-      some_mark (λ s. client_stepped w n side (client_takes side.client s)) (λ s. client_stepped (at_mark x w) n side (client_takes side.client s)) (hears_datagram side.client.setup bytes) w
+      some_mark (λ s. client_stepped w n side (client_takes side.client s)) (λ s. client_stepped (at_mark x w) n side (client_takes side.client s)) (receives_datagram side.client.setup bytes) w
       (λ s. stepped_mark w n side (client_takes side.client s))
 
   over_mark : (w : World) (bytes : List ℕ) (who : Who) → hands_over m served (at_mark x w) bytes who ≡ at_mark x (hands_over m served w bytes who)

@@ -1,6 +1,6 @@
 -- Damage is a loss: nothing but the node's history changes.
 -- [add: counter] An event that raises the counter.
-use Rattle.link_world.proofs.Prelude.{◌≡◌, ℕ, zero, suc, ◌+◌, ◌++◌, ◌<◌, ◌≤◌, ◌==◌, Bool, true, false, if◌then◌else◌, List, ◌∷◌, map, length, refl, sym, ap, ◌∙◌, subst, Option, Some, None, list_any, range_with_len, option_map_or, append-nil, wrap, AppSpec, Event, HistoryEntry, Silent, times, raised_by, raised_by_answer, raises, counters, IpRefused, IcmpRefused, TcpRefused, event_of, client_takes, Setup, World, Side, client_stepped, numbered, node_handles, sent_bytes, changed, heard_by, hands_over, handed, Who, FromClient, FromNode, Pinger, is_refused, rise, IsLoss, OneRefusal, CountsBy, IsWholeDatagram, DamageIsLoss, wrap_wrap}
+use Rattle.link_world.proofs.Prelude.{◌≡◌, ℕ, zero, suc, ◌+◌, ◌++◌, ◌<◌, ◌≤◌, ◌==◌, Bool, true, false, if◌then◌else◌, List, ◌∷◌, map, length, refl, sym, ap, ◌∙◌, subst, Option, Some, None, list_any, range_with_len, option_map_or, append-nil, wrap, AppSpec, Event, HistoryEntry, Silent, times, raised_by, raised_by_answer, raises, counters, IpRefused, IcmpRefused, TcpRefused, event_of, client_takes, Setup, World, Side, client_stepped, numbered, node_handles, sent_bytes, changed, received_by, hands_over, handed, Who, FromClient, FromNode, Pinger, is_refused, rise, IsLoss, OneRefusal, CountsBy, IsWholeDatagram, DamageIsLoss, wrap_wrap}
 use Rattle.link_world.proofs.Damage.{damage_refused}
 use Rattle.link_world.proofs.Doing.{damaged}
 
@@ -13,7 +13,7 @@ node_loses m served w (IcmpRefused fate) h = record { sides = refl; sent = refl;
 node_loses m served w (TcpRefused fate) h = record { sides = refl; sent = refl; mark = refl; addr = refl; numbers = refl; connections = refl; ticks = refl; initial = refl; ident = refl }
 node_loses m served w _ h = absurd (cc)
 
-nothing_heard : (setup : Setup) (e : Event) → is_refused e ≡ true → heard_by setup e ≡ None
+nothing_heard : (setup : Setup) (e : Event) → is_refused e ≡ true → received_by setup e ≡ None
 nothing_heard setup (IpRefused fate) h = refl
 nothing_heard setup (IcmpRefused fate) h = refl
 nothing_heard setup (TcpRefused fate) h = refl

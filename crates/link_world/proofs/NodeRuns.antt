@@ -7,7 +7,7 @@ use Rattle.link_world.proofs.TextNumbers.{Num, accepted_num, closed_num, segment
 module _ (m : AppSpec) (P : Connection → Type 0) (IsAt : (Connection → Now) → Type 0)
     (snapshots : (n : AbstractNode) (event : Event) (slot : ℕ) (old : Connection) → slice_get n.connections slot ≡ Some old → IsAt (snapshot n event slot))
     (shut : P closed) (born : (iss : ℕ) (sockets : Sockets) (s : PlainSegment) → P (accepted iss sockets s))
-    (hears : (at : Connection → Now) → IsAt at → (c : Connection) (numbers : List ℕ) (s : PlainSegment) → P c → P (asked m at (on_segment m c numbers s)).connection)
+    (delivers_text : (at : Connection → Now) → IsAt at → (c : Connection) (numbers : List ℕ) (s : PlainSegment) → P c → P (asked m at (on_segment m c numbers s)).connection)
     (ticks : (at : Connection → Now) → IsAt at → (c : Connection) (numbers : List ℕ) → P c → P (asked m at (on_tick m c numbers)).connection) where
   abbrev Each : List Connection → Type 0
   Each cs = (i : ℕ) (c : Connection) → slice_get cs i ≡ Some c → P c
@@ -41,7 +41,7 @@ module _ (m : AppSpec) (P : Connection → Type 0) (IsAt : (Connection → Now) 
   arrives_each served n sockets s (Some slot) e h =
       let at = position_in (serves sockets) n.connections slot e in
       let event : Event = Arrived sockets s in
-      happened_each n event slot (connection_in slot n) _ (hears (snapshot n event slot) (snapshots n event slot at.item at.get) (connection_in slot n) n.numbers s (index_each n.connections slot h)) h
+      happened_each n event slot (connection_in slot n) _ (delivers_text (snapshot n event slot) (snapshots n event slot at.item at.get) (connection_in slot n) n.numbers s (index_each n.connections slot h)) h
 
   -- a slot that is none keeps nothing
   periodic_each : (n : AbstractNode) (slot : ℕ) (old : Option Connection) → slice_get n.connections slot ≡ old → Each n.connections → Each (periodic m n slot).node.connections

@@ -1,7 +1,7 @@
 -- The names that the proofs of this crate cite: of std, of the crates below, and of its own definitions. Declares nothing.
 pub use Rattle.app_events.specs.Prelude.{After, AppSpec, AppState, CanSend, IsAddr, IsByte, IsNow, IsPaged, IsPrefixOf, IsSnapshot, IsU32, MayWant, Pages, Snapshot, text_left}
 pub use Rattle.app_events.specs.declared.ending.Ending.TheVariants.{Reset}
-pub use Rattle.link_client.specs.Prelude.{AbstractClient, ClientStep, ack_of, advertises_window, after_fin, client_aborts, client_again, client_closes, client_hears, client_opens, fin_out, fin_sent, has_closed, has_outstanding, heard_by_head, heard_by_proto, heard_in, hears_ack, is_receiving, is_reset_by, keeps, may_finish, next_own, offered, one_if, opened_by, own_fin, own_first, own_request, own_reset, steps_with, syn_of, takes_text}
+pub use Rattle.link_client.specs.Prelude.{AbstractClient, ClientStep, ack_of, advertises_window, after_fin, client_aborts, client_again, client_closes, client_receives, client_opens, fin_out, fin_sent, has_closed, has_outstanding, received_by_head, received_by_proto, received_in, receives_ack, is_receiving, is_reset_by, keeps, may_finish, next_own, offered, one_if, opened_by, own_fin, own_first, own_request, own_reset, steps_with, syn_of, takes_text}
 unfoldable pub use Rattle.link_client.specs.Prelude.{aborts_by, again_by, client_takes, closes_by, opens_by, sends_next, takes_by, takes_in_order}
 pub use Rattle.link_client.specs.declared.client_state.ClientState.{ClientState}
 pub use Rattle.link_client.specs.declared.client_state.ClientState.TheVariants.{Opened, Opening}
@@ -9,7 +9,7 @@ pub use Rattle.link_client.specs.declared.fin_at.FinAt.{FinAt}
 pub use Rattle.link_client.specs.declared.setup.Setup.{Setup}
 pub use Rattle.link_schedule.specs.Numbers.{◌>>=◌}
 pub use Rattle.link_schedule.specs.declared.event.Event.TheVariants.{Aborts, Again, Closes, Damage, Give, Half, Lose, Opens, Ping, Reverse, Round, Tick, Twice, Window}
-pub use Rattle.link_world.specs.Prelude.{AcknowledgedLater, AgainExactly, AgainExactlyPlainly, AsksRequest, BadLine, BytesAreRead, CapturesFit, CleanParts, Content, CountsBy, DamageIsLoss, DamageIsLossThere, EpochsAreFew, HasOneEpoch, HasTaken, HasTextNumbers, HonestLink, IsAct, IsExpired, IsInStep, IsLater, IsLoss, IsNumberOf, IsOfNode, IsPlainAct, IsPlan, IsPlanned, IsReached, IsReachedPlainly, IsRead, IsSchedulePlayed, IsSentBy, IsServed, IsServedWhole, IsWholeDatagram, LinesAreActs, MarkIsLow, MarksRepeats, NoneIsEmpty, OfEcho, OfLine, OfPing, OfSegment, OneConnection, OneRefusal, OneSegment, PassesBy, PastConnection, Planned, PrefixAndWhole, RepeatsSameBytes, SameBytes, SameBytesPlainly, SaysPage, SendsAgain, Sent, SentToClients, Side, SidesAsPlanned, TextNumbers, TextsAreShort, World, acts, acts_of, addressed, becomes_opened, bytes_by, captures_of, changed, client_acts, client_bytes, client_sockets, client_stepped, delivers, does, epoch, epoch_of, era, fault_of, fresh_side, handed, handles_all, hands_over, heard_by, hears_datagram, initial_world, is_clean, is_idle, is_refused, mark_after, marked, may_wait, named_fault, needs, node_bytes, node_handles, node_stepped, numbered, page_of, past_connection_of, past_mark, planned_of, plays, plays_from, plays_line, posts, posts_of_client, posts_reply, retires, retires_in, rise, runs, sent_bytes, server_of, server_side, started, state_at, with_client, with_side}
+pub use Rattle.link_world.specs.Prelude.{AcknowledgedLater, AgainExactly, AgainExactlyPlainly, AsksRequest, BadLine, BytesAreRead, CapturesFit, CleanParts, Content, CountsBy, DamageIsLoss, DamageIsLossThere, EpochsAreFew, HasOneEpoch, HasTaken, HasTextNumbers, HonestLink, IsAct, IsExpired, IsInStep, IsLater, IsLoss, IsNumberOf, IsOfNode, IsPlainAct, IsPlan, IsPlanned, IsReached, IsReachedPlainly, IsRead, IsSchedulePlayed, IsSentBy, IsServed, IsServedWhole, IsWholeDatagram, LinesAreActs, MarkIsLow, MarksRepeats, NoneIsEmpty, OfEcho, OfLine, OfPing, OfSegment, OneConnection, OneRefusal, OneSegment, PassesBy, PastConnection, Planned, PrefixAndWhole, RepeatsSameBytes, SameBytes, SameBytesPlainly, SaysPage, SendsAgain, Sent, SentToClients, Side, SidesAsPlanned, TextNumbers, TextsAreShort, World, acts, acts_of, addressed, becomes_opened, bytes_by, captures_of, changed, client_acts, client_bytes, client_sockets, client_stepped, delivers, does, epoch, epoch_of, era, fault_of, fresh_side, handed, handles_all, hands_over, received_by, receives_datagram, initial_world, is_clean, is_idle, is_refused, mark_after, marked, may_wait, named_fault, needs, node_bytes, node_handles, node_stepped, numbered, page_of, past_connection_of, past_mark, planned_of, plays, plays_from, plays_line, posts, posts_of_client, posts_reply, retires, retires_in, rise, runs, sent_bytes, server_of, server_side, started, state_at, with_client, with_side}
 unfoldable pub use Rattle.link_world.specs.Prelude.{ping_from}
 pub use Rattle.link_world.specs.declared.act.Act.{Act}
 pub use Rattle.link_world.specs.declared.step_fault.StepFault.{StepFault}
@@ -34,7 +34,7 @@ pub use Rattle.std.specs.Int.Bits.{xor_assoc, xor_self, xor_zero_l}
 pub use Rattle.std.specs.List.{All, list_all, list_any, position_from, range_with_len}
 pub use Rattle.std.specs.Prelude.{nat_lt, option_map, ⊤}
 pub use Rattle.std.specs.Result.{result_map_both}
-pub use Rattle.tcp_machine.specs.Prelude.{Connection, Outcome, Sockets, accept, accepted, after_own_fin, ask, asked, asked_for, bare_ack, by_beat, by_state, closed, closes, connects, does_as_wanted, fin_of, first_mss, grows_older, has_text, hears, in_state, is_acked, is_again, is_live, is_open, is_out_of_order, is_plain_syn, is_resting, leaves, limit_of, occupies_sequence_space, on_tick, outstanding, peer_has_closed, prepared, rcv_nxt, reset_for_no_connection, reset_of, rests, same_sockets, segment_of, serves, snd_una, syn_ack, takes, text_segment, tick_by, reported_end, tries_of, waits_for_ack, with_part, with_window}
+pub use Rattle.tcp_machine.specs.Prelude.{Connection, Outcome, Sockets, accept, accepted, after_own_fin, ask, asked, asked_for, bare_ack, by_beat, by_state, closed, closes, connects, does_as_wanted, fin_of, first_mss, grows_older, has_text, delivers_text, in_state, is_acked, is_again, is_live, is_open, is_out_of_order, is_plain_syn, is_resting, leaves, limit_of, occupies_sequence_space, on_tick, outstanding, peer_has_closed, prepared, rcv_nxt, reset_for_no_connection, reset_of, rests, same_sockets, segment_of, serves, snd_una, syn_ack, takes, text_segment, tick_by, reported_end, tries_of, waits_for_ack, with_part, with_window}
 pub use Rattle.tcp_segment.specs.Prelude.{Datagram, IsReadBack, PlainSegment, fields_sent, has_ack, has_fin, has_rst, has_syn, head_of, header_len, pseudo_header, segment_or_fate}
 unfoldable pub use Rattle.tcp_segment.specs.Prelude.{datagram_bytes, segment_in}
 pub use Rattle.tcp_segment.specs.declared.fate.TcpFate.{TcpFate}
@@ -54,7 +54,7 @@ pub use Rattle.uip_node.proofs.DatagramsBack.{Each, IsPlace, bytes_low, datagram
 pub use Rattle.uip_node.proofs.DeliveredBytes.{DeliveredBytes, asked_bytes, on_segment_bytes, on_tick_bytes, page_bytes}
 pub use Rattle.uip_node.proofs.FitNodes.{FitConns, FitNode, FitStep, arrives_fits, closed_fits, event_fits, happened_fits, index_fits, node_snapshot, position_in, serving_fits, slot_inside, still_fits}
 pub use Rattle.uip_node.proofs.Fits.{FitConn, FitOut, accepted_fits, all_cons, all_nil, asked_fits, on_segment_fits, on_tick_fits, snapshot_fits}
-pub use Rattle.uip_node.proofs.Handed.{Heard, hears_is}
+pub use Rattle.uip_node.proofs.Handed.{Received, hears_is}
 pub use Rattle.uip_node.proofs.Moves.{Moves, asked_moves, segment_moves, tick_moves}
 pub use Rattle.uip_node.proofs.Peers.{asked_keeps, on_segment_keeps, on_tick_closed, on_tick_keeps}
 pub use Rattle.uip_node.proofs.Prelude.{ACK, Abort, Addr, Beat, Close, CloseWait, Closed, Closing, Established, FIN, FinWait1, FinWait2, Icmp, IcmpFate, IpHead, LastAck, Nothing, Now, OWN_MSS, PSH, Proto, RST, Row, SYN, Send, State, Step, SynRcvd, TimeWait, Want, bytes_eq-Decides, common_steps, echo_fate, echo_reply, option_map_or, option_or, position_from-zero}

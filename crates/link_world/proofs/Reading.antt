@@ -1,5 +1,5 @@
 -- The bytes of each datagram are read as what was sent.
-use Rattle.link_world.proofs.Prelude.{◌≡◌, ℕ, zero, suc, ◌<◌, ◌≤◌, List, [], length, take, refl, sym, ap, ◌∙◌, subst, arith, Option, Some, None, slice_get, if◌then◌else◌, length-append, length-take, length-drop, take-length, option_map_or, Addr, echo_reply, IsReadBack, head_of, PlainSegment, Datagram, datagram_bytes, IsAddr, Sockets, EchoAsked, Arrived, IcmpRefused, event_of, by_head, by_segment, datagram_to, Setup, World, Side, Content, client_sockets, OfSegment, OfPing, OfEcho, ping_from, server_of, client_bytes, node_bytes, bytes_by, hears_datagram, heard_by, Who, FromClient, FromNode, Pinger, IsRead, BytesAreRead, is_same, IsSoundSegment, IsPlace, datagram_back, datagram_short}
+use Rattle.link_world.proofs.Prelude.{◌≡◌, ℕ, zero, suc, ◌<◌, ◌≤◌, List, [], length, take, refl, sym, ap, ◌∙◌, subst, arith, Option, Some, None, slice_get, if◌then◌else◌, length-append, length-take, length-drop, take-length, option_map_or, Addr, echo_reply, IsReadBack, head_of, PlainSegment, Datagram, datagram_bytes, IsAddr, Sockets, EchoAsked, Arrived, IcmpRefused, event_of, by_head, by_segment, datagram_to, Setup, World, Side, Content, client_sockets, OfSegment, OfPing, OfEcho, ping_from, server_of, client_bytes, node_bytes, bytes_by, receives_datagram, received_by, Who, FromClient, FromNode, Pinger, IsRead, BytesAreRead, is_same, IsSoundSegment, IsPlace, datagram_back, datagram_short}
 use Rattle.link_world.proofs.Sound.{IsSoundClient}
 use Rattle.link_world.proofs.SoundWorlds.{SoundSent, SoundWorld}
 use Rattle.link_world.proofs.SoundWorlds.SoundSent.{of_segment, of_ping, of_echo}
@@ -38,15 +38,15 @@ node_reads addr side id s l g c e =
     arrives (to_node side id s) (datagram_back (to_node side id s) (to_node_place side id s l c) g) addr (address side.client.setup.server addr e)
 
 -- a client receives a segment of its server
-heard_is : (setup : Setup) (p : Sockets) (s : PlainSegment) → p ≡ server_of setup → heard_by setup (Arrived p s) ≡ Some s
+heard_is : (setup : Setup) (p : Sockets) (s : PlainSegment) → p ≡ server_of setup → received_by setup (Arrived p s) ≡ Some s
 heard_is setup p s e = ap (λ b. if b then Some s else None) (is_same p (server_of setup) e)
 
 -- a client reads what the node sent to it
 client_reads : (addr : Addr) (side : Side) (id : ℕ) (s : PlainSegment) → IsAddr addr → id < 65536 → IsSoundSegment s → IsSoundClient side.client → side.client.setup.server ≡ addr →
-    hears_datagram side.client.setup (datagram_bytes (to_client addr side id s)) ≡ Some s
+    receives_datagram side.client.setup (datagram_bytes (to_client addr side id s)) ≡ Some s
 client_reads addr side id s a l g c e =
     let setup : Setup = side.client.setup in
-    ap (heard_by setup) (arrives (to_client addr side id s) (datagram_back (to_client addr side id s) (to_client_place addr side id s a l c) g) setup.addr refl)
+    ap (received_by setup) (arrives (to_client addr side id s) (datagram_back (to_client addr side id s) (to_client_place addr side id s a l c) g) setup.addr refl)
     ∙ heard_is setup (record { peer = addr; peer_port = setup.server_port; own_port = setup.port }) s (ap (λ x. record { peer = x; peer_port = setup.server_port; own_port = setup.port }) (sym e))
 
 -- the node reads a ping as one
@@ -66,7 +66,7 @@ abbrev AtNode : Addr → List ℕ → PlainSegment → Option Side → Type 0
 AtNode addr bytes s at = ((side : Side) → at ≡ Some side → side.client.setup.server ≡ addr → event_of addr bytes ≡ Arrived (client_sockets side) s) × (length bytes ≤ 1500)
 
 abbrev AtClient : Addr → List ℕ → PlainSegment → Option Side → Type 0
-AtClient addr bytes s at = ((side : Side) → at ≡ Some side → side.client.setup.server ≡ addr → hears_datagram side.client.setup bytes ≡ Some s) × (length bytes ≤ 1500)
+AtClient addr bytes s at = ((side : Side) → at ≡ Some side → side.client.setup.server ≡ addr → receives_datagram side.client.setup bytes ≡ Some s) × (length bytes ≤ 1500)
 
 some_side : (P : Side → Type 0) (a b : Side) → Some a ≡ Some b → P a → P b
 some_side P a b e h = subst P (let f : a ≡ b = cc in f) h
@@ -81,7 +81,7 @@ at_node addr id s (Some side) l g h = (
 at_client : (addr : Addr) (id : ℕ) (s : PlainSegment) (at : Option Side) → IsAddr addr → id < 65536 → IsSoundSegment s → ((x : Side) → at ≡ Some x → IsSoundClient x.client) → AtClient addr (option_map_or (node_bytes addr id s) at []) s at
 at_client addr id s None a l g h = ((λ side e f. absurd (cc)), omega arith)
 at_client addr id s (Some side) a l g h = (
-  (λ x e. some_side (λ (y : Side). y.client.setup.server ≡ addr → hears_datagram y.client.setup (datagram_bytes (to_client addr side id s)) ≡ Some s) side x e (client_reads addr side id s a l g (h side refl))),
+  (λ x e. some_side (λ (y : Side). y.client.setup.server ≡ addr → receives_datagram y.client.setup (datagram_bytes (to_client addr side id s)) ≡ Some s) side x e (client_reads addr side id s a l g (h side refl))),
   datagram_short (to_client addr side id s) (to_client_place addr side id s a l (h side refl)) g,
 )
 

@@ -1,5 +1,5 @@
 -- What a step of a client preserves, whatever the node did: its setup and its request, and that it is not idle.
-use Rattle.link_world.proofs.Prelude.{◌≡◌, ◌&&◌, Bool, true, false, refl, ap, eqb, ◌∙◌, PlainSegment, has_ack, has_fin, AbstractClient, ClientStep, after_fin, client_aborts, client_again, client_closes, client_opens, client_takes, has_outstanding, hears_ack, next_own, opened_by, sends_next, takes_in_order, takes_text, ClientState, is_idle, Planned, choose}
+use Rattle.link_world.proofs.Prelude.{◌≡◌, ◌&&◌, Bool, true, false, refl, ap, eqb, ◌∙◌, PlainSegment, has_ack, has_fin, AbstractClient, ClientStep, after_fin, client_aborts, client_again, client_closes, client_opens, client_takes, has_outstanding, receives_ack, next_own, opened_by, sends_next, takes_in_order, takes_text, ClientState, is_idle, Planned, choose}
 use Rattle.link_client.specs.declared.client_state.ClientState.TheVariants as Is
 use Rattle.link_world.proofs.ClientCases.{of_aborts, of_again, of_closes, of_opens, of_order, of_sends, of_takes}
 
@@ -26,7 +26,7 @@ sends_keeps owed c =
 from_keeps : (c d : AbstractClient) (owed : Bool) → Follows c d → Keeps c (sends_next owed d)
 from_keeps c d owed g = follows_on c d (sends_next owed d).client g (sends_keeps owed d)
 
-ack_follows : (c : AbstractClient) (s : PlainSegment) → Follows c (hears_ack c s)
+ack_follows : (c : AbstractClient) (s : PlainSegment) → Follows c (receives_ack c s)
 ack_follows c s =
     choose (λ x. Follows c x) (has_ack s.flags && (has_outstanding c && eqb s.ack (next_own c))) _ _ (λ e. record { stays = λ h. h; planned = refl }) (λ e. record { stays = λ h. h; planned = refl })
 
@@ -42,7 +42,7 @@ order_keeps c s = of_order (λ x. Keeps c x) c s (sends_keeps true c) (sends_kee
 
 pub takes_keeps : (c : AbstractClient) (s : PlainSegment) → Keeps c (client_takes c s)
 takes_keeps c s =
-    let d : AbstractClient = hears_ack c s in
+    let d : AbstractClient = receives_ack c s in
     of_takes (λ x. Keeps c x) c s record { stays = λ h. h; planned = refl } (λ b. record { stays = λ h. refl; planned = refl })
     (λ e r f. from_keeps c (opened_by c s) true record { stays = λ h. refl; planned = refl })
     (λ r. follows_on c d (takes_in_order d s).client (ack_follows c s) (order_keeps d s))

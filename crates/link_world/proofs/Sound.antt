@@ -1,6 +1,6 @@
 -- Every segment that a client sends fits its fields, and its text is bytes that fit a datagram.
 use Rattle.link_world.proofs.Prelude.{All, ◌≡◌, ℕ, ◌+◌, ◌-◌, ◌<◌, ◌≤◌, min, Bool, true, false, ◌&&◌, inl, inr, [], length, take, drop, refl, arith, Option, Some, None, IfSome, eqb, length-take, common_steps, All-take, All-drop, wrap, PlainSegment, has_ack, IsByte, IsAddr, ClientState, choose, only_some, wrap_low, all_nil, IsSoundSegment}
-use Rattle.link_client.specs.Client.{AbstractClient, ClientStep, ack_of, client_aborts, client_again, client_closes, client_opens, client_takes, has_outstanding as client_waits, hears_ack, keeps, next_own, offered, opened_by, own_first, own_request, sends_next, syn_of, takes_in_order, takes_text}
+use Rattle.link_client.specs.Client.{AbstractClient, ClientStep, ack_of, client_aborts, client_again, client_closes, client_opens, client_takes, has_outstanding as client_waits, receives_ack, keeps, next_own, offered, opened_by, own_first, own_request, sends_next, syn_of, takes_in_order, takes_text}
 use Rattle.link_client.specs.Client as client
 use Rattle.link_client.specs.declared.client_state.ClientState.TheVariants as Is
 use Rattle.link_world.proofs.ClientCases.{of_aborts, of_again, of_closes, of_opens, of_order, of_sends, of_takes}
@@ -75,7 +75,7 @@ sends_sound owed c h =
     of_sends SoundStep c owed (kept c h) (given c (ack_of c) h (ack_sound c h)) (λ o r. given d (own_request d) g (request_sound d g))
     (λ o m n. given _ (client.own_fin c) record { addr = h.addr; port = h.port; server = h.server; server_port = h.server_port; iss = h.iss; offered = h.offered; seg = h.seg; request = h.request; expected = h.expected; window = h.window; out = h.out } (end_sound c h))
 
-hears_sound : (c : AbstractClient) (s : PlainSegment) → IsSoundClient c → IsSoundClient (hears_ack c s)
+hears_sound : (c : AbstractClient) (s : PlainSegment) → IsSoundClient c → IsSoundClient (receives_ack c s)
 hears_sound c s h =
     choose (λ x. IsSoundClient x) (has_ack s.flags && (client_waits c && eqb s.ack (next_own c))) _ _
     (λ e. record { addr = h.addr; port = h.port; server = h.server; server_port = h.server_port; iss = h.iss; offered = h.offered; seg = h.seg; request = h.request; expected = h.expected; window = h.window; out = omega arith })
@@ -94,7 +94,7 @@ pub takes_sound : (c : AbstractClient) (s : PlainSegment) → IsSoundClient c �
 takes_sound c s h =
     of_takes SoundStep c s (kept c h) (λ b. kept _ (in_other_state c Is.Reset h))
     (λ e r f. sends_sound true (opened_by c s) record { addr = h.addr; port = h.port; server = h.server; server_port = h.server_port; iss = h.iss; offered = h.offered; seg = h.seg; request = h.request; expected = wrap_low _; window = h.window; out = h.out })
-    (λ r. order_sound (hears_ack c s) s (hears_sound c s h))
+    (λ r. order_sound (receives_ack c s) s (hears_sound c s h))
 
 pub opens_sound : (c : AbstractClient) → IsSoundClient c → SoundStep (client_opens c)
 opens_sound c h = of_opens SoundStep c (kept c h) (λ e. given _ _ (in_other_state c Is.Opening h) (syn_sound (record c { state = Is.Opening }) (in_other_state c Is.Opening h)))

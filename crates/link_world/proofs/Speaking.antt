@@ -1,7 +1,7 @@
 -- The output model of an application for one client, as far as the walk of a clean client needs it: its output by what was
 -- received and captured, and what each call does to that. An application whose text is a page has it, and so has one that may
 -- give a connection up in the middle of a piece.
-use Rattle.link_world.proofs.Prelude.{All, ◌≡◌, ℕ, ◌+◌, ◌<◌, ◌≤◌, Bool, true, false, ◌⊎◌, inl, inr, List, [], ◌∷◌, ◌++◌, length, drop, refl, sym, ap, ◌∙◌, subst, arith, length-drop, AppState, Snapshot, AppSpec, IsPrefixOf, CanSend, Pages, IsPaged, IsSnapshot, MayWant, Now, Want, Nothing, Send, Close, Abort, hears, IsSteady, steady_of, append_nothing}
+use Rattle.link_world.proofs.Prelude.{All, ◌≡◌, ℕ, ◌+◌, ◌<◌, ◌≤◌, Bool, true, false, ◌⊎◌, inl, inr, List, [], ◌∷◌, ◌++◌, length, drop, refl, sym, ap, ◌∙◌, subst, arith, length-drop, AppState, Snapshot, AppSpec, IsPrefixOf, CanSend, Pages, IsPaged, IsSnapshot, MayWant, Now, Want, Nothing, Send, Close, Abort, delivers_text, IsSteady, steady_of, append_nothing}
 
 -- The output at some ports: the text of what was received and captured, and whether nothing stopped it; which states are
 -- initial there, and which of these are lost: they receive nothing more.
@@ -50,12 +50,12 @@ pub record HasOutputModel (m : AppSpec) (speaker : Speaker) : Type 0 where
 
 module _ (m : AppSpec) (speaker : Speaker) (laws : HasOutputModel m speaker) where
   -- what receiving text does to a state
-  pub record Heard (p q : AppState) (text : List ℕ) : Type 0 where
+  pub record Received (p q : AppState) (text : List ℕ) : Type 0 where
     pub some : HearsSome speaker p q text
     pub snapshots : q.snapshots ≡ p.snapshots
     pub acked : q.acked ≡ p.acked
 
-  pub hears_is : (numbers : List ℕ) (p : AppState) (text : List ℕ) → speaker.here p ≡ true → Heard p (hears m numbers p text).part text
+  pub hears_is : (numbers : List ℕ) (p : AppState) (text : List ℕ) → speaker.here p ≡ true → Received p (delivers_text m numbers p text).part text
   hears_is numbers p [] h = record {
     some = record { here = h; prefix = []; rest = []; joined = refl; input = sym (append_nothing p.input); all = inl refl; no_more = λ e. (refl, e) };
     snapshots = refl;

@@ -1,10 +1,10 @@
 -- One step of a connection preserves what holds of it.
-use Rattle.link_world.proofs.Prelude.{◌≡◌, ℕ, ◌+◌, ◌<◌, ◌≤◌, min, Bool, true, false, not, ◌&&◌, inl, inr, List, [], ◌++◌, length, take, drop, refl, sym, ap, ◌∙◌, subst, arith, Option, Some, None, length-append, ltb, append_assoc, wrap, PlainSegment, has_fin, has_rst, has_ack, Beat, AppState, Snapshot, AppSpec, IsPrefixOf, MayWant, Now, State, Closed, SynRcvd, Established, CloseWait, FinWait1, FinWait2, Closing, TimeWait, LastAck, Want, Nothing, Send, Close, Abort, Connection, is_live, rcv_nxt, bare_ack, syn_ack, text_segment, fin_of, reset_of, Outcome, leaves, closes, after_own_fin, peer_has_closed, idles, does_as_wanted, prepared, ask, asked_for, asked, is_out_of_order, is_acked, rests, has_text, hears, takes, with_part, in_state, with_window, connects, peer_closes, stays_established, in_established, fin_acked, fin_waits, by_state, on_segment, outstanding, grows_older, by_beat, on_tick, Step, AbstractClient, own_first, IsPart, prefix_part, prefix_length, prefix_joins, and_true, same_place, empty_part, zero_or_more, ltb-zero, in_place, choose, append_nothing, cut_part, both_ways, is_open, by_open, by_own_fin, fin_lives, on_tick_by, open_live}
+use Rattle.link_world.proofs.Prelude.{◌≡◌, ℕ, ◌+◌, ◌<◌, ◌≤◌, min, Bool, true, false, not, ◌&&◌, inl, inr, List, [], ◌++◌, length, take, drop, refl, sym, ap, ◌∙◌, subst, arith, Option, Some, None, length-append, ltb, append_assoc, wrap, PlainSegment, has_fin, has_rst, has_ack, Beat, AppState, Snapshot, AppSpec, IsPrefixOf, MayWant, Now, State, Closed, SynRcvd, Established, CloseWait, FinWait1, FinWait2, Closing, TimeWait, LastAck, Want, Nothing, Send, Close, Abort, Connection, is_live, rcv_nxt, bare_ack, syn_ack, text_segment, fin_of, reset_of, Outcome, leaves, closes, after_own_fin, peer_has_closed, idles, does_as_wanted, prepared, ask, asked_for, asked, is_out_of_order, is_acked, rests, has_text, delivers_text, takes, with_part, in_state, with_window, connects, peer_closes, stays_established, in_established, fin_acked, fin_waits, by_state, on_segment, outstanding, grows_older, by_beat, on_tick, Step, AbstractClient, own_first, IsPart, prefix_part, prefix_length, prefix_joins, and_true, same_place, empty_part, zero_or_more, ltb-zero, in_place, choose, append_nothing, cut_part, both_ways, is_open, by_open, by_own_fin, fin_lives, on_tick_by, open_live}
 use Rattle.link_world.proofs.Later.{page_more, page_heard, prefix_grows, prefix_all}
 use Rattle.link_world.proofs.Good.{Spoken, spoken, AtSyn, AtText, AtOpen, AtFin, ConnGood, StateGood, Moved, StepGood, SentGood, ClientSaid, IsData, Steady}
 use Rattle.link_world.proofs.Good.NodeSaid.{node_reset, node_syn, node_ack, node_text, node_fin}
 use Rattle.link_world.proofs.Good.ClientSaid.{said_reset, said_syn, said_data}
-use Rattle.link_world.proofs.Speaking.{Speaker, HasOutputModel, page_by, HearsSome, KeepsHeard, Heard, hears_is, prepare_is, acked_is, wants_is}
+use Rattle.link_world.proofs.Speaking.{Speaker, HasOutputModel, page_by, HearsSome, KeepsHeard, Received, hears_is, prepare_is, acked_is, wants_is}
 
 module _ (m : AppSpec) (speaker : Speaker) (laws : HasOutputModel m speaker) where
   module _ (opened : Option ℕ) (client : AbstractClient) where
@@ -190,7 +190,7 @@ module _ (m : AppSpec) (speaker : Speaker) (laws : HasOutputModel m speaker) whe
     )
 
     -- text is received in ESTABLISHED; the state may change, and the peer's window
-    heard_text : (c d : Connection) (text : List ℕ) → AtText speaker opened client c → (speaker.lost c.part ≡ false → IsPart client.request text (length c.part.input)) → Heard m speaker laws c.part d.part text → d.acked ≡ c.acked → d.len ≡ c.len → AtText speaker opened client d
+    heard_text : (c d : Connection) (text : List ℕ) → AtText speaker opened client c → (speaker.lost c.part ≡ false → IsPart client.request text (length c.part.input)) → Received m speaker laws c.part d.part text → d.acked ≡ c.acked → d.len ≡ c.len → AtText speaker opened client d
     heard_text c d text h p x ea el =
         let prefix : List ℕ = x.some.prefix in
         let e : length (speaker.text d.part.input d.part.snapshots) ≡ length (speaker.text (c.part.input ++ prefix) c.part.snapshots) = ap (λ q. length (speaker.text q d.part.snapshots)) x.some.input ∙ ap (λ q. length (speaker.text (c.part.input ++ prefix) q)) x.snapshots in
@@ -210,7 +210,7 @@ module _ (m : AppSpec) (speaker : Speaker) (laws : HasOutputModel m speaker) whe
     unfolding peer_closes
     peer_closes_good c numbers s pf h part =
         let x = hears_is m speaker laws numbers c.part s.text h.text.here in
-        let d : Connection = in_state CloseWait (with_window s.window (with_part (hears m numbers c.part s.text).part (takes (length s.text + 1) c))) in
+        let d : Connection = in_state CloseWait (with_window s.window (with_part (delivers_text m numbers c.part s.text).part (takes (length s.text + 1) c))) in
         let t : AtText speaker opened client d = heard_text c d s.text h.text part x refl refl in
         let w : Moved speaker opened client c d = turns c d refl x.snapshots pf t in
         choose (λ (o : Outcome). OutGood c o) (ltb 0 c.len) _ _
@@ -221,7 +221,7 @@ module _ (m : AppSpec) (speaker : Speaker) (laws : HasOutputModel m speaker) whe
     unfolding stays_established
     goes_on_good acked c numbers s st pf h part =
         let x = hears_is m speaker laws numbers c.part s.text h.text.here in
-        let d : Connection = with_window s.window (with_part (hears m numbers c.part s.text).part (takes (length s.text) c)) in
+        let d : Connection = with_window s.window (with_part (delivers_text m numbers c.part s.text).part (takes (length s.text) c)) in
         let t : AtText speaker opened client d = heard_text c d s.text h.text part x refl refl in
         let a : AtOpen speaker opened client d = record { text = t; taken = λ l. (let y = heard_whole c.part d.part s.text x.some l in omega (arith, h.taken y.0, y.1)) } in
         let w : Moved speaker opened client c d = turns c d refl x.snapshots pf (state_at d Established st a) in
@@ -267,7 +267,7 @@ module _ (m : AppSpec) (speaker : Speaker) (laws : HasOutputModel m speaker) whe
         let reported = is_data at_epoch s output nr ac in
         let start : AppState = (m.connected numbers c.sockets.own_port.0).part in
         let x = hears_is m speaker laws (m.connected numbers c.sockets.own_port.0).numbers start s.text (laws.connected_here numbers c.sockets.own_port.0 h.port) in
-        let d : Connection = with_part (hears m (m.connected numbers c.sockets.own_port.0).numbers start s.text).part (takes (length s.text) (in_state Established (rests c))) in
+        let d : Connection = with_part (delivers_text m (m.connected numbers c.sockets.own_port.0).numbers start s.text).part (takes (length s.text) (in_state Established (rests c))) in
         let none : start.input ≡ [] = laws.connected_input numbers c.sockets.own_port.0 h.port in
         let part : IsPart client.request s.text 0 = said_part at_epoch c s 0 steady output nr pf h.taken (omega arith) e in
         let begins : IsPrefixOf start.input client.request = subst (λ q. IsPrefixOf q client.request) (sym none) record { rest = client.request; joined = refl } in

@@ -16,7 +16,7 @@ use Rattle.link_world.specs.declared.step_fault.StepFault.{StepFault}
 use Rattle.link_world.specs.declared.step_fault.StepFault.TheVariants.{NoDatagram, NoByte, AlreadyOpen, NotOpen, Full}
 use Rattle.link_world.specs.declared.who.Who.{Who}
 use Rattle.link_world.specs.declared.who.Who.TheVariants.{FromClient, FromNode, Pinger}
-use Rattle.link_world.specs.Bytes.{ping_from, sent_bytes, changed, hears_datagram}
+use Rattle.link_world.specs.Bytes.{ping_from, sent_bytes, changed, receives_datagram}
 
 -- an act of the client itself
 abbrev pub client_acts : World → ℕ → (AbstractClient → ClientStep) → World
@@ -29,7 +29,7 @@ handles_all m served (e ∷ es) w = handles_all m served es (node_handles m serv
 -- A client receives these bytes. It accepts them if they are a segment of its server.
 abbrev pub handed : World → ℕ → List ℕ → Side → World
 handed w number bytes side =
-    option_map_or (λ s. client_stepped w number side (client_takes side.client s)) (hears_datagram side.client.setup bytes) w
+    option_map_or (λ s. client_stepped w number side (client_takes side.client s)) (receives_datagram side.client.setup bytes) w
 
 -- A damaged datagram is delivered as bytes. This does not count as a delivery: no mark of a client changes.
 abbrev pub hands_over : AppSpec → (ℕ → Bool) → World → List ℕ → Who → World

@@ -45,9 +45,9 @@ abbrev pub changed : List ℕ → ℕ → ℕ → List ℕ
 changed bytes at mask = slice_set bytes at (bit_xor (slice_index bytes at) mask)
 
 -- What a client receives by an event at its address: a segment of its server, or nothing.
-abbrev pub heard_by : Setup → Event → Option PlainSegment
-heard_by setup (Arrived sockets s) = if same_sockets sockets (server_of setup) then Some s else None
-heard_by setup _ = None
+abbrev pub received_by : Setup → Event → Option PlainSegment
+received_by setup (Arrived sockets s) = if same_sockets sockets (server_of setup) then Some s else None
+received_by setup _ = None
 
-abbrev pub hears_datagram : Setup → List ℕ → Option PlainSegment
-hears_datagram setup bytes = heard_by setup (event_of setup.addr bytes)
+abbrev pub receives_datagram : Setup → List ℕ → Option PlainSegment
+receives_datagram setup bytes = received_by setup (event_of setup.addr bytes)

@@ -1,7 +1,7 @@
 -- The names of the definitions of this crate that other files cite, passed on from one place. Declares nothing.
 pub use Rattle.link_world.specs.Acts.{acts, client_acts, does, fault_of, handed, handles_all, hands_over}
 pub use Rattle.link_world.specs.Acts.{if_idle, is_idle, named_fault, needs, runs, state_at}
-pub use Rattle.link_world.specs.Bytes.{bytes_by, changed, client_bytes, heard_by, hears_datagram, node_bytes, sent_bytes, server_of}
+pub use Rattle.link_world.specs.Bytes.{bytes_by, changed, client_bytes, received_by, receives_datagram, node_bytes, sent_bytes, server_of}
 unfoldable pub use Rattle.link_world.specs.Bytes.{ping_from}
 pub use Rattle.link_world.specs.Ends.{ClientEnd, clean_end, end_of_client, text_of_content, worked_client}
 pub use Rattle.link_world.specs.Headline.{AgainExactly, AgainExactlyPlainly, CountsBy, DamageIsLoss, DamageIsLossThere, IsAct}

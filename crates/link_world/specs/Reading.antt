@@ -5,7 +5,7 @@ use Rattle.app_events.specs.Prelude.{AppSpec, Pages, IsPaged}
 use Rattle.uip_node.specs.Prelude.{EchoAsked, Arrived, event_of, HasBytes}
 use Rattle.link_world.specs.World.{World, Side, Sent, Content, numbered, client_sockets}
 use Rattle.link_world.specs.World.Content.{OfSegment, OfPing, OfEcho}
-use Rattle.link_world.specs.Bytes.{sent_bytes, hears_datagram}
+use Rattle.link_world.specs.Bytes.{sent_bytes, receives_datagram}
 use Rattle.link_world.specs.declared.who.Who.{Who}
 use Rattle.link_world.specs.declared.who.Who.TheVariants.{FromClient, FromNode, Pinger}
 use Rattle.link_world.specs.Headline.{IsReached}
@@ -18,7 +18,7 @@ IsRead w (FromClient number) (OfSegment id s) bytes =
     → event_of w.node.addr bytes ≡ Arrived (client_sockets side) s
 IsRead w (FromNode number) (OfSegment id s) bytes =
     (side : Side) → numbered w.sides number ≡ Some side → side.client.setup.server ≡ w.node.addr
-    → hears_datagram side.client.setup bytes ≡ Some s
+    → receives_datagram side.client.setup bytes ≡ Some s
 IsRead w Pinger (OfPing datagram) bytes = event_of w.node.addr bytes ≡ EchoAsked datagram
 IsRead w who content bytes = Unit {0}  -- nothing else is delivered
 

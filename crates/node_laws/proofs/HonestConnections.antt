@@ -1,5 +1,5 @@
 -- The connection with an honest peer: at each segment of its peer it sends what the application has next.
-use Rattle.node_laws.proofs.Prelude.{All, option_map_or, ◌≡◌, ℕ, suc, ◌+◌, ◌<◌, ◌≤◌, ◌==◌, min, Bool, true, false, if◌then◌else◌, not, ◌&&◌, inl, inr, List, [], ◌∷◌, ◌++◌, length, take, drop, refl, sym, ap, ◌∙◌, subst, arith, Option, Some, None, is_some, eqb, ltb, length-append, eq-eqb, take-append-le, take_all, length-take-le, common_steps, take-add, wrap, PlainSegment, has_fin, has_rst, has_ack, beat_at, Beat, AppState, After, AppSpec, IsPrefixOf, Pages, IsPaged, IsU32, IsNow, IsSnapshot, MayWant, Now, Reset, State, SynRcvd, Established, FinWait1, Want, Nothing, Send, Close, Abort, Sockets, Connection, is_live, serves, snd_una, rcv_nxt, occupies_sequence_space, segment_of, bare_ack, fin_of, reset_of, syn_ack, text_segment, Outcome, leaves, closes, idles, does_as_wanted, ask, asked, reported_end, peer_closes, is_out_of_order, is_acked, has_text, hears, with_window, stays_established, in_established, by_state, on_segment, Step, choose, ltb-yes, cut_length, wrap_wrap, prefix_length, append_nothing, zero_or_more, same_place, is_time_wait, same_self, FitOut, prepared_snapshots, steady_of, hears_is, prepare_is, Exchange, AnswersPolled, GoesOnBy, Asker, text_received, awaits_ack, is_bare_ack, bare_acks, SendsNext, HasItsPage}
+use Rattle.node_laws.proofs.Prelude.{All, option_map_or, ◌≡◌, ℕ, suc, ◌+◌, ◌<◌, ◌≤◌, ◌==◌, min, Bool, true, false, if◌then◌else◌, not, ◌&&◌, inl, inr, List, [], ◌∷◌, ◌++◌, length, take, drop, refl, sym, ap, ◌∙◌, subst, arith, Option, Some, None, is_some, eqb, ltb, length-append, eq-eqb, take-append-le, take_all, length-take-le, common_steps, take-add, wrap, PlainSegment, has_fin, has_rst, has_ack, beat_at, Beat, AppState, After, AppSpec, IsPrefixOf, Pages, IsPaged, IsU32, IsNow, IsSnapshot, MayWant, Now, Reset, State, SynRcvd, Established, FinWait1, Want, Nothing, Send, Close, Abort, Sockets, Connection, is_live, serves, snd_una, rcv_nxt, occupies_sequence_space, segment_of, bare_ack, fin_of, reset_of, syn_ack, text_segment, Outcome, leaves, closes, idles, does_as_wanted, ask, asked, reported_end, peer_closes, is_out_of_order, is_acked, has_text, delivers_text, with_window, stays_established, in_established, by_state, on_segment, Step, choose, ltb-yes, cut_length, wrap_wrap, prefix_length, append_nothing, zero_or_more, same_place, is_time_wait, same_self, FitOut, prepared_snapshots, steady_of, hears_is, prepare_is, Exchange, AnswersPolled, GoesOnBy, Asker, text_received, awaits_ack, is_bare_ack, bare_acks, SendsNext, HasItsPage}
 use Rattle.tcp_machine.specs.OnTick.{by_beat, limit_of, on_tick, polls as polled_by, ticks_established}
 use Rattle.node_laws.proofs.HonestSessions.{has_of, has_on, lets_go, nothing_more, takes_at}
 use Rattle.node_laws.proofs.Lines.{quiet, met}
@@ -266,9 +266,9 @@ module _ (m : AppSpec) (pages : Pages) (lawful : IsPaged m pages) (p : Sockets) 
     pub has : has_of a.iss older ≡ take part.acked (page part)
 
   heard_ready : (s : PlainSegment) (older : List Exchange) (numbers : List ℕ) (part : AppState) (taken acked most : ℕ) → IsPrefixOf (text_received older ++ s.text) a.request → Acked older part taken acked → bare_acks (met (Some s) None ∷ older) + most ≤ texts + 1 →
-      Ready (Some s) older (hears m numbers part s.text).part (taken + length s.text) acked most
+      Ready (Some s) older (delivers_text m numbers part s.text).part (taken + length s.text) acked most
   heard_ready s older numbers part taken acked most prefix h bound =
-      let q : AppState = (hears m numbers part s.text).part in
+      let q : AppState = (delivers_text m numbers part s.text).part in
       let is = hears_is m pages lawful numbers part s.text in
       let grows : IsPrefixOf (page part) (page q) =
       subst (λ k. IsPrefixOf (page part) (pages.page q.input k)) (append_nothing part.snapshots ∙ sym is.snapshots)
@@ -284,10 +284,10 @@ module _ (m : AppSpec) (pages : Pages) (lawful : IsPaged m pages) (p : Sockets) 
       }
 
   heard_fine : (polls : ℕ) → polls ≤ patience → (numbers : List ℕ) (part : AppState) (text rest : List ℕ) (most : ℕ) → fine polls part ≡ true → left part ≤ most → (part.input ++ text) ++ rest ≡ a.request →
-      (fine polls (hears m numbers part text).part ≡ true) × (left (hears m numbers part text).part ≤ most)
+      (fine polls (delivers_text m numbers part text).part ≡ true) × (left (delivers_text m numbers part text).part ≤ most)
   heard_fine polls l numbers part [] rest most good few joined = (good, few)
   heard_fine polls l numbers part (y ∷ ys) rest most good few joined =
-      let more = (answering.answers polls l).hears numbers part (y ∷ ys) rest good joined in (more.0, omega (arith, more.1, few))
+      let more = (answering.answers polls l).delivers_text numbers part (y ∷ ys) rest good joined in (more.0, omega (arith, more.1, few))
 
   -- what the environment of a step gives
   pub record Snapshots (at : Connection → Now) (o : Outcome) : Type 0 where
@@ -303,10 +303,10 @@ module _ (m : AppSpec) (pages : Pages) (lawful : IsPaged m pages) (p : Sockets) 
 
   -- what a segment brings is delivered, and then the application is asked
   asked_after : (polls : ℕ) → polls ≤ patience → (at : Connection → Now) (s : PlainSegment) (older : List Exchange) (o : Outcome) (next : List ℕ) (taken iss acked age most : ℕ) (part : AppState) → Counts iss → IsPrefixOf (text_received older ++ s.text) a.request → Acked older part taken acked → bare_acks (met (Some s) None ∷ older) + most ≤ texts + 1 → fine polls part ≡ true → left part ≤ most →
-      (let delivered : After = hears m next part s.text in o ≡ leaves (conn_at Established (taken + length s.text) iss acked 0 age delivered.part) delivered.numbers (Step.Ask (has_text s))) → Snapshots at o →
+      (let delivered : After = delivers_text m next part s.text in o ≡ leaves (conn_at Established (taken + length s.text) iss acked 0 age delivered.part) delivered.numbers (Step.Ask (has_text s))) → Snapshots at o →
       (let r : Outcome = asked m at o in Next polls (met (Some s) (segment_of m r.connection r.step) ∷ older) r.connection)
   asked_after polls l at s older o next taken iss acked age most part k prefix b bound good few e snapshots =
-      let delivered : After = hears m next part s.text in
+      let delivered : After = delivers_text m next part s.text in
       let d : Connection = conn_at Established (taken + length s.text) iss acked 0 age delivered.part in
       let f = heard_fine polls l next part s.text prefix.rest most good few (ap (λ t. (t ++ s.text) ++ prefix.rest) b.input ∙ prefix.joined) in
       let z : Outcome = leaves d delivered.numbers (Step.Ask (has_text s)) in
@@ -334,7 +334,7 @@ module _ (m : AppSpec) (pages : Pages) (lawful : IsPaged m pages) (p : Sockets) 
   -- the first one acknowledges the SYN
   first_row : (numbers : List ℕ) (iss age : ℕ) (part : AppState) (s : PlainSegment) (older : List Exchange) → Counts iss → AtSyn older → (h : SendsNext a (met (Some s) None) older) → h.segment ≡ s →
       let start : After = m.connected numbers p.own_port.0 in
-      let delivered : After = hears m start.numbers start.part s.text in
+      let delivered : After = delivers_text m start.numbers start.part s.text in
       on_segment m (conn_at SynRcvd 0 iss 0 1 age part) numbers s ≡ leaves (conn_at Established (0 + length s.text) iss (0 + 1) 0 0 delivered.part) delivered.numbers (Step.Ask (has_text s))
   first_row numbers iss age part s older k syn h same =
       let c : Connection = conn_at SynRcvd 0 iss 0 1 age part in
@@ -344,12 +344,12 @@ module _ (m : AppSpec) (pages : Pages) (lawful : IsPaged m pages) (p : Sockets) 
 
   -- in ESTABLISHED what a segment brings is delivered, and the application is asked
   row_of : (acked : Bool) (numbers : List ℕ) (taken iss at age : ℕ) (part : AppState) (s : PlainSegment) → has_fin s.flags ≡ false → a.mss ≤ s.window → not acked && not (has_text s) ≡ false →
-      let delivered : After = hears m numbers part s.text in
+      let delivered : After = delivers_text m numbers part s.text in
       in_established m acked (conn_at Established taken iss at 0 age part) numbers s ≡ leaves (conn_at Established (taken + length s.text) iss at 0 age delivered.part) delivered.numbers (Step.Ask (has_text s))
   unfolding in_established stays_established
   row_of acked numbers taken iss at age part s f w h =
       let c : Connection = conn_at Established taken iss at 0 age part in
-      let delivered : After = hears m numbers part s.text in
+      let delivered : After = delivers_text m numbers part s.text in
       let d : Connection = conn_at Established (taken + length s.text) iss at 0 age delivered.part in
       ap (λ b. if b then peer_closes m c numbers s else stays_established m acked c numbers s) f
       ∙ ap (λ b. if b then leaves (with_window s.window d) delivered.numbers Step.Drop else leaves (with_window s.window d) delivered.numbers (Step.Ask (has_text s))) h
@@ -357,7 +357,7 @@ module _ (m : AppSpec) (pages : Pages) (lawful : IsPaged m pages) (p : Sockets) 
 
   reported_row : (numbers : List ℕ) (taken iss acked len age : ℕ) (part : AppState) (s : PlainSegment) (older : List Exchange) → Counts iss → Interactive older part taken acked len → 0 < len → (h : SendsNext a (met (Some s) None) older) → h.segment ≡ s →
       let reported : After = m.acked numbers part len in
-      let delivered : After = hears m reported.numbers reported.part s.text in
+      let delivered : After = delivers_text m reported.numbers reported.part s.text in
       on_segment m (conn_at Established taken iss acked len age part) numbers s ≡ leaves (conn_at Established (taken + length s.text) iss (acked + len) 0 0 delivered.part) delivered.numbers (Step.Ask (has_text s))
   reported_row numbers taken iss acked len age part s older k t l h same =
       let c : Connection = conn_at Established taken iss acked len age part in
@@ -368,7 +368,7 @@ module _ (m : AppSpec) (pages : Pages) (lawful : IsPaged m pages) (p : Sockets) 
       ∙ row_of true reported.numbers taken iss (acked + len) 0 reported.part s (ap (λ t. has_fin t.flags) (sym same) ∙ h.fin) (subst (λ t. a.mss ≤ t.window) same h.window) refl
 
   waiting_row : (numbers : List ℕ) (taken iss acked age : ℕ) (part : AppState) (s : PlainSegment) (older : List Exchange) → Interactive older part taken acked 0 → 0 < length s.text → (h : SendsNext a (met (Some s) None) older) → h.segment ≡ s →
-      let delivered : After = hears m numbers part s.text in
+      let delivered : After = delivers_text m numbers part s.text in
       on_segment m (conn_at Established taken iss acked 0 age part) numbers s ≡ leaves (conn_at Established (taken + length s.text) iss acked 0 age delivered.part) delivered.numbers (Step.Ask (has_text s))
   waiting_row numbers taken iss acked age part s older t l h same =
       let c : Connection = conn_at Established taken iss acked 0 age part in

@@ -7,7 +7,7 @@ use Rattle.node_laws.proofs.HonestConnections.Stage.{at_syn}
 use Rattle.node_laws.proofs.HonestConnections.Next.{goes_on_so, ends_so}
 use Rattle.node_laws.proofs.HonestSessions.{honest_before, nothing_more, has_on}
 use Rattle.node_laws.proofs.Lines.{comes, quiet, met}
-use Rattle.node_laws.proofs.Lines.OfMedium.{passes_by, evicted, unanswered, refused, born, hears, ticks}
+use Rattle.node_laws.proofs.Lines.OfMedium.{passes_by, evicted, unanswered, refused, born, delivers_text, ticks}
 use Rattle.node_laws.proofs.Replying.{answer_no_syn}
 use Rattle.node_laws.proofs.Slots.{Acted, acts}
 use Rattle.node_laws.proofs.Slots.Acts.{is_called, is_met, is_apart, makes_room}
@@ -217,7 +217,7 @@ module _ (m : AppSpec) (pages : Pages) (lawful : IsPaged m pages) (serves_port :
           | refused s q l e f ↦ absurd (let z : Some (reset_for_no_connection s) ≡ Some o.answer = sym (ap (λ y. y.output) e) ∙ o.output in
               let y : has_syn o.answer.flags ≡ false = only_some (λ t. has_syn t.flags ≡ false) (reset_for_no_connection s) o.answer z refl in let w = o.answers in cc)
           | born iss s plain port fit e f ↦ born_there iss s plain e f o prompt
-          | hears s numbers at alive fit words snapshots h ↦ absurd (let y : has_syn o.answer.flags ≡ false = answer_no_syn m at (serving p n.connections) numbers s o.answer (sym (ap (λ z. z.output) h.0) ∙ o.output) in let w = o.answers in cc)
+          | delivers_text s numbers at alive fit words snapshots h ↦ absurd (let y : has_syn o.answer.flags ≡ false = answer_no_syn m at (serving p n.connections) numbers s o.answer (sym (ap (λ z. z.output) h.0) ∙ o.output) in let w = o.answers in cc)
           | ticks numbers at alive fit words snapshots h ↦ absurd (let z : None ≡ Some o.syn = sym (ap (λ y. y.received) h.0) ∙ o.received in cc)
         ]
 

@@ -20,7 +20,7 @@ pub data OfMedium (m : AppSpec) (served : ℕ → Bool) (p : Sockets) (c d : Con
   unanswered : (s : PlainSegment) → is_live c.state ≡ false → x ≡ met (Some s) None → d ≡ c → OfMedium m served p c d x
   refused : (s : PlainSegment) → has_rst s.flags ≡ false → is_live c.state ≡ false → x ≡ met (Some s) (Some (reset_for_no_connection s)) → d ≡ c → OfMedium m served p c d x
   born : (iss : ℕ) (s : PlainSegment) → is_plain_syn s ≡ true → served p.own_port.0 ≡ true → FitConn (accepted iss p s) → x ≡ met (Some s) (Some (syn_ack (accepted iss p s))) → d ≡ accepted iss p s → OfMedium m served p c d x
-  hears : (s : PlainSegment) (numbers : List ℕ) (at : Connection → Now) → is_live c.state ≡ true → FitConn c → All IsU32 numbers → ((z : Connection) → FitConn z → IsNow (at z)) →
+  delivers_text : (s : PlainSegment) (numbers : List ℕ) (at : Connection → Now) → is_live c.state ≡ true → FitConn c → All IsU32 numbers → ((z : Connection) → FitConn z → IsNow (at z)) →
       (let o : Outcome = asked m at (on_segment m c numbers s) in (x ≡ met (Some s) (segment_of m o.connection o.step)) × (d ≡ left_of o.connection)) → OfMedium m served p c d x
   ticks : (numbers : List ℕ) (at : Connection → Now) → is_live c.state ≡ true → FitConn c → All IsU32 numbers → ((z : Connection) → FitConn z → IsNow (at z)) →
       (let o : Outcome = asked m at (on_tick m c numbers) in (x ≡ met None (segment_of m o.connection o.step)) × (d ≡ left_of o.connection)) → OfMedium m served p c d x
@@ -166,7 +166,7 @@ module _ (m : AppSpec) (served : ℕ → Bool) where
               comes_step n event i c o single there l.0 keeps (Some s)
               (came_here c.sockets q s (sym same))
               (λ p z. came_elsewhere p q s (ap (λ y. same_sockets y p) (sym same) ∙ z))
-              (λ d x t w. hears s n.numbers (snapshot n event i) l.0 (f.conns i c there) f.numbers (node_snapshot m steady n event i f) (t, w)) in
+              (λ d x t w. delivers_text s n.numbers (snapshot n event i) l.0 (f.conns i c there) f.numbers (node_snapshot m steady n event i f) (t, w)) in
               let i' : found ≡ Some i = sym e ∙ g ∙ ap Some (omega arith) in
               subst (λ z. Comes m served n event (arrives_at m served n q s z)) (sym i')
               (subst (λ z. Comes m served n event (happened m n event i z (asked m (snapshot n event i) (on_segment m z n.numbers s)))) (sym slot) h))

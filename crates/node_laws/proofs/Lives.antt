@@ -8,7 +8,7 @@ use Rattle.node_laws.proofs.Walk.{IsBare, bare, Reading, AtPage, AtOpen, AtEnd, 
 use Rattle.node_laws.proofs.Beating.{due_size}
 use Rattle.node_laws.proofs.Replying.{answer_no_syn, said_ack, step_short}
 use Rattle.node_laws.proofs.Lines.{OfMedium, met, left_of}
-use Rattle.node_laws.proofs.Lines.OfMedium.{passes_by, evicted, unanswered, refused, born, hears, ticks}
+use Rattle.node_laws.proofs.Lines.OfMedium.{passes_by, evicted, unanswered, refused, born, delivers_text, ticks}
 
 begins_on : (x : Exchange) (incarnation : List Exchange) (a : Account) (text : List ℕ) (captures : List Snapshot) (sent : List ℕ) → Begins incarnation a → Begins (x ∷ incarnation) (record a { input = text; snapshots = captures; stream = sent })
 begins_on x [] a text captures sent h = absurd h
@@ -331,7 +331,7 @@ module _ (m : AppSpec) (steady : IsSteady m) (port : ℕ) (model : OutputModel) 
       (sp : Spoke m port model laws (Unended incarnation) received c g.kept.account.input g.kept.ended g.kept.account.stream o)
       (tells : StepReports m steady AnyLength any_length c o.connection (segment_of m o.connection o.step) (is_again o.step))
       (moves : Moves acked c o.connection)
-      (hears_ack : acked ≡ true → Acks received c)
+      (receives_ack : acked ≡ true → Acks received c)
       (number : (s : PlainSegment) → segment_of m o.connection o.step ≡ Some s → s.ack ≡ rcv_nxt o.connection)
       (within : LensWithin (first_mss g.kept.account.peer_mss) o.connection)
       (short : (s : PlainSegment) → segment_of m o.connection o.step ≡ Some s → length s.text ≤ first_mss g.kept.account.peer_mss)
@@ -475,7 +475,7 @@ module _ (m : AppSpec) (steady : IsSteady m) (port : ℕ) (model : OutputModel) 
               seq = q.seq ∙ ap (λ n. wrap (n + c.acked)) (sym o.iss) ∙ ap (λ n. wrap (d.iss + n)) (sym same);
               alike = alike_trans t (due m c.state c) (due m d.state d) q.alike (alike_sym (due m d.state d) (due m c.state c) z.1);
             })
-            | inr more ↦ (let a = hears_ack more.0 in
+            | inr more ↦ (let a = receives_ack more.0 in
                 let size : sequence_length t ≡ c.len = due_size m steady AnyLength any_length c c.state t lv.safe.state q.len q.alike in
                 inl record {
                   at = c.acked;
@@ -624,7 +624,7 @@ module _ (m : AppSpec) (steady : IsSteady m) (port : ℕ) (model : OutputModel) 
           (λ t q. (let z : Some (reset_for_no_connection s) ≡ Some t = sym (ap (λ y. y.output) e) ∙ q in (ap (λ y. is_live y.state) f ∙ l, only_some (λ y. occupies_sequence_space y ≡ false) (reset_for_no_connection s) t z refl, only_some (λ y. has_rst y.flags ≡ true) (reset_for_no_connection s) t z refl)))
           (λ z. f)
       | born iss s plain port fit e f ↦ absurd (let z : is_opening x ≡ true = ap (λ y. is_opening y) e in cc)
-      | hears s numbers at alive fit words is h ↦
+      | delivers_text s numbers at alive fit words is h ↦
           (let o : Outcome = on_segment m c numbers s in
           let oo : Outcome = asked m at o in
           let fo : FitOut o = on_segment_fits m steady c numbers s fit words in
@@ -669,7 +669,7 @@ module _ (m : AppSpec) (steady : IsSteady m) (port : ℕ) (model : OutputModel) 
       | unanswered s l e f ↦ absurd (let z : is_opening x ≡ false = ap (λ y. is_opening y) e in cc)
       | refused s r l e f ↦ absurd (let z : is_opening x ≡ false = ap (λ y. is_opening y) e in cc)
       | born iss s plain port fit e f ↦ subst (λ z. Good d (z ∷ [])) (sym e) (subst (λ z. Good z (met (Some s) (Some (syn_ack (accepted iss p s))) ∷ [])) (sym f) (on_birth iss p s plain here fit))
-      | hears s numbers at alive fit words is h ↦
+      | delivers_text s numbers at alive fit words is h ↦
           (let o : Outcome = asked m at (on_segment m c numbers s) in
           absurd (let z : is_opening x ≡ false = ap (λ y. is_opening y) h.0 ∙ no_opening (segment_of m o.connection o.step) (λ t q. answer_no_syn m at c numbers s t q) in cc))
       | ticks numbers at alive fit words is h ↦ absurd (let z : is_opening x ≡ false = ap (λ y. is_opening y) h.0 in cc)

@@ -2,7 +2,7 @@
 use Rattle.node_laws.proofs.Prelude.{All, option_map, ◌≡◌, ℕ, ◌<◌, Bool, true, false, ◌&&◌, inr, List, [], ◌∷◌, position, replicate, refl, sym, ap, ◌∙◌, subst, arith, Option, Some, None, if◌then◌else◌, All-head, All-tail, Addr, IsReadBack, head_of, PlainSegment, Datagram, datagram_bytes, has_rst, AppSpec, IsAddr, IsByte, IsU32, Sockets, Connection, closed, is_live, serves, same_sockets, is_again, is_plain_syn, reset_for_no_connection, segment_of, Outcome, asked, accepted, on_segment, on_tick, Step, by_head, by_segment, datagram_to, Event, Reply, HistoryEntry, IpRefused, IcmpRefused, TcpRefused, EchoAsked, Arrived, Overlong, Periodic, TcpReply, ident_of, serving, IsSteady, SendsBytes, DeliveredBytes, asked_bytes, on_segment_bytes, on_tick_bytes, both_ways, choose, only_some, wrap_low, FitConn, FitOut, all_nil, all_cons, asked_fits, on_segment_fits, on_tick_fits, FitNode, closed_fits, event_fits, none_serves, all_closed, Single, serving_free, same_is, same_self, closed_lens, Lens, accepted_lens, asked_lens, on_segment_lens, on_tick_lens, IsSoundSegment, said_sound, IsPlace, datagram_back, datagram_short, Exchange, received_from, exchange, sent_to, IsOfLine, IsDecoded, IsDecodedAt, seen_from_peer}
 use Rattle.uip_node.specs.Node.{AbstractNode, NodeStep, arrives_at, for_no_connection, happened, initial_node, opens as opens_at, opens_in, refuses, slot_for_syn, step}
 use Rattle.node_laws.proofs.Lines.{OfMedium, Comes, comes, left_of}
-use Rattle.node_laws.proofs.Lines.OfMedium.{passes_by, evicted, unanswered, refused, born, hears, ticks}
+use Rattle.node_laws.proofs.Lines.OfMedium.{passes_by, evicted, unanswered, refused, born, delivers_text, ticks}
 use Rattle.node_laws.proofs.Steps.{LineStep, OfNode, Changes, IsStep, changed, trace_over}
 use Rattle.node_laws.proofs.Wire.{IsWire, line_wire, wire_event}
 
@@ -127,7 +127,7 @@ module _ (m : AppSpec) (steady : IsSteady m) (bytes : SendsBytes m) where
               conn = λ z. record { fits = k.fits; lens = subst (λ y. Lens y) (sym f) (accepted_lens iss p s); input = subst (λ y. DeliveredBytes y) (sym f) (all_nil IsByte) };
               output = λ t g. record { fits = k.fits; segment = said_sound m b (Step.SynAck false) t (accepted_lens iss p s) (bytes.output b.part (all_nil IsByte) fit.snapshots) (sym (ap (λ y. y.output) e) ∙ g) };
             })
-        | hears s numbers at alive fit words is q ↦
+        | delivers_text s numbers at alive fit words is q ↦
             (let o : Outcome = on_segment m c numbers s in
             let fo : FitOut o = on_segment_fits m steady c numbers s fit words in
             step_does p d x (asked m at o) (h alive).fits (asked_fits m steady at is o fo).conn (asked_lens m at o (on_segment_lens m c numbers s (h alive).lens)) (asked_bytes m bytes at o (on_segment_bytes m bytes c numbers s (received s (ap (λ y. y.received) q.0)).text (h alive).input)) (ap (λ y. y.output) q.0) q.1)

@@ -1,5 +1,5 @@
 -- The names that the proofs of this crate cite: of std, of the crates below, and of its own definitions. Declares nothing.
-pub use Rattle.app_events.specs.Prelude.{After, AppSpec, AppState, CanSend, IsAddr, IsByte, IsNow, IsPaged, IsPrefixOf, IsSnapshot, IsU32, MayWant, Pages, Snapshot, fixed_spec, fixed_text, hello, is_time_wait, some_heard}
+pub use Rattle.app_events.specs.Prelude.{After, AppSpec, AppState, CanSend, IsAddr, IsByte, IsNow, IsPaged, IsPrefixOf, IsSnapshot, IsU32, MayWant, Pages, Snapshot, fixed_spec, fixed_text, hello, is_time_wait, some_received}
 pub use Rattle.app_events.specs.declared.ending.Ending.TheVariants.{Reset}
 pub use Rattle.app_events.specs.declared.now.Now.{Now}
 pub use Rattle.app_events.specs.declared.state.State.{State}
@@ -20,7 +20,7 @@ pub use Rattle.std.proofs.lemmas.List.Elements.{All-cons, All-drop, All-head, Al
 pub use Rattle.std.specs.List.{All, list_any}
 pub use Rattle.std.specs.Option.{option_map_or, option_or}
 pub use Rattle.std.specs.Prelude.{option_map}
-pub use Rattle.tcp_machine.specs.Prelude.{Connection, Outcome, Sockets, accepted, after_own_fin, ask, asked, bare_ack, by_beat, by_state, closed, closes, does_as_wanted, fin_of, first_mss, grows_older, has_text, hears, in_state, is_acked, is_again, is_live, is_open, is_out_of_order, is_plain_syn, leaves, limit_of, occupies_sequence_space, on_tick, outstanding, peer_has_closed, polls, prepared, rcv_nxt, reset_for_no_connection, reset_of, rests, row_of, rows_from, same_sockets, segment_of, serves, snd_una, syn_ack, takes, text_segment, tick_by, reported_end, waits_for_ack, with_part, with_window}
+pub use Rattle.tcp_machine.specs.Prelude.{Connection, Outcome, Sockets, accepted, after_own_fin, ask, asked, bare_ack, by_beat, by_state, closed, closes, does_as_wanted, fin_of, first_mss, grows_older, has_text, delivers_text, in_state, is_acked, is_again, is_live, is_open, is_out_of_order, is_plain_syn, leaves, limit_of, occupies_sequence_space, on_tick, outstanding, peer_has_closed, polls, prepared, rcv_nxt, reset_for_no_connection, reset_of, rests, row_of, rows_from, same_sockets, segment_of, serves, snd_una, syn_ack, takes, text_segment, tick_by, reported_end, waits_for_ack, with_part, with_window}
 unfoldable pub use Rattle.tcp_machine.specs.Prelude.{fin_acked, fin_waits, idles, in_established, on_segment, peer_closes, rests_on, stays_established, ticks_established}
 pub use Rattle.tcp_machine.specs.declared.step.Step.{Step}
 pub use Rattle.tcp_segment.specs.Prelude.{Datagram, IsReadBack, PlainSegment, has_ack, has_fin, has_rst, has_syn, head_of, header_len, pseudo_header}

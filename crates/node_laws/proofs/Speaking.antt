@@ -1,5 +1,5 @@
 -- What is known of an application's state on a connection, by the pages that it has at its port, and of the text that was sent.
-use Rattle.node_laws.proofs.Prelude.{◌≡◌, ℕ, ◌+◌, ◌≤◌, ◌⊎◌, true, false, List, [], ◌∷◌, ◌++◌, length, take, drop, refl, sym, ap, ◌∙◌, subst, arith, inl, inr, length-take, append_assoc, take-append-le, take-append-drop, IsPrefixOf, Pages, MayWant, AppState, Snapshot, AppSpec, Now, Close, hears, IsSlice, IsSteady, IsPart, append_nothing, cut_part, cut_length, prefix_part, prefix_refl, OutputModel, Paged, Interactive, Free, AcceptsPrefix, IsPagedAt, FollowsPagesAt, LeavesDelivered, FollowsModelAt}
+use Rattle.node_laws.proofs.Prelude.{◌≡◌, ℕ, ◌+◌, ◌≤◌, ◌⊎◌, true, false, List, [], ◌∷◌, ◌++◌, length, take, drop, refl, sym, ap, ◌∙◌, subst, arith, inl, inr, length-take, append_assoc, take-append-le, take-append-drop, IsPrefixOf, Pages, MayWant, AppState, Snapshot, AppSpec, Now, Close, delivers_text, IsSlice, IsSteady, IsPart, append_nothing, cut_part, cut_length, prefix_part, prefix_refl, OutputModel, Paged, Interactive, Free, AcceptsPrefix, IsPagedAt, FollowsPagesAt, LeavesDelivered, FollowsModelAt}
 
 -- ---- prefixes of texts
 
@@ -176,7 +176,7 @@ module _ (m : AppSpec) (port : ℕ) where
   open_piece (Interactive sessions) laws numbers p piece text h = heard_piece sessions laws numbers p piece text h
   open_piece Free laws numbers p piece text h = tt
 
-  pub open_heard : (model : OutputModel) (laws : FollowsModelAt m port model) (numbers : List ℕ) (p : AppState) (piece text : List ℕ) → IsOpen model laws p text → IsOpen model laws (hears m numbers p piece).part (text ++ piece)
+  pub open_heard : (model : OutputModel) (laws : FollowsModelAt m port model) (numbers : List ℕ) (p : AppState) (piece text : List ℕ) → IsOpen model laws p text → IsOpen model laws (delivers_text m numbers p piece).part (text ++ piece)
   open_heard model laws numbers p [] text h = subst (λ z. IsOpen model laws p z) (sym (append_nothing text)) h
   open_heard model laws numbers p (x ∷ xs) text h = open_piece model laws numbers p (x ∷ xs) text h
 
@@ -221,12 +221,12 @@ module _ (m : AppSpec) (port : ℕ) where
   -- ---- what deliveries and captures do
 
   module _ (steady : IsSteady m) where
-    pub record Heard (p q : AppState) : Type 0 where
+    pub record Received (p q : AppState) : Type 0 where
       pub snapshots : q.snapshots ≡ p.snapshots
       pub acked : q.acked ≡ p.acked
       pub grows : IsPrefixOf (m.output p) (m.output q)
 
-    pub heard_is : (numbers : List ℕ) (p : AppState) (piece : List ℕ) → Heard p (hears m numbers p piece).part
+    pub heard_is : (numbers : List ℕ) (p : AppState) (piece : List ℕ) → Received p (delivers_text m numbers p piece).part
     heard_is numbers p [] = record { snapshots = refl; acked = refl; grows = prefix_refl (m.output p) }
     heard_is numbers p (x ∷ xs) =
         (let g = steady.lawful.newdata_grows numbers p (x ∷ xs) tt in

@@ -4,7 +4,7 @@ use Rattle.node_laws.proofs.HonestPeers.{calls_one}
 use Rattle.node_laws.proofs.Beating.{Young, asked_young, segment_young, tick_young, due_size, asked_lives, segment_lives, tick_lives, mss_some, no_wait, ticks_are, due_again, next_beat, SafeAt}
 use Rattle.node_laws.proofs.GoodNodes.{AnyLength, Good, SafeConn, first_is, good_on, good_start, low_text}
 use Rattle.node_laws.proofs.Lines.{comes, quiet, met}
-use Rattle.node_laws.proofs.Lines.OfMedium.{passes_by, evicted, unanswered, refused, born, hears, ticks}
+use Rattle.node_laws.proofs.Lines.OfMedium.{passes_by, evicted, unanswered, refused, born, delivers_text, ticks}
 use Rattle.node_laws.proofs.Slots.{Acted, acts}
 use Rattle.node_laws.proofs.Slots.Acts.{is_called, is_met, is_apart, makes_room}
 
@@ -242,7 +242,7 @@ module _ (m : AppSpec) (steady : IsSteady m) (ports : ℕ → Bool) (p : Sockets
             | refused s q l e f ↦ gone (ap (λ z. is_live z.state) f ∙ dead)
                 (nothing_said x (λ t g. (let z : Some (reset_for_no_connection s) ≡ Some t = sym (ap (λ y. y.output) e) ∙ g in only_some (λ y. occupies_sequence_space y ≡ false) (reset_for_no_connection s) t z refl)))
             | born iss s plain port fit e f ↦ new_born iss s fit e f
-            | hears s numbers at alive fit words snapshots h ↦ absurd (cc)
+            | delivers_text s numbers at alive fit words snapshots h ↦ absurd (cc)
             | ticks numbers at alive fit words snapshots h ↦ absurd (cc)
           ]
 

@@ -1,5 +1,5 @@
 -- What a step of a connection accepts from its peer, and what its page is then.
-use Rattle.node_laws.proofs.Prelude.{◌≡◌, ℕ, ◌+◌, Bool, true, false, not, ◌&&◌, ◌||◌, ◌⊎◌, inl, inr, List, [], ◌∷◌, ◌++◌, length, refl, sym, ap, ◌∙◌, subst, arith, Option, Some, None, length-append, eqb, ltb, append_assoc, take, drop, length-drop, ◌≤◌, if◌then◌else◌, wrap, PlainSegment, has_fin, has_rst, has_syn, Beat, AppState, Snapshot, AppSpec, IsPrefixOf, CanSend, Now, State, Closed, SynRcvd, Established, CloseWait, FinWait1, FinWait2, Closing, TimeWait, LastAck, Want, Nothing, Send, Close, Abort, take-add, Connection, Sockets, is_live, rcv_nxt, occupies_sequence_space, segment_of, text_segment, Outcome, after_own_fin, closes, peer_has_closed, idles, does_as_wanted, prepared, asked, accepted, hears, is_out_of_order, is_acked, rests, has_text, in_state, takes, with_part, with_window, in_established, peer_closes, stays_established, fin_acked, fin_waits, by_state, on_segment, grows_older, by_beat, on_tick, Step, choose, both_ways, append_nothing, ltb-zero, and_false, eqb-eq, not-false, prefix_length, prefix_refl, is_open, asked_by, by_open, is_ask, no_ask_again, on_tick_by, open_live, segment_moves, tick_moves, IsSteady, OutputModel, FollowsModelAt}
+use Rattle.node_laws.proofs.Prelude.{◌≡◌, ℕ, ◌+◌, Bool, true, false, not, ◌&&◌, ◌||◌, ◌⊎◌, inl, inr, List, [], ◌∷◌, ◌++◌, length, refl, sym, ap, ◌∙◌, subst, arith, Option, Some, None, length-append, eqb, ltb, append_assoc, take, drop, length-drop, ◌≤◌, if◌then◌else◌, wrap, PlainSegment, has_fin, has_rst, has_syn, Beat, AppState, Snapshot, AppSpec, IsPrefixOf, CanSend, Now, State, Closed, SynRcvd, Established, CloseWait, FinWait1, FinWait2, Closing, TimeWait, LastAck, Want, Nothing, Send, Close, Abort, take-add, Connection, Sockets, is_live, rcv_nxt, occupies_sequence_space, segment_of, text_segment, Outcome, after_own_fin, closes, peer_has_closed, idles, does_as_wanted, prepared, asked, accepted, delivers_text, is_out_of_order, is_acked, rests, has_text, in_state, takes, with_part, with_window, in_established, peer_closes, stays_established, fin_acked, fin_waits, by_state, on_segment, grows_older, by_beat, on_tick, Step, choose, both_ways, append_nothing, ltb-zero, and_false, eqb-eq, not-false, prefix_length, prefix_refl, is_open, asked_by, by_open, is_ask, no_ask_again, on_tick_by, open_live, segment_moves, tick_moves, IsSteady, OutputModel, FollowsModelAt}
 use Rattle.node_laws.proofs.Speaking.{IsEnd, IsReported, IsOpen, end_more, end_said, prefix_size, heard_is, open_acked, open_heard, open_new, open_polled, open_prepared, prepared_is, equal_prefix, reported_said}
 
 -- the numbers that a FIN or a SYN takes up
@@ -320,7 +320,7 @@ module _ (m : AppSpec) (port : ℕ) (model : OutputModel) (laws : FollowsModelAt
     shut received c b text e sent g k p t = stays received c text e sent (closes b) g k p t tt
 
     -- a piece is delivered to it
-    hears_open : (fin fin' : Bool) (c d : Connection) (numbers piece text : List ℕ) (e : Bool) (sent : List ℕ) → d.part ≡ (hears m numbers c.part piece).part → d.acked ≡ c.acked → d.len ≡ c.len → AtOpen fin c text e sent → AtOpen fin' d (text ++ piece) fin' sent
+    hears_open : (fin fin' : Bool) (c d : Connection) (numbers piece text : List ℕ) (e : Bool) (sent : List ℕ) → d.part ≡ (delivers_text m numbers c.part piece).part → d.acked ≡ c.acked → d.len ≡ c.len → AtOpen fin c text e sent → AtOpen fin' d (text ++ piece) fin' sent
     hears_open fin fin' c d numbers piece text e sent part acked len h =
         let x = heard_is m port steady numbers c.part piece in
         let at : d.part.acked ≡ c.part.acked = ap (λ q. q.acked) part ∙ x.acked in
@@ -344,7 +344,7 @@ module _ (m : AppSpec) (port : ℕ) (model : OutputModel) (laws : FollowsModelAt
     unfolding peer_closes
     closing_in c text e sent numbers s order f h t =
         let x = heard_is m port steady numbers c.part s.text in
-        let d : Connection = in_state CloseWait (with_window s.window (with_part (hears m numbers c.part s.text).part (takes (length s.text + 1) c))) in
+        let d : Connection = in_state CloseWait (with_window s.window (with_part (delivers_text m numbers c.part s.text).part (takes (length s.text + 1) c))) in
         let a : AtOpen true d (text ++ s.text) true sent = hears_open false true c d numbers s.text text e sent refl refl refl h in
         let g : Moved (Some s) c text e sent d = hears_on c text e sent s true d order h.is t (λ z. f) x.snapshots refl (omega arith) a in
         choose (λ (o : Outcome). OutMoved (Some s) c text e sent o) (ltb 0 c.len) _ _ (λ z. record { moved = g; open_there = λ y. refl }) (λ z. record { moved = g; open_there = λ y. refl })
@@ -353,7 +353,7 @@ module _ (m : AppSpec) (port : ℕ) (model : OutputModel) (laws : FollowsModelAt
     unfolding stays_established
     going_in acked c text e sent numbers s order st h t =
         let x = heard_is m port steady numbers c.part s.text in
-        let d : Connection = with_window s.window (with_part (hears m numbers c.part s.text).part (takes (length s.text) c)) in
+        let d : Connection = with_window s.window (with_part (delivers_text m numbers c.part s.text).part (takes (length s.text) c)) in
         let a : AtOpen false d (text ++ s.text) false sent = hears_open false false c d numbers s.text text e sent refl refl refl h in
         let g : Moved (Some s) c text e sent d = hears_on c text e sent s false d order h.is t (λ z. absurd (cc)) x.snapshots refl (omega arith) (page_at d Established (text ++ s.text) false sent st a) in
         let o : is_open d.state ≡ true = ap is_open st in
@@ -410,7 +410,7 @@ module _ (m : AppSpec) (port : ℕ) (model : OutputModel) (laws : FollowsModelAt
         let own : ℕ = c.sockets.own_port.0 in
         let start = m.connected numbers own in
         let x = heard_is m port steady start.numbers start.part s.text in
-        let d : Connection = with_part (hears m start.numbers start.part s.text).part (takes (length s.text) (in_state Established (rests c))) in
+        let d : Connection = with_part (delivers_text m start.numbers start.part s.text).part (takes (length s.text) (in_state Established (rests c))) in
         let zero : d.part.acked ≡ 0 = x.acked ∙ steady.connected_acked numbers own in
         let new : IsOpen m port model laws start.part [] = subst (λ n. IsOpen m port model laws (m.connected numbers n).part []) (sym h.here) (open_new m port model laws numbers) in
         let delivered : IsOpen m port model laws d.part s.text = open_heard m port model laws start.numbers start.part s.text [] new in

@@ -4,7 +4,7 @@ use Rattle.node_laws.proofs.Steps.{LineStep, OfNode, Changes, IsStep, changed, t
 use Rattle.node_laws.proofs.Wire.{line_wire, wire_event}
 use Rattle.node_laws.proofs.Replying.{answer_no_syn, rst_silent, rst_ends, reset_ends, tick_reset_ends}
 use Rattle.node_laws.proofs.Lines.{OfMedium, Comes, comes, met, left_of}
-use Rattle.node_laws.proofs.Lines.OfMedium.{passes_by, evicted, unanswered, refused, born, hears, ticks}
+use Rattle.node_laws.proofs.Lines.OfMedium.{passes_by, evicted, unanswered, refused, born, delivers_text, ticks}
 use Rattle.node_laws.proofs.Lives.{Good, Onward, goes_on, begins_by}
 use Rattle.node_laws.proofs.Receiving.{keeps_account, keeps_text}
 
@@ -53,7 +53,7 @@ module _ (m : AppSpec) (served : ℕ → Bool) (p : Sockets) where
       received = λ t q. only_some (λ y. has_rst y.flags ≡ false) s t (sym (ap (λ y. y.received) e) ∙ q) (plain_no_rst s plain);
       output = λ t q. only_some (λ y. has_rst y.flags ≡ false) (syn_ack (accepted iss p s)) t (sym (ap (λ y. y.output) e) ∙ q) refl;
     }
-    | hears s numbers at alive fit words is h ↦ (let o : Outcome = asked m at (on_segment m c numbers s) in
+    | delivers_text s numbers at alive fit words is h ↦ (let o : Outcome = asked m at (on_segment m c numbers s) in
         let k : is_live o.connection.state ≡ true = left_live o.connection (sym (ap (λ y. is_live y.state) h.1) ∙ l) in
         record {
           received = λ t q. only_some (λ y. has_rst y.flags ≡ false) s t (sym (ap (λ y. y.received) h.0) ∙ q)
@@ -77,7 +77,7 @@ module _ (m : AppSpec) (served : ℕ → Bool) (p : Sockets) where
         | unanswered s q e f ↦ absurd (let z : is_live d.state ≡ false = ap (λ y. is_live y.state) f ∙ q in cc)
         | refused s r q e f ↦ absurd (let z : is_live d.state ≡ false = ap (λ y. is_live y.state) f ∙ q in cc)
         | born iss s plain port fit e f ↦ absurd (let z : is_opening x ≡ true = ap (λ y. is_opening y) e in cc)
-        | hears s numbers at alive fit words is q ↦ h alive
+        | delivers_text s numbers at alive fit words is q ↦ h alive
         | ticks numbers at alive fit words is q ↦ h alive
       ]))
 
@@ -88,7 +88,7 @@ module _ (m : AppSpec) (served : ℕ → Bool) (p : Sockets) where
     | unanswered t l e f ↦ absurd (let z : None ≡ Some s = sym (ap (λ y. y.output) e) ∙ q in cc)
     | refused t r l e f ↦ inl (t, ap (λ y. y.received) e, r)
     | born iss t plain port fit e f ↦ inl (t, ap (λ y. y.received) e, plain_no_rst t plain)
-    | hears t numbers at alive fit words is w ↦
+    | delivers_text t numbers at alive fit words is w ↦
         inl (
           t,
           ap (λ y. y.received) w.0,
@@ -110,7 +110,7 @@ module _ (m : AppSpec) (served : ℕ → Bool) (p : Sockets) where
     | unanswered s l e f ↦ absurd (let z : is_opening x ≡ false = ap (λ y. is_opening y) e in cc)
     | refused s r l e f ↦ absurd (let z : is_opening x ≡ false = ap (λ y. is_opening y) e in cc)
     | born iss s plain port fit e f ↦ port
-    | hears s numbers at alive fit words is h ↦
+    | delivers_text s numbers at alive fit words is h ↦
         (let oo : Outcome = asked m at (on_segment m c numbers s) in
         absurd (let z : is_opening x ≡ false = ap (λ y. is_opening y) h.0 ∙ no_opening (segment_of m oo.connection oo.step) (λ t q. answer_no_syn m at c numbers s t q) in cc))
     | ticks numbers at alive fit words is h ↦ absurd (let z : is_opening x ≡ false = ap (λ y. is_opening y) h.0 in cc)

@@ -3,7 +3,7 @@ use Rattle.node_laws.proofs.Prelude.{All, option_map_or, ◌≡◌, ℕ, zero, s
 use Rattle.node_laws.proofs.Beating.{ask_open, mss_some}
 use Rattle.node_laws.proofs.GoodNodes.{AnyLength, Good, SafeConn, first_is, good_on, good_start, low_text}
 use Rattle.node_laws.proofs.Lines.{OfMedium, Comes, comes, quiet, met, left_of}
-use Rattle.node_laws.proofs.Lines.OfMedium.{passes_by, evicted, unanswered, refused, born, hears, ticks}
+use Rattle.node_laws.proofs.Lines.OfMedium.{passes_by, evicted, unanswered, refused, born, delivers_text, ticks}
 use Rattle.node_laws.proofs.Replying.{answer_no_syn}
 use Rattle.node_laws.proofs.WindowSteps.{NewIsShort, is_new_text, asked_short, asked_so, segment_bounds, segment_new, StaysAtSyn, segment_syn, tick_on}
 use Rattle.node_laws.proofs.WindowSteps.AskedSo.{unasked, spoke}
@@ -298,7 +298,7 @@ module _ (m : AppSpec) (steady : IsSteady m) (ports : ℕ → Bool) (p : Sockets
     | refused s q l e f ↦ dead_windowed d x incarnation (ap (λ k. is_live k.state) f ∙ l)
         (λ t h. (let k : Some (reset_for_no_connection s) ≡ Some t = sym (ap (λ k. k.output) e) ∙ h in only_some (λ k. k.text ≡ []) (reset_for_no_connection s) t k refl)) w.fits
     | born iss s plain port fit e f ↦ absurd (let k : is_opening x ≡ true = ap (λ k. is_opening k) e in cc)
-    | hears s numbers at alive fit words is h ↦ subst (λ k. Windowed k (x ∷ incarnation)) (sym h.1) (subst (λ k. Windowed (left_of (asked m at (on_segment m c numbers s)).connection) (k ∷ incarnation)) (sym h.0) (delivered c incarnation w alive fit numbers words at is s))
+    | delivers_text s numbers at alive fit words is h ↦ subst (λ k. Windowed k (x ∷ incarnation)) (sym h.1) (subst (λ k. Windowed (left_of (asked m at (on_segment m c numbers s)).connection) (k ∷ incarnation)) (sym h.0) (delivered c incarnation w alive fit numbers words at is s))
     | ticks numbers at alive fit words is h ↦ subst (λ k. Windowed k (x ∷ incarnation)) (sym h.1) (subst (λ k. Windowed (left_of (asked m at (on_tick m c numbers)).connection) (k ∷ incarnation)) (sym h.0) (ticked c incarnation w alive fit numbers words at is))
   ]
 
@@ -332,7 +332,7 @@ module _ (m : AppSpec) (steady : IsSteady m) (ports : ℕ → Bool) (p : Sockets
     | unanswered s l e f ↦ absurd (let k : is_opening x ≡ false = ap (λ k. is_opening k) e in cc)
     | refused s q l e f ↦ absurd (let k : is_opening x ≡ false = ap (λ k. is_opening k) e in cc)
     | born iss s plain port fit e f ↦ subst (λ k. Windowed k (x ∷ [])) (sym f) (subst (λ k. Windowed (accepted iss p s) (k ∷ [])) (sym e) (born_windowed iss s plain))
-    | hears s numbers at alive fit words is h ↦ absurd (let r : Outcome = asked m at (on_segment m c numbers s) in
+    | delivers_text s numbers at alive fit words is h ↦ absurd (let r : Outcome = asked m at (on_segment m c numbers s) in
         let k : is_opening x ≡ false = ap (λ k. is_opening k) h.0 ∙ no_opening (segment_of m r.connection r.step) (λ t q. answer_no_syn m at c numbers s t q) in cc)
     | ticks numbers at alive fit words is h ↦ absurd (let k : is_opening x ≡ false = ap (λ k. is_opening k) h.0 in cc)
   ]

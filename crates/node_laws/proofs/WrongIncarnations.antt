@@ -1,5 +1,5 @@
 -- The guarantee alone excludes wrong incarnations.
-use Rattle.node_laws.proofs.Prelude.{◌≡◌, ◌+◌, ◌<◌, ◌≤◌, ◌⊎◌, ℕ, zero, suc, Bool, true, false, List, [], ◌∷◌, ◌++◌, length, take, refl, sym, ap, ◌∙◌, subst, arith, inl, inr, Some, if◌then◌else◌, wrap, PlainSegment, hello, fixed_text, some_heard, EchoAsked, only_some, prefix_length, prefix_refl, IsPrefixOf, OutputModel, Paged, Interactive, Free, CarriesByte, IsReceived, received_at, sent_at, IsEchoed, Account, Opening, IsSelection, AccountHolds, IncarnationConforms, NumbersGiveOffsets, IsAcknowledged, Pages, Exchange, IsPrefixOfPage, TextConforms, SpeaksBy, hello_pages, mirror_pages, opened, segment, cut_again, ends_early, repeats_byte, acknowledges_refused, two_under_way, tells_another, echoes_before, WrongIncarnationsFall}
+use Rattle.node_laws.proofs.Prelude.{◌≡◌, ◌+◌, ◌<◌, ◌≤◌, ◌⊎◌, ℕ, zero, suc, Bool, true, false, List, [], ◌∷◌, ◌++◌, length, take, refl, sym, ap, ◌∙◌, subst, arith, inl, inr, Some, if◌then◌else◌, wrap, PlainSegment, hello, fixed_text, some_received, EchoAsked, only_some, prefix_length, prefix_refl, IsPrefixOf, OutputModel, Paged, Interactive, Free, CarriesByte, IsReceived, received_at, sent_at, IsEchoed, Account, Opening, IsSelection, AccountHolds, IncarnationConforms, NumbersGiveOffsets, IsAcknowledged, Pages, Exchange, IsPrefixOfPage, TextConforms, SpeaksBy, hello_pages, mirror_pages, opened, segment, cut_again, ends_early, repeats_byte, acknowledges_refused, two_under_way, tells_another, echoes_before, WrongIncarnationsFall}
 use Rattle.node_laws.proofs.Texts.{element, get_inside, most_or_more}
 
 -- where the life begins
@@ -17,7 +17,7 @@ text_short : (delivered : List ℕ) → length (fixed_text delivered) ≤ 6
 text_short [] = omega arith
 text_short (x ∷ xs) = omega arith
 
-whole_length : (delivered : List ℕ) → some_heard delivered ≡ true → length (fixed_text delivered) ≡ 6
+whole_length : (delivered : List ℕ) → some_received delivered ≡ true → length (fixed_text delivered) ≡ 6
 whole_length [] h = absurd (cc)
 whole_length (x ∷ xs) h = refl
 

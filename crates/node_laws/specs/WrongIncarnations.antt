@@ -3,7 +3,7 @@
 use Rattle.std.specs.Prelude.{◌≡◌, ◌⊎◌, ◌+◌, ℕ, List, [], ◌∷◌, ◌++◌, Option, Some, None, take, drop, false}
 use Rattle.tcp_segment.specs.Prelude.{PlainSegment}
 use Rattle.tcp_segment.specs.declared.flags.TheConstants.{FIN, SYN, PSH, ACK}
-use Rattle.app_events.specs.Prelude.{hello, fixed_text, some_heard, Pages}
+use Rattle.app_events.specs.Prelude.{hello, fixed_text, some_received, Pages}
 use Rattle.uip_node.specs.Prelude.{EchoAsked, Echo}
 use Rattle.node_laws.specs.Traces.{Exchange, TraceEntry}
 use Rattle.node_laws.specs.Promise.{IncarnationConforms, OutputModel}
@@ -11,7 +11,7 @@ use Rattle.node_laws.specs.Promise.OutputModel.{Paged, Interactive}
 use Rattle.node_laws.specs.Asked.{IsEchoed}
 
 abbrev pub hello_pages : Pages
-hello_pages = record { page = λ input snapshots. fixed_text input; complete = λ input snapshots. some_heard input }
+hello_pages = record { page = λ input snapshots. fixed_text input; complete = λ input snapshots. some_received input }
 
 -- the page that repeats its input
 abbrev pub mirror_pages : Pages

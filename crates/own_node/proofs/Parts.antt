@@ -1,5 +1,5 @@
 -- What a step of a connection does to the ticket and to the captures of `OwnApp`.
-use Rattle.own_node.proofs.Prelude.{◌≡◌, ◌∙◌, ℕ, ◌&&◌, ◌⊎◌, inl, inr, Bool, true, false, not, List, [], ◌∷◌, ◌+◌, drop, length, nat_lt, refl, sym, ap, subst, false≢true, PlainSegment, has_fin, has_rst, After, AppSpec, AppState, Ending, Now, State, Closed, SynRcvd, Established, CloseWait, FinWait1, FinWait2, Closing, TimeWait, LastAck, Want, Nothing, Send, Close, Abort, Connection, Outcome, Sockets, asked, by_beat, by_state, does_as_wanted, fin_acked, fin_waits, has_text, hears, idles, in_established, in_state, is_acked, is_open, is_out_of_order, on_segment, on_tick, peer_closes, peer_has_closed, prepared, rests, stays_established, takes, reported_end, with_part, both_ways, choose, Unmoved, asked_by, by_own_fin, is_ask, no_ask_again, on_tick_by, wanted_unmoved, next_ticket, own_spec}
+use Rattle.own_node.proofs.Prelude.{◌≡◌, ◌∙◌, ℕ, ◌&&◌, ◌⊎◌, inl, inr, Bool, true, false, not, List, [], ◌∷◌, ◌+◌, drop, length, nat_lt, refl, sym, ap, subst, false≢true, PlainSegment, has_fin, has_rst, After, AppSpec, AppState, Ending, Now, State, Closed, SynRcvd, Established, CloseWait, FinWait1, FinWait2, Closing, TimeWait, LastAck, Want, Nothing, Send, Close, Abort, Connection, Outcome, Sockets, asked, by_beat, by_state, does_as_wanted, fin_acked, fin_waits, has_text, delivers_text, idles, in_established, in_state, is_acked, is_open, is_out_of_order, on_segment, on_tick, peer_closes, peer_has_closed, prepared, rests, stays_established, takes, reported_end, with_part, both_ways, choose, Unmoved, asked_by, by_own_fin, is_ask, no_ask_again, on_tick_by, wanted_unmoved, next_ticket, own_spec}
 use Rattle.rexmit_timer.specs.declared.timer.Beat.{Beat}
 use Rattle.app_events.specs.declared.ending.Ending.TheVariants.{Reset, TimedOut}
 use Rattle.tcp_machine.specs.declared.step.Step.{Step}
@@ -63,7 +63,7 @@ module _ (mine : ℕ → Bool) (seen : AppState → AppState) (own : List ℕ �
       by_state_reported CloseWait = contains.ended numbers p how
       by_state_reported _ = refl
 
-  heard : (numbers : List ℕ) (p : AppState) (piece : List ℕ) → Keeps mine seen own p numbers (hears m numbers p piece)
+  heard : (numbers : List ℕ) (p : AppState) (piece : List ℕ) → Keeps mine seen own p numbers (delivers_text m numbers p piece)
   heard numbers p [] = still mine seen own p numbers
   heard numbers p (x ∷ xs) = contains.newdata numbers p (x ∷ xs)
 
@@ -72,7 +72,7 @@ module _ (mine : ℕ → Bool) (seen : AppState → AppState) (own : List ℕ �
       → Keeps mine seen own c.part first (record { part = b.part; numbers = numbers }) → is_open c.state ≡ true → OutMoves c first (in_established m acked b numbers s)
   unfolding in_established peer_closes stays_established
   established_moves acked c b first numbers s sockets state keeps opens =
-      let k = then_keeps mine seen own c.part first (record { part = b.part; numbers = numbers }) (hears m numbers b.part s.text) keeps (heard numbers b.part s.text) in
+      let k = then_keeps mine seen own c.part first (record { part = b.part; numbers = numbers }) (delivers_text m numbers b.part s.text) keeps (heard numbers b.part s.text) in
       choose (λ (o : Outcome). OutMoves c first o) (has_fin s.flags) _ _
       (λ e. choose (λ (o : Outcome). OutMoves c first o) (nat_lt 0 b.len) _ _
       (λ f. goes_on sockets k (λ z. opens) (λ z. opens) (λ z. absurd (cc)))

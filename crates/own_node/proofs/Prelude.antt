@@ -11,7 +11,7 @@ pub use Rattle.own_node.specs.Prelude.{HasCaptured, can_write_at, can_write_in, 
 pub use Rattle.own_node.specs.Written.{is_accepted}
 pub use Rattle.std.proofs.Common.{◌≡◌, ℕ, zero, suc, ◌<◌, ◌==◌, Bool, true, if◌then◌else◌, List, [], ◌∷◌, ◌++◌, length, nat_le, refl, sym, arith, ◌+◌, ◌%◌, ◌&&◌, false, drop, nat_lt, not, ap, ◌∙◌, map, subst, ◌⊎◌, inl, inr, Option, Some, None, MatchOption, ◌≤◌, append-nil, length-append, ◌-◌, ◌||◌, eqb, ltb, length-drop, length-take, take}
 pub use Rattle.std.proofs.lemmas.Bool.{and_parts, false≢true, and_from, eq-eqb, eqb-true, leb-true, ltb-false, le-leb}
-pub use Rattle.tcp_machine.specs.Prelude.{Connection, closed, is_open, Outcome, asked, does_as_wanted, on_tick, peer_has_closed, polls, prepared, tick_by, waits_for_ack, Sockets, by_beat, by_state, has_text, hears, in_state, is_acked, is_out_of_order, rests, takes, reported_end, with_part, ConnRepresents, is_live, accepted, is_plain_syn, serves}
+pub use Rattle.tcp_machine.specs.Prelude.{Connection, closed, is_open, Outcome, asked, does_as_wanted, on_tick, peer_has_closed, polls, prepared, tick_by, waits_for_ack, Sockets, by_beat, by_state, has_text, delivers_text, in_state, is_acked, is_out_of_order, rests, takes, reported_end, with_part, ConnRepresents, is_live, accepted, is_plain_syn, serves}
 unfoldable pub use Rattle.tcp_machine.specs.Prelude.{idles, ticks_established, fin_acked, fin_waits, in_established, on_segment, peer_closes, stays_established}
 pub use Rattle.uip_node.proofs.Basics.{choose, both_ways}
 pub use Rattle.uip_node.proofs.Cases.{Unmoved, asked_by, by_own_fin, is_ask, no_ask_again, on_tick_by, wanted_unmoved}

@@ -17,7 +17,7 @@ pub use Rattle.std.proofs.lemmas.Bool.{agree_below_at, eq-eqb, ltb-true}
 pub use Rattle.std.specs.Coded.{le_prop}
 pub use Rattle.std.specs.List.{list_any}
 pub use Rattle.std.specs.Prelude.{[], length, ◌∷◌}
-pub use Rattle.tcp_machine.specs.Prelude.{ConnRepresents, Connection, HasSoundNumbers, IsSound, Meets, MeetsAlone, NumbersRepresent, Outcome, Refines, RefinesAlone, TimerRepresents, by_beat, by_state, grows_older, hears, is_live, is_open, limit_of, outstanding, plain, tick_by, waits_for_ack}
+pub use Rattle.tcp_machine.specs.Prelude.{ConnRepresents, Connection, HasSoundNumbers, IsSound, Meets, MeetsAlone, NumbersRepresent, Outcome, Refines, RefinesAlone, TimerRepresents, by_beat, by_state, grows_older, delivers_text, is_live, is_open, limit_of, outstanding, plain, tick_by, waits_for_ack}
 unfoldable pub use Rattle.tcp_machine.specs.Prelude.{peer_closes}
 pub use Rattle.tcp_machine.specs.declared.step.Step.{Step}
 pub use Rattle.tcp_segment.specs.Prelude.{PlainSegment}

@@ -1,20 +1,20 @@
 -- The text that a sound connection's application can still send.
 -- [add: state] What the application can still send in it.
-use Rattle.tcp_machine.proofs.Prelude.{ℕ, ◌≡◌, ◌≤◌, true, List, [], ◌∷◌, length, refl, subst, sym, AppState, AppSpec, IsRepresented, CanSay, text_left, ∥∥₁_elim, le_prop, IsLawful, Grows, CanSend, Ghosts, Now, Want, Send, has_part, has_part_after, can_nothing, can_say_after, grows_by_nothing, State, Conn, is_live, hears, IsSound, is_open}
+use Rattle.tcp_machine.proofs.Prelude.{ℕ, ◌≡◌, ◌≤◌, true, List, [], ◌∷◌, length, refl, subst, sym, AppState, AppSpec, IsRepresented, CanSay, text_left, ∥∥₁_elim, le_prop, IsLawful, Grows, CanSend, Ghosts, Now, Want, Send, has_part, has_part_after, can_nothing, can_say_after, grows_by_nothing, State, Conn, is_live, delivers_text, IsSound, is_open}
 use Rattle.tcp_machine.proofs.States.{by_state}
 
 pub has_part_of : {A S : Type 0} (g : Ghosts A S) (k : g.Config) (c : Conn A) → IsSound g k c → is_open c.state ≡ true → IsRepresented g.represents c.app k
 has_part_of g k c sound open_to_it = has_part g.app_spec g.represents c.app k c.len (sound.says open_to_it)
 
-hears_grows : (m : AppSpec) (represented : AppState → Type 0) → IsLawful m represented → (ns : List ℕ) (p : AppState) (piece : List ℕ) → represented p → Grows m p (hears m ns p piece).part
+hears_grows : (m : AppSpec) (represented : AppState → Type 0) → IsLawful m represented → (ns : List ℕ) (p : AppState) (piece : List ℕ) → represented p → Grows m p (delivers_text m ns p piece).part
 hears_grows m represented lawful ns p [] s = grows_by_nothing m p p refl refl
 hears_grows m represented lawful ns p (x ∷ xs) s = lawful.newdata_grows ns p (x ∷ xs) s
 
 -- a delivery retracts no text
 pub can_say_heard : {A K : Type 0} (m : K → AppSpec) (represented : A → K → AppState → Type 0) (k : K) (a b : A) → IsLawful (m k) (represented a k) → (ns piece : List ℕ) (n : ℕ) →
-    ((p : AppState) → represented a k p → represented b k (hears (m k) ns p piece).part) → CanSay m represented a k n → CanSay m represented b k n
+    ((p : AppState) → represented a k p → represented b k (delivers_text (m k) ns p piece).part) → CanSay m represented a k n → CanSay m represented b k n
 can_say_heard m represented k a b lawful ns piece n moves can =
-    can_say_after m represented k a b (λ p. (hears (m k) ns p piece).part) n moves (λ p s. hears_grows (m k) (represented a k) lawful ns p piece s) can
+    can_say_after m represented k a b (λ p. (delivers_text (m k) ns p piece).part) n moves (λ p s. hears_grows (m k) (represented a k) lawful ns p piece s) can
 
 -- a value that represents some state has at least an empty text left
 pub can_nothing_after : {A K : Type 0} (m : K → AppSpec) (represented : A → K → AppState → Type 0) (k : K) (a b : A) (f : AppState → AppState) → ((p : AppState) → represented a k p → represented b k (f p)) → IsRepresented represented a k → CanSay m represented b k 0

@@ -60,9 +60,9 @@ abbrev pub has_text : PlainSegment → Bool
 has_text s = nat_lt 0 (length s.text)
 
 -- The text, if any, is delivered to the application.
-abbrev pub hears : AppSpec → List ℕ → AppState → List ℕ → After
-hears m numbers p [] = record { part = p; numbers = numbers }
-hears m numbers p (x ∷ xs) = m.newdata numbers p (x ∷ xs)
+abbrev pub delivers_text : AppSpec → List ℕ → AppState → List ℕ → After
+delivers_text m numbers p [] = record { part = p; numbers = numbers }
+delivers_text m numbers p (x ∷ xs) = m.newdata numbers p (x ∷ xs)
 
 -- RCV.NXT advances by n.
 abbrev pub takes : ℕ → Connection → Connection
@@ -82,20 +82,20 @@ with_window window c = record c { mss = (if window == 0 then c.initial_mss else 
 abbrev pub connects : AppSpec → Connection → List ℕ → PlainSegment → Outcome
 connects m c numbers s =
     let start : After = m.connected numbers c.sockets.own_port.0 in
-    let delivered : After = hears m start.numbers start.part s.text in
+    let delivered : After = delivers_text m start.numbers start.part s.text in
     leaves (with_part delivered.part (takes (length s.text) (in_state Established (rests c)))) delivered.numbers (Step.Ask (has_text s))
 
 -- ESTABLISHED, a segment with FIN
 unfoldable pub peer_closes : AppSpec → Connection → List ℕ → PlainSegment → Outcome
 peer_closes m c numbers s =
-    let delivered : After = hears m numbers c.part s.text in
+    let delivered : After = delivers_text m numbers c.part s.text in
     let d : Connection = in_state CloseWait (with_window s.window (with_part delivered.part (takes (length s.text + 1) c))) in
     if nat_lt 0 c.len then leaves d delivered.numbers Step.Ack else leaves d delivered.numbers (Step.Ask true)
 
 -- ESTABLISHED, a segment without FIN
 unfoldable pub stays_established : AppSpec → Bool → Connection → List ℕ → PlainSegment → Outcome
 stays_established m acked c numbers s =
-    let delivered : After = hears m numbers c.part s.text in
+    let delivered : After = delivers_text m numbers c.part s.text in
     let d : Connection = with_window s.window (with_part delivered.part (takes (length s.text) c)) in
     if not acked && not (has_text s) then leaves d delivered.numbers Step.Drop
     else if nat_lt 0 c.len then leaves d delivered.numbers Step.Ack

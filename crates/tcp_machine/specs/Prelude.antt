@@ -7,7 +7,7 @@ pub use Rattle.tcp_machine.specs.Connection.{row_of, rows_from, same_sockets, se
 pub use Rattle.tcp_machine.specs.ConstantValues.{ConstantValues}
 pub use Rattle.tcp_machine.specs.Fits.{CanBeAsked, IsAnswer, Rests, SameNumbers, SameSockets, StepFits}
 pub use Rattle.tcp_machine.specs.Kept.{IsRested, KeepsAll, KeepsAllButMss, KeepsAllButTimer}
-pub use Rattle.tcp_machine.specs.OnSegment.{accept, accepted, by_state, connects, first_mss, has_text, hears, in_state}
+pub use Rattle.tcp_machine.specs.OnSegment.{accept, accepted, by_state, connects, first_mss, has_text, delivers_text, in_state}
 pub use Rattle.tcp_machine.specs.OnSegment.{is_acked, is_out_of_order, rests, takes, reported_end, with_part, with_window}
 unfoldable pub use Rattle.tcp_machine.specs.OnSegment.{fin_acked, fin_waits, in_established, on_segment, peer_closes, stays_established}
 pub use Rattle.tcp_machine.specs.OnTick.{by_beat, grows_older, limit_of, on_tick, outstanding, polls, tick_by, waits_for_ack}

@@ -2,7 +2,7 @@
 
 ghost use Rattle.std.specs.Prelude.{◌≡◌, true};
 ghost use Rattle.app_events.specs.Prelude.{AppState, IsRepresented};
-ghost use Rattle.tcp_machine.specs.Prelude.{Connection, SameSockets, hears, rests, takes, with_part};
+ghost use Rattle.tcp_machine.specs.Prelude.{Connection, SameSockets, delivers_text, rests, takes, with_part};
 ghost use Rattle.tcp_machine.specs.Prelude.{with_window, IsSound, ConnRepresents, is_open};
 
 use crate::moves::{advance_rcv_nxt, clear_outstanding, set_window};
@@ -21,9 +21,10 @@ pub(crate) fn deliver<A: App>(app: &mut A, shared: &mut A::Shared, piece: &[u8])
     requires { IsRepresented A.represents app.old (A.config shared.old) }
     ensures same { A.config shared.new ≡ A.config shared.old }
     ensures part { (p : AppState) → A.represents app.old (A.config shared.old) p
-        → A.represents app.new (A.config shared.old) (hears (A.app_spec (A.config shared.old)) (A.numbers shared.old) p piece.now).part }
+        → A.represents app.new (A.config shared.old) (delivers_text (A.app_spec (A.config shared.old))
+        (A.numbers shared.old) p piece.now).part }
     ensures numbers { (p : AppState) → A.represents app.old (A.config shared.old) p
-        → A.numbers shared.new ≡ (hears (A.app_spec (A.config shared.old)) (A.numbers shared.old) p piece.now).numbers }
+        → A.numbers shared.new ≡ (delivers_text (A.app_spec (A.config shared.old)) (A.numbers shared.old) p piece.now).numbers }
 {
     if !piece.is_empty() {
         app.newdata(shared, piece);
@@ -67,9 +68,9 @@ pub(crate) fn receive_text<A: App>(
     ensures sound { IsSound A.App (A.config shared.old) conn.new }
     ensures conn { (a : Connection) → ConnRepresents A.App (A.config shared.old) conn.old a
         → ConnRepresents A.App (A.config shared.old) conn.new (with_window window
-        (with_part (hears (A.app_spec (A.config shared.old)) (A.numbers shared.old) a.part piece.now).part (takes count a))) }
+        (with_part (delivers_text (A.app_spec (A.config shared.old)) (A.numbers shared.old) a.part piece.now).part (takes count a))) }
     ensures numbers { (a : Connection) → ConnRepresents A.App (A.config shared.old) conn.old a
-        → A.numbers shared.new ≡ (hears (A.app_spec (A.config shared.old)) (A.numbers shared.old) a.part piece.now).numbers }
+        → A.numbers shared.new ≡ (delivers_text (A.app_spec (A.config shared.old)) (A.numbers shared.old) a.part piece.now).numbers }
 {
     deliver(&mut conn.app, shared, piece);
     advance_rcv_nxt(conn, count);

@@ -1,5 +1,5 @@
 -- When a capture is taken, and what the shell requests.
-use Rattle.telnet_shell.proofs.Prelude.{◌≡◌, ℕ, suc, ◌+◌, ◌-◌, ◌==◌, ◌<◌, Bool, true, false, ◌&&◌, ◌||◌, not, min, nat_lt, List, [], ◌∷◌, ◌++◌, length, take, get_or, if◌then◌else◌, refl, sym, ap, subst, ◌∙◌, arith, append-nil, length-append, true≢false, Option, None, Some, is_some, eqb-true, eqb-false, and_parts, take-suc, AppState, Snapshot, Now, Want, Nothing, Send, Close, Abort, capture_of, Capture, Function, Command, Shell, function_of, needs_capture, said_with, transcript, IsTrailing, IsLeading, Shows, stops_at, is_captured, left_said, due, session_is, waiting_is, said_some, held_goes, session, is_settled, is_stopped, session_has_ended, left_of_session, shell_want, take_capture, hear_byte, hear_all, ShellRepresents}
+use Rattle.telnet_shell.proofs.Prelude.{◌≡◌, ℕ, suc, ◌+◌, ◌-◌, ◌==◌, ◌<◌, Bool, true, false, ◌&&◌, ◌||◌, not, min, nat_lt, List, [], ◌∷◌, ◌++◌, length, take, get_or, if◌then◌else◌, refl, sym, ap, subst, ◌∙◌, arith, append-nil, length-append, true≢false, Option, None, Some, is_some, eqb-true, eqb-false, and_parts, take-suc, AppState, Snapshot, Now, Want, Nothing, Send, Close, Abort, capture_of, Capture, Function, Command, Shell, function_of, needs_capture, said_with, transcript, IsTrailing, IsLeading, Shows, stops_at, is_captured, left_said, due, session_is, waiting_is, said_some, held_goes, session, is_settled, is_stopped, session_has_ended, left_of_session, shell_want, take_capture, receive_byte, receive_all, ShellRepresents}
 use Rattle.telnet_shell.proofs.Standing.{own_is}
 
 eq_yes : (a b : ℕ) → a ≡ b → (a == b) ≡ true
@@ -94,7 +94,7 @@ pub prepared : (a : Shell) (p : AppState) (held : Capture) (numbers : List ℕ) 
 prepared a p held numbers function now d e s =
     let t : IsPrepared a.queue held a.at p (take_capture numbers p now) = taken a.queue a.capture held a.at p numbers function now d e s.behind s.place in
     subst (λ (q : AppState). ShellRepresents (record a { capture = held }) q) (sym (ap (λ (b : Bool). if b then take_capture numbers p now else p) t.stopped))
-    (record { polls = s.polls; lost = s.lost; done = s.done; hears = s.hears; behind = t.behind; place = t.place })
+    (record { polls = s.polls; lost = s.lost; done = s.done; delivers_text = s.delivers_text; behind = t.behind; place = t.place })
 
 pub none_of : {X : Type 0} (o : Option X) → is_some o ≡ false → o ≡ None
 none_of (Some x) e = absurd cc
@@ -126,11 +126,11 @@ wanted a p lost polls s =
 
 -- ---- a piece
 
-hear_all_joined : (p : AppState) (xs ys : List ℕ) → hear_all p (xs ++ ys) ≡ hear_all (hear_all p xs) ys
+hear_all_joined : (p : AppState) (xs ys : List ℕ) → receive_all p (xs ++ ys) ≡ receive_all (receive_all p xs) ys
 hear_all_joined p [] ys = refl
-hear_all_joined p (x ∷ xs) ys = hear_all_joined (hear_byte p x) xs ys
+hear_all_joined p (x ∷ xs) ys = hear_all_joined (receive_byte p x) xs ys
 
-pub next_byte : (p : AppState) (piece : List ℕ) (i : ℕ) → i < length piece → hear_all p (take (i + 1) piece) ≡ hear_byte (hear_all p (take i piece)) (get_or piece i 0)
+pub next_byte : (p : AppState) (piece : List ℕ) (i : ℕ) → i < length piece → receive_all p (take (i + 1) piece) ≡ receive_byte (receive_all p (take i piece)) (get_or piece i 0)
 next_byte p piece i h =
-    ap (λ (xs : List ℕ). hear_all p xs) (ap (λ (n : ℕ). take n piece) (let e : i + 1 ≡ suc i = omega arith in e) ∙ take-suc piece i 0 h)
+    ap (λ (xs : List ℕ). receive_all p xs) (ap (λ (n : ℕ). take n piece) (let e : i + 1 ≡ suc i = omega arith in e) ∙ take-suc piece i 0 h)
     ∙ hear_all_joined p (take i piece) (get_or piece i 0 ∷ [])

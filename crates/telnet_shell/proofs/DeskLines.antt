@@ -97,7 +97,7 @@ module _ (site : SiteContent) (loaded : IsLoaded site) (image : All IsByte site.
       let q : AppState = ((desk_spec files).newdata numbers p piece).part in
       let r : AppState = (shell_spec.newdata numbers p piece).part in
       let same : q ≡ r = ap (λ a. a.part) ((does_as_shell p h).newdata numbers piece) in
-      let f : DeliversPrefix p r piece = keeps_session.hears numbers p piece in
+      let f : DeliversPrefix p r piece = keeps_session.delivers_text numbers p piece in
       record {
         prefix = f.prefix;
         rest = f.rest;
@@ -105,7 +105,7 @@ module _ (site : SiteContent) (loaded : IsLoaded site) (image : All IsByte site.
         input = (stays_at 23 p q (keeps_port.newdata numbers p piece) h, ap (λ (x : AppState). x.input) same ∙ f.input);
         all = elim (f.all) [ inl e ↦ inl e | inr e ↦ inr (ap (λ (x : AppState). is_lost x) same ∙ ap (λ (n : ℕ). n == 1) e) ];
         no_more = λ e. (let own : p.own ≡ 1 = eqb-true p.own 1 e in (
-          ap (λ (x : AppState). x.input) same ∙ keeps_session.hears_no_more numbers p piece own,
+          ap (λ (x : AppState). x.input) same ∙ keeps_session.delivers_no_more numbers p piece own,
           ap (λ (x : AppState). is_lost x) same ∙ ap (λ (n : ℕ). n == 1) (keeps_session.stays_lost numbers p piece own),
         ));
       }

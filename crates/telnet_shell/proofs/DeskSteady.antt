@@ -13,7 +13,7 @@ shell_steady = record {
   lawful = shell_lawful (λ p. Unit {0});
   connected_acked = λ numbers port. refl;
   connected_snapshots = λ numbers port. refl;
-  newdata_snapshots = λ numbers p piece. (keeps_session.hears numbers p piece).snapshots;
+  newdata_snapshots = λ numbers p piece. (keeps_session.delivers_text numbers p piece).snapshots;
   prepare_snapshots = λ numbers p now. either_capture p (record { numbers = numbers; now = now }) (is_stopped p);
   acked_snapshots = λ numbers p n. refl;
   polled_snapshots = λ numbers p. refl;

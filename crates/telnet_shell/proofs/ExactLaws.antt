@@ -1,5 +1,5 @@
 -- What a shell requests, when it takes a capture and when it is given up, by its session alone.
-use Rattle.telnet_shell.proofs.Prelude.{◌≡◌, ℕ, ◌+◌, ◌-◌, ◌≤◌, ◌<◌, ◌==◌, min, Bool, true, false, ◌&&◌, not, nat_le, nat_lt, List, [], ◌∷◌, ◌++◌, codes, length, refl, sym, ap, ◌∙◌, arith, append-nil, length-append, if◌then◌else◌, bytes_eq, leb-true, le-leb, lt-leb, lt-ltb, ltb-true, eqb-true, eq-eqb, and_parts, and_from, false_from_ne_true, bytes_eq-Decides, AppState, Snapshot, Now, Nothing, Send, Close, Abort, Command, Help, Stats, Conns, Ticks, Quit, Blank, Other, Awaits, Token, tokens, tokens_at, awaits_after, commands, command_of, line_after, all_commands, commands_in, has_quit, is_quit, until_quit, Text, Second, Choice, Byte, Answer, behind, needs_capture, said_plainly, sent_at, transcript, unfinished, needed, commands_grow, further, past_said, said_some, shell_spec, session, waiting, with_byte, hear_byte, is_settled, is_stopped, session_has_ended, left_of_session, take_capture, sessions, IsExact, exact_want, all_acknowledged, is_given_up, capture_comes_next, completes}
+use Rattle.telnet_shell.proofs.Prelude.{◌≡◌, ℕ, ◌+◌, ◌-◌, ◌≤◌, ◌<◌, ◌==◌, min, Bool, true, false, ◌&&◌, not, nat_le, nat_lt, List, [], ◌∷◌, ◌++◌, codes, length, refl, sym, ap, ◌∙◌, arith, append-nil, length-append, if◌then◌else◌, bytes_eq, leb-true, le-leb, lt-leb, lt-ltb, ltb-true, eqb-true, eq-eqb, and_parts, and_from, false_from_ne_true, bytes_eq-Decides, AppState, Snapshot, Now, Nothing, Send, Close, Abort, Command, Help, Stats, Conns, Ticks, Quit, Blank, Other, Awaits, Token, tokens, tokens_at, awaits_after, commands, command_of, line_after, all_commands, commands_in, has_quit, is_quit, until_quit, Text, Second, Choice, Byte, Answer, behind, needs_capture, said_plainly, sent_at, transcript, unfinished, needed, commands_grow, further, past_said, said_some, shell_spec, session, waiting, with_byte, receive_byte, is_settled, is_stopped, session_has_ended, left_of_session, take_capture, sessions, IsExact, exact_want, all_acknowledged, is_given_up, capture_comes_next, completes}
 use Rattle.telnet_shell.proofs.SessionLaws.{IsSaid, settled, none_waits}
 
 -- two tests with the same result
@@ -249,7 +249,7 @@ too_many p byte h room =
     lt-ltb 32 (length (waiting (with_byte p byte))) (omega (arith, more, count, comes, full)))
 
 loses_exactly : (p : AppState) (byte : ℕ) → p.acked ≤ length (session p) → length (waiting p) ≤ 32
-    → hear_byte p byte
+    → receive_byte p byte
     ≡ (if p.own == 1 then p else if completes p byte && (length (waiting p) == 32) then record p { own = 1 } else with_byte p byte)
 loses_exactly p byte h room =
     ap (λ (b : Bool). if p.own == 1 then p else if b then record p { own = 1 } else with_byte p byte) (too_many p byte h room)

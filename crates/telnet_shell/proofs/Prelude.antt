@@ -34,7 +34,7 @@ pub use Rattle.telnet_shell.specs.Reading.Awaits.{Choice, Second, Text}
 pub use Rattle.telnet_shell.specs.Reading.Token.{Answer, Byte}
 pub use Rattle.telnet_shell.specs.Saying.{IsLeading, IsTrailing, Passes, Shows, due, is_captured, is_past, left_said, needed, prefix_size, stops_at}
 pub use Rattle.telnet_shell.specs.Sequences.{ReadsSequences}
-pub use Rattle.telnet_shell.specs.ShellMeaning.{hear_all, hear_byte, is_settled, is_stopped, left_of_session, session, session_has_ended, shell_spec, shell_want, take_capture, waiting, with_byte}
+pub use Rattle.telnet_shell.specs.ShellMeaning.{receive_all, receive_byte, is_settled, is_stopped, left_of_session, session, session_has_ended, shell_spec, shell_want, take_capture, waiting, with_byte}
 pub use Rattle.telnet_shell.specs.ShellRepresents.{ShellRepresents, fresh_part}
 pub use Rattle.telnet_shell.specs.State.{Shell}
 pub use Rattle.telnet_shell.specs.Traces.{DeliversPrefix, KeepsSession, sessions}

@@ -100,7 +100,7 @@ pub shell_bytes : SendsBytes shell_spec
 shell_bytes = record {
   output = λ p h k. transcript_bytes (commands_in p.input) p.snapshots (until_bytes (all_commands p.input) (commands_bytes [] (tokens Text p.input) (tokens_bytes Text p.input h)));
   connected = λ numbers port. All-nil IsByte;
-  newdata = λ numbers p piece h are. heard_bytes p (shell_spec.newdata numbers p piece).part piece (keeps_session.hears numbers p piece) h are;
+  newdata = λ numbers p piece h are. heard_bytes p (shell_spec.newdata numbers p piece).part piece (keeps_session.delivers_text numbers p piece) h are;
   prepare = λ numbers p now h. choose (λ (q : AppState). All IsByte q.input) (is_stopped p) (take_capture numbers p now) p (λ e. h) (λ e. h);
   acked = λ numbers p n h. h;
   polled = λ numbers p h. h;

@@ -1,5 +1,5 @@
 -- The invariants of a shell's session.
-use Rattle.telnet_shell.proofs.Prelude.{◌≡◌, ℕ, ◌+◌, ◌-◌, ◌≤◌, ◌==◌, min, Bool, true, false, ◌&&◌, ◌||◌, ◌⊎◌, inl, inr, nat_le, nat_lt, List, [], ◌∷◌, ◌++◌, length, refl, sym, ap, subst, ◌∙◌, arith, append-nil, append_assoc, length-append, if◌then◌else◌, leb-true, le-leb, ltb-true, eqb-true, and_parts, AppState, Snapshot, IsPrefixOf, MayWant, Nothing, Send, Close, Abort, Command, MOST_COMMANDS, Token, tokens, awaits_after, commands, line_after, all_commands, commands_in, has_quit, Text, needs_capture, said_plainly, sent_at, transcript, unfinished, needed, tokens_joined, commands_joined, commands_grow, further, transcript_grows, session, waiting, with_byte, hear_all, session_has_ended, is_settled, left_of_session, sessions, DeliversPrefix, KeepsSession}
+use Rattle.telnet_shell.proofs.Prelude.{◌≡◌, ℕ, ◌+◌, ◌-◌, ◌≤◌, ◌==◌, min, Bool, true, false, ◌&&◌, ◌||◌, ◌⊎◌, inl, inr, nat_le, nat_lt, List, [], ◌∷◌, ◌++◌, length, refl, sym, ap, subst, ◌∙◌, arith, append-nil, append_assoc, length-append, if◌then◌else◌, leb-true, le-leb, ltb-true, eqb-true, and_parts, AppState, Snapshot, IsPrefixOf, MayWant, Nothing, Send, Close, Abort, Command, MOST_COMMANDS, Token, tokens, awaits_after, commands, line_after, all_commands, commands_in, has_quit, Text, needs_capture, said_plainly, sent_at, transcript, unfinished, needed, tokens_joined, commands_joined, commands_grow, further, transcript_grows, session, waiting, with_byte, receive_all, session_has_ended, is_settled, left_of_session, sessions, DeliversPrefix, KeepsSession}
 use Rattle.telnet_shell.proofs.Standing.{quit_joins}
 
 pub session_grows : (q more : List ℕ) (k later : List Snapshot) → IsPrefixOf (sessions.page q k) (sessions.page (q ++ more) (k ++ later))
@@ -65,10 +65,10 @@ stays_complete q more k later e =
 equal_prefix : (p : AppState) → DeliversPrefix p p []
 equal_prefix p = record { prefix = []; rest = []; joined = refl; input = sym (append-nil p.input); snapshots = refl; acked = refl; all = inl refl }
 
-lost_hears : (p : AppState) (piece : List ℕ) → p.own ≡ 1 → hear_all p piece ≡ p
+lost_hears : (p : AppState) (piece : List ℕ) → p.own ≡ 1 → receive_all p piece ≡ p
 lost_hears p [] e = refl
 lost_hears p (byte ∷ more) e =
-    ap (λ (q : AppState). hear_all q more) (ap (λ (b : Bool). if b then p else if nat_lt MOST_COMMANDS (length (waiting (with_byte p byte))) then record p { own = 1 } else with_byte p byte) (ap (λ (n : ℕ). n == 1) e))
+    ap (λ (q : AppState). receive_all q more) (ap (λ (b : Bool). if b then p else if nat_lt MOST_COMMANDS (length (waiting (with_byte p byte))) then record p { own = 1 } else with_byte p byte) (ap (λ (n : ℕ). n == 1) e))
     ∙ lost_hears p more e
 
 lost_prefix : (p q : AppState) (piece : List ℕ) → q ≡ p → p.own ≡ 1 → DeliversPrefix p q piece
@@ -83,13 +83,13 @@ lost_prefix p q piece e own = record {
 }
 
 byte_prefix : (p : AppState) (byte : ℕ) (more : List ℕ) (lost full : Bool) → (p.own == 1) ≡ lost
-    → ((q : AppState) → DeliversPrefix q (hear_all q more) more)
-    → DeliversPrefix p (hear_all (if lost then p else if full then record p { own = 1 } else with_byte p byte) more) (byte ∷ more)
+    → ((q : AppState) → DeliversPrefix q (receive_all q more) more)
+    → DeliversPrefix p (receive_all (if lost then p else if full then record p { own = 1 } else with_byte p byte) more) (byte ∷ more)
 byte_prefix p byte more true full e rest =
     let own : p.own ≡ 1 = eqb-true p.own 1 e in
-    lost_prefix p (hear_all p more) (byte ∷ more) (lost_hears p more own) own
+    lost_prefix p (receive_all p more) (byte ∷ more) (lost_hears p more own) own
 byte_prefix p byte more false true e rest =
-    let same : hear_all (record p { own = 1 }) more ≡ record p { own = 1 } = lost_hears (record p { own = 1 }) more refl in
+    let same : receive_all (record p { own = 1 }) more ≡ record p { own = 1 } = lost_hears (record p { own = 1 }) more refl in
     record {
       prefix = [];
       rest = byte ∷ more;
@@ -100,7 +100,7 @@ byte_prefix p byte more false true e rest =
       all = inr (ap (λ (r : AppState). r.own) same);
     }
 byte_prefix p byte more false false e rest =
-    let f : DeliversPrefix (with_byte p byte) (hear_all (with_byte p byte) more) more = rest (with_byte p byte) in
+    let f : DeliversPrefix (with_byte p byte) (receive_all (with_byte p byte) more) more = rest (with_byte p byte) in
     record {
       prefix = byte ∷ f.prefix;
       rest = f.rest;
@@ -111,14 +111,14 @@ byte_prefix p byte more false false e rest =
       all = f.all;
     }
 
-hears_prefix : (p : AppState) (piece : List ℕ) → DeliversPrefix p (hear_all p piece) piece
+hears_prefix : (p : AppState) (piece : List ℕ) → DeliversPrefix p (receive_all p piece) piece
 hears_prefix p [] = equal_prefix p
 hears_prefix p (byte ∷ more) =
     byte_prefix p byte more (p.own == 1) (nat_lt MOST_COMMANDS (length (waiting (with_byte p byte)))) refl (λ q. hears_prefix q more)
 
-unpolled : (p : AppState) (piece : List ℕ) → DeliversPrefix p (hear_all (record p { polls = 0 }) piece) piece
+unpolled : (p : AppState) (piece : List ℕ) → DeliversPrefix p (receive_all (record p { polls = 0 }) piece) piece
 unpolled p piece =
-    let f : DeliversPrefix (record p { polls = 0 }) (hear_all (record p { polls = 0 }) piece) piece = hears_prefix (record p { polls = 0 }) piece in
+    let f : DeliversPrefix (record p { polls = 0 }) (receive_all (record p { polls = 0 }) piece) piece = hears_prefix (record p { polls = 0 }) piece in
     record { prefix = f.prefix; rest = f.rest; joined = f.joined; input = f.input; snapshots = f.snapshots; acked = f.acked; all = f.all }
 
 -- ---- what the shell requests
@@ -198,9 +198,9 @@ keeps_session = record {
   stays = whole_stays;
   stays_complete = stays_complete;
   output = λ p. refl;
-  hears = λ numbers p piece. unpolled p piece;
+  delivers_text = λ numbers p piece. unpolled p piece;
   wants = λ numbers p h. may_want p ((p.own == 1) || (p.polls == 1200)) (session_has_ended p) h refl;
   aborts = λ numbers p e. ap (λ (n : ℕ). if (n == 1) || (p.polls == 1200) then Abort else if session_has_ended p then Close else if nat_lt 0 (left_of_session p) then Send (min 1460 (left_of_session p)) else Nothing) e;
-  hears_no_more = λ numbers p piece e. ap (λ (r : AppState). r.input) (lost_hears (record p { polls = 0 }) piece e);
+  delivers_no_more = λ numbers p piece e. ap (λ (r : AppState). r.input) (lost_hears (record p { polls = 0 }) piece e);
   stays_lost = λ numbers p piece e. ap (λ (r : AppState). r.own) (lost_hears (record p { polls = 0 }) piece e) ∙ e;
 }

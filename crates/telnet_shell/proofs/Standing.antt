@@ -1,5 +1,5 @@
 -- A shell receives a byte.
-use Rattle.telnet_shell.proofs.Prelude.{◌≡◌, ℕ, ◌+◌, ◌==◌, ◌≤◌, ◌<◌, Bool, true, false, ◌||◌, List, [], ◌∷◌, ◌++◌, length, nat_lt, if◌then◌else◌, refl, sym, ap, subst, ◌∙◌, arith, append-nil, length-append, true≢false, le-ltb, lt-ltb, eqb-true, eqb-false, AppState, Command, Shell, all_commands, commands_in, commands, tokens, tokens_at, awaits_after, line_after, has_quit, is_quit, until_quit, Text, IsOpen, IsTrailing, IsLeading, until_quit_joined, waiting_is, waiting, with_byte, hear_byte, ShellRepresents}
+use Rattle.telnet_shell.proofs.Prelude.{◌≡◌, ℕ, ◌+◌, ◌==◌, ◌≤◌, ◌<◌, Bool, true, false, ◌||◌, List, [], ◌∷◌, ◌++◌, length, nat_lt, if◌then◌else◌, refl, sym, ap, subst, ◌∙◌, arith, append-nil, length-append, true≢false, le-ltb, lt-ltb, eqb-true, eqb-false, AppState, Command, Shell, all_commands, commands_in, commands, tokens, tokens_at, awaits_after, line_after, has_quit, is_quit, until_quit, Text, IsOpen, IsTrailing, IsLeading, until_quit_joined, waiting_is, waiting, with_byte, receive_byte, ShellRepresents}
 use Rattle.telnet_shell.proofs.Opening.{commands_one}
 use Rattle.telnet_shell.proofs.Advancing.{come}
 
@@ -11,17 +11,17 @@ pub own_is : (a : Shell) (p : AppState) → ShellRepresents a p → (p.own == 1)
 own_is a p s = ap (λ (n : ℕ). n == 1) s.lost ∙ one_or_none a.lost
 
 -- what a byte does that is not looked at
-pub hear_lost : (a : Shell) (p : AppState) (byte : ℕ) → a.lost ≡ true → ShellRepresents a p → ShellRepresents a (hear_byte p byte)
+pub hear_lost : (a : Shell) (p : AppState) (byte : ℕ) → a.lost ≡ true → ShellRepresents a p → ShellRepresents a (receive_byte p byte)
 hear_lost a p byte lost s =
     subst (λ (q : AppState). ShellRepresents a q) (sym (ap (λ (b : Bool). if b then p else if nat_lt 32 (length (waiting (with_byte p byte))) then record p { own = 1 } else with_byte p byte) (own_is a p s ∙ lost))) s
 
-hears_it : (a : Shell) (p : AppState) (byte : ℕ) (queue : List Command) → a.lost ≡ false → ShellRepresents a p → waiting (with_byte p byte) ≡ queue → length queue ≤ 32 → hear_byte p byte ≡ with_byte p byte
+hears_it : (a : Shell) (p : AppState) (byte : ℕ) (queue : List Command) → a.lost ≡ false → ShellRepresents a p → waiting (with_byte p byte) ≡ queue → length queue ≤ 32 → receive_byte p byte ≡ with_byte p byte
 hears_it a p byte queue lost s w h =
     ap (λ (b : Bool). if b then p else if nat_lt 32 (length (waiting (with_byte p byte))) then record p { own = 1 } else with_byte p byte) (own_is a p s ∙ lost)
     ∙ ap (λ (cs : List Command). if nat_lt 32 (length cs) then record p { own = 1 } else with_byte p byte) w
     ∙ ap (λ (b : Bool). if b then record p { own = 1 } else with_byte p byte) (le-ltb 32 (length queue) h)
 
-gives_up : (a : Shell) (p : AppState) (byte : ℕ) (queue : List Command) → a.lost ≡ false → ShellRepresents a p → waiting (with_byte p byte) ≡ queue → 32 < length queue → hear_byte p byte ≡ record p { own = 1 }
+gives_up : (a : Shell) (p : AppState) (byte : ℕ) (queue : List Command) → a.lost ≡ false → ShellRepresents a p → waiting (with_byte p byte) ≡ queue → 32 < length queue → receive_byte p byte ≡ record p { own = 1 }
 gives_up a p byte queue lost s w h =
     ap (λ (b : Bool). if b then p else if nat_lt 32 (length (waiting (with_byte p byte))) then record p { own = 1 } else with_byte p byte) (own_is a p s ∙ lost)
     ∙ ap (λ (cs : List Command). if nat_lt 32 (length cs) then record p { own = 1 } else with_byte p byte) w
@@ -49,7 +49,7 @@ quits delivered byte cs e =
     ∙ quit_joins (all_commands delivered) cs
 
 -- after `quit` nothing counts
-pub hear_done : (a : Shell) (p : AppState) (byte : ℕ) → a.lost ≡ false → a.done ≡ true → length a.queue ≤ 32 → ShellRepresents a p → ShellRepresents a (hear_byte p byte)
+pub hear_done : (a : Shell) (p : AppState) (byte : ℕ) → a.lost ≡ false → a.done ≡ true → length a.queue ≤ 32 → ShellRepresents a p → ShellRepresents a (receive_byte p byte)
 hear_done a p byte lost done room s =
     let over : has_quit (all_commands p.input) ≡ true = sym s.done ∙ done in
     let cs : List Command = commands (line_after [] (tokens Text p.input)) (tokens_at (awaits_after Text p.input) byte) in
@@ -63,7 +63,7 @@ hear_done a p byte lost done room s =
       lost = s.lost;
       done = done ∙ sym (quits p.input byte (commands (line_after [] (tokens Text p.input)) (tokens_at (awaits_after Text p.input) byte)) refl
           ∙ ap (λ (b : Bool). b || has_quit (commands (line_after [] (tokens Text p.input)) (tokens_at (awaits_after Text p.input) byte))) over);
-      hears = λ e. elim (true≢false (sym (either a.lost a.done done) ∙ e)) [ ];
+      delivers_text = λ e. elim (true≢false (sym (either a.lost a.done done) ∙ e)) [ ];
       behind = behind;
       place = s.place;
     })
@@ -79,9 +79,9 @@ is_open a lost done = ap (λ (b : Bool). b || a.done) lost ∙ done
 pub hear_none : (a : Shell) (p : AppState) (byte : ℕ) (kept : List ℕ) (over : Bool) (iac : List ℕ) → a.lost ≡ false → a.done ≡ false → length a.queue ≤ 32
     → ((delivered : List ℕ) → IsOpen a.line a.over a.iac delivered → IsOpen kept over iac (delivered ++ byte ∷ []))
     → ((delivered : List ℕ) → IsOpen a.line a.over a.iac delivered → [] ≡ commands (line_after [] (tokens Text delivered)) (tokens_at (awaits_after Text delivered) byte))
-    → ShellRepresents a p → ShellRepresents (record a { line = kept; over = over; iac = iac }) (hear_byte p byte)
+    → ShellRepresents a p → ShellRepresents (record a { line = kept; over = over; iac = iac }) (receive_byte p byte)
 hear_none a p byte kept over iac lost done room goes decodes s =
-    let delivered = s.hears (is_open a lost done) in
+    let delivered = s.delivers_text (is_open a lost done) in
     let going : has_quit (all_commands p.input) ≡ false = sym s.done ∙ done in
     let none : commands_in (p.input ++ byte ∷ []) ≡ commands_in p.input ++ [] =
     counted p.input byte [] (decodes p.input delivered) ∙ ap (λ (b : Bool). commands_in p.input ++ (if b then [] else [])) going in
@@ -91,7 +91,7 @@ hear_none a p byte kept over iac lost done room goes decodes s =
       polls = s.polls;
       lost = s.lost;
       done = done ∙ sym (quits p.input byte [] (decodes p.input delivered) ∙ ap (λ (b : Bool). b || false) going);
-      hears = λ e. goes p.input delivered;
+      delivers_text = λ e. goes p.input delivered;
       behind = behind;
       place = s.place;
     })
@@ -100,9 +100,9 @@ hear_none a p byte kept over iac lost done room goes decodes s =
 pub hear_full : (a : Shell) (p : AppState) (byte : ℕ) (c : Command) (kept : List ℕ) (over : Bool) (iac : List ℕ) → a.lost ≡ false → a.done ≡ false
     → (full : Bool) → full ≡ true → full ≡ (length a.queue == 32)
     → ((delivered : List ℕ) → IsOpen a.line a.over a.iac delivered → c ∷ [] ≡ commands (line_after [] (tokens Text delivered)) (tokens_at (awaits_after Text delivered) byte))
-    → ShellRepresents a p → ShellRepresents (record a { line = kept; over = over; iac = iac; lost = true }) (hear_byte p byte)
+    → ShellRepresents a p → ShellRepresents (record a { line = kept; over = over; iac = iac; lost = true }) (receive_byte p byte)
 hear_full a p byte c kept over iac lost done full is count decodes s =
-    let delivered = s.hears (is_open a lost done) in
+    let delivered = s.delivers_text (is_open a lost done) in
     let going : has_quit (all_commands p.input) ≡ false = sym s.done ∙ done in
     let one : commands_in (p.input ++ byte ∷ []) ≡ commands_in p.input ++ until_quit (c ∷ []) =
     counted p.input byte (c ∷ []) (decodes p.input delivered) ∙ ap (λ (b : Bool). commands_in p.input ++ (if b then [] else until_quit (c ∷ []))) going in
@@ -114,7 +114,7 @@ hear_full a p byte c kept over iac lost done full is count decodes s =
       polls = s.polls;
       lost = refl;
       done = s.done;
-      hears = λ e. elim (true≢false e) [ ];
+      delivers_text = λ e. elim (true≢false e) [ ];
       behind = record { before = s.behind.before; spoken = s.behind.spoken; prefix = s.behind.prefix; commands = s.behind.commands; snapshots = s.behind.snapshots; took = s.behind.took; acked = s.behind.acked; shows = s.behind.shows };
       place = s.place;
     })
@@ -125,9 +125,9 @@ pub hear_command : (a : Shell) (p : AppState) (byte : ℕ) (c : Command) (kept :
     → ((delivered : List ℕ) → IsOpen a.line a.over a.iac delivered → IsOpen kept over iac (delivered ++ byte ∷ []))
     → ((delivered : List ℕ) → IsOpen a.line a.over a.iac delivered → c ∷ [] ≡ commands (line_after [] (tokens Text delivered)) (tokens_at (awaits_after Text delivered) byte))
     → queue ≡ a.queue ++ c ∷ [] → quit ≡ is_quit c
-    → ShellRepresents a p → ShellRepresents (record a { line = kept; over = over; iac = iac; queue = queue; done = quit }) (hear_byte p byte)
+    → ShellRepresents a p → ShellRepresents (record a { line = kept; over = over; iac = iac; queue = queue; done = quit }) (receive_byte p byte)
 hear_command a p byte c kept over iac queue quit lost done full is count room goes decodes pushed quits_is s =
-    let delivered = s.hears (is_open a lost done) in
+    let delivered = s.delivers_text (is_open a lost done) in
     let going : has_quit (all_commands p.input) ≡ false = sym s.done ∙ done in
     let one : commands_in (p.input ++ byte ∷ []) ≡ commands_in p.input ++ c ∷ [] =
     counted p.input byte (c ∷ []) (decodes p.input delivered) ∙ ap (λ (b : Bool). commands_in p.input ++ (if b then [] else until_quit (c ∷ []))) going
@@ -143,7 +143,7 @@ hear_command a p byte c kept over iac queue quit lost done full is count room go
       polls = s.polls;
       lost = s.lost;
       done = quits_is ∙ sym (quits p.input byte (c ∷ []) (decodes p.input delivered) ∙ ap (λ (b : Bool). b || has_quit (c ∷ [])) going ∙ only (is_quit c));
-      hears = λ e. goes p.input delivered;
+      delivers_text = λ e. goes p.input delivered;
       behind = behind;
       place = place;
     })

@@ -8,7 +8,7 @@ use Rattle.app_events.specs.declared.want.Want.TheVariants.{Nothing, Send, Close
 use Rattle.telnet_shell.specs.declared.command.Command.TheVariants.{Other}
 use Rattle.telnet_shell.specs.Reading.{command_of, commands_in}
 use Rattle.telnet_shell.specs.Saying.{needed}
-use Rattle.telnet_shell.specs.ShellMeaning.{shell_spec, session, waiting, with_byte, hear_byte, take_capture}
+use Rattle.telnet_shell.specs.ShellMeaning.{shell_spec, session, waiting, with_byte, receive_byte, take_capture}
 use Rattle.telnet_shell.specs.Traces.{sessions}
 
 -- The whole output is acknowledged.
@@ -43,8 +43,8 @@ pub record IsExact : Type 0 where
       → shell_spec.prepare numbers p now ≡ (if capture_comes_next p then take_capture numbers p now else p)
   -- it is given up exactly if a command arrives while 32 are not wholly acknowledged; there are never more
   pub loses : (p : AppState) (byte : ℕ) → p.acked ≤ length (session p) → length (waiting p) ≤ 32
-      → hear_byte p byte
+      → receive_byte p byte
       ≡ (if p.own == 1 then p else if completes p byte && (length (waiting p) == 32) then record p { own = 1 } else with_byte p byte)
-  pub has_room : (p : AppState) (byte : ℕ) → length (waiting p) ≤ 32 → length (waiting (hear_byte p byte)) ≤ 32
+  pub has_room : (p : AppState) (byte : ℕ) → length (waiting p) ≤ 32 → length (waiting (receive_byte p byte)) ≤ 32
   -- a line of more than 16 bytes is `Other`
   pub long_line : (line : List ℕ) → 16 < length line → command_of line ≡ Other

@@ -23,15 +23,15 @@ abbrev pub with_byte : AppState → ℕ → AppState
 with_byte part byte = record part { input = part.input ++ byte ∷ [] }
 
 -- A byte is delivered, except one that would complete a command too many: it is ignored, and so is every later byte.
-abbrev pub hear_byte : AppState → ℕ → AppState
-hear_byte part byte =
+abbrev pub receive_byte : AppState → ℕ → AppState
+receive_byte part byte =
     if part.own == 1 then part
     else if nat_lt MOST_COMMANDS (length (waiting (with_byte part byte))) then record part { own = 1 }
     else with_byte part byte
 
-abbrev pub hear_all : AppState → List ℕ → AppState
-hear_all part [] = part
-hear_all part (byte ∷ more) = hear_all (hear_byte part byte) more
+abbrev pub receive_all : AppState → List ℕ → AppState
+receive_all part [] = part
+receive_all part (byte ∷ more) = receive_all (receive_byte part byte) more
 
 -- every command is wholly acknowledged
 abbrev pub is_settled : AppState → Bool
@@ -65,7 +65,7 @@ shell_spec = record {
     part = record { port = port; input = []; snapshots = []; acked = 0; polls = 0; own = 0 };
     numbers = numbers;
   };
-  newdata = λ numbers part piece. record { part = hear_all (record part { polls = 0 }) piece; numbers = numbers };
+  newdata = λ numbers part piece. record { part = receive_all (record part { polls = 0 }) piece; numbers = numbers };
   prepare = λ numbers part now. if is_stopped part then take_capture numbers part now else part;
   want = λ numbers part. shell_want part;
   acked = λ numbers part count. record { part = record part { acked = part.acked + count; polls = 0 }; numbers = numbers };

@@ -35,11 +35,11 @@ pub record KeepsSession : Type 0 where
       → sessions.complete (q ++ more) (k ++ later) ≡ true
   -- the output is the session of the delivered bytes and the captured snapshots
   pub output : (p : AppState) → shell_spec.output p ≡ sessions.page p.input p.snapshots
-  pub hears : (numbers : List ℕ) (p : AppState) (piece : List ℕ) → DeliversPrefix p (shell_spec.newdata numbers p piece).part piece
+  pub delivers_text : (numbers : List ℕ) (p : AppState) (piece : List ℕ) → DeliversPrefix p (shell_spec.newdata numbers p piece).part piece
   -- it is sent as far as it is determined, and a connection closes only at the end of a complete session
   pub wants : (numbers : List ℕ) (p : AppState) → p.acked ≤ length (session p) → MayWant sessions p (shell_spec.want numbers p)
   -- once it is given up, a connection accepts nothing more and is aborted
   pub aborts : (numbers : List ℕ) (p : AppState) → p.own ≡ 1 → shell_spec.want numbers p ≡ Abort
-  pub hears_no_more : (numbers : List ℕ) (p : AppState) (piece : List ℕ) → p.own ≡ 1
+  pub delivers_no_more : (numbers : List ℕ) (p : AppState) (piece : List ℕ) → p.own ≡ 1
       → (shell_spec.newdata numbers p piece).part.input ≡ p.input
   pub stays_lost : (numbers : List ℕ) (p : AppState) (piece : List ℕ) → p.own ≡ 1 → (shell_spec.newdata numbers p piece).part.own ≡ 1

@@ -20,11 +20,11 @@ at_tick ticks = record { numbers = []; now = record { ticks = ticks; net = repli
 abbrev pub opened : AppState
 opened = (shell_spec.connected [] TELNET_PORT).part
 
-abbrev pub after_hearing : List ℕ → AppState
-after_hearing piece = (shell_spec.newdata [] opened piece).part
+abbrev pub after_receiving : List ℕ → AppState
+after_receiving piece = (shell_spec.newdata [] opened piece).part
 
 abbrev pub after_preparing : List ℕ → AppState
-after_preparing piece = shell_spec.prepare [] (after_hearing piece) (at_tick 0).now
+after_preparing piece = shell_spec.prepare [] (after_receiving piece) (at_tick 0).now
 
 abbrev pub acked : AppState → ℕ → AppState
 acked part count = (shell_spec.acked [] part count).part
@@ -39,26 +39,26 @@ many_helps count = concat (replicate count (codes "help\n"))
 pub record AreWorkedSessions : Type 0 where
   -- a snapshot is captured when its text is next
   pub ticks : session (after_preparing (codes "ticks\r\n")) ≡ codes "         0\r\n> "
-  pub ticks_before : session (after_hearing (codes "ticks\r\n")) ≡ []
+  pub ticks_before : session (after_receiving (codes "ticks\r\n")) ≡ []
   pub ticks_length : length (session (after_preparing (codes "ticks\r\n"))) ≡ 14
   pub ticks_once : (shell_spec.prepare [] (after_preparing (codes "ticks\r\n")) (at_tick 7).now).snapshots ≡ at_tick 0 ∷ []
   pub two_ticks : transcript (Ticks ∷ Ticks ∷ []) (at_tick 0 ∷ at_tick 7 ∷ []) ≡ codes "         0\r\n>          7\r\n> "
   -- an option is refused, and `quit` closes once its text is acknowledged
-  pub quit : session (after_hearing offer_and_quit) ≡ IAC ∷ DONT ∷ 1 ∷ codes "bye\r\n"
-  pub quit_length : length (session (after_hearing offer_and_quit)) ≡ 8
-  pub quit_sends : shell_spec.want [] (after_hearing offer_and_quit) ≡ Send 8
-  pub quit_waits : shell_spec.want [] (acked (after_hearing offer_and_quit) 7) ≡ Send 1
-  pub quit_closes : shell_spec.want [] (acked (after_hearing offer_and_quit) 8) ≡ Close
+  pub quit : session (after_receiving offer_and_quit) ≡ IAC ∷ DONT ∷ 1 ∷ codes "bye\r\n"
+  pub quit_length : length (session (after_receiving offer_and_quit)) ≡ 8
+  pub quit_sends : shell_spec.want [] (after_receiving offer_and_quit) ≡ Send 8
+  pub quit_waits : shell_spec.want [] (acked (after_receiving offer_and_quit) 7) ≡ Send 1
+  pub quit_closes : shell_spec.want [] (acked (after_receiving offer_and_quit) 8) ≡ Close
   pub after_quit : commands_in (codes "quit\nhelp\n") ≡ Quit ∷ []
   -- 32 commands are accepted, and the next one ends the connection; the output before it stays
-  pub full : shell_spec.want [] (after_hearing (many_helps 32)) ≡ Send 992
-  pub lost : shell_spec.want [] (after_hearing (many_helps 33)) ≡ Abort
-  pub lost_keeps : session (after_hearing (many_helps 33)) ≡ session (after_hearing (many_helps 32))
-  pub room_again : (shell_spec.newdata [] (acked (after_hearing (many_helps 32)) 31) (codes "help\n")).part.own ≡ 0
+  pub full : shell_spec.want [] (after_receiving (many_helps 32)) ≡ Send 992
+  pub lost : shell_spec.want [] (after_receiving (many_helps 33)) ≡ Abort
+  pub lost_keeps : session (after_receiving (many_helps 33)) ≡ session (after_receiving (many_helps 32))
+  pub room_again : (shell_spec.newdata [] (acked (after_receiving (many_helps 32)) 31) (codes "help\n")).part.own ≡ 0
   -- a silent connection is aborted at 1200 ticks, and not before
   pub silent : shell_spec.want [] (record opened { polls = 1199 }) ≡ Nothing
   pub too_silent : shell_spec.want [] (shell_spec.polled [] (record opened { polls = 1199 })).part ≡ Abort
-  pub hears_again : (shell_spec.newdata [] (record opened { polls = 1199 }) (codes "h")).part.polls ≡ 0
+  pub receives_again : (shell_spec.newdata [] (record opened { polls = 1199 }) (codes "h")).part.polls ≡ 0
   -- the ports
   pub pages_served : is_served_at WEB_PORT ≡ true
   pub shell_served : is_served_at TELNET_PORT ≡ true

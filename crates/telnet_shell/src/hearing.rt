@@ -35,7 +35,7 @@ pub(crate) enum Reported {
 }
 
 /// Returns what a byte means after an open sequence.
-fn heard_as(iac: [u8; 2], byte: u8) -> Reported
+fn read_as(iac: [u8; 2], byte: u8) -> Reported
     ensures { tokens_of result ≡ tokens_at (awaited iac) byte }
 {
     if iac[0] == 0 {
@@ -135,7 +135,7 @@ fn keep(kept: &mut ArrayVec<u8, LONGEST_LINE>, over: &mut bool, byte: u8)
 }
 
 /// Receives a byte of the text, which ends the line or extends it.
-fn hear_text(kept: &mut ArrayVec<u8, LONGEST_LINE>, over: &mut bool, byte: u8) -> Option<Command>
+fn receive_text(kept: &mut ArrayVec<u8, LONGEST_LINE>, over: &mut bool, byte: u8) -> Option<Command>
     ensures open { (line : List ℕ) → IsLine kept.old.items over.old line
         → IsLine kept.new.items over.new (line_after line (Byte byte ∷ [])) }
     ensures command { (line : List ℕ) → IsLine kept.old.items over.old line → command_in result ≡ commands line (Byte byte ∷ []) }
@@ -154,7 +154,7 @@ fn hear_text(kept: &mut ArrayVec<u8, LONGEST_LINE>, over: &mut bool, byte: u8) -
 }
 
 /// Receives a byte, which may complete a command.
-pub(crate) fn hear(
+pub(crate) fn receive(
     kept: &mut ArrayVec<u8, LONGEST_LINE>,
     over: &mut bool,
     iac: &mut [u8; 2],
@@ -165,11 +165,11 @@ pub(crate) fn hear(
     ensures command { (delivered : List ℕ) → IsOpen kept.old.items over.old iac.old delivered
         → command_in result ≡ commands (line_after [] (tokens Text delivered)) (tokens_at (awaits_after Text delivered) byte) }
 {
-    let reported = heard_as(*iac, byte);
+    let reported = read_as(*iac, byte);
     *iac = sequence_after(*iac, byte);
     match reported {
         Reported::Nothing => None,
         Reported::Answer(command) => Some(command),
-        Reported::Byte(byte) => hear_text(kept, over, byte),
+        Reported::Byte(byte) => receive_text(kept, over, byte),
     }
 }

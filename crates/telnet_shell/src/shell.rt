@@ -3,10 +3,10 @@
 ghost use Rattle.std.specs.Prelude.{◌≡◌, ◌==◌, ◌&&◌, ℕ, length};
 ghost use Rattle.app_events.specs.Prelude.{AppState};
 ghost use Rattle.telnet_shell.specs.Reading.{is_quit};
-ghost use Rattle.telnet_shell.specs.ShellMeaning.{hear_all, hear_byte};
+ghost use Rattle.telnet_shell.specs.ShellMeaning.{receive_all, receive_byte};
 
 use crate::command::Command;
-use crate::hearing::hear;
+use crate::hearing::receive;
 use crate::saying::{advance, due, fill_left, left_len};
 use crate::{LONGEST_LINE, MOST_COMMANDS, MOST_SILENT_POLLS};
 use app_events::{App, Ending, Now, Want};
@@ -93,14 +93,14 @@ impl Shell {
     }
 
     /// Receives a byte.
-    fn hear(&mut self, byte: u8)
-        ensures { (p : AppState) → ShellRepresents self.old p → ShellRepresents self.new (hear_byte p byte) }
+    fn receive(&mut self, byte: u8)
+        ensures { (p : AppState) → ShellRepresents self.old p → ShellRepresents self.new (receive_byte p byte) }
     {
         let full = self.queue.is_full();
         if self.lost || self.done {
             return;
         }
-        match hear(&mut self.line, &mut self.over, &mut self.iac, byte) {
+        match receive(&mut self.line, &mut self.over, &mut self.iac, byte) {
             None => {}
             Some(command) => {
                 if full {
@@ -121,11 +121,11 @@ impl Shell {
     }
 
     /// Receives each byte of a piece.
-    pub(crate) fn hear_piece(&mut self, piece: &[u8])
-        ensures { (p : AppState) → ShellRepresents self.old p → ShellRepresents self.new (hear_all p piece.now) }
+    pub(crate) fn receive_piece(&mut self, piece: &[u8])
+        ensures { (p : AppState) → ShellRepresents self.old p → ShellRepresents self.new (receive_all p piece.now) }
     {
         for byte in piece {
-            self.hear(*byte);
+            self.receive(*byte);
         }
     }
 }
@@ -168,7 +168,7 @@ impl App for Shell {
     #[inline(never)]
     fn newdata(&mut self, _shared: &mut Web, piece: &[u8]) {
         self.polls = 0;
-        self.hear_piece(piece);
+        self.receive_piece(piece);
     }
 
     #[inline(never)]

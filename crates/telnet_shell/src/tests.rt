@@ -13,7 +13,7 @@ fn idle_of<A: App>() -> A {
 /// Returns the length of a shell's reply to a piece.
 fn answered(piece: &[u8]) -> usize {
     let mut shell = idle_of::<Shell>();
-    shell.hear_piece(piece);
+    shell.receive_piece(piece);
     left_len(shell.queue.as_slice(), &shell.capture)
 }
 

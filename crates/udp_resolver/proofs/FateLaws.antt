@@ -1,5 +1,5 @@
 -- How the answers to questions grow with events.
-use Rattle.udp_resolver.proofs.Prelude.{◌≡◌, ℕ, zero, suc, ◌+◌, ◌<◌, ◌≤◌, Bool, true, false, not, ◌&&◌, ◌||◌, cond, eqb, if◌then◌else◌, List, [], ◌∷◌, ◌++◌, map, refl, sym, ap, ◌∙◌, arith, Option, None, Some, list_all, list_any, is_none, option_or, answer_to, Answer, open_ones, Question, all_settled, answer_among, fate_by, first_answer, before_silence, is_given_up, is_settled, silences, LineEvent, MediumInput, Silence, heard_now, unanswered, unless_answered, Open, Timeout}
+use Rattle.udp_resolver.proofs.Prelude.{◌≡◌, ℕ, zero, suc, ◌+◌, ◌<◌, ◌≤◌, Bool, true, false, not, ◌&&◌, ◌||◌, cond, eqb, if◌then◌else◌, List, [], ◌∷◌, ◌++◌, map, refl, sym, ap, ◌∙◌, arith, Option, None, Some, list_all, list_any, is_none, option_or, answer_to, Answer, open_ones, Question, all_settled, answer_among, fate_by, first_answer, before_silence, is_given_up, is_settled, silences, LineEvent, MediumInput, Silence, received_now, unanswered, unless_answered, Open, Timeout}
 use Rattle.udp_resolver.proofs.EventLaws.{not_over, one_more, silences-append}
 
 same_of : (a b : ℕ) → eqb a b ≡ true → a ≡ b
@@ -81,10 +81,10 @@ answer_silence happened q e =
     ] refl))
 
 pub heard_map : (datagram : List ℕ) (happened : List LineEvent) (asked : List Question) → is_given_up happened ≡ false
-    → heard_now datagram asked (map (answer_among happened) asked) ≡ map (answer_among (happened ++ MediumInput datagram ∷ [])) asked
+    → received_now datagram asked (map (answer_among happened) asked) ≡ map (answer_among (happened ++ MediumInput datagram ∷ [])) asked
 heard_map datagram happened [] e = refl
 heard_map datagram happened (q ∷ asked) e =
-    ap (λ a. a ∷ heard_now datagram asked (map (answer_among happened) asked)) (sym (answer_came happened datagram q e))
+    ap (λ a. a ∷ received_now datagram asked (map (answer_among happened) asked)) (sym (answer_came happened datagram q e))
     ∙ ap (λ l. answer_among (happened ++ MediumInput datagram ∷ []) q ∷ l) (heard_map datagram happened asked e)
 
 pub map_silence : (happened : List LineEvent) (asked : List Question) → is_given_up happened ≡ false

@@ -1,5 +1,5 @@
 -- A run after one more item.
-use Rattle.udp_resolver.proofs.Prelude.{◌≡◌, ℕ, zero, suc, ◌+◌, ◌<◌, Bool, true, false, not, ◌&&◌, leb, if◌then◌else◌, List, [], ◌∷◌, ◌++◌, length, map, take, replicate, get_or, refl, sym, ap, ◌∙◌, arith, append-nil, append_assoc, subst, None, Option, Result, drop_all, map-append, take_more, take-length, flat_map, list_any, refill, is_none, IsAtAge, Answer, Asking, Item, Byte, Quiet, State, WasFed, reported_by, completed, Fed, last_ident, line_text, open_ones, queries, query_texts, Question, all_settled, answer_among, fate_of, is_given_up, next_asking, questions, silences, LineEvent, MediumInput, Silence, by_frame, events, received_after, line_of, lines, Adds, RunRepresents, WritesSome, IsClockAt, asked_next, heard_now, is_due, lines_by, unanswered, Clock, Run, bytes_among, SinkView, bytes_among-append}
+use Rattle.udp_resolver.proofs.Prelude.{◌≡◌, ℕ, zero, suc, ◌+◌, ◌<◌, Bool, true, false, not, ◌&&◌, leb, if◌then◌else◌, List, [], ◌∷◌, ◌++◌, length, map, take, replicate, get_or, refl, sym, ap, ◌∙◌, arith, append-nil, append_assoc, subst, None, Option, Result, drop_all, map-append, take_more, take-length, flat_map, list_any, refill, is_none, IsAtAge, Answer, Asking, Item, Byte, Quiet, State, WasFed, reported_by, completed, Fed, last_ident, line_text, open_ones, queries, query_texts, Question, all_settled, answer_among, fate_of, is_given_up, next_asking, questions, silences, LineEvent, MediumInput, Silence, by_frame, events, received_after, line_of, lines, Adds, RunRepresents, WritesSome, IsClockAt, asked_next, received_now, is_due, lines_by, unanswered, Clock, Run, bytes_among, SinkView, bytes_among-append}
 use Rattle.uip_slip.specs.declared.fed.Fed.TheVariants as fed
 use Rattle.udp_resolver.proofs.EventLaws.{silences-append}
 use Rattle.udp_resolver.proofs.FateLaws.{heard_map, map_silence, open_reported, opens}
@@ -15,7 +15,7 @@ questions-length asking [] = refl
 questions-length asking (text ∷ names) = ap suc (questions-length (next_asking asking) names)
 
 pub heard-length : (datagram : List ℕ) (asked : List Question) (answers : List (Option Answer)) → length answers ≡ length asked
-    → length (heard_now datagram asked answers) ≡ length answers
+    → length (received_now datagram asked answers) ≡ length answers
 heard-length datagram [] [] h = refl
 heard-length datagram [] (a ∷ answers) h = absurd (omega arith)
 heard-length datagram (q ∷ asked) [] h = refl
@@ -58,13 +58,13 @@ knows_byte asked items b old new k fed brings clock sender answers =
 -- a byte that brings a datagram
 pub knows_came : (asked : List Question) (items : List Item) (b : ℕ) (datagram : List ℕ) (old new : Run) → is_given_up (events items) ≡ false → RunRepresents asked items old
     → WasFed (bytes_among items ++ b ∷ []) new.decoder → flat_map by_frame (completed (bytes_among items) b) ≡ MediumInput datagram ∷ []
-    → new.clock ≡ old.clock → new.sender ≡ old.sender → new.answers.items ≡ heard_now datagram asked old.answers.items → RunRepresents asked (items ++ Byte b ∷ []) new
+    → new.clock ≡ old.clock → new.sender ≡ old.sender → new.answers.items ≡ received_now datagram asked old.answers.items → RunRepresents asked (items ++ Byte b ∷ []) new
 knows_came asked items b datagram old new e k fed brings clock sender answers =
     let es = events items in
     knows_events asked (items ++ Byte b ∷ []) (es ++ MediumInput datagram ∷ []) (bytes_among items ++ b ∷ []) new
     (events_byte items b ∙ ap (λ l. es ++ l) brings) (bytes_among-append items (Byte b ∷ []))
     fed (subst (λ (c : Clock). IsClockAt (es ++ MediumInput datagram ∷ []) c) (sym clock) (at_calm es (MediumInput datagram ∷ []) old.clock refl k.at))
-    (answers ∙ ap (λ l. heard_now datagram asked l) k.heard ∙ heard_map datagram es asked e)
+    (answers ∙ ap (λ l. received_now datagram asked l) k.heard ∙ heard_map datagram es asked e)
     (ap (λ s. s.ident) sender ∙ k.sent ∙ ap (λ l. last_ident 0 l) (sym (queries_calm asked es (MediumInput datagram ∷ []) refl)))
 
 -- a silence

@@ -1,5 +1,5 @@
 -- The loops over names and answers, one step at a time.
-use Rattle.udp_resolver.proofs.Prelude.{◌≡◌, ℕ, ◌+◌, ◌<◌, Bool, List, [], ◌∷◌, ◌++◌, length, drop, get_or, refl, sym, ap, ◌∙◌, append_assoc, arith, length-append, None, Option, Result, Ok, Err, OnErr, set, set-append_seam, drop_more, AppendsPrefix, prefix_by, slip_text, answer_to, query_datagram, Answer, Asking, last_ident, next_ident, query_texts, Question, fate_by, next_asking, questions, fate_text, line_of, Fate, heard_now, lines_by, unanswered, unless_answered, option_or, codes}
+use Rattle.udp_resolver.proofs.Prelude.{◌≡◌, ℕ, ◌+◌, ◌<◌, Bool, List, [], ◌∷◌, ◌++◌, length, drop, get_or, refl, sym, ap, ◌∙◌, append_assoc, arith, length-append, None, Option, Result, Ok, Err, OnErr, set, set-append_seam, drop_more, AppendsPrefix, prefix_by, slip_text, answer_to, query_datagram, Answer, Asking, last_ident, next_ident, query_texts, Question, fate_by, next_asking, questions, fate_text, line_of, Fate, received_now, lines_by, unanswered, unless_answered, option_or, codes}
 
 pub query_texts-append : (ident : ℕ) (xs ys : List Question) → query_texts ident (xs ++ ys) ≡ query_texts ident xs ++ query_texts (last_ident ident xs) ys
 query_texts-append ident [] ys = refl
@@ -37,14 +37,14 @@ module _ {X : Type 0} where
 
 pub heard_step : (datagram : List ℕ) (asking after : Asking) (names later : List (List ℕ)) (name : List ℕ) (olds rest : List (Option Answer)) (a b : Option Answer) (whole prefix : List (Option Answer))
     → names ≡ name ∷ later → olds ≡ a ∷ rest → after ≡ next_asking asking → b ≡ option_or a (answer_to asking name datagram)
-    → whole ≡ prefix ++ heard_now datagram (questions asking names) olds
-    → whole ≡ (prefix ++ b ∷ []) ++ heard_now datagram (questions after later) rest
+    → whole ≡ prefix ++ received_now datagram (questions asking names) olds
+    → whole ≡ (prefix ++ b ∷ []) ++ received_now datagram (questions after later) rest
 heard_step datagram asking after names later name olds rest a b whole prefix n o k is e =
-    e ∙ ap (λ l. prefix ++ heard_now datagram (questions asking l) olds) n
-    ∙ ap (λ l. prefix ++ heard_now datagram (questions asking (name ∷ later)) l) o
-    ∙ ap (λ x. prefix ++ x ∷ heard_now datagram (questions (next_asking asking) later) rest) (sym is)
-    ∙ ap (λ x. prefix ++ b ∷ heard_now datagram (questions x later) rest) (sym k)
-    ∙ sym (append_assoc prefix (b ∷ []) (heard_now datagram (questions after later) rest))
+    e ∙ ap (λ l. prefix ++ received_now datagram (questions asking l) olds) n
+    ∙ ap (λ l. prefix ++ received_now datagram (questions asking (name ∷ later)) l) o
+    ∙ ap (λ x. prefix ++ x ∷ received_now datagram (questions (next_asking asking) later) rest) (sym is)
+    ∙ ap (λ x. prefix ++ b ∷ received_now datagram (questions x later) rest) (sym k)
+    ∙ sym (append_assoc prefix (b ∷ []) (received_now datagram (questions after later) rest))
 
 pub unanswered_step : (asking after : Asking) (names later : List (List ℕ)) (name : List ℕ) (olds rest : List (Option Answer)) (a : Option Answer) (whole prefix : List Question)
     → names ≡ name ∷ later → olds ≡ a ∷ rest → after ≡ next_asking asking
@@ -85,8 +85,8 @@ question_moves asking after names answers name at whole prefix size within is ne
     (here names at name within is) (drop_more answers at None (omega (arith, size, within))) next e
 
 -- nothing is left after the last name
-pub heard_none : (datagram : List ℕ) (asking : Asking) (names : List (List ℕ)) (olds : List (Option Answer)) → names ≡ [] → heard_now datagram (questions asking names) olds ≡ []
-heard_none datagram asking names olds e = ap (λ l. heard_now datagram (questions asking l) olds) e
+pub heard_none : (datagram : List ℕ) (asking : Asking) (names : List (List ℕ)) (olds : List (Option Answer)) → names ≡ [] → received_now datagram (questions asking names) olds ≡ []
+heard_none datagram asking names olds e = ap (λ l. received_now datagram (questions asking l) olds) e
 
 pub unanswered_none : (asking : Asking) (names : List (List ℕ)) (olds : List (Option Answer)) → names ≡ [] → unanswered (questions asking names) olds ≡ []
 unanswered_none asking names olds e = ap (λ l. unanswered (questions asking l) olds) e

@@ -9,7 +9,7 @@ pub use Rattle.udp_resolver.specs.Lines.{fate_text, line_of, lines}
 pub use Rattle.udp_resolver.specs.Resolving.{IsDone, IsOpen, IsSettled, LastAsked, LinkFailed}
 pub use Rattle.udp_resolver.specs.Resolving.{OutFailed, Resolves, ResolvesBy, TellFailed, WroteAll}
 pub use Rattle.udp_resolver.specs.Standing.{Adds, Asks, AsksOn, Done, RunRepresents, WritesSome}
-pub use Rattle.udp_resolver.specs.Steps.{IsClockAt, asked_next, heard_now, is_due, lines_by, unanswered, unless_answered}
+pub use Rattle.udp_resolver.specs.Steps.{IsClockAt, asked_next, received_now, is_due, lines_by, unanswered, unless_answered}
 pub use Rattle.udp_resolver.specs.Streams.{Streams, StreamsUnfailed, streams}
 pub use Rattle.udp_resolver.specs.Reported.{AddressesAreFromReplies}
 pub use Rattle.udp_resolver.specs.ReportedEnds.{BudgetIsReported, DryIsReported, SettledIsReported}

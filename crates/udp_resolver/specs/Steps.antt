@@ -13,10 +13,11 @@ use Rattle.udp_resolver.specs.declared.clock.Clock.{Clock}
 use Rattle.std.specs.Option.{option_or}
 
 -- The answers after a datagram was received: those known before, and its answers to the other questions.
-abbrev pub heard_now : List ℕ → List Question → List (Option Answer) → List (Option Answer)
-heard_now datagram [] answers = []
-heard_now datagram (q ∷ asked) [] = []
-heard_now datagram (q ∷ asked) (answer ∷ answers) = option_or answer (answer_to q.asking q.text datagram) ∷ heard_now datagram asked answers
+abbrev pub received_now : List ℕ → List Question → List (Option Answer) → List (Option Answer)
+received_now datagram [] answers = []
+received_now datagram (q ∷ asked) [] = []
+received_now datagram (q ∷ asked) (answer ∷ answers) = option_or answer (answer_to q.asking q.text datagram)
+    ∷ received_now datagram asked answers
 
 abbrev pub unless_answered : Question → Option Answer → List Question
 unless_answered q None = q ∷ []

@@ -3,7 +3,7 @@
 ghost use Rattle.std.specs.Prelude.{◌≡◌, length};
 ghost use Rattle.std.specs.List.{list_any};
 ghost use Rattle.std.specs.Option.{is_none, option_or};
-ghost use Rattle.udp_resolver.specs.Prelude.{next_asking, questions, heard_now};
+ghost use Rattle.udp_resolver.specs.Prelude.{next_asking, questions, received_now};
 ghost use Rattle.dns_message.specs.Replies.{answer_to};
 
 use dns_message::{Answer, Asking, Name};
@@ -30,9 +30,14 @@ fn known_or(known: Option<Answer>, asking: Asking, name: &Name, datagram: &[u8])
 }
 
 /// Takes the answers of a received datagram to questions that have none yet.
-pub(crate) fn hear(answers: &mut [Option<Answer>], asking: Asking, names: &[Name], datagram: &[u8])
+pub(crate) fn receive(
+    answers: &mut [Option<Answer>],
+    asking: Asking,
+    names: &[Name],
+    datagram: &[u8],
+)
     requires { length answers.old ≡ length names.now }
-    ensures { answers.new ≡ heard_now datagram.now (questions asking names.now) answers.old }
+    ensures { answers.new ≡ received_now datagram.now (questions asking names.now) answers.old }
 {
     let mut asking = asking;
     for at in 0..names.len() {

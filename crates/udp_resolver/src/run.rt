@@ -13,7 +13,7 @@ ghost use Rattle.udp_resolver.specs.Standing.{Asks, RunRepresents, Learns, Turns
 ghost use Rattle.udp_resolver.specs.Steps.{IsClockAt};
 
 use crate::MOST_NAMES;
-use crate::answers::{any_open, hear};
+use crate::answers::{any_open, receive};
 use crate::clock::Clock;
 use crate::sender::Sender;
 use arrayvec::ArrayVec;
@@ -91,7 +91,7 @@ impl Run {
         ensures knows { Learns (questions asking names.now) (Byte byte ∷ []) self.old self.new }
     {
         if let Fed::Datagram(count) = self.decoder.feed(byte) {
-            hear(
+            receive(
                 self.answers.as_mut_slice(),
                 asking,
                 names,

@@ -5,7 +5,7 @@ pub use Rattle.device_values.specs.Prelude.{no_values, record_text, value_given,
 pub use Rattle.file_tree.specs.Prelude.{AreApart, SiteContent, files_of}
 pub use Rattle.file_tree.specs.declared.file_id.FileId.{FileId}
 pub use Rattle.httpd.proofs.Finding.{found_place, hits_left, no_place, place_is}
-pub use Rattle.httpd.specs.Compact.{CompactRepresent, HearsWord}
+pub use Rattle.httpd.specs.Compact.{CompactRepresent, ReceivesWord}
 pub use Rattle.httpd.specs.Web.{WebContent}
 pub use Rattle.node_laws.proofs.EveryTraceConforms.{every_step_of_pages}
 pub use Rattle.node_laws.proofs.Steps.{LineStep, trace_over, turns_then}

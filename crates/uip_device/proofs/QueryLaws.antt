@@ -6,7 +6,7 @@ use Rattle.std.proofs.lemmas.List.Quantifiers.{position-Some}
 use Rattle.std.proofs.lemmas.Slice.Eq.{bytes_eq-Decides}
 use Rattle.generators.specs.Prelude.{ScriptFunctions}
 use Rattle.httpd.proofs.Compacting.{word_open}
-use Rattle.httpd.specs.Hearing.{HearsMethod}
+use Rattle.httpd.specs.Hearing.{ReceivesMethod}
 use Rattle.httpd.specs.Places.{IsFound}
 use Rattle.httpd.specs.Reply.{found_file}
 use Rattle.httpd.specs.declared.compact.CompactPages.TheVariants as compact
@@ -52,13 +52,13 @@ take_nil [] e = refl
 take_nil (x ∷ d) e = absurd cc
 
 -- a first word without a name and a mark has no bytes
-word_nil : (line : Line) (d : List ℕ) → HearsMethod line d → line.query ≡ false → line.name ≡ [] → d ≡ []
-word_nil line d hears unmarked nameless =
-    let word : word_of Space d ≡ d = none_at_all (is_stop Space) d hears.goes_on in
+word_nil : (line : Line) (d : List ℕ) → ReceivesMethod line d → line.query ≡ false → line.name ≡ [] → d ≡ []
+word_nil line d delivers_text unmarked nameless =
+    let word : word_of Space d ≡ d = none_at_all (is_stop Space) d delivers_text.goes_on in
     let none : list_any is_query_mark d ≡ false =
-    sym (ap (list_any is_query_mark) word) ∙ sym (ap (λ (l : Line). l.query) hears.holds) ∙ unmarked in
+    sym (ap (list_any is_query_mark) word) ∙ sym (ap (λ (l : Line). l.query) delivers_text.holds) ∙ unmarked in
     let name : before_first is_query_mark (word_of Space d) ≡ d = ap (before_first is_query_mark) word ∙ none_at_all is_query_mark d none in
-    take_nil d (sym (ap (take 64) name) ∙ sym (ap (λ (l : Line). l.name) hears.holds) ∙ nameless)
+    take_nil d (sym (ap (take 64) name) ∙ sym (ap (λ (l : Line). l.name) delivers_text.holds) ∙ nameless)
 
 module _ {F R : Type 0} (g : ScriptFunctions F) (text : R → List ℕ) (site : SiteContent) (p : AppState) (polls : ℕ) where
   pub first_open : (target : Bool) (line : Line) → CompactRepresent g text (compact.Receiving polls target line) site p

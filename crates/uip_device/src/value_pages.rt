@@ -26,7 +26,7 @@ pub struct ValuePages {
 }
 
 /// Delivers the next bytes from the peer, and counts a hit of the file that they request.
-fn hear(pages: &mut CompactPages<ValueCapture>, web: &mut FlashWeb, piece: &[u8])
+fn take_piece(pages: &mut CompactPages<ValueCapture>, web: &mut FlashWeb, piece: &[u8])
     ensures site { web.new.site ≡ web.old.site }
     ensures part { let represented = CompactRepresent words record_text in
         (p : AppState) → represented pages.old web.old.site p
@@ -35,7 +35,7 @@ fn hear(pages: &mut CompactPages<ValueCapture>, web: &mut FlashWeb, piece: &[u8]
         (p : AppState) → represented pages.old web.old.site p
         → web.new.hits ≡ hits_by (files_of web.old.site) web.old.hits (wanted p.input) (wanted (p.input ++ piece.now)) }
 {
-    pages.hear(&web.site, &mut web.hits, piece);
+    pages.take_piece(&web.site, &mut web.hits, piece);
 }
 
 /// Returns whether nothing was delivered on the connection.
@@ -118,7 +118,7 @@ fn receive(pages: &mut CompactPages<ValueCapture>, shared: &mut DeviceWeb, piece
         ≡ query_after (files_of shared.old.web.site) shared.new.web.hits shared.old.query p.input piece.now }
 {
     let first = is_first(pages);
-    hear(pages, &mut shared.web, piece);
+    take_piece(pages, &mut shared.web, piece);
     if first {
         keep(&mut shared.query, pages, &shared.web, piece);
     }

@@ -1,5 +1,5 @@
 -- What is delivered to an application is bytes, if bytes are received.
-use Rattle.uip_node.proofs.Prelude.{All, ◌≡◌, ℕ, ◌+◌, Bool, true, false, not, ◌&&◌, List, [], ◌∷◌, length, ltb, sym, subst, arith, PlainSegment, has_fin, has_rst, Beat, IsByte, IsPaged, Pages, AppState, AppSpec, Now, State, Closed, SynRcvd, Established, CloseWait, FinWait1, FinWait2, Closing, TimeWait, LastAck, Connection, Outcome, does_as_wanted, prepared, asked, hears, is_out_of_order, is_acked, rests, has_text, with_part, peer_closes, stays_established, in_established, fin_acked, fin_waits, by_state, on_segment, by_beat, on_tick, All-append, HasBytes, SendsBytes}
+use Rattle.uip_node.proofs.Prelude.{All, ◌≡◌, ℕ, ◌+◌, Bool, true, false, not, ◌&&◌, List, [], ◌∷◌, length, ltb, sym, subst, arith, PlainSegment, has_fin, has_rst, Beat, IsByte, IsPaged, Pages, AppState, AppSpec, Now, State, Closed, SynRcvd, Established, CloseWait, FinWait1, FinWait2, Closing, TimeWait, LastAck, Connection, Outcome, does_as_wanted, prepared, asked, delivers_text, is_out_of_order, is_acked, rests, has_text, with_part, peer_closes, stays_established, in_established, fin_acked, fin_waits, by_state, on_segment, by_beat, on_tick, All-append, HasBytes, SendsBytes}
 use Rattle.uip_node.proofs.Basics.{choose}
 use Rattle.uip_node.proofs.Fits.{all_nil}
 use Rattle.uip_node.proofs.Cases.{Unmoved, asked_by, on_tick_by, wanted_unmoved}
@@ -12,7 +12,7 @@ module _ (m : AppSpec) (bytes : SendsBytes m) where
   abbrev Out : Outcome → Type 0
   Out o = DeliveredBytes o.connection
 
-  hears_bytes : (numbers : List ℕ) (p : AppState) (piece : List ℕ) → All IsByte p.input → All IsByte piece → All IsByte (hears m numbers p piece).part.input
+  hears_bytes : (numbers : List ℕ) (p : AppState) (piece : List ℕ) → All IsByte p.input → All IsByte piece → All IsByte (delivers_text m numbers p piece).part.input
   hears_bytes numbers p [] h are = h
   hears_bytes numbers p (x ∷ xs) h are = bytes.newdata numbers p (x ∷ xs) h are
 

@@ -1,6 +1,6 @@
 -- Every capture ever taken is of a snapshot that a node makes. This holds for all connections, clean or not.
 -- [add: counter] The number of counters of a snapshot.
-use Rattle.uip_node.proofs.Prelude.{All, range_with_len, ◌≡◌, ℕ, zero, suc, ◌+◌, ◌-◌, ◌<◌, ◌≤◌, Bool, true, false, not, ◌&&◌, List, [], ◌∷◌, length, set, refl, sym, subst, arith, Some, slice_get, slice_index, count_by, nat_le, eqb, ltb, length-set, ◌∙◌, All-push, All-map, count_by-le-length, common_steps, wrap, PlainSegment, has_fin, has_rst, ages, tries_at, Beat, AppState, AppSpec, IsSteady, IsSnapshot, IsNow, IsRow, IsU32, IsAddr, Ending, Now, Row, State, Closed, SynRcvd, Established, CloseWait, FinWait1, FinWait2, Closing, TimeWait, LastAck, Want, Nothing, Send, Close, Abort, Sockets, Connection, is_resting, tries_of, count_of, row_of, rows_from, Outcome, closes, after_own_fin, peer_has_closed, idles, does_as_wanted, ask, asked, accepted, reported_end, is_out_of_order, is_acked, rests, has_text, hears, takes, with_part, in_state, with_window, peer_closes, stays_established, in_established, fin_acked, fin_waits, by_state, on_segment, by_beat, grows_older, on_tick, polls, Event, HistoryEntry, Silent, counters, raises, times, AbstractNode, snapshot}
+use Rattle.uip_node.proofs.Prelude.{All, range_with_len, ◌≡◌, ℕ, zero, suc, ◌+◌, ◌-◌, ◌<◌, ◌≤◌, Bool, true, false, not, ◌&&◌, List, [], ◌∷◌, length, set, refl, sym, subst, arith, Some, slice_get, slice_index, count_by, nat_le, eqb, ltb, length-set, ◌∙◌, All-push, All-map, count_by-le-length, common_steps, wrap, PlainSegment, has_fin, has_rst, ages, tries_at, Beat, AppState, AppSpec, IsSteady, IsSnapshot, IsNow, IsRow, IsU32, IsAddr, Ending, Now, Row, State, Closed, SynRcvd, Established, CloseWait, FinWait1, FinWait2, Closing, TimeWait, LastAck, Want, Nothing, Send, Close, Abort, Sockets, Connection, is_resting, tries_of, count_of, row_of, rows_from, Outcome, closes, after_own_fin, peer_has_closed, idles, does_as_wanted, ask, asked, accepted, reported_end, is_out_of_order, is_acked, rests, has_text, delivers_text, takes, with_part, in_state, with_window, peer_closes, stays_established, in_established, fin_acked, fin_waits, by_state, on_segment, by_beat, grows_older, on_tick, polls, Event, HistoryEntry, Silent, counters, raises, times, AbstractNode, snapshot}
 use Rattle.tcp_machine.specs.Connection.{is_live}
 use Rattle.uip_node.proofs.Cases.{asked_by, by_own_fin, on_tick_by}
 use Rattle.uip_node.proofs.Basics.{choose, wrap_low}
@@ -87,11 +87,11 @@ module _ (m : AppSpec) (steady : IsSteady m) where
     port = subst (λ (x : Sockets). x.peer_port.0 < 65536) (sym s) f.port;
   }
 
-  hears_captures : (numbers : List ℕ) (p : AppState) (text : List ℕ) → (hears m numbers p text).part.snapshots ≡ p.snapshots
+  hears_captures : (numbers : List ℕ) (p : AppState) (text : List ℕ) → (delivers_text m numbers p text).part.snapshots ≡ p.snapshots
   hears_captures numbers p [] = refl
   hears_captures numbers p (x ∷ xs) = steady.newdata_snapshots numbers p (x ∷ xs)
 
-  hears_numbers : (numbers : List ℕ) (p : AppState) (text : List ℕ) → All IsU32 numbers → All IsU32 (hears m numbers p text).numbers
+  hears_numbers : (numbers : List ℕ) (p : AppState) (text : List ℕ) → All IsU32 numbers → All IsU32 (delivers_text m numbers p text).numbers
   hears_numbers numbers p [] h = h
   hears_numbers numbers p (x ∷ xs) h = steady.newdata_numbers numbers p (x ∷ xs) h
 
@@ -138,19 +138,19 @@ module _ (m : AppSpec) (steady : IsSteady m) where
   closing_fits : (c : Connection) (numbers : List ℕ) (s : PlainSegment) → FitConn c → All IsU32 numbers → FitOut (peer_closes m c numbers s)
   unfolding peer_closes
   closing_fits c numbers s f n =
-      let x : (hears m numbers c.part s.text).part.snapshots ≡ c.part.snapshots = hears_captures numbers c.part s.text in
-      let d : Connection = in_state CloseWait (with_window s.window (with_part (hears m numbers c.part s.text).part (takes (length s.text + 1) c))) in
+      let x : (delivers_text m numbers c.part s.text).part.snapshots ≡ c.part.snapshots = hears_captures numbers c.part s.text in
+      let d : Connection = in_state CloseWait (with_window s.window (with_part (delivers_text m numbers c.part s.text).part (takes (length s.text + 1) c))) in
       let g : FitConn d = fit_like c d refl x (λ r. absurd (cc)) f in
-      let k : All IsU32 (hears m numbers c.part s.text).numbers = hears_numbers numbers c.part s.text n in
+      let k : All IsU32 (delivers_text m numbers c.part s.text).numbers = hears_numbers numbers c.part s.text n in
       choose (λ (o : Outcome). FitOut o) (ltb 0 c.len) _ _ (λ e. record { conn = g; numbers = k }) (λ e. record { conn = g; numbers = k })
 
   going_fits : (acked : Bool) (c : Connection) (numbers : List ℕ) (s : PlainSegment) → FitConn c → All IsU32 numbers → FitOut (stays_established m acked c numbers s)
   unfolding stays_established
   going_fits acked c numbers s f n =
-      let x : (hears m numbers c.part s.text).part.snapshots ≡ c.part.snapshots = hears_captures numbers c.part s.text in
-      let d : Connection = with_window s.window (with_part (hears m numbers c.part s.text).part (takes (length s.text) c)) in
+      let x : (delivers_text m numbers c.part s.text).part.snapshots ≡ c.part.snapshots = hears_captures numbers c.part s.text in
+      let d : Connection = with_window s.window (with_part (delivers_text m numbers c.part s.text).part (takes (length s.text) c)) in
       let g : FitConn d = fit_like c d refl x f.rest f in
-      let k : All IsU32 (hears m numbers c.part s.text).numbers = hears_numbers numbers c.part s.text n in
+      let k : All IsU32 (delivers_text m numbers c.part s.text).numbers = hears_numbers numbers c.part s.text n in
       choose (λ (o : Outcome). FitOut o) (not acked && not (has_text s)) _ _ (λ e. record { conn = g; numbers = k })
       (λ e. choose (λ (o : Outcome). FitOut o) (ltb 0 c.len) _ _ (λ i. record { conn = g; numbers = k }) (λ i. record { conn = g; numbers = k }))
 
@@ -166,8 +166,8 @@ module _ (m : AppSpec) (steady : IsSteady m) where
   by_state_fits Closed acked c numbers s f n = record { conn = f; numbers = n }
   by_state_fits SynRcvd true c numbers s f n =
       let port : ℕ = c.sockets.own_port.0 in
-      let x : (hears m (m.connected numbers port).numbers (m.connected numbers port).part s.text).part.snapshots ≡ (m.connected numbers port).part.snapshots = hears_captures (m.connected numbers port).numbers (m.connected numbers port).part s.text in
-      let none : (hears m (m.connected numbers port).numbers (m.connected numbers port).part s.text).part.snapshots ≡ [] = x ∙ steady.connected_snapshots numbers port in
+      let x : (delivers_text m (m.connected numbers port).numbers (m.connected numbers port).part s.text).part.snapshots ≡ (m.connected numbers port).part.snapshots = hears_captures (m.connected numbers port).numbers (m.connected numbers port).part s.text in
+      let none : (delivers_text m (m.connected numbers port).numbers (m.connected numbers port).part s.text).part.snapshots ≡ [] = x ∙ steady.connected_snapshots numbers port in
       record {
         conn = record { rest = λ r. absurd (cc); snapshots = subst (λ l. All IsSnapshot l) (sym none) (all_nil IsSnapshot); addr = f.addr; port = f.port };
         numbers = hears_numbers (m.connected numbers port).numbers (m.connected numbers port).part s.text (steady.connected_numbers numbers port n);

@@ -1,15 +1,15 @@
 -- An application's state after text is delivered, and after captures are taken.
-use Rattle.uip_node.proofs.Prelude.{◌≡◌, ℕ, inl, inr, List, [], ◌∷◌, ◌++◌, refl, sym, ◌∙◌, AppState, Snapshot, AppSpec, Pages, IsPaged, Now, hears}
+use Rattle.uip_node.proofs.Prelude.{◌≡◌, ℕ, inl, inr, List, [], ◌∷◌, ◌++◌, refl, sym, ◌∙◌, AppState, Snapshot, AppSpec, Pages, IsPaged, Now, delivers_text}
 use Rattle.uip_node.proofs.Basics.{append_nothing}
 
 module _ (m : AppSpec) (pages : Pages) (lawful : IsPaged m pages) where
   -- what a delivery does to a state
-  pub record Heard (p q : AppState) (text : List ℕ) : Type 0 where
+  pub record Received (p q : AppState) (text : List ℕ) : Type 0 where
     pub input : q.input ≡ p.input ++ text
     pub snapshots : q.snapshots ≡ p.snapshots
     pub acked : q.acked ≡ p.acked
 
-  pub hears_is : (numbers : List ℕ) (p : AppState) (text : List ℕ) → Heard p (hears m numbers p text).part text
+  pub hears_is : (numbers : List ℕ) (p : AppState) (text : List ℕ) → Received p (delivers_text m numbers p text).part text
   hears_is numbers p [] = record { input = sym (append_nothing p.input); snapshots = refl; acked = refl }
   hears_is numbers p (x ∷ xs) = record { input = lawful.newdata_input numbers p (x ∷ xs); snapshots = lawful.newdata_snapshots numbers p (x ∷ xs); acked = lawful.newdata_acked numbers p (x ∷ xs) }
 

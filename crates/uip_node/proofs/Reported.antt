@@ -1,5 +1,5 @@
 -- What is outstanding stays the same until it is acknowledged, and is retransmitted unchanged.
-use Rattle.uip_node.proofs.Prelude.{All, REST_TIME, ◌≡◌, ℕ, ◌+◌, ◌<◌, ◌≤◌, min, Bool, true, false, not, ◌&&◌, ◌||◌, ◌⊎◌, inl, inr, List, [], ◌∷◌, ◌++◌, length, take, drop, length-drop, refl, sym, ap, ◌∙◌, subst, arith, Option, Some, None, eqb, ltb, if◌then◌else◌, common_steps, wrap, PlainSegment, has_fin, has_rst, has_syn, beat_at, Beat, AppState, AppSpec, IsPrefixOf, Grows, CanSend, IsSnapshot, Now, State, Closed, SynRcvd, Established, CloseWait, FinWait1, FinWait2, Closing, TimeWait, LastAck, Want, Nothing, Send, Close, Abort, Connection, snd_una, occupies_sequence_space, bare_ack, syn_ack, text_segment, fin_of, reset_of, segment_of, is_again, Outcome, leaves, closes, after_own_fin, peer_has_closed, idles, does_as_wanted, prepared, ask, asked_for, asked, is_out_of_order, is_acked, rests, has_text, hears, takes, with_part, in_state, with_window, peer_closes, stays_established, in_established, fin_acked, fin_waits, by_state, on_segment, outstanding, limit_of, grows_older, by_beat, waits_for_ack, rests_on, ticks_established, tick_by, on_tick, Step, Alike, IsSteady, is_open}
+use Rattle.uip_node.proofs.Prelude.{All, REST_TIME, ◌≡◌, ℕ, ◌+◌, ◌<◌, ◌≤◌, min, Bool, true, false, not, ◌&&◌, ◌||◌, ◌⊎◌, inl, inr, List, [], ◌∷◌, ◌++◌, length, take, drop, length-drop, refl, sym, ap, ◌∙◌, subst, arith, Option, Some, None, eqb, ltb, if◌then◌else◌, common_steps, wrap, PlainSegment, has_fin, has_rst, has_syn, beat_at, Beat, AppState, AppSpec, IsPrefixOf, Grows, CanSend, IsSnapshot, Now, State, Closed, SynRcvd, Established, CloseWait, FinWait1, FinWait2, Closing, TimeWait, LastAck, Want, Nothing, Send, Close, Abort, Connection, snd_una, occupies_sequence_space, bare_ack, syn_ack, text_segment, fin_of, reset_of, segment_of, is_again, Outcome, leaves, closes, after_own_fin, peer_has_closed, idles, does_as_wanted, prepared, ask, asked_for, asked, is_out_of_order, is_acked, rests, has_text, delivers_text, takes, with_part, in_state, with_window, peer_closes, stays_established, in_established, fin_acked, fin_waits, by_state, on_segment, outstanding, limit_of, grows_older, by_beat, waits_for_ack, rests_on, ticks_established, tick_by, on_tick, Step, Alike, IsSteady, is_open}
 use Rattle.tcp_machine.specs.Connection.{is_live}
 use Rattle.uip_node.proofs.Basics.{choose, append_nothing, only_some, ltb-zero, ltb-lt, ltb-yes, part_grows, cut_part, cut_length, IsPart, prefix_length}
 use Rattle.uip_node.proofs.Cases.{by_open, by_own_fin, fin_lives, open_live}
@@ -273,7 +273,7 @@ module _ (m : AppSpec) (steady : IsSteady m) (Low : ℕ → Type 0) (low_text : 
   asked_tells snapshot c o fit h = asked_for_tells snapshot c o.connection o.numbers o.step fit h
 
   -- text is delivered while something may be outstanding
-  hears_grows : (numbers : List ℕ) (p : AppState) (text : List ℕ) → Grows m p (hears m numbers p text).part
+  hears_grows : (numbers : List ℕ) (p : AppState) (text : List ℕ) → Grows m p (delivers_text m numbers p text).part
   hears_grows numbers p [] = record { text = record { rest = []; joined = append_nothing (m.output p) }; offset = refl }
   hears_grows numbers p (x ∷ xs) = steady.lawful.newdata_grows numbers p (x ∷ xs) tt
 
@@ -304,8 +304,8 @@ module _ (m : AppSpec) (steady : IsSteady m) (Low : ℕ → Type 0) (low_text : 
   closing_tells : (c : Connection) (numbers : List ℕ) (s : PlainSegment) → c.state ≡ Established → 0 < c.mss → 0 < c.initial_mss → TextSafe c → (let o : Outcome = peer_closes m c numbers s in OutReports c o.connection o.step)
   unfolding peer_closes
   closing_tells c numbers s st ms ini h =
-      let x : Grows m c.part (hears m numbers c.part s.text).part = hears_grows numbers c.part s.text in
-      let d : Connection = in_state CloseWait (with_window s.window (with_part (hears m numbers c.part s.text).part (takes (length s.text + 1) c))) in
+      let x : Grows m c.part (delivers_text m numbers c.part s.text).part = hears_grows numbers c.part s.text in
+      let d : Connection = in_state CloseWait (with_window s.window (with_part (delivers_text m numbers c.part s.text).part (takes (length s.text + 1) c))) in
       let t : TextSafe d = heard_text c d h x refl refl in
       let o : Onto c d = heard_onto c d st refl h x refl refl refl in
       let w : 0 < d.mss = window_some c.initial_mss s.window ini in
@@ -316,8 +316,8 @@ module _ (m : AppSpec) (steady : IsSteady m) (Low : ℕ → Type 0) (low_text : 
   going_tells : (acked : Bool) (c : Connection) (numbers : List ℕ) (s : PlainSegment) → c.state ≡ Established → 0 < c.mss → 0 < c.initial_mss → TextSafe c → (let o : Outcome = stays_established m acked c numbers s in OutReports c o.connection o.step)
   unfolding stays_established
   going_tells acked c numbers s st ms ini h =
-      let x : Grows m c.part (hears m numbers c.part s.text).part = hears_grows numbers c.part s.text in
-      let d : Connection = with_window s.window (with_part (hears m numbers c.part s.text).part (takes (length s.text) c)) in
+      let x : Grows m c.part (delivers_text m numbers c.part s.text).part = hears_grows numbers c.part s.text in
+      let d : Connection = with_window s.window (with_part (delivers_text m numbers c.part s.text).part (takes (length s.text) c)) in
       let t : TextSafe d = heard_text c d h x refl refl in
       let o : Onto c d = heard_onto c d st (ap is_open st) h x refl refl refl in
       let w : 0 < d.mss = window_some c.initial_mss s.window ini in
@@ -375,8 +375,8 @@ module _ (m : AppSpec) (steady : IsSteady m) (Low : ℕ → Type 0) (low_text : 
   by_state_tells SynRcvd true c numbers s e ac ms ini h =
       let port : ℕ = c.sockets.own_port.0 in
       let start : AppState = (m.connected numbers port).part in
-      let x : Grows m start (hears m (m.connected numbers port).numbers start s.text).part = hears_grows (m.connected numbers port).numbers start s.text in
-      let d : Connection = with_part (hears m (m.connected numbers port).numbers start s.text).part (takes (length s.text) (in_state Established (rests c))) in
+      let x : Grows m start (delivers_text m (m.connected numbers port).numbers start s.text).part = hears_grows (m.connected numbers port).numbers start s.text in
+      let d : Connection = with_part (delivers_text m (m.connected numbers port).numbers start s.text).part (takes (length s.text) (in_state Established (rests c))) in
       let z : d.part.acked ≡ 0 = x.offset ∙ steady.connected_acked numbers port in
       record { onto = onto_more c d refl (omega (arith, h.len)); is_asked = refl; idle = refl; mss = ms; initial = ini; text = record { fits = omega (arith, z); count = omega (arith, z, h.acked, h.len) }; new = λ y. omega (arith, h.len) }
   by_state_tells SynRcvd false c numbers s e ac ms ini h = silent_tells c c (onto_same c) (λ l. record { mss = ms; initial = ini; state = state_at c SynRcvd e h }) (λ z. record { some = z; same = refl })

@@ -21,7 +21,7 @@ GoesOnBy m request mss fine left q most Abort = ⊥
 pub record AnswersIn (m : AppSpec) (request : List ℕ) (mss : ℕ) (fine : AppState → Bool) (left : AppState → ℕ) (texts : ℕ) : Type 0 where
   pub starts : (numbers : List ℕ) (port : ℕ) → (fine (m.connected numbers port).part ≡ true)
       × (left (m.connected numbers port).part ≤ texts)
-  pub hears : (numbers : List ℕ) (p : AppState) (piece rest : List ℕ) → fine p ≡ true → (p.input ++ piece) ++ rest ≡ request →
+  pub delivers_text : (numbers : List ℕ) (p : AppState) (piece rest : List ℕ) → fine p ≡ true → (p.input ++ piece) ++ rest ≡ request →
       (fine (m.newdata numbers p piece).part ≡ true) × (left (m.newdata numbers p piece).part ≤ left p)
   pub goes_on : (numbers : List ℕ) (p : AppState) (now : Now) (rest : List ℕ) → fine p ≡ true → p.input ++ rest ≡ request →
       All IsU32 numbers → IsNow now → 0 < length now.rows →

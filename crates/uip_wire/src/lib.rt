@@ -22,4 +22,4 @@ pub use port::{Port, WEB_PORT};
 pub use seq::Seq;
 pub use sizes::{LARGEST_DATAGRAM, OWN_MSS};
 pub use summer::Summer;
-pub use sums::{checksum, checksum_joined, one_byte_tells};
+pub use sums::{checksum, checksum_joined, one_byte_detected};

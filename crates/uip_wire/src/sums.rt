@@ -25,7 +25,7 @@ pub fn checksum_joined(first: &[u8], second: &[u8]) -> u16
 }
 
 /// Two lists of bytes of the same length that differ in exactly one byte have different checksums.
-pub fn one_byte_tells()
+pub fn one_byte_detected()
     ensures { OneByteDetected }
 {}
 

@@ -4,13 +4,13 @@ use Rattle.std.proofs.Common.{refl, arith, sym, ◌∙◌, append-nil}
 use Rattle.std.proofs.lemmas.Bool.{ltb-true}
 use Rattle.app_events.specs.AppSpec.{AppState, text_left}
 use Rattle.app_events.specs.Laws.{IsLawful, StartsAnew, IsPrefixOf, CanSend}
-use Rattle.app_events.specs.FixedSpec.{fixed_spec, fixed_text, hello, some_heard, fixed_want, FixedRepresents}
+use Rattle.app_events.specs.FixedSpec.{fixed_spec, fixed_text, hello, some_received, fixed_want, FixedRepresents}
 use Rattle.app_events.specs.declared.fixed.Fixed.{Fixed}
 use Rattle.app_events.specs.declared.want.Want.TheVariants.{Send, Close}
 
-more_heard : (xs ys : List ℕ) → IsPrefixOf (fixed_text xs) (fixed_text (xs ++ ys))
-more_heard [] ys = record { rest = fixed_text ys; joined = refl }
-more_heard (x ∷ xs) ys = record { rest = []; joined = refl }
+more_received : (xs ys : List ℕ) → IsPrefixOf (fixed_text xs) (fixed_text (xs ++ ys))
+more_received [] ys = record { rest = fixed_text ys; joined = refl }
+more_received (x ∷ xs) ys = record { rest = []; joined = refl }
 
 can_send : (xs : List ℕ) (acked : ℕ) → CanSend (fixed_want (length (fixed_text xs)) acked) (length (drop acked (fixed_text xs)))
 can_send [] acked = tt
@@ -23,7 +23,7 @@ can_send (x ∷ xs) acked =
 
 pub fixed_lawful : (a : Fixed) → IsLawful fixed_spec (FixedRepresents a)
 fixed_lawful a = record {
-  newdata_grows = λ ns p piece s. record { text = more_heard p.input piece; offset = refl };
+  newdata_grows = λ ns p piece s. record { text = more_received p.input piece; offset = refl };
   prepare_grows = λ ns p now s. record { text = record { rest = []; joined = append-nil (fixed_text p.input) }; offset = refl };
   acked_moves = λ ns p n s h. (refl, refl);
   polled_keeps = λ ns p s. (refl, refl);
@@ -33,7 +33,7 @@ fixed_lawful a = record {
 pub fixed_starts : StartsAnew fixed_spec
 fixed_starts ns port = (refl, refl)
 
-same_text : (xs ys : List ℕ) → some_heard xs ≡ some_heard ys → fixed_text xs ≡ fixed_text ys
+same_text : (xs ys : List ℕ) → some_received xs ≡ some_received ys → fixed_text xs ≡ fixed_text ys
 same_text [] [] e = refl
 same_text (x ∷ xs) (y ∷ ys) e = refl
 same_text [] (y ∷ ys) e = cc

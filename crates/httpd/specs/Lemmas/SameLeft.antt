@@ -39,10 +39,10 @@ left_at g site part = text_left (web_spec_by g (files_of site)) part
 
 left_by : {F R : Type 0} (g : ScriptFunctions F) (text : R → List ℕ) (a : Pages R) (site : SiteContent) (part : AppState) (s : Stage)
     → StandsIn g text a site part s → left_at g site part ≡ left_in g text a site s
-left_by g text a site part stage.Method (hears, nothing) =
-    nothing_left g (files_of site) part NotYet (method_open part.input hears.goes_on) refl
-left_by g text a site part stage.Target (hears, nothing) =
-    nothing_left g (files_of site) part NotYet (target_open part.input hears.method_ended hears.method hears.goes_on) refl
+left_by g text a site part stage.Method (received, nothing) =
+    nothing_left g (files_of site) part NotYet (method_open part.input received.goes_on) refl
+left_by g text a site part stage.Target (received, nothing) =
+    nothing_left g (files_of site) part NotYet (target_open part.input received.method_ended received.method received.goes_on) refl
 left_by g text a site part stage.Refused (refused, nothing) = nothing_left g (files_of site) part Refused refused refl
 left_by g text a site part (stage.Reply found) (name, is) =
     ap (λ w. drop part.acked (page_for_by g (files_of site) w part.snapshots)) is.wanted

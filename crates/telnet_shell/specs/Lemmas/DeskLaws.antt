@@ -7,7 +7,7 @@ use Rattle.generators.specs.Prelude.{uip}
 use Rattle.web_pages.specs.Prelude.{wanted, web_spec, is_acknowledged, waits_for_capture, web_lawful, web_starts}
 use Rattle.telnet_shell.specs.declared.TheConstants.{MOST_COMMANDS}
 use Rattle.telnet_shell.specs.declared.shell.TheConstants.{TELNET_PORT}
-use Rattle.telnet_shell.specs.ShellMeaning.{shell_spec, waiting, with_byte, hear_byte, hear_all, is_stopped, take_capture}
+use Rattle.telnet_shell.specs.ShellMeaning.{shell_spec, waiting, with_byte, receive_byte, receive_all, is_stopped, take_capture}
 use Rattle.telnet_shell.specs.Lemmas.ShellLaws.{shell_lawful, shell_starts}
 use Rattle.telnet_shell.specs.DeskMeaning.{app_spec_at, desk_spec}
 
@@ -21,10 +21,10 @@ byte_port p byte true full = refl
 byte_port p byte false true = refl
 byte_port p byte false false = refl
 
-heard_port : (p : AppState) (piece : List ℕ) → (hear_all p piece).port ≡ p.port
-heard_port p [] = refl
-heard_port p (byte ∷ more) =
-    heard_port (hear_byte p byte) more ∙ byte_port p byte (p.own == 1) (nat_lt MOST_COMMANDS (length (waiting (with_byte p byte))))
+received_port : (p : AppState) (piece : List ℕ) → (receive_all p piece).port ≡ p.port
+received_port p [] = refl
+received_port p (byte ∷ more) =
+    received_port (receive_byte p byte) more ∙ byte_port p byte (p.own == 1) (nat_lt MOST_COMMANDS (length (waiting (with_byte p byte))))
 
 pub web_port : (files : List File) → StaysAtPort (web_spec files)
 web_port files = record {
@@ -40,7 +40,7 @@ web_port files = record {
 pub shell_port : StaysAtPort shell_spec
 shell_port = record {
   connected = λ numbers port. refl;
-  newdata = λ numbers p piece. heard_port (record p { polls = 0 }) piece;
+  newdata = λ numbers p piece. received_port (record p { polls = 0 }) piece;
   prepare = λ numbers p now. either_port (is_stopped p) p (take_capture numbers p now) refl;
   acked = λ numbers p count. refl;
   polled = λ numbers p. refl;

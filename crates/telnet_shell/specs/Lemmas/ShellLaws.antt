@@ -10,7 +10,7 @@ use Rattle.telnet_shell.specs.declared.TheConstants.{MOST_SILENT_POLLS, MOST_COM
 use Rattle.telnet_shell.specs.Reading.{commands_in}
 use Rattle.telnet_shell.specs.Transcript.{transcript}
 use Rattle.telnet_shell.specs.Lemmas.Growing.{commands_grow, further, transcript_grows}
-use Rattle.telnet_shell.specs.ShellMeaning.{session, waiting, with_byte, hear_byte, hear_all, is_stopped}
+use Rattle.telnet_shell.specs.ShellMeaning.{session, waiting, with_byte, receive_byte, receive_all, is_stopped}
 use Rattle.telnet_shell.specs.ShellMeaning.{session_has_ended, left_of_session, shell_want, shell_spec}
 
 same_prefix : (xs : List ℕ) → IsPrefixOf xs xs
@@ -44,22 +44,22 @@ byte_grows p byte =
       offset = refl;
     }
 
-heard_grows : (p : AppState) (byte : ℕ) (lost full : Bool)
+received_grows : (p : AppState) (byte : ℕ) (lost full : Bool)
     → Grows shell_spec p (if lost then p else if full then record p { own = 1 } else with_byte p byte)
-heard_grows p byte true full = same_grows p
-heard_grows p byte false true = record { text = same_prefix (session p); offset = refl }
-heard_grows p byte false false = byte_grows p byte
+received_grows p byte true full = same_grows p
+received_grows p byte false true = record { text = same_prefix (session p); offset = refl }
+received_grows p byte false false = byte_grows p byte
 
-pub all_grows : (p : AppState) (piece : List ℕ) → Grows shell_spec p (hear_all p piece)
+pub all_grows : (p : AppState) (piece : List ℕ) → Grows shell_spec p (receive_all p piece)
 all_grows p [] = same_grows p
 all_grows p (byte ∷ more) =
-    grows_on p (hear_byte p byte) (hear_all (hear_byte p byte) more)
-    (heard_grows p byte (p.own == 1) (nat_lt MOST_COMMANDS (length (waiting (with_byte p byte)))))
-    (all_grows (hear_byte p byte) more)
+    grows_on p (receive_byte p byte) (receive_all (receive_byte p byte) more)
+    (received_grows p byte (p.own == 1) (nat_lt MOST_COMMANDS (length (waiting (with_byte p byte)))))
+    (all_grows (receive_byte p byte) more)
 
-unpolled_grows : (p : AppState) (piece : List ℕ) → Grows shell_spec p (hear_all (record p { polls = 0 }) piece)
+unpolled_grows : (p : AppState) (piece : List ℕ) → Grows shell_spec p (receive_all (record p { polls = 0 }) piece)
 unpolled_grows p piece =
-    let g : Grows shell_spec (record p { polls = 0 }) (hear_all (record p { polls = 0 }) piece) =
+    let g : Grows shell_spec (record p { polls = 0 }) (receive_all (record p { polls = 0 }) piece) =
     all_grows (record p { polls = 0 }) piece in
     record { text = g.text; offset = g.offset }
 

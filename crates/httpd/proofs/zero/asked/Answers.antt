@@ -9,12 +9,12 @@ returns-in-Target c =
 pub returns-in-Named : goal.returns-in-Named
 returns-in-Named c =
     asked_more (files_of c.args.site.now) (codes "GET " ++ c.args.target.now) (10 ∷ []) c.file_asked.result
-    (asked_name (files_of c.args.site.now) c.hear_target.new.line (codes "GET " ++ c.args.target.now) c.file_asked.result
+    (asked_name (files_of c.args.site.now) c.receive_target.new.line (codes "GET " ++ c.args.target.now) c.file_asked.result
     (c.in-Named.ensures (codes "GET ") (hears_method c.new-line.result c.new-line.ensures)) c.file_asked.ensures.found c.file_asked.ensures.file)
 
 pub returns-in-Method : goal.returns-in-Method
 returns-in-Method c =
-    absurd (no_method c.args.target.now c.hear_target.new.line (c.in-Method.ensures (codes "GET ") (hears_method c.new-line.result c.new-line.ensures)))
+    absurd (no_method c.args.target.now c.receive_target.new.line (c.in-Method.ensures (codes "GET ") (hears_method c.new-line.result c.new-line.ensures)))
 
 pub returns-in-Refused : goal.returns-in-Refused
 returns-in-Refused c =

@@ -7,7 +7,7 @@ returns c = λ port. record {
   polls = refl;
   lost = refl;
   done = refl;
-  hears = λ e. record { awaits = refl; line = record { prefix = c.new.ensures; more = refl } };
+  delivers_text = λ e. record { awaits = refl; line = record { prefix = c.new.ensures; more = refl } };
   behind = opened_after c.new-2.result.items port c.new-2.ensures;
   place = opened_place c.new-2.result.items c.new-2.ensures;
 }

@@ -1,4 +1,4 @@
-use Rattle.udp_resolver.proofs.Prelude.{◌∙◌, ◌∷◌, [], length, refl, ap, sym, questions, heard_now, reported_by, Datagram, bytes_among}
+use Rattle.udp_resolver.proofs.Prelude.{◌∙◌, ◌∷◌, [], length, refl, ap, sym, questions, received_now, reported_by, Datagram, bytes_among}
 use Rattle.udp_resolver.proofs.ItemLaws.{by_reported}
 use Rattle.udp_resolver.proofs.RunLaws.{heard-length, knows_byte, knows_came, questions-length, refill_same, reported_none}
 use Rattle.udp_resolver.proofs.run.Run.take_byte.Goals as goal
@@ -11,10 +11,10 @@ returns-in-Datagram-clause-knows c = λ items e k.
     let datagram = c.feed.new.self.bytes in
     let lent = c.as_mut_slice.ensures.value in
     let size = ap (λ l. length l) lent ∙ c.requires ∙ sym (questions-length c.args.asking c.args.names.now) in
-    let long = ap (λ l. length l) c.hear.ensures ∙ heard-length c.bytes.result.now asked c.as_mut_slice.result.now size ∙ ap (λ l. length l) lent in
+    let long = ap (λ l. length l) c.receive.ensures ∙ heard-length c.bytes.result.now asked c.as_mut_slice.result.now size ∙ ap (λ l. length l) lent in
     knows_came asked items c.args.byte datagram c.args.self.now _ e k reported.0
     (sym (by_reported (bytes_among items) c.args.byte (Datagram datagram ∷ []) reported.1)) refl refl
-    (refill_same olds c.hear.new.answers long ∙ c.hear.ensures ∙ ap (λ l. heard_now l asked c.as_mut_slice.result.now) c.bytes.ensures ∙ ap (λ l. heard_now datagram asked l) lent)
+    (refill_same olds c.receive.new.answers long ∙ c.receive.ensures ∙ ap (λ l. received_now l asked c.as_mut_slice.result.now) c.bytes.ensures ∙ ap (λ l. received_now datagram asked l) lent)
 
 pub returns-in_default : goal.returns-in_default
 returns-in_default c = record {

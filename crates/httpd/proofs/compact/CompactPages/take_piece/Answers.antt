@@ -2,7 +2,7 @@ use Rattle.httpd.proofs.Prelude.{false, true, ◌++◌, ap, refl, subst, sym, �
 use Rattle.httpd.specs.declared.compact.CompactPages.TheVariants as compact
 use Rattle.httpd.proofs.Compacting.{enters_refused, enters_reply, enters_word, word_heard, word_open}
 use Rattle.httpd.proofs.Telling.{hits_opened, refused_stays, reply_stays, with_more}
-use Rattle.httpd.proofs.compact.CompactPages.hear.Goals as goal
+use Rattle.httpd.proofs.compact.CompactPages.take_piece.Goals as goal
 
 pub returns-in-Replying-clause-part : goal.returns-in-Replying-clause-part
 returns-in-Replying-clause-part g c = λ p s.

@@ -1,6 +1,6 @@
 use Rattle.httpd.proofs.Prelude.{sym, ◌∙◌}
 use Rattle.httpd.proofs.Requesting.{target_goes_on, target_named, target_refused}
-use Rattle.httpd.proofs.hearing.hear_target.Goals as goal
+use Rattle.httpd.proofs.hearing.receive_target.Goals as goal
 
 pub returns-then-not-done : goal.returns-then-not-done
 returns-then-not-done c = λ request is.

@@ -1,7 +1,7 @@
-use Rattle.httpd.proofs.Prelude.{◌++◌, sym, ap, ◌∙◌, subst, take_rest, HearsTarget, HearsTo}
+use Rattle.httpd.proofs.Prelude.{◌++◌, sym, ap, ◌∙◌, subst, take_rest, ReceivesTarget, ReceivesTo}
 use Rattle.httpd.proofs.Words.{prefix_of}
 use Rattle.httpd.proofs.Requesting.{method_goes_on, method_refused, target_begins}
-use Rattle.httpd.proofs.hearing.hear_method.Goals as goal
+use Rattle.httpd.proofs.hearing.receive_method.Goals as goal
 
 pub returns-then-not-done : goal.returns-then-not-done
 returns-then-not-done c = λ request is.
@@ -16,6 +16,6 @@ pub returns : goal.returns
 returns c = λ request is.
     let begins = target_begins c.args.line.now c.feed-count.new.line request c.args.piece.now c.feed-count.result is c.feed-count.ensures.after c.feed-count.ensures.taken
     (sym c.done.ensures ∙ c.if-not-done.false) (sym c.is_get.ensures ∙ c.if-not-is_get.false) in
-    subst (λ bytes. HearsTo c.hear_target.result c.hear_target.new.line bytes)
+    subst (λ bytes. ReceivesTo c.receive_target.result c.receive_target.new.line bytes)
     (ap (λ rest. (request ++ prefix_of c.args.piece.now) ++ rest) (take_rest c.args.piece.now c.feed-count.result) ∙ begins.joined)
-    (c.hear_target.ensures (request ++ prefix_of c.args.piece.now) (subst (λ l. HearsTarget l (request ++ prefix_of c.args.piece.now)) (sym c.new.ensures) begins.hears))
+    (c.receive_target.ensures (request ++ prefix_of c.args.piece.now) (subst (λ l. ReceivesTarget l (request ++ prefix_of c.args.piece.now)) (sym c.new.ensures) begins.received))

@@ -1,6 +1,6 @@
 use Rattle.udp_resolver.proofs.Prelude.{◌∷◌, [], ◌+◌, ◌++◌, ◌∙◌, None, refl, sym, ap, arith, drop, get_or, length-append, drop_all, drop_more, answer_to, option_or}
 use Rattle.udp_resolver.proofs.StepLaws.{get_seam, heard_none, heard_step, here, set_seam}
-use Rattle.udp_resolver.proofs.answers.hear.Goals as goal
+use Rattle.udp_resolver.proofs.answers.receive.Goals as goal
 
 pub loop-at-init : goal.loop-at-init
 loop-at-init c = record { prefix = []; size = refl; answers = refl; heard = refl }

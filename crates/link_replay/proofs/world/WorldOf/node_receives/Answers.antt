@@ -1,6 +1,6 @@
 use Rattle.link_replay.proofs.Prelude.{◌∙◌, event_of}
 use Rattle.link_replay.proofs.Handling.{recorded}
-use Rattle.link_replay.proofs.world.WorldOf.node_hears.Goals as goal
+use Rattle.link_replay.proofs.world.WorldOf.node_receives.Goals as goal
 
 pub returns-clause-delivered : goal.returns-clause-delivered
 returns-clause-delivered g c = rw (← c.self.view_is) (λ w s to.

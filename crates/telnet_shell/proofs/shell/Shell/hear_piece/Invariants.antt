@@ -1,5 +1,0 @@
-use Rattle.telnet_shell.proofs.Prelude.{take, AppState, hear_all, ShellRepresents}
-use Rattle.telnet_shell.proofs.shell.Shell.hear_piece.Given as goal
-
-abbrev pub invariant-loop-byte : goal.invariant-loop-byte
-invariant-loop-byte l = (p : AppState) → ShellRepresents l.fn.self p → ShellRepresents l.self (hear_all p (take l.byte-index l.piece))
